@@ -1,0 +1,4 @@
+pub mod ArrayLemmas
+pub mod KeyLemmas
+pub mod MisfitLemmas
+pub mod SpellingLemmas

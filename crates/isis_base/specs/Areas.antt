@@ -1,0 +1,16 @@
+use Rattle.std.specs.Prelude.{◌≡◌, ℕ, ◌-◌, ◌≤◌, List, ◌++◌, length, take, drop, replicate}
+use Rattle.std.proofs.Common.{sym, ap, ◌∙◌, arith}
+use Rattle.std.proofs.lemmas.List.{length-take-le, take-append-drop}
+
+-- the first octets of the 13, 1 to 13 of them, and zeros behind
+pub record IsPadded (count : ℕ) (octets : List ℕ) : Type 0 where
+  pub some : 1 ≤ count
+  pub fits : count ≤ 13
+  pub whole : length octets ≡ 13
+  pub zeros : drop count octets ≡ replicate (13 - count) 0
+
+pub padded-again : (count : ℕ) (octets : List ℕ) → IsPadded count octets → (length (take count octets) ≡ count) × (take count octets ++ replicate (13 - length (take count octets)) 0 ≡ octets)
+padded-again count octets h =
+    let within : count ≤ length octets = omega (arith, h.whole, h.fits) in
+    let taken = length-take-le count octets within in
+    (taken, ap (λ (n : ℕ). take count octets ++ replicate (13 - n) 0) taken ∙ ap (λ (zeros : List ℕ). take count octets ++ zeros) (sym h.zeros) ∙ take-append-drop count octets)

@@ -1,0 +1,17 @@
+use Rattle.std.specs.Prelude.{◌≡◌, ℕ, List, [], ◌∷◌, ◌++◌, length, slice_index, ◌<◌, ◌≤◌, ◌*◌, ◌/◌, ◌%◌, ◌-◌, ◌^◌, Option, Some, None, if◌then◌else◌, ◌==◌, IfSome}
+use Rattle.std.specs.Int.{from_be_bytes, w64}
+use Rattle.isis_base.specs.declared.identifiers.SystemId.{SystemId}
+use Rattle.isis_base.specs.declared.identifiers.NodeId.{NodeId}
+use Rattle.isis_base.specs.declared.identifiers.LspId.{LspId}
+
+-- the seven octets of a node ID: the system ID and the pseudonode number (ISO 10589 7.2.1)
+abbrev pub node_octets : NodeId → List ℕ
+node_octets node = node.system.0 ++ node.pseudonode ∷ []
+
+-- the eight octets of an LSP ID: the node ID and the LSP number (ISO 10589 9.8)
+abbrev pub lsp_octets : LspId → List ℕ
+lsp_octets id = node_octets id.node ++ id.number ∷ []
+
+-- an LSP ID as a number: its eight octets, the first one the greatest
+unfoldable pub lsp_number : LspId → ℕ
+lsp_number id = from_be_bytes w64 (lsp_octets id)

@@ -1,0 +1,89 @@
+ghost use Rattle.std.specs.Prelude.{Some, ◌++◌, ◌∷◌, []};
+ghost use Rattle.isis_base.specs.Texts.{hex_pair, system_text, snpa_text, node_text, lsp_text, key_text};
+
+use std::fmt;
+
+use crate::identifiers::{LspId, NodeId, Snpa, SystemId};
+use crate::key::Key;
+
+/// An octet as two hex digits.
+#[derive(Clone, Copy)]
+struct Pair(u8);
+
+impl fmt::Display for Pair {
+    ghost output = { λ pair. Some (hex_pair pair.0) };
+
+    #[tactic(auto, using(std::proofs::lemmas::Fmt::hex_byte))]
+    fn fmt<W: fmt::Write>(&self, f: &mut fmt::Formatter<W>) -> fmt::Result {
+        let octet = self.0;
+        write!(f, "{octet:02x}")
+    }
+}
+
+/// Two octets as four hex digits.
+#[derive(Clone, Copy)]
+struct Group(u8, u8);
+
+impl fmt::Display for Group {
+    ghost output = { λ group. Some (hex_pair group.0 ++ hex_pair group.1) };
+
+    fn fmt<W: fmt::Write>(&self, f: &mut fmt::Formatter<W>) -> fmt::Result {
+        let first = Pair(self.0);
+        let second = Pair(self.1);
+        write!(f, "{first}{second}")
+    }
+}
+
+impl fmt::Display for SystemId {
+    ghost output = { λ system. Some (system_text system) };
+
+    fn fmt<W: fmt::Write>(&self, f: &mut fmt::Formatter<W>) -> fmt::Result {
+        let [a, b, c, d, e, g] = self.0;
+        let high = Group(a, b);
+        let middle = Group(c, d);
+        let low = Group(e, g);
+        write!(f, "{high}.{middle}.{low}")
+    }
+}
+
+impl fmt::Display for Snpa {
+    ghost output = { λ snpa. Some (snpa_text snpa) };
+
+    fn fmt<W: fmt::Write>(&self, f: &mut fmt::Formatter<W>) -> fmt::Result {
+        let system = SystemId(self.0);
+        write!(f, "{system}")
+    }
+}
+
+impl fmt::Display for NodeId {
+    ghost output = { λ node. Some (node_text node) };
+
+    fn fmt<W: fmt::Write>(&self, f: &mut fmt::Formatter<W>) -> fmt::Result {
+        let system = self.system;
+        let pseudonode = Pair(self.pseudonode);
+        write!(f, "{system}.{pseudonode}")
+    }
+}
+
+impl fmt::Display for LspId {
+    ghost output = { λ id. Some (lsp_text id) };
+
+    fn fmt<W: fmt::Write>(&self, f: &mut fmt::Formatter<W>) -> fmt::Result {
+        let node = self.node;
+        let number = Pair(self.number);
+        write!(f, "{node}-{number}")
+    }
+}
+
+impl fmt::Display for Key {
+    ghost output = { λ key. Some (key_text key) };
+
+    fn fmt<W: fmt::Write>(&self, f: &mut fmt::Formatter<W>) -> fmt::Result {
+        let number = self.number;
+        if self.purged {
+            write!(f, "{number} purged")
+        } else {
+            write!(f, "{number} live")
+        }
+    }
+}

@@ -1,0 +1,41 @@
+//! Identifiers, keys and their texts: what every layer above speaks of.
+//!
+//! Octet counts and layouts are those of ISO 10589 9; the order of keys is that of ISO 10589 7.3.16.
+//! Texts are the usual ones of the field, with lower-case hex digits; upper case is read too.
+//! Only the calls of `Octets` that grow or copy a list take memory.
+//!
+//! - `octets.rt`: a growing list of octets
+//! - `memory.rt`: the error for want of memory
+//! - `identifiers.rt`: system ID, SNPA, node ID, LSP ID; `numbers.rt`: an LSP ID as a number
+//! - `level.rt`: levels, sets of levels, kinds of circuits
+//! - `key.rt`: a key; `order.rt`: which key is newer, and the newer of two
+//! - `entry.rt`: what a sequence number PDU says of an LSP
+//! - `area.rt`, `prefix.rt`: area addresses and IPv4 prefixes
+//! - `parts.rt`: texts made of octets in hex and marks; `texts.rt`: the readers; `display.rt`: the writers
+#![tactic(auto)]
+
+mod area;
+mod display;
+mod entry;
+mod identifiers;
+mod key;
+mod level;
+mod memory;
+mod numbers;
+mod octets;
+mod order;
+mod parts;
+mod prefix;
+mod texts;
+
+pub use area::AreaAddress;
+pub use prefix::Prefix;
+pub use entry::LspEntry;
+pub use identifiers::{LspId, NodeId, Snpa, SystemId};
+pub use key::Key;
+pub use level::{CircuitKind, Level, LevelSet};
+pub use numbers::lsp_number_law;
+pub use memory::OutOfMemory;
+pub use octets::Octets;
+pub use order::{Order3, join, join_laws, newer};
+pub use texts::{TextFault, read_lsp_id, read_system};

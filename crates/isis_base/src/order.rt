@@ -1,0 +1,60 @@
+ghost use Rattle.std.specs.Prelude.{◌≡◌, ℕ, Option};
+ghost use Rattle.isis_base.specs.declared.key.Key.{Key};
+ghost use Rattle.isis_base.specs.Keys.{rank, Stands, join_of};
+
+use crate::key::Key;
+
+/// How one key stands against another.
+#[derive(Clone, Copy, Debug, PartialEq, Eq)]
+pub enum Order3 {
+    Older,
+    Same,
+    Newer,
+}
+
+/// How `a` stands against `b` (ISO 10589 7.3.16): nothing is older than every key, a greater number is newer,
+/// and of one number the purge is newer.
+pub fn newer(a: Option<Key>, b: Option<Key>) -> Order3
+    ensures { Stands result (rank a) (rank b) }
+{
+    match (a, b) {
+        (None, None) => Order3::Same,
+        (None, Some(_)) => Order3::Older,
+        (Some(_), None) => Order3::Newer,
+        (Some(a), Some(b)) => newer_key(a, b),
+    }
+}
+
+fn newer_key(a: Key, b: Key) -> Order3
+    ensures { Stands result (rank (Some a)) (rank (Some b)) }
+{
+    if a.number < b.number {
+        return Order3::Older;
+    }
+    if a.number > b.number {
+        return Order3::Newer;
+    }
+    match (a.purged, b.purged) {
+        (false, true) => Order3::Older,
+        (true, false) => Order3::Newer,
+        _ => Order3::Same,
+    }
+}
+
+/// The newer of two keys.
+pub fn join(a: Option<Key>, b: Option<Key>) -> Option<Key>
+    ensures { result ≡ join_of a b }
+{
+    match newer(a, b) {
+        Order3::Older => b,
+        _ => a,
+    }
+}
+
+/// `join` is commutative, associative and idempotent: copies may come in any order and any number of times.
+pub fn join_laws()
+    ensures commutative { (a b : Option Key) → join_of a b ≡ join_of b a }
+    ensures associative { (a b c : Option Key) → join_of (join_of a b) c ≡ join_of a (join_of b c) }
+    ensures idempotent { (a : Option Key) → join_of a a ≡ a }
+{
+}
