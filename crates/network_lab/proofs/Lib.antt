@@ -1,0 +1,3 @@
+pub mod HeldLemmas
+pub mod NetLemmas
+pub mod PairLemmas

@@ -1,0 +1,4 @@
+pub mod Causes
+pub mod Held
+pub mod Inside
+pub mod KeysNet

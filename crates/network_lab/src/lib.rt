@@ -1,0 +1,14 @@
+//! Networks under a schedule. So far the plain network of numbered copies: routers pass keys along links, and
+//! each router holds, of each LSP ID, the newest key that reached it (ISO 10589 7.3.16).
+//!
+//! - `faults.rt`: why a call is refused
+//! - `key_net.rt`: the plain network
+//! - `held.rt`: the newest keys of one router, by LSP ID
+#![tactic(auto)]
+
+mod faults;
+mod held;
+mod key_net;
+
+pub use faults::{LabFault, LimitName};
+pub use key_net::KeyNet;
