@@ -1,4 +1,4 @@
-use Rattle.std.specs.Prelude.{◌≡◌, ℕ, List, [], ◌∷◌, ◌++◌, length, slice_index, ◌<◌, ◌≤◌, ◌*◌, ◌/◌, ◌%◌, ◌-◌, ◌^◌, Option, Some, None, if◌then◌else◌, ◌==◌, IfSome}
+use Rattle.std.specs.Prelude.{ℕ, List, [], ◌∷◌, ◌++◌, take, slice_index}
 use Rattle.std.specs.Int.{from_be_bytes, w64}
 use Rattle.isis_base.specs.declared.identifiers.SystemId.{SystemId}
 use Rattle.isis_base.specs.declared.identifiers.NodeId.{NodeId}
@@ -15,3 +15,11 @@ lsp_octets id = node_octets id.node ++ id.number ∷ []
 -- an LSP ID as a number: its eight octets, the first one the greatest
 unfoldable pub lsp_number : LspId → ℕ
 lsp_number id = from_be_bytes w64 (lsp_octets id)
+
+-- the LSP ID of eight octets
+abbrev pub lsp_from : List ℕ → LspId
+lsp_from octets = record { node = record { system = record { 0 = take 6 octets }; pseudonode = slice_index octets 6 }; number = slice_index octets 7 }
+
+-- the system ID of six octets
+abbrev pub system_from : List ℕ → SystemId
+system_from octets = record { 0 = octets }

@@ -43,3 +43,11 @@ octets_of (Mark mark ∷ parts) (byte ∷ text) = octets_of parts text
 octets_of (Octet ∷ parts) [] = []
 octets_of (Octet ∷ parts) (high ∷ []) = []
 octets_of (Octet ∷ parts) (high ∷ low ∷ text) = before_octets (pair_of high low) (octets_of parts text)
+
+abbrev pub unless_misfit : Option ℕ → List ℕ → Option (List ℕ)
+unless_misfit None octets = Some octets
+unless_misfit (Some place) octets = None
+
+-- the octets that a text of this form spells; nothing where the text doesn't have it
+unfoldable pub text_octets : List Part → List ℕ → Option (List ℕ)
+text_octets parts text = unless_misfit (misfit_of parts text) (octets_of parts text)

@@ -1,12 +1,13 @@
 ghost use Rattle.std.specs.Prelude.{◌≡◌, ◌<◌};
 ghost use Rattle.std.specs.List.{AllByRecursion};
-ghost use Rattle.isis_base.specs.Identifiers.{lsp_octets, lsp_number};
+ghost use Rattle.isis_base.specs.Identifiers.{lsp_octets, lsp_from, lsp_number};
 
 use crate::identifiers::{LspId, NodeId, SystemId};
 
 /// The LSP ID of eight octets.
 pub fn lsp_of(octets: [u8; 8]) -> LspId
-    ensures { lsp_octets result ≡ octets }
+    ensures octets { lsp_octets result ≡ octets }
+    ensures value { result ≡ lsp_from octets }
 {
     let [a, b, c, d, e, f, pseudonode, number] = octets;
     let system = SystemId([a, b, c, d, e, f]);

@@ -1,5 +1,8 @@
 ghost use Rattle.std.specs.Prelude.{◌≡◌, IfOk, IfErr};
-ghost use Rattle.isis_base.specs.Identifiers.{lsp_octets};
+ghost use Rattle.std.specs.Option.{option_map};
+ghost use Rattle.std.specs.Result.{result_ok};
+ghost use Rattle.isis_base.specs.Misfit.{text_octets};
+ghost use Rattle.isis_base.specs.Identifiers.{lsp_octets, lsp_from, system_from};
 ghost use Rattle.isis_base.specs.Texts.{Spells, IsFaultAt, HasForm};
 
 use std::error::Error;
@@ -68,8 +71,10 @@ pub const LSP_TEXT: [Part; 12] = [
 ];
 
 /// Reads a system ID, as `0000.0000.0001`.
+#[tactic(auto, unfolding(crate::specs::Misfit::text_octets))]
 pub fn read_system(text: &str) -> Result<SystemId, TextFault>
     ensures ok { IfOk result (λ system. Spells SYSTEM_TEXT text.now system.0) }
+    ensures value { result_ok result ≡ option_map system_from (text_octets SYSTEM_TEXT text.now) }
     ensures err { IfErr result (λ fault. IsFaultAt (HasForm SYSTEM_TEXT) text.now fault.place) }
 {
     let mut octets = [0u8; 6];
@@ -80,8 +85,10 @@ pub fn read_system(text: &str) -> Result<SystemId, TextFault>
 }
 
 /// Reads an LSP ID, as `0000.0000.0001.00-00`.
+#[tactic(auto, unfolding(crate::specs::Misfit::text_octets))]
 pub fn read_lsp_id(text: &str) -> Result<LspId, TextFault>
     ensures ok { IfOk result (λ id. Spells LSP_TEXT text.now (lsp_octets id)) }
+    ensures value { result_ok result ≡ option_map lsp_from (text_octets LSP_TEXT text.now) }
     ensures err { IfErr result (λ fault. IsFaultAt (HasForm LSP_TEXT) text.now fault.place) }
 {
     let mut octets = [0u8; 8];

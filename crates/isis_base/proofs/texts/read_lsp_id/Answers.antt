@@ -15,5 +15,5 @@ returns-in-None-clause-ok c =
     let text = c.args.text.now in
     let fits : misfit_of LSP_TEXT text ≡ None = sym (c.in-None.ensures.place ∙ ap (misfit_of LSP_TEXT) c.as_bytes.ensures.value) in
     let whole : take 8 xs ≡ xs = subst (λ (n : ℕ). take n xs ≡ xs) c.read_parts.auto.octets (take-length xs) in
-    let octets : octets_of LSP_TEXT text ≡ _ = sym (sym whole ∙ c.in-None.ensures.octets ∙ ap (octets_of LSP_TEXT) c.as_bytes.ensures.value) ∙ sym c.lsp_of.ensures in
+    let octets : octets_of LSP_TEXT text ≡ _ = sym (sym whole ∙ c.in-None.ensures.octets ∙ ap (octets_of LSP_TEXT) c.as_bytes.ensures.value) ∙ sym c.lsp_of.ensures.octets in
     subst (λ (x : List ℕ). Spells LSP_TEXT text x) octets (Spells-from_misfit LSP_TEXT text (search rules) fits)
