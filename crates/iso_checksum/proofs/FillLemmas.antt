@@ -1,4 +1,4 @@
-use Rattle.std.proofs.Common.{◌≡◌, ℕ, suc, ◌+◌, ◌-◌, ◌*◌, ◌/◌, ◌%◌, ◌<◌, ◌≤◌, List, length, zero, set, take, drop, ◌++◌, [], ◌∷◌, ap, ◌∙◌, arith, refl, sym, get_or, length-set, get_or-set_same, get_or-set_other, rules, tests}
+use Rattle.std.proofs.Common.{◌≡◌, ℕ, suc, ◌+◌, ◌*◌, ◌/◌, ◌%◌, ◌<◌, ◌≤◌, List, length, zero, set, take, drop, ◌++◌, [], ◌∷◌, ap, ◌∙◌, arith, refl, sym, get_or, length-set, length-drop, get_or-set_same, get_or-set_other, rules, tests}
 use Rattle.std.proofs.lemmas.List.{set-set, set_comm}
 use Rattle.iso_checksum.specs.Checksum.{octet_sum, weighted_sum, checksum_holds, Holds, with_pair, IsCheckOctet}
 use Rattle.iso_checksum.proofs.SumLemmas.{octet_sum-append, weighted_sum-append}
@@ -35,26 +35,14 @@ weighted_sum-with_pair xs place k x y e =
     weighted_sum-append front (0 ∷ 0 ∷ rest) in
     rw e (omega arith)
 
--- the second, of weight k, makes up what the first leaves
-weighted_rest : (p w k x y : ℕ) → p < 255 → x ≡ 255 - (w + k * (255 - p)) % 255 → y ≡ 255 - (p + x) % 255
-    → (w + (k + 1) * x + k * y) % 255 ≡ 0
-weighted_rest p w k x y small e e' =
-    let t = (p + x) / 255 + 1 in
-    let whole : p + x + y ≡ 255 * t = omega arith in
-    let times : k * (p + x + y) ≡ k * (255 * t) = ap (λ n. k * n) whole in
-    let parts : k * (255 - p + p) ≡ k * 255 = ap (λ n. k * n) (omega arith) in
-    omega arith
-
 pub Holds-with_pair : (xs : List ℕ) (place k x y : ℕ) → k ≡ length (drop (place + 2) xs) + 1
-    → x ≡ 255 - (weighted_sum (with_pair xs place 0 0) % 255 + k * (255 - octet_sum (with_pair xs place 0 0) % 255)) % 255
-    → y ≡ 255 - (octet_sum (with_pair xs place 0 0) % 255 + x) % 255
+    → (octet_sum (with_pair xs place 0 0) + x + y) % 255 ≡ 0
+    → (weighted_sum (with_pair xs place 0 0) + (k + 1) * x + k * y) % 255 ≡ 0
     → Holds (with_pair xs place x y)
-Holds-with_pair xs place k x y weight e e' =
-    let blank = with_pair xs place 0 0 in
-    let plain = octet_sum-with_pair xs place x y in
-    let weighted = weighted_sum-with_pair xs place k x y weight in
-    let rest = weighted_rest (octet_sum blank % 255) (weighted_sum blank % 255) k x y (omega arith) e e' in
-    Holds-from_sums (with_pair xs place x y) (omega arith) (omega arith)
+Holds-with_pair xs place k x y weight plain weighted =
+    Holds-from_sums (with_pair xs place x y)
+    (rw (octet_sum-with_pair xs place x y) plain)
+    (rw (weighted_sum-with_pair xs place k x y weight) weighted)
 
 -- ---- two octets written
 
@@ -76,6 +64,16 @@ pub set-set_again : (xs : List ℕ) (place v w x y : ℕ) → place + 2 ≤ leng
 set-set_again xs place v w x y h =
     rw (set_comm (set xs place v) (place + 1) place w x (omega arith), set-set (set (set xs place v) place x) (place + 1) w y, set-set xs place v x)
     (set-set_next xs place x y h)
+
+-- two octets written where 0 was written before, of which the second has the weight k
+pub Holds-set_again : (xs : List ℕ) (place k x y : ℕ) → place + 2 ≤ length xs → place + 1 + k ≡ length xs
+    → (octet_sum (set (set xs place 0) (place + 1) 0) + x + y) % 255 ≡ 0
+    → (weighted_sum (set (set xs place 0) (place + 1) 0) + (k + 1) * x + k * y) % 255 ≡ 0
+    → Holds (set (set (set (set xs place 0) (place + 1) 0) place x) (place + 1) y)
+Holds-set_again xs place k x y within weight plain weighted =
+    let blank = set-set_next xs place 0 0 within in
+    rw (set-set_again xs place 0 0 x y within)
+    (Holds-with_pair xs place k x y (omega (arith, length-drop (place + 2) xs)) (rw blank at plain) (rw blank at weighted))
 
 -- ---- no other two hold
 

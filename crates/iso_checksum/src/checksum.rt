@@ -33,8 +33,7 @@ pub fn fill(octets: &mut [u8], at: usize)
     octets[at + 1] = 0;
     let blank = Sums::of(octets);
     let weight = (octets.len() - at - 1) as u32;
-    let first = 255 - (blank.weighted + weight * (255 - blank.plain)) % 255;
-    let second = 255 - (blank.plain + first) % 255;
-    octets[at] = first as u8;
-    octets[at + 1] = second as u8;
+    let (first, second) = blank.check_octets(weight);
+    octets[at] = first;
+    octets[at + 1] = second;
 }
