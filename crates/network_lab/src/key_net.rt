@@ -103,6 +103,13 @@ impl KeyNet {
         Ok(())
     }
 
+    /// Whether some link joins the two routers.
+    pub fn joins(&self, a: usize, b: usize) -> bool
+        ensures { result ≡ is_joined self.now a b }
+    {
+        has(&self.linked, ordered(a, b))
+    }
+
     /// Makes the next copy, at a router, and answers its number.
     pub fn issue(&mut self, router: usize, id: LspId, key: Key) -> Result<usize, LabFault>
         requires { router < self.old.routers }

@@ -1,0 +1,5 @@
+pub mod FieldLemmas
+pub mod IdLemmas
+pub mod KeyLemmas
+pub mod LineLemmas
+pub mod NameLemmas

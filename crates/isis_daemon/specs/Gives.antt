@@ -1,0 +1,10 @@
+use Rattle.std.specs.Prelude.{◌≡◌, Result, Ok, Err}
+use Rattle.isis_daemon.specs.declared.reason.ScriptFault.{ScriptFault}
+use Rattle.isis_daemon.specs.declared.reason.ScriptFault.TheVariants.{Refused, Limit, OutOfMemory}
+
+-- what a call answered, and the value after it, are what is expected, unless memory was wanted
+abbrev pub Gives : {X : Type 0} → Result (Unit {0}) ScriptFault → X → Result X ScriptFault → Type 0
+Gives (Ok done) after expected = expected ≡ Ok after
+Gives (Err OutOfMemory) after expected = Unit {0}
+Gives (Err (Refused line reason)) after expected = expected ≡ Err (Refused line reason)
+Gives (Err (Limit which)) after expected = expected ≡ Err (Limit which)

@@ -1,0 +1,7 @@
+pub mod Fields
+pub mod Gives
+pub mod Index
+pub mod KeysScript
+pub mod Names
+pub mod Reasons
+pub mod Words

@@ -1,0 +1,5 @@
+mod events;
+mod fields;
+mod names;
+mod reader;
+mod words;

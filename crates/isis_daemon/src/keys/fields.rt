@@ -1,0 +1,107 @@
+ghost use Rattle.std.specs.Prelude.{◌≡◌};
+ghost use Rattle.std.specs.Char.{is_ascii_alphanumeric, is_ascii_digit};
+ghost use Rattle.std.specs.List.{list_all};
+ghost use Rattle.isis_daemon.specs.Fields.{is_name, has_plain_lead, number_of};
+ghost use Rattle.isis_daemon.specs.KeysScript.{id_of, mark_of, key_from, key_of, copy_of};
+
+use isis_base::{Key, LspId, read_lsp_id};
+
+fn all_alphanumeric(word: &[u8]) -> bool
+    ensures { result ≡ list_all is_ascii_alphanumeric word.now }
+{
+    word.iter().all(|byte| byte.is_ascii_alphanumeric())
+}
+
+fn all_digits(word: &[u8]) -> bool
+    ensures { result ≡ list_all is_ascii_digit word.now }
+{
+    word.iter().all(|byte| byte.is_ascii_digit())
+}
+
+/// Whether a word is a name: a letter, then up to 15 letters or digits.
+pub fn reads_name(word: &[u8]) -> bool
+    ensures { result ≡ is_name word.now }
+{
+    match word {
+        [] => false,
+        [first, rest @ ..] => {
+            first.is_ascii_alphabetic() && rest.len() <= 15 && all_alphanumeric(rest)
+        }
+    }
+}
+
+/// Whether there is something, and no 0 before another digit.
+fn leads_plainly(word: &[u8]) -> bool
+    ensures { result ≡ has_plain_lead word.now }
+{
+    match word {
+        [] => false,
+        [_] => true,
+        [first, ..] => *first != b'0',
+    }
+}
+
+/// The number of a word: decimal digits without sign or leading zero, up to 128 bits.
+pub fn read_number(word: &[u8]) -> Option<u128>
+    ensures { result ≡ number_of word.now }
+{
+    if !leads_plainly(word) || !all_digits(word) {
+        return None;
+    }
+    match std::str::from_utf8(word) {
+        Ok(text) => text.parse::<u128>().ok(),
+        Err(_) => None,
+    }
+}
+
+/// The LSP ID of a word.
+pub fn read_id(word: &[u8]) -> Option<LspId>
+    ensures { result ≡ id_of word.now }
+{
+    match std::str::from_utf8(word) {
+        Ok(text) => read_lsp_id(text).ok(),
+        Err(_) => None,
+    }
+}
+
+fn read_mark(word: &[u8]) -> Option<bool>
+    ensures { result ≡ mark_of word.now }
+{
+    if word == b"live".as_slice() {
+        return Some(false);
+    }
+    if word == b"purged".as_slice() {
+        return Some(true);
+    }
+    None
+}
+
+fn make_key(number: u128, purged: bool) -> Option<Key>
+    ensures { result ≡ key_from number purged }
+{
+    match u32::try_from(number) {
+        Ok(0) => None,
+        Ok(number) => Some(Key { number, purged }),
+        Err(_) => None,
+    }
+}
+
+/// The key of a number, 1 to 4294967295, and a mark, `live` or `purged`.
+pub fn read_key(number: &[u8], mark: &[u8]) -> Option<Key>
+    ensures { result ≡ key_of number.now mark.now }
+{
+    let number = read_number(number)?;
+    let purged = read_mark(mark)?;
+    make_key(number, purged)
+}
+
+/// The number of a copy; 0, which no copy has, where the number is too great for one.
+pub fn read_copy(word: &[u8]) -> Option<usize>
+    ensures { result ≡ copy_of word.now }
+{
+    let number = read_number(word)?;
+    match usize::try_from(number) {
+        Ok(copy) => Some(copy),
+        Err(_) => Some(0),
+    }
+}

@@ -1,0 +1,195 @@
+ghost use Rattle.std.specs.Prelude.{◌≡◌, ◌<◌, IfSome};
+ghost use Rattle.isis_daemon.specs.Gives.{Gives};
+ghost use Rattle.isis_daemon.specs.KeysScript as script;
+ghost use Rattle.isis_daemon.specs.Names.{router_of};
+ghost use Rattle.isis_daemon.specs.Words.{texts};
+
+use network_lab::{KeyNet, LabFault, LimitName};
+use std::alloc::Global;
+use std::marker::Model;
+
+use super::events::{KeyEvent, Told};
+use super::fields::{read_copy, read_id, read_key, reads_name};
+use super::names::Names;
+use crate::reason::{Reason, ScriptFault};
+
+/// What the lines read so far say: the routers' names, the network without copies, and the events.
+#[derive(Drop)]
+pub struct Reader<'a> {
+    names: Names<'a>,
+    net: KeyNet,
+    events: Vec<Told>,
+}
+
+impl<'a> Model for Reader<'a> {
+    ghost use Rattle.isis_daemon.specs.KeysScript.{Read};
+
+    ghost Value = { Read };
+
+    ghost view = { λ a. record { names = a.names; net = a.net; events = a.events.items } };
+
+    ghost use Rattle.std.specs.Prelude.{◌≤◌, length};
+
+    ghost invariant = { λ a. length a.names ≤ a.net.routers };
+}
+
+fn refused(line: usize, reason: Reason) -> Result<(), ScriptFault>
+    ensures { result ≡ Err (ScriptFault.Refused line reason) }
+{
+    Err(ScriptFault::Refused { line, reason })
+}
+
+impl<'a> Reader<'a> {
+    pub fn new(alloc: Global) -> Reader<'a>
+        ensures { result ≡ script.nothing_read }
+    {
+        Reader {
+            names: Names::new(alloc),
+            net: KeyNet::new(alloc),
+            events: Vec::new(alloc),
+        }
+    }
+
+    fn router(&mut self, line: usize, name: &'a [u8]) -> Result<(), ScriptFault>
+        ensures { Gives result self.new (script.read_router self.old line name.now) }
+    {
+        if !reads_name(name) {
+            return refused(line, Reason::Form);
+        }
+        if self.names.find(name).is_some() {
+            return refused(line, Reason::Again);
+        }
+        match self.net.add_router() {
+            Ok(_) => {}
+            Err(LabFault::Limit(_)) => return Err(ScriptFault::Limit(LimitName::Routers)),
+            Err(_) => return Err(ScriptFault::OutOfMemory),
+        }
+        self.names.add(name)?;
+        Ok(())
+    }
+
+    fn ends(&self, a: &[u8], b: &[u8]) -> Option<(usize, usize)>
+        ensures value { result ≡ script.both (router_of self.now.names a.now) (router_of self.now.names b.now) }
+        ensures there { IfSome result (λ ends. (ends.0 < self.now.net.routers) × (ends.1 < self.now.net.routers)) }
+    {
+        let a = self.names.find(a)?;
+        let b = self.names.find(b)?;
+        Some((a, b))
+    }
+
+    fn link(&mut self, line: usize, a: &[u8], b: &[u8]) -> Result<(), ScriptFault>
+        ensures { Gives result self.new (script.read_link self.old line a.now b.now) }
+    {
+        if !reads_name(a) || !reads_name(b) {
+            return refused(line, Reason::Form);
+        }
+        let Some((a, b)) = self.ends(a, b) else {
+            return refused(line, Reason::Name);
+        };
+        if a == b {
+            return refused(line, Reason::Again);
+        }
+        match self.net.add_link([a, b]) {
+            Ok(()) => Ok(()),
+            Err(LabFault::Limit(_)) => Err(ScriptFault::Limit(LimitName::Links)),
+            Err(_) => Err(ScriptFault::OutOfMemory),
+        }
+    }
+
+    fn pass(&mut self, line: usize, copy: &[u8], from: &[u8], to: &[u8]) -> Result<(), ScriptFault>
+        ensures { Gives result self.new (script.read_pass self.old line copy.now from.now to.now) }
+    {
+        let Some(copy) = read_copy(copy) else {
+            return refused(line, Reason::Form);
+        };
+        if !reads_name(from) || !reads_name(to) {
+            return refused(line, Reason::Form);
+        }
+        let Some((from, to)) = self.ends(from, to) else {
+            return refused(line, Reason::Name);
+        };
+        if !self.net.joins(from, to) {
+            return refused(line, Reason::NotOn);
+        }
+        let event = KeyEvent::Pass { copy, from, to };
+        self.events.push(Told { line, event })?;
+        Ok(())
+    }
+
+    fn issue(&mut self, line: usize, name: &[u8], id: &[u8], number: &[u8], mark: &[u8]) -> Result<(), ScriptFault>
+        ensures { Gives result self.new (script.read_issue self.old line name.now id.now number.now mark.now) }
+    {
+        let Some(id) = read_id(id) else {
+            return refused(line, Reason::Form);
+        };
+        let Some(key) = read_key(number, mark) else {
+            return refused(line, Reason::Form);
+        };
+        if !reads_name(name) {
+            return refused(line, Reason::Form);
+        }
+        let Some(router) = self.names.find(name) else {
+            return refused(line, Reason::Name);
+        };
+        let event = KeyEvent::Issue { router, id, key };
+        self.events.push(Told { line, event })?;
+        Ok(())
+    }
+
+    fn router_fields(&mut self, line: usize, fields: &[&'a [u8]]) -> Result<(), ScriptFault>
+        ensures { Gives result self.new (script.router_fields self.old line (texts fields.now)) }
+    {
+        if let [name] = fields {
+            return self.router(line, name);
+        }
+        refused(line, Reason::Form)
+    }
+
+    fn link_fields(&mut self, line: usize, fields: &[&'a [u8]]) -> Result<(), ScriptFault>
+        ensures { Gives result self.new (script.link_fields self.old line (texts fields.now)) }
+    {
+        if fields.len() != 2 {
+            return refused(line, Reason::Form);
+        }
+        self.link(line, fields[0], fields[1])
+    }
+
+    fn issue_fields(&mut self, line: usize, fields: &[&'a [u8]]) -> Result<(), ScriptFault>
+        ensures { Gives result self.new (script.issue_fields self.old line (texts fields.now)) }
+    {
+        if fields.len() != 4 {
+            return refused(line, Reason::Form);
+        }
+        self.issue(line, fields[0], fields[1], fields[2], fields[3])
+    }
+
+    fn pass_fields(&mut self, line: usize, fields: &[&'a [u8]]) -> Result<(), ScriptFault>
+        ensures { Gives result self.new (script.pass_fields self.old line (texts fields.now)) }
+    {
+        if fields.len() != 3 {
+            return refused(line, Reason::Form);
+        }
+        self.pass(line, fields[0], fields[1], fields[2])
+    }
+
+    fn words(&mut self, line: usize, words: &[&'a [u8]]) -> Result<(), ScriptFault>
+        ensures { Gives result self.new (script.read_words self.old line (texts words.now)) }
+    {
+        let [verb, fields @ ..] = words else {
+            return refused(line, Reason::Form);
+        };
+        if *verb == b"router".as_slice() {
+            return self.router_fields(line, fields);
+        }
+        if *verb == b"link".as_slice() {
+            return self.link_fields(line, fields);
+        }
+        if *verb == b"issue".as_slice() {
+            return self.issue_fields(line, fields);
+        }
+        if *verb == b"pass".as_slice() {
+            return self.pass_fields(line, fields);
+        }
+        refused(line, Reason::Form)
+    }
+}

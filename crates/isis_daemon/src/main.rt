@@ -1,0 +1,7 @@
+//! The program `isis`.
+#![tactic(auto)]
+
+mod keys;
+mod reason;
+
+fn main() {}
