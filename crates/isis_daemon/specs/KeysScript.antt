@@ -56,13 +56,25 @@ copy_of word = option_map (λ n. if nat_lt n (2 ^ 64) then n else 0) (number_of 
 abbrev pub refused : {X : Type 0} → ℕ → Reason → Result X ScriptFault
 refused line reason = Err (Refused line reason)
 
+infixl 10 ◌>>=◌
+abbrev pub ◌>>=◌ : {A B : Type 0} → Result A ScriptFault → (A → Result B ScriptFault) → Result B ScriptFault
+(Ok a) >>= f = f a
+(Err fault) >>= f = Err fault
+
+-- at most 1,024 routers
+abbrev pub router_added : Net → Result Net ScriptFault
+router_added net = if nat_le ROUTER_LIMIT net.routers then Err (Limit Routers) else Ok (with_router net)
+
+-- at most 4,096 links
+abbrev pub link_added : Net → ℕ → ℕ → Result Net ScriptFault
+link_added net a b = if nat_le LINK_LIMIT net.links then Err (Limit Links) else Ok (with_link net a b)
+
 -- `router NAME`
 abbrev pub read_router : Read → ℕ → List ℕ → Result Read ScriptFault
 read_router read line name =
     if not (is_name name) then refused line Form
     else if is_some (router_of read.names name) then refused line Again
-    else if nat_le ROUTER_LIMIT read.net.routers then Err (Limit Routers)
-    else Ok (record read { names = read.names ++ name ∷ []; net = with_router read.net })
+    else (router_added read.net >>= λ net. Ok (record read { names = read.names ++ name ∷ []; net = net }))
 
 -- the two routers of these names
 abbrev pub both : Option ℕ → Option ℕ → Option (ℕ × ℕ)
@@ -74,8 +86,7 @@ abbrev pub link_between : Read → ℕ → Option (ℕ × ℕ) → Result Read S
 link_between read line None = refused line Name
 link_between read line (Some ends) =
     if ends.0 == ends.1 then refused line Again
-    else if nat_le LINK_LIMIT read.net.links then Err (Limit Links)
-    else Ok (record read { net = with_link read.net ends.0 ends.1 })
+    else (link_added read.net ends.0 ends.1 >>= λ net. Ok (record read { net = net }))
 
 -- `link NAME NAME`
 abbrev pub read_link : Read → ℕ → List ℕ → List ℕ → Result Read ScriptFault
@@ -157,11 +168,6 @@ read_line read number line =
     if number == 1 then read_head read line
     else if is_skipped line then Ok read
     else read_words read number (words_of line)
-
-infixl 10 ◌>>=◌
-abbrev pub ◌>>=◌ : {A B : Type 0} → Result A ScriptFault → (A → Result B ScriptFault) → Result B ScriptFault
-(Ok a) >>= f = f a
-(Err fault) >>= f = Err fault
 
 -- the lines from this number on: the first that is refused is told
 unfoldable pub read_lines : Read → ℕ → List (List ℕ) → Result Read ScriptFault

@@ -4,4 +4,5 @@ pub mod Index
 pub mod KeysScript
 pub mod Names
 pub mod Reasons
+pub mod Sound
 pub mod Words

@@ -1,8 +1,10 @@
-ghost use Rattle.std.specs.Prelude.{◌≡◌, ◌<◌, IfSome};
-ghost use Rattle.isis_daemon.specs.Gives.{Gives};
+ghost use Rattle.std.specs.Prelude.{◌≡◌, ◌<◌, IfSome, OnOk, OnErr, slice_index};
+ghost use Rattle.network_lab.specs.KeysNet.{with_router, with_link};
+ghost use Rattle.isis_daemon.specs.Gives.{Gives, Answers};
 ghost use Rattle.isis_daemon.specs.KeysScript as script;
 ghost use Rattle.isis_daemon.specs.Names.{router_of};
-ghost use Rattle.isis_daemon.specs.Words.{texts};
+ghost use Rattle.isis_daemon.specs.Sound.{IsSound};
+ghost use Rattle.isis_daemon.specs.Words.{texts, lines_of};
 
 use network_lab::{KeyNet, LabFault, LimitName};
 use std::alloc::Global;
@@ -11,6 +13,7 @@ use std::marker::Model;
 use super::events::{KeyEvent, Told};
 use super::fields::{read_copy, read_id, read_key, reads_name};
 use super::names::Names;
+use super::words::split_words;
 use crate::reason::{Reason, ScriptFault};
 
 /// What the lines read so far say: the routers' names, the network without copies, and the events.
@@ -28,15 +31,40 @@ impl<'a> Model for Reader<'a> {
 
     ghost view = { λ a. record { names = a.names; net = a.net; events = a.events.items } };
 
-    ghost use Rattle.std.specs.Prelude.{◌≤◌, length};
+    ghost use Rattle.isis_daemon.specs.Sound.{IsSound};
 
-    ghost invariant = { λ a. length a.names ≤ a.net.routers };
+    ghost invariant = { λ a. IsSound a.names a.net a.events.items };
 }
 
 fn refused(line: usize, reason: Reason) -> Result<(), ScriptFault>
     ensures { result ≡ Err (ScriptFault.Refused line reason) }
 {
     Err(ScriptFault::Refused { line, reason })
+}
+
+fn add_router(net: &mut KeyNet) -> Result<(), ScriptFault>
+    ensures ok { OnOk result (net.new ≡ with_router net.old) }
+    ensures err { OnErr result (net.new ≡ net.old) }
+    ensures cause { Gives result net.new (script.router_added net.old) }
+{
+    match net.add_router() {
+        Ok(_) => Ok(()),
+        Err(LabFault::Limit(_)) => Err(ScriptFault::Limit(LimitName::Routers)),
+        Err(_) => Err(ScriptFault::OutOfMemory),
+    }
+}
+
+fn add_link(net: &mut KeyNet, ends: [usize; 2]) -> Result<(), ScriptFault>
+    requires { (slice_index ends 0 < net.old.routers) × (slice_index ends 1 < net.old.routers) }
+    ensures ok { OnOk result (net.new ≡ with_link net.old (slice_index ends 0) (slice_index ends 1)) }
+    ensures err { OnErr result (net.new ≡ net.old) }
+    ensures cause { Gives result net.new (script.link_added net.old (slice_index ends 0) (slice_index ends 1)) }
+{
+    match net.add_link(ends) {
+        Ok(()) => Ok(()),
+        Err(LabFault::Limit(_)) => Err(ScriptFault::Limit(LimitName::Links)),
+        Err(_) => Err(ScriptFault::OutOfMemory),
+    }
 }
 
 impl<'a> Reader<'a> {
@@ -59,11 +87,7 @@ impl<'a> Reader<'a> {
         if self.names.find(name).is_some() {
             return refused(line, Reason::Again);
         }
-        match self.net.add_router() {
-            Ok(_) => {}
-            Err(LabFault::Limit(_)) => return Err(ScriptFault::Limit(LimitName::Routers)),
-            Err(_) => return Err(ScriptFault::OutOfMemory),
-        }
+        add_router(&mut self.net)?;
         self.names.add(name)?;
         Ok(())
     }
@@ -89,11 +113,8 @@ impl<'a> Reader<'a> {
         if a == b {
             return refused(line, Reason::Again);
         }
-        match self.net.add_link([a, b]) {
-            Ok(()) => Ok(()),
-            Err(LabFault::Limit(_)) => Err(ScriptFault::Limit(LimitName::Links)),
-            Err(_) => Err(ScriptFault::OutOfMemory),
-        }
+        add_link(&mut self.net, [a, b])?;
+        Ok(())
     }
 
     fn pass(&mut self, line: usize, copy: &[u8], from: &[u8], to: &[u8]) -> Result<(), ScriptFault>
@@ -192,4 +213,60 @@ impl<'a> Reader<'a> {
         }
         refused(line, Reason::Form)
     }
+
+    fn line(&mut self, number: usize, line: &'a [u8], words: &mut Vec<&'a [u8]>) -> Result<(), ScriptFault>
+        ensures { Gives result self.new (script.read_line self.old number line.now) }
+    {
+        if number == 1 {
+            return head(line);
+        }
+        match line {
+            [] => Ok(()),
+            [b'#', ..] => Ok(()),
+            _ => {
+                split_words(words, line)?;
+                self.words(number, words)
+            }
+        }
+    }
+
+    /// The routers' names, the network before the events, and the events.
+    pub fn into_parts(self) -> (Names<'a>, KeyNet, Vec<Told>)
+        ensures names { result.0 ≡ self.entry.names }
+        ensures net { result.1 ≡ self.entry.net }
+        ensures events { result.2.items ≡ self.entry.events }
+        ensures sound { IsSound result.0 result.1 result.2.items }
+    {
+        let Reader { names, net, events } = self;
+        (names, net, events)
+    }
+}
+
+/// Line 1.
+fn head(line: &[u8]) -> Result<(), ScriptFault>
+    ensures { (read : script.Read) → Gives result read (script.read_head read line.now) }
+{
+    if line == b"isis-keys 1".as_slice() {
+        return Ok(());
+    }
+    if line == b"isis-lab 1".as_slice() {
+        return refused(1, Reason::NotBuilt);
+    }
+    refused(1, Reason::Head)
+}
+
+/// Reads a keys script. The first line that is refused is told, or passes a limit, with the first reason.
+pub fn read_keys(alloc: Global, text: &[u8]) -> Result<Reader<'_>, ScriptFault>
+    ensures { Answers result (script.read_lines script.nothing_read 1 (lines_of text.now)) }
+{
+    let mut reader = Reader::new(alloc);
+    let mut words = Vec::new(alloc);
+    let mut number = 1usize;
+    for line in text.split(|byte| *byte == b'\n') {
+        match reader.line(number, line, &mut words) {
+            Ok(()) => number += 1,
+            Err(fault) => return Err(fault),
+        }
+    }
+    Ok(reader)
 }

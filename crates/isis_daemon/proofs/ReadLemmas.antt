@@ -1,0 +1,30 @@
+use Rattle.std.proofs.Common.{◌≡◌, ℕ, ◌+◌, ◌<◌, List, [], ◌∷◌, ◌++◌, length, get_or, drop, Result, Ok, Err, refl, sym, ap, ◌∙◌, subst, arith}
+use Rattle.std.proofs.lemmas.List.{at_drop_more, at_drop_all}
+use Rattle.isis_daemon.specs.declared.reason.ScriptFault.{ScriptFault}
+use Rattle.isis_daemon.specs.declared.reason.ScriptFault.TheVariants.{Refused, Limit, OutOfMemory}
+use Rattle.isis_daemon.specs.Gives.{Gives, Answers}
+use Rattle.isis_daemon.specs.KeysScript.{Read, ◌>>=◌, read_line, read_lines}
+
+-- the next line is read before those behind it
+pub read_lines-at : (lines : List (List ℕ)) (read : Read) (number k : ℕ) (line : List ℕ) → (k < length lines) × (line ≡ get_or lines k line) → read_lines read number (drop k lines) ≡ (read_line read number line >>= λ more. read_lines more (number + 1) (drop (k + 1) lines))
+unfolding read_lines
+read_lines-at lines read number k line h =
+    at_drop_more (read_lines read number) lines k line h.0 ∙ ap (λ (x : List ℕ). read_line read number x >>= λ more. read_lines more (number + 1) (drop (k + 1) lines)) (sym h.1)
+
+-- at the end all is read
+pub read_lines-end : (lines : List (List ℕ)) (read : Read) (number k : ℕ) → k ≡ length lines → read_lines read number (drop k lines) ≡ Ok read
+unfolding read_lines
+read_lines-end lines read number k e = ap (λ (n : ℕ). read_lines read number (drop n lines)) e ∙ at_drop_all (read_lines read number) lines (length lines) (omega arith)
+
+-- a line that is read
+pub read_lines-ok : (read more : Read) (number : ℕ) (line : List ℕ) (rest : Read → Result Read ScriptFault) → read_line read number line ≡ Ok more → (read_line read number line >>= rest) ≡ rest more
+read_lines-ok read more number line rest e = ap (λ (r : Result Read ScriptFault). r >>= rest) e
+
+-- a line that is refused refuses the whole
+pub Answers-from_line : {X : Type 0} (fault : ScriptFault) (after : X) (step whole : Result X ScriptFault) → Gives (Err fault) after step → ((f : ScriptFault) → step ≡ Err f → whole ≡ Err f) → Answers (Err fault) whole
+Answers-from_line OutOfMemory after step whole h through = tt
+Answers-from_line (Refused line reason) after step whole h through = through (Refused line reason) h
+Answers-from_line (Limit which) after step whole h through = through (Limit which) h
+
+pub read_lines-err : (read : Read) (number : ℕ) (line : List ℕ) (rest : Read → Result Read ScriptFault) (f : ScriptFault) → read_line read number line ≡ Err f → (read_line read number line >>= rest) ≡ Err f
+read_lines-err read number line rest f e = ap (λ (r : Result Read ScriptFault). r >>= rest) e
