@@ -1,4 +1,4 @@
-use Rattle.std.proofs.Common.{◌≤◌, length, arith, rules}
+use Rattle.std.proofs.Common.{◌≤◌, length, arith}
 use Rattle.std.proofs.lemmas.Grind.{common_steps}
 use Rattle.isis_edge.proofs.ToldLemmas.{taken_within}
 use Rattle.isis_edge.proofs.reading.read_whole.Goals as goal

@@ -1,4 +1,4 @@
-use Rattle.std.proofs.Common.{◌<◌, ◌-◌, ◌≤◌, length}
+use Rattle.std.proofs.Common.{◌+◌, ◌-◌, ◌<◌, ◌≤◌, length}
 use Rattle.isis_edge.specs.Told.{Took}
 use Rattle.isis_edge.proofs.reading.read_whole.Given as goal
 
@@ -11,4 +11,4 @@ invariant-reads g l = record {
 }
 
 abbrev pub decreases-reads : goal.decreases-reads
-decreases-reads g l = l.limit - length l.octets
+decreases-reads g l = l.limit + 1 - length l.octets
