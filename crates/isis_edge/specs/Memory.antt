@@ -1,0 +1,40 @@
+use Rattle.std.specs.Prelude.{ℕ, ◌+◌, List, ◌++◌, take, drop, Contains}
+use Rattle.isis_edge.specs.declared.source.Got.{Got}
+use Rattle.isis_edge.specs.declared.source.Got.TheVariants as got
+use Rattle.isis_edge.specs.declared.sink.Put.{Put}
+use Rattle.isis_edge.specs.declared.sink.Put.TheVariants as put
+use Rattle.isis_edge.specs.Faults.{counted}
+
+-- a source in memory: the octets left, how many a call gives at most, the numbers of the calls that are to fail,
+-- and the calls and the faults so far (own)
+pub record MemoryInput : Type 0 where
+  pub left : List ℕ
+  pub piece : ℕ
+  pub failing : List ℕ
+  pub calls : ℕ
+  pub faults : ℕ
+
+-- a sink in memory: the octets held, how many there is room for, how many a call takes at most, the numbers of
+-- the calls that are to fail, and the calls and the faults so far (own)
+pub record MemoryOutput : Type 0 where
+  pub held : List ℕ
+  pub room : ℕ
+  pub piece : ℕ
+  pub failing : List ℕ
+  pub calls : ℕ
+  pub faults : ℕ
+
+-- after so many calls the next one, numbered from 1, is among those that are to fail (own)
+abbrev pub IsToFail : List ℕ → ℕ → Type 0
+IsToFail failing calls = Contains failing (calls + 1)
+
+-- the source after a read that gave this (own)
+abbrev pub after_read : MemoryInput → Got → MemoryInput
+after_read s (got.Some count) = record s { left = drop count s.left; calls = counted s.calls }
+after_read s got.End = record s { calls = counted s.calls }
+after_read s got.Failed = record s { calls = counted s.calls; faults = counted s.faults }
+
+-- the sink after a write of the piece that did this (own)
+abbrev pub after_write : MemoryOutput → List ℕ → Put → MemoryOutput
+after_write s piece (put.Some count) = record s { held = s.held ++ take count piece; calls = counted s.calls }
+after_write s piece put.Failed = record s { calls = counted s.calls; faults = counted s.faults }

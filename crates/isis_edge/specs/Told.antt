@@ -1,0 +1,13 @@
+use Rattle.std.specs.Prelude.{◌≡◌, ℕ, List, ◌++◌, Option, Some, IfSome, IsSomeAnd}
+
+-- the octets taken are the first of those that were left, where they were told (own)
+abbrev pub Took : Option (List ℕ) → Option (List ℕ) → List ℕ → Type 0
+Took before now taken = IfSome before (λ all. IsSomeAnd now (λ rest. all ≡ taken ++ rest))
+
+-- the octets written stand after those that were held, where they were told (own)
+abbrev pub Wrote : Option (List ℕ) → Option (List ℕ) → List ℕ → Type 0
+Wrote before now written = IfSome before (λ held. now ≡ Some (held ++ written))
+
+-- the octets stay as they were, where they were told (own)
+abbrev pub Stays : Option (List ℕ) → Option (List ℕ) → Type 0
+Stays before now = IfSome before (λ octets. now ≡ Some octets)

@@ -1,0 +1,30 @@
+//! The outside as the layers above see it: what octets are read from and written to.
+//!
+//! A source or a sink tells, for contracts alone, the octets that it has left or holds, where they are known, and
+//! a count of its faults, which never falls. So a fault is answered only where a count rose. This is the project's
+//! own; no standard speaks of it.
+//!
+//! - `source.rt`, `sink.rt`: the traits
+//! - `reading.rt`, `writing.rt`: a whole input read, a whole piece written
+//! - `memory_source.rt`, `memory_sink.rt`: their forms in memory; `calls.rt`: which calls of these fail
+//! - `standard.rt`: the thin adapters over readers and writers of the system
+#![tactic(auto)]
+
+mod calls;
+mod memory_sink;
+mod memory_source;
+mod reading;
+mod sink;
+mod source;
+mod standard;
+#[cfg(test)]
+mod tests;
+mod writing;
+
+pub use memory_sink::MemorySink;
+pub use memory_source::MemorySource;
+pub use reading::{WholeFault, read_whole};
+pub use sink::{Put, Sink};
+pub use source::{Got, Source};
+pub use standard::{StdSink, StdSource};
+pub use writing::{WriteFailed, write_all};

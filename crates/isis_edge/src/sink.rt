@@ -1,0 +1,27 @@
+ghost use Rattle.std.specs.Prelude.{ℕ, List, Option, ◌<◌, ◌≤◌, length};
+ghost use Rattle.isis_edge.specs.Faults.{Rose};
+ghost use Rattle.isis_edge.specs.Sinks.{Writes, OnFailed};
+
+/// What a write did.
+#[derive(Clone, Copy, Debug, PartialEq, Eq)]
+pub enum Put {
+    /// So many octets, at least 1, were written from the front of the piece.
+    Some(usize),
+    /// A fault of the sink. Nothing was written.
+    Failed,
+}
+
+/// What octets are written to.
+pub trait Sink: Send {
+    // The octets that it holds, where they are known.
+    ghost held: { Self → Option (List ℕ) };
+    // The faults so far. A count at its type's last value counts as risen in every call.
+    ghost faults: { Self → ℕ };
+
+    /// Writes octets from the front of the piece, which isn't empty. It may wait.
+    fn write(&mut self, piece: &[u8]) -> Put
+        requires { 0 < length piece.now }
+        ensures octets { Writes (held self.old) (held self.new) result piece.now }
+        ensures later { faults self.old ≤ faults self.new }
+        ensures cause { OnFailed result (Rose (faults self.old) (faults self.new)) };
+}

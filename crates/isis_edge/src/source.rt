@@ -1,0 +1,29 @@
+ghost use Rattle.std.specs.Prelude.{ℕ, List, Option, ◌<◌, ◌≤◌, length};
+ghost use Rattle.isis_edge.specs.Faults.{Rose};
+ghost use Rattle.isis_edge.specs.Sources.{Reads, OnFailed};
+
+/// What a read gave.
+#[derive(Clone, Copy, Debug, PartialEq, Eq)]
+pub enum Got {
+    /// So many octets, at least 1, now stand first in the buffer.
+    Some(usize),
+    /// The source is at its end.
+    End,
+    /// A fault of the source. It has left what it had.
+    Failed,
+}
+
+/// What octets are read from.
+pub trait Source {
+    // The octets that are left, where they are known.
+    ghost left: { Self → Option (List ℕ) };
+    // The faults so far. A count at its type's last value counts as risen in every call.
+    ghost faults: { Self → ℕ };
+
+    /// Takes the next octets into the front of the buffer, which isn't empty. It may wait.
+    fn read(&mut self, into: &mut [u8]) -> Got
+        requires { 0 < length into.old }
+        ensures octets { Reads (left self.old) (left self.new) result into.new }
+        ensures later { faults self.old ≤ faults self.new }
+        ensures cause { OnFailed result (Rose (faults self.old) (faults self.new)) };
+}
