@@ -5,3 +5,6 @@ pub mod LineLemmas
 pub mod NameLemmas
 pub mod SoundLemmas
 pub mod ReadLemmas
+pub mod PlayLemmas
+pub mod PageLemmas
+pub mod ReportLemmas

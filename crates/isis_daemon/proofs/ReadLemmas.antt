@@ -28,3 +28,8 @@ Answers-from_line (Limit which) after step whole h through = through (Limit whic
 
 pub read_lines-err : (read : Read) (number : ℕ) (line : List ℕ) (rest : Read → Result Read ScriptFault) (f : ScriptFault) → read_line read number line ≡ Err f → (read_line read number line >>= rest) ≡ Err f
 read_lines-err read number line rest f e = ap (λ (r : Result Read ScriptFault). r >>= rest) e
+
+pub Gives-from_step : {X : Type 0} (fault : ScriptFault) (after other : X) (step whole : Result X ScriptFault) → Gives (Err fault) after step → ((f : ScriptFault) → step ≡ Err f → whole ≡ Err f) → Gives (Err fault) other whole
+Gives-from_step OutOfMemory after other step whole h through = tt
+Gives-from_step (Refused line reason) after other step whole h through = through (Refused line reason) h
+Gives-from_step (Limit which) after other step whole h through = through (Limit which) h

@@ -1,14 +1,10 @@
-use Rattle.std.proofs.Common.{◌≡◌, ℕ, ◌+◌, ◌<◌, ◌≤◌, true, List, [], ◌∷◌, ◌++◌, length, arith}
-use Rattle.std.specs.List.{AllByRecursion}
-use Rattle.network_lab.specs.KeysNet.{Net, with_router, with_link, is_joined, ordered}
+use Rattle.std.proofs.Common.{◌≡◌, ◌∙◌, ℕ, zero, suc, ◌+◌, ◌<◌, ◌≤◌, true, List, [], ◌∷◌, ◌++◌, length, get_or, sym, subst, arith}
+use Rattle.network_lab.specs.KeysNet.{Net, with_router, with_link, is_joined, has_pair, ordered}
 use Rattle.network_lab.proofs.PairLemmas.{has_pair-kept}
 use Rattle.isis_daemon.specs.declared.keys.events.KeyEvent.{KeyEvent}
 use Rattle.isis_daemon.specs.declared.keys.events.KeyEvent.TheVariants.{Issue, Pass}
 use Rattle.isis_daemon.specs.declared.keys.events.Told.{Told}
-use Rattle.isis_daemon.specs.Sound.{IsInNet, IsSound}
-
-abbrev pub AreInNet : Net → List Told → Type 0
-AreInNet net events = AllByRecursion (λ told. IsInNet net told.event) events
+use Rattle.isis_daemon.specs.Sound.{IsInNet, AreInNet, IsLaidOut}
 
 router-kept : (net : Net) (event : KeyEvent) → IsInNet net event → IsInNet (with_router net) event
 router-kept net (Issue router id key) h = omega arith
@@ -32,3 +28,23 @@ AreInNet-link net a b (told ∷ events) h = (link-kept net a b told.event h.0, A
 pub AreInNet-push : (net : Net) (events : List Told) (told : Told) → AreInNet net events → IsInNet net told.event → AreInNet net (events ++ told ∷ [])
 AreInNet-push net [] told h new = (new, tt)
 AreInNet-push net (t ∷ events) told h new = (h.0, AreInNet-push net events told h.1 new)
+
+laid-kept : (old new : Net) (event : KeyEvent) → IsLaidOut old new → IsInNet old event → IsInNet new event
+laid-kept old new (Issue router id key) same h = let r = same.routers in omega arith
+laid-kept old new (Pass copy from to) same h =
+    let r = same.routers in
+    (omega (arith, h.0), omega (arith, h.1), subst (λ (pairs : List (ℕ × ℕ)). has_pair pairs (ordered from to).0 (ordered from to).1 ≡ true) (sym same.linked) h.2)
+
+-- the same routers and links
+pub AreInNet-laid : (old new : Net) (events : List Told) → IsLaidOut old new → AreInNet old events → AreInNet new events
+AreInNet-laid old new [] same h = tt
+AreInNet-laid old new (told ∷ events) same h = (laid-kept old new told.event same h.0, AreInNet-laid old new events same h.1)
+
+-- the event at a place
+pub AreInNet-at : (net : Net) (events : List Told) (i : ℕ) (told : Told) → AreInNet net events → i < length events → told ≡ get_or events i told → IsInNet net told.event
+AreInNet-at net [] i told h lt e = absurd (omega arith)
+AreInNet-at net (t ∷ events) zero told h lt e = subst (λ (x : Told). IsInNet net x.event) (sym e) h.0
+AreInNet-at net (t ∷ events) (suc i) told h lt e = AreInNet-at net events i told h.1 (omega arith) e
+
+pub IsLaidOut-trans : (a b c : Net) → IsLaidOut a b → IsLaidOut b c → IsLaidOut a c
+IsLaidOut-trans a b c p q = record { routers = q.routers ∙ p.routers; linked = q.linked ∙ p.linked }

@@ -1,8 +1,11 @@
 pub mod Fields
 pub mod Gives
 pub mod Index
+pub mod KeysPlay
+pub mod KeysReport
 pub mod KeysScript
 pub mod Names
+pub mod Pages
 pub mod Reasons
 pub mod Sound
 pub mod Words

@@ -1,5 +1,7 @@
 mod events;
 mod fields;
 mod names;
+mod play;
 mod reader;
+mod report;
 mod words;

@@ -2,6 +2,7 @@
 #![tactic(auto)]
 
 mod keys;
+mod pages;
 mod reason;
 
 fn main() {}

@@ -1,4 +1,6 @@
-ghost use Rattle.std.specs.Prelude.{◌≡◌, ◌<◌, ◌≤◌, ◌+◌, true, length, slice_index, IfOk, IfErr, OnOk, OnErr, IsOk, IsErr};
+ghost use Rattle.std.specs.Prelude.{◌≡◌, ℕ, List, ◌<◌, ◌≤◌, ◌+◌, true, length, slice_index, IfOk, IfErr, OnOk, OnErr, IsOk, IsErr};
+ghost use Rattle.isis_base.specs.declared.identifiers.LspId.{LspId};
+ghost use Rattle.isis_base.specs.declared.key.Key.{Key};
 ghost use Rattle.network_lab.specs.declared.faults.LabFault.TheVariants.{OutOfMemory};
 ghost use Rattle.network_lab.specs.KeysNet.{ordered as ordered_pair, empty_net, with_router, with_link, with_copy, with_pass, has_pair, is_joined, is_at, IsHeldAt};
 ghost use Rattle.network_lab.specs.Causes.{RouterCause, LinkCause, PassCause};
@@ -153,7 +155,9 @@ impl KeyNet {
     /// The keys that a router holds, by LSP ID.
     pub fn held(&self, router: usize) -> &[(LspId, Key)]
         requires { router < self.now.routers }
-        ensures { IsHeldAt self.now.copies self.now.places router result.now }
+        ensures held { IsHeldAt self.now.copies self.now.places router result.now }
+        ensures each { (other : ℕ) → other < self.now.routers
+            → (entries : List (LspId × Key)) × IsHeldAt self.now.copies self.now.places other entries }
     {
         self.held[router].as_slice()
     }

@@ -1,5 +1,6 @@
 ghost use Rattle.std.specs.Prelude.{◌≡◌, ◌<◌, None, [], ◌∷◌, ◌++◌, length, IfSome, OnOk, OnErr};
 ghost use Rattle.isis_daemon.specs.Names.{router_of};
+ghost use Rattle.isis_daemon.specs.Words.{texts};
 
 use std::alloc::{AllocError, Global};
 use std::collections::HashMap;
@@ -52,5 +53,12 @@ impl<'a> Names<'a> {
         self.index.insert(name, self.list.len())?;
         self.list.push_reserved(name);
         Ok(())
+    }
+
+    /// The names, in the order of their routers' numbers.
+    pub fn list(&self) -> &[&'a [u8]]
+        ensures { texts result.now ≡ self.now }
+    {
+        self.list.as_slice()
     }
 }

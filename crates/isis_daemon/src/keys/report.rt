@@ -1,0 +1,81 @@
+ghost use Rattle.std.specs.Prelude.{◌≡◌, ◌≤◌, ℕ, List, [], ◌++◌, Option, OnOk, OnErr, IsErrOf, length, string_bytes};
+ghost use Rattle.isis_edge.specs.Faults.{Rose};
+ghost use Rattle.isis_daemon.specs.KeysReport.{key_line, key_lines, key_end, head_line, AreLines, IsReport};
+ghost use Rattle.isis_daemon.specs.Pages.{HasWritten, HasBegun, Adds, Begins};
+ghost use Rattle.isis_daemon.specs.Words.{texts};
+
+use isis_base::{Key, LspId};
+use isis_edge::Sink;
+use network_lab::KeyNet;
+use std::alloc::AllocError;
+
+use crate::pages::{Page, PageFault, put, put_both};
+
+/// The end of a line of the report, behind the router's name.
+fn spell(line: &mut String, entry: &(LspId, Key)) -> Result<(), AllocError>
+    ensures { OnOk result (string_bytes line.new ≡ key_end entry.now) }
+{
+    let (id, key) = *entry;
+    line.clear();
+    write!(line, " {id} {key}\n")
+}
+
+/// A line of the report.
+fn put_key<O: Sink>(page: &mut Page<O>, line: &mut String, name: &[u8], entry: &(LspId, Key)) -> Result<(), PageFault>
+    ensures ok { (before : Option (List ℕ)) (text : List ℕ) → HasWritten before text (O.held page.old.output) page.old.buffer
+        → OnOk result (HasWritten before (text ++ key_line name.now entry.now) (O.held page.new.output) page.new.buffer) }
+    ensures err { (before : Option (List ℕ)) (text : List ℕ) → HasWritten before text (O.held page.old.output) page.old.buffer
+        → OnErr result (HasBegun before (text ++ key_line name.now entry.now) (O.held page.new.output)) }
+    ensures cause { IsErrOf result PageFault.Write → Rose (O.faults page.old.output) (O.faults page.new.output) }
+    ensures later { O.faults page.old.output ≤ O.faults page.new.output }
+{
+    if spell(line, entry).is_err() {
+        return Err(PageFault::OutOfMemory);
+    }
+    match put(page, b"key ") {
+        Ok(()) => {}
+        Err(fault) => return Err(fault),
+    }
+    match put_both(page, name, line.as_bytes()) {
+        Ok(()) => Ok(()),
+        Err(fault) => Err(fault),
+    }
+}
+
+/// The lines of one router.
+fn put_keys<O: Sink>(page: &mut Page<O>, line: &mut String, name: &[u8], entries: &[(LspId, Key)]) -> Result<(), PageFault>
+    ensures ok { (before : Option (List ℕ)) (text : List ℕ) → HasWritten before text (O.held page.old.output) page.old.buffer
+        → OnOk result (HasWritten before (text ++ key_lines name.now entries.now) (O.held page.new.output) page.new.buffer) }
+    ensures err { (before : Option (List ℕ)) (text : List ℕ) → HasWritten before text (O.held page.old.output) page.old.buffer
+        → OnErr result (HasBegun before (text ++ key_lines name.now entries.now) (O.held page.new.output)) }
+    ensures cause { IsErrOf result PageFault.Write → Rose (O.faults page.old.output) (O.faults page.new.output) }
+    ensures later { O.faults page.old.output ≤ O.faults page.new.output }
+{
+    for entry in entries {
+        match put_key(page, line, name, entry) {
+            Ok(()) => {}
+            Err(fault) => return Err(fault),
+        }
+    }
+    Ok(())
+}
+
+/// The lines of all routers, in the order of their numbers.
+fn put_routers<O: Sink>(page: &mut Page<O>, line: &mut String, names: &[&[u8]], net: &KeyNet) -> Result<(), PageFault>
+    requires { length names.now ≤ net.now.routers }
+    ensures ok { OnOk result ((lines : List ℕ) × AreLines net.now 0 (texts names.now) lines
+        × Adds (O.held page.old.output) page.old.buffer lines (O.held page.new.output) page.new.buffer) }
+    ensures err { OnErr result ((lines : List ℕ) × AreLines net.now 0 (texts names.now) lines
+        × Begins (O.held page.old.output) page.old.buffer lines (O.held page.new.output)) }
+    ensures cause { IsErrOf result PageFault.Write → Rose (O.faults page.old.output) (O.faults page.new.output) }
+    ensures later { O.faults page.old.output ≤ O.faults page.new.output }
+{
+    for (router, name) in names.iter().enumerate() {
+        let entries = net.held(router);
+        match put_keys(page, line, name, entries) {
+            Ok(()) => {}
+            Err(fault) => return Err(fault),
+        }
+    }
+    Ok(())
+}
