@@ -1,4 +1,4 @@
-use Rattle.std.proofs.Common.{◌≡◌, ℕ, ◌+◌, ◌<◌, ◌≤◌, Bool, true, false, cond, List, [], ◌∷◌, ◌++◌, length, Option, Some, None, IfSome, refl, sym, ap, ◌∙◌, subst, arith, inl, inr, map}
+use Rattle.std.proofs.Common.{◌≡◌, ℕ, zero, suc, ◌+◌, ◌<◌, ◌≤◌, Bool, true, false, cond, List, [], ◌∷◌, ◌++◌, length, get_or, Option, Some, None, IfSome, refl, sym, ap, ◌∙◌, subst, arith, inl, inr, map}
 use Rattle.std.specs.List.{position_from}
 use Rattle.std.specs.Str.{bytes_eq}
 use Rattle.std.specs.Borrow.{Bor}
@@ -6,6 +6,7 @@ use Rattle.std.proofs.lemmas.Bool.{cases_Bool}
 use Rattle.std.proofs.lemmas.Slice.Eq.{bytes_eq-Decides}
 use Rattle.isis_daemon.specs.Names.{router_of}
 use Rattle.isis_daemon.specs.Words.{texts}
+use Rattle.isis_daemon.proofs.LineLemmas.{no_word}
 
 passed : (t : List ℕ → Bool) (i : ℕ) (xs : List (List ℕ)) (x : List ℕ) → t x ≡ false → position_from t i (xs ++ x ∷ []) ≡ position_from t i xs
 passed t i [] x e = ap (λ (b : Bool). cond b (Some i) None) e
@@ -59,3 +60,9 @@ router_of-within names name = counted (router_of names name) (within-from (λ ot
     counted : (o : Option ℕ) → IfSome o (λ place. place < 0 + length names) → IfSome o (λ router. router < length names)
     counted None h = tt
     counted (Some place) h = omega arith
+
+-- a name is the text of its word
+pub texts-at : (words : List (Bor (List ℕ))) (i : ℕ) (x : List ℕ) → i < length words → (get_or words i no_word).now ≡ get_or (texts words) i x
+texts-at [] i x lt = absurd (omega arith)
+texts-at (w ∷ words) zero x lt = refl
+texts-at (w ∷ words) (suc i) x lt = texts-at words i x (omega arith)

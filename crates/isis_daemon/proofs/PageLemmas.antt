@@ -33,10 +33,10 @@ pub HasBegun-written : (before now : Option (List ℕ)) (text buffer : List ℕ)
 HasBegun-written None now text buffer h = tt
 HasBegun-written (Some held) now text buffer (written, there, whole) = (written, buffer, there, whole)
 
--- at the start nothing is written
-pub HasWritten-start : (before : Option (List ℕ)) → HasWritten before [] before []
-HasWritten-start None = tt
-HasWritten-start (Some held) = ([], ap (λ (xs : List ℕ). Some xs) (sym (append-nil held)), refl)
+-- at the start all of it waits
+pub HasWritten-start : (before : Option (List ℕ)) (text buffer : List ℕ) → buffer ≡ text → HasWritten before text before buffer
+HasWritten-start None text buffer e = tt
+HasWritten-start (Some held) text buffer e = ([], ap (λ (xs : List ℕ). Some xs) (sym (append-nil held)), e)
 
 -- pieces one after another are one piece
 pub HasWritten-regroup : (before now : Option (List ℕ)) (text a b buffer : List ℕ) → HasWritten before ((text ++ a) ++ b) now buffer → HasWritten before (text ++ (a ++ b)) now buffer

@@ -1,5 +1,5 @@
 use Rattle.std.proofs.Common.{◌≡◌, ◌∙◌, ℕ, zero, suc, ◌+◌, ◌<◌, ◌≤◌, List, [], ◌∷◌, ◌++◌, length, get_or, take, drop, Option, refl, sym, ap, subst, append_assoc, append-nil, arith, add-one}
-use Rattle.std.proofs.lemmas.List.{at_drop_more, at_drop_all}
+use Rattle.std.proofs.lemmas.List.{at_drop_more, length-drop}
 use Rattle.isis_base.specs.declared.identifiers.LspId.{LspId}
 use Rattle.isis_base.specs.declared.key.Key.{Key}
 use Rattle.network_lab.specs.KeysNet.{Net, IsHeldAt}
@@ -45,3 +45,7 @@ AreLines-at net names i name entries more lt e held rest =
     let here : AreLines net i (name ∷ drop (i + 1) names) (key_lines name entries ++ more) = (entries, more, held, rest, refl) in
     let shown : drop i names ≡ name ∷ drop (i + 1) names = at_drop_more (λ (xs : List (List ℕ)). xs) names i name lt ∙ ap (λ (x : List ℕ). x ∷ drop (i + 1) names) (sym e) in
     subst (λ (xs : List (List ℕ)). AreLines net i xs (key_lines name entries ++ more)) (sym shown) here
+
+-- the lines of the routers behind, put together
+pub lines-behind : (net : Net) → AllHold net → (names : List (List ℕ)) → length names ≤ net.routers → (i : ℕ) → i < length names → (text : List ℕ) × AreLines net (i + 1) (drop (i + 1) names) text
+lines-behind net all names fits i lt = lines-exist net all (i + 1) (drop (i + 1) names) (omega (arith, length-drop (i + 1) names))

@@ -3,9 +3,11 @@ pub mod Gives
 pub mod Index
 pub mod KeysPlay
 pub mod KeysReport
+pub mod KeysRun
 pub mod KeysScript
 pub mod Names
 pub mod Pages
 pub mod Reasons
 pub mod Sound
+pub mod Statuses
 pub mod Words

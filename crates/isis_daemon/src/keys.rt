@@ -1,7 +1,7 @@
 mod events;
 mod fields;
-mod names;
-mod play;
-mod reader;
-mod report;
+pub mod names;
+pub mod play;
+pub mod reader;
+pub mod report;
 mod words;

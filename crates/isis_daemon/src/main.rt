@@ -4,5 +4,7 @@
 mod keys;
 mod pages;
 mod reason;
+mod run;
+mod status;
 
 fn main() {}

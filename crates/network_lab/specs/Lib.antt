@@ -2,3 +2,4 @@ pub mod Causes
 pub mod Held
 pub mod Inside
 pub mod KeysNet
+pub mod Limits

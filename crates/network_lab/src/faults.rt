@@ -1,4 +1,5 @@
-ghost use Rattle.std.specs.Prelude.{◌≡◌};
+ghost use Rattle.std.specs.Prelude.{◌≡◌, Some};
+ghost use Rattle.network_lab.specs.Limits.{limit_word};
 ghost use Rattle.network_lab.specs.declared.faults.LabFault.TheVariants.{OutOfMemory};
 
 use std::alloc::{AllocError, AllocFailed};
@@ -38,6 +39,8 @@ pub enum LabFault {
 }
 
 impl fmt::Display for LimitName {
+    ghost output = { λ which. Some (limit_word which) };
+
     fn fmt<W: fmt::Write>(&self, f: &mut fmt::Formatter<W>) -> fmt::Result {
         match self {
             LimitName::Routers => write!(f, "routers"),

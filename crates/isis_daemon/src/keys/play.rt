@@ -31,7 +31,8 @@ fn play_one(net: &mut KeyNet, told: &Told) -> Result<(), ScriptFault>
 /// Plays the events in order, up to the first that is refused.
 pub fn play(net: &mut KeyNet, events: &[Told]) -> Result<(), ScriptFault>
     requires { AreInNet net.old events.now }
-    ensures { Gives result net.new (play_all net.old events.now) }
+    ensures value { Gives result net.new (play_all net.old events.now) }
+    ensures places { OnOk result (IsLaidOut net.old net.new) }
 {
     for told in events {
         match play_one(net, told) {

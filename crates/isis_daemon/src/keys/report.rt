@@ -1,15 +1,16 @@
-ghost use Rattle.std.specs.Prelude.{◌≡◌, ◌≤◌, ℕ, List, [], ◌++◌, Option, OnOk, OnErr, IsErrOf, length, string_bytes};
+ghost use Rattle.std.specs.Prelude.{◌≡◌, ◌≤◌, ℕ, List, [], ◌++◌, Option, OnOk, OnErr, IsErrOf, length, string_bytes, ◌⊎◌};
 ghost use Rattle.isis_edge.specs.Faults.{Rose};
+ghost use Rattle.isis_edge.specs.Told.{Wrote, Stays};
 ghost use Rattle.isis_daemon.specs.KeysReport.{key_line, key_lines, key_end, head_line, AreLines, IsReport};
 ghost use Rattle.isis_daemon.specs.Pages.{HasWritten, HasBegun, Adds, Begins};
 ghost use Rattle.isis_daemon.specs.Words.{texts};
 
-use isis_base::{Key, LspId};
+use isis_base::{Key, LspId, Octets, OutOfMemory};
 use isis_edge::Sink;
 use network_lab::KeyNet;
-use std::alloc::AllocError;
+use std::alloc::{AllocError, Global};
 
-use crate::pages::{Page, PageFault, put, put_both};
+use crate::pages::{Page, PageFault, flush, put, put_both};
 
 /// The end of a line of the report, behind the router's name.
 fn spell(line: &mut String, entry: &(LspId, Key)) -> Result<(), AllocError>
@@ -78,4 +79,50 @@ fn put_routers<O: Sink>(page: &mut Page<O>, line: &mut String, names: &[&[u8]], 
         }
     }
     Ok(())
+}
+
+/// The lines behind the head, and all of it written.
+fn put_all<O: Sink>(page: &mut Page<O>, line: &mut String, names: &[&[u8]], net: &KeyNet) -> Result<(), PageFault>
+    requires start { page.old.buffer ≡ head_line }
+    requires named { length names.now ≤ net.now.routers }
+    ensures ok { OnOk result ((report : List ℕ) × IsReport (texts names.now) net.now report
+        × Wrote (O.held page.old.output) (O.held page.new.output) report) }
+    ensures err { OnErr result ((report : List ℕ) × IsReport (texts names.now) net.now report
+        × HasBegun (O.held page.old.output) report (O.held page.new.output)) }
+    ensures cause { IsErrOf result PageFault.Write → Rose (O.faults page.old.output) (O.faults page.new.output) }
+    ensures later { O.faults page.old.output ≤ O.faults page.new.output }
+{
+    match put_routers(page, line, names, net) {
+        Ok(()) => {}
+        Err(fault) => return Err(fault),
+    }
+    match flush(page) {
+        Ok(()) => Ok(()),
+        Err(fault) => Err(fault),
+    }
+}
+
+/// Writes the report of a network whose routers have these names.
+pub fn put_report<O: Sink>(alloc: Global, output: O, names: &[&[u8]], net: &KeyNet) -> (O, Result<(), PageFault>)
+    requires { length names.now ≤ net.now.routers }
+    ensures ok { OnOk result.1 ((report : List ℕ) × IsReport (texts names.now) net.now report
+        × Wrote (O.held output) (O.held result.0) report) }
+    ensures memory { IsErrOf result.1 PageFault.OutOfMemory → Stays (O.held output) (O.held result.0)
+        ⊎ ((report : List ℕ) × IsReport (texts names.now) net.now report
+            × HasBegun (O.held output) report (O.held result.0)) }
+    ensures write { IsErrOf result.1 PageFault.Write → (report : List ℕ) × IsReport (texts names.now) net.now report
+        × HasBegun (O.held output) report (O.held result.0) }
+    ensures cause { IsErrOf result.1 PageFault.Write → Rose (O.faults output) (O.faults result.0) }
+    ensures later { O.faults output ≤ O.faults result.0 }
+{
+    let mut buffer = Octets::new(alloc);
+    match buffer.extend(b"isis-report 1\n") {
+        Ok(()) => {}
+        Err(OutOfMemory) => return (output, Err(PageFault::OutOfMemory)),
+    }
+    let mut page = Page { output, buffer };
+    let mut line = String::new(alloc);
+    let put = put_all(&mut page, &mut line, names, net);
+    let Page { output, buffer: _ } = page;
+    (output, put)
 }

@@ -1,0 +1,35 @@
+use Rattle.std.specs.Prelude.{ℕ, List, ◌++◌, codes, decimal}
+use Rattle.network_lab.specs.Limits.{limit_word}
+use Rattle.isis_daemon.specs.declared.reason.ScriptFault.{ScriptFault}
+use Rattle.isis_daemon.specs.declared.reason.ScriptFault.TheVariants as script
+use Rattle.isis_daemon.specs.declared.status.Status.{Status}
+use Rattle.isis_daemon.specs.declared.status.Status.TheVariants.{Done, Usage, ScriptRefused, ReadFault, WriteFault, TooLong, OutOfMemory, LabLimit}
+use Rattle.isis_daemon.specs.Reasons.{reason_word}
+
+-- what ends a run that a script's fault stopped (own)
+abbrev pub status_of : ScriptFault → Status
+status_of (script.Refused line reason) = ScriptRefused line reason
+status_of (script.Limit which) = LabLimit which
+status_of script.OutOfMemory = OutOfMemory
+
+-- the exit code (own)
+abbrev pub status_code : Status → ℕ
+status_code Done = 0
+status_code Usage = 2
+status_code (ScriptRefused line reason) = 3
+status_code ReadFault = 4
+status_code WriteFault = 5
+status_code TooLong = 6
+status_code OutOfMemory = 7
+status_code (LabLimit which) = 10
+
+-- what stands on standard error; at 0 nothing is printed (own)
+abbrev pub status_line : Status → List ℕ
+status_line Done = codes "isis: done"
+status_line Usage = codes "isis: usage"
+status_line (ScriptRefused line reason) = codes "isis: line " ++ decimal line ++ codes " " ++ reason_word reason
+status_line ReadFault = codes "isis: read fault"
+status_line WriteFault = codes "isis: write fault"
+status_line TooLong = codes "isis: input too long"
+status_line OutOfMemory = codes "isis: out of memory"
+status_line (LabLimit which) = codes "isis: limit " ++ limit_word which

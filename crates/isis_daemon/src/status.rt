@@ -1,0 +1,75 @@
+ghost use Rattle.std.specs.Prelude.{◌≡◌, Some};
+ghost use Rattle.isis_daemon.specs.Statuses.{status_of, status_code, status_line};
+
+use network_lab::LimitName;
+use std::fmt;
+
+use crate::reason::{Reason, ScriptFault};
+
+/// How a run of the program ended.
+#[derive(Clone, Copy, Debug, PartialEq, Eq)]
+pub enum Status {
+    /// The whole output was written.
+    Done,
+    /// The words are none of the program's forms. Nothing was written.
+    Usage,
+    /// This line of the script, counted from 1, is refused. Nothing was written.
+    ScriptRefused { line: usize, reason: Reason },
+    /// A read of the input failed. Nothing was written.
+    ReadFault,
+    /// A write of the output failed. A prefix of it was written.
+    WriteFault,
+    /// The input has more than 16,777,216 octets. Nothing was written.
+    TooLong,
+    /// Memory wanted. A prefix of the output was written.
+    OutOfMemory,
+    /// The script asks for more than this limit allows. Nothing was written.
+    LabLimit { which: LimitName },
+}
+
+impl Status {
+    /// The program's exit code.
+    pub fn code(self) -> u8
+        ensures { result ≡ status_code self }
+    {
+        match self {
+            Status::Done => 0,
+            Status::Usage => 2,
+            Status::ScriptRefused { .. } => 3,
+            Status::ReadFault => 4,
+            Status::WriteFault => 5,
+            Status::TooLong => 6,
+            Status::OutOfMemory => 7,
+            Status::LabLimit { .. } => 10,
+        }
+    }
+}
+
+impl fmt::Display for Status {
+    ghost output = { λ status. Some (status_line status) };
+
+    fn fmt<W: fmt::Write>(&self, f: &mut fmt::Formatter<W>) -> fmt::Result {
+        match self {
+            Status::Done => write!(f, "isis: done"),
+            Status::Usage => write!(f, "isis: usage"),
+            Status::ScriptRefused { line, reason } => write!(f, "isis: line {line} {reason}"),
+            Status::ReadFault => write!(f, "isis: read fault"),
+            Status::WriteFault => write!(f, "isis: write fault"),
+            Status::TooLong => write!(f, "isis: input too long"),
+            Status::OutOfMemory => write!(f, "isis: out of memory"),
+            Status::LabLimit { which } => write!(f, "isis: limit {which}"),
+        }
+    }
+}
+
+impl From<ScriptFault> for Status {
+    ghost from_gives = { λ fault status. status ≡ status_of fault };
+
+    fn from(fault: ScriptFault) -> Status {
+        match fault {
+            ScriptFault::Refused { line, reason } => Status::ScriptRefused { line, reason },
+            ScriptFault::Limit(which) => Status::LabLimit { which },
+            ScriptFault::OutOfMemory => Status::OutOfMemory,
+        }
+    }
+}
