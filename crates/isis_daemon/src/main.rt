@@ -1,4 +1,12 @@
 //! The program `isis`.
+//!
+//! `isis lab` reads a script from standard input and writes its report to standard output. Where the exit code
+//! isn't 0, the status's line stands on standard error.
+//!
+//! - `run.rt`: the call `run`, from the octets read to the octets written
+//! - `status.rt`, `reason.rt`: how a run ends, and why a line is refused
+//! - `keys/`: keys scripts, read by `reader.rt`, played by `play.rt` and reported by `report.rt`
+//! - `pages.rt`: text on its way to a sink, in pieces of some kilobytes
 #![tactic(auto)]
 
 mod keys;
@@ -6,5 +14,40 @@ mod pages;
 mod reason;
 mod run;
 mod status;
+#[cfg(test)]
+mod tests;
 
-fn main() {}
+use isis_edge::{StdSink, StdSource};
+use std::env;
+use std::io;
+use std::process::ExitCode;
+
+use crate::run::run;
+use crate::status::Status;
+
+/// The words after the program's name.
+fn words(rt: &HostRuntime) -> Result<Vec<String>, Status> {
+    match env::args(rt) {
+        Ok(words) => match words.skip(1).collect(rt.alloc()) {
+            Ok(words) => Ok(words),
+            Err(_) => Err(Status::OutOfMemory),
+        },
+        Err(error) if error.kind() == io::ErrorKind::InvalidData => Err(Status::Usage),
+        Err(_) => Err(Status::OutOfMemory),
+    }
+}
+
+fn main(rt: HostRuntime) -> ExitCode {
+    let status = match words(&rt) {
+        Ok(words) => {
+            let mut input = StdSource::new(rt.stdin());
+            run(rt.alloc(), words.as_slice(), &mut input, StdSink::new(rt.stdout())).1
+        }
+        Err(status) => status,
+    };
+    if status != Status::Done {
+        // Where standard error can't be written, the exit code still tells.
+        let _ = rt.eprintln(status);
+    }
+    ExitCode::from(status.code())
+}

@@ -9,6 +9,8 @@
 mod faults;
 mod held;
 mod key_net;
+#[cfg(test)]
+mod tests;
 
 pub use faults::{LabFault, LimitName};
 pub use key_net::KeyNet;
