@@ -1,3 +1,6 @@
 pub mod WalkLemmas
 pub mod SizeLemmas
 pub mod BitLemmas
+pub mod RoundLemmas
+pub mod PrefixLemmas
+pub mod ThreeWayLemmas

@@ -4,3 +4,4 @@ pub mod Tlvs
 pub mod TlvViews
 pub mod Items
 pub mod Spelling
+pub mod Fits
