@@ -4,3 +4,4 @@ pub mod BitLemmas
 pub mod RoundLemmas
 pub mod PrefixLemmas
 pub mod ThreeWayLemmas
+pub mod TlvLemmas

@@ -1,4 +1,4 @@
-use Rattle.std.specs.Prelude.{◌≡◌, ℕ, ◌+◌, ◌-◌, ◌≤◌, nat_le, List, [], ◌∷◌, ◌++◌, length, take, drop, Option, Some, None, Result, Ok, Err, slice_get, if◌then◌else◌}
+use Rattle.std.specs.Prelude.{◌≡◌, ℕ, ◌+◌, ◌-◌, ◌≤◌, nat_le, List, [], ◌∷◌, ◌++◌, length, take, drop, Option, Some, None, Result, Ok, Err, if◌then◌else◌}
 use Rattle.std.specs.Result.{ok_prefix}
 use Rattle.isis_tlv.specs.declared.tlv.TlvFault.{TlvFault}
 use Rattle.isis_tlv.specs.declared.tlv.TlvFault.TheVariants.{Header, Past}
@@ -34,10 +34,9 @@ AreTlvs octets = fault_of (tlvs_of 0 octets) ≡ None
 abbrev pub tlv_list : ℕ → List ℕ → List TlvView
 tlv_list place octets = ok_prefix (tlvs_of place octets)
 
--- the TLV stands where it says in octets that begin at a place: its code, its length, and its value as their slice
+-- the TLV stands where it says in octets that begin at a place, and its value is a slice of them
 pub record StandsIn (place : ℕ) (octets : List ℕ) (tlv : TlvView) : Type 0 where
   pub from : place ≤ tlv.place
   pub within : tlv.place + 2 + length tlv.value ≤ place + length octets
-  pub code : slice_get octets (tlv.place - place) ≡ Some tlv.code
-  pub length_octet : slice_get octets (tlv.place + 1 - place) ≡ Some (length tlv.value)
-  pub value : tlv.value ≡ take (length tlv.value) (drop (tlv.place + 2 - place) octets)
+  pub whole : take (2 + length tlv.value) (drop (tlv.place - place) octets) ≡ tlv_octets tlv.code tlv.value
+  pub value : take (length tlv.value) (drop (tlv.place + 2 - place) octets) ≡ tlv.value
