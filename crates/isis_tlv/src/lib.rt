@@ -37,3 +37,6 @@ pub use prefix::{PrefixItem, PrefixItems, prefixes, put_prefixes};
 pub use snpa::{SnpaItems, put_snpas, snpas};
 pub use three_way::{Adj, ThreeWay, put_three_way, three_way_value};
 pub use tlv::{Tlv, TlvFault, Tlvs};
+
+#[cfg(test)]
+mod tests;
