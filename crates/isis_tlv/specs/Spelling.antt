@@ -1,4 +1,4 @@
-use Rattle.std.specs.Prelude.{ℕ, ◌+◌, ◌*◌, ◌/◌, ◌%◌, List, [], ◌∷◌, ◌++◌, length, take, Option, Some, None, Result, Ok, Err, if◌then◌else◌}
+use Rattle.std.specs.Prelude.{ℕ, ◌+◌, ◌*◌, ◌/◌, ◌%◌, List, [], ◌∷◌, ◌++◌, length, take, map, Option, Some, None, Result, Ok, Err, if◌then◌else◌}
 use Rattle.std.specs.List.{flat_map}
 use Rattle.isis_base.specs.declared.identifiers.Snpa.{Snpa}
 use Rattle.isis_base.specs.declared.identifiers.SystemId.{SystemId}
@@ -60,7 +60,7 @@ abbrev pub prefix_view : PrefixItem → PrefixView
 prefix_view item = record { address = item.prefix.address; length = item.prefix.length; metric = item.metric; down = item.down }
 
 abbrev pub prefix_value : List PrefixItem → List ℕ
-prefix_value list = flat_map (λ item. prefix_octets (prefix_view item)) list
+prefix_value list = flat_map prefix_octets (map prefix_view list)
 
 abbrev pub prefix_tlv : List PrefixItem → List ℕ
 prefix_tlv list = tlv_octets 135 (prefix_value list)
@@ -90,11 +90,11 @@ abbrev pub neighbour_part : Option (SystemId × ℕ) → List ℕ
 neighbour_part None = []
 neighbour_part (Some neighbour) = neighbour.0.0 ++ four_of neighbour.1
 
-abbrev pub three_way_value : ThreeWay → List ℕ
-three_way_value value = state_octet value.state ∷ own_octets value.own_id ++ neighbour_part value.neighbour
+abbrev pub three_way_octets : ThreeWay → List ℕ
+three_way_octets value = state_octet value.state ∷ own_octets value.own_id ++ neighbour_part value.neighbour
 
 abbrev pub three_way_tlv : ThreeWay → List ℕ
-three_way_tlv value = tlv_octets 240 (three_way_value value)
+three_way_tlv value = tlv_octets 240 (three_way_octets value)
 
 -- a prefix or a fault, as contracts see it
 abbrev pub prefix_result : Result PrefixItem ValueFault → Result PrefixView ValueFault

@@ -1,5 +1,6 @@
-ghost use Rattle.std.specs.Prelude.{◌≡◌, ◌≤◌, ◌++◌, length, OnOk, OnErr};
+ghost use Rattle.std.specs.Prelude.{◌≡◌, ◌≤◌, ◌+◌, ◌++◌, map, length, Ok, OnOk, OnErr};
 ghost use Rattle.isis_tlv.specs.Items.{area_at, areas_of};
+ghost use Rattle.isis_tlv.specs.Fits.{IsArea};
 ghost use Rattle.isis_tlv.specs.Spelling.{area_octets, area_value, area_tlv};
 
 use isis_base::{AreaAddress, Octets, OutOfMemory};
@@ -7,6 +8,7 @@ use std::marker::Model;
 
 use crate::draft::Draft;
 use crate::fault::ValueFault;
+use crate::laws::item_laws;
 use crate::left::Left;
 
 /// The area addresses of a value of code 1, in order. A fault is the last item. Contracts see what is left.
@@ -73,18 +75,29 @@ fn area_at(octets: &[u8]) -> Option<(AreaAddress, usize)>
     Some((area, 1 + count))
 }
 
+/// Adds the length and the octets of an area address.
+fn add_area(draft: &mut Draft, area: &AreaAddress)
+    requires { length draft.old + length (area_octets area.now) ≤ 255 }
+    ensures added { draft.new ≡ draft.old ++ area_octets area.now }
+    ensures fits { IsArea area.now }
+{
+    let octets = area.octets();
+    draft.add(&[octets.len() as u8]);
+    draft.add(octets);
+}
+
 /// Adds a TLV of code 1 with these area addresses. Its value has at most 255 octets. At `OutOfMemory` the list is
 /// as it was.
 pub fn put_areas(out: &mut Octets, areas: &[AreaAddress]) -> Result<(), OutOfMemory>
     requires { length (area_value areas.now) ≤ 255 }
     ensures ok { OnOk result (out.new ≡ out.old ++ area_tlv areas.now) }
     ensures err { OnErr result (out.new ≡ out.old) }
+    ensures reads { areas_of (area_value areas.now) ≡ map (λ area. Ok area) areas.now }
 {
     let mut draft = Draft::new();
     for area in areas {
-        let octets = area.octets();
-        draft.add(&[octets.len() as u8]);
-        draft.add(octets);
+        add_area(&mut draft, area);
     }
+    item_laws();
     draft.put(1, out)
 }

@@ -1,4 +1,5 @@
-ghost use Rattle.std.specs.Prelude.{◌≡◌, ◌≤◌, ◌+◌, ◌++◌, length, OnOk, OnErr};
+ghost use Rattle.std.specs.Prelude.{◌≡◌, ◌≤◌, ◌+◌, ◌++◌, map, length, Ok, OnOk, OnErr};
+ghost use Rattle.isis_tlv.specs.Fits.{IsEntry};
 ghost use Rattle.isis_tlv.specs.Items.{entry_at, entries_of};
 ghost use Rattle.isis_tlv.specs.Spelling.{entry_octets, entry_value, entry_tlv};
 
@@ -7,6 +8,7 @@ use std::marker::Model;
 
 use crate::draft::Draft;
 use crate::fault::ValueFault;
+use crate::laws::item_laws;
 use crate::left::Left;
 
 /// The LSP entries of a value of code 9, in order. A fault is the last item. Contracts see what is left.
@@ -81,7 +83,8 @@ fn entry_at(octets: &[u8]) -> Option<(LspEntry, usize)>
 /// Adds the sixteen octets of an entry.
 fn add_entry(draft: &mut Draft, entry: &LspEntry)
     requires { length draft.old + length (entry_octets entry.now) ≤ 255 }
-    ensures { draft.new ≡ draft.old ++ entry_octets entry.now }
+    ensures added { draft.new ≡ draft.old ++ entry_octets entry.now }
+    ensures fits { IsEntry entry.now }
 {
     let LspId { node, number } = entry.id;
     draft.add(&entry.lifetime.to_be_bytes());
@@ -96,10 +99,12 @@ pub fn put_entries(out: &mut Octets, list: &[LspEntry]) -> Result<(), OutOfMemor
     requires { length (entry_value list.now) ≤ 255 }
     ensures ok { OnOk result (out.new ≡ out.old ++ entry_tlv list.now) }
     ensures err { OnErr result (out.new ≡ out.old) }
+    ensures reads { entries_of (entry_value list.now) ≡ map (λ entry. Ok entry) list.now }
 {
     let mut draft = Draft::new();
     for entry in list {
         add_entry(&mut draft, entry);
     }
+    item_laws();
     draft.put(9, out)
 }

@@ -1,5 +1,6 @@
-ghost use Rattle.std.specs.Prelude.{◌≡◌, ◌≤◌, ◌<◌, ◌^◌, ◌++◌, All, length, OnOk, OnErr};
+ghost use Rattle.std.specs.Prelude.{◌≡◌, ◌≤◌, ◌<◌, ◌^◌, ◌+◌, ◌++◌, All, map, length, Ok, OnOk, OnErr};
 ghost use Rattle.isis_tlv.specs.Items.{neighbour_at, neighbours_of};
+ghost use Rattle.isis_tlv.specs.Fits.{IsNeighbour};
 ghost use Rattle.isis_tlv.specs.Spelling.{neighbour_octets, neighbour_value, neighbour_tlv};
 
 use isis_base::{NodeId, Octets, OutOfMemory, SystemId};
@@ -7,6 +8,7 @@ use std::marker::Model;
 
 use crate::draft::Draft;
 use crate::fault::ValueFault;
+use crate::laws::item_laws;
 use crate::left::Left;
 
 /// One neighbour of an extended IS reachability TLV (RFC 5305 3), and the metric to it. Three octets hold a metric
@@ -86,14 +88,16 @@ fn neighbour_at(octets: &[u8]) -> Option<(NeighbourItem, usize)>
     Some((NeighbourItem { node, metric }, 11 + subs))
 }
 
-/// The eleven octets of a neighbour without sub-TLVs.
-fn octets_of_neighbour(item: NeighbourItem) -> [u8; 11]
-    ensures { result ≡ neighbour_octets item }
+/// Adds the eleven octets of a neighbour without sub-TLVs.
+fn add_neighbour(draft: &mut Draft, item: &NeighbourItem)
+    requires room { length draft.old + length (neighbour_octets item.now) ≤ 255 }
+    requires metric { item.now.metric < 2 ^ 24 }
+    ensures added { draft.new ≡ draft.old ++ neighbour_octets item.now }
+    ensures fits { IsNeighbour item.now }
 {
-    let [a, b, c, d, e, f] = item.node.system.0;
-    let [_, m, n, o] = item.metric.to_be_bytes();
-    let pseudonode = item.node.pseudonode;
-    [a, b, c, d, e, f, pseudonode, m, n, o, 0]
+    let [_, a, b, c] = item.metric.to_be_bytes();
+    draft.add(&item.node.system.0);
+    draft.add(&[item.node.pseudonode, a, b, c, 0]);
 }
 
 /// Adds a TLV of code 22 with these neighbours, without sub-TLVs. Its value has at most 255 octets, and a metric is
@@ -103,10 +107,12 @@ pub fn put_neighbours(out: &mut Octets, list: &[NeighbourItem]) -> Result<(), Ou
     requires metrics { All (λ item. item.metric < 2 ^ 24) list.now }
     ensures ok { OnOk result (out.new ≡ out.old ++ neighbour_tlv list.now) }
     ensures err { OnErr result (out.new ≡ out.old) }
+    ensures reads { neighbours_of (neighbour_value list.now) ≡ map (λ item. Ok item) list.now }
 {
     let mut draft = Draft::new();
     for item in list {
-        draft.add(&octets_of_neighbour(*item));
+        add_neighbour(&mut draft, item);
     }
+    item_laws();
     draft.put(22, out)
 }

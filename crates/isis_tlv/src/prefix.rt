@@ -1,8 +1,9 @@
-ghost use Rattle.std.specs.Prelude.{◌≡◌, ◌≤◌, ◌+◌, ◌++◌, ◌==◌, length, OnOk, OnErr};
+ghost use Rattle.std.specs.Prelude.{◌≡◌, ◌≤◌, ◌+◌, ◌++◌, ◌==◌, map, length, Ok, OnOk, OnErr};
 ghost use Rattle.std.specs.Option.{option_map};
 ghost use Rattle.std.specs.Int.{bit_at};
 ghost use Rattle.isis_tlv.specs.Numbers.{four_at};
 ghost use Rattle.isis_tlv.specs.Items.{prefix_at, prefixes_of, cleared, octets_for, subs_at};
+ghost use Rattle.isis_tlv.specs.Fits.{IsPrefix};
 ghost use Rattle.isis_tlv.specs.Spelling.{prefix_octets, prefix_view, prefix_value, prefix_tlv};
 
 use isis_base::{Octets, OutOfMemory, Prefix};
@@ -10,6 +11,7 @@ use std::marker::Model;
 
 use crate::draft::Draft;
 use crate::fault::ValueFault;
+use crate::laws::item_laws;
 use crate::left::Left;
 
 /// One prefix of an extended IP reachability TLV (RFC 5305 4), the metric to it, and whether it was leaked down.
@@ -164,7 +166,8 @@ fn address_of(held: &[u8]) -> u32
 /// Adds the octets of a prefix, without sub-TLVs.
 fn add_prefix(draft: &mut Draft, item: &PrefixItem)
     requires { length draft.old + length (prefix_octets (prefix_view item.now)) ≤ 255 }
-    ensures { draft.new ≡ draft.old ++ prefix_octets (prefix_view item.now) }
+    ensures added { draft.new ≡ draft.old ++ prefix_octets (prefix_view item.now) }
+    ensures fits { IsPrefix (prefix_view item.now) }
 {
     let length = item.prefix.length();
     let mark = if item.down { DOWN } else { 0 };
@@ -181,10 +184,12 @@ pub fn put_prefixes(out: &mut Octets, list: &[PrefixItem]) -> Result<(), OutOfMe
     requires { length (prefix_value list.now) ≤ 255 }
     ensures ok { OnOk result (out.new ≡ out.old ++ prefix_tlv list.now) }
     ensures err { OnErr result (out.new ≡ out.old) }
+    ensures reads { prefixes_of (prefix_value list.now) ≡ map (λ item. Ok item) (map prefix_view list.now) }
 {
     let mut draft = Draft::new();
     for item in list {
         add_prefix(&mut draft, item);
     }
+    item_laws();
     draft.put(135, out)
 }

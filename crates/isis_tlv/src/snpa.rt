@@ -1,5 +1,6 @@
-ghost use Rattle.std.specs.Prelude.{◌≡◌, ◌≤◌, ◌++◌, length, OnOk, OnErr};
+ghost use Rattle.std.specs.Prelude.{◌≡◌, ◌≤◌, ◌+◌, ◌++◌, map, length, Ok, OnOk, OnErr};
 ghost use Rattle.isis_tlv.specs.Items.{snpa_at, snpas_of};
+ghost use Rattle.isis_tlv.specs.Fits.{IsSnpa};
 ghost use Rattle.isis_tlv.specs.Spelling.{snpa_value, snpa_tlv};
 
 use isis_base::{Octets, OutOfMemory, Snpa};
@@ -7,6 +8,7 @@ use std::marker::Model;
 
 use crate::draft::Draft;
 use crate::fault::ValueFault;
+use crate::laws::item_laws;
 use crate::left::Left;
 
 /// The SNPAs of a value of code 6 (ISO 10589 9.5), in order. A fault is the last item. Contracts see what is left.
@@ -67,15 +69,26 @@ fn snpa_at(octets: &[u8]) -> Option<(Snpa, usize)>
     Some((Snpa(*snpa), 6))
 }
 
+/// Adds the six octets of an SNPA.
+fn add_snpa(draft: &mut Draft, snpa: &Snpa)
+    requires { length draft.old + length snpa.now.0 ≤ 255 }
+    ensures added { draft.new ≡ draft.old ++ snpa.now.0 }
+    ensures fits { IsSnpa snpa.now }
+{
+    draft.add(&snpa.0);
+}
+
 /// Adds a TLV of code 6 with these SNPAs. Its value has at most 255 octets. At `OutOfMemory` the list is as it was.
 pub fn put_snpas(out: &mut Octets, list: &[Snpa]) -> Result<(), OutOfMemory>
     requires { length (snpa_value list.now) ≤ 255 }
     ensures ok { OnOk result (out.new ≡ out.old ++ snpa_tlv list.now) }
     ensures err { OnErr result (out.new ≡ out.old) }
+    ensures reads { snpas_of (snpa_value list.now) ≡ map (λ snpa. Ok snpa) list.now }
 {
     let mut draft = Draft::new();
     for snpa in list {
-        draft.add(&snpa.0);
+        add_snpa(&mut draft, snpa);
     }
+    item_laws();
     draft.put(6, out)
 }

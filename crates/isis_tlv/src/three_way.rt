@@ -1,11 +1,12 @@
-ghost use Rattle.std.specs.Prelude.{◌≡◌, ◌≤◌, ◌++◌, length, IsSome, OnOk, OnErr};
+ghost use Rattle.std.specs.Prelude.{◌≡◌, ◌≤◌, ◌++◌, length, IsSome, Ok, OnOk, OnErr};
 ghost use Rattle.isis_tlv.specs.Items.{three_way_of};
-ghost use Rattle.isis_tlv.specs.Spelling.{state_octet, three_way_tlv};
+ghost use Rattle.isis_tlv.specs.Spelling.{state_octet, three_way_octets, three_way_tlv};
 
 use isis_base::{Octets, OutOfMemory, SystemId};
 
 use crate::draft::Draft;
 use crate::fault::ValueFault;
+use crate::laws::item_laws;
 
 /// The state of a point-to-point adjacency (RFC 5303 3).
 #[derive(Clone, Copy, Debug, PartialEq, Eq)]
@@ -68,6 +69,7 @@ pub fn put_three_way(out: &mut Octets, value: &ThreeWay) -> Result<(), OutOfMemo
     requires { IsSome value.now.neighbour → IsSome value.now.own_id }
     ensures ok { OnOk result (out.new ≡ out.old ++ three_way_tlv value.now) }
     ensures err { OnErr result (out.new ≡ out.old) }
+    ensures reads { three_way_of (three_way_octets value.now) ≡ Ok value.now }
 {
     let mut draft = Draft::new();
     draft.add(&[octet_of_state(value.state)]);
@@ -78,5 +80,6 @@ pub fn put_three_way(out: &mut Octets, value: &ThreeWay) -> Result<(), OutOfMemo
         draft.add(&system.0);
         draft.add(&id.to_be_bytes());
     }
+    item_laws();
     draft.put(240, out)
 }
