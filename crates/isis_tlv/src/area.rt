@@ -48,7 +48,7 @@ impl<'a> Iterator for AreaItems<'a> {
     ghost remaining = { item_count (λ rest. rest) };
 
     fn next(&mut self) -> Option<Result<AreaAddress, ValueFault>> {
-        if self.left.octets.is_empty() {
+        if self.left.is_done() {
             return None;
         }
         let Some((area, count)) = area_at(self.left.octets) else {

@@ -49,7 +49,7 @@ impl<'a> Iterator for EntryItems<'a> {
     ghost remaining = { item_count (λ rest. rest) };
 
     fn next(&mut self) -> Option<Result<LspEntry, ValueFault>> {
-        if self.left.octets.is_empty() {
+        if self.left.is_done() {
             return None;
         }
         let Some((entry, count)) = entry_at(self.left.octets) else {

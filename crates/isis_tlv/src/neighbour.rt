@@ -58,7 +58,7 @@ impl<'a> Iterator for NeighbourItems<'a> {
     ghost remaining = { item_count (λ rest. rest) };
 
     fn next(&mut self) -> Option<Result<NeighbourItem, ValueFault>> {
-        if self.left.octets.is_empty() {
+        if self.left.is_done() {
             return None;
         }
         let Some((item, count)) = neighbour_at(self.left.octets) else {

@@ -62,7 +62,7 @@ impl<'a> Iterator for PrefixItems<'a> {
     ghost remaining = { item_count (λ rest. rest) };
 
     fn next(&mut self) -> Option<Result<PrefixItem, ValueFault>> {
-        if self.left.octets.is_empty() {
+        if self.left.is_done() {
             return None;
         }
         let Some((item, count)) = prefix_at(self.left.octets) else {
@@ -142,6 +142,7 @@ fn subs_at(control: u8, place: usize, octets: &[u8]) -> usize
 }
 
 /// The prefix of so many bits that these octets hold. Bits past its length are read as 0.
+#[tactic(auto, using(crate::proofs::BitLemmas::cleared_mod))]
 fn prefix_of(held: &[u8], bits: u8) -> Prefix
     requires bits { bits ≤ 32 }
     requires held { length held.now ≤ 4 }

@@ -49,7 +49,7 @@ impl<'a> Iterator for SnpaItems<'a> {
     ghost remaining = { item_count (λ rest. rest) };
 
     fn next(&mut self) -> Option<Result<Snpa, ValueFault>> {
-        if self.left.octets.is_empty() {
+        if self.left.is_done() {
             return None;
         }
         let Some((snpa, count)) = snpa_at(self.left.octets) else {

@@ -77,7 +77,7 @@ impl<'a> Iterator for Tlvs<'a> {
     ghost remaining = { item_count (λ rest. rest) };
 
     fn next(&mut self) -> Option<Result<Tlv<'a>, TlvFault>> {
-        if self.left.octets.is_empty() {
+        if self.left.is_done() {
             return None;
         }
         match tlv_at(self.left) {
