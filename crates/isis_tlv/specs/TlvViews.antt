@@ -1,4 +1,4 @@
-use Rattle.std.specs.Prelude.{◌≡◌, ℕ, ◌+◌, length, Result, Ok, Err}
+use Rattle.std.specs.Prelude.{ℕ, ◌+◌, length, Result, Ok, Err}
 use Rattle.isis_tlv.specs.declared.tlv.Tlv.{Tlv}
 use Rattle.isis_tlv.specs.declared.tlv.TlvFault.{TlvFault}
 use Rattle.isis_tlv.specs.Tlvs.{TlvView}

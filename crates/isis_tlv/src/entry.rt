@@ -3,13 +3,12 @@ ghost use Rattle.isis_tlv.specs.Fits.{IsEntry};
 ghost use Rattle.isis_tlv.specs.Items.{entry_at, entries_of};
 ghost use Rattle.isis_tlv.specs.Spelling.{entry_octets, entry_value, entry_tlv};
 
-use isis_base::{LspEntry, LspId, NodeId, Octets, OutOfMemory, SystemId};
-use std::marker::Model;
-
 use crate::draft::Draft;
 use crate::fault::ValueFault;
 use crate::laws::item_laws;
 use crate::left::Left;
+use isis_base::{LspEntry, LspId, NodeId, Octets, OutOfMemory, SystemId};
+use std::marker::Model;
 
 /// The LSP entries of a value of code 9, in order. A fault is the last item. Contracts see what is left.
 #[derive(Debug, Drop)]
@@ -65,11 +64,11 @@ impl<'a> Iterator for EntryItems<'a> {
 fn entry_at(octets: &[u8]) -> Option<(LspEntry, usize)>
     ensures { result ≡ entry_at octets.now }
 {
-    let [l, m, a, b, c, d, e, f, pseudonode, number, n, o, p, q, r, s, ..] = octets else {
+    let [l, m, a, b, c, d, e, f, g, h, n, o, p, q, r, s, ..] = octets else {
         return None;
     };
     let system = SystemId([*a, *b, *c, *d, *e, *f]);
-    let (pseudonode, number) = (*pseudonode, *number);
+    let (pseudonode, number) = (*g, *h);
     let node = NodeId { system, pseudonode };
     let entry = LspEntry {
         lifetime: u16::from_be_bytes([*l, *m]),

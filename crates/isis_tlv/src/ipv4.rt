@@ -1,9 +1,8 @@
 ghost use Rattle.std.specs.Prelude.{◌≡◌, ◌≤◌, ◌++◌, length, OnOk, OnErr};
 ghost use Rattle.isis_tlv.specs.Spelling.{address_value, address_tlv, protocol_tlv};
 
-use isis_base::{Octets, OutOfMemory};
-
 use crate::draft::{Draft, put_tlv};
+use isis_base::{Octets, OutOfMemory};
 
 /// Adds a TLV of code 132 with these IPv4 addresses, each with its first octet the greatest. Its value has at most
 /// 255 octets. At `OutOfMemory` the list is as it was.

@@ -20,8 +20,7 @@ pub fn tlv_steps()
     ensures header { (place code : ℕ) → tlvs_of place (code ∷ []) ≡ Err (Header place) ∷ [] }
     ensures past { (place code count : ℕ) (octets : List ℕ) → length octets < count
         → tlvs_of place (code ∷ count ∷ octets) ≡ Err (Past place) ∷ [] }
-{
-}
+{}
 
 /// Each TLV stands where it says, with its value as a slice. Octets are TLVs to their end at every first place or at
 /// none, exactly where they are TLVs one after another, and then the TLVs spelled again are the octets.
@@ -34,8 +33,7 @@ pub fn tlv_laws()
         → flat_map (λ tlv. tlv_octets tlv.code tlv.value) (tlv_list place octets) ≡ octets }
     ensures joined { (first rest : List ℕ) → AreTlvs first → AreTlvs rest → AreTlvs (first ++ rest) }
     ensures one { (code : ℕ) (value : List ℕ) → AreTlvs (tlv_octets code value) }
-{
-}
+{}
 
 /// What the `put_` calls spell reads back as the same items, without a fault.
 pub fn item_laws()
@@ -48,5 +46,4 @@ pub fn item_laws()
     ensures prefixes { (list : List PrefixView) → AllByRecursion IsPrefix list
         → prefixes_of (flat_map prefix_octets list) ≡ map (λ item. Ok item) list }
     ensures three_way { (value : ThreeWay) → IsThreeWay value → three_way_of (three_way_octets value) ≡ Ok value }
-{
-}
+{}

@@ -3,13 +3,12 @@ ghost use Rattle.isis_tlv.specs.Items.{neighbour_at, neighbours_of};
 ghost use Rattle.isis_tlv.specs.Fits.{IsNeighbour};
 ghost use Rattle.isis_tlv.specs.Spelling.{neighbour_octets, neighbour_value, neighbour_tlv};
 
-use isis_base::{NodeId, Octets, OutOfMemory, SystemId};
-use std::marker::Model;
-
 use crate::draft::Draft;
 use crate::fault::ValueFault;
 use crate::laws::item_laws;
 use crate::left::Left;
+use isis_base::{NodeId, Octets, OutOfMemory, SystemId};
+use std::marker::Model;
 
 /// One neighbour of an extended IS reachability TLV (RFC 5305 3), and the metric to it. Three octets hold a metric
 /// up to 16,777,215.

@@ -6,13 +6,12 @@ ghost use Rattle.isis_tlv.specs.Items.{prefix_at, prefixes_of, cleared, octets_f
 ghost use Rattle.isis_tlv.specs.Fits.{IsPrefix};
 ghost use Rattle.isis_tlv.specs.Spelling.{prefix_octets, prefix_view, prefix_value, prefix_tlv};
 
-use isis_base::{Octets, OutOfMemory, Prefix};
-use std::marker::Model;
-
 use crate::draft::Draft;
 use crate::fault::ValueFault;
 use crate::laws::item_laws;
 use crate::left::Left;
+use isis_base::{Octets, OutOfMemory, Prefix};
+use std::marker::Model;
 
 /// One prefix of an extended IP reachability TLV (RFC 5305 4), the metric to it, and whether it was leaked down.
 #[derive(Clone, Copy, Debug, PartialEq, Eq)]

@@ -3,13 +3,12 @@ ghost use Rattle.isis_tlv.specs.Items.{snpa_at, snpas_of};
 ghost use Rattle.isis_tlv.specs.Fits.{IsSnpa};
 ghost use Rattle.isis_tlv.specs.Spelling.{snpa_value, snpa_tlv};
 
-use isis_base::{Octets, OutOfMemory, Snpa};
-use std::marker::Model;
-
 use crate::draft::Draft;
 use crate::fault::ValueFault;
 use crate::laws::item_laws;
 use crate::left::Left;
+use isis_base::{Octets, OutOfMemory, Snpa};
+use std::marker::Model;
 
 /// The SNPAs of a value of code 6 (ISO 10589 9.5), in order. A fault is the last item. Contracts see what is left.
 #[derive(Debug, Drop)]

@@ -1,5 +1,4 @@
 use Rattle.std.proofs.Common.{◌≡◌, ◌++◌, drop}
-use Rattle.std.specs.List.{flat_map}
 use Rattle.isis_tlv.specs.Spelling.{address_value}
 use Rattle.isis_tlv.proofs.ipv4.put_addresses.Given as goal
 
