@@ -1,0 +1,7 @@
+pub mod WalkLemmas
+pub mod SizeLemmas
+pub mod BitLemmas
+pub mod RoundLemmas
+pub mod PrefixLemmas
+pub mod ThreeWayLemmas
+pub mod TlvLemmas

@@ -1,0 +1,28 @@
+ghost use Rattle.std.specs.Prelude.{◌≡◌, ◌≤◌, ◌++◌, length, OnOk, OnErr};
+ghost use Rattle.isis_tlv.specs.Spelling.{address_value, address_tlv, protocol_tlv};
+
+use isis_base::{Octets, OutOfMemory};
+
+use crate::draft::{Draft, put_tlv};
+
+/// Adds a TLV of code 132 with these IPv4 addresses, each with its first octet the greatest. Its value has at most
+/// 255 octets. At `OutOfMemory` the list is as it was.
+pub fn put_addresses(out: &mut Octets, list: &[u32]) -> Result<(), OutOfMemory>
+    requires { length (address_value list.now) ≤ 255 }
+    ensures ok { OnOk result (out.new ≡ out.old ++ address_tlv list.now) }
+    ensures err { OnErr result (out.new ≡ out.old) }
+{
+    let mut draft = Draft::new();
+    for address in list {
+        draft.add(&address.to_be_bytes());
+    }
+    draft.put(132, out)
+}
+
+/// Adds the TLV of code 129 that names IPv4 alone. At `OutOfMemory` the list is as it was.
+pub fn put_protocols(out: &mut Octets) -> Result<(), OutOfMemory>
+    ensures ok { OnOk result (out.new ≡ out.old ++ protocol_tlv) }
+    ensures err { OnErr result (out.new ≡ out.old) }
+{
+    put_tlv(out, 129, &[0xcc])
+}

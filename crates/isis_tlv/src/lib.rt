@@ -1,0 +1,42 @@
+//! TLVs: the code, the length and the value that the bodies of PDUs are made of, and the values of the codes
+//! that this router reads or writes.
+//!
+//! The form of a TLV and the values of codes 1, 6 and 9 are those of ISO 10589 9.5 and 9.10, of 22 and 135 of
+//! RFC 5305 3 and 4, of 129 and 132 of RFC 1195 5.3 and of 240 of RFC 5303 3. Left out: sub-TLVs are stepped over
+//! and never written. Reading takes no memory; a `put_` call takes what its octets need.
+//!
+//! - `tlv.rt`: the walk over TLVs
+//! - `fault.rt`: where a value doesn't fit
+//! - `left.rt`: the octets that a walk has left
+//! - `area.rt`, `snpa.rt`, `entry.rt`, `neighbour.rt`, `prefix.rt`: the values of codes 1, 6, 9, 22 and 135
+//! - `three_way.rt`: the value of code 240
+//! - `ipv4.rt`: codes 129 and 132, which are only written
+//! - `draft.rt`: a value while it is written
+#![tactic(auto)]
+
+mod area;
+mod draft;
+mod entry;
+mod fault;
+mod ipv4;
+mod laws;
+mod left;
+mod neighbour;
+mod prefix;
+mod snpa;
+mod three_way;
+mod tlv;
+
+pub use area::{AreaItems, areas, put_areas};
+pub use entry::{EntryItems, entries, put_entries};
+pub use fault::ValueFault;
+pub use laws::{item_laws, tlv_laws, tlv_steps};
+pub use ipv4::{put_addresses, put_protocols};
+pub use neighbour::{NeighbourItem, NeighbourItems, neighbours, put_neighbours};
+pub use prefix::{PrefixItem, PrefixItems, prefixes, put_prefixes};
+pub use snpa::{SnpaItems, put_snpas, snpas};
+pub use three_way::{Adj, ThreeWay, put_three_way, three_way_value};
+pub use tlv::{Tlv, TlvFault, Tlvs};
+
+#[cfg(test)]
+mod tests;

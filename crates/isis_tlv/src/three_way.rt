@@ -1,0 +1,85 @@
+ghost use Rattle.std.specs.Prelude.{◌≡◌, ◌≤◌, ◌++◌, length, IsSome, Ok, OnOk, OnErr};
+ghost use Rattle.isis_tlv.specs.Items.{three_way_of};
+ghost use Rattle.isis_tlv.specs.Spelling.{state_octet, three_way_octets, three_way_tlv};
+
+use isis_base::{Octets, OutOfMemory, SystemId};
+
+use crate::draft::Draft;
+use crate::fault::ValueFault;
+use crate::laws::item_laws;
+
+/// The state of a point-to-point adjacency (RFC 5303 3).
+#[derive(Clone, Copy, Debug, PartialEq, Eq)]
+pub enum Adj {
+    Down,
+    Initializing,
+    Up,
+}
+
+/// The three-way state of a point-to-point adjacency (RFC 5303 3): the sender's state, its extended circuit ID,
+/// and the neighbour that it hears, with that one's extended circuit ID.
+#[derive(Clone, Copy, Debug, PartialEq, Eq)]
+pub struct ThreeWay {
+    pub state: Adj,
+    pub own_id: Option<u32>,
+    pub neighbour: Option<(SystemId, u32)>,
+}
+
+/// What a value of code 240 says (RFC 5303 3). A length other than 1, 5 or 15, or a state above 2, is a fault at 0.
+pub fn three_way_value(value: &[u8]) -> Result<ThreeWay, ValueFault>
+    ensures { result ≡ three_way_of value.now }
+{
+    let fault = ValueFault { place: 0 };
+    let (state, own_id, neighbour) = match value {
+        [state] => (*state, None, None),
+        [state, a, b, c, d] => (*state, Some(u32::from_be_bytes([*a, *b, *c, *d])), None),
+        [state, a, b, c, d, s, t, u, v, w, x, e, f, g, h] => {
+            let system = SystemId([*s, *t, *u, *v, *w, *x]);
+            let id = u32::from_be_bytes([*e, *f, *g, *h]);
+            (*state, Some(u32::from_be_bytes([*a, *b, *c, *d])), Some((system, id)))
+        }
+        _ => return Err(fault),
+    };
+    let state = match state {
+        0 => Adj::Up,
+        1 => Adj::Initializing,
+        2 => Adj::Down,
+        _ => return Err(fault),
+    };
+    Ok(ThreeWay {
+        state,
+        own_id,
+        neighbour,
+    })
+}
+
+/// The octet of a state.
+fn octet_of_state(state: Adj) -> u8
+    ensures { result ≡ state_octet state }
+{
+    match state {
+        Adj::Up => 0,
+        Adj::Initializing => 1,
+        Adj::Down => 2,
+    }
+}
+
+/// Adds a TLV of code 240. A neighbour is there only with an own ID. At `OutOfMemory` the list is as it was.
+pub fn put_three_way(out: &mut Octets, value: &ThreeWay) -> Result<(), OutOfMemory>
+    requires { IsSome value.now.neighbour → IsSome value.now.own_id }
+    ensures ok { OnOk result (out.new ≡ out.old ++ three_way_tlv value.now) }
+    ensures err { OnErr result (out.new ≡ out.old) }
+    ensures reads { three_way_of (three_way_octets value.now) ≡ Ok value.now }
+{
+    let mut draft = Draft::new();
+    draft.add(&[octet_of_state(value.state)]);
+    if let Some(id) = value.own_id {
+        draft.add(&id.to_be_bytes());
+    }
+    if let Some((system, id)) = value.neighbour {
+        draft.add(&system.0);
+        draft.add(&id.to_be_bytes());
+    }
+    item_laws();
+    draft.put(240, out)
+}
