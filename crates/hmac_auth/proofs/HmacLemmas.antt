@@ -1,0 +1,11 @@
+use Rattle.std.proofs.Common.{◌≡◌, ◌∙◌, ℕ, ◌-◌, ◌≤◌, List, ◌++◌, length, drop, replicate, Bool, cond, ap, sym}
+use Rattle.std.proofs.lemmas.Bool.{le-ltb}
+use Rattle.std.proofs.lemmas.List.{drop-replicate}
+use Rattle.md5.specs.Md5.{md5}
+use Rattle.hmac_auth.specs.Hmac.{key_block}
+
+-- a key of at most 64 octets, written over a block of zeros
+pub key_block-short : (key : List ℕ) → length key ≤ 64 → key ++ drop (length key) (replicate 64 0) ≡ key_block key
+key_block-short key short =
+    ap (λ (zeros : List ℕ). key ++ zeros) (drop-replicate (length key) 64 0)
+    ∙ sym (ap (λ (long : Bool). cond long (md5 key) key ++ replicate (64 - length (cond long (md5 key) key)) 0) (le-ltb 64 (length key) short))
