@@ -1,0 +1,62 @@
+ghost use Rattle.std.specs.Prelude.{◌≡◌, ◌==◌, ◌+◌, ◌≤◌, drop, length, find, IfOk, IfSome};
+ghost use Rattle.std.specs.Option.{option_map};
+ghost use Rattle.isis_tlv.specs.Tlvs.{AreTlvs, tlv_list, StandsIn};
+ghost use Rattle.isis_tlv.specs.TlvViews.{one_view};
+ghost use Rattle.hmac_auth.specs.Auth.{auth_tlv, digest_place, has_others};
+
+use isis_tlv::{Tlv, Tlvs};
+
+use crate::fault::AuthFault;
+
+/// The code of authentication information.
+const CODE: u8 = 10;
+
+/// The type of HMAC-MD5, the first octet of its value.
+const HMAC_MD5: u8 = 54;
+
+/// The first TLV of code 10.
+fn auth_tlv(pdu: &[u8], header: usize) -> Option<Tlv<'_>>
+    requires { header ≤ length pdu.now }
+    ensures { option_map one_view result ≡ auth_tlv pdu.now header }
+{
+    for tlv in Tlvs::new(&pdu[header..], header) {
+        match tlv {
+            Ok(tlv) if tlv.code == CODE => return Some(tlv),
+            Ok(_) => {}
+            Err(_) => return None,
+        }
+    }
+    None
+}
+
+/// Whether there is a TLV of another code.
+pub(crate) fn has_others(pdu: &[u8], header: usize) -> bool
+    requires { header ≤ length pdu.now }
+    ensures { result ≡ has_others pdu.now header }
+{
+    for tlv in Tlvs::new(&pdu[header..], header) {
+        match tlv {
+            Ok(tlv) if tlv.code != CODE => return true,
+            Ok(_) => {}
+            Err(_) => return false,
+        }
+    }
+    false
+}
+
+/// The place of the digest: behind the code, the length and the type of the first TLV of code 10.
+#[tactic(auto, unfolding(crate::specs::Auth::digest_place))]
+pub(crate) fn digest_place(pdu: &[u8], header: usize) -> Result<usize, AuthFault>
+    requires { header ≤ length pdu.now }
+    ensures place { result ≡ digest_place pdu.now header }
+    ensures behind { IfOk result (λ at. header + 3 ≤ at) }
+    ensures within { IfOk result (λ at. at + 16 ≤ length pdu.now) }
+{
+    let Some(tlv) = auth_tlv(pdu, header) else {
+        return Err(AuthFault::Missing);
+    };
+    if tlv.value.len() != 17 || tlv.value[0] != HMAC_MD5 {
+        return Err(AuthFault::OtherType);
+    }
+    Ok(tlv.place + 3)
+}
