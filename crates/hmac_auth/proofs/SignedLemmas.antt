@@ -9,21 +9,17 @@ use Rattle.hmac_auth.specs.declared.fault.AuthFault.{AuthFault}
 use Rattle.hmac_auth.specs.declared.fault.AuthFault.TheVariants.{PurgeBody, Wrong}
 use Rattle.hmac_auth.specs.Hmac.{hmac}
 use Rattle.hmac_auth.specs.Pdus.{IsPdu, pdu_type, header_length, is_lsp, is_purge, with_piece, zeroed, blanked}
-use Rattle.hmac_auth.specs.Auth.{HasDigest, place_in, digest_place, has_purge_body, has_digest, fault_at, auth_fault}
+use Rattle.hmac_auth.specs.Auth.{HasDigest, place_in, digest_place, IsDigestPlace, has_purge_body, has_digest, fault_at, auth_fault}
 use Rattle.hmac_auth.proofs.HmacLemmas.{length-hmac}
 use Rattle.hmac_auth.proofs.PduLemmas.{header-least, lsp-behind}
 use Rattle.hmac_auth.proofs.PlaceLemmas.{is_auth, digest-within}
 use Rattle.hmac_auth.proofs.CauseLemmas.{digest-Decides}
 use Rattle.hmac_auth.proofs.SignLemmas.{take-front, get-front, drop-back, piece-there, piece-length, piece-later, is_other, Kept, tlvs-kept}
 
--- the place is that of the digest of a PDU
-abbrev pub Stands : List ℕ → ℕ → Type 0
-Stands pdu place = (header : ℕ) × IsPdu pdu header × (digest_place pdu header ≡ Ok place)
-
-pub stands-behind : (pdu : List ℕ) (place : ℕ) → Stands pdu place → is_lsp pdu ≡ true → 26 ≤ place
+pub stands-behind : (pdu : List ℕ) (place : ℕ) → IsDigestPlace pdu place → is_lsp pdu ≡ true → 26 ≤ place
 stands-behind pdu place there = lsp-behind pdu there.0 place there.1 (digest-within pdu there.0 place there.1.within there.2).0
 
-stands-at : (pdu : List ℕ) (place header : ℕ) → Stands pdu place → IsPdu pdu header → digest_place pdu header ≡ Ok place
+stands-at : (pdu : List ℕ) (place header : ℕ) → IsDigestPlace pdu place → IsPdu pdu header → digest_place pdu header ≡ Ok place
 stands-at pdu place header there is =
     let one = there.1.kind in
     let other = is.kind in
@@ -122,7 +118,7 @@ module _ (d pdu : List ℕ) (place : ℕ) (sixteen : length d ≡ 16) where
 
 -- ---- what `sign_pdu` leaves
 
-module _ (key pdu new : List ℕ) (place : ℕ) (there : Stands pdu place) (is : new ≡ with_piece place (hmac key (blanked pdu place)) pdu) where
+module _ (key pdu new : List ℕ) (place : ℕ) (there : IsDigestPlace pdu place) (is : new ≡ with_piece place (hmac key (blanked pdu place)) pdu) where
   abbrev digest : List ℕ
   digest = hmac key (blanked pdu place)
 

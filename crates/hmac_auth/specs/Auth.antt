@@ -5,7 +5,7 @@ use Rattle.isis_tlv.specs.Tlvs.{TlvView, tlv_list}
 use Rattle.hmac_auth.specs.declared.fault.AuthFault.{AuthFault}
 use Rattle.hmac_auth.specs.declared.fault.AuthFault.TheVariants.{Missing, OtherType, PurgeBody, Wrong}
 use Rattle.hmac_auth.specs.Hmac.{hmac}
-use Rattle.hmac_auth.specs.Pdus.{is_purge, blanked}
+use Rattle.hmac_auth.specs.Pdus.{IsPdu, is_purge, blanked}
 
 -- the TLVs behind the header (ISO 10589 9)
 abbrev pub pdu_tlvs : List ℕ → ℕ → List TlvView
@@ -50,6 +50,10 @@ place_in (Some tlv) =
 
 unfoldable pub digest_place : List ℕ → ℕ → Result ℕ AuthFault
 digest_place pdu header = place_in (auth_tlv pdu header)
+
+-- the sixteen octets from a place on are the digest of a PDU
+abbrev pub IsDigestPlace : List ℕ → ℕ → Type 0
+IsDigestPlace pdu place = (header : ℕ) × IsPdu pdu header × (digest_place pdu header ≡ Ok place)
 
 abbrev pub has_others : List ℕ → ℕ → Bool
 has_others pdu header = list_any (λ tlv. not (tlv.code == 10)) (pdu_tlvs pdu header)

@@ -1,17 +1,16 @@
-ghost use Rattle.std.specs.Prelude.{◌≡◌, ℕ, ◌+◌, ◌≤◌, ◌++◌, take, drop, length, IsOk, IsTrue, ◌↔◌, Some, None, Ok, Err, if◌then◌else◌};
+ghost use Rattle.std.specs.Prelude.{◌≡◌, ◌+◌, ◌≤◌, ◌↔◌, length, IsTrue, IsOk, Err};
 ghost use Rattle.std.specs.Result.{result_err};
 ghost use Rattle.std.specs.Str.{bytes_eq};
-ghost use Rattle.hmac_auth.specs.Hmac.{hmac};
-ghost use Rattle.hmac_auth.specs.Pdus.{IsPdu, is_lsp, with_piece, blanked};
-ghost use Rattle.hmac_auth.specs.Auth.{AuthCause, IsAuthentic, HasDigest, auth_fault, digest_place, has_purge_body, has_digest};
+ghost use Rattle.hmac_auth.specs.Pdus.{IsPdu, is_lsp};
+ghost use Rattle.hmac_auth.specs.Auth.{AuthCause, IsAuthentic, auth_fault, has_purge_body, has_digest};
 ghost use Rattle.hmac_auth.specs.declared.fault.AuthFault.{AuthFault};
 
 use crate::fault::AuthFault;
 use crate::message::{DIGEST, digest_of_pdu, is_purge};
 use crate::place::{digest_place, has_others};
 
-/// Whether the PDU, whose header has so many octets, is authentic under the key (RFC 5304 2). The first of the
-/// faults that applies, in the order of `AuthFault`, is answered.
+/// Whether the PDU, whose header has so many octets, is authentic under the key (RFC 5304 2). Of the faults that
+/// apply the first one in the order of `AuthFault` is answered.
 #[tactic(auto, unfolding(crate::specs::Auth::auth_fault))]
 pub fn check_pdu(key: &[u8], pdu: &[u8], header: usize) -> Result<(), AuthFault>
     requires { IsPdu pdu.now header }
@@ -27,22 +26,6 @@ pub fn check_pdu(key: &[u8], pdu: &[u8], header: usize) -> Result<(), AuthFault>
         return Err(AuthFault::Wrong);
     }
     Ok(())
-}
-
-/// Writes the digest of the PDU under the key from place `at` on, where its first TLV of code 10 has it
-/// (RFC 5304 2). What stood there isn't looked at, and no other octet is written.
-pub fn sign_pdu(key: &[u8], pdu: &mut [u8], at: usize)
-    requires room { at + 16 ≤ length pdu.old }
-    requires place { (header : ℕ) × IsPdu pdu.old header × (digest_place pdu.old header ≡ Ok at) }
-    ensures exact { pdu.new ≡ with_piece at (hmac key.now (blanked pdu.old at)) pdu.old }
-    ensures digest { HasDigest key.now pdu.new at }
-    ensures still { (header : ℕ) → IsPdu pdu.old header → IsPdu pdu.new header }
-    // `check_pdu` of the octets finds a purge's body, and nothing else.
-    ensures passes { (header : ℕ) → IsPdu pdu.old header → auth_fault key.now pdu.new header
-        ≡ (if has_purge_body pdu.old header then Some AuthFault.PurgeBody else None) }
-{
-    let digest = digest_of_pdu(key, pdu, at);
-    pdu[at..at + DIGEST].copy_from_slice(&digest);
 }
 
 /// Whether the PDU is a purge with a TLV of a code other than 10.
@@ -65,9 +48,9 @@ fn has_digest(key: &[u8], pdu: &[u8], at: usize) -> bool
     is_same(&digest, &pdu[at..at + DIGEST])
 }
 
-/// Whether two digests are the same. All octets are looked at, so the time doesn't tell how many of them agree.
+/// Whether two digests are the same. It looks at each octet, so its time doesn't tell how many of them agree.
 fn is_same(one: &[u8; 16], other: &[u8]) -> bool
-    requires { length other.now ≡ 16 }
+    requires { length other.now ≡ DIGEST }
     ensures { result ≡ bytes_eq one.now other.now }
 {
     let mut differing = 0;

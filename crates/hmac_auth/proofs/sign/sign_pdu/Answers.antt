@@ -1,7 +1,7 @@
 use Rattle.std.proofs.Common.{arith, rules}
 use Rattle.std.proofs.lemmas.Grind.{common_steps}
 use Rattle.hmac_auth.proofs.SignedLemmas.{stands-behind, new-digest, new-pdu, new-fault}
-use Rattle.hmac_auth.proofs.check.sign_pdu.Goals as goal
+use Rattle.hmac_auth.proofs.sign.sign_pdu.Goals as goal
 
 pub digest_of_pdu-digest-requires-clause-behind : goal.digest_of_pdu-digest-requires-clause-behind
 digest_of_pdu-digest-requires-clause-behind c = stands-behind c.args.pdu.now c.args.at c.requires.place
