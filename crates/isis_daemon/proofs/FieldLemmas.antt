@@ -34,8 +34,8 @@ from-parsed : {E : Type 0} (word : List ℕ) (r : Result ℕ E) → has_plain_le
 from-parsed word (Ok n) lead digits h = sym (numbered word lead digits ∙ ap (λ (t : Bool). cond t (Some (digits_value 10 word)) None) (lt-ltb _ _ h.0.2) ∙ ap Some (sym h.1))
 from-parsed word (Err e) lead digits h =
     elim (cases_lt (digits_value 10 word) (2 ^ 128)) [
-      inl small ↦ absurd (h (digits, some-length word lead, small))
-    | inr large ↦ sym (numbered word lead digits ∙ ap (λ (t : Bool). cond t (Some (digits_value 10 word)) None) (le-ltb _ _ large))
+      | inl small ↦ absurd (h (digits, some-length word lead, small))
+      | inr large ↦ sym (numbered word lead digits ∙ ap (λ (t : Bool). cond t (Some (digits_value 10 word)) None) (le-ltb _ _ large))
     ]
 
 -- what `parse` answers of a word of digits is its number

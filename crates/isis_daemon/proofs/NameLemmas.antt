@@ -29,11 +29,11 @@ taken t i (y ∷ xs) x none e =
 pub router_of-push : (names : List (List ℕ)) (new name : List ℕ) → router_of names new ≡ None → router_of (names ++ new ∷ []) name ≡ cond (bytes_eq new name) (Some (length names)) (router_of names name)
 router_of-push names new name none =
     elim (cases_Bool (bytes_eq new name)) [
-      inl same ↦
-        (let equal = (bytes_eq-Decides new name).0 same in
-        let absent = subst (λ (n : List ℕ). router_of names n ≡ None) equal none in
-        taken (λ other. bytes_eq other name) 0 names new absent same ∙ some-same _ _ (omega arith) ∙ sym (ap (λ (b : Bool). cond b (Some (length names)) (router_of names name)) same))
-    | inr apart ↦ passed (λ other. bytes_eq other name) 0 names new apart ∙ sym (ap (λ (b : Bool). cond b (Some (length names)) (router_of names name)) apart)
+      | inl same ↦
+          (let equal = (bytes_eq-Decides new name).0 same in
+          let absent = subst (λ (n : List ℕ). router_of names n ≡ None) equal none in
+          taken (λ other. bytes_eq other name) 0 names new absent same ∙ some-same _ _ (omega arith) ∙ sym (ap (λ (b : Bool). cond b (Some (length names)) (router_of names name)) same))
+      | inr apart ↦ passed (λ other. bytes_eq other name) 0 names new apart ∙ sym (ap (λ (b : Bool). cond b (Some (length names)) (router_of names name)) apart)
     ]
 
 pub texts-push : (words : List (Bor (List ℕ))) (word : Bor (List ℕ)) → texts (words ++ word ∷ []) ≡ texts words ++ word.now ∷ []

@@ -7,8 +7,7 @@ use Rattle.isis_daemon.specs.Pages.{HasWritten, HasBegun}
 pub HasBegun-from_write : (before now after : Option (List ℕ)) (text buffer : List ℕ) (count : ℕ) → HasWritten before text now buffer → Wrote now after (take count buffer) → HasBegun before text after
 HasBegun-from_write None now after text buffer count h w = tt
 HasBegun-from_write (Some held) now after text buffer count (written, there, whole) w =
-    let more : after ≡ Some ((held ++ written) ++ take count buffer) = subst (λ (o : Option (List ℕ)). Wrote o after (take count buffer)) there w in
-    (
+    let more : after ≡ Some ((held ++ written) ++ take count buffer) = subst (λ (o : Option (List ℕ)). Wrote o after (take count buffer)) there w in (
       written ++ take count buffer,
       drop count buffer,
       more ∙ ap (λ (xs : List ℕ). Some xs) (append_assoc held written (take count buffer)),

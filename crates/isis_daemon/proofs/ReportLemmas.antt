@@ -24,7 +24,7 @@ HasBegun-lines before now text name entries i entry lt e h =
     let line = key_line name entry in
     let back = key_lines name (drop (i + 1) entries) in
     let whole : ((text ++ front) ++ line) ++ back ≡ text ++ key_lines name entries =
-      append_assoc (text ++ front) line back ∙ append_assoc text front (line ++ back) ∙ ap (λ (xs : List ℕ). text ++ xs) (key_lines-at name entries i entry lt e) in
+    append_assoc (text ++ front) line back ∙ append_assoc text front (line ++ back) ∙ ap (λ (xs : List ℕ). text ++ xs) (key_lines-at name entries i entry lt e) in
     subst (λ (xs : List ℕ). HasBegun before xs now) whole (HasBegun-more before now ((text ++ front) ++ line) back h)
 
 -- each router holds some keys

@@ -17,13 +17,11 @@ mod status;
 #[cfg(test)]
 mod tests;
 
-use isis_edge::{StdSink, StdSource};
-use std::env;
-use std::io;
-use std::process::ExitCode;
-
 use crate::run::run;
 use crate::status::Status;
+use isis_edge::{StdSink, StdSource};
+use std::process::ExitCode;
+use std::{env, io};
 
 /// The words after the program's name.
 fn words(rt: &HostRuntime) -> Result<Vec<String>, Status> {
@@ -41,7 +39,13 @@ fn main(rt: HostRuntime) -> ExitCode {
     let status = match words(&rt) {
         Ok(words) => {
             let mut input = StdSource::new(rt.stdin());
-            run(rt.alloc(), words.as_slice(), &mut input, StdSink::new(rt.stdout())).1
+            run(
+                rt.alloc(),
+                words.as_slice(),
+                &mut input,
+                StdSink::new(rt.stdout()),
+            )
+            .1
         }
         Err(status) => status,
     };

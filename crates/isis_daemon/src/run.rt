@@ -5,10 +5,6 @@ ghost use Rattle.isis_daemon.specs.Gives.{Answers};
 ghost use Rattle.isis_daemon.specs.KeysRun.{played, Ends, OnRead, OnUnwritten, IsOfScript, IsDoneUnlessMemory};
 ghost use Rattle.isis_daemon.specs.Words.{is_lab};
 
-use isis_edge::{Sink, Source, WholeFault, read_whole};
-use network_lab::KeyNet;
-use std::alloc::Global;
-
 use crate::keys::names::Names;
 use crate::keys::play::play;
 use crate::keys::reader::read_keys;
@@ -16,6 +12,9 @@ use crate::keys::report::put_report;
 use crate::pages::PageFault;
 use crate::reason::ScriptFault;
 use crate::status::Status;
+use isis_edge::{Sink, Source, WholeFault, read_whole};
+use network_lab::KeyNet;
+use std::alloc::Global;
 
 /// How many octets an input may have.
 pub const INPUT_LIMIT: usize = 16_777_216;
@@ -64,7 +63,12 @@ fn lab<O: Sink>(alloc: Global, script: &[u8], output: O) -> (O, Status)
 
 /// Runs the program: the words after its name, its input and its output, which is handed back. The words are
 /// tested first, then the input is read, then the script is read and played, and at last the report is written.
-pub fn run<I: Source, O: Sink>(alloc: Global, words: &[String], input: &mut I, output: O) -> (O, Status)
+pub fn run<I: Source, O: Sink>(
+    alloc: Global,
+    words: &[String],
+    input: &mut I,
+    output: O,
+) -> (O, Status)
     ensures usage { (result.1 ≡ Status.Usage) ↔ (is_lab (map string_bytes words.now) ≡ false) }
     ensures ends { IfSome (I.left input.old) (λ script. Ends script (O.held output) (O.held result.0) result.1) }
     ensures whole { OnRead result.1 (IfSome (I.left input.old)

@@ -1,10 +1,9 @@
 ghost use Rattle.std.specs.Prelude.{◌≡◌, Some};
 ghost use Rattle.isis_daemon.specs.Statuses.{status_of, status_code, status_line};
 
+use crate::reason::{Reason, ScriptFault};
 use network_lab::LimitName;
 use std::fmt;
-
-use crate::reason::{Reason, ScriptFault};
 
 /// How a run of the program ended.
 #[derive(Clone, Copy, Debug, PartialEq, Eq)]

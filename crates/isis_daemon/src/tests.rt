@@ -1,14 +1,13 @@
 mod causes;
 mod keys;
 
+use crate::run::run;
+use crate::status::Status;
 use isis_base::{Octets, OutOfMemory};
 use isis_edge::{MemorySink, MemorySource};
 use std::alloc::Global;
 use std::process::Abort;
 use std::test::Fail;
-
-use crate::run::run;
-use crate::status::Status;
 
 /// What the lab answers to a script, and what the sink holds then.
 #[derive(Drop)]

@@ -32,8 +32,8 @@ found xs n i lt h = record { inside = lt; here = λ d. cmp-equal _ _ (h d) }
 rising-same : {X : Type 0} (number : X → ℕ) (xs : List X) (n : ℕ) → IsRising number xs → IsNonDecreasingBy (λ y. ordering_index (nat_cmp (number y) n)) xs
 rising-same number xs n up i j d le lt =
     elim (cases_eq i j) [
-      inl same ↦ higher _ _ n (subst (λ (k : ℕ). number (get_or xs i d) ≤ number (get_or xs k d)) same (omega arith))
-    | inr apart ↦ higher _ _ n (let h = up.below i j d (omega arith) lt in omega arith)
+      | inl same ↦ higher _ _ n (subst (λ (k : ℕ). number (get_or xs i d) ≤ number (get_or xs k d)) same (omega arith))
+      | inr apart ↦ higher _ _ n (let h = up.below i j d (omega arith) lt in omega arith)
     ]
 
 -- where it doesn't, there is the number's gap
@@ -49,8 +49,8 @@ gap number xs n i up le h =
 set-number : {X : Type 0} (number : X → ℕ) (xs : List X) (i : ℕ) (x : X) → i < length xs → ((d : X) → number (get_or xs i d) ≡ number x) → (k : ℕ) (d : X) → number (get_or (set xs i x) k d) ≡ number (get_or xs k d)
 set-number number xs i x lt same k d =
     elim (cases_eq k i) [
-      inl here ↦ subst (λ (m : ℕ). number (get_or (set xs i x) m d) ≡ number (get_or xs m d)) (sym here) (ap number (get_or-set_same xs i x d lt) ∙ sym (same d))
-    | inr other ↦ ap number (get_or-set_other xs i k x d other)
+      | inl here ↦ subst (λ (m : ℕ). number (get_or (set xs i x) m d) ≡ number (get_or xs m d)) (sym here) (ap number (get_or-set_same xs i x d lt) ∙ sym (same d))
+      | inr other ↦ ap number (get_or-set_other xs i k x d other)
     ]
 
 insert-below : {X : Type 0} (number : X → ℕ) (xs : List X) (i : ℕ) (x : X) → IsRising number xs → i ≤ length xs → IsGap number xs (number x) i → (a b : ℕ) (d : X) → a < b → b ≤ length xs → number (get_or (insert xs i x) a d) < number (get_or (insert xs i x) b d)
@@ -59,38 +59,38 @@ insert-below number xs i x up le g a b d ab bl =
     let at : number (get_or (insert xs i x) i d) ≡ number x = ap number (get_or-insert_at xs i x d le) in
     let high : (k : ℕ) → i ≤ k → number (get_or (insert xs i x) (k + 1) d) ≡ number (get_or xs k d) = λ k h. ap number (get_or-insert_above xs i x d k h le) in
     let later : (k : ℕ) → i < k → number (get_or (insert xs i x) k d) ≡ number (get_or xs (k - 1) d) =
-      λ k h. let back : k - 1 + 1 ≡ k = omega arith in subst (λ (m : ℕ). number (get_or (insert xs i x) m d) ≡ number (get_or xs (k - 1) d)) back (high (k - 1) (omega arith)) in
+    λ k h. let back : k - 1 + 1 ≡ k = omega arith in subst (λ (m : ℕ). number (get_or (insert xs i x) m d) ≡ number (get_or xs (k - 1) d)) back (high (k - 1) (omega arith)) in
     elim (cases_order b i) [
-      inl here ↦
-        subst (λ (m : ℕ). number (get_or (insert xs i x) a d) < number (get_or (insert xs i x) m d)) (sym here)
+      | inl here ↦
+          subst (λ (m : ℕ). number (get_or (insert xs i x) a d) < number (get_or (insert xs i x) m d)) (sym here)
           (let l = low a (omega arith) in let under = g.low a d (omega arith) in omega arith)
-    | inr (inl before) ↦ let p = low a (omega arith) in let q = low b before in let h = up.below a b d ab (omega arith) in omega arith
-    | inr (inr after) ↦
-        let q = later b after in
-        elim (cases_order a i) [
-          inl here ↦
-            subst (λ (m : ℕ). number (get_or (insert xs i x) m d) < number (get_or (insert xs i x) b d)) (sym here)
-              (let over = g.high (b - 1) d (omega arith) (omega arith) in omega arith)
-        | inr (inl first) ↦ let p = low a first in let h = up.below a (b - 1) d (omega arith) (omega arith) in omega arith
-        | inr (inr behind) ↦ let p = later a behind in let h = up.below (a - 1) (b - 1) d (omega arith) (omega arith) in omega arith
-        ]
+      | inr (inl before) ↦ let p = low a (omega arith) in let q = low b before in let h = up.below a b d ab (omega arith) in omega arith
+      | inr (inr after) ↦
+          let q = later b after in
+          elim (cases_order a i) [
+            | inl here ↦
+                subst (λ (m : ℕ). number (get_or (insert xs i x) m d) < number (get_or (insert xs i x) b d)) (sym here)
+                (let over = g.high (b - 1) d (omega arith) (omega arith) in omega arith)
+            | inr (inl first) ↦ let p = low a first in let h = up.below a (b - 1) d (omega arith) (omega arith) in omega arith
+            | inr (inr behind) ↦ let p = later a behind in let h = up.below (a - 1) (b - 1) d (omega arith) (omega arith) in omega arith
+          ]
     ]
 
 -- another element of the same number in one's place
 pub IsRising-set : {X : Type 0} (number : X → ℕ) (xs : List X) (i : ℕ) (x : X) → IsRising number xs → i < length xs → ((d : X) → number (get_or xs i d) ≡ number x) → IsRising number (set xs i x)
 IsRising-set number xs i x up lt same = record {
   below = λ a b d ab bl.
-    let inside : b < length xs = omega (arith, length-set xs i x) in
-    let old = up.below a b d ab inside in
-    let at : (k : ℕ) → number (get_or (set xs i x) k d) ≡ number (get_or xs k d) = λ k. set-number number xs i x lt same k d in
-    omega (arith, at a, at b);
+      let inside : b < length xs = omega (arith, length-set xs i x) in
+      let old = up.below a b d ab inside in
+      let at : (k : ℕ) → number (get_or (set xs i x) k d) ≡ number (get_or xs k d) = λ k. set-number number xs i x lt same k d in
+      omega (arith, at a, at b);
 }
 
 pub IsRising-insert : {X : Type 0} (number : X → ℕ) (xs : List X) (i : ℕ) (x : X) → IsRising number xs → i ≤ length xs → IsGap number xs (number x) i → IsRising number (insert xs i x)
 IsRising-insert number xs i x up le g = record {
   below = λ a b d ab bl.
-    let more = length-insert xs i x le in
-    insert-below number xs i x up le g a b d ab (omega arith);
+      let more = length-insert xs i x le in
+      insert-below number xs i x up le g a b d ab (omega arith);
 }
 
 Covers-itself : (xs : List (LspId × Key)) (e : LspId × Key) → Contains xs e → Covers xs e
@@ -107,14 +107,14 @@ Joins-newer xs i copy entry up place read older =
     record {
       rising = IsRising-set entry_number xs i copy up lt place.here;
       among = λ e h. elim (cases_eq h.0 i) [
-        inl here ↦ inr (sym h.2 ∙ ap (λ (k : ℕ). get_or (set xs i copy) k e) here ∙ get_or-set_same xs i copy e lt)
-      | inr other ↦ inl (h.0, omega (arith, length-set xs i copy, h.1), sym (get_or-set_other xs i h.0 copy e other) ∙ h.2)
+        | inl here ↦ inr (sym h.2 ∙ ap (λ (k : ℕ). get_or (set xs i copy) k e) here ∙ get_or-set_same xs i copy e lt)
+        | inr other ↦ inl (h.0, omega (arith, length-set xs i copy, h.1), sym (get_or-set_other xs i h.0 copy e other) ∙ h.2)
       ];
       old_covered = λ e h. elim (cases_eq h.0 i) [
-        inl here ↦
-          (let same : get_or xs i e ≡ e = ap (λ (k : ℕ). get_or xs k e) (sym here) ∙ h.2 in
-          (copy, there, sym (ap entry_number (sym same) ∙ place.here e), subst (λ (x : LspId × Key). rank (Some x.1) ≤ rank (Some copy.1)) (at-each xs i entry lt read e ∙ same) older))
-      | inr other ↦ Covers-itself (set xs i copy) e (h.0, omega (arith, length-set xs i copy, h.1), get_or-set_other xs i h.0 copy e other ∙ h.2)
+        | inl here ↦
+            (let same : get_or xs i e ≡ e = ap (λ (k : ℕ). get_or xs k e) (sym here) ∙ h.2 in
+            (copy, there, sym (ap entry_number (sym same) ∙ place.here e), subst (λ (x : LspId × Key). rank (Some x.1) ≤ rank (Some copy.1)) (at-each xs i entry lt read e ∙ same) older))
+        | inr other ↦ Covers-itself (set xs i copy) e (h.0, omega (arith, length-set xs i copy, h.1), get_or-set_other xs i h.0 copy e other ∙ h.2)
       ];
       copy_covered = Covers-itself (set xs i copy) copy there;
     }
@@ -137,11 +137,11 @@ insert-among : (xs : List (LspId × Key)) (i : ℕ) (copy e : LspId × Key) → 
 insert-among xs i copy e le h =
     let more = length-insert xs i copy le in
     elim (cases_order h.0 i) [
-      inl here ↦ inr (sym h.2 ∙ ap (λ (k : ℕ). get_or (insert xs i copy) k e) here ∙ get_or-insert_at xs i copy e le)
-    | inr (inl low) ↦ inl (h.0, omega arith, sym (get_or-insert_below xs i copy e h.0 low le) ∙ h.2)
-    | inr (inr high) ↦
-        let back : h.0 - 1 + 1 ≡ h.0 = omega arith in
-        inl (h.0 - 1, omega (arith, more, h.1), sym (get_or-insert_above xs i copy e (h.0 - 1) (omega arith) le) ∙ ap (λ (k : ℕ). get_or (insert xs i copy) k e) back ∙ h.2)
+      | inl here ↦ inr (sym h.2 ∙ ap (λ (k : ℕ). get_or (insert xs i copy) k e) here ∙ get_or-insert_at xs i copy e le)
+      | inr (inl low) ↦ inl (h.0, omega arith, sym (get_or-insert_below xs i copy e h.0 low le) ∙ h.2)
+      | inr (inr high) ↦
+          let back : h.0 - 1 + 1 ≡ h.0 = omega arith in
+          inl (h.0 - 1, omega (arith, more, h.1), sym (get_or-insert_above xs i copy e (h.0 - 1) (omega arith) le) ∙ ap (λ (k : ℕ). get_or (insert xs i copy) k e) back ∙ h.2)
     ]
 
 -- the LSP ID had no key
@@ -154,8 +154,8 @@ Joins-first xs i copy up g =
       rising = IsRising-insert entry_number xs i copy up le g;
       among = λ e h. insert-among xs i copy e le h;
       old_covered = λ e h. Covers-itself (insert xs i copy) e (elim (cases_lt h.0 i) [
-        inl low ↦ (h.0, omega (arith, more, h.1), get_or-insert_below xs i copy e h.0 low le ∙ h.2)
-      | inr high ↦ (h.0 + 1, omega (arith, more, h.1), get_or-insert_above xs i copy e h.0 high le ∙ h.2)
+        | inl low ↦ (h.0, omega (arith, more, h.1), get_or-insert_below xs i copy e h.0 low le ∙ h.2)
+        | inr high ↦ (h.0 + 1, omega (arith, more, h.1), get_or-insert_above xs i copy e h.0 high le ∙ h.2)
       ]);
       copy_covered = Covers-itself (insert xs i copy) copy there;
     }

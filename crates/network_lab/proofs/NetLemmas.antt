@@ -34,15 +34,15 @@ IsHeldAt-join : (copies copies' : List (LspId × Key)) (places places' : List (�
 IsHeldAt-join copies copies' places places' r xs ys copy held joins kept only n new = record {
   rising = joins.rising;
   among = λ e h. elim (joins.among e h) [
-    inl old ↦ (let found = held.among e old in (found.0, kept found.0 e found.1))
-  | inr same ↦ (n, subst (λ (x : LspId × Key). IsCopyAt copies' places' r n x) (sym same) new)
+    | inl old ↦ (let found = held.among e old in (found.0, kept found.0 e found.1))
+    | inr same ↦ (n, subst (λ (x : LspId × Key). IsCopyAt copies' places' r n x) (sym same) new)
   ];
   newest = λ m x h. elim (only m x h) [
-    inl old ↦
-      (let by = held.newest m x old in
-      let over = joins.old_covered by.0 by.1 in
-      (over.0, over.1, over.2 ∙ by.2, let p = over.3 in let q = by.3 in omega arith))
-  | inr same ↦ subst (λ (y : LspId × Key). Covers ys y) (sym same) joins.copy_covered
+    | inl old ↦
+        (let by = held.newest m x old in
+        let over = joins.old_covered by.0 by.1 in
+        (over.0, over.1, over.2 ∙ by.2, let p = over.3 in let q = by.3 in omega arith))
+    | inr same ↦ subst (λ (y : LspId × Key). Covers ys y) (sym same) joins.copy_covered
   ];
 }
 
@@ -61,18 +61,18 @@ each-set : {V : Type 0} (held : List V) (r : ℕ) (w : V) (P : ℕ → V → Typ
 each-set held r w P here others q d lt =
     let inside : q < length held = omega (arith, length-set held r w) in
     elim (cases_eq q r) [
-      inl same ↦
-        (let at : r < length held = omega arith in
-        subst (λ (k : ℕ). P k (get_or (set held r w) k d)) (sym same) (subst (λ (x : _). P r x) (sym (get_or-set_same held r w d at)) here))
-    | inr apart ↦ subst (λ (x : _). P q x) (sym (get_or-set_other held r q w d apart)) (others q d inside apart)
+      | inl same ↦
+          (let at : r < length held = omega arith in
+          subst (λ (k : ℕ). P k (get_or (set held r w) k d)) (sym same) (subst (λ (x : _). P r x) (sym (get_or-set_same held r w d at)) here))
+      | inr apart ↦ subst (λ (x : _). P q x) (sym (get_or-set_other held r q w d apart)) (others q d inside apart)
     ]
 
 -- room in one router's entries changes nothing
 pub AreHeld-room : {V : Type 0} (entries : V → List (LspId × Key)) (copies : List (LspId × Key)) (places : List (ℕ × ℕ)) (held : List V) (r : ℕ) (w x : V) → AreHeld entries copies places held → r < length held → x ≡ get_or held r x → entries w ≡ entries x → AreHeld entries copies places (set held r w)
 AreHeld-room entries copies places held r w x are lt read same = record {
   each = each-set held r w (λ q v. IsHeldAt copies places q (entries v))
-    (subst (λ (xs : List (LspId × Key)). IsHeldAt copies places r xs) (sym (same ∙ ap entries read)) (are.each r x lt))
-    (λ q d h apart. are.each q d h);
+      (subst (λ (xs : List (LspId × Key)). IsHeldAt copies places r xs) (sym (same ∙ ap entries read)) (are.each r x lt))
+      (λ q d h apart. are.each q d h);
   numbered = λ n q h. let old = are.numbered n q h in (old.0, old.1, omega (arith, length-set held r w, old.2));
 }
 
@@ -86,16 +86,16 @@ copy-kept copies places r copy q n x h = record {
 copy-only : (copies : List (LspId × Key)) (places : List (ℕ × ℕ)) (r : ℕ) (copy : LspId × Key) → ((n q : ℕ) → has_pair places n q ≡ true → n ≤ length copies) → (q n : ℕ) (x : LspId × Key) → IsCopyAt (copies ++ copy ∷ []) (insert_key pair_cmp places (length copies + 1, r)) q n x → IsCopyAt copies places q n x ⊎ ((r ≡ q) × (x ≡ copy))
 copy-only copies places r copy numbered q n x h =
     elim (has_pair-only places (length copies + 1) r n q h.there) [
-      inl old ↦ inl (record {
+      | inl old ↦ inl (record {
         some = h.some;
         made = slice_get-front copies copy x (n - 1) (let some = h.some in let within = numbered n q old in omega arith) h.made;
         there = old;
       })
-    | inr new ↦
-        (let last : n - 1 ≡ length copies = omega (arith, new.0) in
-        let made : slice_get (copies ++ copy ∷ []) (length copies) ≡ Some x = ap (slice_get (copies ++ copy ∷ [])) (sym last) ∙ h.made in
-        let same = slice_get-last copies copy in
-        inr (new.1, cc))
+      | inr new ↦
+          (let last : n - 1 ≡ length copies = omega (arith, new.0) in
+          let made : slice_get (copies ++ copy ∷ []) (length copies) ≡ Some x = ap (slice_get (copies ++ copy ∷ [])) (sym last) ∙ h.made in
+          let same = slice_get-last copies copy in
+          inr (new.1, cc))
     ]
 
 -- the next copy is made at a router, and is joined into its entries
@@ -105,12 +105,12 @@ AreHeld-copy entries copies places held r w x copy are lt read joins =
     let only = copy-only copies places r copy numbered in
     record {
       each = each-set held r w (λ q v. IsHeldAt (copies ++ copy ∷ []) (insert_key pair_cmp places (length copies + 1, r)) q (entries v))
-        (IsHeldAt-join copies _ places _ r _ _ copy (subst (λ (v : _). IsHeldAt copies places r (entries v)) (sym read) (are.each r x lt)) joins (copy-kept copies places r copy r) (λ n x h. elim (only r n x h) [ inl old ↦ inl old | inr new ↦ inr new.1 ]) (length copies + 1)
+          (IsHeldAt-join copies _ places _ r _ _ copy (subst (λ (v : _). IsHeldAt copies places r (entries v)) (sym read) (are.each r x lt)) joins (copy-kept copies places r copy r) (λ n x h. elim (only r n x h) [ inl old ↦ inl old | inr new ↦ inr new.1 ]) (length copies + 1)
           (record { some = omega arith; made = (let back : length copies + 1 - 1 ≡ length copies = omega arith in ap (slice_get (copies ++ copy ∷ [])) back ∙ slice_get-last copies copy); there = has_pair-new places (length copies + 1) r }))
-        (λ q d h apart. IsHeldAt-same copies _ places _ q _ (are.each q d h) (copy-kept copies places r copy q) (λ n x g. elim (only q n x g) [ inl old ↦ old | inr new ↦ absurd (apart (sym new.0)) ]));
+          (λ q d h apart. IsHeldAt-same copies _ places _ q _ (are.each q d h) (copy-kept copies places r copy q) (λ n x g. elim (only q n x g) [ inl old ↦ old | inr new ↦ absurd (apart (sym new.0)) ]));
       numbered = λ n q h. elim (has_pair-only places (length copies + 1) r n q h) [
-        inl old ↦ (let was = are.numbered n q old in (was.0, omega (arith, length-append copies (copy ∷ []), was.1), omega (arith, length-set held r w, was.2)))
-      | inr new ↦ (omega (arith, new.0), omega (arith, length-append copies (copy ∷ []), new.0), omega (arith, length-set held r w, new.1))
+        | inl old ↦ (let was = are.numbered n q old in (was.0, omega (arith, length-append copies (copy ∷ []), was.1), omega (arith, length-set held r w, was.2)))
+        | inr new ↦ (omega (arith, new.0), omega (arith, length-append copies (copy ∷ []), new.0), omega (arith, length-set held r w, new.1))
       ];
     }
 
@@ -120,10 +120,10 @@ pass-kept copies places m to q n x h = record { some = h.some; made = h.made; th
 pass-only : (copies : List (LspId × Key)) (places : List (ℕ × ℕ)) (m to : ℕ) (copy : LspId × Key) → slice_get copies (m - 1) ≡ Some copy → (q n : ℕ) (x : LspId × Key) → IsCopyAt copies (insert_key pair_cmp places (m, to)) q n x → IsCopyAt copies places q n x ⊎ ((to ≡ q) × (x ≡ copy))
 pass-only copies places m to copy made q n x h =
     elim (has_pair-only places m to n q h.there) [
-      inl old ↦ inl (record { some = h.some; made = h.made; there = old })
-    | inr new ↦
-        (let read : slice_get copies (m - 1) ≡ Some x = ap (λ (k : ℕ). slice_get copies (k - 1)) new.0 ∙ h.made in
-        inr (new.1, cc))
+      | inl old ↦ inl (record { some = h.some; made = h.made; there = old })
+      | inr new ↦
+          (let read : slice_get copies (m - 1) ≡ Some x = ap (λ (k : ℕ). slice_get copies (k - 1)) new.0 ∙ h.made in
+          inr (new.1, cc))
     ]
 
 -- a copy that was made is passed to a router, and is joined into its entries
@@ -133,12 +133,12 @@ AreHeld-pass entries copies places held m to w x copy are lt some made read join
     let within = slice_get_within copies (m - 1) copy made in
     record {
       each = each-set held to w (λ q v. IsHeldAt copies (insert_key pair_cmp places (m, to)) q (entries v))
-        (IsHeldAt-join copies copies places _ to _ _ copy (subst (λ (v : _). IsHeldAt copies places to (entries v)) (sym read) (are.each to x lt)) joins (pass-kept copies places m to to) (λ n x h. elim (only to n x h) [ inl old ↦ inl old | inr new ↦ inr new.1 ]) m
+          (IsHeldAt-join copies copies places _ to _ _ copy (subst (λ (v : _). IsHeldAt copies places to (entries v)) (sym read) (are.each to x lt)) joins (pass-kept copies places m to to) (λ n x h. elim (only to n x h) [ inl old ↦ inl old | inr new ↦ inr new.1 ]) m
           (record { some = some; made = made; there = has_pair-new places m to }))
-        (λ q d h apart. IsHeldAt-same copies copies places _ q _ (are.each q d h) (pass-kept copies places m to q) (λ n x g. elim (only q n x g) [ inl old ↦ old | inr new ↦ absurd (apart (sym new.0)) ]));
+          (λ q d h apart. IsHeldAt-same copies copies places _ q _ (are.each q d h) (pass-kept copies places m to q) (λ n x g. elim (only q n x g) [ inl old ↦ old | inr new ↦ absurd (apart (sym new.0)) ]));
       numbered = λ n q h. elim (has_pair-only places m to n q h) [
-        inl old ↦ (let was = are.numbered n q old in (was.0, was.1, omega (arith, length-set held to w, was.2)))
-      | inr new ↦ (omega (arith, new.0), omega (arith, within, new.0), omega (arith, length-set held to w, new.1))
+        | inl old ↦ (let was = are.numbered n q old in (was.0, was.1, omega (arith, length-set held to w, was.2)))
+        | inr new ↦ (omega (arith, new.0), omega (arith, within, new.0), omega (arith, length-set held to w, new.1))
       ];
     }
 
@@ -148,10 +148,10 @@ AreHeld-router entries copies places held v are none =
     let more = length-append held (v ∷ []) in
     record {
       each = λ q d lt. elim (cases_lt q (length held)) [
-        inl old ↦ subst (λ (x : _). IsHeldAt copies places q (entries x)) (sym (get_or_append_left held (v ∷ []) d q old)) (are.each q d old)
-      | inr new ↦
-          (let last : q ≡ length held = omega arith in
-          subst (λ (x : _). IsHeldAt copies places q (entries x)) (sym (ap (λ (k : ℕ). get_or (held ++ v ∷ []) k d) last ∙ get_or-append_seam held v [] d))
+        | inl old ↦ subst (λ (x : _). IsHeldAt copies places q (entries x)) (sym (get_or_append_left held (v ∷ []) d q old)) (are.each q d old)
+        | inr new ↦
+            (let last : q ≡ length held = omega arith in
+            subst (λ (x : _). IsHeldAt copies places q (entries x)) (sym (ap (λ (k : ℕ). get_or (held ++ v ∷ []) k d) last ∙ get_or-append_seam held v [] d))
             (subst (λ (xs : List (LspId × Key)). IsHeldAt copies places q xs) (sym none) (record {
               rising = record { below = λ i j e ij jl. absurd (omega arith) };
               among = λ e h. absurd (let lt = h.1 in omega arith);

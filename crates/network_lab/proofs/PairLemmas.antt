@@ -56,8 +56,8 @@ has_pair-kept ((x, y) ∷ pairs) a b c d h = ordered (has_pair-kept pairs a b c 
     ordered rest Equal = h
     ordered rest Greater =
         elim (or_cases (eqb x c && eqb y d) (has_pair pairs c d) h) [
-          inl here ↦ or-left _ _ here
-        | inr later ↦ or-right _ _ (rest later)
+          | inl here ↦ or-left _ _ here
+          | inr later ↦ or-right _ _ (rest later)
         ]
 
 -- no other pair comes in
@@ -72,8 +72,8 @@ has_pair-only ((x, y) ∷ pairs) a b c d h = ordered (has_pair-only pairs a b c 
     ordered rest Equal h = inl h
     ordered rest Greater h =
         elim (or_cases (eqb x c && eqb y d) (has_pair (insert_key pair_cmp pairs (a, b)) c d) h) [
-          inl here ↦ inl (or-left _ _ here)
-        | inr later ↦ elim (rest later) [ inl old ↦ inl (or-right _ _ old) | inr new ↦ inr new ]
+          | inl here ↦ inl (or-left _ _ here)
+          | inr later ↦ elim (rest later) [ inl old ↦ inl (or-right _ _ old) | inr new ↦ inr new ]
         ]
 
 cmp-same : (a b c d : ℕ) → is_eq (pair_cmp (a, b) (c, d)) ≡ (eqb c a && eqb d b)

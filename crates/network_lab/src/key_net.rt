@@ -5,13 +5,12 @@ ghost use Rattle.network_lab.specs.declared.faults.LabFault.TheVariants.{OutOfMe
 ghost use Rattle.network_lab.specs.KeysNet.{ordered as ordered_pair, empty_net, with_router, with_link, with_copy, with_pass, has_pair, is_joined, is_at, IsHeldAt};
 ghost use Rattle.network_lab.specs.Causes.{RouterCause, LinkCause, PassCause};
 
-use std::alloc::Global;
-use std::collections::BTreeSet;
-use std::marker::Model;
-
 use crate::faults::{LabFault, LimitName};
 use crate::held::{join_in, make_room};
 use isis_base::{Key, LspId};
+use std::alloc::Global;
+use std::collections::BTreeSet;
+use std::marker::Model;
 
 /// The most routers of a network.
 pub const ROUTER_LIMIT: usize = 1024;

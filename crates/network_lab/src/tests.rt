@@ -48,7 +48,10 @@ fn passes_copies(rt: HostRuntime) -> Result<(), Fail> {
     assert_eq!(rt; net.pass(2, 1, 0), Err(LabFault::NotSent { sent: 3 }));
     assert_eq!(rt; net.pass(0, 0, 1), Err(LabFault::NotSent { sent: 3 }));
     assert_eq!(rt; net.pass(4, 0, 1), Err(LabFault::NotSent { sent: 3 }));
-    assert_eq!(rt; net.held(0), [(first, live(1)), (second, live(5))].as_slice());
+    assert_eq!(rt;
+        net.held(0),
+        [(first, live(1)), (second, live(5))].as_slice()
+    );
     assert_eq!(rt; net.held(1), [(second, live(4))].as_slice());
     net.pass(1, 0, 1)?;
     assert_eq!(rt; net.held(1), [(second, live(5))].as_slice());
@@ -60,7 +63,10 @@ fn passes_copies(rt: HostRuntime) -> Result<(), Fail> {
 fn spells_faults(rt: HostRuntime) -> Result<(), Fail> {
     for (fault, text) in [
         (LabFault::NotSent { sent: 7 }, "not sent; 7 were"),
-        (LabFault::Stale { boot: 2 }, "stale: the sender is at boot 2"),
+        (
+            LabFault::Stale { boot: 2 },
+            "stale: the sender is at boot 2",
+        ),
         (LabFault::NotOn, "not on the link"),
         (LabFault::Limit(LimitName::Routers), "limit of routers"),
         (LabFault::Limit(LimitName::Links), "limit of links"),

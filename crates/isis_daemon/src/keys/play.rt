@@ -3,10 +3,9 @@ ghost use Rattle.isis_daemon.specs.Gives.{Gives};
 ghost use Rattle.isis_daemon.specs.KeysPlay.{play_told, play_all};
 ghost use Rattle.isis_daemon.specs.Sound.{IsInNet, AreInNet, IsLaidOut};
 
-use network_lab::{KeyNet, LabFault};
-
 use super::events::{KeyEvent, Told};
 use crate::reason::{Reason, ScriptFault};
+use network_lab::{KeyNet, LabFault};
 
 /// One event.
 fn play_one(net: &mut KeyNet, told: &Told) -> Result<(), ScriptFault>
@@ -22,7 +21,10 @@ fn play_one(net: &mut KeyNet, told: &Told) -> Result<(), ScriptFault>
         },
         KeyEvent::Pass { copy, from, to } => match net.pass(copy, from, to) {
             Ok(()) => Ok(()),
-            Err(LabFault::NotSent { .. }) => Err(ScriptFault::Refused { line, reason: Reason::NotSent }),
+            Err(LabFault::NotSent { .. }) => Err(ScriptFault::Refused {
+                line,
+                reason: Reason::NotSent,
+            }),
             Err(_) => Err(ScriptFault::OutOfMemory),
         },
     }

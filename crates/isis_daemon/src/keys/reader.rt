@@ -6,15 +6,14 @@ ghost use Rattle.isis_daemon.specs.Names.{router_of};
 ghost use Rattle.isis_daemon.specs.Sound.{IsSound};
 ghost use Rattle.isis_daemon.specs.Words.{texts, lines_of};
 
-use network_lab::{KeyNet, LabFault, LimitName};
-use std::alloc::Global;
-use std::marker::Model;
-
 use super::events::{KeyEvent, Told};
 use super::fields::{read_copy, read_id, read_key, reads_name};
 use super::names::Names;
 use super::words::split_words;
 use crate::reason::{Reason, ScriptFault};
+use network_lab::{KeyNet, LabFault, LimitName};
+use std::alloc::Global;
+use std::marker::Model;
 
 /// What the lines read so far say: the routers' names, the network without copies, and the events.
 #[derive(Drop)]
@@ -137,7 +136,14 @@ impl<'a> Reader<'a> {
         Ok(())
     }
 
-    fn issue(&mut self, line: usize, name: &[u8], id: &[u8], number: &[u8], mark: &[u8]) -> Result<(), ScriptFault>
+    fn issue(
+        &mut self,
+        line: usize,
+        name: &[u8],
+        id: &[u8],
+        number: &[u8],
+        mark: &[u8],
+    ) -> Result<(), ScriptFault>
         ensures { Gives result self.new (script.read_issue self.old line name.now id.now number.now mark.now) }
     {
         let Some(id) = read_id(id) else {
@@ -214,7 +220,12 @@ impl<'a> Reader<'a> {
         refused(line, Reason::Form)
     }
 
-    fn line(&mut self, number: usize, line: &'a [u8], words: &mut Vec<&'a [u8]>) -> Result<(), ScriptFault>
+    fn line(
+        &mut self,
+        number: usize,
+        line: &'a [u8],
+        words: &mut Vec<&'a [u8]>,
+    ) -> Result<(), ScriptFault>
         ensures { Gives result self.new (script.read_line self.old number line.now) }
     {
         if number == 1 {

@@ -5,12 +5,11 @@ ghost use Rattle.isis_daemon.specs.KeysReport.{key_line, key_lines, key_end, hea
 ghost use Rattle.isis_daemon.specs.Pages.{HasWritten, HasBegun, Adds, Begins};
 ghost use Rattle.isis_daemon.specs.Words.{texts};
 
+use crate::pages::{Page, PageFault, flush, put, put_both};
 use isis_base::{Key, LspId, Octets, OutOfMemory};
 use isis_edge::Sink;
 use network_lab::KeyNet;
 use std::alloc::{AllocError, Global};
-
-use crate::pages::{Page, PageFault, flush, put, put_both};
 
 /// The end of a line of the report, behind the router's name.
 fn spell(line: &mut String, entry: &(LspId, Key)) -> Result<(), AllocError>
@@ -22,7 +21,12 @@ fn spell(line: &mut String, entry: &(LspId, Key)) -> Result<(), AllocError>
 }
 
 /// A line of the report.
-fn put_key<O: Sink>(page: &mut Page<O>, line: &mut String, name: &[u8], entry: &(LspId, Key)) -> Result<(), PageFault>
+fn put_key<O: Sink>(
+    page: &mut Page<O>,
+    line: &mut String,
+    name: &[u8],
+    entry: &(LspId, Key),
+) -> Result<(), PageFault>
     ensures ok { (before : Option (List ℕ)) (text : List ℕ) → HasWritten before text (O.held page.old.output) page.old.buffer
         → OnOk result (HasWritten before (text ++ key_line name.now entry.now) (O.held page.new.output) page.new.buffer) }
     ensures err { (before : Option (List ℕ)) (text : List ℕ) → HasWritten before text (O.held page.old.output) page.old.buffer
@@ -44,7 +48,12 @@ fn put_key<O: Sink>(page: &mut Page<O>, line: &mut String, name: &[u8], entry: &
 }
 
 /// The lines of one router.
-fn put_keys<O: Sink>(page: &mut Page<O>, line: &mut String, name: &[u8], entries: &[(LspId, Key)]) -> Result<(), PageFault>
+fn put_keys<O: Sink>(
+    page: &mut Page<O>,
+    line: &mut String,
+    name: &[u8],
+    entries: &[(LspId, Key)],
+) -> Result<(), PageFault>
     ensures ok { (before : Option (List ℕ)) (text : List ℕ) → HasWritten before text (O.held page.old.output) page.old.buffer
         → OnOk result (HasWritten before (text ++ key_lines name.now entries.now) (O.held page.new.output) page.new.buffer) }
     ensures err { (before : Option (List ℕ)) (text : List ℕ) → HasWritten before text (O.held page.old.output) page.old.buffer
@@ -62,7 +71,12 @@ fn put_keys<O: Sink>(page: &mut Page<O>, line: &mut String, name: &[u8], entries
 }
 
 /// The lines of all routers, in the order of their numbers.
-fn put_routers<O: Sink>(page: &mut Page<O>, line: &mut String, names: &[&[u8]], net: &KeyNet) -> Result<(), PageFault>
+fn put_routers<O: Sink>(
+    page: &mut Page<O>,
+    line: &mut String,
+    names: &[&[u8]],
+    net: &KeyNet,
+) -> Result<(), PageFault>
     requires { length names.now ≤ net.now.routers }
     ensures ok { OnOk result ((lines : List ℕ) × AreLines net.now 0 (texts names.now) lines
         × Adds (O.held page.old.output) page.old.buffer lines (O.held page.new.output) page.new.buffer) }
@@ -82,7 +96,12 @@ fn put_routers<O: Sink>(page: &mut Page<O>, line: &mut String, names: &[&[u8]], 
 }
 
 /// The lines behind the head, and all of it written.
-fn put_all<O: Sink>(page: &mut Page<O>, line: &mut String, names: &[&[u8]], net: &KeyNet) -> Result<(), PageFault>
+fn put_all<O: Sink>(
+    page: &mut Page<O>,
+    line: &mut String,
+    names: &[&[u8]],
+    net: &KeyNet,
+) -> Result<(), PageFault>
     requires start { page.old.buffer ≡ head_line }
     requires named { length names.now ≤ net.now.routers }
     ensures ok { OnOk result ((report : List ℕ) × IsReport (texts names.now) net.now report
@@ -103,13 +122,18 @@ fn put_all<O: Sink>(page: &mut Page<O>, line: &mut String, names: &[&[u8]], net:
 }
 
 /// Writes the report of a network whose routers have these names.
-pub fn put_report<O: Sink>(alloc: Global, output: O, names: &[&[u8]], net: &KeyNet) -> (O, Result<(), PageFault>)
+pub fn put_report<O: Sink>(
+    alloc: Global,
+    output: O,
+    names: &[&[u8]],
+    net: &KeyNet,
+) -> (O, Result<(), PageFault>)
     requires { length names.now ≤ net.now.routers }
     ensures ok { OnOk result.1 ((report : List ℕ) × IsReport (texts names.now) net.now report
         × Wrote (O.held output) (O.held result.0) report) }
     ensures memory { IsErrOf result.1 PageFault.OutOfMemory → Stays (O.held output) (O.held result.0)
         ⊎ ((report : List ℕ) × IsReport (texts names.now) net.now report
-            × HasBegun (O.held output) report (O.held result.0)) }
+        × HasBegun (O.held output) report (O.held result.0)) }
     ensures write { IsErrOf result.1 PageFault.Write → (report : List ℕ) × IsReport (texts names.now) net.now report
         × HasBegun (O.held output) report (O.held result.0) }
     ensures cause { IsErrOf result.1 PageFault.Write → Rose (O.faults output) (O.faults result.0) }

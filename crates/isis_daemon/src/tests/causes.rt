@@ -1,12 +1,12 @@
-use std::test::Fail;
-
 use super::{Outside, octets, run_words};
 use crate::reason::Reason;
 use crate::run::INPUT_LIMIT;
 use crate::status::Status;
 use network_lab::LimitName;
+use std::test::Fail;
 
-const SCRIPT: &[u8] = b"isis-keys 1\nrouter A\nrouter B\nlink A B\nissue A 0000.0000.0001.00-00 2 live\npass 1 A B\n";
+const SCRIPT: &[u8] =
+    b"isis-keys 1\nrouter A\nrouter B\nlink A B\nissue A 0000.0000.0001.00-00 2 live\npass 1 A B\n";
 
 const REPORT: &[u8] =
     b"isis-report 1\nkey A 0000.0000.0001.00-00 2 live\nkey B 0000.0000.0001.00-00 2 live\n";
@@ -75,12 +75,19 @@ fn tells_failing_writes(rt: HostRuntime) -> Result<(), Fail> {
             };
             let ended = run_words(&rt, rt.alloc(), &["lab"], SCRIPT, outside)?;
             let (status, held) = if call <= calls {
-                (Status::WriteFault, (call as usize - 1).saturating_mul(piece))
+                (
+                    Status::WriteFault,
+                    (call as usize - 1).saturating_mul(piece),
+                )
             } else {
                 (Status::Done, REPORT.len())
             };
             assert_eq!(rt; ended.status, status, "call {call} by {piece}");
-            assert_eq!(rt; Some(ended.output.octets()), REPORT.get(..held), "call {call} by {piece}");
+            assert_eq!(rt;
+                Some(ended.output.octets()),
+                REPORT.get(..held),
+                "call {call} by {piece}"
+            );
         }
     }
     Ok(())
@@ -97,7 +104,11 @@ fn stops_at_a_full_sink(rt: HostRuntime) -> Result<(), Fail> {
         };
         let ended = run_words(&rt, rt.alloc(), &["lab"], SCRIPT, outside)?;
         assert_eq!(rt; ended.status, Status::WriteFault, "room {room}");
-        assert_eq!(rt; Some(ended.output.octets()), REPORT.get(..room), "room {room}");
+        assert_eq!(rt;
+            Some(ended.output.octets()),
+            REPORT.get(..room),
+            "room {room}"
+        );
     }
     Ok(())
 }
@@ -148,8 +159,20 @@ fn spells_statuses(rt: HostRuntime) -> Result<(), Fail> {
         (Status::WriteFault, 5, "isis: write fault"),
         (Status::TooLong, 6, "isis: input too long"),
         (Status::OutOfMemory, 7, "isis: out of memory"),
-        (Status::LabLimit { which: LimitName::Routers }, 10, "isis: limit routers"),
-        (Status::LabLimit { which: LimitName::Links }, 10, "isis: limit links"),
+        (
+            Status::LabLimit {
+                which: LimitName::Routers,
+            },
+            10,
+            "isis: limit routers",
+        ),
+        (
+            Status::LabLimit {
+                which: LimitName::Links,
+            },
+            10,
+            "isis: limit links",
+        ),
     ] {
         let mut spelt = String::new(rt.alloc());
         write!(spelt, "{status}")?;

@@ -1,11 +1,10 @@
-use std::alloc::Global;
-use std::process::Abort;
-use std::test::Fail;
-
 use super::{octets, run_lab};
 use crate::reason::Reason::{self, Again, Form, Head, Name, NotBuilt, NotOn, NotSent};
 use crate::status::Status;
 use network_lab::LimitName;
+use std::alloc::Global;
+use std::process::Abort;
+use std::test::Fail;
 
 #[test]
 fn reports_the_newest_copies(rt: HostRuntime) -> Result<(), Fail> {
@@ -24,22 +23,30 @@ fn reports_the_newest_copies(rt: HostRuntime) -> Result<(), Fail> {
             "isis-keys 1\n# a comment\n\nrouter abcdefghij123456\nrouter A\nissue abcdefghij123456 ffff.0000.0001.0a-ff 4294967295 live\nissue abcdefghij123456 0000.0000.0001.0a-0F 7 purged",
             "isis-report 1\nkey abcdefghij123456 0000.0000.0001.0a-0f 7 purged\nkey abcdefghij123456 ffff.0000.0001.0a-ff 4294967295 live\n",
         ),
-        (
-            "isis-keys 1\nissue-free\n",
-            "",
-        ),
+        ("isis-keys 1\nissue-free\n", ""),
     ] {
         let ended = run_lab(&rt, rt.alloc(), script.as_bytes())?;
         assert_eq!(rt; ended.output.octets(), report.as_bytes(), "{script}");
-        assert_eq!(rt; ended.status == Status::Done, !report.is_empty(), "{script}");
+        assert_eq!(rt;
+            ended.status == Status::Done,
+            !report.is_empty(),
+            "{script}"
+        );
     }
     Ok(())
 }
 
 /// The lines before those of the tables.
-const START: &str = "isis-keys 1\nrouter A\nrouter B\nrouter C\nlink A B\nissue A 0000.0000.0001.00-00 1 live\n";
+const START: &str =
+    "isis-keys 1\nrouter A\nrouter B\nrouter C\nlink A B\nissue A 0000.0000.0001.00-00 1 live\n";
 
-fn refuses(rt: &impl Abort, alloc: Global, script: &[u8], line: usize, reason: Reason) -> Result<(), Fail> {
+fn refuses(
+    rt: &impl Abort,
+    alloc: Global,
+    script: &[u8],
+    line: usize,
+    reason: Reason,
+) -> Result<(), Fail> {
     let ended = run_lab(rt, alloc, script)?;
     assert_eq!(rt; ended.status, Status::ScriptRefused { line, reason });
     assert!(rt; ended.output.octets().is_empty());
@@ -97,7 +104,10 @@ fn refuses_lines(rt: HostRuntime) -> Result<(), Fail> {
         ("issue A 0000.0000.0001.00-00 01 live", Form),
         ("issue A 0000.0000.0001.00-00 +1 live", Form),
         ("issue A 0000.0000.0001.00-00 4294967296 live", Form),
-        ("issue A 0000.0000.0001.00-00 340282366920938463463374607431768211457 live", Form),
+        (
+            "issue A 0000.0000.0001.00-00 340282366920938463463374607431768211457 live",
+            Form,
+        ),
         ("issue A 0000.0000.0001.00-00 1 Live", Form),
         ("issue A 0000.0000.0001.00-00 1", Form),
         ("issue A/ 0000.0000.0001.00-00 1 live", Form),
@@ -147,9 +157,21 @@ fn answers_the_first_refusal(rt: HostRuntime) -> Result<(), Fail> {
     for (script, line, reason) in [
         ("isis-keys 1\nrouter A\nrouter A\nrouter\n", 3, Again),
         ("isis-keys 1\nrouter\nrouter A\nrouter A\n", 2, Form),
-        ("isis-keys 1\nrouter A\nrouter B\nlink A B\npass 1 A B\nrouter A\n", 6, Again),
-        ("isis-keys 1\nrouter A\nrouter B\nlink A B\npass 1 A B\npass 2 A B\n", 5, NotSent),
-        ("isis-keys 1\n\n#\nrouter A\nrouter B\nlink A B\nissue A 0000.0000.0001.00-00 1 live\npass 1 A B\npass 2 B A", 9, NotSent),
+        (
+            "isis-keys 1\nrouter A\nrouter B\nlink A B\npass 1 A B\nrouter A\n",
+            6,
+            Again,
+        ),
+        (
+            "isis-keys 1\nrouter A\nrouter B\nlink A B\npass 1 A B\npass 2 A B\n",
+            5,
+            NotSent,
+        ),
+        (
+            "isis-keys 1\n\n#\nrouter A\nrouter B\nlink A B\nissue A 0000.0000.0001.00-00 1 live\npass 1 A B\npass 2 B A",
+            9,
+            NotSent,
+        ),
     ] {
         refuses(&rt, rt.alloc(), script.as_bytes(), line, reason)?;
     }
@@ -158,10 +180,14 @@ fn answers_the_first_refusal(rt: HostRuntime) -> Result<(), Fail> {
 
 #[test]
 fn sets_up_between_events(rt: HostRuntime) -> Result<(), Fail> {
-    let script = b"isis-keys 1\nrouter A\nissue A 0000.0000.0001.00-00 1 live\nrouter B\nlink B A\npass 1 A B\n";
+    let script =
+        b"isis-keys 1\nrouter A\nissue A 0000.0000.0001.00-00 1 live\nrouter B\nlink B A\npass 1 A B\n";
     let ended = run_lab(&rt, rt.alloc(), script)?;
     assert_eq!(rt; ended.status, Status::Done);
-    assert_eq!(rt; ended.output.octets(), b"isis-report 1\nkey A 0000.0000.0001.00-00 1 live\nkey B 0000.0000.0001.00-00 1 live\n".as_slice());
+    assert_eq!(rt;
+        ended.output.octets(),
+        b"isis-report 1\nkey A 0000.0000.0001.00-00 1 live\nkey B 0000.0000.0001.00-00 1 live\n".as_slice()
+    );
     Ok(())
 }
 
@@ -169,9 +195,27 @@ fn sets_up_between_events(rt: HostRuntime) -> Result<(), Fail> {
 fn keeps_limits(rt: HostRuntime) -> Result<(), Fail> {
     for (routers, links, status) in [
         (1024, 4096, Status::Done),
-        (1025, 0, Status::LabLimit { which: LimitName::Routers }),
-        (1025, 1, Status::LabLimit { which: LimitName::Routers }),
-        (2, 4097, Status::LabLimit { which: LimitName::Links }),
+        (
+            1025,
+            0,
+            Status::LabLimit {
+                which: LimitName::Routers,
+            },
+        ),
+        (
+            1025,
+            1,
+            Status::LabLimit {
+                which: LimitName::Routers,
+            },
+        ),
+        (
+            2,
+            4097,
+            Status::LabLimit {
+                which: LimitName::Links,
+            },
+        ),
     ] {
         let mut script = String::from_str(rt.alloc(), "isis-keys 1\n")?;
         for router in 0..routers {

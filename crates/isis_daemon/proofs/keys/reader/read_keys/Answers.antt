@@ -16,10 +16,10 @@ loop-line-preserved c =
     record {
       counted = omega (arith, c.loop-line.invariant.counted);
       left =
-        ap (λ (n : ℕ). read_lines c.line.new.self (c.loop-line.number + 1) (drop n lines)) more
-        ∙ sym (read_lines-ok c.loop-line.reader c.line.new.self c.loop-line.number c.in-Some.line.now (λ (x : Read). read_lines x (c.loop-line.number + 1) (drop (k + 1) lines)) c.in-Ok.ensures)
-        ∙ sym (read_lines-at lines c.loop-line.reader c.loop-line.number k c.in-Some.line.now turn)
-        ∙ c.loop-line.invariant.left;
+          ap (λ (n : ℕ). read_lines c.line.new.self (c.loop-line.number + 1) (drop n lines)) more
+          ∙ sym (read_lines-ok c.loop-line.reader c.line.new.self c.loop-line.number c.in-Some.line.now (λ (x : Read). read_lines x (c.loop-line.number + 1) (drop (k + 1) lines)) c.in-Ok.ensures)
+          ∙ sym (read_lines-at lines c.loop-line.reader c.loop-line.number k c.in-Some.line.now turn)
+          ∙ c.loop-line.invariant.left;
     }
 
 pub returns-in-Err : goal.returns-in-Err
@@ -28,7 +28,7 @@ returns-in-Err c =
     let k = length c.loop-line.yielded in
     let turn = YieldsList-turn (YieldsList-from_slice_split _ (λ byte. byte == 10) c.args.text.now (cc) (cc) (cc) (λ x r q h. search (rules, tests))) c.loop-line.yielded _ c.loop-line.yielded_by _ _ c.in-Some.line c.in-Some.is c.next.ensures.steps in
     Answers-from_line c.in-Err.fault c.line.new.self _ _ c.in-Err.ensures
-      (λ f e. sym c.loop-line.invariant.left ∙ read_lines-at lines c.loop-line.reader c.loop-line.number k c.in-Some.line.now turn ∙ read_lines-err c.loop-line.reader c.loop-line.number c.in-Some.line.now _ f e)
+    (λ f e. sym c.loop-line.invariant.left ∙ read_lines-at lines c.loop-line.reader c.loop-line.number k c.in-Some.line.now turn ∙ read_lines-err c.loop-line.reader c.loop-line.number c.in-Some.line.now _ f e)
 
 pub returns : goal.returns
 returns c =

@@ -11,8 +11,7 @@ returns-in-Err-clause-err g c =
 pub returns-in-Ok-flush-clause-ok : goal.returns-in-Ok-flush-clause-ok
 returns-in-Ok-flush-clause-ok g c =
     let lines = c.in-Ok.ensures.ok in
-    let text = head_line ++ lines.0 in
-    (
+    let text = head_line ++ lines.0 in (
       text,
       (lines.0, lines.1, refl),
       Wrote-all _ _ text _ c.in-Ok-flush.ensures.empty (c.in-Ok-flush.ensures.ok _ text (lines.2.adds _ head_line (HasWritten-start _ head_line _ c.requires.start))),

@@ -9,4 +9,4 @@ returns-clause-each c = λ other lt.
     let routers = ap (λ (n : Net). n.routers) c.self.view_is in
     let Holds : Net → Type 0 = λ n. (entries : List (LspId × Key)) × IsHeldAt n.copies n.places other entries in
     subst Holds c.self.view_is
-      ((get_or c.self.inside.held.items other c.index.result.now).items, c.self.invariant.each other c.index.result.now (omega arith))
+    ((get_or c.self.inside.held.items other c.index.result.now).items, c.self.invariant.each other c.index.result.now (omega arith))

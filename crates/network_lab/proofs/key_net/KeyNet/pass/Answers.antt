@@ -24,7 +24,7 @@ pub invariant_of-self-in_err-insert : goal.invariant_of-self-in_err-insert
 invariant_of-self-in_err-insert c =
     let routers = ap (λ (n : Net). n.routers) c.self.view_is in
     rw c.in_err-insert.ensures.err
-      (AreHeld-room _ _ _ _ _ _ _ c.self.invariant (omega (arith, c.requires.1)) c.index_mut.ensures.value c.make_room.ensures.same)
+    (AreHeld-room _ _ _ _ _ _ _ c.self.invariant (omega (arith, c.requires.1)) c.index_mut.ensures.value c.make_room.ensures.same)
 
 pub invariant_of-self-2 : goal.invariant_of-self-2
 invariant_of-self-2 c =
@@ -34,7 +34,7 @@ invariant_of-self-2 c =
     let copy = slice_get_read c.self.inside.copies.items _ (c.args.copy - 1) c.index.result.now refl (omega (arith, made.0, made.1)) c.index.ensures in
     let inside : c.args.to < length (set c.self.inside.held.items c.args.to c.make_room.new.held) = omega (arith, c.requires.1, length-set c.self.inside.held.items c.args.to c.make_room.new.held) in
     rw c.in_ok-insert.ensures.keys
-      (AreHeld-pass _ _ _ _ _ _ c.join_in.new.held _ _ roomy inside made.0 copy c.index_mut-2.ensures.value c.join_in.ensures)
+    (AreHeld-pass _ _ _ _ _ _ c.join_in.new.held _ _ roomy inside made.0 copy c.index_mut-2.ensures.value c.join_in.ensures)
 
 pub returns-clause-refused : goal.returns-clause-refused
 returns-clause-refused c _ =

@@ -8,14 +8,14 @@ use Rattle.isis_daemon.proofs.keys.names.Names.add.Goals as goal
 pub invariant_of-self-2 : goal.invariant_of-self-2
 invariant_of-self-2 c = record {
   finds = λ name.
-    let names = texts c.self.inside.list.items in
-    let new = c.args.name.now in
-    let list : texts c.push_reserved.new.self.items ≡ names ++ new ∷ [] = ap texts (c.push_reserved.ensures.items ∙ ap (λ (xs : _). xs ++ c.args.name ∷ []) c.reserve.ensures.items) ∙ texts-push c.self.inside.list.items c.args.name in
-    let absent : router_of names new ≡ None = subst (λ (xs : List (List ℕ)). router_of xs new ≡ None) (sym c.self.view_is) c.requires in
-    let last : c.len.result ≡ length names = omega (arith, c.len.ensures, c.reserve.ensures.len, length-texts c.self.inside.list.items) in
-    (c.in_ok-insert.ensures.updates).0 (record c.args.name { now = name })
-    ∙ ap (λ (o : Option ℕ). cond (bytes_eq new name) (Some c.len.result) o) (c.self.invariant.finds name)
-    ∙ ap (λ (n : ℕ). cond (bytes_eq new name) (Some n) (router_of names name)) last
-    ∙ sym (router_of-push names new name absent)
-    ∙ ap (λ (xs : List (List ℕ)). router_of xs name) (sym list);
+      let names = texts c.self.inside.list.items in
+      let new = c.args.name.now in
+      let list : texts c.push_reserved.new.self.items ≡ names ++ new ∷ [] = ap texts (c.push_reserved.ensures.items ∙ ap (λ (xs : _). xs ++ c.args.name ∷ []) c.reserve.ensures.items) ∙ texts-push c.self.inside.list.items c.args.name in
+      let absent : router_of names new ≡ None = subst (λ (xs : List (List ℕ)). router_of xs new ≡ None) (sym c.self.view_is) c.requires in
+      let last : c.len.result ≡ length names = omega (arith, c.len.ensures, c.reserve.ensures.len, length-texts c.self.inside.list.items) in
+      (c.in_ok-insert.ensures.updates).0 (record c.args.name { now = name })
+      ∙ ap (λ (o : Option ℕ). cond (bytes_eq new name) (Some c.len.result) o) (c.self.invariant.finds name)
+      ∙ ap (λ (n : ℕ). cond (bytes_eq new name) (Some n) (router_of names name)) last
+      ∙ sym (router_of-push names new name absent)
+      ∙ ap (λ (xs : List (List ℕ)). router_of xs name) (sym list);
 }

@@ -8,4 +8,4 @@ returns-clause-there c =
     let names = names_of c.self.inside in
     let found = c.copied.ensures ∙ c.get.ensures.value ∙ c.self.invariant.finds c.args.name.now in
     rw (← c.self.view_is)
-      (subst (λ (o : Option ℕ). IfSome o (λ router. router < length names)) (sym found) (router_of-within names c.args.name.now))
+    (subst (λ (o : Option ℕ). IfSome o (λ router. router < length names)) (sym found) (router_of-within names c.args.name.now))
