@@ -1,4 +1,5 @@
 pub mod ArrayLemmas
 pub mod KeyLemmas
 pub mod MisfitLemmas
+pub mod OrderLemmas
 pub mod SpellingLemmas

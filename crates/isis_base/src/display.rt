@@ -1,10 +1,9 @@
 ghost use Rattle.std.specs.Prelude.{Some, ◌++◌, ◌∷◌, []};
 ghost use Rattle.isis_base.specs.Texts.{hex_pair, system_text, snpa_text, node_text, lsp_text, key_text};
 
-use std::fmt;
-
 use crate::identifiers::{LspId, NodeId, Snpa, SystemId};
 use crate::key::Key;
+use std::fmt;
 
 /// An octet as two hex digits.
 #[derive(Clone, Copy)]

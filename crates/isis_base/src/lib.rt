@@ -19,6 +19,7 @@ mod display;
 mod entry;
 mod identifiers;
 mod key;
+mod laws;
 mod level;
 mod memory;
 mod numbers;
@@ -29,13 +30,20 @@ mod prefix;
 mod texts;
 
 pub use area::AreaAddress;
-pub use prefix::Prefix;
 pub use entry::LspEntry;
 pub use identifiers::{LspId, NodeId, Snpa, SystemId};
 pub use key::Key;
+pub use laws::{
+    lsp_order_law, lsp_text_laws, node_order_law, node_text_laws, snpa_order_law, snpa_text_laws,
+    system_order_law, system_text_laws,
+};
 pub use level::{CircuitKind, Level, LevelSet};
-pub use numbers::lsp_number_law;
 pub use memory::OutOfMemory;
+pub use numbers::lsp_number_law;
 pub use octets::Octets;
 pub use order::{Order3, join, join_laws, newer};
+pub use prefix::Prefix;
 pub use texts::{TextFault, read_lsp_id, read_system};
+
+#[cfg(test)]
+mod tests;
