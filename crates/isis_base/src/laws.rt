@@ -1,12 +1,17 @@
-ghost use Rattle.std.specs.Prelude.{◌≡◌, Some, List, ℕ};
+ghost use Rattle.std.specs.Prelude.{◌≡◌, ◌<◌, ◌≤◌, Some, List, ℕ, length};
 ghost use Rattle.std.specs.Cmp.Lexicographic.{slice_cmp};
 ghost use Rattle.std.specs.Ordering.{nat_cmp};
+ghost use Rattle.std.specs.List.{AllByRecursion};
 ghost use Rattle.std.specs.Option.{option_map};
 ghost use Rattle.isis_base.specs.Identifiers.{node_octets, lsp_octets, lsp_number, lsp_from, system_from};
+ghost use Rattle.isis_base.specs.AreaTexts.{SpellsArea, area_text};
+ghost use Rattle.isis_base.specs.declared.level.LevelSet.{LevelSet};
+ghost use Rattle.isis_base.specs.Levels.{levels_text};
 ghost use Rattle.isis_base.specs.Misfit.{text_octets};
 ghost use Rattle.isis_base.specs.declared.texts.TheConstants.{SYSTEM_TEXT, NODE_TEXT, LSP_TEXT};
 ghost use Rattle.isis_base.specs.Texts.{Spells, system_text, snpa_text, node_text, lsp_text};
 
+use crate::area::AreaAddress;
 use crate::identifiers::{LspId, NodeId, Snpa, SystemId};
 use crate::numbers::{octets_of_lsp, octets_of_system};
 
@@ -44,6 +49,19 @@ pub fn lsp_text_laws(a: LspId, b: LspId)
     let _octets = octets_of_lsp(a);
 }
 
+/// What Display writes of an area address spells it, and a text spells one area address.
+pub fn area_text_laws(area: AreaAddress)
+    ensures written { SpellsArea (area_text area) area }
+    ensures one { (text a b : List ℕ) → SpellsArea text a → SpellsArea text b → a ≡ b }
+{
+    octets_law(area.octets());
+}
+
+/// A text is that of one set of levels.
+pub fn levels_text_law()
+    ensures { (a b : LevelSet) → levels_text a ≡ levels_text b → a ≡ b }
+{}
+
 /// System IDs are ordered by their octets.
 pub fn system_order_law(a: SystemId, b: SystemId)
     ensures { ⟦<SystemId as Ord>⟧.cmp a b ≡ slice_cmp nat_cmp a.0 b.0 }
@@ -67,3 +85,8 @@ pub fn lsp_order_law(a: LspId, b: LspId)
     let _of_a = octets_of_lsp(a);
     let _of_b = octets_of_lsp(b);
 }
+
+/// Octets are below 256.
+fn octets_law(octets: &[u8])
+    ensures { AllByRecursion (λ octet. octet < 256) octets.now }
+{}
