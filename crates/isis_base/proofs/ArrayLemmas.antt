@@ -1,7 +1,7 @@
-use Rattle.std.proofs.Common.{◌≡◌, ◌<◌, ℕ, zero, suc, List, [], ◌∷◌, length, get_or, refl, sym, ap, ◌∙◌, arith, ◌++◌}
+use Rattle.std.proofs.Common.{◌≡◌, ◌<◌, ℕ, zero, suc, List, [], ◌∷◌, length, get_or, refl, sym, ap, ◌∙◌, subst, arith, ◌++◌}
 use Rattle.std.specs.List.{AllByRecursion}
 use Rattle.isis_base.specs.declared.identifiers.LspId.{LspId}
-use Rattle.isis_base.specs.Identifiers.{lsp_octets}
+use Rattle.isis_base.specs.Identifiers.{lsp_octets, lsp_from}
 
 -- a list of a known length is its elements
 pub list_of_6 : (xs : List ℕ) → length xs ≡ 6 → get_or xs 0 0 ∷ get_or xs 1 0 ∷ get_or xs 2 0 ∷ get_or xs 3 0 ∷ get_or xs 4 0 ∷ get_or xs 5 0 ∷ [] ≡ xs
@@ -32,12 +32,18 @@ lsp-same a b p q e =
     let x = list_of_6 a.node.system.0 p in
     let y = list_of_6 b.node.system.0 q in
     let whole : get_or a.node.system.0 0 0 ∷ get_or a.node.system.0 1 0 ∷ get_or a.node.system.0 2 0 ∷ get_or a.node.system.0 3 0 ∷ get_or a.node.system.0 4 0 ∷ get_or a.node.system.0 5 0 ∷ a.node.pseudonode ∷ a.number ∷ [] ≡ get_or b.node.system.0 0 0 ∷ get_or b.node.system.0 1 0 ∷ get_or b.node.system.0 2 0 ∷ get_or b.node.system.0 3 0 ∷ get_or b.node.system.0 4 0 ∷ get_or b.node.system.0 5 0 ∷ b.node.pseudonode ∷ b.number ∷ [] =
-      ap (λ (s : List ℕ). s ++ a.node.pseudonode ∷ [] ++ a.number ∷ []) x ∙ e ∙ sym (ap (λ (s : List ℕ). s ++ b.node.pseudonode ∷ [] ++ b.number ∷ []) y) in
+    ap (λ (s : List ℕ). s ++ a.node.pseudonode ∷ [] ++ a.number ∷ []) x ∙ e ∙ sym (ap (λ (s : List ℕ). s ++ b.node.pseudonode ∷ [] ++ b.number ∷ []) y) in
     let firsts : get_or a.node.system.0 0 0 ∷ get_or a.node.system.0 1 0 ∷ get_or a.node.system.0 2 0 ∷ get_or a.node.system.0 3 0 ∷ get_or a.node.system.0 4 0 ∷ get_or a.node.system.0 5 0 ∷ [] ≡ get_or b.node.system.0 0 0 ∷ get_or b.node.system.0 1 0 ∷ get_or b.node.system.0 2 0 ∷ get_or b.node.system.0 3 0 ∷ get_or b.node.system.0 4 0 ∷ get_or b.node.system.0 5 0 ∷ [] = cc in
     let system : a.node.system.0 ≡ b.node.system.0 = sym x ∙ firsts ∙ y in
     let pseudonode : a.node.pseudonode ≡ b.node.pseudonode = cc in
     let number : a.number ≡ b.number = cc in
     λ i. record { node = record { system = record { 0 = system i }; pseudonode = pseudonode i }; number = number i }
+
+-- an LSP ID is that of its octets
+pub lsp_from-octets : (a : LspId) → length a.node.system.0 ≡ 6 → lsp_from (lsp_octets a) ≡ a
+lsp_from-octets a h =
+    let family : List ℕ → Type 0 = λ (s : List ℕ). lsp_from (s ++ a.node.pseudonode ∷ [] ++ a.number ∷ []) ≡ record { node = record { system = record { 0 = s }; pseudonode = a.node.pseudonode }; number = a.number } in
+    subst family (list_of_6 a.node.system.0 h) refl
 
 -- each place of a list of octets has an octet; past the end there is 0
 pub small-at : (xs : List ℕ) → AllByRecursion (λ x. x < 256) xs → (i : ℕ) → get_or xs i 0 < 256

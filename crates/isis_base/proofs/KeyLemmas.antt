@@ -1,4 +1,4 @@
-use Rattle.std.proofs.Common.{◌≡◌, ℕ, ◌+◌, ◌*◌, ◌<◌, ◌≤◌, Bool, true, false, ltb, cond, Option, Some, None, refl, sym, ap, ◌∙◌, subst, arith, ◌⊎◌, inl, inr}
+use Rattle.std.proofs.Common.{◌≡◌, ℕ, ◌+◌, ◌*◌, ◌<◌, ◌≤◌, Bool, true, false, cond, Option, Some, None, refl, sym, ap, ◌∙◌, subst, arith, inl, inr}
 use Rattle.std.proofs.Props.{props}
 use Rattle.std.proofs.lemmas.Bool.{cases_order, lt-ltb, le-ltb}
 use Rattle.isis_base.specs.declared.key.Key.{Key}
@@ -46,7 +46,7 @@ join-second a b h = ap (λ (t : Bool). cond t b a) (lt-ltb (rank a) (rank b) h)
 pub join-comm : (a b : Option Key) → join_of a b ≡ join_of b a
 join-comm a b =
     elim (cases_order (rank a) (rank b)) [
-      inl same ↦ ap (λ (x : Option Key). join_of x b) (rank-same a b same) ∙ ap (λ (x : Option Key). join_of b x) (sym (rank-same a b same))
-    | inr (inl below) ↦ join-second a b below ∙ sym (join-first b a (omega arith))
-    | inr (inr above) ↦ join-first a b (omega arith) ∙ sym (join-second b a above)
+      | inl same ↦ ap (λ (x : Option Key). join_of x b) (rank-same a b same) ∙ ap (λ (x : Option Key). join_of b x) (sym (rank-same a b same))
+      | inr (inl below) ↦ join-second a b below ∙ sym (join-first b a (omega arith))
+      | inr (inr above) ↦ join-first a b (omega arith) ∙ sym (join-second b a above)
     ]

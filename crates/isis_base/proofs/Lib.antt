@@ -1,4 +1,7 @@
+pub mod AreaLemmas
 pub mod ArrayLemmas
 pub mod KeyLemmas
+pub mod LevelLemmas
 pub mod MisfitLemmas
+pub mod OrderLemmas
 pub mod SpellingLemmas

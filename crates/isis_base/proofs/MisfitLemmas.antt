@@ -1,4 +1,4 @@
-use Rattle.std.proofs.Common.{◌≡◌, ℕ, zero, suc, ◌+◌, ◌*◌, ◌<◌, ◌≤◌, Bool, true, false, cond, eqb, ltb, List, [], ◌∷◌, ◌++◌, length, take, Option, Some, None, Result, Ok, Err, refl, sym, ap, ◌∙◌, subst, arith, one-add}
+use Rattle.std.proofs.Common.{◌≡◌, ℕ, zero, suc, ◌+◌, ◌*◌, ◌≤◌, Bool, true, false, cond, eqb, ltb, List, [], ◌∷◌, ◌++◌, length, take, Option, Some, None, Result, Ok, Err, refl, sym, ap, ◌∙◌, subst, arith, one-add}
 use Rattle.std.proofs.lemmas.Bool.{eq-eqb}
 use Rattle.std.specs.Char.{digit_value}
 use Rattle.isis_base.specs.declared.parts.Part.{Part}
@@ -38,7 +38,7 @@ digit-only : (p : ℕ) (two : Option ℕ) (t u : Bool) (b : ℕ) → cond t (Som
 digit-only p two true u b e f = let same : 1 ≡ p = cc in omega arith
 digit-only p two false u b e f = cc
 
-never-none : (t : Bool) → cond {A = Option ℕ} t (Some 1) (Some 0) ≡ None → ⊥
+pub never-none : (t : Bool) → cond {A = Option ℕ} t (Some 1) (Some 0) ≡ None → ⊥
 never-none true e = cc
 never-none false e = cc
 
@@ -67,7 +67,7 @@ misfit_of-longest (Octet ∷ parts) (high ∷ low ∷ text) more (suc (suc n)) p
     omega arith
 
 -- a text of the form: each octet is 0
-abbrev blank : List Part → List ℕ
+abbrev pub blank : List Part → List ℕ
 blank [] = []
 blank (Mark m ∷ parts) = m ∷ blank parts
 blank (Octet ∷ parts) = 48 ∷ 48 ∷ blank parts

@@ -1,12 +1,13 @@
-use Rattle.std.proofs.Common.{◌≡◌, ℕ, zero, suc, ◌+◌, ◌-◌, ◌*◌, ◌/◌, ◌%◌, ◌<◌, ◌≤◌, Bool, true, false, cond, eqb, ltb, List, [], ◌∷◌, ◌++◌, length, take, Option, Some, None, Result, Ok, Err, refl, sym, ap, ◌∙◌, subst, arith, one-add}
+use Rattle.std.proofs.Common.{◌≡◌, ℕ, ◌+◌, ◌*◌, ◌/◌, ◌%◌, ◌<◌, Bool, true, false, cond, eqb, ltb, List, [], ◌∷◌, ◌++◌, length, take, Option, Some, None, Result, Ok, Err, refl, sym, ap, ◌∙◌, arith}
 use Rattle.std.specs.Char.{digit_value, digit_char, to_ascii_lowercase}
 use Rattle.std.specs.Str.{str_to_ascii_lowercase}
 use Rattle.std.proofs.lemmas.Bool.{eq-eqb, eqb-true, ltb-true, lt-ltb}
 use Rattle.std.proofs.lemmas.Bool.Decides.{nat_tests}
 use Rattle.isis_base.specs.declared.parts.Part.{Part}
 use Rattle.isis_base.specs.declared.parts.Part.TheVariants.{Octet, Mark}
-use Rattle.isis_base.specs.Texts.{hex_pair, spelled, octet_count, Spells, HasForm, IsFaultAt}
-use Rattle.isis_base.specs.Misfit.{later, pair_of, after_pair, misfit_of, octets_of, before_octets}
+use Rattle.isis_base.specs.Texts.{spelled, octet_count, Spells, HasForm, IsFaultAt}
+use Rattle.std.specs.List.{AllByRecursion}
+use Rattle.isis_base.specs.Misfit.{later, pair_of, after_pair, misfit_of, octets_of, before_octets, unless_misfit, text_octets}
 use Rattle.isis_base.proofs.MisfitLemmas.{later-none, misfit_of-longest, misfit_of-goes_on, misfit_of-within}
 
 -- no mark is a letter
@@ -144,3 +145,31 @@ IsFaultAt-from_misfit parts text place h e =
       begins = (on.0, (octets_of parts (take place text ++ on.0), Spells-from_misfit parts (take place text ++ on.0) h on.1));
       longest = λ n more below (octets, s). misfit_of-longest parts text more n place e (Spells-fits parts (take n text ++ more) octets h s).fits below;
     }
+
+digit_char-lower : (d : ℕ) → d < 16 → to_ascii_lowercase (digit_char d) ≡ digit_char d
+digit_char-lower d h = grind (arith, nat_tests)
+
+-- octets written into a form spell themselves
+pub Spells-spelled : (parts : List Part) (octets : List ℕ) → HasPlainMarks parts → AllByRecursion (λ octet. octet < 256) octets → length octets ≡ octet_count parts → Spells parts (spelled parts octets) octets
+Spells-spelled parts octets plain small count = record { small = small; count = count; same = lower-spelled parts octets plain small }
+  where
+    lower-spelled : (parts : List Part) (octets : List ℕ) → HasPlainMarks parts → AllByRecursion (λ octet. octet < 256) octets → str_to_ascii_lowercase (spelled parts octets) ≡ spelled parts octets
+    lower-spelled [] octets plain small = refl
+    lower-spelled (Mark m ∷ parts) octets plain small = let a = plain-lower m plain.0 in let b = lower-spelled parts octets plain.1 small in cc
+    lower-spelled (Octet ∷ parts) [] plain small = refl
+    lower-spelled (Octet ∷ parts) (o ∷ octets) plain small =
+        let a = digit_char-lower (o / 16) (omega (arith, small.0)) in
+        let b = digit_char-lower (o % 16) (omega (arith, small.0)) in
+        let c = lower-spelled parts octets plain small.1 in
+        cc
+
+-- a text spells one list of octets
+pub Spells-one : (parts : List Part) (text a b : List ℕ) → HasPlainMarks parts → Spells parts text a → Spells parts text b → a ≡ b
+Spells-one parts text a b plain p q = sym (Spells-fits parts text a plain p).read ∙ (Spells-fits parts text b plain q).read
+
+-- a text that spells octets is read as them
+pub text_octets-spelled : (parts : List Part) (text octets : List ℕ) → HasPlainMarks parts → Spells parts text octets → text_octets parts text ≡ Some octets
+unfolding text_octets
+text_octets-spelled parts text octets plain s =
+    let f = Spells-fits parts text octets plain s in
+    ap (λ (place : Option ℕ). unless_misfit place (octets_of parts text)) f.fits ∙ ap Some f.read

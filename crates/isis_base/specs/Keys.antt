@@ -1,4 +1,4 @@
-use Rattle.std.specs.Prelude.{◌≡◌, ℕ, ◌+◌, ◌*◌, ◌<◌, nat_lt, Option, Some, None, if◌then◌else◌}
+use Rattle.std.specs.Prelude.{◌≡◌, ℕ, ◌+◌, ◌*◌, ◌<◌, nat_lt, Option, Some, None, if◌then◌else◌, List, codes}
 use Rattle.isis_base.specs.declared.key.Key.{Key}
 use Rattle.isis_base.specs.declared.order.Order3.{Order3}
 use Rattle.isis_base.specs.declared.order.Order3.TheVariants.{Older, Same, Newer}
@@ -15,6 +15,12 @@ abbrev pub Stands : Order3 → ℕ → ℕ → Type 0
 Stands Older a b = a < b
 Stands Same a b = a ≡ b
 Stands Newer a b = b < a
+
+-- how one key stands against another, in a word (own)
+abbrev pub order_text : Order3 → List ℕ
+order_text Older = codes "older"
+order_text Same = codes "same"
+order_text Newer = codes "newer"
 
 -- the newer of two keys
 abbrev pub join_of : Option Key → Option Key → Option Key

@@ -1,7 +1,9 @@
 pub mod Areas
+pub mod AreaTexts
 pub mod Identifiers
 pub mod Keys
 pub mod Lending
+pub mod Levels
 pub mod Octets
 pub mod Texts
 pub mod Misfit

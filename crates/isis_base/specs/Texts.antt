@@ -1,6 +1,6 @@
-use Rattle.std.specs.Prelude.{◌≡◌, ℕ, ◌+◌, ◌*◌, ◌/◌, ◌%◌, ◌<◌, ◌≤◌, ◌==◌, nat_lt, List, [], ◌∷◌, ◌++◌, length, take, Option, Some, None, codes, decimal, if◌then◌else◌}
+use Rattle.std.specs.Prelude.{◌≡◌, ℕ, ◌+◌, ◌/◌, ◌%◌, ◌<◌, ◌≤◌, List, [], ◌∷◌, ◌++◌, length, take, codes, decimal, if◌then◌else◌}
 use Rattle.std.specs.List.{AllByRecursion}
-use Rattle.std.specs.Char.{digit_value, digit_char, is_digit}
+use Rattle.std.specs.Char.{digit_char}
 use Rattle.std.specs.Str.{str_to_ascii_lowercase}
 use Rattle.isis_base.specs.declared.identifiers.SystemId.{SystemId}
 use Rattle.isis_base.specs.declared.identifiers.Snpa.{Snpa}

@@ -1,10 +1,15 @@
 ghost use Rattle.std.specs.Prelude.{Some, ◌++◌, ◌∷◌, []};
+ghost use Rattle.isis_base.specs.Levels.{level_text, levels_text};
+ghost use Rattle.isis_base.specs.Keys.{order_text};
+ghost use Rattle.isis_base.specs.AreaTexts.{groups_text, area_text};
 ghost use Rattle.isis_base.specs.Texts.{hex_pair, system_text, snpa_text, node_text, lsp_text, key_text};
 
-use std::fmt;
-
+use crate::area::AreaAddress;
 use crate::identifiers::{LspId, NodeId, Snpa, SystemId};
 use crate::key::Key;
+use crate::level::{Level, LevelSet};
+use crate::order::Order3;
+use std::fmt;
 
 /// An octet as two hex digits.
 #[derive(Clone, Copy)]
@@ -75,6 +80,41 @@ impl fmt::Display for LspId {
     }
 }
 
+/// The octets behind an area's first, two by two.
+#[derive(Clone, Copy)]
+struct Groups<'a>(&'a [u8]);
+
+impl fmt::Display for Groups<'_> {
+    ghost output = { λ groups. Some (groups_text groups.0.now) };
+
+    fn fmt<W: fmt::Write>(&self, f: &mut fmt::Formatter<W>) -> fmt::Result {
+        let mut left = self.0;
+        while let [high, low, others @ ..] = left {
+            let group = Group(*high, *low);
+            write!(f, ".{group}")?;
+            left = others;
+        }
+        let [last] = left else {
+            return Ok(());
+        };
+        let last = Pair(*last);
+        write!(f, ".{last}")
+    }
+}
+
+impl fmt::Display for AreaAddress {
+    ghost output = { λ area. Some (area_text area) };
+
+    fn fmt<W: fmt::Write>(&self, f: &mut fmt::Formatter<W>) -> fmt::Result {
+        let [first, others @ ..] = self.octets() else {
+            return Ok(());
+        };
+        let first = Pair(*first);
+        let groups = Groups(others);
+        write!(f, "{first}{groups}")
+    }
+}
+
 impl fmt::Display for Key {
     ghost output = { λ key. Some (key_text key) };
 
@@ -84,6 +124,41 @@ impl fmt::Display for Key {
             write!(f, "{number} purged")
         } else {
             write!(f, "{number} live")
+        }
+    }
+}
+
+impl fmt::Display for Level {
+    ghost output = { λ level. Some (level_text level) };
+
+    fn fmt<W: fmt::Write>(&self, f: &mut fmt::Formatter<W>) -> fmt::Result {
+        match self {
+            Level::One => write!(f, "L1"),
+            Level::Two => write!(f, "L2"),
+        }
+    }
+}
+
+impl fmt::Display for LevelSet {
+    ghost output = { λ set. Some (levels_text set) };
+
+    fn fmt<W: fmt::Write>(&self, f: &mut fmt::Formatter<W>) -> fmt::Result {
+        match self {
+            LevelSet::One => write!(f, "L1"),
+            LevelSet::Two => write!(f, "L2"),
+            LevelSet::Both => write!(f, "L1L2"),
+        }
+    }
+}
+
+impl fmt::Display for Order3 {
+    ghost output = { λ order. Some (order_text order) };
+
+    fn fmt<W: fmt::Write>(&self, f: &mut fmt::Formatter<W>) -> fmt::Result {
+        match self {
+            Order3::Older => write!(f, "older"),
+            Order3::Same => write!(f, "same"),
+            Order3::Newer => write!(f, "newer"),
         }
     }
 }

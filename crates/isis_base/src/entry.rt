@@ -1,4 +1,4 @@
-ghost use Rattle.std.specs.Prelude.{◌≡◌, ℕ};
+ghost use Rattle.std.specs.Prelude.{◌≡◌, ◌↔◌, ℕ, IsNone, IfSome, IsTrue};
 ghost use Rattle.isis_base.specs.Keys.{rank, entry_rank};
 
 use crate::identifiers::LspId;
@@ -17,7 +17,10 @@ pub struct LspEntry {
 impl LspEntry {
     /// The key that the entry names: none exactly at number 0, purged exactly at lifetime 0.
     pub fn key(&self) -> Option<Key>
-        ensures { rank result ≡ entry_rank self.now }
+        ensures rank { rank result ≡ entry_rank self.now }
+        ensures none { IsNone result ↔ (self.now.number ≡ 0) }
+        ensures number { IfSome result (λ key. key.number ≡ self.now.number) }
+        ensures purged { IfSome result (λ key. IsTrue key.purged ↔ (self.now.lifetime ≡ 0)) }
     {
         if self.number == 0 {
             return None;

@@ -15,11 +15,14 @@
 #![tactic(auto)]
 
 mod area;
+mod area_text;
 mod display;
 mod entry;
 mod identifiers;
 mod key;
+mod laws;
 mod level;
+mod level_text;
 mod memory;
 mod numbers;
 mod octets;
@@ -29,13 +32,22 @@ mod prefix;
 mod texts;
 
 pub use area::AreaAddress;
-pub use prefix::Prefix;
+pub use area_text::read_area;
 pub use entry::LspEntry;
 pub use identifiers::{LspId, NodeId, Snpa, SystemId};
 pub use key::Key;
+pub use laws::{
+    area_text_laws, levels_text_law, lsp_order_law, lsp_text_laws, node_order_law, node_text_laws,
+    snpa_order_law, snpa_text_laws, system_order_law, system_text_laws,
+};
 pub use level::{CircuitKind, Level, LevelSet};
-pub use numbers::lsp_number_law;
+pub use level_text::read_levels;
 pub use memory::OutOfMemory;
+pub use numbers::lsp_number_law;
 pub use octets::Octets;
 pub use order::{Order3, join, join_laws, newer};
+pub use prefix::Prefix;
 pub use texts::{TextFault, read_lsp_id, read_system};
+
+#[cfg(test)]
+mod tests;

@@ -15,6 +15,15 @@ pub fn lsp_of(octets: [u8; 8]) -> LspId
     LspId { node, number }
 }
 
+/// The six octets of a system ID.
+pub fn octets_of_system(system: SystemId) -> [u8; 6]
+    ensures value { result ≡ system.0 }
+    ensures small { AllByRecursion (λ octet. octet < 256) result }
+{
+    let [a, b, c, d, e, f] = system.0;
+    [a, b, c, d, e, f]
+}
+
 /// The eight octets of an LSP ID.
 pub fn octets_of_lsp(id: LspId) -> [u8; 8]
     ensures value { result ≡ lsp_octets id }

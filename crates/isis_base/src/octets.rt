@@ -2,10 +2,9 @@ ghost use Rattle.std.specs.Prelude.{◌≡◌, ◌≤◌, [], ◌∷◌, ◌++�
 ghost use Rattle.std.specs.Borrow.{sem};
 ghost use Rattle.isis_base.specs.Lending.{LendsOctets};
 
+use crate::memory::OutOfMemory;
 use std::alloc::Global;
 use std::marker::Model;
-
-use crate::memory::OutOfMemory;
 
 /// A growing list of octets. Contracts see it as the list of its octets.
 #[derive(Drop, Debug)]

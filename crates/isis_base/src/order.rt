@@ -56,5 +56,4 @@ pub fn join_laws()
     ensures commutative { (a b : Option Key) → join_of a b ≡ join_of b a }
     ensures associative { (a b c : Option Key) → join_of (join_of a b) c ≡ join_of a (join_of b c) }
     ensures idempotent { (a : Option Key) → join_of a a ≡ a }
-{
-}
+{}

@@ -59,7 +59,11 @@ pub fn read_parts(octets: &mut [u8], text: &[u8], parts: &[Part]) -> Option<usiz
                 }
                 Err(digits) => return Some(at + digits),
             },
-            (Part::Octet, [high]) => return Some(if hex_value(*high).is_some() { at + 1 } else { at }),
+            (Part::Octet, [high]) => return Some(if hex_value(*high).is_some() {
+                at + 1
+            } else {
+                at
+            }),
             (Part::Octet, []) => return Some(at),
         }
         left = others;

@@ -5,12 +5,11 @@ ghost use Rattle.isis_base.specs.Misfit.{text_octets};
 ghost use Rattle.isis_base.specs.Identifiers.{lsp_octets, lsp_from, system_from};
 ghost use Rattle.isis_base.specs.Texts.{Spells, IsFaultAt, HasForm};
 
-use std::error::Error;
-use std::fmt;
-
 use crate::identifiers::{LspId, SystemId};
 use crate::numbers::lsp_of;
 use crate::parts::{Part, read_parts};
+use std::error::Error;
+use std::fmt;
 
 /// The text is none of those that are read. `place` is the length in octets of its longest prefix that some
 /// such text begins with.

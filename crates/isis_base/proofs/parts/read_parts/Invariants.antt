@@ -1,4 +1,4 @@
-use Rattle.std.proofs.Common.{◌≡◌, ◌≤◌, ◌+◌, length, take, ◌++◌}
+use Rattle.std.proofs.Common.{◌≡◌, ◌+◌, length, take, ◌++◌}
 use Rattle.isis_base.specs.Texts.{octet_count}
 use Rattle.isis_base.specs.Misfit.{later, misfit_of, octets_of}
 use Rattle.isis_base.proofs.parts.read_parts.Given as goal

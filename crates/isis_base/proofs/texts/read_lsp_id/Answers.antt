@@ -1,4 +1,4 @@
-use Rattle.std.proofs.Common.{◌≡◌, ◌∙◌, ℕ, List, None, take, sym, ap, subst, arith, rules}
+use Rattle.std.proofs.Common.{◌≡◌, ◌∙◌, ℕ, List, None, take, sym, ap, subst, rules}
 use Rattle.std.proofs.Math.Seq.{take-length}
 use Rattle.isis_base.specs.Misfit.{misfit_of, octets_of}
 use Rattle.isis_base.specs.Texts.{Spells}

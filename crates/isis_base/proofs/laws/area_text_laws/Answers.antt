@@ -1,0 +1,13 @@
+use Rattle.std.proofs.Common.{◌<◌, ℕ, List, subst}
+use Rattle.std.specs.List.{AllByRecursion}
+use Rattle.isis_base.proofs.AreaLemmas.{SpellsArea-written, SpellsArea-one}
+use Rattle.isis_base.proofs.laws.area_text_laws.Goals as goal
+
+pub returns-clause-written : goal.returns-clause-written
+returns-clause-written c =
+    let sized = c.octets.ensures.sized in
+    let small = subst (λ (xs : List ℕ). AllByRecursion (λ octet. octet < 256) xs) c.octets.ensures.value c.octets_law.ensures in
+    SpellsArea-written c.args.area sized.0 sized.1 small
+
+pub returns-clause-one : goal.returns-clause-one
+returns-clause-one c = SpellsArea-one
