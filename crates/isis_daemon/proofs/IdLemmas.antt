@@ -1,15 +1,15 @@
-use Rattle.std.proofs.Common.{◌≡◌, ◌∙◌, ℕ, zero, suc, ◌<◌, ◌+◌, Bool, true, false, cond, eqb, ltb, List, [], ◌∷◌, length, get_or, Option, Some, None, Result, Ok, Err, refl, sym, ap, arith, rules, inl, inr}
+use Rattle.std.proofs.Common.{◌≡◌, ℕ, zero, suc, ◌<◌, Bool, true, false, cond, eqb, ltb, List, [], ◌∷◌, get_or, Option, Some, None, Ok, Err, refl, ap, arith, rules}
 use Rattle.isis_base.specs.Identifiers.{lsp_from}
 use Rattle.std.specs.Char.{digit_value}
 use Rattle.std.specs.Option.{option_map}
-use Rattle.std.specs.Str.{IsUtf8, IsAscii}
-use Rattle.std.proofs.lemmas.Bool.{eqb-true, ltb-true}
+use Rattle.std.specs.Str.{IsUtf8}
+use Rattle.std.proofs.lemmas.Bool.{eqb-true}
 use Rattle.std.proofs.lemmas.Bool.Decides.{nat_tests}
 use Rattle.std.proofs.lemmas.Str.{IsUtf8-from_ascii}
 use Rattle.isis_base.specs.declared.parts.Part.{Part}
 use Rattle.isis_base.specs.declared.parts.Part.TheVariants.{Octet, Mark}
 use Rattle.isis_base.specs.declared.texts.TheConstants.{LSP_TEXT}
-use Rattle.isis_base.specs.Misfit.{later, pair_of, after_pair, misfit_of, octets_of, unless_misfit, text_octets}
+use Rattle.isis_base.specs.Misfit.{later, after_pair, misfit_of, octets_of, unless_misfit, text_octets}
 use Rattle.isis_base.proofs.MisfitLemmas.{later-none}
 use Rattle.isis_base.proofs.SpellingLemmas.{HasPlainMarks}
 use Rattle.isis_daemon.specs.KeysScript.{id_of}

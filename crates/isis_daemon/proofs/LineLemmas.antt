@@ -1,4 +1,4 @@
-use Rattle.std.proofs.Common.{◌≡◌, ℕ, ◌<◌, List, [], ◌∷◌, length, get_or, refl, arith}
+use Rattle.std.proofs.Common.{◌≡◌, ℕ, List, [], ◌∷◌, length, get_or, refl, arith}
 use Rattle.std.specs.Borrow.{Bor}
 use Rattle.isis_daemon.specs.KeysScript.{Read, issue_fields, read_issue}
 use Rattle.isis_daemon.specs.Words.{texts}

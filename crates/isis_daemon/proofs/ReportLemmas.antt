@@ -1,10 +1,10 @@
-use Rattle.std.proofs.Common.{◌≡◌, ◌∙◌, ℕ, zero, suc, ◌+◌, ◌<◌, ◌≤◌, List, [], ◌∷◌, ◌++◌, length, get_or, take, drop, Option, refl, sym, ap, subst, append_assoc, append-nil, arith, add-one}
+use Rattle.std.proofs.Common.{◌≡◌, ◌∙◌, ℕ, zero, suc, ◌+◌, ◌<◌, ◌≤◌, List, [], ◌∷◌, ◌++◌, length, get_or, take, drop, Option, refl, sym, ap, subst, append_assoc, arith}
 use Rattle.std.proofs.lemmas.List.{at_drop_more, length-drop}
 use Rattle.isis_base.specs.declared.identifiers.LspId.{LspId}
 use Rattle.isis_base.specs.declared.key.Key.{Key}
 use Rattle.network_lab.specs.KeysNet.{Net, IsHeldAt}
 use Rattle.isis_daemon.specs.KeysReport.{key_line, key_lines, AreLines}
-use Rattle.isis_daemon.specs.Pages.{HasWritten, HasBegun}
+use Rattle.isis_daemon.specs.Pages.{HasBegun}
 use Rattle.isis_daemon.proofs.PageLemmas.{HasBegun-more}
 
 -- the lines before an entry's, its own, and those behind

@@ -1,5 +1,5 @@
-use Rattle.std.proofs.Common.{◌≡◌, ◌∙◌, ℕ, zero, suc, ◌+◌, ◌<◌, ◌≤◌, true, List, [], ◌∷◌, ◌++◌, length, get_or, sym, subst, arith}
-use Rattle.network_lab.specs.KeysNet.{Net, with_router, with_link, is_joined, has_pair, ordered}
+use Rattle.std.proofs.Common.{◌≡◌, ◌∙◌, ℕ, zero, suc, ◌<◌, true, List, [], ◌∷◌, ◌++◌, length, get_or, sym, subst, arith}
+use Rattle.network_lab.specs.KeysNet.{Net, with_router, with_link, has_pair, ordered}
 use Rattle.network_lab.proofs.PairLemmas.{has_pair-kept}
 use Rattle.isis_daemon.specs.declared.keys.events.KeyEvent.{KeyEvent}
 use Rattle.isis_daemon.specs.declared.keys.events.KeyEvent.TheVariants.{Issue, Pass}

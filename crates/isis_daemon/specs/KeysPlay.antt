@@ -1,4 +1,4 @@
-use Rattle.std.specs.Prelude.{◌≡◌, ℕ, List, [], ◌∷◌, Result, Ok, Err, if◌then◌else◌}
+use Rattle.std.specs.Prelude.{ℕ, List, [], ◌∷◌, Result, Ok, Err, if◌then◌else◌}
 use Rattle.network_lab.specs.KeysNet.{Net, with_copy, with_pass, is_at}
 use Rattle.isis_daemon.specs.declared.keys.events.KeyEvent.{KeyEvent}
 use Rattle.isis_daemon.specs.declared.keys.events.KeyEvent.TheVariants.{Issue, Pass}

@@ -1,4 +1,4 @@
-use Rattle.std.specs.Prelude.{◌≡◌, ℕ, zero, suc, ◌+◌, ◌-◌, ◌^◌, ◌<◌, ◌==◌, ◌&&◌, ◌||◌, not, nat_lt, nat_le, Bool, true, false, List, [], ◌∷◌, ◌++◌, Option, Some, None, Result, Ok, Err, is_some, option_and_then, codes, if◌then◌else◌}
+use Rattle.std.specs.Prelude.{ℕ, zero, suc, ◌+◌, ◌^◌, ◌==◌, ◌&&◌, not, nat_lt, nat_le, Bool, true, false, List, [], ◌∷◌, ◌++◌, Option, Some, None, Result, Ok, Err, is_some, option_and_then, codes, if◌then◌else◌}
 use Rattle.std.specs.Option.{option_map}
 use Rattle.std.specs.Str.{bytes_eq}
 use Rattle.std.proofs.Math.Nat.{zero-lt-suc}
@@ -7,7 +7,6 @@ use Rattle.isis_base.specs.declared.key.Key.{Key}
 use Rattle.isis_base.specs.declared.texts.TheConstants.{LSP_TEXT}
 use Rattle.isis_base.specs.Identifiers.{lsp_from}
 use Rattle.isis_base.specs.Misfit.{text_octets}
-use Rattle.network_lab.specs.declared.faults.LimitName.{LimitName}
 use Rattle.network_lab.specs.declared.faults.LimitName.TheVariants.{Routers, Links}
 use Rattle.network_lab.specs.declared.key_net.TheConstants.{ROUTER_LIMIT, LINK_LIMIT}
 use Rattle.network_lab.specs.KeysNet.{Net, empty_net, with_router, with_link, is_joined}
@@ -17,7 +16,7 @@ use Rattle.isis_daemon.specs.declared.keys.events.Told.{Told}
 use Rattle.isis_daemon.specs.declared.reason.Reason.{Reason}
 use Rattle.isis_daemon.specs.declared.reason.Reason.TheVariants.{Head, NotBuilt, Form, Name, Again, NotOn}
 use Rattle.isis_daemon.specs.declared.reason.ScriptFault.{ScriptFault}
-use Rattle.isis_daemon.specs.declared.reason.ScriptFault.TheVariants.{Refused, Limit, OutOfMemory}
+use Rattle.isis_daemon.specs.declared.reason.ScriptFault.TheVariants.{Refused, Limit}
 use Rattle.isis_daemon.specs.Fields.{is_name, number_of}
 use Rattle.isis_daemon.specs.Names.{router_of}
 use Rattle.isis_daemon.specs.Words.{words_of}

@@ -1,5 +1,5 @@
-use Rattle.std.proofs.Common.{◌≡◌, ℕ, ◌+◌, ◌-◌, ◌<◌, ◌≤◌, Bool, true, false, cond, eqb, ltb, List, length, get_or, set, ◌⊎◌, inl, inr, refl, length-set, sym, ap, ◌∙◌, subst, arith, get_or-set_same, get_or-set_other, Result, Ok, Err, MatchResult, Some, Contains}
-use Rattle.std.specs.List.{HoldsAt, insert, AllWithin}
+use Rattle.std.proofs.Common.{◌≡◌, ℕ, ◌+◌, ◌-◌, ◌<◌, ◌≤◌, List, length, get_or, set, ◌⊎◌, inl, inr, refl, length-set, sym, ap, ◌∙◌, subst, arith, get_or-set_same, get_or-set_other, Result, Ok, Err, MatchResult, Some, Contains}
+use Rattle.std.specs.List.{HoldsAt, insert}
 use Rattle.std.specs.List.Sorted.{IsNonDecreasingBy, IsPartitionPoint, IsBinarySearchResult, IsSearchInRange}
 use Rattle.std.specs.Ordering.{nat_cmp, ordering_index}
 use Rattle.std.specs.declared.cmp.Ordering.TheVariants.{Less, Equal, Greater}

@@ -1,8 +1,7 @@
 use Rattle.std.specs.Prelude.{◌≡◌, ℕ, ◌≤◌, true, false, length}
 use Rattle.network_lab.specs.declared.faults.LabFault.{LabFault}
-use Rattle.network_lab.specs.declared.faults.LabFault.TheVariants.{NotSent, Stale, NotOn, Limit, OutOfMemory}
-use Rattle.network_lab.specs.declared.faults.LimitName.{LimitName}
-use Rattle.network_lab.specs.declared.faults.LimitName.TheVariants.{Routers, Links, Circuits, Prefixes, Datagrams, Boots}
+use Rattle.network_lab.specs.declared.faults.LabFault.TheVariants.{NotSent, NotOn, Limit, OutOfMemory}
+use Rattle.network_lab.specs.declared.faults.LimitName.TheVariants.{Routers, Links}
 use Rattle.network_lab.specs.declared.key_net.TheConstants.{ROUTER_LIMIT, LINK_LIMIT}
 use Rattle.network_lab.specs.KeysNet.{Net, is_joined, is_at}
 

@@ -1,4 +1,4 @@
-use Rattle.std.proofs.Common.{◌≡◌, List, ℕ, Option, take, subst}
+use Rattle.std.proofs.Common.{List, ℕ, take, subst}
 use Rattle.isis_edge.specs.Told.{Wrote}
 use Rattle.isis_daemon.proofs.PageLemmas.{HasBegun-from_write}
 use Rattle.isis_daemon.proofs.pages.flush.Goals as goal

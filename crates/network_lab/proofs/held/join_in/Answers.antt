@@ -1,4 +1,4 @@
-use Rattle.std.proofs.Common.{arith, sym}
+use Rattle.std.proofs.Common.{arith}
 use Rattle.network_lab.proofs.HeldLemmas.{Joins-newer, Joins-older, Joins-first}
 use Rattle.network_lab.proofs.held.join_in.Goals as goal
 

@@ -1,4 +1,4 @@
-use Rattle.std.proofs.Common.{◌≡◌, ◌∙◌, ℕ, sym, ap, subst, arith}
+use Rattle.std.proofs.Common.{sym}
 use Rattle.isis_daemon.proofs.IdLemmas.{id_of-text}
 use Rattle.isis_daemon.proofs.keys.fields.read_id.Goals as goal
 

@@ -1,4 +1,4 @@
-use Rattle.std.proofs.Common.{◌≡◌, ◌∙◌, ℕ, List, sym, ap, subst}
+use Rattle.std.proofs.Common.{◌∙◌, ℕ, List, sym, subst}
 use Rattle.std.specs.Str.Parse.{ParsesUnsigned}
 use Rattle.isis_daemon.proofs.FieldLemmas.{number_of-parsed, digits-text}
 use Rattle.isis_daemon.proofs.keys.fields.read_number.Goals as goal

@@ -1,4 +1,4 @@
-use Rattle.std.proofs.Common.{◌≡◌, ◌∙◌, ◌+◌, ℕ, List, length, drop, get_or, Result, refl, sym, ap, arith}
+use Rattle.std.proofs.Common.{◌∙◌, ◌+◌, drop, sym, arith}
 use Rattle.network_lab.specs.KeysNet.{Net}
 use Rattle.isis_daemon.specs.KeysPlay.{play_told, play_all}
 use Rattle.isis_daemon.proofs.PlayLemmas.{play_all-at, play_all-end, bind-ok, bind-err}

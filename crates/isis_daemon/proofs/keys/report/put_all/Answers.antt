@@ -1,4 +1,4 @@
-use Rattle.std.proofs.Common.{◌≡◌, ℕ, List, ◌++◌, refl}
+use Rattle.std.proofs.Common.{◌++◌, refl}
 use Rattle.isis_daemon.specs.KeysReport.{head_line}
 use Rattle.isis_daemon.proofs.PageLemmas.{HasWritten-start, Wrote-all}
 use Rattle.isis_daemon.proofs.keys.report.put_all.Goals as goal

@@ -1,4 +1,4 @@
-use Rattle.std.proofs.Common.{◌≡◌, ◌∙◌, ℕ, List, [], ◌++◌, ◌+◌, ◌<◌, length, get_or, drop, refl, sym, ap, subst, append_assoc, append-nil, arith}
+use Rattle.std.proofs.Common.{◌≡◌, ℕ, List, [], ◌++◌, ◌<◌, length, get_or, drop, refl, sym, subst, append_assoc, append-nil, arith}
 use Rattle.std.proofs.lemmas.List.{at_drop_all}
 use Rattle.isis_daemon.specs.KeysReport.{key_lines, AreLines}
 use Rattle.isis_daemon.specs.Words.{texts}

@@ -1,4 +1,4 @@
-use Rattle.std.proofs.Common.{ℕ, List, ◌++◌, ◌≤◌, Option, drop, length}
+use Rattle.std.proofs.Common.{ℕ, List, ◌++◌, ◌≤◌, drop}
 use Rattle.isis_daemon.specs.KeysReport.{AreLines}
 use Rattle.isis_daemon.specs.Pages.{Adds}
 use Rattle.isis_daemon.specs.Words.{texts}

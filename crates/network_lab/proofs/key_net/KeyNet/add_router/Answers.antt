@@ -1,5 +1,4 @@
-use Rattle.std.proofs.Common.{◌≡◌, ℕ, length, get_or, set, sym, ap, ◌∙◌, subst, arith, rules}
-use Rattle.network_lab.proofs.NetLemmas.{AreHeld-room, AreHeld-copy, AreHeld-pass, AreHeld-router}
+use Rattle.network_lab.proofs.NetLemmas.{AreHeld-router}
 use Rattle.network_lab.proofs.key_net.KeyNet.add_router.Goals as goal
 
 pub invariant_of-self-2 : goal.invariant_of-self-2

@@ -1,4 +1,4 @@
-use Rattle.std.proofs.Common.{ℕ, List, get_or, ap, subst, arith}
+use Rattle.std.proofs.Common.{List, get_or, ap, subst, arith}
 use Rattle.isis_base.specs.declared.identifiers.LspId.{LspId}
 use Rattle.isis_base.specs.declared.key.Key.{Key}
 use Rattle.network_lab.specs.KeysNet.{Net, IsHeldAt}

@@ -1,7 +1,7 @@
-use Rattle.std.proofs.Common.{◌≡◌, ◌<◌, ℕ, List, length, get_or, set, vec_len, sym, ap, ◌∙◌, subst, arith, rules}
+use Rattle.std.proofs.Common.{◌≡◌, ◌<◌, length, set, vec_len, ap, arith}
 use Rattle.std.proofs.lemmas.List.{length-set}
 use Rattle.network_lab.specs.KeysNet.{Net}
-use Rattle.network_lab.proofs.NetLemmas.{AreHeld-room, AreHeld-copy, AreHeld-pass}
+use Rattle.network_lab.proofs.NetLemmas.{AreHeld-room, AreHeld-copy}
 use Rattle.network_lab.proofs.key_net.KeyNet.issue.Goals as goal
 
 pub invariant_of-self-in_err-make_room : goal.invariant_of-self-in_err-make_room

@@ -1,8 +1,8 @@
-use Rattle.std.proofs.Common.{◌≡◌, ◌<◌, ◌-◌, true, refl, ℕ, List, length, get_or, set, sym, ap, ◌∙◌, subst, arith, rules}
+use Rattle.std.proofs.Common.{◌≡◌, ◌<◌, ◌-◌, true, refl, ℕ, length, set, sym, ap, ◌∙◌, subst, arith}
 use Rattle.std.proofs.lemmas.List.{length-set}
 use Rattle.std.proofs.lemmas.Option.{slice_get_read}
 use Rattle.network_lab.specs.KeysNet.{Net, has_pair}
-use Rattle.network_lab.proofs.NetLemmas.{AreHeld-room, AreHeld-copy, AreHeld-pass}
+use Rattle.network_lab.proofs.NetLemmas.{AreHeld-room, AreHeld-pass}
 use Rattle.network_lab.proofs.key_net.KeyNet.pass.Goals as goal
 
 pub invariant_of-self : goal.invariant_of-self

@@ -1,4 +1,4 @@
-use Rattle.std.proofs.Common.{◌≡◌, ◌∙◌, ◌<◌, ℕ, Option, IfSome, length, sym, subst}
+use Rattle.std.proofs.Common.{◌∙◌, ◌<◌, ℕ, Option, IfSome, length, sym, subst}
 use Rattle.isis_daemon.specs.Index.{names_of}
 use Rattle.isis_daemon.proofs.NameLemmas.{router_of-within}
 use Rattle.isis_daemon.proofs.keys.names.Names.find.Goals as goal
