@@ -1,0 +1,84 @@
+/* Times plain C for the same calls as main.rt.in, in the same way: `holds`, a reading of all octets by memchr
+ * (`read`), and HMAC with OpenSSL's MD5 (`digest`). The octets come from standard input. */
+#include <openssl/evp.h>
+#include <openssl/hmac.h>
+#include <stdbool.h>
+#include <stddef.h>
+#include <stdint.h>
+#include <stdio.h>
+#include <string.h>
+#include <time.h>
+
+enum { ROUNDS = 20, CALLS = 5000, BLOCK = 5802, MOST = 65535 };
+
+__attribute__((noipa)) static bool holds(const uint8_t *octets, size_t count)
+{
+	uint32_t plain = 0, running = 0;
+
+	while (count > 0) {
+		size_t block = count < BLOCK ? count : BLOCK;
+
+		count -= block;
+		for (const uint8_t *end = octets + block; octets < end; octets++) {
+			plain += *octets;
+			running += plain;
+		}
+		plain %= 255;
+		running %= 255;
+	}
+	return plain == 0 && running == 0;
+}
+
+__attribute__((noipa)) static uint64_t run(const char *word, uint8_t *octets, size_t count)
+{
+	uint64_t sum = 0;
+
+	for (size_t call = 0; call < CALLS; call++) {
+		if (strcmp(word, "holds") == 0) {
+			octets[call % count]++;
+			sum += holds(octets, count);
+		} else if (strcmp(word, "read") == 0) {
+			const uint8_t *rest = octets, *end = octets + count;
+
+			/* An octet that isn't there, so that all are read. */
+			sum += memchr(rest, 0xfe, (size_t)(end - rest)) != NULL;
+		} else {
+			uint8_t key[16], digest[16];
+			unsigned int len = 16;
+
+			memset(key, (int)(call % 256), sizeof key);
+			HMAC(EVP_md5(), key, sizeof key, octets, count, digest, &len);
+			sum += digest[0];
+		}
+	}
+	return sum;
+}
+
+static uint64_t nanoseconds(void)
+{
+	struct timespec now;
+
+	clock_gettime(CLOCK_MONOTONIC, &now);
+	return (uint64_t)now.tv_sec * 1000000000 + (uint64_t)now.tv_nsec;
+}
+
+int main(int count_of_words, char **words)
+{
+	static uint8_t octets[MOST];
+	size_t count = fread(octets, 1, sizeof octets, stdin);
+	uint64_t least = UINT64_MAX, sum = 0;
+
+	if (count_of_words != 2 || count == 0)
+		return 1;
+	for (int round = 0; round < ROUNDS; round++) {
+		uint64_t start = nanoseconds();
+
+		sum += run(words[1], octets, count);
+		uint64_t spent = nanoseconds() - start;
+
+		if (spent < least)
+			least = spent;
+	}
+	printf("%llu %llu\n", (unsigned long long)(least / (CALLS / 1000)), (unsigned long long)sum);
+	return 0;
+}
