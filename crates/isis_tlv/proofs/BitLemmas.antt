@@ -1,4 +1,4 @@
-use Rattle.std.proofs.Common.{◌≡◌, ℕ, zero, suc, ◌+◌, ◌-◌, ◌*◌, ◌/◌, ◌%◌, ◌^◌, ◌<◌, ◌≤◌, eqb, refl, sym, ap, ◌∙◌, arith, add-zero}
+use Rattle.std.proofs.Common.{◌≡◌, ℕ, zero, suc, ◌+◌, ◌*◌, ◌/◌, ◌%◌, ◌^◌, ◌<◌, ◌≤◌, eqb, refl, ap, ◌∙◌, arith}
 use Rattle.std.specs.Prelude.{not, bit_and}
 use Rattle.std.specs.Int.{bit_at}
 use Rattle.std.proofs.lemmas.Nat.Bits.{and_pow, bit_at-lt}
@@ -14,14 +14,8 @@ pub subs-mark : (control : ℕ) → not (eqb (bit_and control 64) 0) ≡ eqb (bi
 subs-mark control = ap (λ (n : ℕ). not (eqb n 0)) (and_pow control 6) ∙ bit-test (bit_at control 6) (bit_at-lt control 6)
 
 -- a number with its last bits cleared has none of them
-pub cleared-mod : (n k : ℕ) → n / 2 ^ k * 2 ^ k % 2 ^ k ≡ 0
-cleared-mod n k = ap (λ (m : ℕ). m % 2 ^ k) (sym (add-zero (n / 2 ^ k * 2 ^ k))) ∙ mod_low (n / 2 ^ k) k 0 (pow_pos k)
-
-pub cleared-le : (n k : ℕ) → n / 2 ^ k * 2 ^ k ≤ n
-cleared-le n k = omega (arith, shr_split n k)
-
-pub cleared-mod_wide : (n k : ℕ) → n < 18446744073709551616 → n / 2 ^ k * 2 ^ k % 18446744073709551616 % 2 ^ k ≡ 0
-cleared-mod_wide n k h =
-    let below = cleared-le n k in
-    let same : n / 2 ^ k * 2 ^ k % 18446744073709551616 ≡ n / 2 ^ k * 2 ^ k = omega arith in
-    ap (λ (m : ℕ). m % 2 ^ k) same ∙ cleared-mod n k
+pub cleared_mod : (n k : ℕ) → n < 18446744073709551616 → n / 2 ^ k * 2 ^ k % 18446744073709551616 % 2 ^ k ≡ 0
+cleared_mod n k small =
+    let below : n / 2 ^ k * 2 ^ k ≤ n = omega (arith, shr_split n k) in
+    let same : n / 2 ^ k * 2 ^ k % 18446744073709551616 ≡ n / 2 ^ k * 2 ^ k + 0 = omega arith in
+    ap (λ (m : ℕ). m % 2 ^ k) same ∙ mod_low (n / 2 ^ k) k 0 (pow_pos k)

@@ -5,3 +5,4 @@ pub mod RoundLemmas
 pub mod PrefixLemmas
 pub mod ThreeWayLemmas
 pub mod TlvLemmas
+pub mod LengthLemmas

@@ -1,7 +1,7 @@
-use Rattle.std.proofs.Common.{◌≡◌, ℕ, zero, suc, ◌+◌, ◌-◌, ◌*◌, ◌/◌, ◌%◌, ◌^◌, ◌<◌, ◌≤◌, List, [], ◌∷◌, ◌++◌, length, take, drop, get_or, Bool, true, false, cond, leb, eqb, Option, Some, None, refl, sym, ap, ◌∙◌, subst, arith, length-append}
+use Rattle.std.proofs.Common.{◌≡◌, ℕ, zero, suc, ◌+◌, ◌-◌, ◌*◌, ◌/◌, ◌%◌, ◌^◌, ◌<◌, ◌≤◌, List, ◌++◌, length, take, drop, get_or, Bool, true, false, cond, leb, eqb, Option, Some, None, ap, ◌∙◌, arith, length-append}
 use Rattle.std.proofs.lemmas.Bool.{le-leb}
 use Rattle.std.proofs.lemmas.List.{take_at, length-take-le}
-use Rattle.std.proofs.lemmas.Nat.{shr_split, mod-pow-add, pow_pos}
+use Rattle.std.proofs.lemmas.Nat.{shr_split, mod-pow-add}
 use Rattle.std.specs.Int.{bit_at}
 use Rattle.isis_tlv.specs.Numbers.{four_at, four_of}
 use Rattle.isis_tlv.specs.Items.{sized, prefix_at, PrefixView, octets_for, cleared, address_of}

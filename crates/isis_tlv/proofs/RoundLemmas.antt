@@ -1,20 +1,16 @@
-use Rattle.std.proofs.Common.{◌≡◌, ℕ, zero, suc, ◌+◌, ◌-◌, ◌*◌, ◌/◌, ◌%◌, ◌^◌, ◌<◌, ◌≤◌, List, [], ◌∷◌, ◌++◌, length, take, drop, map, get_or, Bool, true, false, cond, leb, eqb, ◌&&◌, Option, Some, None, Result, Ok, Err, refl, sym, ap, ◌∙◌, subst, arith, append-nil, append_assoc, length-append, length-take}
+use Rattle.std.proofs.Common.{◌≡◌, ℕ, ◌+◌, ◌*◌, ◌/◌, ◌%◌, ◌<◌, ◌≤◌, List, [], ◌∷◌, ◌++◌, length, take, map, Bool, false, cond, leb, eqb, ◌&&◌, Option, Some, None, Result, Ok, refl, sym, ap, ◌∙◌, subst, arith, length-append}
 use Rattle.std.proofs.lemmas.Bool.{le-leb, ne_eqb}
-use Rattle.std.proofs.lemmas.List.{take_at, drop_at, length-take-le}
+use Rattle.std.proofs.lemmas.List.{take_at, drop_at}
 use Rattle.std.specs.List.{AllByRecursion, flat_map}
 use Rattle.std.specs.Option.{IfSome}
 use Rattle.isis_base.specs.declared.identifiers.Snpa.{Snpa}
-use Rattle.isis_base.specs.declared.identifiers.SystemId.{SystemId}
 use Rattle.isis_base.specs.declared.entry.LspEntry.{LspEntry}
 use Rattle.isis_tlv.specs.declared.fault.ValueFault.{ValueFault}
 use Rattle.isis_tlv.specs.declared.neighbour.NeighbourItem.{NeighbourItem}
-use Rattle.isis_tlv.specs.Walks.{items_of}
-use Rattle.isis_tlv.specs.Numbers.{two_at, three_at, four_at, two_of, three_of, four_of}
-use Rattle.isis_tlv.specs.Items.{sized, area_at, snpa_at, entry_at, neighbour_at, prefix_at, values_of, PrefixView, octets_for, cleared, address_of, subs_at}
-use Rattle.isis_tlv.specs.Spelling.{area_octets, entry_octets, neighbour_octets, prefix_octets}
-use Rattle.isis_tlv.specs.Fits.{IsArea, IsSnpa, IsEntry, IsNeighbour, IsPrefix}
+use Rattle.isis_tlv.specs.Items.{sized, area_at, snpa_at, entry_at, neighbour_at, values_of}
+use Rattle.isis_tlv.specs.Spelling.{area_octets, entry_octets, neighbour_octets}
+use Rattle.isis_tlv.specs.Fits.{IsArea, IsSnpa, IsEntry, IsNeighbour}
 use Rattle.isis_tlv.proofs.WalkLemmas.{TakesSome, values-end, values-item}
-use Rattle.isis_tlv.proofs.SizeLemmas.{area-some, snpa-some, entry-some, neighbour-some, prefix-some}
 
 -- the octets of each item read as that item, whatever follows
 abbrev pub Again : {X : Type 0} → (List ℕ → Option (X × ℕ)) → (X → List ℕ) → (X → Type 0) → Type 0
@@ -66,7 +62,7 @@ four-again n h = omega arith
 pub snpa-again : Again snpa_at (λ snpa. snpa.0) IsSnpa
 snpa-again snpa rest is =
     of-six (λ s. sized {X = Snpa} 6 (s ++ rest) (record { 0 = take 6 (s ++ rest) }) ≡ Some (record { 0 = s }, length s))
-      (λ a b c d e f. sized-fits {X = Snpa} 6 (a ∷ b ∷ c ∷ d ∷ e ∷ f ∷ rest) (record { 0 = a ∷ b ∷ c ∷ d ∷ e ∷ f ∷ [] }) (omega arith)) snpa.0 is.six
+    (λ a b c d e f. sized-fits {X = Snpa} 6 (a ∷ b ∷ c ∷ d ∷ e ∷ f ∷ rest) (record { 0 = a ∷ b ∷ c ∷ d ∷ e ∷ f ∷ [] }) (omega arith)) snpa.0 is.six
 
 abbrev with_system : LspEntry → List ℕ → LspEntry
 with_system entry s = record {
@@ -79,25 +75,25 @@ with_system entry s = record {
 pub entry-again : Again entry_at entry_octets IsEntry
 entry-again entry rest is =
     of-six (λ s. entry_at (entry_octets (with_system entry s) ++ rest) ≡ Some (with_system entry s, length (entry_octets (with_system entry s))))
-      (λ a b c d e f.
-        let s = a ∷ b ∷ c ∷ d ∷ e ∷ f ∷ [] in
-        let lifetime = two-again entry.lifetime is.lifetime in
-        let number = four-again entry.number is.number in
-        let checksum = two-again entry.checksum is.checksum in
-        sized-fits {X = LspEntry} 16 (entry_octets (with_system entry s) ++ rest) _ (omega arith)
-        ∙ (λ i. Some (record { lifetime = lifetime i; id = (with_system entry s).id; number = number i; checksum = checksum i }, 16)))
-      entry.id.node.system.0 is.system
+    (λ a b c d e f.
+    let s = a ∷ b ∷ c ∷ d ∷ e ∷ f ∷ [] in
+    let lifetime = two-again entry.lifetime is.lifetime in
+    let number = four-again entry.number is.number in
+    let checksum = two-again entry.checksum is.checksum in
+    sized-fits {X = LspEntry} 16 (entry_octets (with_system entry s) ++ rest) _ (omega arith)
+    ∙ (λ i. Some (record { lifetime = lifetime i; id = (with_system entry s).id; number = number i; checksum = checksum i }, 16)))
+    entry.id.node.system.0 is.system
 
 pub neighbour-again : Again neighbour_at neighbour_octets IsNeighbour
 neighbour-again item rest is =
     let whole : List ℕ → NeighbourItem = λ s. record { node = record { system = record { 0 = s }; pseudonode = item.node.pseudonode }; metric = item.metric } in
     of-six (λ s. neighbour_at (neighbour_octets (whole s) ++ rest) ≡ Some (whole s, length (neighbour_octets (whole s))))
-      (λ a b c d e f.
-        let s = a ∷ b ∷ c ∷ d ∷ e ∷ f ∷ [] in
-        let metric = three-again item.metric is.metric in
-        sized-fits {X = NeighbourItem} 11 (neighbour_octets (whole s) ++ rest) _ (omega arith)
-        ∙ (λ i. Some (record { node = (whole s).node; metric = metric i }, 11)))
-      item.node.system.0 is.system
+    (λ a b c d e f.
+    let s = a ∷ b ∷ c ∷ d ∷ e ∷ f ∷ [] in
+    let metric = three-again item.metric is.metric in
+    sized-fits {X = NeighbourItem} 11 (neighbour_octets (whole s) ++ rest) _ (omega arith)
+    ∙ (λ i. Some (record { node = (whole s).node; metric = metric i }, 11)))
+    item.node.system.0 is.system
 
 pub area-again : Again area_at area_octets IsArea
 area-again area rest is =

@@ -1,6 +1,6 @@
-use Rattle.std.proofs.Common.{◌≡◌, ℕ, zero, suc, ◌+◌, ◌-◌, ◌%◌, ◌<◌, ◌≤◌, List, [], ◌∷◌, length, take, get_or, Bool, true, false, cond, leb, ◌&&◌, Result, Ok, Err, Option, Some, None, refl, sym, ap, ◌∙◌, arith}
+use Rattle.std.proofs.Common.{ℕ, ◌+◌, ◌%◌, ◌≤◌, List, [], ◌∷◌, length, take, get_or, Bool, true, false, cond, leb, ◌&&◌, Ok, Err, Some, None, arith}
 use Rattle.std.specs.Option.{IfSome}
-use Rattle.isis_tlv.specs.Items.{sized, area_at, snpa_at, entry_at, neighbour_at, prefix_at}
+use Rattle.isis_tlv.specs.Items.{area_at, snpa_at, entry_at, neighbour_at, prefix_at}
 use Rattle.isis_tlv.proofs.WalkLemmas.{Takes, TakesSome}
 use Rattle.isis_tlv.specs.declared.tlv.TlvFault.{TlvFault}
 use Rattle.isis_tlv.specs.declared.tlv.TlvFault.TheVariants.{Past}

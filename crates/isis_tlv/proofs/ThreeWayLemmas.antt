@@ -1,5 +1,5 @@
-use Rattle.std.proofs.Common.{◌≡◌, ℕ, ◌<◌, List, [], ◌∷◌, ◌++◌, length, true, Option, Some, None, Result, Ok, Err, refl, sym, ap, ◌∙◌}
-use Rattle.std.specs.Prelude.{IfSome, IsSome, option_and_then}
+use Rattle.std.proofs.Common.{◌≡◌, ℕ, List, [], ◌∷◌, Option, Some, None, Ok, refl, ap, ◌∙◌}
+use Rattle.std.specs.Prelude.{option_and_then}
 use Rattle.std.specs.Option.{ok_or}
 use Rattle.isis_base.specs.declared.identifiers.SystemId.{SystemId}
 use Rattle.isis_tlv.specs.declared.fault.ValueFault.{ValueFault}
@@ -30,11 +30,11 @@ by-parts state (Some id) None is =
 by-parts state None (Some heard) is = let both = is.both refl in cc
 by-parts state (Some id) (Some heard) is =
     of-six (λ s. three_way_of (three_way_octets (parts state (Some id) (Some (record { 0 = s }, heard.1)))) ≡ Ok (parts state (Some id) (Some (record { 0 = s }, heard.1))))
-      (λ a b c d e f.
-        let system : SystemId = record { 0 = a ∷ b ∷ c ∷ d ∷ e ∷ f ∷ [] } in
-        read-state (three_way_octets (parts state (Some id) (Some (system, heard.1)))) state
-        ∙ (λ i. Ok (parts state (Some (four-again id is.own_id i)) (Some (system, four-again heard.1 is.neighbour.1 i)))))
-      heard.0.0 is.neighbour.0
+    (λ a b c d e f.
+    let system : SystemId = record { 0 = a ∷ b ∷ c ∷ d ∷ e ∷ f ∷ [] } in
+    read-state (three_way_octets (parts state (Some id) (Some (system, heard.1)))) state
+    ∙ (λ i. Ok (parts state (Some (four-again id is.own_id i)) (Some (system, four-again heard.1 is.neighbour.1 i)))))
+    heard.0.0 is.neighbour.0
 
 pub three_way-again : (value : ThreeWay) → IsThreeWay value → three_way_of (three_way_octets value) ≡ Ok value
 three_way-again value is = by-parts value.state value.own_id value.neighbour is

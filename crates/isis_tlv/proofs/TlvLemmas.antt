@@ -1,4 +1,4 @@
-use Rattle.std.proofs.Common.{◌≡◌, ℕ, zero, suc, ◌+◌, ◌-◌, ◌<◌, ◌≤◌, List, [], ◌∷◌, ◌++◌, length, take, drop, map, Bool, true, false, cond, leb, eqb, Option, Some, None, Result, Ok, Err, refl, sym, ap, ◌∙◌, subst, arith, append-nil, append_assoc, length-append, length-take}
+use Rattle.std.proofs.Common.{◌≡◌, ℕ, zero, suc, ◌+◌, ◌-◌, ◌<◌, ◌≤◌, List, [], ◌∷◌, ◌++◌, length, take, drop, map, Bool, true, false, cond, leb, None, Result, Ok, Err, refl, sym, ap, ◌∙◌, subst, arith, append-nil, append_assoc, length-append}
 use Rattle.std.proofs.lemmas.Bool.{le-leb, lt-leb, leb-true, leb-false, ne_eqb}
 use Rattle.std.proofs.lemmas.List.{take_at, drop_at, length-take-le, take-append-drop}
 use Rattle.std.proofs.Math.Seq.{drop-append-add}
@@ -6,7 +6,7 @@ use Rattle.std.specs.List.{AllByRecursion, flat_map}
 use Rattle.std.specs.Result.{ok_prefix}
 use Rattle.isis_tlv.specs.declared.tlv.TlvFault.{TlvFault}
 use Rattle.isis_tlv.specs.declared.tlv.TlvFault.TheVariants.{Header, Past}
-use Rattle.isis_tlv.specs.Walks.{items_of, fault_of}
+use Rattle.isis_tlv.specs.Walks.{fault_of}
 use Rattle.isis_tlv.specs.Tlvs.{TlvView, tlv_octets, tlv_at, tlvs_of, tlv_list, AreTlvs, StandsIn}
 use Rattle.isis_tlv.proofs.WalkLemmas.{items-none, items-item, items-err}
 use Rattle.isis_tlv.proofs.SizeLemmas.{tlv-some}
@@ -31,10 +31,10 @@ drop-tlv code value rest =
 pub tlvs-tlv : (place code : ℕ) (value rest : List ℕ) → tlvs_of place (tlv_octets code value ++ rest) ≡ Ok (tlv place code value) ∷ tlvs_of (place + 2 + length value) rest
 tlvs-tlv place code value rest =
     items-item tlv_at tlv-some place (tlv_octets code value ++ rest) (tlvs_of place (tlv_octets code value ++ rest)) (tlv place code value) (2 + length value) (place + 2 + length value) rest refl
-      (sym (ne_eqb (length (tlv_octets code value ++ rest)) 0 (λ e. omega arith)))
-      (sym (tlv_at-again place code value rest))
-      (sym (drop-tlv code value rest))
-      (omega arith)
+    (sym (ne_eqb (length (tlv_octets code value ++ rest)) 0 (λ e. omega arith)))
+    (sym (tlv_at-again place code value rest))
+    (sym (drop-tlv code value rest))
+    (omega arith)
 
 pub tlvs-header : (place code : ℕ) → tlvs_of place (code ∷ []) ≡ Err (Header place) ∷ []
 tlvs-header place code = items-err tlv_at tlv-some place (code ∷ []) (Header place) (omega arith) refl
@@ -42,7 +42,7 @@ tlvs-header place code = items-err tlv_at tlv-some place (code ∷ []) (Header p
 pub tlvs-past : (place code count : ℕ) (octets : List ℕ) → length octets < count → tlvs_of place (code ∷ count ∷ octets) ≡ Err (Past place) ∷ []
 tlvs-past place code count octets h =
     items-err tlv_at tlv-some place (code ∷ count ∷ octets) (Past place) (omega arith)
-      (ap (λ (fits : Bool). cond fits (Ok (tlv place code (take count octets), 2 + count)) (Err (Past place))) (lt-leb count (length octets) h))
+    (ap (λ (fits : Bool). cond fits (Ok (tlv place code (take count octets), 2 + count)) (Err (Past place))) (lt-leb count (length octets) h))
 
 -- what holds of no octets, of each fault, and of a TLV before octets of which it holds, holds of all octets
 module _ (P : List ℕ → Type 0) (none : P []) (header : (code : ℕ) → P (code ∷ [])) (past : (code count : ℕ) (octets : List ℕ) → length octets < count → P (code ∷ count ∷ octets)) (more : (code : ℕ) (value rest : List ℕ) → P rest → P (tlv_octets code value ++ rest)) where
@@ -53,14 +53,14 @@ module _ (P : List ℕ → Type 0) (none : P []) (header : (code : ℕ) → P (c
   by-room (suc zero) (code ∷ count ∷ octets) h = absurd (omega arith)
   by-room (suc (suc n)) (code ∷ count ∷ octets) h =
       elim (leb count (length octets)) as (λ fits. leb count (length octets) ≡ fits → P (code ∷ count ∷ octets)) [
-        true ↦ λ fits.
-          let within = leb-true count (length octets) fits in
-          let taken : length (take count octets) ≡ count = length-take-le count octets within in
-          let left : length (drop count octets) ≤ n = omega (arith, length-append (take count octets) (drop count octets), ap length (take-append-drop count octets)) in
-          subst (λ (s : List ℕ). P (code ∷ s))
+        | true ↦ λ fits.
+            let within = leb-true count (length octets) fits in
+            let taken : length (take count octets) ≡ count = length-take-le count octets within in
+            let left : length (drop count octets) ≤ n = omega (arith, length-append (take count octets) (drop count octets), ap length (take-append-drop count octets)) in
+            subst (λ (s : List ℕ). P (code ∷ s))
             (ap (λ (k : ℕ). k ∷ (take count octets ++ drop count octets)) taken ∙ ap (λ (s : List ℕ). count ∷ s) (take-append-drop count octets))
             (more code (take count octets) (drop count octets) (by-room n (drop count octets) left))
-      | false ↦ λ fits. past code count octets (leb-false count (length octets) fits)
+        | false ↦ λ fits. past code count octets (leb-false count (length octets) fits)
       ] refl
 
   pub by-tlvs : (octets : List ℕ) → P octets
@@ -79,8 +79,8 @@ fault-anywhere = by-tlvs (λ octets. (p q : ℕ) → HasNone (tlvs_of p octets) 
     (λ code p q h. let no_fault = same-none _ _ (tlvs-header p code) h in cc)
     (λ code count octets long p q h. let no_fault = same-none _ _ (tlvs-past p code count octets long) h in cc)
     (λ code value rest on p q h.
-      same-none _ _ (sym (tlvs-tlv q code value rest))
-        (on (p + 2 + length value) (q + 2 + length value) (same-none _ _ (tlvs-tlv p code value rest) h)))
+    same-none _ _ (sym (tlvs-tlv q code value rest))
+    (on (p + 2 + length value) (q + 2 + length value) (same-none _ _ (tlvs-tlv p code value rest) h)))
 
 pub list-all : (items : List (Result TlvView TlvFault)) → HasNone items → items ≡ map (λ item. Ok item) (ok_prefix items)
 list-all [] h = refl
@@ -96,8 +96,8 @@ tlvs-again = by-tlvs (λ octets. (place : ℕ) → HasNone (tlvs_of place octets
     (λ code place h. let no_fault = same-none _ _ (tlvs-header place code) h in cc)
     (λ code count octets long place h. let no_fault = same-none _ _ (tlvs-past place code count octets long) h in cc)
     (λ code value rest on place h.
-      ap (λ (items : List (Result TlvView TlvFault)). flat_map spelled (ok_prefix items)) (tlvs-tlv place code value rest)
-      ∙ ap (λ (octets : List ℕ). tlv_octets code value ++ octets) (on (place + 2 + length value) (same-none _ _ (tlvs-tlv place code value rest) h)))
+    ap (λ (items : List (Result TlvView TlvFault)). flat_map spelled (ok_prefix items)) (tlvs-tlv place code value rest)
+    ∙ ap (λ (octets : List ℕ). tlv_octets code value ++ octets) (on (place + 2 + length value) (same-none _ _ (tlvs-tlv place code value rest) h)))
 
 pub tlvs-joined : (first : List ℕ) (rest : List ℕ) → AreTlvs first → AreTlvs rest → AreTlvs (first ++ rest)
 tlvs-joined = by-tlvs (λ first. (rest : List ℕ) → AreTlvs first → AreTlvs rest → AreTlvs (first ++ rest))
@@ -105,15 +105,15 @@ tlvs-joined = by-tlvs (λ first. (rest : List ℕ) → AreTlvs first → AreTlvs
     (λ code rest a b. let no_fault = same-none _ _ (tlvs-header 0 code) a in cc)
     (λ code count octets long rest a b. let no_fault = same-none _ _ (tlvs-past 0 code count octets long) a in cc)
     (λ code value first on rest a b.
-      let later = fault-anywhere first (0 + 2 + length value) 0 (same-none _ _ (tlvs-tlv 0 code value first) a) in
-      let whole = on rest later b in
-      subst (λ (s : List ℕ). AreTlvs (code ∷ length value ∷ s)) (sym (append_assoc value first rest))
-        (same-none _ _ (sym (tlvs-tlv 0 code value (first ++ rest))) (fault-anywhere (first ++ rest) 0 (0 + 2 + length value) whole)))
+    let later = fault-anywhere first (0 + 2 + length value) 0 (same-none _ _ (tlvs-tlv 0 code value first) a) in
+    let whole = on rest later b in
+    subst (λ (s : List ℕ). AreTlvs (code ∷ length value ∷ s)) (sym (append_assoc value first rest))
+    (same-none _ _ (sym (tlvs-tlv 0 code value (first ++ rest))) (fault-anywhere (first ++ rest) 0 (0 + 2 + length value) whole)))
 
 pub tlvs-one : (code : ℕ) (value : List ℕ) → AreTlvs (tlv_octets code value)
 tlvs-one code value =
     subst (λ (s : List ℕ). AreTlvs (code ∷ length value ∷ s)) (append-nil value)
-      (same-none _ _ (sym (tlvs-tlv 0 code value [])) (same-none [] _ (sym (tlvs-end (0 + 2 + length value))) refl))
+    (same-none _ _ (sym (tlvs-tlv 0 code value [])) (same-none [] _ (sym (tlvs-end (0 + 2 + length value))) refl))
 
 stands-first : (place code : ℕ) (value rest : List ℕ) → StandsIn place (tlv_octets code value ++ rest) (tlv place code value)
 stands-first place code value rest =
@@ -126,9 +126,9 @@ stands-first place code value rest =
       from = omega arith;
       within = omega arith;
       whole =
-        ap (λ (n : ℕ). take (2 + length value) (drop n (tlv_octets code value ++ rest))) start
-        ∙ ap (λ (n : ℕ). take n (tlv_octets code value ++ rest)) size
-        ∙ ap (λ (s : List ℕ). code ∷ length value ∷ s) taken;
+          ap (λ (n : ℕ). take (2 + length value) (drop n (tlv_octets code value ++ rest))) start
+          ∙ ap (λ (n : ℕ). take n (tlv_octets code value ++ rest)) size
+          ∙ ap (λ (s : List ℕ). code ∷ length value ∷ s) taken;
       value = ap (λ (n : ℕ). take (length value) (drop n (tlv_octets code value ++ rest))) two ∙ taken;
     }
 
@@ -157,5 +157,5 @@ tlvs-stand = by-tlvs (λ octets. (place : ℕ) → AllByRecursion (StandsIn plac
     (λ code place. subst (λ (items : List (Result TlvView TlvFault)). AllByRecursion (StandsIn place (code ∷ [])) (ok_prefix items)) (sym (tlvs-header place code)) tt)
     (λ code count octets long place. subst (λ (items : List (Result TlvView TlvFault)). AllByRecursion (StandsIn place (code ∷ count ∷ octets)) (ok_prefix items)) (sym (tlvs-past place code count octets long)) tt)
     (λ code value rest on place.
-      subst (λ (items : List (Result TlvView TlvFault)). AllByRecursion (StandsIn place (tlv_octets code value ++ rest)) (ok_prefix items)) (sym (tlvs-tlv place code value rest))
-        (stands-first place code value rest, stands-all place (tlv_octets code value) rest (place + 2 + length value) (tlv_list (place + 2 + length value) rest) (omega arith) (on (place + 2 + length value))))
+    subst (λ (items : List (Result TlvView TlvFault)). AllByRecursion (StandsIn place (tlv_octets code value ++ rest)) (ok_prefix items)) (sym (tlvs-tlv place code value rest))
+    (stands-first place code value rest, stands-all place (tlv_octets code value) rest (place + 2 + length value) (tlv_list (place + 2 + length value) rest) (omega arith) (on (place + 2 + length value))))

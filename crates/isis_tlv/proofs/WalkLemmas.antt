@@ -1,4 +1,4 @@
-use Rattle.std.proofs.Common.{◌≡◌, ℕ, zero, suc, ◌+◌, ◌-◌, ◌<◌, ◌≤◌, List, [], ◌∷◌, ◌++◌, length, drop, Bool, true, false, eqb, Option, Some, None, Result, Ok, Err, refl, sym, ap, ◌∙◌, arith, length-drop}
+use Rattle.std.proofs.Common.{◌≡◌, ℕ, zero, suc, ◌+◌, ◌<◌, ◌≤◌, List, [], ◌∷◌, length, drop, true, false, eqb, Option, Some, None, Result, Ok, Err, refl, sym, ap, ◌∙◌, arith, length-drop}
 use Rattle.std.specs.Result.{IfOk}
 use Rattle.std.specs.Option.{ok_or, IfSome}
 use Rattle.std.proofs.lemmas.Bool.{eqb-true, eqb-false, eq-eqb}
@@ -33,10 +33,10 @@ module _ {X F : Type 0} where
     walk-enough (suc n) (suc m) place [] a b = refl
     walk-enough (suc n) (suc m) place (octet ∷ octets) a b =
         before-same (first place (octet ∷ octets)) _ _
-          (λ item count is.
-            let one = Takes-one (first place (octet ∷ octets)) item count (takes place (octet ∷ octets)) is in
-            let gone = length-drop count (octet ∷ octets) in
-            walk-enough n m (place + count) (drop count (octet ∷ octets)) (omega arith) (omega arith))
+        (λ item count is.
+        let one = Takes-one (first place (octet ∷ octets)) item count (takes place (octet ∷ octets)) is in
+        let gone = length-drop count (octet ∷ octets) in
+        walk-enough n m (place + count) (drop count (octet ∷ octets)) (omega arith) (omega arith))
 
     pub items-none : (place : ℕ) → items_of first place [] ≡ []
     unfolding items_of
@@ -103,5 +103,5 @@ module _ {X : Type 0} (first : List ℕ → Option (X × ℕ)) (takes : TakesSom
   pub values-fault : (place : ℕ) (octets : List ℕ) (now : List (Result X ValueFault)) (at later : ℕ) (rest : List ℕ) → values_of first place octets ≡ now → false ≡ eqb (length octets) 0 → None ≡ first octets → rest ≡ [] → at ≡ place → now ≡ Err (record { place = at }) ∷ values_of first later rest
   values-fault place octets now at later rest view some is past on =
       items-fault (placed first) placed-takes place octets now (record { place = at }) later rest view some
-        (ap (λ (n : ℕ). Err (record { place = n })) on ∙ ap (λ (found : Option (X × ℕ)). ok_or found (record { place = place })) is)
-        past
+      (ap (λ (n : ℕ). Err (record { place = n })) on ∙ ap (λ (found : Option (X × ℕ)). ok_or found (record { place = place })) is)
+      past

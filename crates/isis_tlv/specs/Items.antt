@@ -1,4 +1,4 @@
-use Rattle.std.specs.Prelude.{◌≡◌, ℕ, suc, zero, ◌+◌, ◌-◌, ◌*◌, ◌/◌, ◌%◌, ◌^◌, ◌==◌, ◌&&◌, nat_le, nat_lt, Bool, List, [], ◌∷◌, ◌++◌, length, take, drop, replicate, slice_index, Option, Some, None, Result, Ok, Err, if◌then◌else◌, option_and_then}
+use Rattle.std.specs.Prelude.{ℕ, suc, zero, ◌+◌, ◌-◌, ◌*◌, ◌/◌, ◌%◌, ◌^◌, ◌==◌, ◌&&◌, nat_le, Bool, List, length, take, drop, slice_index, Option, Some, None, Result, if◌then◌else◌, option_and_then}
 use Rattle.std.specs.Option.{ok_or}
 use Rattle.std.specs.Int.{bit_at}
 use Rattle.isis_base.specs.declared.identifiers.Snpa.{Snpa}
@@ -14,7 +14,7 @@ use Rattle.isis_tlv.specs.Walks.{items_of}
 -- Each function below gives the item that octets begin with and the number of its octets, or None where none fits.
 -- Past the end an octet counts as 0; the item then has more octets than there are.
 
--- an item of so many octets, where they are there
+-- an item of so many octets, where they are there (own)
 abbrev pub sized : {X : Type 0} → ℕ → List ℕ → X → Option (X × ℕ)
 sized count octets item = if nat_le count (length octets) then Some (item, count) else None
 
@@ -38,26 +38,26 @@ abbrev pub neighbour_at : List ℕ → Option (NeighbourItem × ℕ)
 neighbour_at octets =
     sized (11 + slice_index octets 10) octets (record { node = node_at 0 octets; metric = three_at 7 octets })
 
--- an IPv4 prefix with its metric, and whether it was leaked down
+-- an IPv4 prefix with its metric, and whether it was leaked down (own)
 pub record PrefixView : Type 0 where
   pub address : ℕ
   pub length : ℕ
   pub metric : ℕ
   pub down : Bool
 
--- the number of octets that hold so many bits
+-- the number of octets that hold so many bits (RFC 5305 4)
 abbrev pub octets_for : ℕ → ℕ
 octets_for bits = (bits + 7) / 8
 
--- the address with its bits past the length 0
+-- the address with its bits past the length 0 (own)
 abbrev pub cleared : ℕ → ℕ → ℕ
 cleared bits address = address / 2 ^ (32 - bits) * 2 ^ (32 - bits)
 
--- the address of the octets that hold a prefix of so many bits
+-- the address of the octets that hold a prefix of so many bits (RFC 5305 4)
 abbrev pub address_of : ℕ → List ℕ → ℕ
 address_of bits octets = cleared bits (four_at 0 (take (octets_for bits) octets))
 
--- after a prefix: nothing without the mark for sub-TLVs, else a length and as many octets
+-- after a prefix: nothing without the mark for sub-TLVs, else a length and as many octets (RFC 5305 4)
 abbrev pub subs_at : ℕ → ℕ → List ℕ → ℕ
 subs_at control place octets = if bit_at control 6 == 1 then 1 + slice_index octets place else 0
 
@@ -75,6 +75,7 @@ prefix_at octets =
 abbrev pub values_of : {X : Type 0} → (List ℕ → Option (X × ℕ)) → ℕ → List ℕ → List (Result X ValueFault)
 values_of first place octets = items_of (λ at item. ok_or (first item) (record { place = at })) place octets
 
+-- what the values of codes 1, 6, 9, 22 and 135 read as (own)
 abbrev pub areas_of : List ℕ → List (Result (List ℕ) ValueFault)
 areas_of value = values_of area_at 0 value
 

@@ -1,9 +1,9 @@
-use Rattle.std.specs.Prelude.{ℕ, ◌+◌, ◌*◌, ◌/◌, ◌%◌, List, [], ◌∷◌, ◌++◌, length, take, drop, slice_index}
+use Rattle.std.specs.Prelude.{ℕ, ◌+◌, ◌*◌, ◌/◌, ◌%◌, List, [], ◌∷◌, take, drop, slice_index}
 use Rattle.isis_base.specs.declared.identifiers.SystemId.{SystemId}
 use Rattle.isis_base.specs.declared.identifiers.NodeId.{NodeId}
 use Rattle.isis_base.specs.declared.identifiers.LspId.{LspId}
 
--- the number of two, three and four octets that begin at a place, the first octet the greatest (ISO 10589 9.1)
+-- the number of two, three and four octets that begin at a place, the first octet the greatest (ISO 10589 9)
 abbrev pub two_at : ℕ → List ℕ → ℕ
 two_at place octets = 256 * slice_index octets place + slice_index octets (place + 1)
 
@@ -13,7 +13,7 @@ three_at place octets = 256 * two_at place octets + slice_index octets (place + 
 abbrev pub four_at : ℕ → List ℕ → ℕ
 four_at place octets = 256 * three_at place octets + slice_index octets (place + 3)
 
--- a number in two, three and four octets
+-- a number in two, three and four octets (ISO 10589 9)
 abbrev pub two_of : ℕ → List ℕ
 two_of n = n / 256 % 256 ∷ n % 256 ∷ []
 

@@ -1,4 +1,4 @@
-use Rattle.std.specs.Prelude.{ℕ, ◌+◌, ◌*◌, ◌/◌, ◌%◌, List, [], ◌∷◌, ◌++◌, length, take, map, Option, Some, None, Result, Ok, Err, if◌then◌else◌}
+use Rattle.std.specs.Prelude.{ℕ, ◌+◌, List, [], ◌∷◌, ◌++◌, length, take, map, Option, Some, None, Result, Ok, Err, if◌then◌else◌}
 use Rattle.std.specs.List.{flat_map}
 use Rattle.isis_base.specs.declared.identifiers.Snpa.{Snpa}
 use Rattle.isis_base.specs.declared.identifiers.SystemId.{SystemId}
@@ -56,6 +56,7 @@ abbrev pub prefix_octets : PrefixView → List ℕ
 prefix_octets item =
     four_of item.metric ++ ((if item.down then 128 else 0) + item.length) ∷ take (octets_for item.length) (four_of item.address)
 
+-- a prefix, as contracts see it (own)
 abbrev pub prefix_view : PrefixItem → PrefixView
 prefix_view item = record { address = item.prefix.address; length = item.prefix.length; metric = item.metric; down = item.down }
 
@@ -96,7 +97,7 @@ three_way_octets value = state_octet value.state ∷ own_octets value.own_id ++ 
 abbrev pub three_way_tlv : ThreeWay → List ℕ
 three_way_tlv value = tlv_octets 240 (three_way_octets value)
 
--- a prefix or a fault, as contracts see it
+-- a prefix or a fault, as contracts see it (own)
 abbrev pub prefix_result : Result PrefixItem ValueFault → Result PrefixView ValueFault
 prefix_result (Ok item) = Ok (prefix_view item)
 prefix_result (Err fault) = Err fault

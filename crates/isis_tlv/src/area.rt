@@ -3,13 +3,12 @@ ghost use Rattle.isis_tlv.specs.Items.{area_at, areas_of};
 ghost use Rattle.isis_tlv.specs.Fits.{IsArea};
 ghost use Rattle.isis_tlv.specs.Spelling.{area_octets, area_value, area_tlv};
 
-use isis_base::{AreaAddress, Octets, OutOfMemory};
-use std::marker::Model;
-
 use crate::draft::Draft;
 use crate::fault::ValueFault;
 use crate::laws::item_laws;
 use crate::left::Left;
+use isis_base::{AreaAddress, Octets, OutOfMemory};
+use std::marker::Model;
 
 /// The area addresses of a value of code 1, in order. A fault is the last item. Contracts see what is left.
 #[derive(Debug, Drop)]
@@ -48,7 +47,7 @@ impl<'a> Iterator for AreaItems<'a> {
     ghost remaining = { item_count (λ rest. rest) };
 
     fn next(&mut self) -> Option<Result<AreaAddress, ValueFault>> {
-        if self.left.octets.is_empty() {
+        if self.left.is_done() {
             return None;
         }
         let Some((area, count)) = area_at(self.left.octets) else {

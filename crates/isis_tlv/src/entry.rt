@@ -1,15 +1,14 @@
-ghost use Rattle.std.specs.Prelude.{◌≡◌, ◌≤◌, ◌+◌, ◌++◌, map, length, Ok, OnOk, OnErr};
+ghost use Rattle.std.specs.Prelude.{◌≡◌, ◌≤◌, ◌+◌, ◌*◌, ◌++◌, map, length, Ok, OnOk, OnErr};
 ghost use Rattle.isis_tlv.specs.Fits.{IsEntry};
 ghost use Rattle.isis_tlv.specs.Items.{entry_at, entries_of};
 ghost use Rattle.isis_tlv.specs.Spelling.{entry_octets, entry_value, entry_tlv};
-
-use isis_base::{LspEntry, LspId, NodeId, Octets, OutOfMemory, SystemId};
-use std::marker::Model;
 
 use crate::draft::Draft;
 use crate::fault::ValueFault;
 use crate::laws::item_laws;
 use crate::left::Left;
+use isis_base::{LspEntry, LspId, NodeId, Octets, OutOfMemory, SystemId};
+use std::marker::Model;
 
 /// The LSP entries of a value of code 9, in order. A fault is the last item. Contracts see what is left.
 #[derive(Debug, Drop)]
@@ -49,7 +48,7 @@ impl<'a> Iterator for EntryItems<'a> {
     ghost remaining = { item_count (λ rest. rest) };
 
     fn next(&mut self) -> Option<Result<LspEntry, ValueFault>> {
-        if self.left.octets.is_empty() {
+        if self.left.is_done() {
             return None;
         }
         let Some((entry, count)) = entry_at(self.left.octets) else {
@@ -65,11 +64,11 @@ impl<'a> Iterator for EntryItems<'a> {
 fn entry_at(octets: &[u8]) -> Option<(LspEntry, usize)>
     ensures { result ≡ entry_at octets.now }
 {
-    let [l, m, a, b, c, d, e, f, pseudonode, number, n, o, p, q, r, s, ..] = octets else {
+    let [l, m, a, b, c, d, e, f, g, h, n, o, p, q, r, s, ..] = octets else {
         return None;
     };
     let system = SystemId([*a, *b, *c, *d, *e, *f]);
-    let (pseudonode, number) = (*pseudonode, *number);
+    let (pseudonode, number) = (*g, *h);
     let node = NodeId { system, pseudonode };
     let entry = LspEntry {
         lifetime: u16::from_be_bytes([*l, *m]),
@@ -82,8 +81,9 @@ fn entry_at(octets: &[u8]) -> Option<(LspEntry, usize)>
 
 /// Adds the sixteen octets of an entry.
 fn add_entry(draft: &mut Draft, entry: &LspEntry)
-    requires { length draft.old + length (entry_octets entry.now) ≤ 255 }
+    requires { length draft.old + 16 ≤ 255 }
     ensures added { draft.new ≡ draft.old ++ entry_octets entry.now }
+    ensures count { length draft.new ≡ length draft.old + 16 }
     ensures fits { IsEntry entry.now }
 {
     let LspId { node, number } = entry.id;
@@ -94,11 +94,12 @@ fn add_entry(draft: &mut Draft, entry: &LspEntry)
     draft.add(&entry.checksum.to_be_bytes());
 }
 
-/// Adds a TLV of code 9 with these entries. Its value has at most 255 octets. At `OutOfMemory` the list is as it was.
+/// Adds a TLV of code 9 with these entries, at most 15. At `OutOfMemory` the list is as it was.
 pub fn put_entries(out: &mut Octets, list: &[LspEntry]) -> Result<(), OutOfMemory>
-    requires { length (entry_value list.now) ≤ 255 }
+    requires { 16 * length list.now ≤ 255 }
     ensures ok { OnOk result (out.new ≡ out.old ++ entry_tlv list.now) }
     ensures err { OnErr result (out.new ≡ out.old) }
+    ensures sized { length (entry_value list.now) ≡ 16 * length list.now }
     ensures reads { entries_of (entry_value list.now) ≡ map (λ entry. Ok entry) list.now }
 {
     let mut draft = Draft::new();

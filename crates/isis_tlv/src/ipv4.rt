@@ -1,16 +1,16 @@
-ghost use Rattle.std.specs.Prelude.{◌≡◌, ◌≤◌, ◌++◌, length, OnOk, OnErr};
+ghost use Rattle.std.specs.Prelude.{◌≡◌, ◌≤◌, ◌*◌, ◌++◌, length, OnOk, OnErr};
 ghost use Rattle.isis_tlv.specs.Spelling.{address_value, address_tlv, protocol_tlv};
 
+use crate::draft::{Draft, put_tlv};
 use isis_base::{Octets, OutOfMemory};
 
-use crate::draft::{Draft, put_tlv};
-
-/// Adds a TLV of code 132 with these IPv4 addresses, each with its first octet the greatest. Its value has at most
-/// 255 octets. At `OutOfMemory` the list is as it was.
+/// Adds a TLV of code 132 with these IPv4 addresses, at most 63, each with its first octet the greatest. At
+/// `OutOfMemory` the list is as it was.
 pub fn put_addresses(out: &mut Octets, list: &[u32]) -> Result<(), OutOfMemory>
-    requires { length (address_value list.now) ≤ 255 }
+    requires { 4 * length list.now ≤ 255 }
     ensures ok { OnOk result (out.new ≡ out.old ++ address_tlv list.now) }
     ensures err { OnErr result (out.new ≡ out.old) }
+    ensures sized { length (address_value list.now) ≡ 4 * length list.now }
 {
     let mut draft = Draft::new();
     for address in list {

@@ -1,4 +1,4 @@
-ghost use Rattle.std.specs.Prelude.{◌≡◌, ℕ, ◌+◌, ◌^◌, ◌<◌, ◌≤◌, [], length, drop};
+ghost use Rattle.std.specs.Prelude.{◌≡◌, ◌+◌, ◌^◌, ◌<◌, ◌≤◌, ◌==◌, [], length, drop};
 
 /// The octets that a walk has left, and the place of the first of them.
 #[derive(Clone, Copy, Debug)]
@@ -9,6 +9,13 @@ pub(crate) struct Left<'a> {
 }
 
 impl<'a> Left<'a> {
+    /// Whether no octet is left.
+    pub(crate) fn is_done(&self) -> bool
+        ensures { result ≡ (length self.now.octets.now == 0) }
+    {
+        self.octets.is_empty()
+    }
+
     /// Goes past so many octets.
     pub(crate) fn pass(&mut self, count: usize)
         requires { count ≤ length self.old.octets.now }

@@ -12,6 +12,7 @@
 //! - `three_way.rt`: the value of code 240
 //! - `ipv4.rt`: codes 129 and 132, which are only written
 //! - `draft.rt`: a value while it is written
+//! - `laws.rt`: what follows for all octets: functions without a body, whose contracts are the laws
 #![tactic(auto)]
 
 mod area;
@@ -30,8 +31,8 @@ mod tlv;
 pub use area::{AreaItems, areas, put_areas};
 pub use entry::{EntryItems, entries, put_entries};
 pub use fault::ValueFault;
-pub use laws::{item_laws, tlv_laws, tlv_steps};
 pub use ipv4::{put_addresses, put_protocols};
+pub use laws::{item_laws, length_laws, tlv_laws, tlv_steps};
 pub use neighbour::{NeighbourItem, NeighbourItems, neighbours, put_neighbours};
 pub use prefix::{PrefixItem, PrefixItems, prefixes, put_prefixes};
 pub use snpa::{SnpaItems, put_snpas, snpas};

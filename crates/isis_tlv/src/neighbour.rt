@@ -1,15 +1,14 @@
-ghost use Rattle.std.specs.Prelude.{◌≡◌, ◌≤◌, ◌<◌, ◌^◌, ◌+◌, ◌++◌, All, map, length, Ok, OnOk, OnErr};
+ghost use Rattle.std.specs.Prelude.{◌≡◌, ◌≤◌, ◌<◌, ◌^◌, ◌+◌, ◌*◌, ◌++◌, All, map, length, Ok, OnOk, OnErr};
 ghost use Rattle.isis_tlv.specs.Items.{neighbour_at, neighbours_of};
 ghost use Rattle.isis_tlv.specs.Fits.{IsNeighbour};
 ghost use Rattle.isis_tlv.specs.Spelling.{neighbour_octets, neighbour_value, neighbour_tlv};
-
-use isis_base::{NodeId, Octets, OutOfMemory, SystemId};
-use std::marker::Model;
 
 use crate::draft::Draft;
 use crate::fault::ValueFault;
 use crate::laws::item_laws;
 use crate::left::Left;
+use isis_base::{NodeId, Octets, OutOfMemory, SystemId};
+use std::marker::Model;
 
 /// One neighbour of an extended IS reachability TLV (RFC 5305 3), and the metric to it. Three octets hold a metric
 /// up to 16,777,215.
@@ -58,7 +57,7 @@ impl<'a> Iterator for NeighbourItems<'a> {
     ghost remaining = { item_count (λ rest. rest) };
 
     fn next(&mut self) -> Option<Result<NeighbourItem, ValueFault>> {
-        if self.left.octets.is_empty() {
+        if self.left.is_done() {
             return None;
         }
         let Some((item, count)) = neighbour_at(self.left.octets) else {
@@ -90,9 +89,10 @@ fn neighbour_at(octets: &[u8]) -> Option<(NeighbourItem, usize)>
 
 /// Adds the eleven octets of a neighbour without sub-TLVs.
 fn add_neighbour(draft: &mut Draft, item: &NeighbourItem)
-    requires room { length draft.old + length (neighbour_octets item.now) ≤ 255 }
+    requires room { length draft.old + 11 ≤ 255 }
     requires metric { item.now.metric < 2 ^ 24 }
     ensures added { draft.new ≡ draft.old ++ neighbour_octets item.now }
+    ensures count { length draft.new ≡ length draft.old + 11 }
     ensures fits { IsNeighbour item.now }
 {
     let [_, a, b, c] = item.metric.to_be_bytes();
@@ -100,13 +100,14 @@ fn add_neighbour(draft: &mut Draft, item: &NeighbourItem)
     draft.add(&[item.node.pseudonode, a, b, c, 0]);
 }
 
-/// Adds a TLV of code 22 with these neighbours, without sub-TLVs. Its value has at most 255 octets, and a metric is
-/// at most 16,777,215. At `OutOfMemory` the list is as it was.
+/// Adds a TLV of code 22 with these neighbours, at most 23, without sub-TLVs. A metric is at most 16,777,215. At
+/// `OutOfMemory` the list is as it was.
 pub fn put_neighbours(out: &mut Octets, list: &[NeighbourItem]) -> Result<(), OutOfMemory>
-    requires fits { length (neighbour_value list.now) ≤ 255 }
+    requires fits { 11 * length list.now ≤ 255 }
     requires metrics { All (λ item. item.metric < 2 ^ 24) list.now }
     ensures ok { OnOk result (out.new ≡ out.old ++ neighbour_tlv list.now) }
     ensures err { OnErr result (out.new ≡ out.old) }
+    ensures sized { length (neighbour_value list.now) ≡ 11 * length list.now }
     ensures reads { neighbours_of (neighbour_value list.now) ≡ map (λ item. Ok item) list.now }
 {
     let mut draft = Draft::new();

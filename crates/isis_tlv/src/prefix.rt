@@ -6,13 +6,12 @@ ghost use Rattle.isis_tlv.specs.Items.{prefix_at, prefixes_of, cleared, octets_f
 ghost use Rattle.isis_tlv.specs.Fits.{IsPrefix};
 ghost use Rattle.isis_tlv.specs.Spelling.{prefix_octets, prefix_view, prefix_value, prefix_tlv};
 
-use isis_base::{Octets, OutOfMemory, Prefix};
-use std::marker::Model;
-
 use crate::draft::Draft;
 use crate::fault::ValueFault;
 use crate::laws::item_laws;
 use crate::left::Left;
+use isis_base::{Octets, OutOfMemory, Prefix};
+use std::marker::Model;
 
 /// One prefix of an extended IP reachability TLV (RFC 5305 4), the metric to it, and whether it was leaked down.
 #[derive(Clone, Copy, Debug, PartialEq, Eq)]
@@ -62,7 +61,7 @@ impl<'a> Iterator for PrefixItems<'a> {
     ghost remaining = { item_count (λ rest. rest) };
 
     fn next(&mut self) -> Option<Result<PrefixItem, ValueFault>> {
-        if self.left.octets.is_empty() {
+        if self.left.is_done() {
             return None;
         }
         let Some((item, count)) = prefix_at(self.left.octets) else {
@@ -142,6 +141,7 @@ fn subs_at(control: u8, place: usize, octets: &[u8]) -> usize
 }
 
 /// The prefix of so many bits that these octets hold. Bits past its length are read as 0.
+#[tactic(auto, using(crate::proofs::BitLemmas::cleared_mod))]
 fn prefix_of(held: &[u8], bits: u8) -> Prefix
     requires bits { bits ≤ 32 }
     requires held { length held.now ≤ 4 }

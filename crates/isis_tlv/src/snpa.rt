@@ -1,15 +1,14 @@
-ghost use Rattle.std.specs.Prelude.{◌≡◌, ◌≤◌, ◌+◌, ◌++◌, map, length, Ok, OnOk, OnErr};
+ghost use Rattle.std.specs.Prelude.{◌≡◌, ◌≤◌, ◌+◌, ◌*◌, ◌++◌, map, length, Ok, OnOk, OnErr};
 ghost use Rattle.isis_tlv.specs.Items.{snpa_at, snpas_of};
 ghost use Rattle.isis_tlv.specs.Fits.{IsSnpa};
 ghost use Rattle.isis_tlv.specs.Spelling.{snpa_value, snpa_tlv};
-
-use isis_base::{Octets, OutOfMemory, Snpa};
-use std::marker::Model;
 
 use crate::draft::Draft;
 use crate::fault::ValueFault;
 use crate::laws::item_laws;
 use crate::left::Left;
+use isis_base::{Octets, OutOfMemory, Snpa};
+use std::marker::Model;
 
 /// The SNPAs of a value of code 6 (ISO 10589 9.5), in order. A fault is the last item. Contracts see what is left.
 #[derive(Debug, Drop)]
@@ -49,7 +48,7 @@ impl<'a> Iterator for SnpaItems<'a> {
     ghost remaining = { item_count (λ rest. rest) };
 
     fn next(&mut self) -> Option<Result<Snpa, ValueFault>> {
-        if self.left.octets.is_empty() {
+        if self.left.is_done() {
             return None;
         }
         let Some((snpa, count)) = snpa_at(self.left.octets) else {
@@ -71,18 +70,20 @@ fn snpa_at(octets: &[u8]) -> Option<(Snpa, usize)>
 
 /// Adds the six octets of an SNPA.
 fn add_snpa(draft: &mut Draft, snpa: &Snpa)
-    requires { length draft.old + length snpa.now.0 ≤ 255 }
+    requires { length draft.old + 6 ≤ 255 }
     ensures added { draft.new ≡ draft.old ++ snpa.now.0 }
+    ensures count { length draft.new ≡ length draft.old + 6 }
     ensures fits { IsSnpa snpa.now }
 {
     draft.add(&snpa.0);
 }
 
-/// Adds a TLV of code 6 with these SNPAs. Its value has at most 255 octets. At `OutOfMemory` the list is as it was.
+/// Adds a TLV of code 6 with these SNPAs, at most 42. At `OutOfMemory` the list is as it was.
 pub fn put_snpas(out: &mut Octets, list: &[Snpa]) -> Result<(), OutOfMemory>
-    requires { length (snpa_value list.now) ≤ 255 }
+    requires { 6 * length list.now ≤ 255 }
     ensures ok { OnOk result (out.new ≡ out.old ++ snpa_tlv list.now) }
     ensures err { OnErr result (out.new ≡ out.old) }
+    ensures sized { length (snpa_value list.now) ≡ 6 * length list.now }
     ensures reads { snpas_of (snpa_value list.now) ≡ map (λ snpa. Ok snpa) list.now }
 {
     let mut draft = Draft::new();

@@ -82,11 +82,16 @@ fn say_number(text: &mut String, number: u64) -> Result<(), AllocError> {
 }
 
 fn number(octets: &[u8]) -> u64 {
-    octets.iter().fold(0u64, |n, octet| n.wrapping_mul(256).wrapping_add(u64::from(*octet)))
+    octets.iter().fold(
+        0u64,
+        |n, octet| n.wrapping_mul(256).wrapping_add(u64::from(*octet)),
+    )
 }
 
 fn node_number(node: NodeId) -> u64 {
-    number(&node.system.0).wrapping_mul(256).wrapping_add(u64::from(node.pseudonode))
+    number(&node.system.0)
+        .wrapping_mul(256)
+        .wrapping_add(u64::from(node.pseudonode))
 }
 
 impl Says for AreaAddress {
@@ -150,7 +155,10 @@ impl Says for ThreeWay {
     }
 }
 
-fn say_item<T: Says + Drop>(text: &mut String, item: Result<T, ValueFault>) -> Result<(), AllocError> {
+fn say_item<T: Says + Drop>(
+    text: &mut String,
+    item: Result<T, ValueFault>,
+) -> Result<(), AllocError> {
     match item {
         Ok(item) => item.say(text),
         Err(fault) => {
@@ -255,7 +263,9 @@ fn first_of(octets: &[u8], code: u8) -> Option<Tlv<'_>>
 }
 
 /// How many items a value has before its end or its fault, and the fault's place.
-fn tally<T: Drop, I: Iterator<Item = Result<T, ValueFault>> + Drop>(items: I) -> (usize, Option<usize>)
+fn tally<T: Drop, I: Iterator<Item = Result<T, ValueFault>> + Drop>(
+    items: I,
+) -> (usize, Option<usize>)
     requires can { I.can_next items }
     requires ends { IsFinite (I.remaining items) }
 {
@@ -285,7 +295,11 @@ fn cut_values_end_in_a_fault(rt: HostRuntime) -> Result<(), Fail> {
     // The places where the items end.
     let rows = [
         (1, "03490001034900020547000580ff", [4, 8, 14].as_slice()),
-        (6, "00aabbccddeeffffffffffff000000000002", [6, 12, 18].as_slice()),
+        (
+            6,
+            "00aabbccddeeffffffffffff000000000002",
+            [6, 12, 18].as_slice(),
+        ),
         (
             9,
             "04b01921680010010203ffffffffffff0000ffffffffffffffff000000070000",
@@ -296,15 +310,28 @@ fn cut_values_end_in_a_fault(rt: HostRuntime) -> Result<(), Fail> {
             "000000000002000000640c0604c0a800010804c0a800020000000000030001000000",
             [23, 34].as_slice(),
         ),
-        (135, "0000001e4a0a400000000001080a0000001400", [8, 14, 19].as_slice()),
+        (
+            135,
+            "0000001e4a0a400000000001080a0000001400",
+            [8, 14, 19].as_slice(),
+        ),
     ];
     for (code, hex, ends) in rows {
         let value = octets_of(alloc, hex)?;
         for len in 0..=value.len() {
             let whole = ends.iter().filter(|end| **end <= len).count();
-            let last = ends.iter().copied().filter(|end| *end <= len).max().unwrap_or(0);
+            let last = ends
+                .iter()
+                .copied()
+                .filter(|end| *end <= len)
+                .max()
+                .unwrap_or(0);
             let fault = if last == len { None } else { Some(last) };
-            assert_eq!(rt; tally_of(code, &value[..len]), (whole, fault), "code {code} cut at {len}");
+            assert_eq!(rt;
+                tally_of(code, &value[..len]),
+                (whole, fault),
+                "code {code} cut at {len}"
+            );
         }
     }
     Ok(())
@@ -336,7 +363,12 @@ fn tlvs_stand_where_they_say(rt: HostRuntime) -> Result<(), Fail> {
     for len in 0..=38usize {
         let octets = &body[..len];
         let whole = ends.iter().filter(|end| **end <= 27 + len).count();
-        let place = ends.iter().copied().filter(|end| *end <= 27 + len).max().unwrap_or(27);
+        let place = ends
+            .iter()
+            .copied()
+            .filter(|end| *end <= 27 + len)
+            .max()
+            .unwrap_or(27);
         let fault = match (27 + len).saturating_sub(place) {
             0 => None,
             1 => Some(TlvFault::Header { place }),
@@ -414,7 +446,13 @@ fn prefixes_are_put_in_as_few_octets_as_hold_them(rt: HostRuntime) -> Result<(),
         (0xc0a8_0100, 24, 10, false, "87080000000a18c0a801"),
         (0xc0a8_0101, 32, 0, false, "87090000000020c0a80101"),
         (0xac10_0000, 12, u32::MAX, false, "8707ffffffff0cac10"),
-        (0x0a01_0280, 25, 4_261_412_864, true, "8709fe000000990a010280"),
+        (
+            0x0a01_0280,
+            25,
+            4_261_412_864,
+            true,
+            "8709fe000000990a010280",
+        ),
     ];
     for (address, length, metric, down, hex) in rows {
         let prefix = Prefix::new(address, length).ok_or("a prefix")?;
@@ -437,7 +475,12 @@ fn three_way_is_put_as_it_was_packed(rt: HostRuntime) -> Result<(), Fail> {
     let rows = [
         (Adj::Up, None, None, "f00100"),
         (Adj::Initializing, Some(u32::MAX), None, "f00501ffffffff"),
-        (Adj::Up, Some(257), heard, "f00f000000010100000000000200000201"),
+        (
+            Adj::Up,
+            Some(257),
+            heard,
+            "f00f000000010100000000000200000201",
+        ),
     ];
     for (state, own_id, neighbour, hex) in rows {
         let value = ThreeWay {

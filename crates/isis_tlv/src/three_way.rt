@@ -2,11 +2,10 @@ ghost use Rattle.std.specs.Prelude.{◌≡◌, ◌≤◌, ◌++◌, length, IsSo
 ghost use Rattle.isis_tlv.specs.Items.{three_way_of};
 ghost use Rattle.isis_tlv.specs.Spelling.{state_octet, three_way_octets, three_way_tlv};
 
-use isis_base::{Octets, OutOfMemory, SystemId};
-
 use crate::draft::Draft;
 use crate::fault::ValueFault;
 use crate::laws::item_laws;
+use isis_base::{Octets, OutOfMemory, SystemId};
 
 /// The state of a point-to-point adjacency (RFC 5303 3).
 #[derive(Clone, Copy, Debug, PartialEq, Eq)]
@@ -36,7 +35,11 @@ pub fn three_way_value(value: &[u8]) -> Result<ThreeWay, ValueFault>
         [state, a, b, c, d, s, t, u, v, w, x, e, f, g, h] => {
             let system = SystemId([*s, *t, *u, *v, *w, *x]);
             let id = u32::from_be_bytes([*e, *f, *g, *h]);
-            (*state, Some(u32::from_be_bytes([*a, *b, *c, *d])), Some((system, id)))
+            (
+                *state,
+                Some(u32::from_be_bytes([*a, *b, *c, *d])),
+                Some((system, id)),
+            )
         }
         _ => return Err(fault),
     };

@@ -2,11 +2,10 @@ ghost use Rattle.std.specs.Prelude.{◌≡◌, ◌+◌, ◌^◌, ◌<◌, ◌≤
 ghost use Rattle.isis_tlv.specs.Tlvs.{tlv_at, tlvs_of};
 ghost use Rattle.isis_tlv.specs.TlvViews.{found_view};
 
+use crate::left::Left;
 use std::error::Error;
 use std::fmt;
 use std::marker::Model;
-
-use crate::left::Left;
 
 /// One TLV (ISO 10589 9.5). `place` is that of its code; the value begins two octets later.
 #[derive(Clone, Copy, Debug, PartialEq, Eq)]
@@ -29,7 +28,10 @@ impl fmt::Display for TlvFault {
     fn fmt<W: fmt::Write>(&self, f: &mut fmt::Formatter<W>) -> fmt::Result {
         match self {
             TlvFault::Header { place } => write!(f, "the TLV at octet {place} has no length"),
-            TlvFault::Past { place } => write!(f, "the value of the TLV at octet {place} passes the end"),
+            TlvFault::Past { place } => write!(
+                f,
+                "the value of the TLV at octet {place} passes the end"
+            ),
         }
     }
 }
@@ -77,7 +79,7 @@ impl<'a> Iterator for Tlvs<'a> {
     ghost remaining = { item_count (λ rest. rest) };
 
     fn next(&mut self) -> Option<Result<Tlv<'a>, TlvFault>> {
-        if self.left.octets.is_empty() {
+        if self.left.is_done() {
             return None;
         }
         match tlv_at(self.left) {

@@ -1,4 +1,4 @@
-use Rattle.std.proofs.Common.{◌≡◌, ◌++◌, drop, take}
+use Rattle.std.proofs.Common.{◌≡◌, ◌*◌, ◌++◌, length, drop, take}
 use Rattle.std.specs.List.{AllByRecursion}
 use Rattle.isis_tlv.specs.Spelling.{snpa_value}
 use Rattle.isis_tlv.specs.Fits.{IsSnpa}
@@ -9,4 +9,5 @@ abbrev pub invariant-loop-snpa : goal.invariant-loop-snpa
 invariant-loop-snpa l = record {
   whole : l.draft ++ snpa_value (drop l.snpa-index l.list) ≡ snpa_value l.list;
   fits : AllByRecursion IsSnpa (take l.snpa-index l.list);
+  count : length l.draft ≡ 6 * l.snpa-index;
 }

@@ -4,20 +4,20 @@ use Rattle.isis_tlv.proofs.WalkLemmas.{values-end, values-item, values-fault}
 use Rattle.isis_tlv.proofs.SizeLemmas.{area-some}
 use Rattle.isis_tlv.proofs.area.AreaItemsIterator.next.Goals as goal
 
-pub returns-then-is_empty-clause-steps : goal.returns-then-is_empty-clause-steps
-returns-then-is_empty-clause-steps c =
-    let none = values-end area_at area-some _ _ _ c.self.view_is c.if-is_empty.ensures in (none, none)
+pub returns-then-is_done-clause-steps : goal.returns-then-is_done-clause-steps
+returns-then-is_done-clause-steps c =
+    let none = values-end area_at area-some _ _ _ c.self.view_is c.if-is_done.ensures in (none, none)
 
 pub returns-in_default-clause-steps : goal.returns-in_default-clause-steps
 returns-in_default-clause-steps c =
-    values-fault area_at area-some _ _ _ _ c.stop-place.new.self.place _ c.self.view_is c.if-is_empty.ensures c.in_default.ensures c.stop-place.ensures.octets c.stop-place.ensures.place
+    values-fault area_at area-some _ _ _ _ c.stop-place.new.self.place _ c.self.view_is c.if-is_done.ensures c.in_default.ensures c.stop-place.ensures.octets c.stop-place.ensures.place
 
 pub returns-in_default-clause-goes : goal.returns-in_default-clause-goes
 returns-in_default-clause-goes c = let steps = returns-in_default-clause-steps c in search rules
 
 pub returns-clause-steps : goal.returns-clause-steps
 returns-clause-steps c =
-    values-item area_at area-some _ _ _ _ _ _ _ c.self.view_is c.if-is_empty.ensures c.in-Some.ensures c.pass.ensures.octets c.pass.ensures.place
+    values-item area_at area-some _ _ _ _ _ _ _ c.self.view_is c.if-is_done.ensures c.in-Some.ensures c.pass.ensures.octets c.pass.ensures.place
 
 pub returns-clause-goes : goal.returns-clause-goes
 returns-clause-goes c = let steps = returns-clause-steps c in search rules
