@@ -1,4 +1,4 @@
-use Rattle.std.proofs.Common.{◌≡◌, ◌∙◌, ℕ, ◌+◌, ◌-◌, ◌*◌, ◌%◌, ◌<◌, ◌≤◌, List, ◌++◌, length, take, drop, replicate, get_or, Bool, true, false, cond, eqb, ◌&&◌, ◌||◌, Option, Some, None, Result, Ok, Err, refl, sym, ap, subst, arith}
+use Rattle.std.proofs.Common.{◌≡◌, ◌∙◌, ℕ, ◌+◌, ◌-◌, ◌*◌, ◌%◌, ◌≤◌, List, ◌++◌, length, take, drop, replicate, Bool, true, cond, eqb, ◌&&◌, ◌||◌, Some, None, Ok, sym, ap, subst, arith}
 use Rattle.std.specs.Prelude.{find}
 use Rattle.std.specs.List.{list_any}
 use Rattle.std.proofs.lemmas.List.{take-append-drop, drop-drop, drop_at, length-take-le}
@@ -6,7 +6,6 @@ use borrow.Rule.Slice.PartMut.{put_mid}
 use Rattle.isis_tlv.specs.Walks.{fault_of}
 use Rattle.isis_tlv.specs.Tlvs.{tlvs_of, tlv_list}
 use Rattle.isis_tlv.proofs.TlvLemmas.{fault-anywhere}
-use Rattle.hmac_auth.specs.declared.fault.AuthFault.{AuthFault}
 use Rattle.hmac_auth.specs.declared.fault.AuthFault.TheVariants.{PurgeBody, Wrong}
 use Rattle.hmac_auth.specs.Hmac.{hmac}
 use Rattle.hmac_auth.specs.Pdus.{IsPdu, pdu_type, header_length, is_lsp, is_purge, with_piece, zeroed, blanked}

@@ -9,6 +9,7 @@ const BLOCK: usize = 64;
 
 /// What each octet of the key's block is exclusive-or, in the inner and in the outer hash.
 const INNER: u8 = 0x36;
+
 const OUTER: u8 = 0x5c;
 
 /// HMAC-MD5 of the message under the key (RFC 2104 2). A key and a message of any length are good.

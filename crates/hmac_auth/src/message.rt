@@ -10,13 +10,18 @@ pub(crate) const DIGEST: usize = 16;
 /// The types of LSPs, and where an LSP has its remaining lifetime and its checksum, of two octets each
 /// (ISO 10589 9).
 const L1_LSP: u8 = 18;
+
 const L2_LSP: u8 = 20;
+
 const LIFETIME: usize = 10;
+
 const CHECKSUM: usize = 24;
 
 /// What the message has in the place of a digest, a remaining lifetime and a checksum.
 const NO_DIGEST: [u8; DIGEST] = [0; DIGEST];
+
 const NO_LIFETIME: [u8; 2] = [0; 2];
+
 const NO_CHECKSUM: [u8; 2] = [0; 2];
 
 /// Whether this is an LSP: its type is the low five bits of the octet at 4.
