@@ -27,7 +27,7 @@ HasDigest key pdu place = take 16 (drop place pdu) ≡ hmac key (blanked pdu pla
 abbrev pub HasPurgeBody : List ℕ → ℕ → Type 0
 HasPurgeBody pdu header = IsTrue (is_purge pdu) × Any (λ tlv. tlv.code ≢ 10) (pdu_tlvs pdu header)
 
--- the PDU is from one who has the key (RFC 5304 2)
+-- its first TLV of code 10 has the digest of the PDU under the key, and it is no purge with a body (RFC 5304 2)
 abbrev pub IsAuthentic : List ℕ → List ℕ → ℕ → Type 0
 IsAuthentic key pdu header =
     IsSomeAnd (auth_tlv pdu header) (λ tlv. IsHmac tlv × HasDigest key pdu (tlv.place + 3)) × ¬ HasPurgeBody pdu header
