@@ -3,8 +3,8 @@ use Rattle.std.specs.Prelude.{Any, IsSomeAnd, IsOk}
 use Rattle.std.specs.List.{list_any}
 use Rattle.std.specs.Result.{result_err}
 use Rattle.std.specs.Bool.{Decides}
-use Rattle.std.proofs.lemmas.Bool.{eqb-true, eqb-false, ne_eqb, not-true, not_from_false, false_from_ne_true}
-use Rattle.std.proofs.lemmas.Bool.Decides.{Decides-and, Decides-like, Decides-eqb}
+use Rattle.std.proofs.lemmas.Bool.{eqb-false, ne_eqb, not-true, not_from_false, false_from_ne_true}
+use Rattle.std.proofs.lemmas.Bool.Decides.{Decides-and, Decides-eqb}
 use Rattle.std.proofs.lemmas.List.Folds.{Any-from_list_any, list_any-from_Any}
 use Rattle.std.proofs.lemmas.Slice.Eq.{bytes_eq-Decides}
 use Rattle.isis_tlv.specs.Tlvs.{TlvView}
@@ -22,11 +22,12 @@ hmac-Decides : (tlv : TlvView) → Decides (hmac_test tlv) (IsHmac tlv)
 hmac-Decides tlv = Decides-and _ _ (Decides-eqb (length tlv.value) 17) (Decides-eqb (get_or tlv.value 0 0) 54)
 
 others-Decides : (tlvs : List TlvView) → Decides (list_any (λ tlv. not (eqb tlv.code 10)) tlvs) (Any (λ tlv. tlv.code ≢ 10) tlvs)
-others-Decides tlvs =
-    ( (λ some. let (k, tlv, within, at, other) = Any-from_list_any (λ (tlv : TlvView). not (eqb tlv.code 10)) tlvs some in
-        (k, tlv, within, at, eqb-false tlv.code 10 (not-true _ other)))
-    , (λ (k, tlv, within, at, other). list_any-from_Any (λ (tlv : TlvView). not (eqb tlv.code 10)) tlvs
-        (k, tlv, within, at, not_from_false _ (ne_eqb tlv.code 10 other))) )
+others-Decides tlvs = (
+  (λ some. let (k, tlv, within, at, other) = Any-from_list_any (λ (tlv : TlvView). not (eqb tlv.code 10)) tlvs some in
+      (k, tlv, within, at, eqb-false tlv.code 10 (not-true _ other))),
+  (λ (k, tlv, within, at, other). list_any-from_Any (λ (tlv : TlvView). not (eqb tlv.code 10)) tlvs
+      (k, tlv, within, at, not_from_false _ (ne_eqb tlv.code 10 other))),
+)
 
 body-Decides : (pdu : List ℕ) (header : ℕ) → Decides (has_purge_body pdu header) (HasPurgeBody pdu header)
 unfolding has_purge_body
@@ -94,12 +95,12 @@ module _ (key pdu : List ℕ) (header : ℕ) where
       let body = body-Decides pdu header in
       let digest = digest-Decides key pdu (tlv.place + 3) in
       elim (hmac_test tlv) as (λ t. hmac_test tlv ≡ t → Case (fault_of (Some tlv))) [
-        false ↦ λ et. subst Case (sym (fault-some tlv false _ _ et refl refl)) (subst (λ (o : Option TlvView). IsSomeAnd o (λ it. ¬ IsHmac it)) (sym is) (λ h. cc))
-      | true ↦ λ et. elim (has_purge_body pdu header) as (λ b. has_purge_body pdu header ≡ b → Case (fault_of (Some tlv))) [
-          true ↦ λ eb. subst Case (sym (fault-some tlv true true _ et eb refl)) (subst (λ (o : Option TlvView). IsSomeAnd o IsHmac) (sym is) (test.0 et), body.0 eb)
-        | false ↦ λ eb. elim (has_digest key pdu (tlv.place + 3)) as (λ d. has_digest key pdu (tlv.place + 3) ≡ d → Case (fault_of (Some tlv))) [
-            true ↦ λ ed. subst Case (sym (fault-some tlv true false true et eb ed)) (subst (λ (o : Option TlvView). IsSomeAnd o (λ it. IsHmac it × HasDigest key pdu (it.place + 3))) (sym is) (test.0 et, digest.0 ed), λ h. let yes_b = body.1 h in cc)
-          | false ↦ λ ed. subst Case (sym (fault-some tlv true false false et eb ed)) (subst (λ (o : Option TlvView). IsSomeAnd o (λ it. IsHmac it × ¬ HasDigest key pdu (it.place + 3))) (sym is) (test.0 et, λ h. let yes_d = digest.1 h in cc), λ h. let yes_b = body.1 h in cc)
+        | false ↦ λ et. subst Case (sym (fault-some tlv false _ _ et refl refl)) (subst (λ (o : Option TlvView). IsSomeAnd o (λ it. ¬ IsHmac it)) (sym is) (λ h. cc))
+        | true ↦ λ et. elim (has_purge_body pdu header) as (λ b. has_purge_body pdu header ≡ b → Case (fault_of (Some tlv))) [
+          | true ↦ λ eb. subst Case (sym (fault-some tlv true true _ et eb refl)) (subst (λ (o : Option TlvView). IsSomeAnd o IsHmac) (sym is) (test.0 et), body.0 eb)
+          | false ↦ λ eb. elim (has_digest key pdu (tlv.place + 3)) as (λ d. has_digest key pdu (tlv.place + 3) ≡ d → Case (fault_of (Some tlv))) [
+            | true ↦ λ ed. subst Case (sym (fault-some tlv true false true et eb ed)) (subst (λ (o : Option TlvView). IsSomeAnd o (λ it. IsHmac it × HasDigest key pdu (it.place + 3))) (sym is) (test.0 et, digest.0 ed), λ h. let yes_b = body.1 h in cc)
+            | false ↦ λ ed. subst Case (sym (fault-some tlv true false false et eb ed)) (subst (λ (o : Option TlvView). IsSomeAnd o (λ it. IsHmac it × ¬ HasDigest key pdu (it.place + 3))) (sym is) (test.0 et, λ h. let yes_d = digest.1 h in cc), λ h. let yes_b = body.1 h in cc)
           ] refl
         ] refl
       ] refl
@@ -122,11 +123,13 @@ module _ (key pdu : List ℕ) (header : ℕ) where
     none-is (Err other) e = cc
 
     pub cause-iff : (fault : AuthFault) → (result ≡ Err fault) ↔ AuthCause key pdu header fault
-    cause-iff fault =
-        ( (λ is. subst Case (sym value ∙ ap result_err is) case-of_fault)
-        , (λ h. err-is fault result (value ∙ fault-from_cause fault h)) )
+    cause-iff fault = (
+      (λ is. subst Case (sym value ∙ ap result_err is) case-of_fault),
+      (λ h. err-is fault result (value ∙ fault-from_cause fault h)),
+    )
 
     pub ok-iff : IsOk result ↔ IsAuthentic key pdu header
-    ok-iff =
-        ( (λ is. subst Case (sym value ∙ none-is result is) case-of_fault)
-        , (λ h. ok-is result (value ∙ none-from_authentic h)) )
+    ok-iff = (
+      (λ is. subst Case (sym value ∙ none-is result is) case-of_fault),
+      (λ h. ok-is result (value ∙ none-from_authentic h)),
+    )

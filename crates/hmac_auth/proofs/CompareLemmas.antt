@@ -17,8 +17,8 @@ or-none a b none =
 xor-none : (a b : ℕ) → bit_xor a b ≡ 0 → a ≡ b
 xor-none a b none =
     same_from_bits a b (λ i.
-      let both = sym (bit_at_xor a b i) ∙ ap (λ (n : ℕ). bit_at n i) none ∙ bit_at-zero i in
-      omega (arith, both, bit_at-lt a i, bit_at-lt b i))
+    let both = sym (bit_at_xor a b i) ∙ ap (λ (n : ℕ). bit_at n i) none ∙ bit_at-zero i in
+    omega (arith, both, bit_at-lt a i, bit_at-lt b i))
 
 none-differs : (d a : ℕ) → d ≡ 0 → bit_or d (bit_xor a a) ≡ 0
 none-differs d a e = ap (bit_or d) (xor_self a) ∙ or_zero_r d ∙ e
@@ -26,11 +26,11 @@ none-differs d a e = ap (bit_or d) (xor_self a) ∙ or_zero_r d ∙ e
 differing-step : (d a b : ℕ) → eqb (bit_or d (bit_xor a b)) 0 ≡ (eqb d 0 && eqb a b)
 differing-step d a b =
     same_from_decides _ _
-      (Decides-like (eqb (bit_or d (bit_xor a b)) 0)
-        (λ none. let both = or-none d (bit_xor a b) none in (both.0, xor-none a b both.1))
-        (λ (none, same). subst (λ (x : ℕ). bit_or d (bit_xor a x) ≡ 0) same (none-differs d a none))
-        (Decides-eqb (bit_or d (bit_xor a b)) 0))
-      (Decides-and (eqb d 0) (eqb a b) (Decides-eqb d 0) (Decides-eqb a b))
+    (Decides-like (eqb (bit_or d (bit_xor a b)) 0)
+    (λ none. let both = or-none d (bit_xor a b) none in (both.0, xor-none a b both.1))
+    (λ (none, same). subst (λ (x : ℕ). bit_or d (bit_xor a x) ≡ 0) same (none-differs d a none))
+    (Decides-eqb (bit_or d (bit_xor a b)) 0))
+    (Decides-and (eqb d 0) (eqb a b) (Decides-eqb d 0) (Decides-eqb a b))
 
 -- one octet more on each side
 pub same-more : (d a b : ℕ) (xs ys rest_a rest_b : List ℕ) (whole : Bool) → xs ≡ a ∷ rest_a → ys ≡ b ∷ rest_b → (eqb d 0 && bytes_eq xs ys) ≡ whole → (eqb (bit_or d (bit_xor a b)) 0 && bytes_eq rest_a rest_b) ≡ whole

@@ -1,6 +1,5 @@
-use Rattle.std.proofs.Common.{◌≡◌, ◌∙◌, ℕ, ◌+◌, ◌-◌, ◌<◌, ◌≤◌, List, [], ◌∷◌, ◌++◌, length, take, drop, replicate, get_or, Bool, true, false, cond, refl, sym, ap, arith, append_assoc, append-nil}
-use Rattle.std.specs.Prelude.{IsTrue}
-use Rattle.std.proofs.lemmas.List.{take-take, take-append-le, drop-append-le, drop-take, take_rest, length-take-le, length-replicate}
+use Rattle.std.proofs.Common.{◌≡◌, ◌∙◌, ℕ, ◌+◌, ◌-◌, ◌≤◌, List, [], ◌++◌, length, take, drop, replicate, Bool, true, false, cond, sym, ap, arith, append-nil}
+use Rattle.std.proofs.lemmas.List.{take-take, take-append-le, drop-append-le, drop-take, take_rest, length-take-le}
 use Rattle.hmac_auth.specs.Pdus.{is_lsp, with_piece, zeroed, blanked}
 
 -- octets written into the front of a list
@@ -10,9 +9,9 @@ with_piece-front place n piece xs ys end within =
     let size : place + length piece + (n - (place + length piece)) ≡ n = omega arith in
     let front : take place (take n xs ++ ys) ≡ take place xs = take-append-le place (take n xs) ys (omega arith) ∙ take-take place n xs (omega arith) in
     let back : drop (place + length piece) (take n xs ++ ys) ≡ take (n - (place + length piece)) (drop (place + length piece) xs) ++ ys =
-        drop-append-le (place + length piece) (take n xs) ys (omega arith)
-        ∙ ap (λ (m : ℕ). drop (place + length piece) (take m xs) ++ ys) (sym size)
-        ∙ ap (λ (zs : List ℕ). zs ++ ys) (drop-take (place + length piece) (n - (place + length piece)) xs) in
+    drop-append-le (place + length piece) (take n xs) ys (omega arith)
+    ∙ ap (λ (m : ℕ). drop (place + length piece) (take m xs) ++ ys) (sym size)
+    ∙ ap (λ (zs : List ℕ). zs ++ ys) (drop-take (place + length piece) (n - (place + length piece)) xs) in
     λ i. front i ++ (piece ++ back i)
 
 -- the pieces of the message of a PDU that is no LSP

@@ -1,4 +1,4 @@
-use Rattle.std.proofs.Common.{◌≡◌, ◌∙◌, ℕ, ◌+◌, ◌%◌, ◌<◌, ◌≤◌, List, length, get_or, Bool, true, false, cond, eqb, ◌||◌, ⊎_elim, ◌⊎◌, inl, inr, Option, Some, None, refl, sym, ap, arith}
+use Rattle.std.proofs.Common.{◌≡◌, ℕ, ◌+◌, ◌≤◌, List, Bool, true, false, cond, eqb, ◌||◌, ⊎_elim, ◌⊎◌, inl, inr, Some, None, ap, arith}
 use Rattle.std.proofs.lemmas.Bool.{eqb-true, or_cases}
 use Rattle.hmac_auth.specs.Pdus.{pdu_type, header_length, IsPdu, is_lsp}
 

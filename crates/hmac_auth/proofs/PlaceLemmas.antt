@@ -1,11 +1,10 @@
-use Rattle.std.proofs.Common.{◌≡◌, ◌∙◌, ℕ, ◌+◌, ◌-◌, ◌≤◌, List, [], ◌∷◌, length, drop, get_or, Bool, true, false, cond, eqb, ◌&&◌, Option, Some, None, Result, Ok, Err, refl, sym, ap, subst, arith, length-drop}
+use Rattle.std.proofs.Common.{◌≡◌, ℕ, ◌+◌, ◌≤◌, List, [], ◌∷◌, length, drop, get_or, Bool, true, false, cond, eqb, ◌&&◌, Option, Some, None, Ok, Err, refl, sym, subst, arith, length-drop}
 use Rattle.std.specs.Prelude.{find}
 use Rattle.std.specs.List.{AllByRecursion}
 use Rattle.std.proofs.lemmas.Bool.{and_parts, eqb-true}
 use Rattle.isis_tlv.specs.Tlvs.{TlvView, StandsIn, tlv_list}
 use Rattle.isis_tlv.proofs.TlvLemmas.{tlvs-stand}
-use Rattle.hmac_auth.specs.declared.fault.AuthFault.{AuthFault}
-use Rattle.hmac_auth.specs.declared.fault.AuthFault.TheVariants.{Missing, OtherType}
+use Rattle.hmac_auth.specs.declared.fault.AuthFault.TheVariants.{OtherType}
 use Rattle.hmac_auth.specs.Auth.{auth_tlv, place_in, digest_place}
 
 -- what holds of each item holds of the one that is found
@@ -13,8 +12,8 @@ found-all : {X : Type 0} (P : X → Type 0) (test : X → Bool) (items : List X)
 found-all P test [] item all is = cc
 found-all P test (first ∷ items) item all is =
     elim (test first) as (λ t. cond t (Some first) (find test items) ≡ Some item → P item) [
-      true ↦ λ e. let same : first ≡ item = cc in subst P same all.0
-    | false ↦ λ e. found-all P test items item all.1 e
+      | true ↦ λ e. let same : first ≡ item = cc in subst P same all.0
+      | false ↦ λ e. found-all P test items item all.1 e
     ] is
 
 abbrev pub is_auth : TlvView → Bool
@@ -44,19 +43,19 @@ within-found place digest octets None stands is = cc
 within-found place digest octets (Some tlv) stands is =
     let s = stands tlv refl in
     elim (eqb (length tlv.value) 17 && eqb (get_or tlv.value 0 0) 54) as (λ t. eqb (length tlv.value) 17 && eqb (get_or tlv.value 0 0) 54 ≡ t → cond t (Ok (tlv.place + 3)) (Err OtherType) ≡ Ok digest → Within place octets digest) [
-      true ↦ λ hmac e.
-        let size = eqb-true (length tlv.value) 17 (and_parts _ _ hmac).0 in
-        let same : tlv.place + 3 ≡ digest = cc in
-        let from = s.from in
-        let within = s.within in
-        record { behind = omega arith; within = omega arith }
-    | false ↦ λ hmac e. cc
+      | true ↦ λ hmac e.
+          let size = eqb-true (length tlv.value) 17 (and_parts _ _ hmac).0 in
+          let same : tlv.place + 3 ≡ digest = cc in
+          let from = s.from in
+          let within = s.within in
+          record { behind = omega arith; within = omega arith }
+      | false ↦ λ hmac e. cc
     ] refl is
 
 pub place-within : (place digest : ℕ) (octets : List ℕ) → place_in (find is_auth (tlv_list place octets)) ≡ Ok digest → Within place octets digest
 place-within place digest octets is =
     within-found place digest octets (find is_auth (tlv_list place octets))
-      (λ tlv found. found-all (StandsIn place octets) is_auth (tlv_list place octets) tlv (tlvs-stand octets place) found) is
+    (λ tlv found. found-all (StandsIn place octets) is_auth (tlv_list place octets) tlv (tlvs-stand octets place) found) is
 
 -- the same in a PDU
 pub digest-within : (pdu : List ℕ) (header digest : ℕ) → header ≤ length pdu → digest_place pdu header ≡ Ok digest → (header + 3 ≤ digest) × (digest + 16 ≤ length pdu)

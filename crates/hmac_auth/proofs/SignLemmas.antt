@@ -1,4 +1,4 @@
-use Rattle.std.proofs.Common.{◌≡◌, ◌∙◌, ℕ, ◌+◌, ◌-◌, ◌<◌, ◌≤◌, List, [], ◌∷◌, ◌++◌, length, take, drop, replicate, get_or, Bool, true, false, cond, not, eqb, ◌&&◌, ◌||◌, Option, Some, None, Result, Ok, Err, refl, sym, ap, subst, arith, append_assoc, length-append, length-drop}
+use Rattle.std.proofs.Common.{◌≡◌, ◌∙◌, ℕ, ◌+◌, ◌-◌, ◌<◌, ◌≤◌, List, [], ◌∷◌, ◌++◌, length, take, drop, get_or, Bool, true, false, cond, not, eqb, ◌&&◌, ◌||◌, Some, None, Result, Ok, Err, refl, sym, ap, arith, append_assoc, length-append, length-drop}
 use Rattle.std.specs.Prelude.{find}
 use Rattle.std.specs.List.{list_any}
 use Rattle.std.specs.Result.{ok_prefix}
@@ -6,13 +6,12 @@ use Rattle.std.proofs.Math.Seq.{drop-append-add, take-append-add}
 use Rattle.std.proofs.lemmas.Bool.{eqb-true, eq-eqb, and_parts, and_from, cond-true, cond-false}
 use Rattle.std.proofs.lemmas.List.{take-take, take-append-le, take_at, drop_at, length-take-le, get_or_append_left, get_or-take}
 use Rattle.isis_tlv.specs.Walks.{fault_of}
-use Rattle.isis_tlv.specs.Tlvs.{TlvView, tlv_octets, tlvs_of, tlv_list, AreTlvs}
+use Rattle.isis_tlv.specs.Tlvs.{TlvView, tlv_octets, tlvs_of, tlv_list}
 use Rattle.isis_tlv.proofs.TlvLemmas.{tlvs-end, tlvs-tlv, tlvs-header, tlvs-past, by-tlvs, fault-anywhere}
-use Rattle.hmac_auth.specs.declared.fault.AuthFault.{AuthFault}
-use Rattle.hmac_auth.specs.declared.fault.AuthFault.TheVariants.{Missing, OtherType}
+use Rattle.hmac_auth.specs.declared.fault.AuthFault.TheVariants.{OtherType}
 use Rattle.hmac_auth.specs.Pdus.{with_piece}
 use Rattle.hmac_auth.specs.Auth.{place_in}
-use Rattle.hmac_auth.proofs.PlaceLemmas.{is_auth, Within, place-within}
+use Rattle.hmac_auth.proofs.PlaceLemmas.{is_auth, place-within}
 
 -- ---- octets with a piece
 
@@ -79,10 +78,10 @@ pub record IsDigestOf (place digest : ℕ) (value : List ℕ) : Type 0 where
 digest-of : (place digest code : ℕ) (value : List ℕ) → place_in (Some (tlv place code value)) ≡ Ok digest → IsDigestOf place digest value
 digest-of place digest code value =
     elim (eqb (length value) 17 && eqb (get_or value 0 0) 54) as (λ t. eqb (length value) 17 && eqb (get_or value 0 0) 54 ≡ t → cond t (Ok (place + 3)) (Err OtherType) ≡ Ok digest → IsDigestOf place digest value) [
-      true ↦ λ test is.
-        let both = and_parts _ _ test in
-        record { there = cc; size = eqb-true _ _ both.0; kind = eqb-true _ _ both.1 }
-    | false ↦ λ test is. cc
+      | true ↦ λ test is.
+          let both = and_parts _ _ test in
+          record { there = cc; size = eqb-true _ _ both.0; kind = eqb-true _ _ both.1 }
+      | false ↦ λ test is. cc
     ] refl
 
 of-digest : (place code : ℕ) (value : List ℕ) → length value ≡ 17 → get_or value 0 0 ≡ 54 → place_in (Some (tlv place code value)) ≡ Ok (place + 3)
@@ -117,19 +116,19 @@ module _ (d : List ℕ) (sixteen : length d ≡ 16) where
       let same : later ≡ behind = omega arith in
       record {
         tlvs =
-          ap (λ (s : List ℕ). fault_of (tlvs_of place s)) new
-          ∙ head-fault place code (v ∷ d) rest
-          ∙ fault-anywhere rest behind later (sym (head-fault place code (v ∷ vs) rest) ∙ none);
+            ap (λ (s : List ℕ). fault_of (tlvs_of place s)) new
+            ∙ head-fault place code (v ∷ d) rest
+            ∙ fault-anywhere rest behind later (sym (head-fault place code (v ∷ vs) rest) ∙ none);
         digest =
-          ap (λ (s : List ℕ). place_in (find is_auth (tlv_list place s))) new
-          ∙ ap place_in (head-find place code (v ∷ d) rest ∙ cond-true (eqb code 10) _ _ ten)
-          ∙ of-digest place code (v ∷ d) (omega arith) is.kind
-          ∙ ap (λ (m : ℕ). Ok (place + m)) (sym three);
+            ap (λ (s : List ℕ). place_in (find is_auth (tlv_list place s))) new
+            ∙ ap place_in (head-find place code (v ∷ d) rest ∙ cond-true (eqb code 10) _ _ ten)
+            ∙ of-digest place code (v ∷ d) (omega arith) is.kind
+            ∙ ap (λ (m : ℕ). Ok (place + m)) (sym three);
         others =
-          ap (λ (s : List ℕ). list_any is_other (tlv_list place s)) new
-          ∙ head-any place code (v ∷ d) rest
-          ∙ ap (λ (m : ℕ). not (eqb code 10) || list_any is_other (tlv_list m rest)) same
-          ∙ sym (head-any place code (v ∷ vs) rest);
+            ap (λ (s : List ℕ). list_any is_other (tlv_list place s)) new
+            ∙ head-any place code (v ∷ d) rest
+            ∙ ap (λ (m : ℕ). not (eqb code 10) || list_any is_other (tlv_list m rest)) same
+            ∙ sym (head-any place code (v ∷ vs) rest);
       }
 
   abbrev Keeps : List ℕ → Type 0
@@ -147,15 +146,15 @@ module _ (d : List ℕ) (sixteen : length d ≡ 16) where
       record {
         tlvs = ap (λ (s : List ℕ). fault_of (tlvs_of place s)) new ∙ head-fault place code value (with_piece m d rest) ∙ kept.tlvs;
         digest =
-          ap (λ (s : List ℕ). place_in (find is_auth (tlv_list place s))) new
-          ∙ ap place_in (head-find place code value (with_piece m d rest) ∙ cond-false (eqb code 10) _ _ other)
-          ∙ kept.digest
-          ∙ ap Ok (sym there);
+            ap (λ (s : List ℕ). place_in (find is_auth (tlv_list place s))) new
+            ∙ ap place_in (head-find place code value (with_piece m d rest) ∙ cond-false (eqb code 10) _ _ other)
+            ∙ kept.digest
+            ∙ ap Ok (sym there);
         others =
-          ap (λ (s : List ℕ). list_any is_other (tlv_list place s)) new
-          ∙ head-any place code value (with_piece m d rest)
-          ∙ ap (λ (t : Bool). not (eqb code 10) || t) kept.others
-          ∙ sym (head-any place code value rest);
+            ap (λ (s : List ℕ). list_any is_other (tlv_list place s)) new
+            ∙ head-any place code value (with_piece m d rest)
+            ∙ ap (λ (t : Bool). not (eqb code 10) || t) kept.others
+            ∙ sym (head-any place code value rest);
       }
 
   pub tlvs-kept : (octets : List ℕ) → Keeps octets
@@ -164,8 +163,8 @@ module _ (d : List ℕ) (sixteen : length d ≡ 16) where
       (λ code place k none is. let fault = ap fault_of (tlvs-header place code) in cc)
       (λ code count octets long place k none is. let fault = ap fault_of (tlvs-past place code count octets long) in cc)
       (λ code value rest keeps place k none is.
-        let found = sym (ap place_in (head-find place code value rest)) ∙ is in
-        elim (eqb code 10) as (λ t. eqb code 10 ≡ t → place_in (cond t (Some (tlv place code value)) (find is_auth (tlv_list (place + 2 + length value) rest))) ≡ Ok (place + k) → Kept place k (tlv_octets code value ++ rest)) [
-          true ↦ λ ten h. first-kept place k code value rest ten none (digest-of place (place + k) code value h)
+      let found = sym (ap place_in (head-find place code value rest)) ∙ is in
+      elim (eqb code 10) as (λ t. eqb code 10 ≡ t → place_in (cond t (Some (tlv place code value)) (find is_auth (tlv_list (place + 2 + length value) rest))) ≡ Ok (place + k) → Kept place k (tlv_octets code value ++ rest)) [
+        | true ↦ λ ten h. first-kept place k code value rest ten none (digest-of place (place + k) code value h)
         | false ↦ λ other h. later-kept place k code value rest keeps other none h
-        ] refl found)
+      ] refl found)

@@ -1,11 +1,11 @@
-use Rattle.std.proofs.Common.{◌≡◌, ◌∙◌, ℕ, ◌+◌, ◌-◌, ◌*◌, ◌%◌, ◌<◌, ◌≤◌, List, ◌++◌, length, take, drop, replicate, get_or, Bool, true, false, cond, eqb, ◌&&◌, ◌||◌, Option, Some, None, Result, Ok, Err, refl, sym, ap, subst, arith}
+use Rattle.std.proofs.Common.{◌≡◌, ◌∙◌, ℕ, ◌+◌, ◌-◌, ◌*◌, ◌%◌, ◌≤◌, List, ◌++◌, length, take, drop, replicate, Bool, true, cond, eqb, ◌&&◌, ◌||◌, Some, None, Ok, sym, ap, subst, arith}
 use Rattle.std.specs.Prelude.{find}
 use Rattle.std.specs.List.{list_any}
-use Rattle.std.proofs.lemmas.List.{take-append-drop, drop_at, length-take-le}
+use Rattle.std.proofs.lemmas.List.{take-append-drop, drop-drop, drop_at, length-take-le}
+use borrow.Rule.Slice.PartMut.{put_mid}
 use Rattle.isis_tlv.specs.Walks.{fault_of}
 use Rattle.isis_tlv.specs.Tlvs.{tlvs_of, tlv_list}
 use Rattle.isis_tlv.proofs.TlvLemmas.{fault-anywhere}
-use Rattle.hmac_auth.specs.declared.fault.AuthFault.{AuthFault}
 use Rattle.hmac_auth.specs.declared.fault.AuthFault.TheVariants.{PurgeBody, Wrong}
 use Rattle.hmac_auth.specs.Hmac.{hmac}
 use Rattle.hmac_auth.specs.Pdus.{IsPdu, pdu_type, header_length, is_lsp, is_purge, with_piece, zeroed, blanked}
@@ -117,6 +117,13 @@ module _ (d pdu : List ℕ) (place : ℕ) (sixteen : length d ≡ 16) where
         ∙ ap (λ (b : Bool). cond (has_purge_body pdu header) (Some PurgeBody) (cond b None (Some Wrong))) ((digest-Decides key signed place).1 digest)
 
 -- ---- what `sign_pdu` leaves
+
+-- a digest copied over the sixteen octets from a place on
+pub copied-is : (pdu copied piece : List ℕ) (place : ℕ) → copied ≡ piece → length piece ≡ 16 → put_mid place (place + 16 - place) pdu copied ≡ with_piece place piece pdu
+copied-is pdu copied piece place is size =
+    let end : place + (place + 16 - place) ≡ place + length piece = omega arith in
+    let back = drop-drop (place + 16 - place) place pdu ∙ ap (λ (n : ℕ). drop n pdu) end in
+    λ i. take place pdu ++ (is i ++ back i)
 
 module _ (key pdu new : List ℕ) (place : ℕ) (there : IsDigestPlace pdu place) (is : new ≡ with_piece place (hmac key (blanked pdu place)) pdu) where
   abbrev digest : List ℕ

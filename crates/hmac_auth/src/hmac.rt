@@ -7,8 +7,10 @@ use md5::{DIGEST_LEN, Digest, Md5};
 /// The number of octets in a block of MD5.
 const BLOCK: usize = 64;
 
-/// What each octet of the key's block is exclusive-or, in the inner and in the outer hash.
+/// What each octet of the key's block is exclusive-or in the inner hash (RFC 2104 2).
 const INNER: u8 = 0x36;
+
+/// What each octet of the key's block is exclusive-or in the outer hash (RFC 2104 2).
 const OUTER: u8 = 0x5c;
 
 /// HMAC-MD5 of the message under the key (RFC 2104 2). A key and a message of any length are good.

@@ -7,16 +7,25 @@ use crate::hmac::digest_of_pieces;
 /// The number of octets of a digest.
 pub(crate) const DIGEST: usize = 16;
 
-/// The types of LSPs, and where an LSP has its remaining lifetime and its checksum, of two octets each
-/// (ISO 10589 9).
+/// The type of a level 1 LSP (ISO 10589 9).
 const L1_LSP: u8 = 18;
+
+/// The type of a level 2 LSP (ISO 10589 9).
 const L2_LSP: u8 = 20;
+
+/// The place of the two octets of an LSP's remaining lifetime (ISO 10589 9).
 const LIFETIME: usize = 10;
+
+/// The place of the two octets of an LSP's checksum (ISO 10589 9).
 const CHECKSUM: usize = 24;
 
-/// What the message has in the place of a digest, a remaining lifetime and a checksum.
+/// What the message has in the place of a digest.
 const NO_DIGEST: [u8; DIGEST] = [0; DIGEST];
+
+/// What the message has in the place of a remaining lifetime.
 const NO_LIFETIME: [u8; 2] = [0; 2];
+
+/// What the message has in the place of a checksum.
 const NO_CHECKSUM: [u8; 2] = [0; 2];
 
 /// Whether this is an LSP: its type is the low five bits of the octet at 4.

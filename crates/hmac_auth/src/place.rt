@@ -3,10 +3,9 @@ ghost use Rattle.std.specs.Option.{option_map};
 ghost use Rattle.isis_tlv.specs.TlvViews.{one_view};
 ghost use Rattle.hmac_auth.specs.Auth.{auth_tlv, digest_place, has_others};
 
-use isis_tlv::{Tlv, Tlvs};
-
 use crate::fault::AuthFault;
 use crate::message::DIGEST;
+use isis_tlv::{Tlv, Tlvs};
 
 /// The code of the TLV with authentication information (ISO 10589 9).
 const CODE: u8 = 10;

@@ -1,4 +1,4 @@
-use Rattle.std.proofs.Common.{ap, length, ℕ, List, arith}
+use Rattle.std.proofs.Common.{ap, length, arith}
 use Rattle.std.proofs.lemmas.Slice.Zip.{Zip-more, either_empty_from_Zip}
 use Rattle.hmac_auth.proofs.CompareLemmas.{same-more, same-end}
 use Rattle.hmac_auth.proofs.check.is_same.Goals as goal

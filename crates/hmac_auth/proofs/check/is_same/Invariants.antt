@@ -10,4 +10,4 @@ abbrev pub invariant-loop-a : goal.invariant-loop-a
 invariant-loop-a l =
     (length (iter_rest (zip_first l.a-iterator)) ≡ length (iter_rest (zip_second l.a-iterator)))
     × (((l.differing == 0) && bytes_eq (iter_rest (zip_first l.a-iterator)) (iter_rest (zip_second l.a-iterator)))
-        ≡ bytes_eq l.one l.other)
+    ≡ bytes_eq l.one l.other)
