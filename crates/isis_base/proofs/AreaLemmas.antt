@@ -1,4 +1,4 @@
-use Rattle.std.proofs.Common.{◌≡◌, ℕ, zero, suc, ◌+◌, ◌*◌, ◌/◌, ◌-◌, ◌<◌, ◌≤◌, Bool, true, false, cond, eqb, ltb, List, [], ◌∷◌, ◌++◌, length, take, drop, Option, Some, None, Result, Ok, Err, refl, sym, ap, ◌∙◌, subst, arith, inl, inr, append_assoc, length-append, lit<, zero-add}
+use Rattle.std.proofs.Common.{◌≡◌, ℕ, zero, suc, ◌+◌, ◌*◌, ◌/◌, ◌-◌, ◌<◌, ◌≤◌, Bool, true, false, cond, eqb, ltb, List, [], ◌∷◌, ◌++◌, length, take, Option, Some, None, Result, Ok, Err, refl, sym, ap, ◌∙◌, subst, arith, inl, inr, append_assoc, lit<, zero-add}
 use Rattle.std.specs.Char.{digit_value}
 use Rattle.std.specs.List.{AllByRecursion}
 use Rattle.std.specs.Str.{str_to_ascii_lowercase}
@@ -6,7 +6,7 @@ use Rattle.std.proofs.lemmas.Bool.{cases_lt, cases_order}
 use Rattle.isis_base.specs.declared.parts.Part.{Part}
 use Rattle.isis_base.specs.declared.parts.Part.TheVariants.{Octet, Mark}
 use Rattle.isis_base.specs.declared.area_text.TheConstants.{AREA_TEXT}
-use Rattle.isis_base.specs.Texts.{hex_pair, spelled, octet_count, Spells, IsFaultAt}
+use Rattle.isis_base.specs.Texts.{spelled, octet_count, Spells, IsFaultAt}
 use Rattle.isis_base.specs.AreaTexts.{groups_text, area_text, SpellsArea, IsArea}
 use Rattle.isis_base.specs.Misfit.{later, pair_of, after_pair, misfit_of, octets_of}
 use Rattle.isis_base.proofs.MisfitLemmas.{later-none, misfit_of-longest, misfit_of-goes_on, misfit_of-within, blank, misfit_of-blank, never-none}

@@ -5,3 +5,4 @@ pub mod LevelLemmas
 pub mod MisfitLemmas
 pub mod OrderLemmas
 pub mod SpellingLemmas
+pub mod PrefixLemmas

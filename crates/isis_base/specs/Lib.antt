@@ -7,3 +7,5 @@ pub mod Levels
 pub mod Octets
 pub mod Texts
 pub mod Misfit
+pub mod PrefixFronts
+pub mod PrefixTexts

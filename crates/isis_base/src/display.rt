@@ -2,6 +2,7 @@ ghost use Rattle.std.specs.Prelude.{Some, ◌++◌, ◌∷◌, []};
 ghost use Rattle.isis_base.specs.Levels.{level_text, levels_text};
 ghost use Rattle.isis_base.specs.Keys.{order_text};
 ghost use Rattle.isis_base.specs.AreaTexts.{groups_text, area_text};
+ghost use Rattle.isis_base.specs.PrefixTexts.{prefix_text};
 ghost use Rattle.isis_base.specs.Texts.{hex_pair, system_text, snpa_text, node_text, lsp_text, key_text};
 
 use crate::area::AreaAddress;
@@ -9,6 +10,7 @@ use crate::identifiers::{LspId, NodeId, Snpa, SystemId};
 use crate::key::Key;
 use crate::level::{Level, LevelSet};
 use crate::order::Order3;
+use crate::prefix::Prefix;
 use std::fmt;
 
 /// An octet as two hex digits.
@@ -112,6 +114,16 @@ impl fmt::Display for AreaAddress {
         let first = Pair(*first);
         let groups = Groups(others);
         write!(f, "{first}{groups}")
+    }
+}
+
+impl fmt::Display for Prefix {
+    ghost output = { λ prefix. Some (prefix_text prefix.address prefix.length) };
+
+    fn fmt<W: fmt::Write>(&self, f: &mut fmt::Formatter<W>) -> fmt::Result {
+        let [a, b, c, d] = self.address().to_be_bytes();
+        let length = self.length();
+        write!(f, "{a}.{b}.{c}.{d}/{length}")
     }
 }
 

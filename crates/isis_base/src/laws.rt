@@ -7,6 +7,7 @@ ghost use Rattle.isis_base.specs.Identifiers.{node_octets, lsp_octets, lsp_numbe
 ghost use Rattle.isis_base.specs.AreaTexts.{SpellsArea, area_text};
 ghost use Rattle.isis_base.specs.declared.level.LevelSet.{LevelSet};
 ghost use Rattle.isis_base.specs.Levels.{levels_text};
+ghost use Rattle.isis_base.specs.PrefixTexts.{SpellsPrefix, prefix_text};
 ghost use Rattle.isis_base.specs.Misfit.{text_octets};
 ghost use Rattle.isis_base.specs.declared.texts.TheConstants.{SYSTEM_TEXT, NODE_TEXT, LSP_TEXT};
 ghost use Rattle.isis_base.specs.Texts.{Spells, system_text, snpa_text, node_text, lsp_text};
@@ -14,6 +15,7 @@ ghost use Rattle.isis_base.specs.Texts.{Spells, system_text, snpa_text, node_tex
 use crate::area::AreaAddress;
 use crate::identifiers::{LspId, NodeId, Snpa, SystemId};
 use crate::numbers::{octets_of_lsp, octets_of_system};
+use crate::prefix::Prefix;
 
 /// What Display writes of a system ID spells it and is read as it, and a text spells one system ID.
 pub fn system_text_laws(a: SystemId, b: SystemId)
@@ -55,6 +57,14 @@ pub fn area_text_laws(area: AreaAddress)
     ensures one { (text a b : List ℕ) → SpellsArea text a → SpellsArea text b → a ≡ b }
 {
     octets_law(area.octets());
+}
+
+/// What Display writes of a prefix spells it, and a text spells one prefix.
+pub fn prefix_text_laws(prefix: Prefix)
+    ensures written { SpellsPrefix (prefix_text prefix.address prefix.length) prefix.address prefix.length }
+    ensures one { (text : List ℕ) (a b c d : ℕ) → SpellsPrefix text a b → SpellsPrefix text c d → (a ≡ c) × (b ≡ d) }
+{
+    let _address = prefix.address();
 }
 
 /// A text is that of one set of levels.

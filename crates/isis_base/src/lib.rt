@@ -11,7 +11,10 @@
 //! - `key.rt`: a key; `order.rt`: which key is newer, and the newer of two
 //! - `entry.rt`: what a sequence number PDU says of an LSP
 //! - `area.rt`, `prefix.rt`: area addresses and IPv4 prefixes
-//! - `parts.rt`: texts made of octets in hex and marks; `texts.rt`: the readers; `display.rt`: the writers
+//! - `parts.rt`: texts made of octets in hex and marks; `texts.rt`: system and LSP IDs read from theirs
+//! - `area_text.rt`, `prefix_text.rt`, `level_text.rt`: areas, prefixes and sets of levels read from their texts
+//! - `display.rt`: the texts written
+//! - `laws.rt`: what is written is read as the value, a text has one value, IDs are ordered by their octets
 #![tactic(auto)]
 
 mod area;
@@ -29,6 +32,7 @@ mod octets;
 mod order;
 mod parts;
 mod prefix;
+mod prefix_text;
 mod texts;
 
 pub use area::AreaAddress;
@@ -38,7 +42,7 @@ pub use identifiers::{LspId, NodeId, Snpa, SystemId};
 pub use key::Key;
 pub use laws::{
     area_text_laws, levels_text_law, lsp_order_law, lsp_text_laws, node_order_law, node_text_laws,
-    snpa_order_law, snpa_text_laws, system_order_law, system_text_laws,
+    prefix_text_laws, snpa_order_law, snpa_text_laws, system_order_law, system_text_laws,
 };
 pub use level::{CircuitKind, Level, LevelSet};
 pub use level_text::read_levels;
@@ -47,6 +51,7 @@ pub use numbers::lsp_number_law;
 pub use octets::Octets;
 pub use order::{Order3, join, join_laws, newer};
 pub use prefix::Prefix;
+pub use prefix_text::read_prefix;
 pub use texts::{TextFault, read_lsp_id, read_system};
 
 #[cfg(test)]

@@ -225,3 +225,134 @@ fn prefixes_are_clear_past_their_length(rt: HostRuntime) {
         }
     }
 }
+
+#[test]
+fn reads_and_writes_areas(rt: HostRuntime) -> Result<(), Fail> {
+    let octets = [
+        0x47, 0x00, 0x05, 0x80, 0xff, 0xf7, 0x00, 0x00, 0x00, 0x00, 0x01, 0xab, 0xcd,
+    ];
+    for (text, count) in [
+        ("47", 1),
+        ("47.00", 2),
+        ("47.0005", 3),
+        ("47.0005.80", 4),
+        ("47.0005.80FF", 5),
+        ("47.0005.80ff.f700.0000.0001.ab", 12),
+        ("47.0005.80Ff.F700.0000.0001.aBcD", 13),
+    ] {
+        let area = AreaAddress::new(&octets[..count]).ok_or("no area")?;
+        assert_eq!(rt; read_area(text), Ok(area), "{text}");
+        let written = format!(in rt.alloc(); "{area}")?;
+        assert_eq!(rt;
+            written.as_str(),
+            text.to_ascii_lowercase(rt.alloc())?.as_str(),
+            "{text}"
+        );
+    }
+    for (text, place) in [
+        ("", 0),
+        (".", 0),
+        (" 49", 0),
+        ("4", 1),
+        ("4g", 1),
+        ("490", 2),
+        ("49-0001", 2),
+        ("49.", 3),
+        ("49.g", 3),
+        ("49.0", 4),
+        ("49.00.01", 5),
+        ("49.000", 6),
+        ("49.00010", 7),
+        ("49.0001.", 8),
+        ("49.0001.0002.0003.0004.0005.0006.", 32),
+        ("49.0001.0002.0003.0004.0005.0006.07", 32),
+        ("49.0001.0002.0003.0004.0005.000607", 32),
+    ] {
+        assert_eq!(rt; read_area(text), Err(TextFault { place }), "{text}");
+    }
+    Ok(())
+}
+
+#[test]
+fn reads_and_writes_prefixes(rt: HostRuntime) -> Result<(), Fail> {
+    for (text, address, length) in [
+        ("0.0.0.0/0", 0, 0),
+        ("128.0.0.0/1", 0x8000_0000, 1),
+        ("10.0.0.0/7", 0x0a00_0000, 7),
+        ("10.0.1.0/24", 0x0a00_0100, 24),
+        ("192.168.0.0/16", 0xc0a8_0000, 16),
+        ("0.0.0.0/32", 0, 32),
+        ("255.255.255.255/32", 0xffff_ffff, 32),
+    ] {
+        let prefix = Prefix::new(address, length).ok_or("no prefix")?;
+        assert_eq!(rt; read_prefix(text), Ok(prefix), "{text}");
+        let written = format!(in rt.alloc(); "{prefix}")?;
+        assert_eq!(rt; written.as_bytes(), text.as_bytes(), "{text}");
+    }
+    for (text, place) in [
+        ("", 0),
+        ("/", 0),
+        ("1", 1),
+        ("01.0.0.0/8", 1),
+        ("1/8", 1),
+        ("256.0.0.0/8", 2),
+        ("300.0.0.0/8", 2),
+        ("1..2.3/8", 2),
+        ("1000.0.0.0/8", 3),
+        ("10.0.1/24", 6),
+        ("10.0.1.0", 8),
+        ("10.0.1.0.0/24", 8),
+        ("10.0.1.0/", 9),
+        ("10.0.1.0/1", 9),
+        ("10.0.1.0/024", 9),
+        ("10.0.1.0/8", 9),
+        ("10.0.1.0/2", 10),
+        ("10.0.1.0/23", 10),
+        ("10.0.1.0/3", 10),
+        ("10.0.1.0/33", 10),
+        ("10.0.1.0/240", 11),
+        ("10.0.0.0/6", 9),
+        ("10.0.0.0/1", 10),
+        ("10.0.0.0/20.", 11),
+        ("0.0.0.0/00", 9),
+        ("0.0.0.0/40", 9),
+    ] {
+        assert_eq!(rt; read_prefix(text), Err(TextFault { place }), "{text}");
+    }
+    Ok(())
+}
+
+#[test]
+fn reads_and_writes_levels(rt: HostRuntime) -> Result<(), Fail> {
+    for (text, set) in [
+        ("L1", LevelSet::One),
+        ("L2", LevelSet::Two),
+        ("L1L2", LevelSet::Both),
+    ] {
+        assert_eq!(rt; read_levels(text), Ok(set), "{text}");
+        assert_eq!(rt; format!(in rt.alloc(); "{set}")?.as_str(), text);
+    }
+    for (text, place) in [
+        ("", 0),
+        ("l1", 0),
+        ("1", 0),
+        ("L", 1),
+        ("L3", 1),
+        ("L12", 2),
+        ("L2L1", 2),
+        ("L1L", 3),
+        ("L1L1", 3),
+        ("L1L2L", 4),
+    ] {
+        assert_eq!(rt; read_levels(text), Err(TextFault { place }), "{text}");
+    }
+    let one = Level::One;
+    let two = Level::Two;
+    assert_eq!(rt; format!(in rt.alloc(); "{one} {two}")?.as_str(), "L1 L2");
+    let (older, same, newer) = (Order3::Older, Order3::Same, Order3::Newer);
+    assert_eq!(rt;
+        format!(in rt.alloc(); "{older} {same} {newer}")?.as_str(),
+        "older same newer"
+    );
+    Ok(())
+}

@@ -1,9 +1,9 @@
-use Rattle.std.proofs.Common.{◌≡◌, ◌≤◌, ◌<◌, ◌+◌, ◌/◌, ◌*◌, ◌-◌, ◌∙◌, ℕ, List, Option, Ok, Some, None, length, take, sym, ap, subst, arith}
+use Rattle.std.proofs.Common.{◌≡◌, ◌≤◌, ◌<◌, ◌+◌, ◌/◌, ◌*◌, ◌-◌, ◌∙◌, ℕ, List, Ok, Some, length, take, sym, ap, subst}
 use Rattle.isis_base.specs.declared.parts.Part.{Part}
 use Rattle.isis_base.specs.declared.area_text.TheConstants.{AREA_TEXT}
 use Rattle.isis_base.specs.Texts.{octet_count, IsFaultAt}
 use Rattle.isis_base.specs.Misfit.{misfit_of, octets_of}
-use Rattle.isis_base.specs.AreaTexts.{SpellsArea, IsArea}
+use Rattle.isis_base.specs.AreaTexts.{IsArea}
 use Rattle.isis_base.proofs.AreaLemmas.{form-front, area_form, area_form-count, SpellsArea-from_misfit, SpellsArea-one, IsFaultAt-area, IsCount}
 use Rattle.isis_base.proofs.area_text.read_area.Goals as goal
 

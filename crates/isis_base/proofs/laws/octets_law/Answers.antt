@@ -1,4 +1,4 @@
-use Rattle.std.proofs.Common.{ℕ, zero, suc, ◌<◌, List, [], ◌∷◌, get_or, Fits, w8, arith}
+use Rattle.std.proofs.Common.{ℕ, suc, ◌<◌, List, [], ◌∷◌, get_or, Fits, w8, arith}
 use Rattle.std.specs.List.{AllByRecursion}
 use Rattle.isis_base.proofs.laws.octets_law.Goals as goal
 

@@ -1,4 +1,4 @@
-use Rattle.std.proofs.Common.{◌≡◌, ◌∙◌, ℕ, List, nat_eq, codes, max, sym, ap}
+use Rattle.std.proofs.Common.{◌∙◌, ℕ, nat_eq, codes, max, ap}
 use Rattle.std.specs.List.{common_prefix_len}
 use Rattle.isis_base.proofs.LevelLemmas.{IsFaultAt-levels}
 use Rattle.isis_base.proofs.level_text.read_levels.Goals as goal

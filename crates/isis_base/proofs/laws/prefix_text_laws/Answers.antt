@@ -1,0 +1,11 @@
+use Rattle.std.proofs.Common.{refl, arith}
+use Rattle.isis_base.proofs.PrefixLemmas.{SpellsPrefix-one}
+use Rattle.isis_base.proofs.laws.prefix_text_laws.Goals as goal
+
+pub returns-clause-written : goal.returns-clause-written
+returns-clause-written c =
+    let prefix = c.args.prefix in
+    record { small = omega arith; fits = prefix.fits; clear = prefix.clear; same = refl }
+
+pub returns-clause-one : goal.returns-clause-one
+returns-clause-one c = SpellsPrefix-one
