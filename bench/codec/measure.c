@@ -1,7 +1,7 @@
 /* Times plain C for the same calls as main.rt.in, in the same way: `holds`, a reading of all octets by memchr
- * (`read`), and HMAC with OpenSSL's MD5 (`digest`). The octets come from standard input. */
-#include <openssl/evp.h>
-#include <openssl/hmac.h>
+ * (`read`), and HMAC over OpenSSL's MD5 (`digest`). The octets come from standard input. */
+#define OPENSSL_SUPPRESS_DEPRECATED
+#include <openssl/md5.h>
 #include <stdbool.h>
 #include <stddef.h>
 #include <stdint.h>
@@ -29,6 +29,29 @@ __attribute__((noipa)) static bool holds(const uint8_t *octets, size_t count)
 	return plain == 0 && running == 0;
 }
 
+__attribute__((noipa)) static void digest_of(const uint8_t *key, size_t key_count, const uint8_t *octets, size_t count, uint8_t *into)
+{
+	uint8_t block[64] = {0}, inner[64], outer[64];
+	MD5_CTX context;
+
+	if (key_count > 64)
+		MD5(key, key_count, block);
+	else
+		memcpy(block, key, key_count);
+	for (size_t at = 0; at < 64; at++) {
+		inner[at] = block[at] ^ 0x36;
+		outer[at] = block[at] ^ 0x5c;
+	}
+	MD5_Init(&context);
+	MD5_Update(&context, inner, 64);
+	MD5_Update(&context, octets, count);
+	MD5_Final(into, &context);
+	MD5_Init(&context);
+	MD5_Update(&context, outer, 64);
+	MD5_Update(&context, into, 16);
+	MD5_Final(into, &context);
+}
+
 __attribute__((noipa)) static uint64_t run(const char *word, uint8_t *octets, size_t count)
 {
 	uint64_t sum = 0;
@@ -44,10 +67,9 @@ __attribute__((noipa)) static uint64_t run(const char *word, uint8_t *octets, si
 			sum += memchr(rest, 0xfe, (size_t)(end - rest)) != NULL;
 		} else {
 			uint8_t key[16], digest[16];
-			unsigned int len = 16;
 
 			memset(key, (int)(call % 256), sizeof key);
-			HMAC(EVP_md5(), key, sizeof key, octets, count, digest, &len);
+			digest_of(key, sizeof key, octets, count, digest);
 			sum += digest[0];
 		}
 	}
