@@ -21,7 +21,7 @@ use crate::texts::TextFault;
 
 /// What is read of a prefix's text so far.
 #[derive(Clone, Copy)]
-pub struct Front {
+struct Front {
     /// The octets of the address.
     octets: [u8; 4],
     /// How many of them are read with the mark behind them, 0 to 4.

@@ -1,4 +1,4 @@
-ghost use Rattle.std.specs.Prelude.{◌≡◌, IfOk, IfErr};
+ghost use Rattle.std.specs.Prelude.{◌≡◌, ℕ, List, Ok, IfOk, IfErr};
 ghost use Rattle.std.specs.Option.{option_map};
 ghost use Rattle.std.specs.Result.{result_ok};
 ghost use Rattle.isis_base.specs.Misfit.{text_octets};
@@ -19,6 +19,10 @@ pub struct TextFault {
 }
 
 impl fmt::Display for TextFault {
+    ghost use Rattle.std.specs.Prelude.{◌++◌, Some, codes, decimal};
+
+    ghost output = { λ fault. Some (codes "misspelt at octet " ++ decimal fault.place) };
+
     fn fmt<W: fmt::Write>(&self, f: &mut fmt::Formatter<W>) -> fmt::Result {
         let place = self.place;
         write!(f, "misspelt at octet {place}")
@@ -73,6 +77,7 @@ pub const LSP_TEXT: [Part; 12] = [
 #[tactic(auto, unfolding(crate::specs::Misfit::text_octets))]
 pub fn read_system(text: &str) -> Result<SystemId, TextFault>
     ensures ok { IfOk result (λ system. Spells SYSTEM_TEXT text.now system.0) }
+    ensures read { (octets : List ℕ) → Spells SYSTEM_TEXT text.now octets → result ≡ Ok (system_from octets) }
     ensures value { result_ok result ≡ option_map system_from (text_octets SYSTEM_TEXT text.now) }
     ensures err { IfErr result (λ fault. IsFaultAt (HasForm SYSTEM_TEXT) text.now fault.place) }
 {
@@ -87,6 +92,7 @@ pub fn read_system(text: &str) -> Result<SystemId, TextFault>
 #[tactic(auto, unfolding(crate::specs::Misfit::text_octets))]
 pub fn read_lsp_id(text: &str) -> Result<LspId, TextFault>
     ensures ok { IfOk result (λ id. Spells LSP_TEXT text.now (lsp_octets id)) }
+    ensures read { (octets : List ℕ) → Spells LSP_TEXT text.now octets → result ≡ Ok (lsp_from octets) }
     ensures value { result_ok result ≡ option_map lsp_from (text_octets LSP_TEXT text.now) }
     ensures err { IfErr result (λ fault. IsFaultAt (HasForm LSP_TEXT) text.now fault.place) }
 {
