@@ -61,6 +61,14 @@ FieldsFit (Lsp level lifetime id number checksum flags tlvs) =
 FieldsFit (Csnp level source start end tlvs) = IsNode source × IsLspId start × IsLspId end
 FieldsFit (Psnp level source tlvs) = IsNode source
 
+-- a LAN hello's priority, and 0 of another PDU
+abbrev pub priority_of : PduView → ℕ
+priority_of (LanHello level circuit_type source holding priority lan tlvs) = priority
+priority_of (PointHello circuit_type source holding circuit tlvs) = 0
+priority_of (Lsp level lifetime id number checksum flags tlvs) = 0
+priority_of (Csnp level source start end tlvs) = 0
+priority_of (Psnp level source tlvs) = 0
+
 -- a PDU that its fields, its length and its TLVs let be written (ISO 10589 9)
 pub record IsPdu (pdu : PduView) : Type 0 where
   pub fields : FieldsFit pdu

@@ -15,17 +15,17 @@
 
 mod check;
 mod read;
-//mod write;
+mod write;
 mod fault;
 mod fields;
-//mod header;
+mod header;
 mod kind;
-//mod laws;
+mod laws;
 mod layout;
 mod pdu;
 
 pub use read::decode;
-//pub use write::{encode, encoded_len};
+pub use write::{encode, encoded_len};
 pub use fault::{PduFault, PduFaultKind};
-//pub use laws::round_trip_law;
+pub use laws::round_trip_law;
 pub use pdu::Pdu;

@@ -44,7 +44,6 @@ impl<'a> Pdu<'a> {
 
 /// The number of octets that `encode` writes, the PDU length.
 pub fn encoded_len(pdu: &Pdu<'_>) -> usize
-    requires { encoded_len (pdu_view pdu.now) < 2 ^ 64 }
     ensures { result ≡ encoded_len (pdu_view pdu.now) }
 {
     usize::from(pdu.kind().header_length()) + pdu.tlvs().len()
@@ -95,6 +94,7 @@ impl Header {
     fn add_fields(&mut self, pdu: &Pdu<'_>, count: u16)
         requires { length self.old + header_length (kind_of (pdu_view pdu.now)) ≤ 41 }
         ensures octets { self.new ≡ self.old ++ field_octets (pdu_view pdu.now) count }
+        ensures fit { priority_of (pdu_view pdu.now) ≤ 127 → FieldsFit (pdu_view pdu.now) }
     {
         let count = count.to_be_bytes();
         match *pdu {
@@ -138,7 +138,8 @@ impl Header {
 /// The header of a PDU.
 fn header_of(pdu: &Pdu<'_>) -> Header
     requires { encoded_len (pdu_view pdu.now) ≤ 65535 }
-    ensures { result ≡ header_octets (pdu_view pdu.now) }
+    ensures octets { result ≡ header_octets (pdu_view pdu.now) }
+    ensures fit { priority_of (pdu_view pdu.now) ≤ 127 → FieldsFit (pdu_view pdu.now) }
 {
     let mut header = Header::new();
     header.add_start(pdu.kind());
@@ -158,6 +159,7 @@ pub fn encode(alloc: Global, pdu: &Pdu<'_>) -> Result<Octets, OutOfMemory>
     // What is written reads as the PDU, whatever follows.
     ensures reads { IfOk result (λ octets. (more : List ℕ) → Reads (octets ++ more) (pdu_view pdu.now) (encoded_len (pdu_view pdu.now))) }
 {
+    round_trip_law();
     let header = header_of(pdu);
     let mut octets = Octets::new(alloc);
     octets.extend(header.as_slice())?;
