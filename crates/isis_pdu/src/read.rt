@@ -1,8 +1,8 @@
-ghost use Rattle.std.specs.Prelude.{◌≡◌, ℕ, ◌≤◌, ◌↔◌, length, Ok};
+ghost use Rattle.std.specs.Prelude.{◌≡◌, ℕ, ◌↔◌, Ok};
 ghost use Rattle.std.specs.Result.{result_err};
 ghost use Rattle.isis_pdu.specs.Views.{PduView, decoded_view};
 ghost use Rattle.isis_pdu.specs.Table.{first_fault};
-ghost use Rattle.isis_pdu.specs.Reading.{Reads};
+ghost use Rattle.isis_pdu.specs.Reading.{Begins};
 
 use crate::check::{check_kind, check_start};
 use crate::fault::PduFault;
@@ -14,7 +14,7 @@ use crate::pdu::Pdu;
 /// type's, the header is there, a hello's circuit type has a level, the PDU length fits, and what it holds behind the
 /// header are TLVs.
 pub fn decode(octets: &[u8]) -> Result<(Pdu<'_>, usize), PduFault>
-    ensures ok { (pdu : PduView) (n : ℕ) → (decoded_view result ≡ Ok (pdu, n)) ↔ (Reads octets.now pdu n × (n ≤ length octets.now)) }
+    ensures ok { (pdu : PduView) (n : ℕ) → (decoded_view result ≡ Ok (pdu, n)) ↔ Begins octets.now pdu n }
     ensures err { result_err result ≡ first_fault octets.now }
 {
     let kind = check_start(octets)?;

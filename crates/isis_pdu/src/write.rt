@@ -3,7 +3,7 @@ ghost use Rattle.isis_base.specs.Identifiers.{node_octets, lsp_octets};
 ghost use Rattle.isis_tlv.specs.Tlvs.{AreTlvs};
 ghost use Rattle.isis_pdu.specs.Views.{pdu_view, tlvs_of_pdu};
 ghost use Rattle.isis_pdu.specs.Layout.{kind_of, header_length};
-ghost use Rattle.isis_pdu.specs.Reading.{Reads};
+ghost use Rattle.isis_pdu.specs.Reading.{Begins};
 ghost use Rattle.isis_pdu.specs.Spelling.{encoded_len, priority_of, start_octets, field_octets, header_octets, spelled, levels_octet, FieldsFit};
 
 use crate::check::{DISCRIMINATOR, VERSION};
@@ -29,7 +29,7 @@ impl<'a> Pdu<'a> {
     }
 
     /// The octets behind the header.
-    fn tlvs(&self) -> &'a [u8]
+    pub(crate) fn tlvs(&self) -> &'a [u8]
         ensures { result.now ≡ tlvs_of_pdu (pdu_view self.now) }
     {
         match *self {
@@ -156,8 +156,8 @@ pub fn encode(alloc: Global, pdu: &Pdu<'_>) -> Result<Octets, OutOfMemory>
     ensures spelled { IfOk result (λ octets. octets ≡ spelled (pdu_view pdu.now)) }
     ensures sized { IfOk result (λ octets. length octets ≡ encoded_len (pdu_view pdu.now)) }
 
-    // What is written reads as the PDU, whatever follows.
-    ensures reads { IfOk result (λ octets. (more : List ℕ) → Reads (octets ++ more) (pdu_view pdu.now) (encoded_len (pdu_view pdu.now))) }
+    // So `decode` gives the PDU and its length back, whatever follows.
+    ensures begins { IfOk result (λ octets. (more : List ℕ) → Begins (octets ++ more) (pdu_view pdu.now) (encoded_len (pdu_view pdu.now))) }
 {
     round_trip_law();
     let header = header_of(pdu);
