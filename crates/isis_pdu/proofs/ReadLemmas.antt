@@ -25,8 +25,8 @@ all-hold : (tests : List Test) → first_failing tests ≡ None → AllByRecursi
 all-hold [] none = tt
 all-hold (test ∷ tests) none =
     elim (test.holds) as (λ b. test.holds ≡ b → cond b (first_failing tests) (Some test.fault) ≡ None → AllByRecursion Holds (test ∷ tests)) [
-      true ↦ λ h e. (h, all-hold tests e)
-    | false ↦ λ h e. cc
+      | true ↦ λ h e. (h, all-hold tests e)
+      | false ↦ λ h e. cc
     ] refl none
 
 none-fails : (tests : List Test) → AllByRecursion Holds tests → first_failing tests ≡ None
@@ -38,16 +38,16 @@ fails-first : (first rest : List Test) (fault : PduFault) → first_failing firs
 fails-first [] rest fault e = cc
 fails-first (test ∷ first) rest fault e =
     elim (test.holds) as (λ b. cond b (first_failing first) (Some test.fault) ≡ Some fault → cond b (first_failing (first ++ rest)) (Some test.fault) ≡ Some fault) [
-      true ↦ λ h. fails-first first rest fault h
-    | false ↦ λ h. h
+      | true ↦ λ h. fails-first first rest fault h
+      | false ↦ λ h. h
     ] e
 
 fails-rest : (first rest : List Test) → first_failing first ≡ None → first_failing (first ++ rest) ≡ first_failing rest
 fails-rest [] rest e = refl
 fails-rest (test ∷ first) rest e =
     elim (test.holds) as (λ b. cond b (first_failing first) (Some test.fault) ≡ None → cond b (first_failing (first ++ rest)) (Some test.fault) ≡ first_failing rest) [
-      true ↦ λ h. fails-rest first rest h
-    | false ↦ λ h. cc
+      | true ↦ λ h. fails-rest first rest h
+      | false ↦ λ h. cc
     ] e
 
 start-fails : (found : Option Kind) (octets : List ℕ) (fault : PduFault) → first_failing (start_tests octets) ≡ Some fault → first_failing (tests_of found octets) ≡ Some fault
@@ -70,8 +70,8 @@ found-passes : {X : Type 0} (test : X → Bool) (items : List X) (item : X) → 
 found-passes test [] item e = cc
 found-passes test (first ∷ items) item e =
     elim (test first) as (λ b. test first ≡ b → cond b (Some first) (find test items) ≡ Some item → test item ≡ true) [
-      true ↦ λ h same. let one : first ≡ item = cc in subst (λ x. test x ≡ true) one h
-    | false ↦ λ h same. found-passes test items item same
+      | true ↦ λ h same. let one : first ≡ item = cc in subst (λ x. test x ≡ true) one h
+      | false ↦ λ h same. found-passes test items item same
     ] refl e
 
 number-of : (number : ℕ) (kind : Kind) → kind_of_number number ≡ Some kind → type_number kind ≡ number
@@ -176,26 +176,44 @@ module _ (octets : List ℕ) where
         omega arith
 
     start-holds : AllByRecursion Holds (start_tests octets)
-    start-holds =
-        ( le-leb 8 (length octets) all-octets
-        , (eq-eqb _ _ reads.discriminator
-        , (eq-eqb _ _ reads.version
-        , (holds-either _ _ _ reads.id_length
-        , (ap is_some kind-read
-        , (eq-eqb _ _ reads.other_version
-        , (holds-either _ _ _ reads.areas, tt)))))) )
+    start-holds = (
+      le-leb 8 (length octets) all-octets,
+      (
+        eq-eqb _ _ reads.discriminator,
+        (
+          eq-eqb _ _ reads.version,
+          (
+            holds-either _ _ _ reads.id_length,
+            (
+              ap is_some kind-read,
+              (
+                eq-eqb _ _ reads.other_version,
+                (holds-either _ _ _ reads.areas, tt),
+              ),
+            ),
+          ),
+        ),
+      ),
+    )
 
     rest-holds : AllByRecursion Holds (kind_tests its octets)
     rest-holds =
         let m = length_at its octets in
         let size : m ≡ n = reads.size in
         let least : header_length its ≤ n = reads.least in
-        let whose : tlvs_of_pdu pdu ≡ body_at its octets m = sym (ap tlvs_of_pdu reads.value) ∙ tlvs-of_value its octets (body_at its octets n) ∙ ap (body_at its octets) (sym size) in
-        ( eq-eqb _ _ reads.header
-        , (le-leb (header_length its) (length octets) (omega arith)
-        , (circuit-holds (is_hello its) (get_or octets 8 0 % 4) reads.circuit_type
-        , (and_from _ _ (le-leb (header_length its) m (omega arith)) (le-leb m (length octets) (omega arith))
-        , (hold-tlvs (header_length its) (body_at its octets m) (subst AreTlvs whose reads.tlvs), tt)))) )
+        let whose : tlvs_of_pdu pdu ≡ body_at its octets m = sym (ap tlvs_of_pdu reads.value) ∙ tlvs-of_value its octets (body_at its octets n) ∙ ap (body_at its octets) (sym size) in (
+          eq-eqb _ _ reads.header,
+          (
+            le-leb (header_length its) (length octets) (omega arith),
+            (
+              circuit-holds (is_hello its) (get_or octets 8 0 % 4) reads.circuit_type,
+              (
+                and_from _ _ (le-leb (header_length its) m (omega arith)) (le-leb m (length octets) (omega arith)),
+                (hold-tlvs (header_length its) (body_at its octets m) (subst AreTlvs whose reads.tlvs), tt),
+              ),
+            ),
+          ),
+        )
 
     start-none : first_failing (start_tests octets) ≡ None
     start-none = none-fails (start_tests octets) start-holds
@@ -208,20 +226,22 @@ module _ (octets : List ℕ) where
 
   -- with a fault there is nothing to read
   pub refused : (r : Result (Pdu × ℕ) PduFault) (fault : PduFault) → r ≡ Err fault → Some fault ≡ first_fault octets → (pdu : PduView) (n : ℕ) → (decoded_view r ≡ Ok (pdu, n)) ↔ (Reads octets pdu n × (n ≤ length octets))
-  refused r fault is e pdu n =
-      ( (λ read. let none : decoded_view r ≡ Err fault = ap decoded_view is in cc)
-      , (λ (reads, within). let none = no-fault pdu n reads within in cc) )
+  refused r fault is e pdu n = (
+    (λ read. let none : decoded_view r ≡ Err fault = ap decoded_view is in cc),
+    (λ (reads, within). let none = no-fault pdu n reads within in cc),
+  )
 
   -- without one there is one value to read
   pub accepted : (kind : Kind) (p : Pdu) (m : ℕ) → kind_at octets ≡ Some kind → None ≡ first_failing (start_tests octets) → None ≡ first_failing (kind_tests kind octets) → m ≡ length_at kind octets → m ≤ length octets → pdu_view p ≡ value_at kind octets (body_at kind octets m) → (pdu : PduView) (n : ℕ) → (decoded_view (Ok (p, m)) ≡ Ok (pdu, n)) ↔ (Reads octets pdu n × (n ≤ length octets))
   accepted kind p m is start rest size fits value pdu n =
-      let base = reads-as kind (pdu_view p) m (sym size) (sym value) (ap kind_of value ∙ kind-of_value kind octets (body_at kind octets m)) is (all-hold (start_tests octets) (sym start)) (all-hold (kind_tests kind octets) (sym rest)) in
-      ( (λ read.
-          let pair : ◌≡◌ {A = PduView × ℕ} (pdu_view p, m) (pdu, n) = cc in
-          subst (λ (it : PduView × ℕ). Reads octets it.0 it.1 × (it.1 ≤ length octets)) pair (base, fits))
-      , (λ (reads, within).
-          let its = kind-read pdu n reads within in
-          let same : kind ≡ kind_of pdu = cc in
-          let sizes : m ≡ n = size ∙ ap (λ (k : Kind). length_at k octets) same ∙ reads.size in
-          let values : pdu_view p ≡ pdu = value ∙ ap (λ (k : Kind). value_at k octets (body_at k octets m)) same ∙ ap (λ (it : ℕ). value_at (kind_of pdu) octets (body_at (kind_of pdu) octets it)) sizes ∙ reads.value in
-          (λ i. Ok (values i, sizes i))) )
+      let base = reads-as kind (pdu_view p) m (sym size) (sym value) (ap kind_of value ∙ kind-of_value kind octets (body_at kind octets m)) is (all-hold (start_tests octets) (sym start)) (all-hold (kind_tests kind octets) (sym rest)) in (
+        (λ read.
+            let pair : ◌≡◌ {A = PduView × ℕ} (pdu_view p, m) (pdu, n) = cc in
+            subst (λ (it : PduView × ℕ). Reads octets it.0 it.1 × (it.1 ≤ length octets)) pair (base, fits)),
+        (λ (reads, within).
+            let its = kind-read pdu n reads within in
+            let same : kind ≡ kind_of pdu = cc in
+            let sizes : m ≡ n = size ∙ ap (λ (k : Kind). length_at k octets) same ∙ reads.size in
+            let values : pdu_view p ≡ pdu = value ∙ ap (λ (k : Kind). value_at k octets (body_at k octets m)) same ∙ ap (λ (it : ℕ). value_at (kind_of pdu) octets (body_at (kind_of pdu) octets it)) sizes ∙ reads.value in
+            (λ i. Ok (values i, sizes i))),
+      )

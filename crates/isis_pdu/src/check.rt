@@ -26,7 +26,18 @@ pub(crate) fn check_start(octets: &[u8]) -> Result<Kind, PduFault>
     ensures eight { OnOk result (8 ≤ length octets.now) }
     ensures fault { result_err result ≡ first_failing (start_tests octets.now) }
 {
-    let [discriminator, _, version, id_length, number, other_version, _, areas, ..] = octets else {
+    let [
+        discriminator,
+        _,
+        version,
+        id_length,
+        number,
+        other_version,
+        _,
+        areas,
+        ..
+    ] = octets
+    else {
         return fault(PduFaultKind::Short, octets.len());
     };
     if *discriminator != DISCRIMINATOR {

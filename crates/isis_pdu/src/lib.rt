@@ -14,8 +14,6 @@
 #![tactic(auto)]
 
 mod check;
-mod read;
-mod write;
 mod fault;
 mod fields;
 mod header;
@@ -23,9 +21,14 @@ mod kind;
 mod laws;
 mod layout;
 mod pdu;
+mod read;
+mod write;
 
-pub use read::decode;
-pub use write::{encode, encoded_len};
 pub use fault::{PduFault, PduFaultKind};
 pub use laws::round_trip_law;
 pub use pdu::Pdu;
+pub use read::decode;
+pub use write::{encode, encoded_len};
+
+#[cfg(test)]
+mod tests;

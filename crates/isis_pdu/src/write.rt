@@ -98,7 +98,14 @@ impl Header {
     {
         let count = count.to_be_bytes();
         match *pdu {
-            Pdu::LanHello { circuit_type, source, holding, priority, lan, .. } => {
+            Pdu::LanHello {
+                circuit_type,
+                source,
+                holding,
+                priority,
+                lan,
+                ..
+            } => {
                 self.add(&[octet_of_levels(circuit_type)]);
                 self.add(&source.0);
                 self.add(&holding.to_be_bytes());
@@ -106,14 +113,27 @@ impl Header {
                 self.add(&[priority]);
                 self.add_node(lan);
             }
-            Pdu::PointHello { circuit_type, source, holding, circuit, .. } => {
+            Pdu::PointHello {
+                circuit_type,
+                source,
+                holding,
+                circuit,
+                ..
+            } => {
                 self.add(&[octet_of_levels(circuit_type)]);
                 self.add(&source.0);
                 self.add(&holding.to_be_bytes());
                 self.add(&count);
                 self.add(&[circuit]);
             }
-            Pdu::Lsp { lifetime, id, number, checksum, flags, .. } => {
+            Pdu::Lsp {
+                lifetime,
+                id,
+                number,
+                checksum,
+                flags,
+                ..
+            } => {
                 self.add(&count);
                 self.add(&lifetime.to_be_bytes());
                 self.add_lsp(id);
@@ -121,7 +141,12 @@ impl Header {
                 self.add(&checksum.to_be_bytes());
                 self.add(&[flags]);
             }
-            Pdu::Csnp { source, start, end, .. } => {
+            Pdu::Csnp {
+                source,
+                start,
+                end,
+                ..
+            } => {
                 self.add(&count);
                 self.add_node(source);
                 self.add_lsp(start);

@@ -30,7 +30,7 @@ pub returns-clause-ok : goal.returns-clause-ok
 returns-clause-ok c =
     accepted c.args.octets.now c.in_ok-kind.kind c.value_at-pdu.result c.in_ok-end.end c.in_ok-kind.ensures.kind c.in_ok-kind.ensures.fault c.in_ok-end.ensures.fault c.in_ok-end.ensures.size c.in_ok-end.ensures.most
     (c.value_at-pdu.ensures
-      ∙ ap (λ (header : ℕ). value_at c.in_ok-kind.kind c.args.octets.now (take (c.in_ok-end.end - header) (drop header c.args.octets.now))) (c.from-header.ensures ∙ c.header_length.ensures))
+    ∙ ap (λ (header : ℕ). value_at c.in_ok-kind.kind c.args.octets.now (take (c.in_ok-end.end - header) (drop header c.args.octets.now))) (c.from-header.ensures ∙ c.header_length.ensures))
 
 pub returns-clause-err : goal.returns-clause-err
 returns-clause-err c =
