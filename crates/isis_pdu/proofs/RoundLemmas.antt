@@ -12,7 +12,7 @@ use Rattle.isis_pdu.specs.declared.kind.Kind.{Kind}
 use Rattle.isis_pdu.specs.declared.kind.Kind.TheVariants as kind
 use Rattle.isis_pdu.specs.Views.{PduView, LanHello, PointHello, Lsp, Csnp, Psnp, tlvs_of_pdu}
 use Rattle.isis_pdu.specs.Layout.{kind_of, type_number, header_length, is_hello, length_at, body_at, levels_of, value_at}
-use Rattle.isis_pdu.specs.Spelling.{encoded_len, levels_octet, header_octets, spelled, IsPdu}
+use Rattle.isis_pdu.specs.Spelling.{encoded_len, levels_octet, header_octets, spelled, IsWritable}
 use Rattle.isis_pdu.specs.Reading.{Reads, Begins}
 
 of-six : (P : List ℕ → Type 0) → ((a b c d e f : ℕ) → P (a ∷ b ∷ c ∷ d ∷ e ∷ f ∷ [])) → (xs : List ℕ) → length xs ≡ 6 → P xs
@@ -173,7 +173,7 @@ psnp-again level pseudonode tlvs more s fits are six_s =
       tlvs = are;
     }) s six_s
 
-reads-again : (pdu : PduView) (more : List ℕ) → IsPdu pdu → Reads (spelled pdu ++ more) pdu (encoded_len pdu)
+reads-again : (pdu : PduView) (more : List ℕ) → IsWritable pdu → Reads (spelled pdu ++ more) pdu (encoded_len pdu)
 reads-again (LanHello level circuit_type source holding priority lan tlvs) more is =
     let fits : 27 + length tlvs ≤ 65535 = is.fits in
     lan-again level circuit_type holding priority lan.pseudonode tlvs more source.0 lan.system.0 is.fields.1 is.fields.2 (omega arith) is.tlvs is.fields.0 is.fields.3
@@ -190,14 +190,14 @@ reads-again (Psnp level source tlvs) more is =
     let fits : 17 + length tlvs ≤ 65535 = is.fits in
     psnp-again level source.pseudonode tlvs more source.system.0 (omega arith) is.tlvs is.fields
 
-pub length-spelled : (pdu : PduView) → IsPdu pdu → length (spelled pdu) ≡ encoded_len pdu
+pub length-spelled : (pdu : PduView) → IsWritable pdu → length (spelled pdu) ≡ encoded_len pdu
 length-spelled (LanHello level circuit_type source holding priority lan tlvs) is = let s = is.fields.0 in let t = is.fields.3 in simp length-append (omega arith)
 length-spelled (PointHello circuit_type source holding circuit tlvs) is = let s = is.fields.0 in simp length-append (omega arith)
 length-spelled (Lsp level lifetime id number checksum flags tlvs) is = let s = is.fields.1 in simp length-append (omega arith)
 length-spelled (Csnp level source start end tlvs) is = let s = is.fields.0 in let t = is.fields.1 in let u = is.fields.2 in simp length-append (omega arith)
 length-spelled (Psnp level source tlvs) is = let s = is.fields in simp length-append (omega arith)
 
-pub begins-again : (pdu : PduView) (more : List ℕ) → IsPdu pdu → Begins (spelled pdu ++ more) pdu (encoded_len pdu)
+pub begins-again : (pdu : PduView) (more : List ℕ) → IsWritable pdu → Begins (spelled pdu ++ more) pdu (encoded_len pdu)
 begins-again pdu more is =
     let size = length-spelled pdu is in
     let all = length-append (spelled pdu) more in

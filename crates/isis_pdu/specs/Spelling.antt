@@ -70,7 +70,7 @@ priority_of (Csnp level source start end tlvs) = 0
 priority_of (Psnp level source tlvs) = 0
 
 -- a PDU that its fields, its length and its TLVs let be written (ISO 10589 9)
-pub record IsPdu (pdu : PduView) : Type 0 where
+pub record IsWritable (pdu : PduView) : Type 0 where
   pub fields : FieldsFit pdu
   pub fits : encoded_len pdu ≤ 65535
   pub tlvs : AreTlvs (tlvs_of_pdu pdu)

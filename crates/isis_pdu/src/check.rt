@@ -4,7 +4,7 @@ ghost use Rattle.isis_pdu.specs.Layout.{kind_at, header_length, length_at};
 ghost use Rattle.isis_pdu.specs.Table.{first_failing, start_tests, kind_tests, tlv_fault};
 
 use crate::fault::{PduFault, PduFaultKind};
-use crate::fields::two_at;
+use crate::fields::{LEVELS, two_at};
 use crate::kind::Kind;
 use isis_tlv::{TlvFault, Tlvs};
 
@@ -14,11 +14,8 @@ pub(crate) const DISCRIMINATOR: u8 = 0x83;
 /// What both version octets have.
 pub(crate) const VERSION: u8 = 1;
 
-/// The low five bits, which hold the type.
+/// The low five bits of their octet, which hold the type.
 const TYPE: u8 = 0x1f;
-
-/// The low two bits of a circuit type, which hold the levels.
-const LEVELS: u8 = 0x03;
 
 /// The type that octets have, where what every PDU begins with is there and right.
 pub(crate) fn check_start(octets: &[u8]) -> Result<Kind, PduFault>

@@ -8,10 +8,10 @@ use crate::kind::Kind;
 use crate::pdu::Pdu;
 use isis_base::{Level, LevelSet, LspId, NodeId, SystemId};
 
-/// A circuit type's levels, its low two bits.
-const LEVELS: u8 = 0x03;
+/// The low two bits of a circuit type, which hold the levels.
+pub(crate) const LEVELS: u8 = 0x03;
 
-/// A LAN hello's priority, the low seven bits of its octet.
+/// The low seven bits of their octet, which hold a LAN hello's priority.
 const PRIORITY: u8 = 0x7f;
 
 /// The number of the two octets at a place.

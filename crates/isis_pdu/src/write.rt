@@ -1,4 +1,5 @@
-ghost use Rattle.std.specs.Prelude.{◌≡◌, ℕ, List, ◌+◌, ◌^◌, ◌<◌, ◌≤◌, ◌++◌, length, IfOk};
+ghost use Rattle.std.specs.Prelude.{◌≡◌, ℕ, List, ◌+◌, ◌^◌, ◌<◌, ◌≤◌, [], ◌∷◌, ◌++◌, length, IfOk};
+ghost use Rattle.isis_tlv.specs.Numbers.{two_of};
 ghost use Rattle.isis_base.specs.Identifiers.{node_octets, lsp_octets};
 ghost use Rattle.isis_tlv.specs.Tlvs.{AreTlvs};
 ghost use Rattle.isis_pdu.specs.Views.{pdu_view, tlvs_of_pdu};
@@ -11,7 +12,7 @@ use crate::header::Header;
 use crate::kind::Kind;
 use crate::laws::round_trip_law;
 use crate::pdu::Pdu;
-use isis_base::{LevelSet, LspId, NodeId, Octets, OutOfMemory};
+use isis_base::{LevelSet, LspId, NodeId, Octets, OutOfMemory, SystemId};
 use std::alloc::Global;
 
 impl<'a> Pdu<'a> {
@@ -90,6 +91,19 @@ impl Header {
         self.add(&[id.number]);
     }
 
+    /// Adds the fields that every hello begins with.
+    fn add_hello(&mut self, levels: LevelSet, source: SystemId, holding: u16, count: [u8; 2])
+        requires { length self.old + 11 ≤ 33 }
+        ensures octets { self.new ≡ self.old ++ levels_octet levels ∷ [] ++ source.0 ++ two_of holding ++ count }
+        ensures count { length self.new ≡ length self.old + 11 }
+        ensures fit { (length source.0 ≡ 6) × (holding < 2 ^ 16) }
+    {
+        self.add(&[octet_of_levels(levels)]);
+        self.add(&source.0);
+        self.add(&holding.to_be_bytes());
+        self.add(&count);
+    }
+
     /// Adds the fields of a PDU whose length is `count`.
     fn add_fields(&mut self, pdu: &Pdu<'_>, count: u16)
         requires { length self.old + header_length (kind_of (pdu_view pdu.now)) ≤ 41 }
@@ -106,10 +120,7 @@ impl Header {
                 lan,
                 ..
             } => {
-                self.add(&[octet_of_levels(circuit_type)]);
-                self.add(&source.0);
-                self.add(&holding.to_be_bytes());
-                self.add(&count);
+                self.add_hello(circuit_type, source, holding, count);
                 self.add(&[priority]);
                 self.add_node(lan);
             }
@@ -120,10 +131,7 @@ impl Header {
                 circuit,
                 ..
             } => {
-                self.add(&[octet_of_levels(circuit_type)]);
-                self.add(&source.0);
-                self.add(&holding.to_be_bytes());
-                self.add(&count);
+                self.add_hello(circuit_type, source, holding, count);
                 self.add(&[circuit]);
             }
             Pdu::Lsp {
