@@ -1,0 +1,5 @@
+pub mod Views
+pub mod Layout
+pub mod Table
+pub mod Reading
+pub mod Spelling
