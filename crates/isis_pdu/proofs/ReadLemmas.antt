@@ -1,7 +1,7 @@
 use Rattle.std.proofs.Common.{◌≡◌, ◌∙◌, ℕ, ◌%◌, ◌≤◌, List, [], ◌∷◌, ◌++◌, length, get_or, Bool, true, false, cond, not, eqb, leb, ◌&&◌, ◌||◌, ◌⊎◌, inl, inr, ⊎_elim, ◌↔◌, Option, Some, None, Result, Ok, Err, arith, refl, sym, ap, subst}
 use Rattle.std.specs.List.{AllByRecursion, find}
 use Rattle.std.specs.Option.{is_some, is_none, option_map}
-use Rattle.std.proofs.lemmas.Bool.{leb-true, le-leb, eqb-true, eqb-false, eq-eqb, ne_eqb, not-true, not_from_false, cases_Bool, or_cases, or_left, or_right, and_parts, and_from, and_left, and_right, cond-true}
+use Rattle.std.proofs.lemmas.Bool.{leb-true, le-leb, eqb-true, eqb-false, eq-eqb, ne_eqb, not-true, not_from_false, or_cases, or_left, or_right, and_parts, and_from, cond-true}
 use Rattle.isis_base.specs.declared.level.Level.TheVariants as level
 use Rattle.isis_tlv.specs.declared.tlv.TlvFault.{TlvFault}
 use Rattle.isis_tlv.specs.Walks.{fault_of}
@@ -12,7 +12,7 @@ use Rattle.isis_pdu.specs.declared.kind.Kind.TheVariants as kind
 use Rattle.isis_pdu.specs.declared.fault.PduFault.{PduFault}
 use Rattle.isis_pdu.specs.declared.pdu.Pdu.{Pdu}
 use Rattle.isis_pdu.specs.Views.{PduView, pdu_view, tlvs_of_pdu, decoded_view}
-use Rattle.isis_pdu.specs.Layout.{kind_of, type_number, kinds, kind_of_number, kind_at, header_length, is_hello, length_place, length_at, body_at, value_at}
+use Rattle.isis_pdu.specs.Layout.{kind_of, type_number, kinds, kind_of_number, kind_at, header_length, is_hello, length_at, body_at, value_at}
 use Rattle.isis_pdu.specs.Table.{Test, first_failing, place_of_fault, tlv_fault, start_tests, kind_tests, tests_of, first_fault}
 use Rattle.isis_pdu.specs.Reading.{Reads}
 

@@ -1,7 +1,5 @@
-use Rattle.std.proofs.Common.{◌≡◌, ◌∙◌, ℕ, ◌+◌, ◌-◌, ◌*◌, ◌/◌, ◌%◌, ◌^◌, ◌<◌, ◌≤◌, List, [], ◌∷◌, ◌++◌, length, take, drop, get_or, Bool, true, false, inl, inr, refl, sym, ap, subst, arith, length-append}
+use Rattle.std.proofs.Common.{◌≡◌, ◌∙◌, ℕ, ◌+◌, ◌-◌, ◌*◌, ◌/◌, ◌%◌, ◌<◌, ◌≤◌, List, [], ◌∷◌, ◌++◌, length, take, inl, refl, ap, arith, length-append}
 use Rattle.std.proofs.lemmas.List.{take_at}
-use Rattle.isis_base.specs.declared.identifiers.SystemId.{SystemId}
-use Rattle.isis_base.specs.declared.identifiers.NodeId.{NodeId}
 use Rattle.isis_base.specs.declared.identifiers.LspId.{LspId}
 use Rattle.isis_base.specs.declared.level.Level.{Level}
 use Rattle.isis_base.specs.declared.level.Level.TheVariants as level
@@ -10,9 +8,9 @@ use Rattle.isis_base.specs.declared.level.LevelSet.TheVariants as levels
 use Rattle.isis_tlv.specs.Tlvs.{AreTlvs}
 use Rattle.isis_pdu.specs.declared.kind.Kind.{Kind}
 use Rattle.isis_pdu.specs.declared.kind.Kind.TheVariants as kind
-use Rattle.isis_pdu.specs.Views.{PduView, LanHello, PointHello, Lsp, Csnp, Psnp, tlvs_of_pdu}
-use Rattle.isis_pdu.specs.Layout.{kind_of, type_number, header_length, is_hello, length_at, body_at, levels_of, value_at}
-use Rattle.isis_pdu.specs.Spelling.{encoded_len, levels_octet, header_octets, spelled, IsWritable}
+use Rattle.isis_pdu.specs.Views.{PduView, LanHello, PointHello, Lsp, Csnp, Psnp}
+use Rattle.isis_pdu.specs.Layout.{type_number, levels_of}
+use Rattle.isis_pdu.specs.Spelling.{encoded_len, levels_octet, spelled, IsWritable}
 use Rattle.isis_pdu.specs.Reading.{Reads, Begins}
 
 of-six : (P : List ℕ → Type 0) → ((a b c d e f : ℕ) → P (a ∷ b ∷ c ∷ d ∷ e ∷ f ∷ [])) → (xs : List ℕ) → length xs ≡ 6 → P xs

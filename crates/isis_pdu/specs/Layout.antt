@@ -1,5 +1,4 @@
 use Rattle.std.specs.Prelude.{ℕ, ◌%◌, ◌-◌, ◌==◌, Bool, true, false, List, [], ◌∷◌, take, drop, find, slice_index, Option, if◌then◌else◌}
-use Rattle.isis_base.specs.declared.level.Level.{Level}
 use Rattle.isis_base.specs.declared.level.Level.TheVariants as level
 use Rattle.isis_base.specs.declared.level.LevelSet.{LevelSet}
 use Rattle.isis_base.specs.declared.level.LevelSet.TheVariants as levels
