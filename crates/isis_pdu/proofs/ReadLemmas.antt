@@ -1,6 +1,7 @@
 use Rattle.std.proofs.Common.{◌≡◌, ◌∙◌, ℕ, ◌%◌, ◌≤◌, List, [], ◌∷◌, ◌++◌, length, get_or, Bool, true, false, cond, not, eqb, leb, ◌&&◌, ◌||◌, ◌⊎◌, inl, inr, ⊎_elim, ◌↔◌, Option, Some, None, Result, Ok, Err, arith, refl, sym, ap, subst}
 use Rattle.std.specs.List.{AllByRecursion, find}
 use Rattle.std.specs.Option.{is_some, is_none, option_map}
+use Rattle.std.specs.Result.{result_err}
 use Rattle.std.proofs.lemmas.Bool.{leb-true, le-leb, eqb-true, eqb-false, eq-eqb, ne_eqb, not-true, not_from_false, or_cases, or_left, or_right, and_parts, and_from, cond-true}
 use Rattle.isis_base.specs.declared.level.Level.TheVariants as level
 use Rattle.isis_tlv.specs.declared.tlv.TlvFault.{TlvFault}
@@ -14,7 +15,8 @@ use Rattle.isis_pdu.specs.declared.pdu.Pdu.{Pdu}
 use Rattle.isis_pdu.specs.Views.{PduView, pdu_view, tlvs_of_pdu, decoded_view}
 use Rattle.isis_pdu.specs.Layout.{kind_of, type_number, kinds, kind_of_number, kind_at, header_length, is_hello, length_at, body_at, value_at}
 use Rattle.isis_pdu.specs.Table.{Test, first_failing, place_of_fault, tlv_fault, start_tests, kind_tests, tests_of, first_fault}
-use Rattle.isis_pdu.specs.Reading.{Reads}
+use Rattle.isis_pdu.specs.Reading.{Reads, Begins}
+use Rattle.isis_pdu.specs.Decoded.{decoded_by, decoded}
 
 -- ---- the table
 
@@ -245,3 +247,18 @@ module _ (octets : List ℕ) where
             let values : pdu_view p ≡ pdu = value ∙ ap (λ (k : Kind). value_at k octets (body_at k octets m)) same ∙ ap (λ (it : ℕ). value_at (kind_of pdu) octets (body_at (kind_of pdu) octets it)) sizes ∙ reads.value in
             (λ i. Ok (values i, sizes i))),
       )
+
+-- both clauses are one function of the octets
+pub decoded-from : (octets : List ℕ) (r : Result (Pdu × ℕ) PduFault) → ((pdu : PduView) (n : ℕ) → (decoded_view r ≡ Ok (pdu, n)) ↔ Begins octets pdu n) → result_err r ≡ first_fault octets → decoded_view r ≡ decoded octets
+unfolding decoded
+decoded-from octets (Err fault) ok err = ap (λ (found : Option PduFault). decoded_by found (kind_at octets) octets) err
+decoded-from octets (Ok found) ok err =
+    let pdu = pdu_view found.0 in
+    let its = kind_of pdu in
+    let reads = ((ok pdu found.1).0 refl).0 in
+    let size = sym reads.size in
+    let value = sym reads.value ∙ ap (λ (n : ℕ). value_at its octets (body_at its octets n)) size in
+    let known : kind_at octets ≡ Some its = ap kind_of_number reads.kind ∙ kind-again its in
+    (λ i. Ok (value i, size i))
+    ∙ ap (λ (kind : Option Kind). decoded_by None kind octets) (sym known)
+    ∙ ap (λ (found : Option PduFault). decoded_by found (kind_at octets) octets) err

@@ -2,4 +2,5 @@ pub mod Views
 pub mod Layout
 pub mod Table
 pub mod Reading
+pub mod Decoded
 pub mod Spelling

@@ -3,6 +3,7 @@ ghost use Rattle.std.specs.Result.{result_err};
 ghost use Rattle.isis_pdu.specs.Views.{PduView, decoded_view};
 ghost use Rattle.isis_pdu.specs.Table.{first_fault};
 ghost use Rattle.isis_pdu.specs.Reading.{Begins};
+ghost use Rattle.isis_pdu.specs.Decoded.{decoded};
 
 use crate::check::{check_kind, check_start};
 use crate::fault::PduFault;
@@ -16,6 +17,7 @@ use crate::pdu::Pdu;
 pub fn decode(octets: &[u8]) -> Result<(Pdu<'_>, usize), PduFault>
     ensures ok { (pdu : PduView) (n : ℕ) → (decoded_view result ≡ Ok (pdu, n)) ↔ Begins octets.now pdu n }
     ensures err { result_err result ≡ first_fault octets.now }
+    ensures value { decoded_view result ≡ decoded octets.now }
 {
     let kind = check_start(octets)?;
     let end = check_kind(kind, octets)?;

@@ -1,7 +1,7 @@
-use Rattle.std.proofs.Common.{ℕ, ◌-◌, take, drop, Err, ◌∙◌, sym, ap}
+use Rattle.std.proofs.Common.{ℕ, ◌-◌, take, drop, Ok, Err, ◌∙◌, sym, ap}
 use Rattle.std.proofs.lemmas.Result.{err_from_is_err_and}
 use Rattle.isis_pdu.specs.Layout.{value_at}
-use Rattle.isis_pdu.proofs.ReadLemmas.{start-fault, later-fault, refused, accepted}
+use Rattle.isis_pdu.proofs.ReadLemmas.{start-fault, later-fault, refused, accepted, decoded-from}
 use Rattle.isis_pdu.proofs.read.decode.Goals as goal
 
 pub returns-in_err-kind-clause-ok : goal.returns-in_err-kind-clause-ok
@@ -35,3 +35,15 @@ returns-clause-ok c =
 pub returns-clause-err : goal.returns-clause-err
 returns-clause-err c =
     c.in_ok-end.ensures.fault ∙ sym (later-fault c.args.octets.now c.in_ok-kind.kind c.in_ok-kind.ensures.kind c.in_ok-kind.ensures.fault)
+
+pub returns-in_err-kind-clause-value : goal.returns-in_err-kind-clause-value
+returns-in_err-kind-clause-value c =
+    decoded-from c.args.octets.now c.from_residual.result (returns-in_err-kind-clause-ok c) (returns-in_err-kind-clause-err c)
+
+pub returns-in_err-end-clause-value : goal.returns-in_err-end-clause-value
+returns-in_err-end-clause-value c =
+    decoded-from c.args.octets.now c.from_residual-in_err-end.result (returns-in_err-end-clause-ok c) (returns-in_err-end-clause-err c)
+
+pub returns-clause-value : goal.returns-clause-value
+returns-clause-value c =
+    decoded-from c.args.octets.now (Ok (c.value_at-pdu.result, c.in_ok-end.end)) (returns-clause-ok c) (returns-clause-err c)
