@@ -3,6 +3,7 @@ pub mod IdLemmas
 pub mod KeyLemmas
 pub mod LineLemmas
 pub mod NameLemmas
+pub mod ShowLemmas
 pub mod SoundLemmas
 pub mod ReadLemmas
 pub mod PlayLemmas

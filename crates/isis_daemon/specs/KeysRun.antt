@@ -31,28 +31,6 @@ Ends script before now status.Usage = Stays before now
 Ends script before now status.ReadFault = Stays before now
 Ends script before now status.TooLong = Stays before now
 
--- the fact, where the status tells that the input was read to its end
-abbrev pub OnRead : Status → Type 0 → Type 0
-OnRead status.Done P = P
-OnRead (status.ScriptRefused line reason) P = P
-OnRead (status.LabLimit which) P = P
-OnRead status.WriteFault P = P
-OnRead status.Usage P = ⊤
-OnRead status.ReadFault P = ⊤
-OnRead status.TooLong P = ⊤
-OnRead status.OutOfMemory P = ⊤
-
--- the fact, where the status tells that nothing was written
-abbrev pub OnUnwritten : Status → Type 0 → Type 0
-OnUnwritten status.Usage P = P
-OnUnwritten (status.ScriptRefused line reason) P = P
-OnUnwritten (status.LabLimit which) P = P
-OnUnwritten status.ReadFault P = P
-OnUnwritten status.TooLong P = P
-OnUnwritten status.Done P = ⊤
-OnUnwritten status.WriteFault P = ⊤
-OnUnwritten status.OutOfMemory P = ⊤
-
 -- the run of a script that was read
 abbrev pub IsOfScript : Status → Type 0
 IsOfScript status.Done = ⊤
@@ -63,7 +41,3 @@ IsOfScript status.OutOfMemory = ⊤
 IsOfScript status.Usage = ⊥
 IsOfScript status.ReadFault = ⊥
 IsOfScript status.TooLong = ⊥
-
--- done, or memory was wanted
-abbrev pub IsDoneUnlessMemory : Status → Type 0
-IsDoneUnlessMemory end = (end ≡ status.Done) ⊎ (end ≡ status.OutOfMemory)

@@ -1,4 +1,5 @@
 pub mod Fields
+pub mod Forms
 pub mod Gives
 pub mod Index
 pub mod KeysPlay
@@ -8,6 +9,8 @@ pub mod KeysScript
 pub mod Names
 pub mod Pages
 pub mod Reasons
+pub mod Run
+pub mod ShowText
 pub mod Sound
 pub mod Statuses
 pub mod Words

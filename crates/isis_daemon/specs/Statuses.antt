@@ -1,4 +1,6 @@
 use Rattle.std.specs.Prelude.{ℕ, List, ◌++◌, codes, decimal}
+use Rattle.isis_edge.specs.declared.reading.WholeFault.{WholeFault}
+use Rattle.isis_edge.specs.declared.reading.WholeFault.TheVariants as whole
 use Rattle.network_lab.specs.Limits.{limit_word}
 use Rattle.isis_daemon.specs.declared.reason.ScriptFault.{ScriptFault}
 use Rattle.isis_daemon.specs.declared.reason.ScriptFault.TheVariants as script
@@ -11,6 +13,12 @@ abbrev pub status_of : ScriptFault → Status
 status_of (script.Refused line reason) = ScriptRefused line reason
 status_of (script.Limit which) = LabLimit which
 status_of script.OutOfMemory = OutOfMemory
+
+-- what ends a run whose input wasn't read as a whole (own)
+abbrev pub whole_status : WholeFault → Status
+whole_status whole.Fault = ReadFault
+whole_status whole.TooLong = TooLong
+whole_status whole.OutOfMemory = OutOfMemory
 
 -- the exit code (own)
 abbrev pub status_code : Status → ℕ

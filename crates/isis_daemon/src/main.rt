@@ -1,18 +1,23 @@
 //! The program `isis`.
 //!
-//! `isis lab` reads a script from standard input and writes its report to standard output. Where the exit code
-//! isn't 0, the status's line stands on standard error.
+//! `isis lab` reads a script from standard input and writes its report to standard output. `isis show` reads lines of
+//! hex text, each one PDU, and writes their fields. Where the exit code isn't 0, the status's line stands on standard
+//! error.
 //!
 //! - `run.rt`: the call `run`, from the octets read to the octets written
+//! - `form.rt`: what the words ask for
 //! - `status.rt`, `reason.rt`: how a run ends, and why a line is refused
 //! - `keys/`: keys scripts, read by `reader.rt`, played by `play.rt` and reported by `report.rt`
+//! - `show.rt`, `show/spell.rt`: the fields of PDUs as lines of text
 //! - `pages.rt`: text on its way to a sink, in pieces of some kilobytes
 #![tactic(auto)]
 
+mod form;
 mod keys;
 mod pages;
 mod reason;
 mod run;
+mod show;
 mod status;
 #[cfg(test)]
 mod tests;

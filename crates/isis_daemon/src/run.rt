@@ -1,30 +1,23 @@
-ghost use Rattle.std.specs.Prelude.{◌≡◌, ◌<◌, ◌≤◌, true, false, [], length, map, Some, string_bytes, IfSome, IsSomeAnd, IfOk, IsOk, ◌↔◌};
+ghost use Rattle.std.specs.Prelude.{◌≡◌, ◌<◌, ◌≤◌, [], length, map, Some, None, string_bytes, IfSome, IsSomeAnd, IfOk, ◌↔◌};
 ghost use Rattle.isis_edge.specs.Faults.{Rose};
 ghost use Rattle.isis_edge.specs.Told.{Stays};
 ghost use Rattle.isis_daemon.specs.Gives.{Answers};
-ghost use Rattle.isis_daemon.specs.KeysRun.{played, Ends, OnRead, OnUnwritten, IsOfScript, IsDoneUnlessMemory};
-ghost use Rattle.isis_daemon.specs.Words.{is_lab};
+ghost use Rattle.isis_daemon.specs.Forms.{form_of};
+ghost use Rattle.isis_daemon.specs.KeysRun.{played, Ends, IsOfScript};
+ghost use Rattle.isis_daemon.specs.Run.{EndsAs, IsTaken, OnRead, OnUnwritten, IsDoneUnlessMemory};
 
+use crate::form::{Form, form_of};
 use crate::keys::names::Names;
 use crate::keys::play::play;
 use crate::keys::reader::read_keys;
 use crate::keys::report::put_report;
 use crate::pages::PageFault;
 use crate::reason::ScriptFault;
-use crate::status::Status;
-use isis_edge::{Sink, Source, WholeFault, read_whole};
+use crate::show::show;
+use crate::status::{INPUT_LIMIT, Status};
+use isis_edge::{Sink, Source, read_whole};
 use network_lab::KeyNet;
 use std::alloc::Global;
-
-/// How many octets an input may have.
-pub const INPUT_LIMIT: usize = 16_777_216;
-
-/// Whether the words ask for the lab.
-fn asks_for_lab(words: &[String]) -> bool
-    ensures { result ≡ is_lab (map string_bytes words.now) }
-{
-    words.len() == 1 && words[0].as_str() == "lab"
-}
 
 /// Reads and plays a keys script: the routers' names, and the network at its end.
 fn play_keys(alloc: Global, script: &[u8]) -> Result<(Names<'_>, KeyNet), ScriptFault>
@@ -62,34 +55,34 @@ fn lab<O: Sink>(alloc: Global, script: &[u8], output: O) -> (O, Status)
 }
 
 /// Runs the program: the words after its name, its input and its output, which is handed back. The words are
-/// tested first, then the input is read, then the script is read and played, and at last the report is written.
+/// tested first, then the input is read. Of `lab` it is a script, which is read and played, and at last the report is
+/// written; of `show` it is shown line by line.
 pub fn run<I: Source, O: Sink>(
     alloc: Global,
     words: &[String],
     input: &mut I,
     output: O,
 ) -> (O, Status)
-    ensures usage { (result.1 ≡ Status.Usage) ↔ (is_lab (map string_bytes words.now) ≡ false) }
-    ensures ends { IfSome (I.left input.old) (λ script. Ends script (O.held output) (O.held result.0) result.1) }
+    ensures usage { (result.1 ≡ Status.Usage) ↔ (form_of (map string_bytes words.now) ≡ None) }
+    ensures ends { IfSome (I.left input.old)
+        (λ text. EndsAs (form_of (map string_bytes words.now)) text (O.held output) (O.held result.0) result.1) }
     ensures whole { OnRead result.1 (IfSome (I.left input.old)
-        (λ script. (length script ≤ INPUT_LIMIT) × (I.left input.new ≡ Some []))) }
+        (λ text. (length text ≤ INPUT_LIMIT) × (I.left input.new ≡ Some []))) }
     ensures unwritten { OnUnwritten result.1 (Stays (O.held output) (O.held result.0)) }
     ensures read_fault { result.1 ≡ Status.ReadFault → Rose (I.faults input.old) (I.faults input.new) }
     ensures write_fault { result.1 ≡ Status.WriteFault → Rose (O.faults output) (O.faults result.0) }
-    ensures too_long { result.1 ≡ Status.TooLong → IfSome (I.left input.old) (λ script. INPUT_LIMIT < length script) }
-    ensures complete { is_lab (map string_bytes words.now) ≡ true
-        → IsSomeAnd (I.left input.old) (λ script. (length script ≤ INPUT_LIMIT) × IsOk (played script))
+    ensures too_long { result.1 ≡ Status.TooLong → IfSome (I.left input.old) (λ text. INPUT_LIMIT < length text) }
+    ensures complete { IsSomeAnd (I.left input.old) (IsTaken (form_of (map string_bytes words.now)))
         → ¬ Rose (I.faults input.old) (I.faults input.new) → ¬ Rose (O.faults output) (O.faults result.0)
         → IsDoneUnlessMemory result.1 }
     ensures later { (I.faults input.old ≤ I.faults input.new) × (O.faults output ≤ O.faults result.0) }
 {
-    if !asks_for_lab(words) {
-        return (output, Status::Usage);
-    }
-    match read_whole(alloc, input, INPUT_LIMIT) {
-        Ok(script) => lab(alloc, script.as_slice(), output),
-        Err(WholeFault::Fault) => (output, Status::ReadFault),
-        Err(WholeFault::TooLong) => (output, Status::TooLong),
-        Err(WholeFault::OutOfMemory) => (output, Status::OutOfMemory),
+    match form_of(words) {
+        None => (output, Status::Usage),
+        Some(Form::Lab) => match read_whole(alloc, input, INPUT_LIMIT) {
+            Ok(script) => lab(alloc, script.as_slice(), output),
+            Err(fault) => (output, Status::from(fault)),
+        },
+        Some(Form::Show) => show(alloc, input, output),
     }
 }

@@ -1,9 +1,13 @@
 ghost use Rattle.std.specs.Prelude.{◌≡◌, Some};
-ghost use Rattle.isis_daemon.specs.Statuses.{status_of, status_code, status_line};
+ghost use Rattle.isis_daemon.specs.Statuses.{status_of, whole_status, status_code, status_line};
 
 use crate::reason::{Reason, ScriptFault};
+use isis_edge::WholeFault;
 use network_lab::LimitName;
 use std::fmt;
+
+/// How many octets an input may have. With more the run ends as `TooLong`.
+pub const INPUT_LIMIT: usize = 16_777_216;
 
 /// How a run of the program ended.
 #[derive(Clone, Copy, Debug, PartialEq, Eq)]
@@ -69,6 +73,18 @@ impl From<ScriptFault> for Status {
             ScriptFault::Refused { line, reason } => Status::ScriptRefused { line, reason },
             ScriptFault::Limit(which) => Status::LabLimit { which },
             ScriptFault::OutOfMemory => Status::OutOfMemory,
+        }
+    }
+}
+
+impl From<WholeFault> for Status {
+    ghost from_gives = { λ fault status. status ≡ whole_status fault };
+
+    fn from(fault: WholeFault) -> Status {
+        match fault {
+            WholeFault::Fault => Status::ReadFault,
+            WholeFault::TooLong => Status::TooLong,
+            WholeFault::OutOfMemory => Status::OutOfMemory,
         }
     }
 }

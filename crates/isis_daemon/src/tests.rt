@@ -1,5 +1,6 @@
 mod causes;
 mod keys;
+mod show;
 
 use crate::run::run;
 use crate::status::Status;

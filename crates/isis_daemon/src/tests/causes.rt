@@ -1,7 +1,6 @@
 use super::{Outside, octets, run_words};
 use crate::reason::Reason;
-use crate::run::INPUT_LIMIT;
-use crate::status::Status;
+use crate::status::{INPUT_LIMIT, Status};
 use network_lab::LimitName;
 use std::test::Fail;
 
@@ -19,7 +18,7 @@ fn tests_the_words(rt: HostRuntime) -> Result<(), Fail> {
         failing_writes: &[],
         room: 4096,
     };
-    let words: [&[&str]; 8] = [
+    let words: [&[&str]; 9] = [
         &[],
         &[""],
         &["Lab"],
@@ -27,7 +26,8 @@ fn tests_the_words(rt: HostRuntime) -> Result<(), Fail> {
         &["lab", ""],
         &["lab "],
         &["--help"],
-        &["show"],
+        &["Show"],
+        &["show", "show"],
     ];
     for words in words {
         let ended = run_words(&rt, rt.alloc(), words, SCRIPT, outside)?;

@@ -1,0 +1,107 @@
+ghost use Rattle.std.specs.Prelude.{◌≡◌, ◌<◌, ◌≤◌, [], length, Some, IfSome, IsSomeAnd, OnOk, OnErr, IsErrOf, string_bytes};
+ghost use Rattle.isis_edge.specs.Faults.{Rose};
+ghost use Rattle.isis_edge.specs.Told.{Wrote, Stays};
+ghost use Rattle.isis_daemon.specs.Pages.{HasWritten, HasBegun};
+ghost use Rattle.isis_daemon.specs.Run.{Shows, IsOfShow, OnRead, OnUnwritten, IsDoneUnlessMemory};
+ghost use Rattle.isis_daemon.specs.ShowText.{shown_line, shown_text};
+
+mod spell;
+
+use self::spell::{spell_fault, spell_octets};
+use crate::pages::{Page, PageFault, flush, put};
+use crate::status::{INPUT_LIMIT, Status};
+use hex::FromHexError;
+use isis_base::Octets;
+use isis_edge::{Sink, Source, read_whole};
+use std::alloc::{AllocError, Global};
+
+/// What a line of the input is shown as, in the place of the text.
+#[tactic(auto, unfolding(crate::specs::ShowText::shown_line))]
+fn spell_line(
+    alloc: Global,
+    text: &mut String,
+    number: usize,
+    line: &[u8],
+) -> Result<(), AllocError>
+    ensures { OnOk result (string_bytes text.new ≡ shown_line number line.now) }
+{
+    text.clear();
+    if line.is_empty() {
+        return Ok(());
+    }
+    match hex::decode(alloc, line) {
+        Ok(octets) => spell_octets(text, number, octets.as_slice()),
+        Err(FromHexError::OutOfMemory) => Err(AllocError),
+        Err(FromHexError::InvalidHexCharacter { index, .. }) => {
+            spell_fault(text, number, "Hex", index)
+        }
+        Err(_) => spell_fault(text, number, "Hex", line.len()),
+    }
+}
+
+/// Adds what the lines of the input are shown as.
+fn put_lines<O: Sink>(alloc: Global, page: &mut Page<O>, input: &[u8]) -> Result<(), PageFault>
+    requires { page.old.buffer ≡ [] }
+    ensures ok { OnOk result (HasWritten (O.held page.old.output) (shown_text input.now) (O.held page.new.output) page.new.buffer) }
+    ensures err { OnErr result (HasBegun (O.held page.old.output) (shown_text input.now) (O.held page.new.output)) }
+    ensures cause { IsErrOf result PageFault.Write → Rose (O.faults page.old.output) (O.faults page.new.output) }
+    ensures later { O.faults page.old.output ≤ O.faults page.new.output }
+{
+    let mut text = String::new(alloc);
+    let mut number = 1usize;
+    for line in input.split(|byte| *byte == b'\n') {
+        if spell_line(alloc, &mut text, number, line).is_err() {
+            return Err(PageFault::OutOfMemory);
+        }
+        match put(page, text.as_bytes()) {
+            Ok(()) => number += 1,
+            Err(fault) => return Err(fault),
+        }
+    }
+    Ok(())
+}
+
+/// Writes what an input is shown as.
+fn put_shown<O: Sink>(alloc: Global, output: O, input: &[u8]) -> (O, Result<(), PageFault>)
+    ensures ok { OnOk result.1 (Wrote (O.held output) (O.held result.0) (shown_text input.now)) }
+    ensures err { OnErr result.1 (HasBegun (O.held output) (shown_text input.now) (O.held result.0)) }
+    ensures cause { IsErrOf result.1 PageFault.Write → Rose (O.faults output) (O.faults result.0) }
+    ensures later { O.faults output ≤ O.faults result.0 }
+{
+    let buffer = Octets::new(alloc);
+    let mut page = Page { output, buffer };
+    let put = match put_lines(alloc, &mut page, input) {
+        Ok(()) => flush(&mut page),
+        Err(fault) => Err(fault),
+    };
+    let Page { output, buffer: _ } = page;
+    (output, put)
+}
+
+/// Reads lines of hex text, each one PDU, and writes their fields. Empty lines are skipped, but counted. The output is
+/// handed back.
+pub fn show<I: Source, O: Sink>(alloc: Global, input: &mut I, output: O) -> (O, Status)
+    ensures ends { IfSome (I.left input.old) (λ text. Shows text (O.held output) (O.held result.0) result.1) }
+    ensures statuses { IsOfShow result.1 }
+    ensures whole { OnRead result.1 (IfSome (I.left input.old)
+        (λ text. (length text ≤ INPUT_LIMIT) × (I.left input.new ≡ Some []))) }
+    ensures unwritten { OnUnwritten result.1 (Stays (O.held output) (O.held result.0)) }
+    ensures read_fault { result.1 ≡ Status.ReadFault → Rose (I.faults input.old) (I.faults input.new) }
+    ensures write_fault { result.1 ≡ Status.WriteFault → Rose (O.faults output) (O.faults result.0) }
+    ensures too_long { result.1 ≡ Status.TooLong → IfSome (I.left input.old) (λ text. INPUT_LIMIT < length text) }
+    ensures complete { IsSomeAnd (I.left input.old) (λ text. length text ≤ INPUT_LIMIT)
+        → ¬ Rose (I.faults input.old) (I.faults input.new) → ¬ Rose (O.faults output) (O.faults result.0)
+        → IsDoneUnlessMemory result.1 }
+    ensures later { (I.faults input.old ≤ I.faults input.new) × (O.faults output ≤ O.faults result.0) }
+{
+    let text = match read_whole(alloc, input, INPUT_LIMIT) {
+        Ok(text) => text,
+        Err(fault) => return (output, Status::from(fault)),
+    };
+    let (output, put) = put_shown(alloc, output, text.as_slice());
+    match put {
+        Ok(()) => (output, Status::Done),
+        Err(PageFault::Write) => (output, Status::WriteFault),
+        Err(PageFault::OutOfMemory) => (output, Status::OutOfMemory),
+    }
+}
