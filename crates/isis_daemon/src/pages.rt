@@ -3,7 +3,7 @@ ghost use Rattle.isis_edge.specs.Faults.{Rose};
 ghost use Rattle.isis_edge.specs.Told.{Wrote};
 ghost use Rattle.isis_daemon.specs.Pages.{HasWritten, HasBegun};
 
-use isis_base::{Octets, OutOfMemory};
+use isis_base::Octets;
 use isis_edge::{Sink, WriteFailed, write_all};
 use std::alloc::Global;
 
@@ -48,40 +48,17 @@ pub fn flush<O: Sink>(page: &mut Page<O>) -> Result<(), PageFault>
     }
 }
 
-/// Adds octets at the end of the text.
-pub fn put<O: Sink>(page: &mut Page<O>, piece: &[u8]) -> Result<(), PageFault>
+/// Writes what waits, where it fills a page.
+pub fn settle<O: Sink>(page: &mut Page<O>) -> Result<(), PageFault>
     ensures ok { (before : Option (List ℕ)) (text : List ℕ) → HasWritten before text (O.held page.old.output) page.old.buffer
-        → OnOk result (HasWritten before (text ++ piece.now) (O.held page.new.output) page.new.buffer) }
+        → OnOk result (HasWritten before text (O.held page.new.output) page.new.buffer) }
     ensures err { (before : Option (List ℕ)) (text : List ℕ) → HasWritten before text (O.held page.old.output) page.old.buffer
-        → OnErr result (HasBegun before (text ++ piece.now) (O.held page.new.output)) }
+        → OnErr result (HasBegun before text (O.held page.new.output)) }
     ensures cause { IsErrOf result PageFault.Write → Rose (O.faults page.old.output) (O.faults page.new.output) }
     ensures later { O.faults page.old.output ≤ O.faults page.new.output }
 {
-    match page.buffer.extend(piece) {
-        Ok(()) => {}
-        Err(OutOfMemory) => return Err(PageFault::OutOfMemory),
-    }
     if page.buffer.len() < PAGE {
         return Ok(());
     }
     flush(page)
-}
-
-/// Adds two pieces at the end of the text.
-pub fn put_both<O: Sink>(page: &mut Page<O>, first: &[u8], second: &[u8]) -> Result<(), PageFault>
-    ensures ok { (before : Option (List ℕ)) (text : List ℕ) → HasWritten before text (O.held page.old.output) page.old.buffer
-        → OnOk result (HasWritten before (text ++ (first.now ++ second.now)) (O.held page.new.output) page.new.buffer) }
-    ensures err { (before : Option (List ℕ)) (text : List ℕ) → HasWritten before text (O.held page.old.output) page.old.buffer
-        → OnErr result (HasBegun before (text ++ (first.now ++ second.now)) (O.held page.new.output)) }
-    ensures cause { IsErrOf result PageFault.Write → Rose (O.faults page.old.output) (O.faults page.new.output) }
-    ensures later { O.faults page.old.output ≤ O.faults page.new.output }
-{
-    match put(page, first) {
-        Ok(()) => {}
-        Err(fault) => return Err(fault),
-    }
-    match put(page, second) {
-        Ok(()) => Ok(()),
-        Err(fault) => Err(fault),
-    }
 }
