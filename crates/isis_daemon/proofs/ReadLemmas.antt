@@ -1,20 +1,18 @@
-use Rattle.std.proofs.Common.{◌≡◌, ℕ, ◌+◌, ◌<◌, List, length, get_or, drop, Result, Ok, Err, sym, ap, ◌∙◌, arith}
-use Rattle.std.proofs.lemmas.List.{at_drop_more, at_drop_all}
+use Rattle.std.proofs.Common.{◌≡◌, ℕ, ◌+◌, List, [], ◌∷◌, Result, Ok, Err, ap}
 use Rattle.isis_daemon.specs.declared.reason.ScriptFault.{ScriptFault}
 use Rattle.isis_daemon.specs.declared.reason.ScriptFault.TheVariants.{Refused, Limit, OutOfMemory}
 use Rattle.isis_daemon.specs.Gives.{Gives, Answers}
 use Rattle.isis_daemon.specs.KeysScript.{Read, ◌>>=◌, read_line, read_lines}
 
 -- the next line is read before those behind it
-pub read_lines-at : (lines : List (List ℕ)) (read : Read) (number k : ℕ) (line : List ℕ) → (k < length lines) × (line ≡ get_or lines k line) → read_lines read number (drop k lines) ≡ (read_line read number line >>= λ more. read_lines more (number + 1) (drop (k + 1) lines))
+pub read_lines-next : (read : Read) (number : ℕ) (line : List ℕ) (lines all : List (List ℕ)) → all ≡ line ∷ lines → read_lines read number all ≡ (read_line read number line >>= λ more. read_lines more (number + 1) lines)
 unfolding read_lines
-read_lines-at lines read number k line h =
-    at_drop_more (read_lines read number) lines k line h.0 ∙ ap (λ (x : List ℕ). read_line read number x >>= λ more. read_lines more (number + 1) (drop (k + 1) lines)) (sym h.1)
+read_lines-next read number line lines all e = ap (read_lines read number) e
 
 -- at the end all is read
-pub read_lines-end : (lines : List (List ℕ)) (read : Read) (number k : ℕ) → k ≡ length lines → read_lines read number (drop k lines) ≡ Ok read
+pub read_lines-end : (read : Read) (number : ℕ) (all : List (List ℕ)) → all ≡ [] → read_lines read number all ≡ Ok read
 unfolding read_lines
-read_lines-end lines read number k e = ap (λ (n : ℕ). read_lines read number (drop n lines)) e ∙ at_drop_all (read_lines read number) lines (length lines) (omega arith)
+read_lines-end read number all e = ap (read_lines read number) e
 
 -- a line that is read
 pub read_lines-ok : (read more : Read) (number : ℕ) (line : List ℕ) (rest : Read → Result Read ScriptFault) → read_line read number line ≡ Ok more → (read_line read number line >>= rest) ≡ rest more

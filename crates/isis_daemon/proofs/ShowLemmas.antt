@@ -1,5 +1,4 @@
-use Rattle.std.proofs.Common.{◌≡◌, ◌∙◌, ℕ, zero, suc, ◌+◌, ◌≤◌, ◌<◌, List, [], ◌∷◌, ◌++◌, length, get_or, drop, Result, Ok, Err, arith, sym, ap}
-use Rattle.std.proofs.lemmas.List.{at_drop_more, at_drop_all}
+use Rattle.std.proofs.Common.{◌≡◌, ℕ, zero, suc, ◌+◌, ◌≤◌, List, [], ◌∷◌, ◌++◌, length, Result, Ok, Err, arith, ap}
 use Rattle.std.specs.Result.{ok_prefix}
 use Rattle.isis_tlv.specs.Tlvs.{tlv_at, tlv_list}
 use Rattle.isis_tlv.specs.Walks.{before, walk, items_of}
@@ -22,12 +21,11 @@ unfolding items_of
 length_tlv_list place octets = length-walk tlv_at (length octets) place octets
 
 -- the next line is shown before those behind it
-pub shown_lines-at : (lines : List (List ℕ)) (number k : ℕ) (line : List ℕ) → (k < length lines) × (line ≡ get_or lines k line) → shown_lines number (drop k lines) ≡ shown_line number line ++ shown_lines (number + 1) (drop (k + 1) lines)
+pub shown_lines-next : (number : ℕ) (line : List ℕ) (lines all : List (List ℕ)) → all ≡ line ∷ lines → shown_lines number all ≡ shown_line number line ++ shown_lines (number + 1) lines
 unfolding shown_lines
-shown_lines-at lines number k line h =
-    at_drop_more (shown_lines number) lines k line h.0 ∙ ap (λ (x : List ℕ). shown_line number x ++ shown_lines (number + 1) (drop (k + 1) lines)) (sym h.1)
+shown_lines-next number line lines all e = ap (shown_lines number) e
 
 -- behind the last line there is nothing
-pub shown_lines-end : (lines : List (List ℕ)) (number k : ℕ) → k ≡ length lines → shown_lines number (drop k lines) ≡ []
+pub shown_lines-end : (number : ℕ) (all : List (List ℕ)) → all ≡ [] → shown_lines number all ≡ []
 unfolding shown_lines
-shown_lines-end lines number k e = ap (λ (n : ℕ). shown_lines number (drop n lines)) e ∙ at_drop_all (shown_lines number) lines (length lines) (omega arith)
+shown_lines-end number all e = ap (shown_lines number) e

@@ -4,4 +4,5 @@ pub mod names;
 pub mod play;
 pub mod reader;
 pub mod report;
-mod words;
+mod spelling;
+pub mod words;

@@ -48,6 +48,21 @@ pub fn flush<O: Sink>(page: &mut Page<O>) -> Result<(), PageFault>
     }
 }
 
+/// Writes what waits, where it fills a page.
+pub fn settle<O: Sink>(page: &mut Page<O>) -> Result<(), PageFault>
+    ensures ok { (before : Option (List ℕ)) (text : List ℕ) → HasWritten before text (O.held page.old.output) page.old.buffer
+        → OnOk result (HasWritten before text (O.held page.new.output) page.new.buffer) }
+    ensures err { (before : Option (List ℕ)) (text : List ℕ) → HasWritten before text (O.held page.old.output) page.old.buffer
+        → OnErr result (HasBegun before text (O.held page.new.output)) }
+    ensures cause { IsErrOf result PageFault.Write → Rose (O.faults page.old.output) (O.faults page.new.output) }
+    ensures later { O.faults page.old.output ≤ O.faults page.new.output }
+{
+    if page.buffer.len() < PAGE {
+        return Ok(());
+    }
+    flush(page)
+}
+
 /// Adds octets at the end of the text.
 pub fn put<O: Sink>(page: &mut Page<O>, piece: &[u8]) -> Result<(), PageFault>
     ensures ok { (before : Option (List ℕ)) (text : List ℕ) → HasWritten before text (O.held page.old.output) page.old.buffer
@@ -61,27 +76,5 @@ pub fn put<O: Sink>(page: &mut Page<O>, piece: &[u8]) -> Result<(), PageFault>
         Ok(()) => {}
         Err(OutOfMemory) => return Err(PageFault::OutOfMemory),
     }
-    if page.buffer.len() < PAGE {
-        return Ok(());
-    }
-    flush(page)
-}
-
-/// Adds two pieces at the end of the text.
-pub fn put_both<O: Sink>(page: &mut Page<O>, first: &[u8], second: &[u8]) -> Result<(), PageFault>
-    ensures ok { (before : Option (List ℕ)) (text : List ℕ) → HasWritten before text (O.held page.old.output) page.old.buffer
-        → OnOk result (HasWritten before (text ++ (first.now ++ second.now)) (O.held page.new.output) page.new.buffer) }
-    ensures err { (before : Option (List ℕ)) (text : List ℕ) → HasWritten before text (O.held page.old.output) page.old.buffer
-        → OnErr result (HasBegun before (text ++ (first.now ++ second.now)) (O.held page.new.output)) }
-    ensures cause { IsErrOf result PageFault.Write → Rose (O.faults page.old.output) (O.faults page.new.output) }
-    ensures later { O.faults page.old.output ≤ O.faults page.new.output }
-{
-    match put(page, first) {
-        Ok(()) => {}
-        Err(fault) => return Err(fault),
-    }
-    match put(page, second) {
-        Ok(()) => Ok(()),
-        Err(fault) => Err(fault),
-    }
+    settle(page)
 }

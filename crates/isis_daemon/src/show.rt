@@ -8,6 +8,7 @@ ghost use Rattle.isis_daemon.specs.ShowText.{shown_line, shown_text};
 mod spell;
 
 use self::spell::{spell_fault, spell_octets};
+use crate::keys::words::cut;
 use crate::pages::{Page, PageFault, flush, put};
 use crate::status::{INPUT_LIMIT, Status};
 use hex::FromHexError;
@@ -49,14 +50,18 @@ fn put_lines<O: Sink>(alloc: Global, page: &mut Page<O>, input: &[u8]) -> Result
 {
     let mut text = String::new(alloc);
     let mut number = 1usize;
-    for line in input.split(|byte| *byte == b'\n') {
-        if spell_line(alloc, &mut text, number, line).is_err() {
-            return Err(PageFault::OutOfMemory);
+    let mut left = Some(input);
+    while let Some(rest) = left {
+        let (line, behind) = cut(rest, b'\n');
+        match spell_line(alloc, &mut text, number, line) {
+            Ok(()) => {}
+            Err(_) => return Err(PageFault::OutOfMemory),
         }
         match put(page, text.as_bytes()) {
             Ok(()) => number += 1,
             Err(fault) => return Err(fault),
         }
+        left = behind;
     }
     Ok(())
 }

@@ -9,7 +9,7 @@ ghost use Rattle.isis_daemon.specs.Words.{texts, lines_of};
 use super::events::{KeyEvent, Told};
 use super::fields::{read_copy, read_id, read_key, reads_name};
 use super::names::Names;
-use super::words::split_words;
+use super::words::{cut, split_words};
 use crate::reason::{Reason, ScriptFault};
 use network_lab::{KeyNet, LabFault, LimitName};
 use std::alloc::Global;
@@ -273,11 +273,14 @@ pub fn read_keys(alloc: Global, text: &[u8]) -> Result<Reader<'_>, ScriptFault>
     let mut reader = Reader::new(alloc);
     let mut words = Vec::new(alloc);
     let mut number = 1usize;
-    for line in text.split(|byte| *byte == b'\n') {
+    let mut left = Some(text);
+    while let Some(rest) = left {
+        let (line, behind) = cut(rest, b'\n');
         match reader.line(number, line, &mut words) {
             Ok(()) => number += 1,
             Err(fault) => return Err(fault),
         }
+        left = behind;
     }
     Ok(reader)
 }

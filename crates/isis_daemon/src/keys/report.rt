@@ -5,28 +5,15 @@ ghost use Rattle.isis_daemon.specs.KeysReport.{key_line, key_lines, key_end, hea
 ghost use Rattle.isis_daemon.specs.Pages.{HasWritten, HasBegun, Adds, Begins};
 ghost use Rattle.isis_daemon.specs.Words.{texts};
 
-use crate::pages::{Page, PageFault, flush, put, put_both};
+use super::spelling::spell;
+use crate::pages::{Page, PageFault, flush, settle};
 use isis_base::{Key, LspId, Octets, OutOfMemory};
 use isis_edge::Sink;
 use network_lab::KeyNet;
-use std::alloc::{AllocError, Global};
-
-/// The end of a line of the report, behind the router's name.
-fn spell(line: &mut String, entry: &(LspId, Key)) -> Result<(), AllocError>
-    ensures { OnOk result (string_bytes line.new ≡ key_end entry.now) }
-{
-    let (id, key) = *entry;
-    line.clear();
-    write!(line, " {id} {key}\n")
-}
+use std::alloc::Global;
 
 /// A line of the report.
-fn put_key<O: Sink>(
-    page: &mut Page<O>,
-    line: &mut String,
-    name: &[u8],
-    entry: &(LspId, Key),
-) -> Result<(), PageFault>
+fn put_key<O: Sink>(page: &mut Page<O>, name: &[u8], entry: &(LspId, Key)) -> Result<(), PageFault>
     ensures ok { (before : Option (List ℕ)) (text : List ℕ) → HasWritten before text (O.held page.old.output) page.old.buffer
         → OnOk result (HasWritten before (text ++ key_line name.now entry.now) (O.held page.new.output) page.new.buffer) }
     ensures err { (before : Option (List ℕ)) (text : List ℕ) → HasWritten before text (O.held page.old.output) page.old.buffer
@@ -34,14 +21,11 @@ fn put_key<O: Sink>(
     ensures cause { IsErrOf result PageFault.Write → Rose (O.faults page.old.output) (O.faults page.new.output) }
     ensures later { O.faults page.old.output ≤ O.faults page.new.output }
 {
-    if spell(line, entry).is_err() {
-        return Err(PageFault::OutOfMemory);
-    }
-    match put(page, b"key ") {
+    match spell(&mut page.buffer, name, entry) {
         Ok(()) => {}
-        Err(fault) => return Err(fault),
+        Err(OutOfMemory) => return Err(PageFault::OutOfMemory),
     }
-    match put_both(page, name, line.as_bytes()) {
+    match settle(page) {
         Ok(()) => Ok(()),
         Err(fault) => Err(fault),
     }
@@ -50,7 +34,6 @@ fn put_key<O: Sink>(
 /// The lines of one router.
 fn put_keys<O: Sink>(
     page: &mut Page<O>,
-    line: &mut String,
     name: &[u8],
     entries: &[(LspId, Key)],
 ) -> Result<(), PageFault>
@@ -62,7 +45,7 @@ fn put_keys<O: Sink>(
     ensures later { O.faults page.old.output ≤ O.faults page.new.output }
 {
     for entry in entries {
-        match put_key(page, line, name, entry) {
+        match put_key(page, name, entry) {
             Ok(()) => {}
             Err(fault) => return Err(fault),
         }
@@ -71,12 +54,7 @@ fn put_keys<O: Sink>(
 }
 
 /// The lines of all routers, in the order of their numbers.
-fn put_routers<O: Sink>(
-    page: &mut Page<O>,
-    line: &mut String,
-    names: &[&[u8]],
-    net: &KeyNet,
-) -> Result<(), PageFault>
+fn put_routers<O: Sink>(page: &mut Page<O>, names: &[&[u8]], net: &KeyNet) -> Result<(), PageFault>
     requires { length names.now ≤ net.now.routers }
     ensures ok { OnOk result ((lines : List ℕ) × AreLines net.now 0 (texts names.now) lines
         × Adds (O.held page.old.output) page.old.buffer lines (O.held page.new.output) page.new.buffer) }
@@ -87,7 +65,7 @@ fn put_routers<O: Sink>(
 {
     for (router, name) in names.iter().enumerate() {
         let entries = net.held(router);
-        match put_keys(page, line, name, entries) {
+        match put_keys(page, name, entries) {
             Ok(()) => {}
             Err(fault) => return Err(fault),
         }
@@ -96,12 +74,7 @@ fn put_routers<O: Sink>(
 }
 
 /// The lines behind the head, and all of it written.
-fn put_all<O: Sink>(
-    page: &mut Page<O>,
-    line: &mut String,
-    names: &[&[u8]],
-    net: &KeyNet,
-) -> Result<(), PageFault>
+fn put_all<O: Sink>(page: &mut Page<O>, names: &[&[u8]], net: &KeyNet) -> Result<(), PageFault>
     requires start { page.old.buffer ≡ head_line }
     requires named { length names.now ≤ net.now.routers }
     ensures ok { OnOk result ((report : List ℕ) × IsReport (texts names.now) net.now report
@@ -111,7 +84,7 @@ fn put_all<O: Sink>(
     ensures cause { IsErrOf result PageFault.Write → Rose (O.faults page.old.output) (O.faults page.new.output) }
     ensures later { O.faults page.old.output ≤ O.faults page.new.output }
 {
-    match put_routers(page, line, names, net) {
+    match put_routers(page, names, net) {
         Ok(()) => {}
         Err(fault) => return Err(fault),
     }
@@ -145,8 +118,7 @@ pub fn put_report<O: Sink>(
         Err(OutOfMemory) => return (output, Err(PageFault::OutOfMemory)),
     }
     let mut page = Page { output, buffer };
-    let mut line = String::new(alloc);
-    let put = put_all(&mut page, &mut line, names, net);
+    let put = put_all(&mut page, names, net);
     let Page { output, buffer: _ } = page;
     (output, put)
 }

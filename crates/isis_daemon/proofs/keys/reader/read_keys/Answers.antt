@@ -1,37 +1,36 @@
-use Rattle.std.proofs.Common.{◌∙◌, ◌+◌, ◌==◌, ℕ, length, drop, sym, ap, rules, tests, arith}
-use Rattle.std.proofs.lemmas.Iterator.Splits.{YieldsList-from_slice_split}
-use Rattle.std.proofs.lemmas.Iterator.Consumers.{YieldsList-turn, YieldsList-end}
-use Rattle.std.proofs.lemmas.List.{length_push}
+use Rattle.std.proofs.Common.{◌≡◌, ◌∙◌, ◌+◌, ◌∷◌, length, suc, sym, ap, arith}
+use Rattle.isis_daemon.specs.Cuts.{parts_behind}
 use Rattle.isis_daemon.specs.KeysScript.{Read, read_lines}
-use Rattle.isis_daemon.specs.Words.{lines_of}
-use Rattle.isis_daemon.proofs.ReadLemmas.{read_lines-at, read_lines-end, read_lines-ok, read_lines-err, Answers-from_line}
+use Rattle.isis_daemon.proofs.CutLemmas.{size_left, size-behind}
+use Rattle.isis_daemon.proofs.ReadLemmas.{read_lines-next, read_lines-end, read_lines-ok, read_lines-err, Answers-from_line}
 use Rattle.isis_daemon.proofs.keys.reader.read_keys.Goals as goal
 
-pub loop-line-preserved : goal.loop-line-preserved
-loop-line-preserved c =
-    let lines = lines_of c.args.text.now in
-    let k = length c.loop-line.yielded in
-    let turn = YieldsList-turn (YieldsList-from_slice_split _ (λ byte. byte == 10) c.args.text.now (cc) (cc) (cc) (λ x r q h. search (rules, tests))) c.loop-line.yielded _ c.loop-line.yielded_by _ _ c.in-Some.line c.in-Some.is c.next.ensures.steps in
-    let more = length_push c.loop-line.yielded c.in-Some.line in
+pub loop-left-preserved : goal.loop-left-preserved
+loop-left-preserved c =
+    let line = c.cut.result.0.now in
+    let behind = c.cut.result.1 in
+    let number = c.loop-left.number in
+    let parts : parts_behind 10 c.loop-left.left ≡ line ∷ parts_behind 10 behind = ap (parts_behind 10) c.in-Some.is ∙ c.cut.ensures.parts in
+    let size : size_left c.loop-left.left ≡ suc (length c.in-Some.rest.now) = ap size_left c.in-Some.is in
     record {
-      counted = omega (arith, c.loop-line.invariant.counted);
-      left =
-          ap (λ (n : ℕ). read_lines c.line.new.self (c.loop-line.number + 1) (drop n lines)) more
-          ∙ sym (read_lines-ok c.loop-line.reader c.line.new.self c.loop-line.number c.in-Some.line.now (λ (x : Read). read_lines x (c.loop-line.number + 1) (drop (k + 1) lines)) c.in-Ok.ensures)
-          ∙ sym (read_lines-at lines c.loop-line.reader c.loop-line.number k c.in-Some.line.now turn)
-          ∙ c.loop-line.invariant.left;
+      counted = omega (arith, c.loop-left.invariant.counted, size, size-behind behind (length c.in-Some.rest.now) c.cut.ensures.less);
+      read =
+          sym (read_lines-ok c.loop-left.reader c.line.new.self number line (λ (x : Read). read_lines x (number + 1) (parts_behind 10 behind)) c.in-Ok.ensures)
+          ∙ sym (read_lines-next c.loop-left.reader number line (parts_behind 10 behind) (parts_behind 10 c.loop-left.left) parts)
+          ∙ c.loop-left.invariant.read;
     }
 
 pub returns-in-Err : goal.returns-in-Err
 returns-in-Err c =
-    let lines = lines_of c.args.text.now in
-    let k = length c.loop-line.yielded in
-    let turn = YieldsList-turn (YieldsList-from_slice_split _ (λ byte. byte == 10) c.args.text.now (cc) (cc) (cc) (λ x r q h. search (rules, tests))) c.loop-line.yielded _ c.loop-line.yielded_by _ _ c.in-Some.line c.in-Some.is c.next.ensures.steps in
+    let line = c.cut.result.0.now in
+    let behind = c.cut.result.1 in
+    let number = c.loop-left.number in
+    let parts : parts_behind 10 c.loop-left.left ≡ line ∷ parts_behind 10 behind = ap (parts_behind 10) c.in-Some.is ∙ c.cut.ensures.parts in
     Answers-from_line c.in-Err.fault c.line.new.self _ _ c.in-Err.ensures
-    (λ f e. sym c.loop-line.invariant.left ∙ read_lines-at lines c.loop-line.reader c.loop-line.number k c.in-Some.line.now turn ∙ read_lines-err c.loop-line.reader c.loop-line.number c.in-Some.line.now _ f e)
+    (λ f e. sym c.loop-left.invariant.read
+    ∙ read_lines-next c.loop-left.reader number line (parts_behind 10 behind) (parts_behind 10 c.loop-left.left) parts
+    ∙ read_lines-err c.loop-left.reader number line _ f e)
 
 pub returns : goal.returns
 returns c =
-    let lines = lines_of c.args.text.now in
-    let all = YieldsList-end (YieldsList-from_slice_split _ (λ byte. byte == 10) c.args.text.now (cc) (cc) (cc) (λ x r q h. search (rules, tests))) c.loop-line.yielded _ c.loop-line.yielded_by _ _ c.in-None.is c.next.ensures.steps in
-    sym c.loop-line.invariant.left ∙ read_lines-end lines c.loop-line.reader c.loop-line.number (length c.loop-line.yielded) all.1
+    sym c.loop-left.invariant.read ∙ read_lines-end c.loop-left.reader c.loop-left.number (parts_behind 10 c.loop-left.left) (ap (parts_behind 10) c.in_default.is)
