@@ -1,9 +1,9 @@
-ghost use Rattle.std.specs.Prelude.{◌≡◌, ◌≤◌, ℕ, List, [], ◌++◌, Option, OnOk, OnErr, IsErrOf};
+ghost use Rattle.std.specs.Prelude.{◌≡◌, ◌≤◌, ℕ, List, [], Option, OnOk, OnErr, IsErrOf};
 ghost use Rattle.isis_edge.specs.Faults.{Rose};
 ghost use Rattle.isis_edge.specs.Told.{Wrote};
 ghost use Rattle.isis_daemon.specs.Pages.{HasWritten, HasBegun};
 
-use isis_base::{Octets, OutOfMemory};
+use isis_base::Octets;
 use isis_edge::{Sink, WriteFailed, write_all};
 use std::alloc::Global;
 
@@ -61,20 +61,4 @@ pub fn settle<O: Sink>(page: &mut Page<O>) -> Result<(), PageFault>
         return Ok(());
     }
     flush(page)
-}
-
-/// Adds octets at the end of the text.
-pub fn put<O: Sink>(page: &mut Page<O>, piece: &[u8]) -> Result<(), PageFault>
-    ensures ok { (before : Option (List ℕ)) (text : List ℕ) → HasWritten before text (O.held page.old.output) page.old.buffer
-        → OnOk result (HasWritten before (text ++ piece.now) (O.held page.new.output) page.new.buffer) }
-    ensures err { (before : Option (List ℕ)) (text : List ℕ) → HasWritten before text (O.held page.old.output) page.old.buffer
-        → OnErr result (HasBegun before (text ++ piece.now) (O.held page.new.output)) }
-    ensures cause { IsErrOf result PageFault.Write → Rose (O.faults page.old.output) (O.faults page.new.output) }
-    ensures later { O.faults page.old.output ≤ O.faults page.new.output }
-{
-    match page.buffer.extend(piece) {
-        Ok(()) => {}
-        Err(OutOfMemory) => return Err(PageFault::OutOfMemory),
-    }
-    settle(page)
 }

@@ -1,4 +1,4 @@
-ghost use Rattle.std.specs.Prelude.{◌≡◌, ◌<◌, ◌≤◌, [], length, Some, IfSome, IsSomeAnd, OnOk, OnErr, IsErrOf, string_bytes};
+ghost use Rattle.std.specs.Prelude.{◌≡◌, ◌<◌, ◌≤◌, ℕ, List, [], ◌++◌, length, Option, Some, IfSome, IsSomeAnd, OnOk, OnErr, IsErrOf};
 ghost use Rattle.isis_edge.specs.Faults.{Rose};
 ghost use Rattle.isis_edge.specs.Told.{Wrote, Stays};
 ghost use Rattle.isis_daemon.specs.Pages.{HasWritten, HasBegun};
@@ -6,38 +6,59 @@ ghost use Rattle.isis_daemon.specs.Run.{Shows, IsOfShow, OnRead, OnUnwritten, Is
 ghost use Rattle.isis_daemon.specs.ShowText.{shown_line, shown_text};
 
 mod spell;
+mod texts;
 
-use self::spell::{spell_fault, spell_octets};
+use self::spell::{add_fault, add_octets};
 use crate::keys::words::cut;
-use crate::pages::{Page, PageFault, flush, put};
+use crate::pages::{Page, PageFault, flush, settle};
 use crate::status::{INPUT_LIMIT, Status};
 use hex::FromHexError;
-use isis_base::Octets;
+use isis_base::{Octets, OutOfMemory};
 use isis_edge::{Sink, Source, read_whole};
-use std::alloc::{AllocError, Global};
+use std::alloc::Global;
 
-/// What a line of the input is shown as, in the place of the text.
+/// Adds what a line of the input is shown as.
 #[tactic(auto, unfolding(crate::specs::ShowText::shown_line))]
-fn spell_line(
+fn add_line(
     alloc: Global,
-    text: &mut String,
+    text: &mut Octets,
     number: usize,
     line: &[u8],
-) -> Result<(), AllocError>
-    ensures { OnOk result (string_bytes text.new ≡ shown_line number line.now) }
+) -> Result<(), OutOfMemory>
+    ensures { OnOk result (text.new ≡ text.old ++ shown_line number line.now) }
 {
-    text.clear();
     if line.is_empty() {
         return Ok(());
     }
     match hex::decode(alloc, line) {
-        Ok(octets) => spell_octets(text, number, octets.as_slice()),
-        Err(FromHexError::OutOfMemory) => Err(AllocError),
+        Ok(octets) => add_octets(text, number, octets.as_slice()),
+        Err(FromHexError::OutOfMemory) => Err(OutOfMemory),
         Err(FromHexError::InvalidHexCharacter { index, .. }) => {
-            spell_fault(text, number, "Hex", index)
+            add_fault(text, number, "Hex", index)
         }
-        Err(_) => spell_fault(text, number, "Hex", line.len()),
+        Err(_) => add_fault(text, number, "Hex", line.len()),
     }
+}
+
+/// Adds what a line of the input is shown as, and writes what fills a page.
+fn put_line<O: Sink>(
+    alloc: Global,
+    page: &mut Page<O>,
+    number: usize,
+    line: &[u8],
+) -> Result<(), PageFault>
+    ensures ok { (before : Option (List ℕ)) (text : List ℕ) → HasWritten before text (O.held page.old.output) page.old.buffer
+        → OnOk result (HasWritten before (text ++ shown_line number line.now) (O.held page.new.output) page.new.buffer) }
+    ensures err { (before : Option (List ℕ)) (text : List ℕ) → HasWritten before text (O.held page.old.output) page.old.buffer
+        → OnErr result (HasBegun before (text ++ shown_line number line.now) (O.held page.new.output)) }
+    ensures cause { IsErrOf result PageFault.Write → Rose (O.faults page.old.output) (O.faults page.new.output) }
+    ensures later { O.faults page.old.output ≤ O.faults page.new.output }
+{
+    match add_line(alloc, &mut page.buffer, number, line) {
+        Ok(()) => {}
+        Err(OutOfMemory) => return Err(PageFault::OutOfMemory),
+    }
+    settle(page)
 }
 
 /// Adds what the lines of the input are shown as.
@@ -48,16 +69,11 @@ fn put_lines<O: Sink>(alloc: Global, page: &mut Page<O>, input: &[u8]) -> Result
     ensures cause { IsErrOf result PageFault.Write → Rose (O.faults page.old.output) (O.faults page.new.output) }
     ensures later { O.faults page.old.output ≤ O.faults page.new.output }
 {
-    let mut text = String::new(alloc);
     let mut number = 1usize;
     let mut left = Some(input);
     while let Some(rest) = left {
         let (line, behind) = cut(rest, b'\n');
-        match spell_line(alloc, &mut text, number, line) {
-            Ok(()) => {}
-            Err(_) => return Err(PageFault::OutOfMemory),
-        }
-        match put(page, text.as_bytes()) {
+        match put_line(alloc, page, number, line) {
             Ok(()) => number += 1,
             Err(fault) => return Err(fault),
         }

@@ -19,14 +19,14 @@ fn digit(value: u8) -> u8
 }
 
 /// The first hex digit of an octet.
-fn high(octet: u8) -> u8
+pub fn high(octet: u8) -> u8
     ensures { result ≡ digit_char (octet / 16) }
 {
     digit(octet / 16)
 }
 
 /// The second hex digit of an octet.
-fn low(octet: u8) -> u8
+pub fn low(octet: u8) -> u8
     ensures { result ≡ digit_char (octet % 16) }
 {
     digit(octet % 16)

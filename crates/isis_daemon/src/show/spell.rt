@@ -1,17 +1,19 @@
-ghost use Rattle.std.specs.Prelude.{◌≡◌, ◌+◌, ◌^◌, ◌<◌, ◌≤◌, ◌++◌, length, OnOk, string_bytes};
+ghost use Rattle.std.specs.Prelude.{◌≡◌, ◌+◌, ◌^◌, ◌<◌, ◌≤◌, ◌++◌, length, OnOk};
 ghost use Rattle.std.specs.List.{flat_map};
-ghost use Rattle.isis_base.specs.Texts.{hex_pair};
 ghost use Rattle.isis_tlv.specs.Tlvs.{tlv_list};
+ghost use Rattle.isis_tlv.specs.TlvViews.{one_view};
 ghost use Rattle.isis_pdu.specs.Decoded.{decoded};
 ghost use Rattle.isis_pdu.specs.Layout.{kind_of, header_length};
 ghost use Rattle.isis_pdu.specs.Views.{pdu_view, tlvs_of_pdu, decoded_view};
 ghost use Rattle.isis_daemon.specs.ShowText as show;
 
-use isis_base::Level;
+use super::texts::{
+    add_levels, add_lsp_id, add_node, add_number, add_octet, add_system, add_two,
+};
+use isis_base::{Level, LevelSet, Octets, OutOfMemory, SystemId};
 use isis_pdu::{Pdu, PduFaultKind, decode, encoded_len};
-use isis_tlv::Tlvs;
+use isis_tlv::{Tlv, Tlvs};
 use iso_checksum::holds;
-use std::alloc::AllocError;
 
 /// The word of a PDU's type.
 fn type_word(pdu: &Pdu<'_>) -> &'static str
@@ -76,46 +78,45 @@ fn tlvs_of<'a>(pdu: &Pdu<'a>) -> &'a [u8]
     }
 }
 
-/// Adds an octet as two hex digits.
-#[tactic(auto, using(std::proofs::lemmas::Fmt::hex_byte))]
-fn spell_octet(text: &mut String, octet: u8) -> Result<(), AllocError>
-    ensures { OnOk result (string_bytes text.new ≡ string_bytes text.old ++ hex_pair octet) }
+/// Adds the fields that both kinds of hellos have.
+fn add_hello(
+    text: &mut Octets,
+    circuit_type: LevelSet,
+    source: SystemId,
+    holding: u16,
+) -> Result<(), OutOfMemory>
+    ensures { OnOk result (text.new ≡ text.old ++ show.hello_text circuit_type source holding) }
 {
-    write!(text, "{octet:02x}")
-}
-
-/// Adds a number's two octets as four hex digits.
-#[tactic(auto, unfolding(crate::specs::ShowText::two_text))]
-fn spell_two(text: &mut String, number: u16) -> Result<(), AllocError>
-    ensures { OnOk result (string_bytes text.new ≡ string_bytes text.old ++ show.two_text number) }
-{
-    let [high, low] = number.to_be_bytes();
-    spell_octet(text, high)?;
-    spell_octet(text, low)
+    text.extend(b" circuit ")?;
+    add_levels(text, circuit_type)?;
+    text.extend(b" source ")?;
+    add_system(text, source)?;
+    add_number(text, b" holding ", u64::from(holding))
 }
 
 /// Adds the last fields of an LSP.
-fn spell_checksum(
-    text: &mut String,
+fn add_checksum(
+    text: &mut Octets,
     lifetime: u16,
     checksum: u16,
     flags: u8,
     octets: &[u8],
-) -> Result<(), AllocError>
+) -> Result<(), OutOfMemory>
     requires { 12 ≤ length octets.now }
-    ensures { OnOk result (string_bytes text.new ≡ string_bytes text.old ++ show.checksum_text lifetime checksum flags octets.now) }
+    ensures { OnOk result (text.new ≡ text.old ++ show.checksum_text lifetime checksum flags octets.now) }
 {
-    let word = soundness(lifetime, checksum, octets);
-    text.push_str(" checksum ")?;
-    spell_two(text, checksum)?;
-    write!(text, " {word} flags ")?;
-    spell_octet(text, flags)
+    text.extend(b" checksum ")?;
+    add_two(text, checksum)?;
+    text.push(b' ')?;
+    text.extend(soundness(lifetime, checksum, octets).as_bytes())?;
+    text.extend(b" flags ")?;
+    add_octet(text, flags)
 }
 
 /// Adds the fields of a PDU, which has these octets.
-fn spell_fields(text: &mut String, pdu: &Pdu<'_>, octets: &[u8]) -> Result<(), AllocError>
+fn add_fields(text: &mut Octets, pdu: &Pdu<'_>, octets: &[u8]) -> Result<(), OutOfMemory>
     requires { header_length (kind_of (pdu_view pdu.now)) ≤ length octets.now }
-    ensures { OnOk result (string_bytes text.new ≡ string_bytes text.old ++ show.fields_text (pdu_view pdu.now) octets.now) }
+    ensures { OnOk result (text.new ≡ text.old ++ show.fields_text (pdu_view pdu.now) octets.now) }
 {
     match *pdu {
         Pdu::LanHello {
@@ -125,20 +126,22 @@ fn spell_fields(text: &mut String, pdu: &Pdu<'_>, octets: &[u8]) -> Result<(), A
             priority,
             lan,
             ..
-        } => write!(
-            text,
-            " circuit {circuit_type} source {source} holding {holding} priority {priority} lan {lan}"
-        ),
+        } => {
+            add_hello(text, circuit_type, source, holding)?;
+            add_number(text, b" priority ", u64::from(priority))?;
+            text.extend(b" lan ")?;
+            add_node(text, lan)
+        }
         Pdu::PointHello {
             circuit_type,
             source,
             holding,
             circuit,
             ..
-        } => write!(
-            text,
-            " circuit {circuit_type} source {source} holding {holding} id {circuit}"
-        ),
+        } => {
+            add_hello(text, circuit_type, source, holding)?;
+            add_number(text, b" id ", u64::from(circuit))
+        }
         Pdu::Lsp {
             lifetime,
             id,
@@ -147,13 +150,26 @@ fn spell_fields(text: &mut String, pdu: &Pdu<'_>, octets: &[u8]) -> Result<(), A
             flags,
             ..
         } => {
-            write!(text, " lifetime {lifetime} id {id} number {number}")?;
-            spell_checksum(text, lifetime, checksum, flags, octets)
+            add_number(text, b" lifetime ", u64::from(lifetime))?;
+            text.extend(b" id ")?;
+            add_lsp_id(text, id)?;
+            add_number(text, b" number ", u64::from(number))?;
+            add_checksum(text, lifetime, checksum, flags, octets)
         }
         Pdu::Csnp {
             source, start, end, ..
-        } => write!(text, " source {source} start {start} end {end}"),
-        Pdu::Psnp { source, .. } => write!(text, " source {source}"),
+        } => {
+            text.extend(b" source ")?;
+            add_node(text, source)?;
+            text.extend(b" start ")?;
+            add_lsp_id(text, start)?;
+            text.extend(b" end ")?;
+            add_lsp_id(text, end)
+        }
+        Pdu::Psnp { source, .. } => {
+            text.extend(b" source ")?;
+            add_node(text, source)
+        }
     }
 }
 
@@ -173,21 +189,28 @@ fn count_tlvs(tlvs: &[u8], first: usize) -> usize
     count
 }
 
+/// Adds the line of a TLV.
+fn add_tlv(text: &mut Octets, tlv: &Tlv<'_>) -> Result<(), OutOfMemory>
+    ensures { OnOk result (text.new ≡ text.old ++ show.tlv_line (one_view tlv.now)) }
+{
+    add_number(text, b"tlv ", u64::from(tlv.code))?;
+    add_number(text, b" at ", tlv.place as u64)?;
+    add_number(text, b" length ", tlv.value.len() as u64)?;
+    text.push(b'\n')
+}
+
 /// Adds a line for each TLV.
-fn spell_tlvs(text: &mut String, tlvs: &[u8], first: usize) -> Result<(), AllocError>
+fn add_tlvs(text: &mut Octets, tlvs: &[u8], first: usize) -> Result<(), OutOfMemory>
     requires { first + length tlvs.now < 2 ^ 64 }
-    ensures { OnOk result (string_bytes text.new ≡ string_bytes text.old ++ flat_map show.tlv_line (tlv_list first tlvs.now)) }
+    ensures { OnOk result (text.new ≡ text.old ++ flat_map show.tlv_line (tlv_list first tlvs.now)) }
 {
     for item in Tlvs::new(tlvs, first) {
         let Ok(tlv) = item else {
             return Ok(());
         };
-        let code = tlv.code;
-        let place = tlv.place;
-        let length = tlv.value.len();
-        match write!(text, "tlv {code} at {place} length {length}\n") {
+        match add_tlv(text, &tlv) {
             Ok(()) => {}
-            Err(error) => return Err(error),
+            Err(fault) => return Err(fault),
         }
     }
     Ok(())
@@ -202,47 +225,62 @@ fn first_tlv(pdu: &Pdu<'_>) -> usize
 
 /// Adds the first line of a PDU, which has these octets, up to the count of its TLVs.
 #[tactic(auto, unfolding(crate::specs::ShowText::head_text))]
-fn spell_head(text: &mut String, number: usize, pdu: &Pdu<'_>, octets: &[u8]) -> Result<(), AllocError>
+fn add_head(
+    text: &mut Octets,
+    number: usize,
+    pdu: &Pdu<'_>,
+    octets: &[u8],
+) -> Result<(), OutOfMemory>
     requires { header_length (kind_of (pdu_view pdu.now)) ≤ length octets.now }
-    ensures { OnOk result (string_bytes text.new ≡ string_bytes text.old ++ show.head_text number (pdu_view pdu.now) octets.now) }
+    ensures { OnOk result (text.new ≡ text.old ++ show.head_text number (pdu_view pdu.now) octets.now) }
 {
-    let word = type_word(pdu);
-    let length = octets.len();
-    write!(text, "pdu {number} {word} length {length}")?;
-    spell_fields(text, pdu, octets)
+    add_number(text, b"pdu ", number as u64)?;
+    text.push(b' ')?;
+    text.extend(type_word(pdu).as_bytes())?;
+    add_number(text, b" length ", octets.len() as u64)?;
+    add_fields(text, pdu, octets)
 }
 
 /// Adds the lines of a PDU, which has these octets.
-fn spell_pdu(text: &mut String, number: usize, pdu: &Pdu<'_>, octets: &[u8]) -> Result<(), AllocError>
+fn add_pdu(
+    text: &mut Octets,
+    number: usize,
+    pdu: &Pdu<'_>,
+    octets: &[u8],
+) -> Result<(), OutOfMemory>
     requires { header_length (kind_of (pdu_view pdu.now)) ≤ length octets.now }
-    ensures { OnOk result (string_bytes text.new ≡ string_bytes text.old ++ show.pdu_lines number (pdu_view pdu.now) octets.now) }
+    ensures { OnOk result (text.new ≡ text.old ++ show.pdu_lines number (pdu_view pdu.now) octets.now) }
 {
     let tlvs = tlvs_of(pdu);
     let first = first_tlv(pdu);
-    let count = count_tlvs(tlvs, first);
-    spell_head(text, number, pdu, octets)?;
-    write!(text, " tlvs {count}\n")?;
-    spell_tlvs(text, tlvs, first)
+    add_head(text, number, pdu, octets)?;
+    add_number(text, b" tlvs ", count_tlvs(tlvs, first) as u64)?;
+    text.push(b'\n')?;
+    add_tlvs(text, tlvs, first)
 }
 
 /// Adds the line of a fault.
-pub fn spell_fault(
-    text: &mut String,
+pub fn add_fault(
+    text: &mut Octets,
     number: usize,
     kind: &str,
     place: usize,
-) -> Result<(), AllocError>
-    ensures { OnOk result (string_bytes text.new ≡ string_bytes text.old ++ show.fault_line number kind.now place) }
+) -> Result<(), OutOfMemory>
+    ensures { OnOk result (text.new ≡ text.old ++ show.fault_line number kind.now place) }
 {
-    write!(text, "pdu {number} fault {kind} {place}\n")
+    add_number(text, b"pdu ", number as u64)?;
+    text.extend(b" fault ")?;
+    text.extend(kind.as_bytes())?;
+    add_number(text, b" ", place as u64)?;
+    text.push(b'\n')
 }
 
 /// Adds the lines of the PDU that octets begin with, or of its fault.
-pub fn spell_octets(text: &mut String, number: usize, octets: &[u8]) -> Result<(), AllocError>
-    ensures { OnOk result (string_bytes text.new ≡ string_bytes text.old ++ show.octets_lines number octets.now (decoded octets.now)) }
+pub fn add_octets(text: &mut Octets, number: usize, octets: &[u8]) -> Result<(), OutOfMemory>
+    ensures { OnOk result (text.new ≡ text.old ++ show.octets_lines number octets.now (decoded octets.now)) }
 {
     match decode(octets) {
-        Ok((pdu, end)) => spell_pdu(text, number, &pdu, &octets[..end]),
-        Err(fault) => spell_fault(text, number, kind_word(fault.kind), fault.place),
+        Ok((pdu, end)) => add_pdu(text, number, &pdu, &octets[..end]),
+        Err(fault) => add_fault(text, number, kind_word(fault.kind), fault.place),
     }
 }

@@ -24,33 +24,23 @@ loop-left-preserved g c =
         append_assoc written.0 here (shown_lines (number + 1) (parts_behind 10 behind))
         ∙ ap (λ (xs : List ℕ). written.0 ++ xs) (sym (shown_lines-next number line (parts_behind 10 behind) (parts_behind 10 c.loop-left.left) parts))
         ∙ written.1,
-        subst (λ (xs : List ℕ). HasWritten before (written.0 ++ xs) (g.O.Sink.held c.put.new.page.output) c.put.new.page.buffer)
-        (c.as_bytes.ensures.value ∙ c.in-Ok.ensures) (c.in-Ok-put.ensures.ok before written.0 written.2),
+        c.in-Ok.ensures.ok before written.0 written.2,
       );
-      later = omega (arith, c.loop-left.invariant.later, c.in-Ok-put.ensures.later);
+      later = omega (arith, c.loop-left.invariant.later, c.in-Ok.ensures.later);
     }
 
 pub returns-in-Err-clause-err : goal.returns-in-Err-clause-err
 returns-in-Err-clause-err g c =
     let before = g.O.Sink.held c.args.page.now.output in
-    let now = g.O.Sink.held c.loop-left.page.output in
-    let written = c.loop-left.invariant.written in
-    subst (λ (xs : List ℕ). HasBegun before xs now) written.1
-    (HasBegun-more before now written.0 _ (HasBegun-written before now written.0 c.loop-left.page.buffer written.2))
-
-pub returns-in-Err-put-clause-err : goal.returns-in-Err-put-clause-err
-returns-in-Err-put-clause-err g c =
-    let before = g.O.Sink.held c.args.page.now.output in
-    let now = g.O.Sink.held c.put.new.page.output in
+    let now = g.O.Sink.held c.put_line.new.page.output in
     let line = c.cut.result.0.now in
     let behind = c.cut.result.1 in
     let number = c.loop-left.number in
     let written = c.loop-left.invariant.written in
     let parts : parts_behind 10 c.loop-left.left ≡ line ∷ parts_behind 10 behind = ap (parts_behind 10) c.in-Some.is ∙ c.cut.ensures.parts in
     let next = shown_lines-next number line (parts_behind 10 behind) (parts_behind 10 c.loop-left.left) parts in
-    let begun = subst (λ (xs : List ℕ). HasBegun before (written.0 ++ xs) now) (c.as_bytes.ensures.value ∙ c.in-Ok.ensures) (c.in-Err-put.ensures.err before written.0 written.2) in
     subst (λ (xs : List ℕ). HasBegun before xs now) (ap (λ (xs : List ℕ). written.0 ++ xs) (sym next) ∙ written.1)
-    (HasBegun-first before now written.0 (shown_line number line) (shown_lines (number + 1) (parts_behind 10 behind)) begun)
+    (HasBegun-first before now written.0 (shown_line number line) (shown_lines (number + 1) (parts_behind 10 behind)) (c.in-Err.ensures.err before written.0 written.2))
 
 pub returns-clause-ok : goal.returns-clause-ok
 returns-clause-ok g c =
