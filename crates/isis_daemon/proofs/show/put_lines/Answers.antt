@@ -3,7 +3,7 @@ use Rattle.isis_daemon.specs.Cuts.{parts_behind}
 use Rattle.isis_daemon.specs.Pages.{HasWritten, HasBegun}
 use Rattle.isis_daemon.specs.ShowText.{shown_line, shown_lines}
 use Rattle.isis_daemon.proofs.CutLemmas.{size_left, size-behind}
-use Rattle.isis_daemon.proofs.PageLemmas.{HasBegun-more, HasBegun-written, HasBegun-first}
+use Rattle.isis_daemon.proofs.PageLemmas.{HasBegun-first}
 use Rattle.isis_daemon.proofs.ShowLemmas.{shown_lines-next, shown_lines-end}
 use Rattle.isis_daemon.proofs.show.put_lines.Goals as goal
 
