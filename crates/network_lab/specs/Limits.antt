@@ -1,4 +1,6 @@
-use Rattle.std.specs.Prelude.{ℕ, List, codes}
+use Rattle.std.specs.Prelude.{ℕ, List, ◌++◌, codes, decimal}
+use Rattle.network_lab.specs.declared.faults.LabFault.{LabFault}
+use Rattle.network_lab.specs.declared.faults.LabFault.TheVariants.{NotSent, Stale, NotOn, Limit, OutOfMemory}
 use Rattle.network_lab.specs.declared.faults.LimitName.{LimitName}
 use Rattle.network_lab.specs.declared.faults.LimitName.TheVariants.{Routers, Links, Circuits, Prefixes, Datagrams, Boots}
 
@@ -10,3 +12,11 @@ limit_word Circuits = codes "circuits"
 limit_word Prefixes = codes "prefixes"
 limit_word Datagrams = codes "datagrams"
 limit_word Boots = codes "boots"
+
+-- a fault's line (own)
+abbrev pub fault_line : LabFault → List ℕ
+fault_line (NotSent sent) = codes "not sent; " ++ decimal sent ++ codes " were"
+fault_line (Stale boot) = codes "stale: the sender is at boot " ++ decimal boot
+fault_line NotOn = codes "not on the link"
+fault_line (Limit which) = codes "limit of " ++ limit_word which
+fault_line OutOfMemory = codes "out of memory"

@@ -1,5 +1,5 @@
 ghost use Rattle.std.specs.Prelude.{◌≡◌, Some};
-ghost use Rattle.network_lab.specs.Limits.{limit_word};
+ghost use Rattle.network_lab.specs.Limits.{limit_word, fault_line};
 ghost use Rattle.network_lab.specs.declared.faults.LabFault.TheVariants.{OutOfMemory};
 
 use std::alloc::{AllocError, AllocFailed};
@@ -54,6 +54,8 @@ impl fmt::Display for LimitName {
 }
 
 impl fmt::Display for LabFault {
+    ghost output = { λ fault. Some (fault_line fault) };
+
     fn fmt<W: fmt::Write>(&self, f: &mut fmt::Formatter<W>) -> fmt::Result {
         match self {
             LabFault::NotSent { sent } => write!(f, "not sent; {sent} were"),

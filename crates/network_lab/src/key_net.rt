@@ -1,7 +1,8 @@
-ghost use Rattle.std.specs.Prelude.{◌≡◌, ℕ, List, ◌<◌, ◌≤◌, ◌+◌, true, length, slice_index, IfOk, IfErr, OnOk, OnErr, IsOk, IsErr};
+ghost use Rattle.std.specs.Prelude.{◌≡◌, ℕ, List, ◌<◌, ◌≤◌, ◌+◌, true, false, length, slice_index, IfOk, IfErr, OnOk, OnErr, IsOk};
 ghost use Rattle.isis_base.specs.declared.identifiers.LspId.{LspId};
 ghost use Rattle.isis_base.specs.declared.key.Key.{Key};
-ghost use Rattle.network_lab.specs.declared.faults.LabFault.TheVariants.{OutOfMemory};
+ghost use Rattle.network_lab.specs.declared.faults.LabFault.TheVariants.{NotSent, NotOn, Limit, OutOfMemory};
+ghost use Rattle.network_lab.specs.declared.faults.LimitName.TheVariants.{Routers, Links};
 ghost use Rattle.network_lab.specs.KeysNet.{ordered as ordered_pair, empty_net, with_router, with_link, with_copy, with_pass, has_pair, is_joined, is_at, IsHeldAt};
 ghost use Rattle.network_lab.specs.Causes.{RouterCause, LinkCause, PassCause};
 
@@ -17,6 +18,13 @@ pub const ROUTER_LIMIT: usize = 1024;
 
 /// The most links of a network.
 pub const LINK_LIMIT: usize = 4096;
+
+/// The limits in numbers.
+pub fn limit_laws()
+    ensures routers { ROUTER_LIMIT ≡ 1024 }
+    ensures links { LINK_LIMIT ≡ 4096 }
+{
+}
 
 /// A plain network in which numbered copies of keys are passed along links, each router keeping the newest key
 /// of each LSP ID. Routers are numbered from 0, copies from 1.
@@ -76,7 +84,7 @@ impl KeyNet {
         ensures number { IfOk result (λ router. router ≡ self.old.routers) }
         ensures ok { OnOk result (self.new ≡ with_router self.old) }
         ensures cause { IfErr result (RouterCause self.old) }
-        ensures limit { ROUTER_LIMIT ≤ self.old.routers → IsErr result }
+        ensures limit { ROUTER_LIMIT ≤ self.old.routers → result ≡ Err (Limit Routers) }
         ensures err { OnErr result (self.new ≡ self.old) }
     {
         let router = self.held.len();
@@ -92,7 +100,7 @@ impl KeyNet {
         requires { (slice_index ends 0 < self.old.routers) × (slice_index ends 1 < self.old.routers) }
         ensures ok { OnOk result (self.new ≡ with_link self.old (slice_index ends 0) (slice_index ends 1)) }
         ensures cause { IfErr result (LinkCause self.old) }
-        ensures limit { LINK_LIMIT ≤ self.old.links → IsErr result }
+        ensures limit { LINK_LIMIT ≤ self.old.links → result ≡ Err (Limit Links) }
         ensures err { OnErr result (self.new ≡ self.old) }
     {
         if self.links >= LINK_LIMIT {
@@ -135,6 +143,9 @@ impl KeyNet {
         ensures ok { OnOk result (self.new ≡ with_pass self.old copy to) }
         ensures cause { IfErr result (PassCause self.old copy from to) }
         ensures refused { IsOk result → (is_joined self.old from to ≡ true) × (is_at self.old copy from ≡ true) }
+        ensures not_on { is_joined self.old from to ≡ false → result ≡ Err NotOn }
+        ensures not_sent { is_joined self.old from to ≡ true → is_at self.old copy from ≡ false
+            → result ≡ Err (NotSent (length self.old.copies)) }
         ensures err { OnErr result (self.new ≡ self.old) }
     {
         if !has(&self.linked, ordered(from, to)) {

@@ -13,4 +13,4 @@ mod key_net;
 mod tests;
 
 pub use faults::{LabFault, LimitName};
-pub use key_net::KeyNet;
+pub use key_net::{KeyNet, limit_laws};
