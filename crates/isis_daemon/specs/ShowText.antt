@@ -4,6 +4,7 @@ use Rattle.hex.specs.declared.error.FromHexError.{FromHexError}
 use Rattle.hex.specs.declared.error.FromHexError.TheVariants.{InvalidHexCharacter, OddLength, InvalidStringLength, OutOfMemory}
 use Rattle.hex.specs.Hex.{decode_of}
 use Rattle.isis_base.specs.declared.identifiers.SystemId.{SystemId}
+use Rattle.isis_base.specs.declared.level.Level.{Level}
 use Rattle.isis_base.specs.declared.level.Level.TheVariants as level
 use Rattle.isis_base.specs.declared.level.LevelSet.{LevelSet}
 use Rattle.isis_base.specs.Levels.{levels_text}
@@ -19,17 +20,18 @@ use Rattle.isis_pdu.specs.Layout.{kind_of, header_length}
 use Rattle.isis_pdu.specs.Views.{PduView, LanHello, PointHello, Lsp, Csnp, Psnp, tlvs_of_pdu}
 use Rattle.isis_daemon.specs.Words.{lines_of}
 
+-- one of two words, by the level
+abbrev pub by_level : Level → List ℕ → List ℕ → List ℕ
+by_level level.One one two = one
+by_level level.Two one two = two
+
 -- the word of a PDU's type (own)
 abbrev pub type_word : PduView → List ℕ
-type_word (LanHello level.One circuit_type source holding priority lan tlvs) = codes "l1-lan-hello"
-type_word (LanHello level.Two circuit_type source holding priority lan tlvs) = codes "l2-lan-hello"
+type_word (LanHello level circuit_type source holding priority lan tlvs) = by_level level (codes "l1-lan-hello") (codes "l2-lan-hello")
 type_word (PointHello circuit_type source holding circuit tlvs) = codes "p2p-hello"
-type_word (Lsp level.One lifetime id number checksum flags tlvs) = codes "l1-lsp"
-type_word (Lsp level.Two lifetime id number checksum flags tlvs) = codes "l2-lsp"
-type_word (Csnp level.One source start end tlvs) = codes "l1-csnp"
-type_word (Csnp level.Two source start end tlvs) = codes "l2-csnp"
-type_word (Psnp level.One source tlvs) = codes "l1-psnp"
-type_word (Psnp level.Two source tlvs) = codes "l2-psnp"
+type_word (Lsp level lifetime id number checksum flags tlvs) = by_level level (codes "l1-lsp") (codes "l2-lsp")
+type_word (Csnp level source start end tlvs) = by_level level (codes "l1-csnp") (codes "l2-csnp")
+type_word (Psnp level source tlvs) = by_level level (codes "l1-psnp") (codes "l2-psnp")
 
 -- what an LSP's checksum comes to: a purge has none to look at, and a field of 0 is none (own). It covers the octets
 -- from the LSP ID, at 12, to the PDU's end (ISO 10589 7.3.11)

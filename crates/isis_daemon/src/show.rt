@@ -19,12 +19,7 @@ use std::alloc::Global;
 
 /// Adds what a line of the input is shown as.
 #[tactic(auto, unfolding(crate::specs::ShowText::shown_line))]
-fn add_line(
-    alloc: Global,
-    text: &mut Octets,
-    number: usize,
-    line: &[u8],
-) -> Result<(), OutOfMemory>
+fn add_line(alloc: Global, text: &mut Octets, number: usize, line: &[u8]) -> Result<(), OutOfMemory>
     ensures { OnOk result (text.new ≡ text.old ++ shown_line number line.now) }
 {
     if line.is_empty() {

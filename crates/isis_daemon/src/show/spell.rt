@@ -7,28 +7,32 @@ ghost use Rattle.isis_pdu.specs.Layout.{kind_of, header_length};
 ghost use Rattle.isis_pdu.specs.Views.{pdu_view, tlvs_of_pdu, decoded_view};
 ghost use Rattle.isis_daemon.specs.ShowText as show;
 
-use super::texts::{
-    add_levels, add_lsp_id, add_node, add_number, add_octet, add_system, add_two,
-};
+use super::texts::{add_levels, add_lsp_id, add_node, add_number, add_octet, add_system, add_two};
 use isis_base::{Level, LevelSet, Octets, OutOfMemory, SystemId};
 use isis_pdu::{Pdu, PduFaultKind, decode, encoded_len};
 use isis_tlv::{Tlv, Tlvs};
 use iso_checksum::holds;
+
+/// One of two words, by the level.
+fn by_level(level: Level, one: &'static str, two: &'static str) -> &'static str
+    ensures { result.now ≡ show.by_level level one.now two.now }
+{
+    match level {
+        Level::One => one,
+        Level::Two => two,
+    }
+}
 
 /// The word of a PDU's type.
 fn type_word(pdu: &Pdu<'_>) -> &'static str
     ensures { result.now ≡ show.type_word (pdu_view pdu.now) }
 {
     match *pdu {
-        Pdu::LanHello { level: Level::One, .. } => "l1-lan-hello",
-        Pdu::LanHello { level: Level::Two, .. } => "l2-lan-hello",
+        Pdu::LanHello { level, .. } => by_level(level, "l1-lan-hello", "l2-lan-hello"),
         Pdu::PointHello { .. } => "p2p-hello",
-        Pdu::Lsp { level: Level::One, .. } => "l1-lsp",
-        Pdu::Lsp { level: Level::Two, .. } => "l2-lsp",
-        Pdu::Csnp { level: Level::One, .. } => "l1-csnp",
-        Pdu::Csnp { level: Level::Two, .. } => "l2-csnp",
-        Pdu::Psnp { level: Level::One, .. } => "l1-psnp",
-        Pdu::Psnp { level: Level::Two, .. } => "l2-psnp",
+        Pdu::Lsp { level, .. } => by_level(level, "l1-lsp", "l2-lsp"),
+        Pdu::Csnp { level, .. } => by_level(level, "l1-csnp", "l2-csnp"),
+        Pdu::Psnp { level, .. } => by_level(level, "l1-psnp", "l2-psnp"),
     }
 }
 
@@ -87,10 +91,8 @@ fn add_hello(
 ) -> Result<(), OutOfMemory>
     ensures { OnOk result (text.new ≡ text.old ++ show.hello_text circuit_type source holding) }
 {
-    text.extend(b" circuit ")?;
-    add_levels(text, circuit_type)?;
-    text.extend(b" source ")?;
-    add_system(text, source)?;
+    add_levels(text, b" circuit ", circuit_type)?;
+    add_system(text, b" source ", source)?;
     add_number(text, b" holding ", u64::from(holding))
 }
 
@@ -129,8 +131,7 @@ fn add_fields(text: &mut Octets, pdu: &Pdu<'_>, octets: &[u8]) -> Result<(), Out
         } => {
             add_hello(text, circuit_type, source, holding)?;
             add_number(text, b" priority ", u64::from(priority))?;
-            text.extend(b" lan ")?;
-            add_node(text, lan)
+            add_node(text, b" lan ", lan)
         }
         Pdu::PointHello {
             circuit_type,
@@ -151,25 +152,21 @@ fn add_fields(text: &mut Octets, pdu: &Pdu<'_>, octets: &[u8]) -> Result<(), Out
             ..
         } => {
             add_number(text, b" lifetime ", u64::from(lifetime))?;
-            text.extend(b" id ")?;
-            add_lsp_id(text, id)?;
+            add_lsp_id(text, b" id ", id)?;
             add_number(text, b" number ", u64::from(number))?;
             add_checksum(text, lifetime, checksum, flags, octets)
         }
         Pdu::Csnp {
-            source, start, end, ..
+            source,
+            start,
+            end,
+            ..
         } => {
-            text.extend(b" source ")?;
-            add_node(text, source)?;
-            text.extend(b" start ")?;
-            add_lsp_id(text, start)?;
-            text.extend(b" end ")?;
-            add_lsp_id(text, end)
+            add_node(text, b" source ", source)?;
+            add_lsp_id(text, b" start ", start)?;
+            add_lsp_id(text, b" end ", end)
         }
-        Pdu::Psnp { source, .. } => {
-            text.extend(b" source ")?;
-            add_node(text, source)
-        }
+        Pdu::Psnp { source, .. } => { add_node(text, b" source ", source) }
     }
 }
 

@@ -32,10 +32,11 @@ pub fn add_two(text: &mut Octets, number: u16) -> Result<(), OutOfMemory>
     text.extend(&[high(first), low(first), high(second), low(second)])
 }
 
-/// Adds the text of a set of levels.
-pub fn add_levels(text: &mut Octets, levels: LevelSet) -> Result<(), OutOfMemory>
-    ensures { OnOk result (text.new ≡ text.old ++ levels_text levels) }
+/// Adds a word and the text of a set of levels.
+pub fn add_levels(text: &mut Octets, word: &[u8], levels: LevelSet) -> Result<(), OutOfMemory>
+    ensures { OnOk result (text.new ≡ text.old ++ (word.now ++ levels_text levels)) }
 {
+    text.extend(word)?;
     match levels {
         LevelSet::One => text.extend(b"L1"),
         LevelSet::Two => text.extend(b"L2"),
@@ -66,25 +67,26 @@ fn spelled(system: SystemId) -> [u8; 14]
     ]
 }
 
-/// Adds the text of a system ID.
-pub fn add_system(text: &mut Octets, system: SystemId) -> Result<(), OutOfMemory>
-    ensures { OnOk result (text.new ≡ text.old ++ system_text system) }
+/// Adds a word and the text of a system ID.
+pub fn add_system(text: &mut Octets, word: &[u8], system: SystemId) -> Result<(), OutOfMemory>
+    ensures { OnOk result (text.new ≡ text.old ++ (word.now ++ system_text system)) }
 {
+    text.extend(word)?;
     text.extend(&spelled(system))
 }
 
-/// Adds the text of a node ID.
-pub fn add_node(text: &mut Octets, node: NodeId) -> Result<(), OutOfMemory>
-    ensures { OnOk result (text.new ≡ text.old ++ node_text node) }
+/// Adds a word and the text of a node ID.
+pub fn add_node(text: &mut Octets, word: &[u8], node: NodeId) -> Result<(), OutOfMemory>
+    ensures { OnOk result (text.new ≡ text.old ++ (word.now ++ node_text node)) }
 {
-    add_system(text, node.system)?;
+    add_system(text, word, node.system)?;
     text.extend(&[b'.', high(node.pseudonode), low(node.pseudonode)])
 }
 
-/// Adds the text of an LSP ID.
-pub fn add_lsp_id(text: &mut Octets, id: LspId) -> Result<(), OutOfMemory>
-    ensures { OnOk result (text.new ≡ text.old ++ lsp_text id) }
+/// Adds a word and the text of an LSP ID.
+pub fn add_lsp_id(text: &mut Octets, word: &[u8], id: LspId) -> Result<(), OutOfMemory>
+    ensures { OnOk result (text.new ≡ text.old ++ (word.now ++ lsp_text id)) }
 {
-    add_node(text, id.node)?;
+    add_node(text, word, id.node)?;
     text.extend(&[b'-', high(id.number), low(id.number)])
 }

@@ -22,8 +22,8 @@ loop-left-preserved g c =
       written = (
         written.0 ++ here,
         append_assoc written.0 here (shown_lines (number + 1) (parts_behind 10 behind))
-        ∙ ap (λ (xs : List ℕ). written.0 ++ xs) (sym (shown_lines-next number line (parts_behind 10 behind) (parts_behind 10 c.loop-left.left) parts))
-        ∙ written.1,
+            ∙ ap (λ (xs : List ℕ). written.0 ++ xs) (sym (shown_lines-next number line (parts_behind 10 behind) (parts_behind 10 c.loop-left.left) parts))
+            ∙ written.1,
         c.in-Ok.ensures.ok before written.0 written.2,
       );
       later = omega (arith, c.loop-left.invariant.later, c.in-Ok.ensures.later);
