@@ -1,5 +1,6 @@
-use Rattle.std.proofs.Common.{◌≡◌, ◌∙◌, ℕ, zero, suc, ◌+◌, ◌-◌, ◌<◌, ◌≤◌, ◌==◌, Bool, true, false, List, [], ◌∷◌, length, get_or, take, drop, Option, Some, None, IfSome, refl, sym, ap, arith}
+use Rattle.std.proofs.Common.{◌≡◌, ◌∙◌, ℕ, zero, suc, ◌+◌, ◌-◌, ◌<◌, ◌≤◌, ◌==◌, Bool, true, false, cond, List, [], ◌∷◌, length, get_or, take, drop, Option, Some, None, IfSome, refl, sym, ap, arith}
 use Rattle.std.specs.Borrow.{Bor}
+use Rattle.isis_daemon.specs.Cuts.{IsNotOne}
 use Rattle.std.specs.List.{slice_split, onto_first}
 use Rattle.std.proofs.Math.Seq.{take-length}
 use Rattle.std.proofs.lemmas.List.{length-drop}
@@ -40,3 +41,13 @@ size_left (Some behind) = suc (length behind.now)
 pub size-behind : (behind : Option (Bor (List ℕ))) (n : ℕ) → IfSome behind (λ rest. length rest.now < n) → size_left behind ≤ n
 size-behind None n h = omega arith
 size-behind (Some rest) n h = omega (arith, h)
+
+several-cond : (t : Bool) (part : List ℕ) (byte : ℕ) (parts : List (List ℕ)) → IsNotOne (part ∷ cond t ([] ∷ parts) (onto_first byte parts))
+several-cond true part byte parts = tt
+several-cond false part byte [] = tt
+several-cond false part byte (other ∷ parts) = tt
+
+-- there is something behind a mark, if only an empty part
+pub several : (mark : ℕ) (part text : List ℕ) → IsNotOne (part ∷ slice_split (λ byte. byte == mark) text)
+several mark part [] = tt
+several mark part (byte ∷ text) = several-cond (byte == mark) part byte (slice_split (λ other. other == mark) text)

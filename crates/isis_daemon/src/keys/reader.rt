@@ -1,15 +1,16 @@
 ghost use Rattle.std.specs.Prelude.{◌≡◌, ◌<◌, IfSome, OnOk, OnErr, slice_index};
 ghost use Rattle.network_lab.specs.KeysNet.{with_router, with_link};
+ghost use Rattle.isis_daemon.specs.Cuts.{parts_behind};
 ghost use Rattle.isis_daemon.specs.Gives.{Gives, Answers};
 ghost use Rattle.isis_daemon.specs.KeysScript as script;
 ghost use Rattle.isis_daemon.specs.Names.{router_of};
 ghost use Rattle.isis_daemon.specs.Sound.{IsSound};
-ghost use Rattle.isis_daemon.specs.Words.{texts, lines_of};
+ghost use Rattle.isis_daemon.specs.Words.{words_of, lines_of};
 
 use super::events::{KeyEvent, Told};
 use super::fields::{read_copy, read_id, read_key, reads_name};
 use super::names::Names;
-use super::words::{cut, split_words};
+use super::words::{cut, last_word, next_word};
 use crate::reason::{Reason, ScriptFault};
 use network_lab::{KeyNet, LabFault, LimitName};
 use std::alloc::Global;
@@ -163,69 +164,80 @@ impl<'a> Reader<'a> {
         Ok(())
     }
 
-    fn router_fields(&mut self, line: usize, fields: &[&'a [u8]]) -> Result<(), ScriptFault>
-        ensures { Gives result self.new (script.router_fields self.old line (texts fields.now)) }
+    fn router_fields(&mut self, line: usize, left: Option<&'a [u8]>) -> Result<(), ScriptFault>
+        ensures { Gives result self.new (script.router_fields self.old line (parts_behind 32 left.entry)) }
     {
-        if let [name] = fields {
-            return self.router(line, name);
-        }
-        refused(line, Reason::Form)
-    }
-
-    fn link_fields(&mut self, line: usize, fields: &[&'a [u8]]) -> Result<(), ScriptFault>
-        ensures { Gives result self.new (script.link_fields self.old line (texts fields.now)) }
-    {
-        if fields.len() != 2 {
-            return refused(line, Reason::Form);
-        }
-        self.link(line, fields[0], fields[1])
-    }
-
-    fn issue_fields(&mut self, line: usize, fields: &[&'a [u8]]) -> Result<(), ScriptFault>
-        ensures { Gives result self.new (script.issue_fields self.old line (texts fields.now)) }
-    {
-        if fields.len() != 4 {
-            return refused(line, Reason::Form);
-        }
-        self.issue(line, fields[0], fields[1], fields[2], fields[3])
-    }
-
-    fn pass_fields(&mut self, line: usize, fields: &[&'a [u8]]) -> Result<(), ScriptFault>
-        ensures { Gives result self.new (script.pass_fields self.old line (texts fields.now)) }
-    {
-        if fields.len() != 3 {
-            return refused(line, Reason::Form);
-        }
-        self.pass(line, fields[0], fields[1], fields[2])
-    }
-
-    fn words(&mut self, line: usize, words: &[&'a [u8]]) -> Result<(), ScriptFault>
-        ensures { Gives result self.new (script.read_words self.old line (texts words.now)) }
-    {
-        let [verb, fields @ ..] = words else {
+        let Some(name) = last_word(left) else {
             return refused(line, Reason::Form);
         };
-        if *verb == b"router".as_slice() {
-            return self.router_fields(line, fields);
+        self.router(line, name)
+    }
+
+    fn link_fields(&mut self, line: usize, left: Option<&'a [u8]>) -> Result<(), ScriptFault>
+        ensures { Gives result self.new (script.link_fields self.old line (parts_behind 32 left.entry)) }
+    {
+        let Some((a, left)) = next_word(left) else {
+            return refused(line, Reason::Form);
+        };
+        let Some(b) = last_word(left) else {
+            return refused(line, Reason::Form);
+        };
+        self.link(line, a, b)
+    }
+
+    fn issue_fields(&mut self, line: usize, left: Option<&'a [u8]>) -> Result<(), ScriptFault>
+        ensures { Gives result self.new (script.issue_fields self.old line (parts_behind 32 left.entry)) }
+    {
+        let Some((name, left)) = next_word(left) else {
+            return refused(line, Reason::Form);
+        };
+        let Some((id, left)) = next_word(left) else {
+            return refused(line, Reason::Form);
+        };
+        let Some((number, left)) = next_word(left) else {
+            return refused(line, Reason::Form);
+        };
+        let Some(mark) = last_word(left) else {
+            return refused(line, Reason::Form);
+        };
+        self.issue(line, name, id, number, mark)
+    }
+
+    fn pass_fields(&mut self, line: usize, left: Option<&'a [u8]>) -> Result<(), ScriptFault>
+        ensures { Gives result self.new (script.pass_fields self.old line (parts_behind 32 left.entry)) }
+    {
+        let Some((copy, left)) = next_word(left) else {
+            return refused(line, Reason::Form);
+        };
+        let Some((from, left)) = next_word(left) else {
+            return refused(line, Reason::Form);
+        };
+        let Some(to) = last_word(left) else {
+            return refused(line, Reason::Form);
+        };
+        self.pass(line, copy, from, to)
+    }
+
+    fn words(&mut self, line: usize, text: &'a [u8]) -> Result<(), ScriptFault>
+        ensures { Gives result self.new (script.read_words self.old line (words_of text.now)) }
+    {
+        let (verb, left) = cut(text, b' ');
+        if verb == b"router".as_slice() {
+            return self.router_fields(line, left);
         }
-        if *verb == b"link".as_slice() {
-            return self.link_fields(line, fields);
+        if verb == b"link".as_slice() {
+            return self.link_fields(line, left);
         }
-        if *verb == b"issue".as_slice() {
-            return self.issue_fields(line, fields);
+        if verb == b"issue".as_slice() {
+            return self.issue_fields(line, left);
         }
-        if *verb == b"pass".as_slice() {
-            return self.pass_fields(line, fields);
+        if verb == b"pass".as_slice() {
+            return self.pass_fields(line, left);
         }
         refused(line, Reason::Form)
     }
 
-    fn line(
-        &mut self,
-        number: usize,
-        line: &'a [u8],
-        words: &mut Vec<&'a [u8]>,
-    ) -> Result<(), ScriptFault>
+    fn line(&mut self, number: usize, line: &'a [u8]) -> Result<(), ScriptFault>
         ensures { Gives result self.new (script.read_line self.old number line.now) }
     {
         if number == 1 {
@@ -234,10 +246,7 @@ impl<'a> Reader<'a> {
         match line {
             [] => Ok(()),
             [b'#', ..] => Ok(()),
-            _ => {
-                split_words(words, line)?;
-                self.words(number, words)
-            }
+            _ => self.words(number, line),
         }
     }
 
@@ -271,12 +280,11 @@ pub fn read_keys(alloc: Global, text: &[u8]) -> Result<Reader<'_>, ScriptFault>
     ensures { Answers result (script.read_lines script.nothing_read 1 (lines_of text.now)) }
 {
     let mut reader = Reader::new(alloc);
-    let mut words = Vec::new(alloc);
     let mut number = 1usize;
     let mut left = Some(text);
     while let Some(rest) = left {
         let (line, behind) = cut(rest, b'\n');
-        match reader.line(number, line, &mut words) {
+        match reader.line(number, line) {
             Ok(()) => number += 1,
             Err(fault) => return Err(fault),
         }

@@ -1,10 +1,8 @@
-ghost use Rattle.std.specs.Prelude.{◌≡◌, ◌<◌, ◌==◌, ◌∷◌, length, IfSome, OnOk};
+ghost use Rattle.std.specs.Prelude.{◌≡◌, ◌<◌, ◌==◌, [], ◌∷◌, length, IfSome, MatchOption};
 ghost use Rattle.std.specs.List.{slice_split};
-ghost use Rattle.isis_daemon.specs.Words.{texts, words_of};
-ghost use Rattle.isis_daemon.specs.Cuts.{parts_behind};
+ghost use Rattle.isis_daemon.specs.Cuts.{parts_behind, IsNotOne};
 
 use memchr::memchr;
-use std::alloc::AllocError;
 
 /// The octets before the first mark, and those behind it; all octets where there is no mark.
 pub fn cut(text: &[u8], mark: u8) -> (&[u8], Option<&[u8]>)
@@ -17,16 +15,23 @@ pub fn cut(text: &[u8], mark: u8) -> (&[u8], Option<&[u8]>)
     }
 }
 
-/// The words of a line, which one space parts, into a list that is used again for each line.
-pub fn split_words<'a>(words: &mut Vec<&'a [u8]>, line: &'a [u8]) -> Result<(), AllocError>
-    ensures { OnOk result (texts words.new.items ≡ words_of line.now) }
+/// The next word of what is left of a line, which one space parts, and what is left behind it.
+pub fn next_word(left: Option<&[u8]>) -> Option<(&[u8], Option<&[u8]>)>
+    ensures { MatchOption result (parts_behind 32 left.entry ≡ []) (λ next. parts_behind 32 left.entry ≡ next.0.now ∷ parts_behind 32 next.1) }
 {
-    words.clear();
-    let mut left = Some(line);
-    while let Some(rest) = left {
-        let (word, behind) = cut(rest, b' ');
-        words.push(word)?;
-        left = behind;
+    match left {
+        Some(text) => Some(cut(text, b' ')),
+        None => None,
     }
-    Ok(())
+}
+
+/// The one word that is left of a line; none where it isn't one.
+pub fn last_word(left: Option<&[u8]>) -> Option<&[u8]>
+    ensures { MatchOption result (IsNotOne (parts_behind 32 left.entry)) (λ word. parts_behind 32 left.entry ≡ word.now ∷ []) }
+{
+    match next_word(left) {
+        Some((word, None)) => Some(word),
+        Some((_, Some(_))) => None,
+        None => None,
+    }
 }
