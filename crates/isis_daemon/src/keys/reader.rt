@@ -1,4 +1,4 @@
-ghost use Rattle.std.specs.Prelude.{◌≡◌, ◌<◌, IfSome, OnOk, OnErr, slice_index};
+ghost use Rattle.std.specs.Prelude.{◌≡◌, ◌<◌, IfSome, OnOk, OnErr, IsOk, slice_index};
 ghost use Rattle.network_lab.specs.KeysNet.{with_router, with_link};
 ghost use Rattle.isis_daemon.specs.Gives.{Gives, Answers};
 ghost use Rattle.isis_daemon.specs.KeysScript as script;
@@ -45,6 +45,7 @@ fn add_router(net: &mut KeyNet) -> Result<(), ScriptFault>
     ensures ok { OnOk result (net.new ≡ with_router net.old) }
     ensures err { OnErr result (net.new ≡ net.old) }
     ensures cause { Gives result net.new (script.router_added net.old) }
+    ensures memory { result ≡ Err ScriptFault.OutOfMemory → IsOk (script.router_added net.old) }
 {
     match net.add_router() {
         Ok(_) => Ok(()),
@@ -58,6 +59,7 @@ fn add_link(net: &mut KeyNet, ends: [usize; 2]) -> Result<(), ScriptFault>
     ensures ok { OnOk result (net.new ≡ with_link net.old (slice_index ends 0) (slice_index ends 1)) }
     ensures err { OnErr result (net.new ≡ net.old) }
     ensures cause { Gives result net.new (script.link_added net.old (slice_index ends 0) (slice_index ends 1)) }
+    ensures memory { result ≡ Err ScriptFault.OutOfMemory → IsOk (script.link_added net.old (slice_index ends 0) (slice_index ends 1)) }
 {
     match net.add_link(ends) {
         Ok(()) => Ok(()),
@@ -78,7 +80,8 @@ impl<'a> Reader<'a> {
     }
 
     fn router(&mut self, line: usize, name: &'a [u8]) -> Result<(), ScriptFault>
-        ensures { Gives result self.new (script.read_router self.old line name.now) }
+        ensures value { Gives result self.new (script.read_router self.old line name.now) }
+        ensures memory { result ≡ Err ScriptFault.OutOfMemory → IsOk (script.read_router self.old line name.now) }
     {
         if !reads_name(name) {
             return refused(line, Reason::Form);
@@ -101,7 +104,8 @@ impl<'a> Reader<'a> {
     }
 
     fn link(&mut self, line: usize, a: &[u8], b: &[u8]) -> Result<(), ScriptFault>
-        ensures { Gives result self.new (script.read_link self.old line a.now b.now) }
+        ensures value { Gives result self.new (script.read_link self.old line a.now b.now) }
+        ensures memory { result ≡ Err ScriptFault.OutOfMemory → IsOk (script.read_link self.old line a.now b.now) }
     {
         if !reads_name(a) || !reads_name(b) {
             return refused(line, Reason::Form);
@@ -117,7 +121,8 @@ impl<'a> Reader<'a> {
     }
 
     fn pass(&mut self, line: usize, copy: &[u8], from: &[u8], to: &[u8]) -> Result<(), ScriptFault>
-        ensures { Gives result self.new (script.read_pass self.old line copy.now from.now to.now) }
+        ensures value { Gives result self.new (script.read_pass self.old line copy.now from.now to.now) }
+        ensures memory { result ≡ Err ScriptFault.OutOfMemory → IsOk (script.read_pass self.old line copy.now from.now to.now) }
     {
         let Some(copy) = read_copy(copy) else {
             return refused(line, Reason::Form);
@@ -144,7 +149,8 @@ impl<'a> Reader<'a> {
         number: &[u8],
         mark: &[u8],
     ) -> Result<(), ScriptFault>
-        ensures { Gives result self.new (script.read_issue self.old line name.now id.now number.now mark.now) }
+        ensures value { Gives result self.new (script.read_issue self.old line name.now id.now number.now mark.now) }
+        ensures memory { result ≡ Err ScriptFault.OutOfMemory → IsOk (script.read_issue self.old line name.now id.now number.now mark.now) }
     {
         let Some(id) = read_id(id) else {
             return refused(line, Reason::Form);
@@ -164,7 +170,8 @@ impl<'a> Reader<'a> {
     }
 
     fn router_fields(&mut self, line: usize, fields: &[&'a [u8]]) -> Result<(), ScriptFault>
-        ensures { Gives result self.new (script.router_fields self.old line (texts fields.now)) }
+        ensures value { Gives result self.new (script.router_fields self.old line (texts fields.now)) }
+        ensures memory { result ≡ Err ScriptFault.OutOfMemory → IsOk (script.router_fields self.old line (texts fields.now)) }
     {
         if let [name] = fields {
             return self.router(line, name);
@@ -173,7 +180,8 @@ impl<'a> Reader<'a> {
     }
 
     fn link_fields(&mut self, line: usize, fields: &[&'a [u8]]) -> Result<(), ScriptFault>
-        ensures { Gives result self.new (script.link_fields self.old line (texts fields.now)) }
+        ensures value { Gives result self.new (script.link_fields self.old line (texts fields.now)) }
+        ensures memory { result ≡ Err ScriptFault.OutOfMemory → IsOk (script.link_fields self.old line (texts fields.now)) }
     {
         if fields.len() != 2 {
             return refused(line, Reason::Form);
@@ -182,7 +190,8 @@ impl<'a> Reader<'a> {
     }
 
     fn issue_fields(&mut self, line: usize, fields: &[&'a [u8]]) -> Result<(), ScriptFault>
-        ensures { Gives result self.new (script.issue_fields self.old line (texts fields.now)) }
+        ensures value { Gives result self.new (script.issue_fields self.old line (texts fields.now)) }
+        ensures memory { result ≡ Err ScriptFault.OutOfMemory → IsOk (script.issue_fields self.old line (texts fields.now)) }
     {
         if fields.len() != 4 {
             return refused(line, Reason::Form);
@@ -191,7 +200,8 @@ impl<'a> Reader<'a> {
     }
 
     fn pass_fields(&mut self, line: usize, fields: &[&'a [u8]]) -> Result<(), ScriptFault>
-        ensures { Gives result self.new (script.pass_fields self.old line (texts fields.now)) }
+        ensures value { Gives result self.new (script.pass_fields self.old line (texts fields.now)) }
+        ensures memory { result ≡ Err ScriptFault.OutOfMemory → IsOk (script.pass_fields self.old line (texts fields.now)) }
     {
         if fields.len() != 3 {
             return refused(line, Reason::Form);
@@ -200,7 +210,8 @@ impl<'a> Reader<'a> {
     }
 
     fn words(&mut self, line: usize, words: &[&'a [u8]]) -> Result<(), ScriptFault>
-        ensures { Gives result self.new (script.read_words self.old line (texts words.now)) }
+        ensures value { Gives result self.new (script.read_words self.old line (texts words.now)) }
+        ensures memory { result ≡ Err ScriptFault.OutOfMemory → IsOk (script.read_words self.old line (texts words.now)) }
     {
         let [verb, fields @ ..] = words else {
             return refused(line, Reason::Form);
@@ -255,7 +266,8 @@ impl<'a> Reader<'a> {
 
 /// Line 1.
 fn head(line: &[u8]) -> Result<(), ScriptFault>
-    ensures { (read : script.Read) → Gives result read (script.read_head read line.now) }
+    ensures value { (read : script.Read) → Gives result read (script.read_head read line.now) }
+    ensures memory { result ≡ Err ScriptFault.OutOfMemory → ⊥ }
 {
     if line == b"isis-keys 1".as_slice() {
         return Ok(());
