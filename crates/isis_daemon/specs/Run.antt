@@ -4,10 +4,13 @@ use Rattle.isis_daemon.specs.declared.form.Form.{Form}
 use Rattle.isis_daemon.specs.declared.form.Form.TheVariants.{Lab, Show}
 use Rattle.isis_daemon.specs.declared.status.Status.{Status}
 use Rattle.isis_daemon.specs.declared.status.Status.TheVariants as status
-use Rattle.isis_daemon.specs.declared.status.TheConstants.{INPUT_LIMIT}
 use Rattle.isis_daemon.specs.KeysRun.{played, Ends}
 use Rattle.isis_daemon.specs.Pages.{HasBegun}
 use Rattle.isis_daemon.specs.ShowText.{shown_text}
+
+-- how many octets an input may have (own)
+abbrev pub input_limit : ℕ
+input_limit = 16777216
 
 -- how the showing of an input ends: the sink holds all of its text, a prefix of it, or no more than before (own)
 abbrev pub Shows : List ℕ → Option (List ℕ) → Option (List ℕ) → Status → Type 0
@@ -29,8 +32,8 @@ EndsAs (Some Show) input before now end = Shows input before now end
 -- the input is one that a run of this form takes to its end: a script that can be played, or any octets to show
 abbrev pub IsTaken : Option Form → List ℕ → Type 0
 IsTaken None input = ⊥
-IsTaken (Some Lab) input = (length input ≤ INPUT_LIMIT) × IsOk (played input)
-IsTaken (Some Show) input = length input ≤ INPUT_LIMIT
+IsTaken (Some Lab) input = (length input ≤ input_limit) × IsOk (played input)
+IsTaken (Some Show) input = length input ≤ input_limit
 
 -- the fact, where the status tells that the input was read to its end
 abbrev pub OnRead : Status → Type 0 → Type 0

@@ -4,7 +4,7 @@ ghost use Rattle.isis_edge.specs.Told.{Stays};
 ghost use Rattle.isis_daemon.specs.Gives.{Answers};
 ghost use Rattle.isis_daemon.specs.Forms.{form_of};
 ghost use Rattle.isis_daemon.specs.KeysRun.{played, Ends, IsOfScript};
-ghost use Rattle.isis_daemon.specs.Run.{EndsAs, IsTaken, OnRead, OnUnwritten, IsDoneUnlessMemory};
+ghost use Rattle.isis_daemon.specs.Run.{input_limit, EndsAs, IsTaken, OnRead, OnUnwritten, IsDoneUnlessMemory};
 
 use crate::form::{Form, form_of};
 use crate::keys::names::Names;
@@ -67,11 +67,11 @@ pub fn run<I: Source, O: Sink>(
     ensures ends { IfSome (I.left input.old)
         (λ text. EndsAs (form_of (map string_bytes words.now)) text (O.held output) (O.held result.0) result.1) }
     ensures whole { OnRead result.1 (IfSome (I.left input.old)
-        (λ text. (length text ≤ INPUT_LIMIT) × (I.left input.new ≡ Some []))) }
+        (λ text. (length text ≤ input_limit) × (I.left input.new ≡ Some []))) }
     ensures unwritten { OnUnwritten result.1 (Stays (O.held output) (O.held result.0)) }
     ensures read_fault { result.1 ≡ Status.ReadFault → Rose (I.faults input.old) (I.faults input.new) }
     ensures write_fault { result.1 ≡ Status.WriteFault → Rose (O.faults output) (O.faults result.0) }
-    ensures too_long { result.1 ≡ Status.TooLong → IfSome (I.left input.old) (λ text. INPUT_LIMIT < length text) }
+    ensures too_long { result.1 ≡ Status.TooLong → IfSome (I.left input.old) (λ text. input_limit < length text) }
     ensures complete { IsSomeAnd (I.left input.old) (IsTaken (form_of (map string_bytes words.now)))
         → ¬ Rose (I.faults input.old) (I.faults input.new) → ¬ Rose (O.faults output) (O.faults result.0)
         → IsDoneUnlessMemory result.1 }

@@ -2,7 +2,7 @@ ghost use Rattle.std.specs.Prelude.{◌≡◌, ◌<◌, ◌≤◌, ℕ, List, []
 ghost use Rattle.isis_edge.specs.Faults.{Rose};
 ghost use Rattle.isis_edge.specs.Told.{Wrote, Stays};
 ghost use Rattle.isis_daemon.specs.Pages.{HasWritten, HasBegun};
-ghost use Rattle.isis_daemon.specs.Run.{Shows, IsOfShow, OnRead, OnUnwritten, IsDoneUnlessMemory};
+ghost use Rattle.isis_daemon.specs.Run.{input_limit, Shows, IsOfShow, OnRead, OnUnwritten, IsDoneUnlessMemory};
 ghost use Rattle.isis_daemon.specs.ShowText.{shown_line, shown_text};
 
 mod spell;
@@ -100,12 +100,12 @@ pub fn show<I: Source, O: Sink>(alloc: Global, input: &mut I, output: O) -> (O, 
     ensures ends { IfSome (I.left input.old) (λ text. Shows text (O.held output) (O.held result.0) result.1) }
     ensures statuses { IsOfShow result.1 }
     ensures whole { OnRead result.1 (IfSome (I.left input.old)
-        (λ text. (length text ≤ INPUT_LIMIT) × (I.left input.new ≡ Some []))) }
+        (λ text. (length text ≤ input_limit) × (I.left input.new ≡ Some []))) }
     ensures unwritten { OnUnwritten result.1 (Stays (O.held output) (O.held result.0)) }
     ensures read_fault { result.1 ≡ Status.ReadFault → Rose (I.faults input.old) (I.faults input.new) }
     ensures write_fault { result.1 ≡ Status.WriteFault → Rose (O.faults output) (O.faults result.0) }
-    ensures too_long { result.1 ≡ Status.TooLong → IfSome (I.left input.old) (λ text. INPUT_LIMIT < length text) }
-    ensures complete { IsSomeAnd (I.left input.old) (λ text. length text ≤ INPUT_LIMIT)
+    ensures too_long { result.1 ≡ Status.TooLong → IfSome (I.left input.old) (λ text. input_limit < length text) }
+    ensures complete { IsSomeAnd (I.left input.old) (λ text. length text ≤ input_limit)
         → ¬ Rose (I.faults input.old) (I.faults input.new) → ¬ Rose (O.faults output) (O.faults result.0)
         → IsDoneUnlessMemory result.1 }
     ensures later { (I.faults input.old ≤ I.faults input.new) × (O.faults output ≤ O.faults result.0) }

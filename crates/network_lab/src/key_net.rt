@@ -23,8 +23,7 @@ pub const LINK_LIMIT: usize = 4096;
 pub fn limit_laws()
     ensures routers { ROUTER_LIMIT ≡ 1024 }
     ensures links { LINK_LIMIT ≡ 4096 }
-{
-}
+{}
 
 /// A plain network in which numbered copies of keys are passed along links, each router keeping the newest key
 /// of each LSP ID. Routers are numbered from 0, copies from 1.

@@ -1,4 +1,4 @@
-ghost use Rattle.std.specs.Prelude.{◌≡◌, OnOk};
+ghost use Rattle.std.specs.Prelude.{◌≡◌, OnOk, IsOk};
 ghost use Rattle.isis_daemon.specs.Gives.{Gives};
 ghost use Rattle.isis_daemon.specs.KeysPlay.{play_told, play_all};
 ghost use Rattle.isis_daemon.specs.Sound.{IsInNet, AreInNet, IsLaidOut};
@@ -11,6 +11,7 @@ use network_lab::{KeyNet, LabFault};
 fn play_one(net: &mut KeyNet, told: &Told) -> Result<(), ScriptFault>
     requires { IsInNet net.old told.now.event }
     ensures value { Gives result net.new (play_told net.old told.now) }
+    ensures memory { result ≡ Err ScriptFault.OutOfMemory → IsOk (play_told net.old told.now) }
     ensures places { OnOk result (IsLaidOut net.old net.new) }
 {
     let line = told.line;

@@ -1,4 +1,4 @@
-ghost use Rattle.std.specs.Prelude.{◌≡◌, ◌<◌, IfSome, OnOk, OnErr, slice_index};
+ghost use Rattle.std.specs.Prelude.{◌≡◌, ◌<◌, IfSome, OnOk, OnErr, IsOk, slice_index};
 ghost use Rattle.network_lab.specs.KeysNet.{with_router, with_link};
 ghost use Rattle.isis_daemon.specs.Cuts.{parts_behind};
 ghost use Rattle.isis_daemon.specs.Gives.{Gives, Answers};
@@ -46,6 +46,7 @@ fn add_router(net: &mut KeyNet) -> Result<(), ScriptFault>
     ensures ok { OnOk result (net.new ≡ with_router net.old) }
     ensures err { OnErr result (net.new ≡ net.old) }
     ensures cause { Gives result net.new (script.router_added net.old) }
+    ensures memory { result ≡ Err ScriptFault.OutOfMemory → IsOk (script.router_added net.old) }
 {
     match net.add_router() {
         Ok(_) => Ok(()),
@@ -59,6 +60,7 @@ fn add_link(net: &mut KeyNet, ends: [usize; 2]) -> Result<(), ScriptFault>
     ensures ok { OnOk result (net.new ≡ with_link net.old (slice_index ends 0) (slice_index ends 1)) }
     ensures err { OnErr result (net.new ≡ net.old) }
     ensures cause { Gives result net.new (script.link_added net.old (slice_index ends 0) (slice_index ends 1)) }
+    ensures memory { result ≡ Err ScriptFault.OutOfMemory → IsOk (script.link_added net.old (slice_index ends 0) (slice_index ends 1)) }
 {
     match net.add_link(ends) {
         Ok(()) => Ok(()),
@@ -79,7 +81,8 @@ impl<'a> Reader<'a> {
     }
 
     fn router(&mut self, line: usize, name: &'a [u8]) -> Result<(), ScriptFault>
-        ensures { Gives result self.new (script.read_router self.old line name.now) }
+        ensures value { Gives result self.new (script.read_router self.old line name.now) }
+        ensures memory { result ≡ Err ScriptFault.OutOfMemory → IsOk (script.read_router self.old line name.now) }
     {
         if !reads_name(name) {
             return refused(line, Reason::Form);
@@ -102,7 +105,8 @@ impl<'a> Reader<'a> {
     }
 
     fn link(&mut self, line: usize, a: &[u8], b: &[u8]) -> Result<(), ScriptFault>
-        ensures { Gives result self.new (script.read_link self.old line a.now b.now) }
+        ensures value { Gives result self.new (script.read_link self.old line a.now b.now) }
+        ensures memory { result ≡ Err ScriptFault.OutOfMemory → IsOk (script.read_link self.old line a.now b.now) }
     {
         if !reads_name(a) || !reads_name(b) {
             return refused(line, Reason::Form);
@@ -118,7 +122,8 @@ impl<'a> Reader<'a> {
     }
 
     fn pass(&mut self, line: usize, copy: &[u8], from: &[u8], to: &[u8]) -> Result<(), ScriptFault>
-        ensures { Gives result self.new (script.read_pass self.old line copy.now from.now to.now) }
+        ensures value { Gives result self.new (script.read_pass self.old line copy.now from.now to.now) }
+        ensures memory { result ≡ Err ScriptFault.OutOfMemory → IsOk (script.read_pass self.old line copy.now from.now to.now) }
     {
         let Some(copy) = read_copy(copy) else {
             return refused(line, Reason::Form);
@@ -145,7 +150,8 @@ impl<'a> Reader<'a> {
         number: &[u8],
         mark: &[u8],
     ) -> Result<(), ScriptFault>
-        ensures { Gives result self.new (script.read_issue self.old line name.now id.now number.now mark.now) }
+        ensures value { Gives result self.new (script.read_issue self.old line name.now id.now number.now mark.now) }
+        ensures memory { result ≡ Err ScriptFault.OutOfMemory → IsOk (script.read_issue self.old line name.now id.now number.now mark.now) }
     {
         let Some(id) = read_id(id) else {
             return refused(line, Reason::Form);
@@ -165,7 +171,8 @@ impl<'a> Reader<'a> {
     }
 
     fn router_fields(&mut self, line: usize, left: Option<&'a [u8]>) -> Result<(), ScriptFault>
-        ensures { Gives result self.new (script.router_fields self.old line (parts_behind 32 left.entry)) }
+        ensures value { Gives result self.new (script.router_fields self.old line (parts_behind 32 left.entry)) }
+        ensures memory { result ≡ Err ScriptFault.OutOfMemory → IsOk (script.router_fields self.old line (parts_behind 32 left.entry)) }
     {
         let Some(name) = last_word(left) else {
             return refused(line, Reason::Form);
@@ -174,7 +181,8 @@ impl<'a> Reader<'a> {
     }
 
     fn link_fields(&mut self, line: usize, left: Option<&'a [u8]>) -> Result<(), ScriptFault>
-        ensures { Gives result self.new (script.link_fields self.old line (parts_behind 32 left.entry)) }
+        ensures value { Gives result self.new (script.link_fields self.old line (parts_behind 32 left.entry)) }
+        ensures memory { result ≡ Err ScriptFault.OutOfMemory → IsOk (script.link_fields self.old line (parts_behind 32 left.entry)) }
     {
         let Some((a, left)) = next_word(left) else {
             return refused(line, Reason::Form);
@@ -186,7 +194,8 @@ impl<'a> Reader<'a> {
     }
 
     fn issue_fields(&mut self, line: usize, left: Option<&'a [u8]>) -> Result<(), ScriptFault>
-        ensures { Gives result self.new (script.issue_fields self.old line (parts_behind 32 left.entry)) }
+        ensures value { Gives result self.new (script.issue_fields self.old line (parts_behind 32 left.entry)) }
+        ensures memory { result ≡ Err ScriptFault.OutOfMemory → IsOk (script.issue_fields self.old line (parts_behind 32 left.entry)) }
     {
         let Some((name, left)) = next_word(left) else {
             return refused(line, Reason::Form);
@@ -204,7 +213,8 @@ impl<'a> Reader<'a> {
     }
 
     fn pass_fields(&mut self, line: usize, left: Option<&'a [u8]>) -> Result<(), ScriptFault>
-        ensures { Gives result self.new (script.pass_fields self.old line (parts_behind 32 left.entry)) }
+        ensures value { Gives result self.new (script.pass_fields self.old line (parts_behind 32 left.entry)) }
+        ensures memory { result ≡ Err ScriptFault.OutOfMemory → IsOk (script.pass_fields self.old line (parts_behind 32 left.entry)) }
     {
         let Some((copy, left)) = next_word(left) else {
             return refused(line, Reason::Form);
@@ -219,7 +229,8 @@ impl<'a> Reader<'a> {
     }
 
     fn words(&mut self, line: usize, text: &'a [u8]) -> Result<(), ScriptFault>
-        ensures { Gives result self.new (script.read_words self.old line (words_of text.now)) }
+        ensures value { Gives result self.new (script.read_words self.old line (words_of text.now)) }
+        ensures memory { result ≡ Err ScriptFault.OutOfMemory → IsOk (script.read_words self.old line (words_of text.now)) }
     {
         let (verb, left) = cut(text, b' ');
         if verb == b"router".as_slice() {
@@ -264,7 +275,8 @@ impl<'a> Reader<'a> {
 
 /// Line 1.
 fn head(line: &[u8]) -> Result<(), ScriptFault>
-    ensures { (read : script.Read) → Gives result read (script.read_head read line.now) }
+    ensures value { (read : script.Read) → Gives result read (script.read_head read line.now) }
+    ensures memory { result ≡ Err ScriptFault.OutOfMemory → ⊥ }
 {
     if line == b"isis-keys 1".as_slice() {
         return Ok(());
