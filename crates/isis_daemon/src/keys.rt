@@ -4,5 +4,5 @@ pub mod names;
 pub mod play;
 pub mod reader;
 pub mod report;
-pub mod spelling;
-pub mod words;
+mod spelling;
+mod words;

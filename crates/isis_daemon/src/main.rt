@@ -9,9 +9,12 @@
 //! - `status.rt`, `reason.rt`: how a run ends, and why a line is refused
 //! - `keys/`: keys scripts, read by `reader.rt`, played by `play.rt` and reported by `report.rt`
 //! - `show.rt`, `show/spell.rt`: the fields of PDUs as lines of text
+//! - `cuts.rt`: a text up to a mark, and what stands behind it; `digits.rt`: the hex digits of an octet
 //! - `pages.rt`: text on its way to a sink, in pieces of some kilobytes
 #![tactic(auto)]
 
+mod cuts;
+mod digits;
 mod form;
 mod keys;
 mod pages;

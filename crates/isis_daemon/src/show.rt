@@ -9,7 +9,7 @@ mod spell;
 mod texts;
 
 use self::spell::{add_fault, add_octets};
-use crate::keys::words::cut;
+use crate::cuts::cut;
 use crate::pages::{Page, PageFault, flush, settle};
 use crate::status::{INPUT_LIMIT, Status};
 use hex::FromHexError;

@@ -3,34 +3,9 @@ ghost use Rattle.std.specs.Char.{digit_char};
 ghost use Rattle.isis_base.specs.Texts.{lsp_text};
 ghost use Rattle.isis_daemon.specs.KeysReport.{key_line};
 
+use crate::digits::{high, low};
 use isis_base::{Key, LspId, Octets, OutOfMemory};
 use itoa::Buffer;
-
-/// The hex digit of a value.
-fn digit(value: u8) -> u8
-    requires { value < 16 }
-    ensures { result ≡ digit_char value }
-{
-    if value < 10 {
-        b'0' + value
-    } else {
-        b'a' - 10 + value
-    }
-}
-
-/// The first hex digit of an octet.
-pub fn high(octet: u8) -> u8
-    ensures { result ≡ digit_char (octet / 16) }
-{
-    digit(octet / 16)
-}
-
-/// The second hex digit of an octet.
-pub fn low(octet: u8) -> u8
-    ensures { result ≡ digit_char (octet % 16) }
-{
-    digit(octet % 16)
-}
 
 /// An LSP ID's text between two spaces. It is `{id}`, made in one piece, since a report has very many.
 fn spaced(id: LspId) -> [u8; 22]

@@ -2,18 +2,7 @@ ghost use Rattle.std.specs.Prelude.{◌≡◌, ◌<◌, ◌==◌, [], ◌∷◌,
 ghost use Rattle.std.specs.List.{slice_split};
 ghost use Rattle.isis_daemon.specs.Cuts.{parts_behind, IsNotOne};
 
-use memchr::memchr;
-
-/// The octets before the first mark, and those behind it; all octets where there is no mark.
-pub fn cut(text: &[u8], mark: u8) -> (&[u8], Option<&[u8]>)
-    ensures parts { slice_split (λ byte. byte == mark) text.now ≡ result.0.now ∷ parts_behind mark result.1 }
-    ensures less { IfSome result.1 (λ behind. length behind.now < length text.now) }
-{
-    match memchr(mark, text) {
-        Some(place) => (&text[..place], Some(&text[place + 1..])),
-        None => (text, None),
-    }
-}
+use crate::cuts::cut;
 
 /// The next word of what is left of a line, which one space parts, and what is left behind it.
 pub fn next_word(left: Option<&[u8]>) -> Option<(&[u8], Option<&[u8]>)>

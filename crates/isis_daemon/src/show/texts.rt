@@ -3,7 +3,7 @@ ghost use Rattle.isis_base.specs.Levels.{levels_text};
 ghost use Rattle.isis_base.specs.Texts.{hex_pair, system_text, node_text, lsp_text};
 ghost use Rattle.isis_daemon.specs.ShowText.{two_text};
 
-use crate::keys::spelling::{high, low};
+use crate::digits::{high, low};
 use isis_base::{LevelSet, LspId, NodeId, Octets, OutOfMemory, SystemId};
 use itoa::Buffer;
 
