@@ -80,6 +80,7 @@ tlv_line tlv = codes "tlv " ++ decimal tlv.code ++ codes " at " ++ decimal tlv.p
 abbrev pub pdu_tlvs : PduView → List TlvView
 pdu_tlvs pdu = tlv_list (header_length (kind_of pdu)) (tlvs_of_pdu pdu)
 
+-- the first line of a PDU up to the count of its TLVs
 unfoldable pub head_text : ℕ → PduView → List ℕ → List ℕ
 head_text number pdu octets = start_text number ++ type_word pdu ++ codes " length " ++ decimal (length octets) ++ fields_text pdu octets
 
@@ -110,7 +111,8 @@ abbrev pub octets_lines : ℕ → List ℕ → Result (PduView × ℕ) PduFault 
 octets_lines number octets (Ok found) = pdu_lines number found.0 (take found.1 octets)
 octets_lines number octets (Err fault) = fault_line number (kind_word fault.kind) fault.place
 
--- where a text of so many octets isn't hex: its length where that is odd, else its first octet that is no digit (own)
+-- where a text of so many octets isn't hex: its length where that is odd, else its first octet that is no digit; the
+-- last two don't come of reading (own)
 abbrev pub misfit_place : ℕ → FromHexError → ℕ
 misfit_place size OddLength = size
 misfit_place size (InvalidHexCharacter digit place) = place

@@ -4,7 +4,7 @@ ghost use Rattle.isis_edge.specs.Told.{Stays};
 ghost use Rattle.isis_daemon.specs.Gives.{Answers};
 ghost use Rattle.isis_daemon.specs.Forms.{form_of};
 ghost use Rattle.isis_daemon.specs.KeysRun.{played, Ends, IsOfScript};
-ghost use Rattle.isis_daemon.specs.Run.{input_limit, EndsAs, IsTaken, OnRead, OnUnwritten, IsDoneUnlessMemory};
+ghost use Rattle.isis_daemon.specs.Run.{input_limit, EndsAs, IsTaken, IsOfShow, OnRead, OnUnwritten, IsDoneUnlessMemory};
 
 use crate::form::{Form, form_of};
 use crate::keys::names::Names;
@@ -66,6 +66,7 @@ pub fn run<I: Source, O: Sink>(
     ensures usage { (result.1 ≡ Status.Usage) ↔ (form_of (map string_bytes words.now) ≡ None) }
     ensures ends { IfSome (I.left input.old)
         (λ text. EndsAs (form_of (map string_bytes words.now)) text (O.held output) (O.held result.0) result.1) }
+    ensures shown { form_of (map string_bytes words.now) ≡ Some Form.Show → IsOfShow result.1 }
     ensures whole { OnRead result.1 (IfSome (I.left input.old)
         (λ text. (length text ≤ input_limit) × (I.left input.new ≡ Some []))) }
     ensures unwritten { OnUnwritten result.1 (Stays (O.held output) (O.held result.0)) }
