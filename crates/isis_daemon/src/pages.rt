@@ -7,7 +7,7 @@ use isis_base::Octets;
 use isis_edge::{Sink, WriteFailed, write_all};
 use std::alloc::Global;
 
-/// How many octets wait at the most before they are written.
+/// From how many octets on those that wait are written.
 const PAGE: usize = 8192;
 
 /// A sink, and the octets that wait to be written to it in pieces of some kilobytes.
