@@ -1,3 +1,4 @@
+-- Node IDs and LSP IDs as octets, and LSP IDs as numbers.
 use Rattle.std.specs.Prelude.{ℕ, List, [], ◌∷◌, ◌++◌, take, slice_index}
 use Rattle.std.specs.Int.{from_be_bytes, w64}
 use Rattle.isis_base.specs.declared.identifiers.SystemId.{SystemId}

@@ -1,5 +1,6 @@
 pub mod Areas
 pub mod AreaTexts
+pub mod Fields
 pub mod Identifiers
 pub mod Keys
 pub mod Lending

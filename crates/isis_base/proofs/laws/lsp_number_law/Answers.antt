@@ -3,7 +3,7 @@ use Rattle.std.specs.Int.{to_be_bytes, from_be_bytes, w64}
 use Rattle.std.proofs.lemmas.Nat.{be_bytes_8}
 use Rattle.isis_base.specs.Identifiers.{lsp_number}
 use Rattle.isis_base.proofs.ArrayLemmas.{lsp-same, small-at}
-use Rattle.isis_base.proofs.numbers.lsp_number_law.Goals as goal
+use Rattle.isis_base.proofs.laws.lsp_number_law.Goals as goal
 
 pub returns : goal.returns
 unfolding lsp_number
