@@ -8,7 +8,9 @@ use Rattle.isis_tlv.specs.Tlvs.{tlvs_of, tlv_list}
 use Rattle.isis_tlv.proofs.TlvLemmas.{fault-anywhere}
 use Rattle.hmac_auth.specs.declared.fault.AuthFault.TheVariants.{PurgeBody, Wrong}
 use Rattle.hmac_auth.specs.Hmac.{hmac}
-use Rattle.hmac_auth.specs.Pdus.{IsPdu, pdu_type, header_length, is_lsp, is_purge, with_piece, zeroed, blanked}
+use Rattle.isis_tlv.specs.Framed.{IsPdu}
+use Rattle.isis_base.specs.PduKinds.{header_length, kind_of_number}
+use Rattle.hmac_auth.specs.Pdus.{pdu_type, is_lsp, is_purge, with_piece, zeroed, blanked}
 use Rattle.hmac_auth.specs.Auth.{HasDigest, place_in, digest_place, IsDigestPlace, has_purge_body, has_digest, fault_at, auth_fault}
 use Rattle.hmac_auth.proofs.HmacLemmas.{length-hmac}
 use Rattle.hmac_auth.proofs.PduLemmas.{header-least, lsp-behind}

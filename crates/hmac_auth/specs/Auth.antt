@@ -5,7 +5,8 @@ use Rattle.isis_tlv.specs.Tlvs.{TlvView, tlv_list}
 use Rattle.hmac_auth.specs.declared.fault.AuthFault.{AuthFault}
 use Rattle.hmac_auth.specs.declared.fault.AuthFault.TheVariants.{Missing, OtherType, PurgeBody, Wrong}
 use Rattle.hmac_auth.specs.Hmac.{hmac}
-use Rattle.hmac_auth.specs.Pdus.{IsPdu, is_purge, blanked}
+use Rattle.isis_tlv.specs.Framed.{IsPdu}
+use Rattle.hmac_auth.specs.Pdus.{is_purge, blanked}
 
 -- the TLVs behind the header (ISO 10589 9)
 abbrev pub pdu_tlvs : List ℕ → ℕ → List TlvView

@@ -4,7 +4,8 @@
 ghost use Rattle.std.specs.Prelude.{◌≡◌, ◌+◌, ◌^◌, ◌<◌, ◌≤◌, length, IfSome};
 ghost use Rattle.std.specs.Bool.{OnTrue};
 ghost use Rattle.isis_tlv.specs.Tlvs.{AreTlvs};
-ghost use Rattle.hmac_auth.specs.Pdus.{IsPdu, header_length};
+ghost use Rattle.isis_tlv.specs.Framed.{IsPdu};
+ghost use Rattle.isis_base.specs.PduKinds.{header_length, kind_of_number};
 ghost use Rattle.hmac_auth.specs.Auth.{IsDigestPlace};
 
 use super::{AuthFault, check_pdu, digest, sign_pdu};

@@ -8,5 +8,7 @@ pub mod Levels
 pub mod Octets
 pub mod Texts
 pub mod Misfit
+pub mod Prefixes
 pub mod PrefixFronts
 pub mod PrefixTexts
+pub mod PduKinds

@@ -12,6 +12,14 @@ pub fn u16_at(octets: &[u8], place: usize) -> u16
     u16::from_be_bytes([octets[place], octets[place + 1]])
 }
 
+/// The number of the three octets at a place.
+pub fn u24_at(octets: &[u8], place: usize) -> u32
+    requires { place + 3 ≤ length octets.now }
+    ensures { result ≡ field.u24_at place octets.now }
+{
+    u32::from_be_bytes([0, octets[place], octets[place + 1], octets[place + 2]])
+}
+
 /// The number of the four octets at a place.
 pub fn u32_at(octets: &[u8], place: usize) -> u32
     requires { place + 4 ≤ length octets.now }

@@ -14,6 +14,7 @@ ghost use Rattle.isis_base.specs.Keys.{join_of};
 ghost use Rattle.isis_base.specs.AreaTexts.{SpellsArea, area_text, area_of};
 ghost use Rattle.isis_base.specs.declared.level.LevelSet.{LevelSet};
 ghost use Rattle.isis_base.specs.Levels.{levels_text, levels_of};
+ghost use Rattle.isis_base.specs.Prefixes.{prefix_from};
 ghost use Rattle.isis_base.specs.PrefixFronts.{prefix_parts};
 ghost use Rattle.isis_base.specs.PrefixTexts.{SpellsPrefix, prefix_text};
 ghost use Rattle.isis_base.specs.Misfit.{text_octets};
@@ -121,6 +122,12 @@ pub fn join_laws()
     ensures commutative { (a b : Option Key) → join_of a b ≡ join_of b a }
     ensures associative { (a b c : Option Key) → join_of (join_of a b) c ≡ join_of a (join_of b c) }
     ensures idempotent { (a : Option Key) → join_of a a ≡ a }
+{}
+
+/// A prefix is the one of its address and length, and two of one address and length are one.
+pub fn prefix_laws(a: Prefix, b: Prefix)
+    ensures from { prefix_from a.address a.length ≡ Some a }
+    ensures one { a.address ≡ b.address → a.length ≡ b.length → a ≡ b }
 {}
 
 /// Level 1 comes before level 2.

@@ -9,6 +9,7 @@
 //! - `identifiers.rt`: system ID, SNPA, node ID, LSP ID; `numbers.rt`: an LSP ID as a number
 //! - `level.rt`: levels, sets of levels, kinds of circuits
 //! - `key.rt`: a key; `order.rt`: which key is newer, and the newer of two
+//! - `pdu_kind.rt`: the types of PDUs, with their numbers and the lengths of their headers
 //! - `entry.rt`: what a sequence number PDU says of an LSP
 //! - `area.rt`, `prefix.rt`: area addresses and IPv4 prefixes
 //! - `parts.rt`: texts made of octets in hex and marks; `texts.rt`: system and LSP IDs read from theirs
@@ -37,6 +38,7 @@ mod numbers;
 mod octets;
 mod order;
 mod parts;
+mod pdu_kind;
 mod prefix;
 mod prefix_text;
 mod texts;
@@ -53,6 +55,7 @@ pub use level_text::read_levels;
 pub use memory::OutOfMemory;
 pub use octets::Octets;
 pub use order::{Order3, join, newer};
+pub use pdu_kind::PduKind;
 pub use prefix::Prefix;
 pub use prefix_text::read_prefix;
 pub use texts::{TextFault, read_lsp_id, read_system};
