@@ -1,3 +1,4 @@
+-- Headers of PDUs, and where a digest stands behind them.
 use Rattle.std.proofs.Common.{◌≡◌, ℕ, ◌+◌, ◌≤◌, List, Bool, true, false, cond, eqb, ◌||◌, ⊎_elim, ◌⊎◌, inl, inr, Option, Some, None, refl, sym, ap, ◌∙◌, arith}
 use Rattle.std.proofs.lemmas.Bool.{eqb-true, or_cases}
 use Rattle.isis_tlv.specs.Framed.{IsPdu}

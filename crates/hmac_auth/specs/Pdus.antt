@@ -1,3 +1,4 @@
+-- LSPs and purges, and the octets that a digest is taken of.
 use Rattle.std.specs.Prelude.{◌≡◌, ℕ, ◌+◌, ◌%◌, ◌≤◌, ◌==◌, ◌&&◌, ◌||◌, Bool, List, ◌++◌, length, take, drop, replicate, slice_index, Option, Some, None, if◌then◌else◌}
 use Rattle.isis_base.specs.Fields.{u16_at}
 

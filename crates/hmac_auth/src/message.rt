@@ -1,3 +1,4 @@
+//! The message that a PDU's digest is taken of.
 ghost use Rattle.std.specs.Prelude.{◌≡◌, ◌+◌, ◌<◌, ◌≤◌, length, IsTrue};
 ghost use Rattle.hmac_auth.specs.Hmac.{hmac};
 ghost use Rattle.hmac_auth.specs.Pdus.{is_lsp, is_purge, blanked};

@@ -1,3 +1,4 @@
+//! A PDU signed.
 ghost use Rattle.std.specs.Prelude.{◌≡◌, ℕ, ◌+◌, ◌≤◌, length, Some, None, if◌then◌else◌};
 ghost use Rattle.hmac_auth.specs.Hmac.{hmac};
 ghost use Rattle.isis_tlv.specs.Framed.{IsPdu};

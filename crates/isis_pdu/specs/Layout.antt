@@ -1,3 +1,4 @@
+-- The fields of each type at their offsets.
 use Rattle.std.specs.Prelude.{ℕ, ◌%◌, ◌-◌, ◌==◌, Bool, true, false, List, [], ◌∷◌, take, drop, find, slice_index, Option, if◌then◌else◌}
 use Rattle.isis_base.specs.declared.level.Level.TheVariants as level
 use Rattle.isis_base.specs.declared.level.LevelSet.{LevelSet}

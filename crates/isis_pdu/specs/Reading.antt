@@ -1,3 +1,4 @@
+-- When octets read as a value.
 use Rattle.std.specs.Prelude.{◌≡◌, ◌≢◌, ◌⊎◌, ℕ, ◌%◌, ◌≤◌, List, length, IsTrue, slice_index}
 use Rattle.isis_tlv.specs.Tlvs.{AreTlvs}
 use Rattle.isis_pdu.specs.Views.{PduView, tlvs_of_pdu}

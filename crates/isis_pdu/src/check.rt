@@ -1,3 +1,4 @@
+//! The tests on octets, in order.
 ghost use Rattle.std.specs.Prelude.{◌≡◌, ◌+◌, ◌^◌, ◌<◌, ◌≤◌, length, Some, Err, IfOk, OnOk};
 ghost use Rattle.std.specs.Result.{result_err};
 ghost use Rattle.isis_base.specs.PduKinds.{kind_at, header_length};

@@ -1,3 +1,4 @@
+//! The fields of a PDU at their offsets.
 ghost use Rattle.std.specs.Prelude.{◌≡◌, ◌≤◌, length};
 ghost use Rattle.isis_base.specs.declared.pdu_kind.PduKind.TheVariants as kind;
 ghost use Rattle.isis_pdu.specs.Views.{pdu_view};

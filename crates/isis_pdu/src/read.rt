@@ -1,3 +1,4 @@
+//! PDUs read.
 ghost use Rattle.std.specs.Prelude.{◌≡◌, ℕ, ◌↔◌, Ok};
 ghost use Rattle.std.specs.Result.{result_err};
 ghost use Rattle.isis_pdu.specs.Views.{PduView, decoded_view};

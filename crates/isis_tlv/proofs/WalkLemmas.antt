@@ -1,3 +1,4 @@
+-- What a walk has left after an item, a fault or the end.
 use Rattle.std.proofs.Common.{◌≡◌, ℕ, zero, suc, ◌+◌, ◌<◌, ◌≤◌, List, [], ◌∷◌, length, drop, true, false, eqb, Option, Some, None, Result, Ok, Err, refl, sym, ap, ◌∙◌, arith, length-drop}
 use Rattle.std.specs.Result.{IfOk}
 use Rattle.std.specs.Option.{ok_or, IfSome}

@@ -1,3 +1,4 @@
+-- What a field of the standard's size holds.
 use Rattle.std.specs.Prelude.{◌≡◌, ℕ, ◌-◌, ◌%◌, ◌^◌, ◌<◌, ◌≤◌, List, length, IfSome, IsSome}
 use Rattle.isis_base.specs.declared.identifiers.Snpa.{Snpa}
 use Rattle.isis_base.specs.declared.entry.LspEntry.{LspEntry}

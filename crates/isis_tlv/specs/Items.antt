@@ -1,3 +1,4 @@
+-- What the values of codes 1, 6, 9, 22, 135 and 240 read as.
 use Rattle.std.specs.Prelude.{ℕ, suc, zero, ◌+◌, ◌-◌, ◌*◌, ◌/◌, ◌%◌, ◌^◌, ◌≤◌, ◌==◌, ◌&&◌, nat_le, Bool, List, length, take, drop, slice_index, Option, Some, None, Result, if◌then◌else◌, option_and_then}
 use Rattle.std.specs.Option.{ok_or, IfSome}
 use Rattle.std.specs.Int.{bit_at}

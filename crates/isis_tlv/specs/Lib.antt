@@ -6,3 +6,4 @@ pub mod Takes
 pub mod Spelling
 pub mod Fits
 pub mod Framed
+pub mod Faults

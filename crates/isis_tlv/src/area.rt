@@ -1,3 +1,4 @@
+//! Area addresses, the value of code 1.
 ghost use Rattle.std.specs.Prelude.{◌≡◌, ◌≤◌, ◌+◌, ◌++◌, map, length, Ok, OnOk, OnErr};
 ghost use Rattle.isis_tlv.specs.Items.{area_at, areas_of};
 ghost use Rattle.isis_tlv.specs.Fits.{IsArea};

@@ -1,3 +1,4 @@
+//! LSP entries, the value of code 9.
 ghost use Rattle.std.specs.Prelude.{◌≡◌, ◌≤◌, ◌+◌, ◌*◌, ◌++◌, map, length, Ok, OnOk, OnErr};
 ghost use Rattle.isis_tlv.specs.Fits.{IsEntry};
 ghost use Rattle.isis_tlv.specs.Items.{entry_at, entries_of};

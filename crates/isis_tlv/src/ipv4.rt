@@ -1,3 +1,4 @@
+//! IPv4 addresses and protocols, the values of codes 132 and 129, which are only written.
 ghost use Rattle.std.specs.Prelude.{◌≡◌, ◌≤◌, ◌*◌, ◌++◌, length, OnOk, OnErr};
 ghost use Rattle.isis_tlv.specs.Spelling.{address_value, address_tlv, protocol_tlv};
 

@@ -1,3 +1,4 @@
+//! What holds of all octets: functions without a body, whose contracts are the laws.
 ghost use Rattle.std.specs.Prelude.{◌≡◌, ℕ, ◌+◌, ◌<◌, ◌++◌, [], ◌∷◌, List, map, sum_by, length, Ok, Err, None, ◌↔◌};
 ghost use Rattle.std.specs.List.{AllByRecursion, flat_map};
 ghost use Rattle.isis_base.specs.declared.entry.LspEntry.{LspEntry};

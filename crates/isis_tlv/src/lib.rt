@@ -39,7 +39,7 @@ pub use neighbour::{NeighbourItem, NeighbourItems, neighbours, put_neighbours};
 pub use prefix::{PrefixItem, PrefixItems, prefixes, put_prefixes};
 pub use snpa::{SnpaItems, put_snpas, snpas};
 pub use three_way::{Adj, ThreeWay, put_three_way, three_way_value};
-pub use tlv::{Tlv, TlvFault, Tlvs};
+pub use tlv::{Tlv, TlvFault, Tlvs, are_tlvs};
 
 #[cfg(test)]
 mod tests;

@@ -1,3 +1,4 @@
+//! Neighbours, the value of code 22.
 ghost use Rattle.std.specs.Prelude.{◌≡◌, ◌≤◌, ◌<◌, ◌^◌, ◌+◌, ◌*◌, ◌++◌, All, map, length, Ok, OnOk, OnErr};
 ghost use Rattle.isis_tlv.specs.Items.{neighbour_at, neighbours_of};
 ghost use Rattle.isis_tlv.specs.Fits.{IsNeighbour};

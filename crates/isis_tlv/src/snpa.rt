@@ -1,3 +1,4 @@
+//! SNPAs, the value of code 6.
 ghost use Rattle.std.specs.Prelude.{◌≡◌, ◌≤◌, ◌+◌, ◌*◌, ◌++◌, map, length, Ok, OnOk, OnErr};
 ghost use Rattle.isis_tlv.specs.Items.{snpa_at, snpas_of};
 ghost use Rattle.isis_tlv.specs.Fits.{IsSnpa};

@@ -1,3 +1,4 @@
+//! The state of the three-way handshake, the value of code 240.
 ghost use Rattle.std.specs.Prelude.{◌≡◌, ◌≤◌, ◌++◌, length, IsSome, Ok, OnOk, OnErr};
 ghost use Rattle.isis_tlv.specs.Items.{state_of, three_way_of};
 ghost use Rattle.isis_tlv.specs.Spelling.{state_octet, three_way_octets, three_way_tlv};
