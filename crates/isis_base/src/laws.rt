@@ -5,7 +5,7 @@ ghost use Rattle.std.specs.Cmp.Lexicographic.{slice_cmp};
 ghost use Rattle.std.specs.Ordering.{nat_cmp};
 ghost use Rattle.std.specs.List.{AllByRecursion};
 ghost use Rattle.std.specs.Option.{option_map};
-ghost use Rattle.isis_base.specs.Identifiers.{node_octets, lsp_octets, lsp_number, lsp_from, system_from};
+ghost use Rattle.isis_base.specs.Identifiers.{IsId, node_octets, lsp_octets, lsp_number, lsp_from, system_from};
 ghost use Rattle.isis_base.specs.declared.key.Key.{Key};
 ghost use Rattle.isis_base.specs.declared.level.Level.{Level};
 ghost use Rattle.isis_base.specs.declared.level.Level.TheVariants as level;
@@ -107,6 +107,13 @@ pub fn lsp_order_law(a: LspId, b: LspId)
 {
     let _of_a = octets_of_lsp(a);
     let _of_b = octets_of_lsp(b);
+}
+
+/// An LSP ID has eight octets.
+pub fn lsp_id_law(id: LspId)
+    ensures { IsId id }
+{
+    let _octets = octets_of_lsp(id);
 }
 
 /// LSP IDs of one number are one. So `LspId::from_number(id.to_number())` is `id`.
