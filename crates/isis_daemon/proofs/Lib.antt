@@ -1,12 +1,1 @@
-pub mod CutLemmas
-pub mod FieldLemmas
-pub mod IdLemmas
-pub mod KeyLemmas
-pub mod LineLemmas
-pub mod NameLemmas
 pub mod ShowLemmas
-pub mod SoundLemmas
-pub mod ReadLemmas
-pub mod PlayLemmas
-pub mod PageLemmas
-pub mod ReportLemmas

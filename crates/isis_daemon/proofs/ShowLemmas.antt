@@ -1,5 +1,10 @@
+-- Lines of what an input is shown as, and how many TLVs there are.
 use Rattle.std.proofs.Common.{◌≡◌, ℕ, zero, suc, ◌+◌, ◌≤◌, List, [], ◌∷◌, ◌++◌, length, Result, Ok, Err, arith, ap}
+use Rattle.std.specs.Prelude.{◌==◌}
 use Rattle.std.specs.Result.{ok_prefix}
+use Rattle.std.proofs.lemmas.List.Splits.{length-slice_split}
+use Rattle.std.proofs.lemmas.List.Sums.{count_by-le-length}
+use Rattle.lab_text.specs.Words.{lines_of}
 use Rattle.isis_tlv.specs.Tlvs.{tlv_at, tlv_list}
 use Rattle.isis_tlv.specs.Walks.{before, walk, items_of}
 use Rattle.isis_daemon.specs.ShowText.{shown_line, shown_lines}
@@ -29,3 +34,7 @@ shown_lines-next number line lines all e = ap (shown_lines number) e
 pub shown_lines-end : (number : ℕ) (all : List (List ℕ)) → all ≡ [] → shown_lines number all ≡ []
 unfolding shown_lines
 shown_lines-end number all e = ap (shown_lines number) e
+
+-- a text has at most a line for each octet, and one
+pub lines-few : (input : List ℕ) → length (lines_of input) ≤ length input + 1
+lines-few input = omega (arith, length-slice_split (λ byte. byte == 10) input, count_by-le-length (λ byte. byte == 10) input)

@@ -1,3 +1,4 @@
+-- What PDUs are shown as: a line for each, and a line for each of its TLVs (own).
 use Rattle.std.specs.Prelude.{ℕ, ◌+◌, ◌==◌, ◌||◌, not, List, [], ◌∷◌, ◌++◌, length, take, drop, codes, decimal, Result, Ok, Err, if◌then◌else◌}
 use Rattle.std.specs.List.{flat_map}
 use Rattle.hex.specs.declared.error.FromHexError.{FromHexError}
@@ -16,9 +17,10 @@ use Rattle.isis_pdu.specs.declared.fault.PduFault.{PduFault}
 use Rattle.isis_pdu.specs.declared.fault.PduFaultKind.{PduFaultKind}
 use Rattle.isis_pdu.specs.declared.fault.PduFaultKind.TheVariants.{Short, Discriminator, Version, IdLength, PduType, MaxAreas, HeaderLength, CircuitType, PduLength, Tlv}
 use Rattle.isis_pdu.specs.Decoded.{decoded}
-use Rattle.isis_pdu.specs.Layout.{kind_of, header_length}
+use Rattle.isis_pdu.specs.Layout.{kind_of}
+use Rattle.isis_base.specs.PduKinds.{header_length}
 use Rattle.isis_pdu.specs.Views.{PduView, LanHello, PointHello, Lsp, Csnp, Psnp, tlvs_of_pdu}
-use Rattle.isis_daemon.specs.Words.{lines_of}
+use Rattle.lab_text.specs.Words.{lines_of}
 
 -- one of two words, by the level
 abbrev pub by_level : Level → List ℕ → List ℕ → List ℕ
@@ -35,8 +37,8 @@ type_word (Psnp level source tlvs) = by_level level (codes "l1-psnp") (codes "l2
 
 -- what an LSP's checksum comes to: a purge has none to look at, and a field of 0 is none (own). It covers the octets
 -- from the LSP ID, at 12, to the PDU's end (ISO 10589 7.3.11)
-unfoldable pub soundness : ℕ → ℕ → List ℕ → List ℕ
-soundness lifetime checksum octets =
+unfoldable pub checksum_word : ℕ → ℕ → List ℕ → List ℕ
+checksum_word lifetime checksum octets =
     if lifetime == 0 then codes "purge"
     else if (checksum == 0) || not (checksum_holds (drop 12 octets)) then codes "bad"
     else codes "good"
@@ -47,13 +49,13 @@ hello_text circuit_type source holding =
     codes " circuit " ++ levels_text circuit_type ++ codes " source " ++ system_text source ++ codes " holding " ++ decimal holding
 
 -- two octets in hex
-unfoldable pub two_text : ℕ → List ℕ
-two_text number = flat_map hex_pair (u16_octets number)
+unfoldable pub hex_field : ℕ → List ℕ
+hex_field number = flat_map hex_pair (u16_octets number)
 
 -- the last fields of an LSP
 abbrev pub checksum_text : ℕ → ℕ → ℕ → List ℕ → List ℕ
 checksum_text lifetime checksum flags octets =
-    codes " checksum " ++ two_text checksum ++ codes " " ++ soundness lifetime checksum octets ++ codes " flags " ++ hex_pair flags
+    codes " checksum " ++ hex_field checksum ++ codes " " ++ checksum_word lifetime checksum octets ++ codes " flags " ++ hex_pair flags
 
 -- the fields of a PDU whose octets these are, from the first to the PDU length (own)
 abbrev pub fields_text : PduView → List ℕ → List ℕ

@@ -1,18 +1,35 @@
+-- What ends a run, its exit code and its line (own).
 use Rattle.std.specs.Prelude.{ℕ, List, ◌++◌, codes, decimal}
 use Rattle.isis_edge.specs.declared.reading.WholeFault.{WholeFault}
 use Rattle.isis_edge.specs.declared.reading.WholeFault.TheVariants as whole
+use Rattle.isis_edge.specs.declared.text.TextFailed.{TextFailed}
+use Rattle.isis_edge.specs.declared.text.TextFailed.TheVariants as text
 use Rattle.network_lab.specs.Limits.{limit_word}
-use Rattle.isis_daemon.specs.declared.reason.ScriptFault.{ScriptFault}
-use Rattle.isis_daemon.specs.declared.reason.ScriptFault.TheVariants as script
+use Rattle.lab_text.specs.declared.reason.ScriptFault.{ScriptFault}
+use Rattle.lab_text.specs.declared.reason.ScriptFault.TheVariants as script
+use Rattle.lab_text.specs.declared.reason.RunFault.{RunFault}
+use Rattle.lab_text.specs.declared.reason.RunFault.TheVariants as run
 use Rattle.isis_daemon.specs.declared.status.Status.{Status}
 use Rattle.isis_daemon.specs.declared.status.Status.TheVariants.{Done, Usage, ScriptRefused, ReadFault, WriteFault, TooLong, OutOfMemory, LabLimit}
-use Rattle.isis_daemon.specs.Reasons.{reason_word}
+use Rattle.lab_text.specs.Reasons.{reason_word}
 
--- what ends a run that a script's fault stopped (own)
-abbrev pub status_of : ScriptFault → Status
-status_of (script.Refused line reason) = ScriptRefused line reason
-status_of (script.Limit which) = LabLimit which
-status_of script.OutOfMemory = OutOfMemory
+-- what ends a run whose script can't be read (own)
+abbrev pub script_status : ScriptFault → Status
+script_status (script.Refused line reason) = ScriptRefused line reason
+script_status (script.Limit which) = LabLimit which
+script_status script.OutOfMemory = OutOfMemory
+
+-- what ends a run whose script didn't come to the end of its report (own)
+abbrev pub run_status : RunFault → Status
+run_status (run.Refused line reason) = ScriptRefused line reason
+run_status (run.Limit which) = LabLimit which
+run_status run.Write = WriteFault
+run_status run.OutOfMemory = OutOfMemory
+
+-- what ends a run whose text wasn't written to its end (own)
+abbrev pub text_status : TextFailed → Status
+text_status text.Write = WriteFault
+text_status text.OutOfMemory = OutOfMemory
 
 -- what ends a run whose input wasn't read as a whole (own)
 abbrev pub whole_status : WholeFault → Status

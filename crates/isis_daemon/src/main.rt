@@ -5,28 +5,15 @@
 //! error.
 //!
 //! - `run.rt`: the call `run`, from the octets read to the octets written
-//! - `form.rt`: what the words ask for
-//! - `status.rt`, `reason.rt`: how a run ends, and why a line is refused
-//! - `keys/`: keys scripts, read by `reader.rt`, played by `play.rt` and reported by `report.rt`; `words.rt` and `fields.rt`
-//!   read what a line says, `names.rt` finds routers by name, `events.rt` has what waits to be played, and
-//!   `spelling.rt` writes a line of a report
-//! - `show.rt`: the call `show`, line by line; `show/spell.rt` writes the lines of a PDU, `show/texts.rt` their numbers and
-//!   identifiers
-//! - `cuts.rt`: a text up to a mark, and what stands behind it; `digits.rt`: the hex digits of an octet
-//! - `pages.rt`: text on its way to a sink, in pieces of some kilobytes or of one PDU
+//! - `command.rt`: what the words ask for; `status.rt`: how a run ends
+//! - `show.rt`: the call `show`, line by line; `show/lines.rt` the lines of a PDU, and `shown.rt` what is still to come
 #![tactic(auto)]
 
-mod cuts;
-mod digits;
-mod form;
-mod keys;
-mod pages;
-mod reason;
+mod command;
 mod run;
 mod show;
+mod shown;
 mod status;
-#[cfg(test)]
-mod tests;
 
 use crate::run::run;
 use crate::status::Status;

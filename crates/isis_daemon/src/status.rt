@@ -1,8 +1,9 @@
+//! How a run of the program ended.
 ghost use Rattle.std.specs.Prelude.{◌≡◌, Some};
-ghost use Rattle.isis_daemon.specs.Statuses.{status_of, whole_status, status_code, status_line};
+ghost use Rattle.isis_daemon.specs.Statuses.{script_status, run_status, whole_status, text_status, status_code, status_line};
 
-use crate::reason::{Reason, ScriptFault};
-use isis_edge::WholeFault;
+use isis_edge::{TextFailed, WholeFault};
+use lab_text::{Reason, RunFault, ScriptFault};
 use network_lab::LimitName;
 use std::fmt;
 
@@ -32,10 +33,10 @@ pub enum Status {
 
 impl Status {
     /// The program's exit code.
-    pub fn code(self) -> u8
-        ensures { result ≡ status_code self }
+    pub fn code(&self) -> u8
+        ensures { result ≡ status_code self.now }
     {
-        match self {
+        match *self {
             Status::Done => 0,
             Status::Usage => 2,
             Status::ScriptRefused { .. } => 3,
@@ -66,7 +67,7 @@ impl fmt::Display for Status {
 }
 
 impl From<ScriptFault> for Status {
-    ghost from_gives = { λ fault status. status ≡ status_of fault };
+    ghost from_gives = { λ fault status. status ≡ script_status fault };
 
     fn from(fault: ScriptFault) -> Status {
         match fault {
@@ -85,6 +86,30 @@ impl From<WholeFault> for Status {
             WholeFault::Fault => Status::ReadFault,
             WholeFault::TooLong => Status::TooLong,
             WholeFault::OutOfMemory => Status::OutOfMemory,
+        }
+    }
+}
+
+impl From<RunFault> for Status {
+    ghost from_gives = { λ fault status. status ≡ run_status fault };
+
+    fn from(fault: RunFault) -> Status {
+        match fault {
+            RunFault::Refused { line, reason } => Status::ScriptRefused { line, reason },
+            RunFault::Limit(which) => Status::LabLimit { which },
+            RunFault::Write => Status::WriteFault,
+            RunFault::OutOfMemory => Status::OutOfMemory,
+        }
+    }
+}
+
+impl From<TextFailed> for Status {
+    ghost from_gives = { λ fault status. status ≡ text_status fault };
+
+    fn from(fault: TextFailed) -> Status {
+        match fault {
+            TextFailed::Write => Status::WriteFault,
+            TextFailed::OutOfMemory => Status::OutOfMemory,
         }
     }
 }

@@ -1,0 +1,56 @@
+-- How a run of the program ends (own).
+use Rattle.std.specs.Prelude.{◌≡◌, ℕ, ◌<◌, ◌≤◌, List, [], length, Option, Some, IfSome, Result, Ok, Err, IsOk, IsOkAnd, ◌⊎◌}
+use Rattle.isis_edge.specs.Told.{Wrote, WrotePrefix, Stays}
+use Rattle.lab_text.specs.declared.reason.ScriptFault.{ScriptFault}
+use Rattle.lab_text.specs.declared.reason.ScriptFault.TheVariants.{Refused, Limit}
+use Rattle.lab_text.specs.KeysScripts.{◌>>=◌, script_of}
+use Rattle.lab_text.specs.KeysReport.{report_of_net}
+use Rattle.lab_text.specs.KeysRuns.{end_of}
+use Rattle.isis_daemon.specs.declared.command.Command.{Command}
+use Rattle.isis_daemon.specs.declared.command.Command.TheVariants.{Lab, Show}
+use Rattle.isis_daemon.specs.declared.status.Status.{Status}
+use Rattle.isis_daemon.specs.declared.status.Status.TheVariants as status
+use Rattle.isis_daemon.specs.ShowText.{shown_text}
+
+-- how many octets an input may have
+abbrev pub input_limit : ℕ
+input_limit = 16777216
+
+-- the text that a command makes of an input, or what refuses it: of a script its report, and of other input the fields
+-- of its PDUs
+abbrev pub text_of : Command → List ℕ → Result (List ℕ) ScriptFault
+text_of Lab input = script_of input >>= λ script. end_of script >>= λ net. Ok (report_of_net script.routers net)
+text_of Show input = Ok (shown_text input)
+
+-- the text, where there is one
+abbrev pub told_text : Result (List ℕ) ScriptFault → List ℕ
+told_text (Ok text) = text
+told_text (Err fault) = []
+
+-- the input wasn't too long, and was read to its end
+abbrev pub IsReadWhole : List ℕ → Option (List ℕ) → Type 0
+IsReadWhole input left = (length input ≤ input_limit) × (left ≡ Some [])
+
+-- how a command's run ends: the status has its cause in the input that there was; and the output, before and now, holds the
+-- whole text, a prefix of it, or no more than before
+abbrev pub Ends : Command → (input left before now : Option (List ℕ)) → Status → Type 0
+Ends command input left before now status.Done =
+    IfSome input (λ octets. IsReadWhole octets left × IsOkAnd (text_of command octets) (Wrote before now))
+Ends command input left before now status.Usage = ⊥
+Ends command input left before now (status.ScriptRefused line reason) =
+    (command ≡ Lab) × IfSome input (λ octets. IsReadWhole octets left × (text_of command octets ≡ Err (Refused line reason))) × Stays before now
+Ends command input left before now status.ReadFault = Stays before now
+Ends command input left before now status.WriteFault =
+    IfSome input (λ octets. IsReadWhole octets left × IsOkAnd (text_of command octets) (WrotePrefix before now))
+Ends command input left before now status.TooLong = IfSome input (λ octets. input_limit < length octets) × Stays before now
+Ends command input left before now status.OutOfMemory = IfSome input (λ octets. WrotePrefix before now (told_text (text_of command octets)))
+Ends command input left before now (status.LabLimit which) =
+    (command ≡ Lab) × IfSome input (λ octets. IsReadWhole octets left × (text_of command octets ≡ Err (Limit which))) × Stays before now
+
+-- an input that a command takes to its end
+abbrev pub IsTaken : Command → List ℕ → Type 0
+IsTaken command input = (length input ≤ input_limit) × IsOk (text_of command input)
+
+-- done, or memory was wanted
+abbrev pub IsDoneUnlessMemory : Status → Type 0
+IsDoneUnlessMemory end = (end ≡ status.Done) ⊎ (end ≡ status.OutOfMemory)

@@ -1,0 +1,16 @@
+//! What is still to come of what an input is shown as.
+ghost use Rattle.std.specs.Prelude.{◌≤◌, ◌+◌, length};
+ghost use Rattle.lab_text.specs.Cuts.{parts_behind};
+
+use std::alloc::Global;
+
+/// The lines of an input that are still to be shown.
+#[derive(Drop)]
+pub(crate) struct Shown<'t> {
+    pub alloc: Global,
+    /// The lines, if any are left.
+    pub left: Option<&'t [u8]>,
+    /// The number of the first of them, from 1.
+    pub number: usize,
+    pub ghost few: { number + length (parts_behind 10 left) ≤ 16777218 },
+}
