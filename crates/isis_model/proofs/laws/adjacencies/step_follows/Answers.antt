@@ -1,0 +1,5 @@
+use Rattle.isis_model.proofs.TouchSteps.{step-touch}
+use Rattle.isis_model.proofs.laws.adjacencies.step_follows.Goals as goal
+
+pub returns : goal.returns
+returns c = step-touch

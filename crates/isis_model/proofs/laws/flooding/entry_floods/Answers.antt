@@ -1,0 +1,5 @@
+use Rattle.isis_model.proofs.FloodLemmas.{entry-floods}
+use Rattle.isis_model.proofs.laws.flooding.entry_floods.Goals as goal
+
+pub returns : goal.returns
+returns c = entry-floods

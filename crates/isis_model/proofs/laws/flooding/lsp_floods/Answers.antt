@@ -1,0 +1,5 @@
+use Rattle.isis_model.proofs.FloodLemmas.{lsp-floods}
+use Rattle.isis_model.proofs.laws.flooding.lsp_floods.Goals as goal
+
+pub returns : goal.returns
+returns c = lsp-floods

@@ -1,0 +1,5 @@
+use Rattle.isis_model.proofs.CsnpLemmas.{csnp_set-covers}
+use Rattle.isis_model.proofs.laws.replies.csnp_set_law.Goals as goal
+
+pub returns : goal.returns
+returns c = csnp_set-covers

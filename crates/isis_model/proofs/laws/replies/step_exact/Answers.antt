@@ -1,0 +1,5 @@
+use Rattle.isis_model.proofs.ExactLemmas.{step-exact}
+use Rattle.isis_model.proofs.laws.replies.step_exact.Goals as goal
+
+pub returns : goal.returns
+returns c = step-exact

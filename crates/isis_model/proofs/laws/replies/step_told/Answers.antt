@@ -1,0 +1,5 @@
+use Rattle.isis_model.proofs.KeyLemmas.{step-told}
+use Rattle.isis_model.proofs.laws.replies.step_told.Goals as goal
+
+pub returns : goal.returns
+returns c = step-told

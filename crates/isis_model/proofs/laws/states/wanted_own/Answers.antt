@@ -1,0 +1,5 @@
+use Rattle.isis_model.proofs.WantedLemmas.{wanted-own}
+use Rattle.isis_model.proofs.laws.states.wanted_own.Goals as goal
+
+pub returns : goal.returns
+returns c = wanted-own
