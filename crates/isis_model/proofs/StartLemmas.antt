@@ -1,17 +1,16 @@
 -- What holds at a router's start, and the CSNP counters, which stand at 0 where the router isn't designated.
-use Rattle.std.proofs.Common.{◌≡◌, ℕ, zero, suc, eqb, ◌+◌, ◌^◌, ◌<◌, ◌≤◌, ◌==◌, Bool, true, false, not, ◌||◌, List, [], ◌∷◌, map, length, Option, Some, None, if◌then◌else◌, refl, sym, ap, ◌∙◌, subst, arith, zero-add}
+use Rattle.std.proofs.Common.{◌≡◌, ℕ, zero, suc, eqb, ◌+◌, ◌^◌, ◌<◌, ◌≤◌, Bool, true, false, not, ◌||◌, List, [], ◌∷◌, map, length, Option, Some, None, if◌then◌else◌, refl, sym, ap, ◌∙◌, subst, arith, zero-add}
 use Rattle.std.proofs.lemmas.Bool.Decides.{nat_tests}
 use Rattle.std.proofs.lemmas.List.{length-map}
 use Rattle.std.specs.Option.{option_map}
 use Rattle.isis_base.specs.declared.level.Level.{Level}
 use Rattle.isis_base.specs.declared.level.Level.TheVariants as level
 use Rattle.isis_model.specs.declared.drop_name.DropName.{DropName}
-use Rattle.isis_model.specs.Both.{at}
 use Rattle.isis_model.specs.Places.{nth}
 use Rattle.isis_model.specs.Sets.{has, with_one}
 use Rattle.isis_model.specs.Configs.{Config}
 use Rattle.isis_model.specs.Routers.{Circuit, Router, book_of, is_open}
-use Rattle.isis_model.specs.Elections.{idle, idle_all, is_designated}
+use Rattle.isis_model.specs.Elections.{idle, idle_all}
 use Rattle.isis_model.specs.Givens.{Given}
 use Rattle.isis_model.specs.Seconds.{second}
 use Rattle.isis_model.specs.Pulls.{pull}

@@ -1,5 +1,5 @@
 -- The causes of a drop by name, and their counters (own).
-use Rattle.std.specs.Prelude.{ℕ, ◌==◌, List, Option, Some, None, codes, if◌then◌else◌}
+use Rattle.std.specs.Prelude.{ℕ, List, Option, Some, None, codes}
 use Rattle.isis_model.specs.declared.drop_name.DropName.{DropName}
 use Rattle.isis_model.specs.declared.drop_name.DropName.TheVariants.{Frame, Pdu, TooLong, WrongKind, WrongLevel, Auth, Value, ZeroNumber, BadChecksum, OwnId, OtherSnpa, NoLevel, NoArea, NoThreeWay, OtherNeighbour, TooMany, NoAdjacency, NotDesignated, StoreFull}
 use Rattle.isis_model.specs.Places.{nth, with_nth}

@@ -1,6 +1,6 @@
 -- A datagram taken: the tests that need the state, in their order, and then what the datagram's kind does (ISO 10589
 -- 7.3.15.1, 7.3.15.2, 8.2.4, 8.4.2; the order of the tests: own).
-use Rattle.std.specs.Prelude.{ℕ, ◌==◌, Bool, true, false, ◌&&◌, not, List, [], ◌∷◌, Option, Some, None, is_some, is_none, if◌then◌else◌}
+use Rattle.std.specs.Prelude.{ℕ, ◌==◌, Bool, true, false, ◌&&◌, not, [], ◌∷◌, Option, Some, None, is_some, is_none, if◌then◌else◌}
 use Rattle.isis_base.specs.declared.level.Level.{Level}
 use Rattle.isis_model.specs.declared.lsp_case.LspCase.{LspCase}
 use Rattle.isis_model.specs.declared.lsp_case.LspCase.TheVariants as lsp

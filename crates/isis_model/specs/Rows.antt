@@ -1,26 +1,102 @@
--- A small book and what it becomes.
-use Rattle.std.specs.Prelude.{[], ◌∷◌}
+-- Small books, and a router of two circuits with its neighbour on the first, for rows that are worked out.
+use Rattle.std.specs.Prelude.{ℕ, Bool, true, false, List, [], ◌∷◌, replicate, Option, Some, None}
+use Rattle.isis_base.specs.declared.level.Level.{Level}
+use Rattle.isis_tlv.specs.declared.three_way.Adj.{Adj}
+use Rattle.isis_tlv.specs.declared.three_way.Adj.TheVariants.{Down}
 use Rattle.isis_model.specs.Waits.{no_waits}
-use Rattle.isis_model.specs.Cells.{Heard}
+use Rattle.isis_model.specs.Configs.{Config}
+use Rattle.isis_model.specs.Cells.{Cell, Heard}
 use Rattle.isis_model.specs.Books.{Book}
+use Rattle.isis_model.specs.SnpTable.{SnpEntry}
+use Rattle.isis_model.specs.Routers.{Circuit, Contents, Router}
+use Rattle.isis_model.specs.Givens.{Given}
+use Rattle.isis_model.specs.Events.{Event, Take, PointHelloHeard, Outcome}
+use Rattle.isis_model.specs.Steps.{step}
+use Rattle.isis_model.specs.Starts.{quiet, start}
 
--- an LSP of number 1 is held, with SSN on circuits 2 and 3
+-- ---- a cell on three open circuits, of which the third is a LAN
+
+-- number 2 is held live, with SRM on circuit 2 and SSN on circuits 2 and 3
+abbrev pub held : Cell
+held = record { rank = 4; checksum = 5; flags = 3; left = 900; octets = replicate 27 1; srm = 2; ssn = 6; waits = no_waits }
+
+-- the cell with another key, other seconds, octets and flags
+abbrev pub cell_of : ℕ → ℕ → ℕ → List ℕ → ℕ → ℕ → Cell
+cell_of rank checksum left octets srm ssn = record { rank = rank; checksum = checksum; flags = 3; left = left; octets = octets; srm = srm; ssn = ssn; waits = no_waits }
+
+-- a purge's header: octets 8 to 11 and 24 and 25 are written anew
+abbrev pub header : List ℕ
+header = 1 ∷ 1 ∷ 1 ∷ 1 ∷ 1 ∷ 1 ∷ 1 ∷ 1 ∷ 0 ∷ 27 ∷ 0 ∷ 0 ∷ 1 ∷ 1 ∷ 1 ∷ 1 ∷ 1 ∷ 1 ∷ 1 ∷ 1 ∷ 1 ∷ 1 ∷ 1 ∷ 1 ∷ 0 ∷ 0 ∷ 1 ∷ []
+
+-- an LSP that is heard, and an entry, of LSP ID 7
+abbrev pub lsp : ℕ → ℕ → Heard
+lsp rank checksum = record { id = 7; rank = rank; checksum = checksum; flags = 3; left = 1100; octets = replicate 30 1 }
+
+abbrev pub entry : ℕ → ℕ → SnpEntry
+entry rank checksum = record { id = 7; rank = rank; lifetime = 600; checksum = checksum }
+
+abbrev pub book_with : List (ℕ × Cell) → ℕ → Book
+book_with cells changes = record { cells = cells; opened = 7; p2p = 3; changes = changes }
+
 abbrev pub before : Book
-before = record {
-  cells = (7, record { rank = 2; checksum = 5; flags = 1; left = 900; octets = 1 ∷ []; srm = 2; ssn = 6; waits = no_waits }) ∷ [];
-  opened = 7;
-  p2p = 3;
-  changes = 4;
+before = book_with ((7, held) ∷ []) 4
+
+-- ---- a router of L2 with a point-to-point circuit and a LAN
+
+abbrev pub config : Config
+config = record {
+  system = 1;
+  areas = (73 ∷ 0 ∷ 1 ∷ []) ∷ [];
+  runs = record { one = false; two = true };
+  leak = false;
+  overload = false;
+  prefixes = (10737434648, 5) ∷ [];
+  keys = record { one = None; two = None };
 }
 
-abbrev pub heard : Heard
-heard = record { id = 7; rank = 4; checksum = 9; flags = 3; left = 1100; octets = 2 ∷ [] }
-
--- it is replaced: SRM on circuits 2 and 3, SSN on circuit 1
-abbrev pub after : Book
-after = record {
-  cells = (7, record { rank = 4; checksum = 9; flags = 3; left = 1100; octets = 2 ∷ []; srm = 6; ssn = 1; waits = no_waits }) ∷ [];
-  opened = 7;
-  p2p = 3;
-  changes = 5;
+abbrev pub circuit : Bool → Circuit
+circuit lan = record {
+  lan = lan;
+  metric = 10;
+  priority = 64;
+  address = None;
+  key = None;
+  point = record { state = Down; neighbour = None };
+  levels = record { one = quiet; two = quiet };
+  hello = 0;
 }
+
+-- octets are what they say, and each checksum is the sequence number
+abbrev pub given : Given
+given = record {
+  leaks = λ (r : Router) (level : Level). [];
+  attached = λ (r : Router). false;
+  octets = λ (r : Router) (level : Level) (id number : ℕ) (contents : Contents). contents.tlvs;
+  checksum = λ (r : Router) (level : Level) (id number : ℕ) (contents : Contents). number;
+}
+
+abbrev pub router : Router
+router = start config 1 (circuit false ∷ circuit true ∷ [])
+
+-- a hello of system 2 with holding time 30, in a state, naming a system and a circuit
+abbrev pub hello : Adj → Option (ℕ × ℕ) → Event
+hello state names = Take 0 (PointHelloHeard (record {
+  source = 2;
+  snpa = 2;
+  runs = record { one = false; two = true };
+  holding = 30;
+  priority = 0;
+  lan = 0;
+  areas = [];
+  handshake = Some (record { state = state; extended = 513; names = names });
+  names_me = false;
+}))
+
+-- the router after some events, the last one first
+abbrev pub run : List Event → Router
+run [] = router
+run (event ∷ events) = (step given (run events) event).router
+
+-- what it answers to a further one
+abbrev pub answer_to : Event → List Event → Outcome
+answer_to event events = step given (run events) event

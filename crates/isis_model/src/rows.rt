@@ -1,10 +1,55 @@
-//! Rows of the tables, worked out: what a small book becomes, by computation.
-ghost use Rattle.std.specs.Prelude.{◌≡◌};
-ghost use Rattle.isis_model.specs.declared.whose.Whose.TheVariants.{Other};
+//! Rows of the tables and the first steps of a router, worked out by computation.
+ghost use Rattle.std.specs.Prelude.{◌≡◌, ◌-◌, ◌^◌, [], ◌∷◌, replicate, Some, None};
+ghost use Rattle.isis_base.specs.declared.level.Level.TheVariants.{Two};
+ghost use Rattle.isis_tlv.specs.declared.three_way.Adj.TheVariants.{Up, Initializing, Down};
+ghost use Rattle.isis_model.specs.declared.whose.Whose.TheVariants.{Other, Unissued};
+ghost use Rattle.isis_model.specs.Waits.{no_waits, wait, five_at, fallen};
+ghost use Rattle.isis_model.specs.Books.{cell_at};
 ghost use Rattle.isis_model.specs.LspTable.{hear_lsp};
-ghost use Rattle.isis_model.specs.Rows.{before, heard, after};
+ghost use Rattle.isis_model.specs.SnpTable.{hear_entry};
+ghost use Rattle.isis_model.specs.Datagrams.{PointHello, LanHello, Csnp, Lsp};
+ghost use Rattle.isis_model.specs.Events.{Second, Pull, Done, Send};
+ghost use Rattle.isis_model.specs.Rows.{held, cell_of, header, lsp, entry, book_with, before, hello, answer_to};
 
-/// A newer LSP is heard on circuit 1 of three open circuits, of which the third is a LAN.
-pub fn stores_a_newer_lsp()
-    ensures { hear_lsp before 0 Other heard ≡ after }
+/// A flag that was sent waits five seconds, and each second one less.
+pub fn wait_rows()
+    ensures five { wait (five_at no_waits 1) 1 ≡ 5 }
+    ensures four { wait (fallen (five_at no_waits 1)) 1 ≡ 4 }
+    ensures three { wait (fallen (fallen (five_at no_waits 1))) 1 ≡ 3 }
+    ensures others { wait (fallen (five_at no_waits 1)) 2 ≡ 0 }
+{}
+
+/// Rows of the table for LSPs, where number 2 is held: circuits 1 and 2 are point-to-point, circuit 3 is a LAN.
+pub fn lsp_rows()
+    ensures stored { hear_lsp before 0 Other (lsp 6 9) ≡ book_with ((7, cell_of 6 9 1100 (replicate 30 1) 6 1) ∷ []) 5 }
+    ensures stored_lan { hear_lsp before 2 Other (lsp 6 9) ≡ book_with ((7, cell_of 6 9 1100 (replicate 30 1) 3 4) ∷ []) 5 }
+    ensures purge { hear_lsp before 0 Other (lsp 5 0) ≡ book_with ((7, cell_of 5 0 60 header 6 1) ∷ []) 5 }
+    ensures confused { hear_lsp before 0 Other (lsp 4 9) ≡ book_with ((7, cell_of 5 0 60 header 7 0) ∷ []) 5 }
+    ensures purged_own { hear_lsp before 0 Unissued (lsp 6 9) ≡ book_with ((7, cell_of 7 0 60 header 7 0) ∷ []) 5 }
+    ensures same { hear_lsp before 1 Other (lsp 4 5) ≡ book_with ((7, cell_of 4 5 900 (replicate 27 1) 0 6) ∷ []) 4 }
+    ensures same_lan { hear_lsp before 2 Other (lsp 4 5) ≡ book_with ((7, cell_of 4 5 900 (replicate 27 1) 2 6) ∷ []) 4 }
+    ensures older { hear_lsp before 2 Other (lsp 2 5) ≡ book_with ((7, cell_of 4 5 900 (replicate 27 1) 6 2) ∷ []) 4 }
+    ensures unheld { hear_lsp (book_with [] 4) 0 Other (lsp 5 0) ≡ book_with [] 4 }
+{}
+
+/// Rows of the table for entries.
+pub fn snp_rows()
+    ensures same { hear_entry before 1 Other (entry 4 5) ≡ book_with ((7, cell_of 4 5 900 (replicate 27 1) 0 6) ∷ []) 4 }
+    ensures same_lan { hear_entry before 2 Other (entry 4 5) ≡ before }
+    ensures newer { hear_entry before 1 Other (entry 6 5) ≡ book_with ((7, cell_of 4 5 900 (replicate 27 1) 0 6) ∷ []) 4 }
+    ensures older { hear_entry before 2 Other (entry 2 5) ≡ book_with ((7, cell_of 4 5 900 (replicate 27 1) 6 2) ∷ []) 4 }
+    ensures asked { cell_at (hear_entry (book_with [] 4) 0 Other (entry 6 5)) 7
+        ≡ Some (record { rank = 0; checksum = 0; flags = 0; left = 60; octets = []; srm = 0; ssn = 1; waits = no_waits }) }
+    ensures unasked { hear_entry (book_with [] 4) 0 Other (entry 6 0) ≡ book_with [] 4 }
+{}
+
+/// A router's first hellos, the handshake, its first CSNP set and its first LSP, which is sent again after 5 seconds.
+pub fn first_steps()
+    ensures hello_sent { (answer_to (Pull 0) []).reply ≡ Send (PointHello Down 257 None ∷ []) }
+    ensures lan_hello { (answer_to (Pull 1) []).reply ≡ Send (LanHello Two 258 [] ∷ []) }
+    ensures waits { (answer_to (Pull 0) (Pull 0 ∷ [])).reply ≡ Send [] }
+    ensures initializing { (answer_to (Pull 0) (hello Down None ∷ [])).reply
+        ≡ Send (PointHello Initializing 257 (Some (2, 513)) ∷ []) }
+    ensures up { (answer_to (Pull 0) (hello Up (Some (1, 257)) ∷ hello Down None ∷ [])).reply
+        ≡ Send (PointHello Up 257 (Some (2, 513)) ∷ Csnp Two 0 (2 ^ 64 - 1) [] ∷ []) }
 {}

@@ -1,0 +1,31 @@
+-- By computation.
+use Rattle.std.proofs.Common.{refl}
+use Rattle.isis_model.specs.Maps.{put, erase, each}
+use Rattle.isis_model.specs.Sets.{has, with_one, without, only}
+use Rattle.isis_model.specs.Waits.{fallen}
+use Rattle.isis_model.specs.Books.{set_cell}
+use Rattle.isis_model.specs.Openings.{close, open_up}
+use Rattle.isis_model.specs.Hellos.{take_point}
+use Rattle.isis_model.specs.Pulls.{sent, answered, pull_hello, pull_csnp, pull_lsps, pull_psnp, pull_level, pull}
+use Rattle.isis_model.specs.Steps.{step}
+use Rattle.isis_model.proofs.rows.first_steps.Goals as goal
+
+pub returns-clause-hello_sent : goal.returns-clause-hello_sent
+unfolding put erase each has with_one without only fallen set_cell close open_up take_point sent answered pull_hello pull_csnp pull_lsps pull_psnp pull_level pull step
+returns-clause-hello_sent c = refl
+
+pub returns-clause-lan_hello : goal.returns-clause-lan_hello
+unfolding put erase each has with_one without only fallen set_cell close open_up take_point sent answered pull_hello pull_csnp pull_lsps pull_psnp pull_level pull step
+returns-clause-lan_hello c = refl
+
+pub returns-clause-waits : goal.returns-clause-waits
+unfolding put erase each has with_one without only fallen set_cell close open_up take_point sent answered pull_hello pull_csnp pull_lsps pull_psnp pull_level pull step
+returns-clause-waits c = refl
+
+pub returns-clause-initializing : goal.returns-clause-initializing
+unfolding put erase each has with_one without only fallen set_cell close open_up take_point sent answered pull_hello pull_csnp pull_lsps pull_psnp pull_level pull step
+returns-clause-initializing c = refl
+
+pub returns-clause-up : goal.returns-clause-up
+unfolding put erase each has with_one without only fallen set_cell close open_up take_point sent answered pull_hello pull_csnp pull_lsps pull_psnp pull_level pull step
+returns-clause-up c = refl
