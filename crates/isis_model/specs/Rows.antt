@@ -1,8 +1,8 @@
 -- Small books, and a router of two circuits with its neighbour on the first, for rows that are worked out.
-use Rattle.std.specs.Prelude.{ℕ, Bool, true, false, List, [], ◌∷◌, replicate, Option, Some, None}
+use Rattle.std.specs.Prelude.{ℕ, zero, suc, Bool, true, false, List, [], ◌∷◌, replicate, Option, Some, None}
 use Rattle.isis_base.specs.declared.level.Level.{Level}
 use Rattle.isis_tlv.specs.declared.three_way.Adj.{Adj}
-use Rattle.isis_tlv.specs.declared.three_way.Adj.TheVariants.{Down}
+use Rattle.isis_tlv.specs.declared.three_way.Adj.TheVariants.{Up, Down}
 use Rattle.isis_model.specs.Waits.{no_waits}
 use Rattle.isis_model.specs.Configs.{Config}
 use Rattle.isis_model.specs.Cells.{Cell, Heard}
@@ -10,7 +10,7 @@ use Rattle.isis_model.specs.Books.{Book}
 use Rattle.isis_model.specs.SnpTable.{SnpEntry}
 use Rattle.isis_model.specs.Routers.{Circuit, Contents, Router}
 use Rattle.isis_model.specs.Givens.{Given}
-use Rattle.isis_model.specs.Events.{Event, Take, PointHelloHeard, Outcome}
+use Rattle.isis_model.specs.Events.{Event, Second, Take, PointHelloHeard, Outcome}
 use Rattle.isis_model.specs.Steps.{step}
 use Rattle.isis_model.specs.Starts.{quiet, start}
 
@@ -34,6 +34,10 @@ lsp rank checksum = record { id = 7; rank = rank; checksum = checksum; flags = 3
 
 abbrev pub entry : ℕ → ℕ → SnpEntry
 entry rank checksum = record { id = 7; rank = rank; lifetime = 600; checksum = checksum }
+
+-- an empty entry that is asked for on circuit 1
+abbrev pub asked_for : Cell
+asked_for = record { rank = 0; checksum = 0; flags = 0; left = 60; octets = []; srm = 0; ssn = 1; waits = no_waits }
 
 abbrev pub book_with : List (ℕ × Cell) → ℕ → Book
 book_with cells changes = record { cells = cells; opened = 7; p2p = 3; changes = changes }
@@ -91,6 +95,28 @@ hello state names = Take 0 (PointHelloHeard (record {
   handshake = Some (record { state = state; extended = 513; names = names });
   names_me = false;
 }))
+
+-- the handshake with system 2, the last event first
+abbrev pub events_up : List Event
+events_up = hello Up (Some (1, 257)) ∷ hello Down None ∷ []
+
+-- seconds more
+abbrev pub seconds : ℕ → List Event → List Event
+seconds zero events = events
+seconds (suc count) events = Second ∷ seconds count events
+
+-- its own LSP with these seconds left: an area address, IPv4, system 2 at metric 10, and 10.0.1.0/24 at metric 5
+abbrev pub own_lsp : ℕ → Cell
+own_lsp left = record {
+  rank = 2;
+  checksum = 1;
+  flags = 3;
+  left = left;
+  octets = 1 ∷ 4 ∷ 3 ∷ 73 ∷ 0 ∷ 1 ∷ 129 ∷ 1 ∷ 204 ∷ 22 ∷ 11 ∷ 0 ∷ 0 ∷ 0 ∷ 0 ∷ 0 ∷ 2 ∷ 0 ∷ 0 ∷ 0 ∷ 10 ∷ 0 ∷ 135 ∷ 8 ∷ 0 ∷ 0 ∷ 0 ∷ 5 ∷ 24 ∷ 10 ∷ 0 ∷ 1 ∷ [];
+  srm = 1;
+  ssn = 0;
+  waits = no_waits;
+}
 
 -- the router after some events, the last one first
 abbrev pub run : List Event → Router

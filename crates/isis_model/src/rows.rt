@@ -8,8 +8,8 @@ ghost use Rattle.isis_model.specs.Books.{cell_at};
 ghost use Rattle.isis_model.specs.LspTable.{hear_lsp};
 ghost use Rattle.isis_model.specs.SnpTable.{hear_entry};
 ghost use Rattle.isis_model.specs.Datagrams.{PointHello, LanHello, Csnp, Lsp};
-ghost use Rattle.isis_model.specs.Events.{Second, Pull, Done, Send};
-ghost use Rattle.isis_model.specs.Rows.{held, cell_of, header, lsp, entry, book_with, before, hello, answer_to};
+ghost use Rattle.isis_model.specs.Events.{Second, Pull, Send};
+ghost use Rattle.isis_model.specs.Rows.{cell_of, header, lsp, entry, asked_for, book_with, before, hello, events_up, seconds, own_lsp, answer_to};
 
 /// A flag that was sent waits five seconds, and each second one less.
 pub fn wait_rows()
@@ -21,35 +21,52 @@ pub fn wait_rows()
 
 /// Rows of the table for LSPs, where number 2 is held: circuits 1 and 2 are point-to-point, circuit 3 is a LAN.
 pub fn lsp_rows()
-    ensures stored { hear_lsp before 0 Other (lsp 6 9) ≡ book_with ((7, cell_of 6 9 1100 (replicate 30 1) 6 1) ∷ []) 5 }
-    ensures stored_lan { hear_lsp before 2 Other (lsp 6 9) ≡ book_with ((7, cell_of 6 9 1100 (replicate 30 1) 3 4) ∷ []) 5 }
-    ensures purge { hear_lsp before 0 Other (lsp 5 0) ≡ book_with ((7, cell_of 5 0 60 header 6 1) ∷ []) 5 }
-    ensures confused { hear_lsp before 0 Other (lsp 4 9) ≡ book_with ((7, cell_of 5 0 60 header 7 0) ∷ []) 5 }
-    ensures purged_own { hear_lsp before 0 Unissued (lsp 6 9) ≡ book_with ((7, cell_of 7 0 60 header 7 0) ∷ []) 5 }
-    ensures same { hear_lsp before 1 Other (lsp 4 5) ≡ book_with ((7, cell_of 4 5 900 (replicate 27 1) 0 6) ∷ []) 4 }
-    ensures same_lan { hear_lsp before 2 Other (lsp 4 5) ≡ book_with ((7, cell_of 4 5 900 (replicate 27 1) 2 6) ∷ []) 4 }
-    ensures older { hear_lsp before 2 Other (lsp 2 5) ≡ book_with ((7, cell_of 4 5 900 (replicate 27 1) 6 2) ∷ []) 4 }
+    ensures stored { hear_lsp before 0 Other (lsp 6 9)
+        ≡ book_with ((7, cell_of 6 9 1100 (replicate 30 1) 6 1) ∷ []) 5 }
+    ensures stored_lan { hear_lsp before 2 Other (lsp 6 9)
+        ≡ book_with ((7, cell_of 6 9 1100 (replicate 30 1) 3 4) ∷ []) 5 }
+    ensures purge { hear_lsp before 0 Other (lsp 5 0)
+        ≡ book_with ((7, cell_of 5 0 60 header 6 1) ∷ []) 5 }
+    ensures confused { hear_lsp before 0 Other (lsp 4 9)
+        ≡ book_with ((7, cell_of 5 0 60 header 7 0) ∷ []) 5 }
+    ensures purged_own { hear_lsp before 0 Unissued (lsp 6 9)
+        ≡ book_with ((7, cell_of 7 0 60 header 7 0) ∷ []) 5 }
+    ensures same { hear_lsp before 1 Other (lsp 4 5)
+        ≡ book_with ((7, cell_of 4 5 900 (replicate 27 1) 0 6) ∷ []) 4 }
+    ensures same_lan { hear_lsp before 2 Other (lsp 4 5)
+        ≡ book_with ((7, cell_of 4 5 900 (replicate 27 1) 2 6) ∷ []) 4 }
+    ensures older { hear_lsp before 2 Other (lsp 2 5)
+        ≡ book_with ((7, cell_of 4 5 900 (replicate 27 1) 6 2) ∷ []) 4 }
     ensures unheld { hear_lsp (book_with [] 4) 0 Other (lsp 5 0) ≡ book_with [] 4 }
 {}
 
 /// Rows of the table for entries.
 pub fn snp_rows()
-    ensures same { hear_entry before 1 Other (entry 4 5) ≡ book_with ((7, cell_of 4 5 900 (replicate 27 1) 0 6) ∷ []) 4 }
+    ensures same { hear_entry before 1 Other (entry 4 5)
+        ≡ book_with ((7, cell_of 4 5 900 (replicate 27 1) 0 6) ∷ []) 4 }
     ensures same_lan { hear_entry before 2 Other (entry 4 5) ≡ before }
-    ensures newer { hear_entry before 1 Other (entry 6 5) ≡ book_with ((7, cell_of 4 5 900 (replicate 27 1) 0 6) ∷ []) 4 }
-    ensures older { hear_entry before 2 Other (entry 2 5) ≡ book_with ((7, cell_of 4 5 900 (replicate 27 1) 6 2) ∷ []) 4 }
+    ensures newer { hear_entry before 1 Other (entry 6 5)
+        ≡ book_with ((7, cell_of 4 5 900 (replicate 27 1) 0 6) ∷ []) 4 }
+    ensures older { hear_entry before 2 Other (entry 2 5)
+        ≡ book_with ((7, cell_of 4 5 900 (replicate 27 1) 6 2) ∷ []) 4 }
     ensures asked { cell_at (hear_entry (book_with [] 4) 0 Other (entry 6 5)) 7
-        ≡ Some (record { rank = 0; checksum = 0; flags = 0; left = 60; octets = []; srm = 0; ssn = 1; waits = no_waits }) }
+        ≡ Some asked_for }
     ensures unasked { hear_entry (book_with [] 4) 0 Other (entry 6 0) ≡ book_with [] 4 }
 {}
 
-/// A router's first hellos, the handshake, its first CSNP set and its first LSP, which is sent again after 5 seconds.
+/// A router's first hellos, the handshake, its first CSNP set, and its first LSP, which is sent again after five seconds.
 pub fn first_steps()
     ensures hello_sent { (answer_to (Pull 0) []).reply ≡ Send (PointHello Down 257 None ∷ []) }
     ensures lan_hello { (answer_to (Pull 1) []).reply ≡ Send (LanHello Two 258 [] ∷ []) }
     ensures waits { (answer_to (Pull 0) (Pull 0 ∷ [])).reply ≡ Send [] }
     ensures initializing { (answer_to (Pull 0) (hello Down None ∷ [])).reply
         ≡ Send (PointHello Initializing 257 (Some (2, 513)) ∷ []) }
-    ensures up { (answer_to (Pull 0) (hello Up (Some (1, 257)) ∷ hello Down None ∷ [])).reply
+    ensures up { (answer_to (Pull 0) events_up).reply
         ≡ Send (PointHello Up 257 (Some (2, 513)) ∷ Csnp Two 0 (2 ^ 64 - 1) [] ∷ []) }
+    ensures issued { (answer_to (Pull 0) (Second ∷ Pull 0 ∷ events_up)).reply
+        ≡ Send (Lsp Two 65536 (own_lsp 1200) ∷ []) }
+    ensures silent { (answer_to (Pull 0) (seconds 4 (Pull 0 ∷ Second ∷ Pull 0 ∷ events_up))).reply
+        ≡ Send [] }
+    ensures again { (answer_to (Pull 0) (seconds 5 (Pull 0 ∷ Second ∷ Pull 0 ∷ events_up))).reply
+        ≡ Send (Lsp Two 65536 (own_lsp 1195) ∷ []) }
 {}

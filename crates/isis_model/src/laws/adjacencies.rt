@@ -15,10 +15,12 @@ pub fn step_follows()
 /// A step leaves a router's system ID, its boot and the number of its circuits, changes adjacencies only by hellos and
 /// by their end, keeps somebody exactly outside Down, and each hello that it sends tells the adjacency as it is.
 pub fn step_bonds()
-    ensures stays { (given : Given) (r : Router) (event : Event) → Stays r (step given r event).router }
+    ensures stays { (given : Given) (r : Router) (event : Event)
+        → Stays r (step given r event).router }
     ensures bonds { (given : Given) (r : Router) (event : Event) (place : ℕ)
         → Bonds r event (step given r event).router place }
-    ensures kept { (given : Given) (r : Router) (event : Event) → AreBonds r → AreBonds (step given r event).router }
+    ensures kept { (given : Given) (r : Router) (event : Event)
+        → AreBonds r → AreBonds (step given r event).router }
     ensures greets { (given : Given) (r : Router) (event : Event)
         → IsReplyGreeting (step given r event).router (place_of event) (step given r event).reply }
 {}

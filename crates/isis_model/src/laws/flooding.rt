@@ -23,26 +23,30 @@ ghost use Rattle.isis_model.specs.SweepLaws.{ListsOnce, Frees, AreClean, IsRange
 /// A set of circuits has a circuit exactly as the words that made it say.
 pub fn set_laws()
     ensures with_one { (set place q : ℕ) → has (with_one set place) q ≡ (place == q || has set q) }
-    ensures without { (set place q : ℕ) → has (without set place) q ≡ (not (place == q) && has set q) }
+    ensures without { (set place q : ℕ)
+        → has (without set place) q ≡ (not (place == q) && has set q) }
     ensures only { (set place q : ℕ) → has (only set place) q ≡ (place == q && has set q) }
     ensures none { (q : ℕ) → has 0 q ≡ false }
 {}
 
 /// An LSP that is heard keeps the flooding of every LSP ID on every circuit.
 pub fn lsp_floods()
-    ensures { (heard : ℕ → ℕ → ℕ) (gone : ℕ → Bool) (book : Book) (place : ℕ) (whose : Whose) (h : Heard)
+    ensures { (heard : ℕ → ℕ → ℕ) (gone : ℕ → Bool) (book : Book) (place : ℕ)
+        (whose : Whose) (h : Heard)
         → h.rank ≤ heard place h.id → Floods heard gone book (hear_lsp book place whose h) }
 {}
 
 /// An entry that is heard keeps the flooding of every LSP ID on every circuit.
 pub fn entry_floods()
-    ensures { (heard : ℕ → ℕ → ℕ) (gone : ℕ → Bool) (book : Book) (place : ℕ) (whose : Whose) (h : SnpEntry)
+    ensures { (heard : ℕ → ℕ → ℕ) (gone : ℕ → Bool) (book : Book) (place : ℕ)
+        (whose : Whose) (h : SnpEntry)
         → h.rank ≤ heard place h.id → Floods heard gone book (hear_entry book place whose h) }
 {}
 
 /// An LSP that is taken keeps a level's flooding: what is let go stays so, ranks don't fall, and flags cover them.
 pub fn take_lsp_keeps()
-    ensures { (heard : ℕ → ℕ → ℕ) (scene : Scene) (state : LevelState) (place : ℕ) (whose : Whose) (h : Heard)
+    ensures { (heard : ℕ → ℕ → ℕ) (scene : Scene) (state : LevelState) (place : ℕ)
+        (whose : Whose) (h : Heard)
         → h.rank ≤ heard place h.id → Keeps heard state (take_lsp scene state place whose h) }
 {}
 
@@ -73,8 +77,10 @@ pub fn step_floods()
 
 /// What a step does to ranks and to the flags of point-to-point circuits.
 pub fn step_flags()
-    ensures rank { (given : Given) (r : Router) (event : Event) → RankStays r (step given r event).router }
-    ensures flag { (given : Given) (r : Router) (event : Event) → FlagStays event r (step given r event).router }
+    ensures rank { (given : Given) (r : Router) (event : Event)
+        → RankStays r (step given r event).router }
+    ensures flag { (given : Given) (r : Router) (event : Event)
+        → FlagStays event r (step given r event).router }
     ensures opening { (given : Given) (r : Router) (event : Event)
         → OpeningIsFlagged r (step given r event).router }
     ensures rise { (given : Given) (r : Router) (event : Event)
@@ -97,16 +103,19 @@ pub fn standing_laws()
 pub fn snp_frees()
     ensures { (scene : Scene) (state : LevelState) (system place : ℕ) (range : Option (ℕ × ℕ))
         (entries : List SnpEntry) (h : SnpEntry)
-        → has state.book.p2p place ≡ true → IsGoodBook state.book → ListsOnce entries h → Frees state.book h
+        → has state.book.p2p place ≡ true
+        → IsGoodBook state.book → ListsOnce entries h → Frees state.book h
         → srm_at (take_snp scene state system place range entries).book h.id place ≡ false }
 {}
 
 /// Where an SNP is taken and no entry sets a flag, what it lists live is held so; and where the range of a CSNP sets
 /// none either, what is held live in the range is listed.
 pub fn sweep_laws()
-    ensures listed { (scene : Scene) (state : LevelState) (system place : ℕ) (entries : List SnpEntry)
+    ensures listed { (scene : Scene) (state : LevelState) (system place : ℕ)
+        (entries : List SnpEntry)
         → AreClean scene state system place entries → AreHeldLive state.book entries }
-    ensures held { (scene : Scene) (state : LevelState) (system place start end : ℕ) (entries : List SnpEntry)
+    ensures held { (scene : Scene) (state : LevelState) (system place start end : ℕ)
+        (entries : List SnpEntry)
         → AreClean scene state system place entries → IsRangeClean state start end entries
         → (id : ℕ) → start ≤ id → id ≤ end → IsListed state.book entries id }
 {}

@@ -31,7 +31,8 @@ pub fn step_told()
 
 /// What a reply says passes the tests of receiving.
 pub fn step_fine()
-    ensures { (given : Given) (r : Router) (event : Event) → IsSorted r → IsGoodRouter r → IsGoodEvent event
+    ensures { (given : Given) (r : Router) (event : Event)
+        → IsSorted r → IsGoodRouter r → IsGoodEvent event
         → IsReplyFine (step given r event).reply }
 {}
 

@@ -29,36 +29,44 @@ pub fn step_course()
 
 /// What holds of every state holds at the start.
 pub fn start_laws()
-    ensures sorted { (config : Config) (boot : ℕ) (circuits : List Circuit) → IsSorted (start config boot circuits) }
+    ensures sorted { (config : Config) (boot : ℕ) (circuits : List Circuit)
+        → IsSorted (start config boot circuits) }
     ensures good { (config : Config) (boot : ℕ) (circuits : List Circuit)
-        → config.system < 2 ^ 48 → length circuits ≤ 255 → IsGoodRouter (start config boot circuits) }
+        → config.system < 2 ^ 48
+        → length circuits ≤ 255 → IsGoodRouter (start config boot circuits) }
     ensures follows { (config : Config) (boot : ℕ) (circuits : List Circuit)
         → FollowsAdjacencies (start config boot circuits) }
-    ensures bonds { (config : Config) (boot : ℕ) (circuits : List Circuit) → AreBonds (start config boot circuits) }
-    ensures idle { (config : Config) (boot : ℕ) (circuits : List Circuit) → AreIdle (start config boot circuits) }
+    ensures bonds { (config : Config) (boot : ℕ) (circuits : List Circuit)
+        → AreBonds (start config boot circuits) }
+    ensures idle { (config : Config) (boot : ℕ) (circuits : List Circuit)
+        → AreIdle (start config boot circuits) }
 {}
 
 /// A router's cells are by LSP ID before and after a step.
 pub fn step_sorted()
-    ensures { (given : Given) (r : Router) (event : Event) → IsSorted r → IsSorted (step given r event).router }
+    ensures { (given : Given) (r : Router) (event : Event)
+        → IsSorted r → IsSorted (step given r event).router }
 {}
 
 /// Where the event and what is given are good, a step keeps a good router good: both levels' cells, its system ID and
 /// its circuits' number.
 pub fn step_good()
     ensures { (given : Given) (r : Router) (event : Event)
-        → IsGoodGiven given → IsGoodEvent event → IsGoodRouter r → IsGoodRouter (step given r event).router }
+        → IsGoodGiven given → IsGoodEvent event
+        → IsGoodRouter r → IsGoodRouter (step given r event).router }
 {}
 
 /// The CSNP counter stands at 0 where the router isn't designated, before and after a step.
 pub fn step_idle()
-    ensures { (given : Given) (r : Router) (event : Event) → AreIdle r → AreIdle (step given r event).router }
+    ensures { (given : Given) (r : Router) (event : Event)
+        → AreIdle r → AreIdle (step given r event).router }
 {}
 
 /// What a step tells of keys and contents: a new live LSP was taken or issued in it, and while the count of changes
 /// stands below its end, keys and contents stand.
 pub fn step_tells()
-    ensures { (given : Given) (r : Router) (event : Event) → TellsBoth given event r (step given r event).router }
+    ensures { (given : Given) (r : Router) (event : Event)
+        → TellsBoth given event r (step given r event).router }
 {}
 
 /// The LSPs that are wanted are of one's own system.
@@ -69,7 +77,8 @@ pub fn wanted_own()
 
 /// A datagram is dropped where a test refuses it, and then its cause's counter alone changes.
 pub fn step_drops()
-    ensures refused { (given : Given) (r : Router) (place : ℕ) (c : Circuit) (m : Message) (cause : DropName)
+    ensures refused { (given : Given) (r : Router) (place : ℕ) (c : Circuit) (m : Message)
+        (cause : DropName)
         → nth r.circuits place ≡ Some c → drop_of r place c m ≡ Some cause
         → (step given r (Take place m)).reply ≡ Dropped cause }
     ensures unchanged { (given : Given) (r : Router) (event : Event) (cause : DropName)
