@@ -1,5 +1,5 @@
 -- Adjacencies from a router to the one after a step: which circuits are open, whom they keep, and what hellos tell of it.
-use Rattle.std.specs.Prelude.{◌≡◌, ◌≢◌, ℕ, Bool, false, not, ◌⊎◌, length, Option, Some, None}
+use Rattle.std.specs.Prelude.{◌≡◌, ◌≢◌, ℕ, ◌<◌, Bool, true, false, not, ◌⊎◌, length, Option, Some, None}
 use Rattle.isis_tlv.specs.declared.three_way.Adj.{Adj}
 use Rattle.isis_tlv.specs.declared.three_way.Adj.TheVariants.{Up, Down}
 use Rattle.isis_base.specs.declared.level.Level.{Level}
@@ -7,13 +7,14 @@ use Rattle.isis_model.specs.Places.{nth}
 use Rattle.isis_model.specs.Sets.{has}
 use Rattle.isis_model.specs.Adjacencies.{Handshake, Hello}
 use Rattle.isis_model.specs.Routers.{Circuit, Router, book_of, is_open, extended_of}
-use Rattle.isis_model.specs.HelloTests.{names_drop}
 use Rattle.isis_model.specs.Elections.{is_designated}
 use Rattle.isis_model.specs.Both.{at}
 use Rattle.isis_model.specs.Flooding.{Covers}
 use Rattle.isis_model.specs.Datagrams.{Sent, PointHello, LanHello, Lsp, Csnp, Psnp}
 use Rattle.isis_model.specs.Pulls.{names_of}
 use Rattle.isis_model.specs.Events.{PointHelloHeard, Event, Second, Take, Pull, Metric, Overload, Prefix, Reply}
+use Rattle.isis_model.specs.Books.{rank_at, srm_at}
+use Rattle.isis_model.specs.StepLaws.{IsPointOpen}
 use Rattle.isis_model.specs.ReplyLaws.{AllSent}
 
 -- ---- open circuits
@@ -64,6 +65,11 @@ pub record Stays (r t : Router) : Type 0 where
   pub system : t.config.system ≡ r.config.system
   pub circuits : length t.circuits ≡ length r.circuits
 
+-- what a handshake names, if it names somebody, is this router in its present boot, on this circuit
+abbrev pub NamesMe : Router → ℕ → Option (ℕ × ℕ) → Type 0
+NamesMe r place None = Unit {0}
+NamesMe r place (Some names) = (names.0 ≡ r.config.system) × (names.1 ≡ extended_of r.boot place)
+
 -- What a step does to a circuit's adjacency: nothing, or it ends, or a hello is taken there that names nobody or this
 -- router in its present boot, and its sender is kept. Where that is another neighbour than before, the circuit closed and
 -- opened anew, and every key is flagged where it is open.
@@ -71,11 +77,16 @@ pub data Bonds (r : Router) (event : Event) (t : Router) (place : ℕ) : Type 0 
   Same : bond_at t place ≡ bond_at r place → Bonds r event t place
   Ends : bond_at t place ≡ no_bond → Bonds r event t place
   Meets : (h : Hello) (s : Handshake) (state : Adj) → event ≡ Take place (PointHelloHeard h) → h.handshake ≡ Some s
-      → names_drop r.config (extended_of r.boot place) s.names ≡ None
+      → NamesMe r place s.names
       → state ≢ Down → (state ≡ Up → s.state ≢ Down)
       → bond_at t place ≡ record { state = state; names = Some (h.source, s.extended) }
       → ((bond_at r place).names ≡ Some (h.source, s.extended)) ⊎ ((level : Level) (id : ℕ) → Covers 0 (book_of t level) id place)
       → Bonds r event t place
+
+-- where a circuit keeps another neighbour than before, it has the flag of every key where it is open
+abbrev pub NewcomerIsFlagged : Router → Router → Type 0
+NewcomerIsFlagged r t = (level : Level) (place id : ℕ) (who : ℕ × ℕ) → (bond_at t place).names ≡ Some who → (bond_at r place).names ≢ Some who
+    → IsPointOpen t level place → 0 < rank_at (book_of t level) id → srm_at (book_of t level) id place ≡ true
 
 -- ---- hellos
 

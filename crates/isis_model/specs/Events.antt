@@ -9,7 +9,8 @@ use Rattle.isis_model.specs.Routers.{Router}
 use Rattle.isis_model.specs.Elections.{idle_all}
 use Rattle.isis_model.specs.Datagrams.{Sent}
 
--- What a datagram says that passed the tests that need no state: a hello, an LSP with its sender's SNPA, or an SNP with
+-- What a datagram says that passed the tests that need no state (a hello of the circuit's kind, a level that is run, and
+-- so on): a hello, an LSP with its sender's SNPA, or an SNP with
 -- its sender's SNPA, its source's system ID, a CSNP's range and its entries. Or why the first of these tests that fails
 -- refuses it.
 pub data Message : Type 0 where

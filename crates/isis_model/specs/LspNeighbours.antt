@@ -1,17 +1,17 @@
 -- The neighbours of own LSPs: those of the system from its circuits (ISO 10589 7.3.7, 7.3.9), those of a pseudonode from
 -- its LAN (ISO 10589 7.3.8, 7.3.10), and their TLVs (RFC 5305 3).
-use Rattle.std.specs.Prelude.{ℕ, zero, suc, ◌+◌, ◌*◌, ◌/◌, ◌%◌, ◌==◌, nat_lt, ◌&&◌, List, [], ◌∷◌, ◌++◌, Option, Some, None, if◌then◌else◌}
+use Rattle.std.specs.Prelude.{ℕ, ◌+◌, ◌*◌, ◌/◌, ◌%◌, ◌^◌, ◌==◌, nat_lt, ◌&&◌, List, [], ◌∷◌, ◌++◌, Option, Some, None, if◌then◌else◌}
 use Rattle.isis_base.specs.declared.level.Level.{Level}
+use Rattle.isis_tlv.specs.Numbers.{three_of, four_of}
 use Rattle.isis_model.specs.Configs.{Config}
 use Rattle.isis_model.specs.Adjacencies.{Neighbour, point_open}
 use Rattle.isis_model.specs.Routers.{LanNeighbour, Circuit}
 use Rattle.isis_model.specs.Elections.{Candidate, designated}
 use Rattle.isis_model.specs.Splits.{Item}
 
--- a number in so many octets, the first one the greatest
-abbrev pub octets_of : ℕ → ℕ → List ℕ
-octets_of zero n = []
-octets_of (suc count) n = octets_of count (n / 256) ++ (n % 256) ∷ []
+-- a node's seven octets (ISO 10589 9.8)
+abbrev pub seven_of : ℕ → List ℕ
+seven_of node = three_of (node / 2 ^ 32) ++ four_of node
 
 -- the pseudonode of a LAN's designated system, where its LAN ID names it
 abbrev pub lan_node : ℕ → Option Candidate → List (ℕ × ℕ)
@@ -50,4 +50,4 @@ lan_nodes (pair ∷ heard) nodes = lan_nodes heard (if pair.1.up then put_node n
 -- their entries of TLV 22
 abbrev pub node_items : List (ℕ × ℕ) → List Item
 node_items [] = []
-node_items (node ∷ nodes) = record { code = 22; octets = octets_of 7 node.0 ++ octets_of 3 node.1 ++ 0 ∷ [] } ∷ node_items nodes
+node_items (node ∷ nodes) = record { code = 22; octets = seven_of node.0 ++ three_of node.1 ++ 0 ∷ [] } ∷ node_items nodes

@@ -1,6 +1,8 @@
 -- Small books, and a router of two circuits with its neighbour on the first, for rows that are worked out.
 use Rattle.std.specs.Prelude.{ℕ, zero, suc, Bool, true, false, List, [], ◌∷◌, replicate, Option, Some, None}
 use Rattle.isis_base.specs.declared.level.Level.{Level}
+use Rattle.isis_base.specs.declared.level.Level.TheVariants.{Two}
+use Rattle.isis_model.specs.declared.drop_name.DropName.{DropName}
 use Rattle.isis_tlv.specs.declared.three_way.Adj.{Adj}
 use Rattle.isis_tlv.specs.declared.three_way.Adj.TheVariants.{Up, Down}
 use Rattle.isis_model.specs.Waits.{no_waits}
@@ -8,9 +10,12 @@ use Rattle.isis_model.specs.Configs.{Config}
 use Rattle.isis_model.specs.Cells.{Cell, Heard}
 use Rattle.isis_model.specs.Books.{Book}
 use Rattle.isis_model.specs.SnpTable.{SnpEntry}
-use Rattle.isis_model.specs.Routers.{Circuit, Contents, Router}
+use Rattle.isis_model.specs.Adjacencies.{Handshake}
+use Rattle.isis_model.specs.Routers.{Circuit, Contents, Issued, Router}
 use Rattle.isis_model.specs.Givens.{Given}
-use Rattle.isis_model.specs.Events.{Event, Second, Take, PointHelloHeard, Outcome}
+use Rattle.isis_model.specs.Events.{Event, Second, Take, PointHelloHeard, LanHelloHeard, Outcome}
+use Rattle.isis_model.specs.Both.{Both}
+use Rattle.isis_model.specs.HelloTests.{point_drop}
 use Rattle.isis_model.specs.Steps.{step}
 use Rattle.isis_model.specs.Starts.{quiet, start}
 
@@ -96,6 +101,50 @@ hello state names = Take 0 (PointHelloHeard (record {
   names_me = false;
 }))
 
+-- a LAN hello of system 2, which lists the router and has its priority, with LAN ID 513
+abbrev pub lan_hello : Event
+lan_hello = Take 1 (LanHelloHeard Two (record {
+  source = 2;
+  snpa = 2;
+  runs = record { one = false; two = true };
+  holding = 30;
+  priority = 64;
+  lan = 513;
+  areas = [];
+  handshake = None;
+  names_me = true;
+}))
+
+-- a point-to-point hello's tests: of a source from an SNPA, of these levels and areas, with a handshake
+abbrev pub tested : Config → ℕ → ℕ → Both Bool → List (List ℕ) → Option Handshake → Option DropName
+tested by source snpa runs areas shake = point_drop by 257 (record {
+  source = source;
+  snpa = snpa;
+  runs = runs;
+  holding = 30;
+  priority = 0;
+  lan = 0;
+  areas = areas;
+  handshake = shake;
+  names_me = false;
+})
+
+abbrev pub shake : Option (ℕ × ℕ) → Option Handshake
+shake names = Some (record { state = Down; extended = 513; names = names })
+
+abbrev pub level_one : Both Bool
+level_one = record { one = true; two = false }
+
+abbrev pub level_two : Both Bool
+level_two = record { one = false; two = true }
+
+-- contents that were issued so many seconds ago, beside the same and other ones
+abbrev pub contents_of : ℕ → Contents
+contents_of flags = record { flags = flags; tlvs = 1 ∷ 2 ∷ [] }
+
+abbrev pub issued_at : ℕ → Option Issued
+issued_at age = Some (record { contents = contents_of 1; age = age })
+
 -- the handshake with system 2, the last event first
 abbrev pub events_up : List Event
 events_up = hello Up (Some (1, 257)) ∷ hello Down None ∷ []
@@ -105,15 +154,16 @@ abbrev pub seconds : ℕ → List Event → List Event
 seconds zero events = events
 seconds (suc count) events = Second ∷ seconds count events
 
--- its own LSP with these seconds left: an area address, IPv4, system 2 at metric 10, and 10.0.1.0/24 at metric 5
-abbrev pub own_lsp : ℕ → Cell
-own_lsp left = record {
+-- its own LSP with these seconds left and SRM on these circuits: an area address, IPv4, a node of system 2 at metric 10,
+-- and 10.0.1.0/24 at metric 5
+abbrev pub own_lsp : ℕ → ℕ → ℕ → Cell
+own_lsp left pseudonode srm = record {
   rank = 2;
   checksum = 1;
   flags = 3;
   left = left;
-  octets = 1 ∷ 4 ∷ 3 ∷ 73 ∷ 0 ∷ 1 ∷ 129 ∷ 1 ∷ 204 ∷ 22 ∷ 11 ∷ 0 ∷ 0 ∷ 0 ∷ 0 ∷ 0 ∷ 2 ∷ 0 ∷ 0 ∷ 0 ∷ 10 ∷ 0 ∷ 135 ∷ 8 ∷ 0 ∷ 0 ∷ 0 ∷ 5 ∷ 24 ∷ 10 ∷ 0 ∷ 1 ∷ [];
-  srm = 1;
+  octets = 1 ∷ 4 ∷ 3 ∷ 73 ∷ 0 ∷ 1 ∷ 129 ∷ 1 ∷ 204 ∷ 22 ∷ 11 ∷ 0 ∷ 0 ∷ 0 ∷ 0 ∷ 0 ∷ 2 ∷ pseudonode ∷ 0 ∷ 0 ∷ 10 ∷ 0 ∷ 135 ∷ 8 ∷ 0 ∷ 0 ∷ 0 ∷ 5 ∷ 24 ∷ 10 ∷ 0 ∷ 1 ∷ [];
+  srm = srm;
   ssn = 0;
   waits = no_waits;
 }

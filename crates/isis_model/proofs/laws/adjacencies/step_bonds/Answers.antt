@@ -1,4 +1,5 @@
-use Rattle.isis_model.proofs.BondLemmas.{step-stays, step-bonds, step-kept, step-greets}
+-- What a step leaves of a router, and how it changes adjacencies.
+use Rattle.isis_model.proofs.BondLemmas.{step-stays, step-bonds, step-newcomer, step-kept, step-greets}
 use Rattle.isis_model.proofs.laws.adjacencies.step_bonds.Goals as goal
 
 pub returns-clause-stays : goal.returns-clause-stays
@@ -12,3 +13,6 @@ returns-clause-greets c = step-greets
 
 pub returns-clause-kept : goal.returns-clause-kept
 returns-clause-kept c = step-kept
+
+pub returns-clause-newcomer : goal.returns-clause-newcomer
+returns-clause-newcomer c = step-newcomer

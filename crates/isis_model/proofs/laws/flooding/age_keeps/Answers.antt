@@ -1,3 +1,4 @@
+-- A second of a level's entries keeps its flooding.
 use Rattle.std.proofs.Common.{ℕ}
 use Rattle.isis_model.specs.Deeds.{Hearing}
 use Rattle.isis_model.proofs.WayLemmas.{way-keeps}

@@ -1,3 +1,4 @@
+-- One's own LSPs, as they are followed, keep their level's flooding.
 use Rattle.std.proofs.Common.{ℕ}
 use Rattle.isis_model.specs.Deeds.{Hearing}
 use Rattle.isis_model.proofs.WayLemmas.{way-keeps}

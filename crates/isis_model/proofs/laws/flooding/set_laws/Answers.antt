@@ -1,3 +1,4 @@
+-- A set of circuits has a circuit exactly as the words that made it say.
 use Rattle.isis_model.proofs.SetLemmas.{has-with_one, has-without, has-only, has-none}
 use Rattle.isis_model.proofs.laws.flooding.set_laws.Goals as goal
 

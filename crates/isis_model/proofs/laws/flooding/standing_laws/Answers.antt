@@ -1,3 +1,4 @@
+-- What stands between two ends of a link still stands after a step of either.
 use Rattle.isis_model.proofs.StandingLemmas.{stands-here, stands-there}
 use Rattle.isis_model.proofs.laws.flooding.standing_laws.Goals as goal
 

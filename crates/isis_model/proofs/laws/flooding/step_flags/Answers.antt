@@ -1,3 +1,4 @@
+-- What a step does to ranks and to the flags of point-to-point circuits.
 use Rattle.isis_model.proofs.StepLemmas.{rank-stays, flag-stays, rise-is-flagged, opening-is-flagged}
 use Rattle.isis_model.proofs.laws.flooding.step_flags.Goals as goal
 

@@ -1,3 +1,4 @@
+-- A step keeps the flooding of both levels.
 use Rattle.isis_model.proofs.StepLemmas.{step-keeps}
 use Rattle.isis_model.proofs.laws.flooding.step_floods.Goals as goal
 

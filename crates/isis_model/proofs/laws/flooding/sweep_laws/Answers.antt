@@ -1,3 +1,4 @@
+-- What follows where an SNP is taken and sets no flag.
 use Rattle.isis_model.proofs.SweepLemmas.{clean-held, clean-listed}
 use Rattle.isis_model.proofs.laws.flooding.sweep_laws.Goals as goal
 

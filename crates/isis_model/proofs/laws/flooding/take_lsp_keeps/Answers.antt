@@ -1,3 +1,4 @@
+-- An LSP that is taken keeps a level's flooding: what is let go stays so, ranks don't fall, and flags cover them.
 use Rattle.std.proofs.Common.{ℕ}
 use Rattle.isis_model.specs.Deeds.{Hearing}
 use Rattle.isis_model.proofs.WayLemmas.{way-keeps}

@@ -1,3 +1,4 @@
+-- An SNP that is taken keeps a level's flooding.
 use Rattle.std.proofs.Common.{ℕ}
 use Rattle.isis_model.specs.Deeds.{Hearing}
 use Rattle.isis_model.proofs.WayLemmas.{way-keeps}

@@ -1,3 +1,4 @@
+-- Each cause has a counter of its own, which rises to its type's end.
 use Rattle.isis_model.proofs.DropLemmas.{counted-cause, counted-others, place-below}
 use Rattle.isis_model.proofs.laws.states.count_laws.Goals as goal
 

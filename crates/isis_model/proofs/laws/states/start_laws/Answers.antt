@@ -1,3 +1,4 @@
+-- What holds of every state holds at the start.
 use Rattle.isis_model.proofs.StartLemmas.{start-sorted, start-good, start-follows, start-bonds, start-idle}
 use Rattle.isis_model.proofs.laws.states.start_laws.Goals as goal
 

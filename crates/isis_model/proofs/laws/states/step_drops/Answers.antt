@@ -1,3 +1,4 @@
+-- A datagram is dropped where a test refuses it, and then its cause's counter alone changes.
 use Rattle.isis_model.proofs.DropLemmas.{step-refused, step-unchanged}
 use Rattle.isis_model.proofs.laws.states.step_drops.Goals as goal
 

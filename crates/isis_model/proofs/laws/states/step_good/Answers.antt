@@ -1,3 +1,4 @@
+-- A step keeps a good router good.
 use Rattle.std.proofs.Common.{ℕ, ◌^◌, ◌<◌, ◌≤◌, sym, subst}
 use Rattle.isis_model.specs.Routers.{level_of}
 use Rattle.isis_model.specs.Steps.{step}

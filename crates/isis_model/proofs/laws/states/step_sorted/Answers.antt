@@ -1,3 +1,4 @@
+-- A router's cells are by LSP ID before and after a step.
 use Rattle.isis_model.proofs.StepWays.{step-course}
 use Rattle.isis_model.proofs.RisingLemmas.{course-rises}
 use Rattle.isis_model.proofs.laws.states.step_sorted.Goals as goal

@@ -1,3 +1,4 @@
+-- Where new LSPs come from, and what the count of changes tells.
 use Rattle.isis_model.specs.Routers.{level_of}
 use Rattle.isis_model.specs.Steps.{step}
 use Rattle.isis_model.specs.StepLaws.{hearing}
