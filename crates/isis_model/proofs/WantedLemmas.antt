@@ -1,49 +1,17 @@
 -- What is wanted has LSP IDs of one's own: a split has at most 256 fragments, and circuits are below 256.
-use Rattle.std.proofs.Common.{◌≡◌, ℕ, ◌+◌, ◌*◌, ◌/◌, ◌≤◌, nat_lt, Bool, true, false, ◌||◌, List, [], ◌∷◌, ◌++◌, length, arith, length-append, zero-le}
-use Rattle.std.proofs.lemmas.Bool.Decides.{nat_tests}
+use Rattle.std.proofs.Common.{◌≡◌, ℕ, ◌+◌, ◌*◌, ◌/◌, ◌≤◌, List, [], ◌∷◌, ◌++◌, length, arith}
 use Rattle.std.specs.List.{AllByRecursion}
 use Rattle.isis_base.specs.declared.level.Level.{Level}
 use Rattle.isis_model.specs.Both.{at}
 use Rattle.isis_model.specs.Routers.{Circuit, Contents, Router}
 use Rattle.isis_model.specs.Elections.{designated, is_own}
 use Rattle.isis_model.specs.Givens.{Given}
-use Rattle.isis_model.specs.Splits.{Item, Draft, Split, whole, joins, begins, holds_more, with_item, filled, split}
 use Rattle.isis_model.specs.LspNeighbours.{all_nodes, lan_nodes, node_items}
 use Rattle.isis_model.specs.LspPrefixes.{prefixes_of, reach_items}
 use Rattle.isis_model.specs.Wanted.{first_tlvs, room_of, numbered, fragments_of, system_lsp, pseudonode_lsp, pseudonode_lsps, wanted}
 use Rattle.isis_model.proofs.BookLemmas.{choose}
 use Rattle.isis_model.proofs.ListLemmas.{all-append}
-
--- ---- a split has at most 256 fragments
-
-third : (a b c : Bool) → (a || b || c) ≡ true → a ≡ false → b ≡ false → c ≡ true
-third false false c h x y = h
-third false true c h x y = absurd (cc)
-third true b c h x y = absurd (cc)
-
-last-few : (d : Draft) → length d.done ≤ 255 → length (d.done ++ whole d ∷ []) ≤ 256
-last-few d h = let k = length-append d.done (whole d ∷ []) in omega (arith, h, k)
-
-item-few : (room : ℕ) (d : Draft) (item : Item) → holds_more room d item ≡ true → length d.done ≤ 255 → length (with_item room d item).done ≤ 255
-unfolding with_item
-item-few room d item more h =
-    choose (λ (e : Draft). length e.done ≤ 255) (joins room d item) _ _ (λ _. h) (λ none.
-    choose (λ (e : Draft). length e.done ≤ 255) (begins room d item) _ _ (λ _. h) (λ full.
-    let t : nat_lt (length d.done) 255 ≡ true = third (joins room d item) (begins room d item) (nat_lt (length d.done) 255) more none full in
-    let k = length-append d.done (whole d ∷ []) in
-    grind (arith, nat_tests, t, k)))
-
-filled-few : (room : ℕ) (d : Draft) (items : List Item) → length d.done ≤ 255 → length (filled room d items).fragments ≤ 256
-filled-few room d [] h = last-few d h
-filled-few room d (item ∷ items) h =
-    choose (λ (s : Split). length s.fragments ≤ 256) (holds_more room d item) (filled room (with_item room d item) items) _
-    (λ more. filled-few room (with_item room d item) items (item-few room d item more h)) (λ _. last-few d h)
-
-pub split-few : (first : List ℕ) (items : List Item) (room : ℕ) → length (split first items room).fragments ≤ 256
-unfolding split
-split-few first items room = filled-few room _ items zero-le
-
--- ---- LSP IDs
+use Rattle.isis_model.proofs.SplitLemmas.{split-few}
 
 numbered-own : (flags id system : ℕ) (fragments : List (List ℕ)) → 65536 * system ≤ id → id + length fragments ≤ 65536 * system + 65536 → AllByRecursion (λ (w : ℕ × Contents). w.0 / 65536 ≡ system) (numbered flags id fragments)
 numbered-own flags id system [] low high = tt

@@ -80,19 +80,23 @@ pub data Bonds (r : Router) (event : Event) (t : Router) (place : ℕ) : Type 0 
       → NamesMe r place s.names
       → state ≢ Down → (state ≡ Up → s.state ≢ Down)
       → bond_at t place ≡ record { state = state; names = Some (h.source, s.extended) }
-      → ((bond_at r place).names ≡ Some (h.source, s.extended)) ⊎ ((level : Level) (id : ℕ) → Covers 0 (book_of t level) id place)
+      → ((bond_at r place).names ≡ Some (h.source, s.extended))
+      ⊎ ((level : Level) (id : ℕ) → Covers 0 (book_of t level) id place)
       → Bonds r event t place
 
 -- where a circuit keeps another neighbour than before, it has the flag of every key where it is open
 abbrev pub NewcomerIsFlagged : Router → Router → Type 0
-NewcomerIsFlagged r t = (level : Level) (place id : ℕ) (who : ℕ × ℕ) → (bond_at t place).names ≡ Some who → (bond_at r place).names ≢ Some who
+NewcomerIsFlagged r t =
+    (level : Level) (place id : ℕ) (who : ℕ × ℕ) → (bond_at t place).names ≡ Some who
+    → (bond_at r place).names ≢ Some who
     → IsPointOpen t level place → 0 < rank_at (book_of t level) id → srm_at (book_of t level) id place ≡ true
 
 -- ---- hellos
 
 -- a point-to-point hello tells a circuit's adjacency as it is, and the router's boot and circuit
 abbrev pub IsGreeting : Router → ℕ → Sent → Type 0
-IsGreeting r place (PointHello state extended names) = (bond_at r place ≡ record { state = state; names = names }) × (extended ≡ extended_of r.boot place)
+IsGreeting r place (PointHello state extended names) =
+    (bond_at r place ≡ record { state = state; names = names }) × (extended ≡ extended_of r.boot place)
 IsGreeting r place (LanHello level lan snpas) = Unit {0}
 IsGreeting r place (Lsp level id cell) = Unit {0}
 IsGreeting r place (Csnp level start end entries) = Unit {0}

@@ -11,7 +11,8 @@ use Rattle.isis_model.specs.Routers.{LevelState}
 
 -- a second less of what each set SRM flag waits
 unfoldable pub wait_less : Book → Book
-wait_less book = record book { cells = each (λ (_ : ℕ) (cell : Cell). record cell { waits = fallen cell.waits }) book.cells }
+wait_less book =
+    record book { cells = each (λ (_ : ℕ) (cell : Cell). record cell { waits = fallen cell.waits }) book.cells }
 
 -- a second less of a time that goes on
 abbrev pub less : Cell → Cell

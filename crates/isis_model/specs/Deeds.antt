@@ -39,7 +39,8 @@ pub record Hearing : Type 1 where
 
 -- what is issued under an LSP ID of one's own may be a new LSP, and is good where the step is sane
 pub record Issues (heard : Hearing) (given : Given) (r : Router) (level : Level) : Type 0 where
-  pub source : (id number : ℕ) (contents : Contents) → heard.mine id → heard.source id (live_rank number) (content_of (issue_cell given r level id number contents))
+  pub source : (id number : ℕ) (contents : Contents) → heard.mine id
+      → heard.source id (live_rank number) (content_of (issue_cell given r level id number contents))
   pub good : heard.sane → IsGoodGiven given
 
 -- what is good of a cell that is kept on all open circuits, where the step is sane and the book good
@@ -49,12 +50,18 @@ Fits heard s id cell = heard.sane → IsGoodBook s.book → IsGood id (Some (fla
 pub data Way (heard : Hearing) : LevelState → LevelState → Type 0 where
   Still : (s : LevelState) → Way heard s s
   Then : (a b c : LevelState) → Way heard a b → Way heard b c → Way heard a c
-  Hear : (s : LevelState) (place : ℕ) (w : Whose) (h : Heard) → h.rank ≤ heard.rank place h.id → heard.source h.id h.rank (content_of (kept h)) → (heard.sane → IsGoodLsp h) → Way heard s (with_this s (hear_lsp s.book place w h))
+  Hear : (s : LevelState) (place : ℕ) (w : Whose) (h : Heard) → h.rank ≤ heard.rank place h.id
+      → heard.source h.id h.rank (content_of (kept h)) → (heard.sane → IsGoodLsp h)
+      → Way heard s (with_this s (hear_lsp s.book place w h))
   Let : (s : LevelState) (id : ℕ) → Way heard s (record s { gone = let_go s.gone id })
-  Entry : (s : LevelState) (place : ℕ) (w : Whose) (h : SnpEntry) → h.rank ≤ heard.rank place h.id → (heard.sane → h.id < 2 ^ 64) → Way heard s (with_this s (hear_entry s.book place w h))
-  Range : (s : LevelState) (place start end : ℕ) (entries : List SnpEntry) → Way heard s (with_this s (hear_range s.book place start end entries))
-  Install : (s : LevelState) (id : ℕ) (contents : Contents) (cell : Cell) → rank_at s.book id < cell.rank → heard.source id cell.rank (content_of cell) → Fits heard s id cell → Way heard s (install s id contents cell)
-  Retire : (s : LevelState) (id : ℕ) (cell : Cell) → rank_at s.book id ≤ cell.rank → is_live cell.rank ≡ false → Fits heard s id cell → Way heard s (retire s id cell)
+  Entry : (s : LevelState) (place : ℕ) (w : Whose) (h : SnpEntry) → h.rank ≤ heard.rank place h.id
+      → (heard.sane → h.id < 2 ^ 64) → Way heard s (with_this s (hear_entry s.book place w h))
+  Range : (s : LevelState) (place start end : ℕ) (entries : List SnpEntry)
+      → Way heard s (with_this s (hear_range s.book place start end entries))
+  Install : (s : LevelState) (id : ℕ) (contents : Contents) (cell : Cell) → rank_at s.book id < cell.rank
+      → heard.source id cell.rank (content_of cell) → Fits heard s id cell → Way heard s (install s id contents cell)
+  Retire : (s : LevelState) (id : ℕ) (cell : Cell) → rank_at s.book id ≤ cell.rank → is_live cell.rank ≡ false
+      → Fits heard s id cell → Way heard s (retire s id cell)
   Age : (s : LevelState) (id : ℕ) → Way heard s (age_one s id)
   Own : (s : LevelState) (own : List (ℕ × Issued)) → Way heard s (record s { own = own })
   Wait : (s : LevelState) → Way heard s (with_this s (wait_less s.book))

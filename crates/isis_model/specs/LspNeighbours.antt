@@ -40,14 +40,17 @@ put_nodes nodes (node ∷ more) = put_nodes (put_node nodes node) more
 -- the neighbours of all circuits, by node, those of one node in order of circuits (own)
 abbrev pub all_nodes : Config → Level → ℕ → List Circuit → List (ℕ × ℕ) → List (ℕ × ℕ)
 all_nodes config l place [] nodes = nodes
-all_nodes config l place (c ∷ circuits) nodes = all_nodes config l (place + 1) circuits (put_nodes nodes (nodes_of config place c l))
+all_nodes config l place (c ∷ circuits) nodes =
+    all_nodes config l (place + 1) circuits (put_nodes nodes (nodes_of config place c l))
 
 -- a pseudonode's neighbours beside those that are there: all up neighbours, at metric 0, by node
 abbrev pub lan_nodes : List (ℕ × LanNeighbour) → List (ℕ × ℕ) → List (ℕ × ℕ)
 lan_nodes [] nodes = nodes
-lan_nodes (pair ∷ heard) nodes = lan_nodes heard (if pair.1.up then put_node nodes (256 * pair.1.neighbour.system, 0) else nodes)
+lan_nodes (pair ∷ heard) nodes =
+    lan_nodes heard (if pair.1.up then put_node nodes (256 * pair.1.neighbour.system, 0) else nodes)
 
 -- their entries of TLV 22
 abbrev pub node_items : List (ℕ × ℕ) → List Item
 node_items [] = []
-node_items (node ∷ nodes) = record { code = 22; octets = seven_of node.0 ++ three_of node.1 ++ 0 ∷ [] } ∷ node_items nodes
+node_items (node ∷ nodes) =
+    record { code = 22; octets = seven_of node.0 ++ three_of node.1 ++ 0 ∷ [] } ∷ node_items nodes

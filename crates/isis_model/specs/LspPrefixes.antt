@@ -39,6 +39,8 @@ leaks_down config = config.runs.one && config.runs.two && config.leak
 -- the prefixes of a level's system LSP: leaks are those of the state before the event
 abbrev pub prefixes_of : Given → Router → Router → Level → List (ℕ × Reach)
 prefixes_of given before r level.One =
-    if leaks_down r.config then with_leaks true (own_reach r.config.prefixes) (given.leaks before level.One) else own_reach r.config.prefixes
+    if leaks_down r.config then with_leaks true (own_reach r.config.prefixes) (given.leaks before level.One)
+    else own_reach r.config.prefixes
 prefixes_of given before r level.Two =
-    if r.config.runs.one then with_leaks false (own_reach r.config.prefixes) (given.leaks before level.Two) else own_reach r.config.prefixes
+    if r.config.runs.one then with_leaks false (own_reach r.config.prefixes) (given.leaks before level.Two)
+    else own_reach r.config.prefixes

@@ -79,7 +79,8 @@ retire_held state id None = state
 
 -- at the last number a live LSP is purged, and a purge is left as it is; either then counts as not issued
 abbrev pub exhaust : LevelState → ℕ → Option Cell → LevelState
-exhaust state id held = if is_purge (rank_of held) then record state { own = erase state.own id } else retire_held state id held
+exhaust state id held =
+    if is_purge (rank_of held) then record state { own = erase state.own id } else retire_held state id held
 
 -- ---- a level's own LSPs are followed
 
@@ -122,4 +123,5 @@ contents_or (Some contents) bare = contents
 -- purged, by `last`
 unfoldable pub outbid : Given → Router → Level → LevelState → ℕ → ℕ → Contents → Cell → LevelState
 outbid given r level state id above contents last =
-    if above == last_number then retire state id last else install state id contents (issue_cell given r level id (above + 1) contents)
+    if above == last_number then retire state id last
+    else install state id contents (issue_cell given r level id (above + 1) contents)

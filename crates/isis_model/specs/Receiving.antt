@@ -53,7 +53,9 @@ makes_entry lsp.Older = false
 
 -- whether an LSP would make one entry more in a full book
 abbrev pub no_room : LevelState → ℕ → Heard → Bool
-no_room state system h = is_full state.book && is_none (cell_at state.book h.id) && makes_entry (met state.book (whose_of system state h.id) h)
+no_room state system h =
+    is_full state.book && is_none (cell_at state.book h.id)
+    && makes_entry (met state.book (whose_of system state h.id) h)
 
 abbrev pub lsp_drop : Router → ℕ → Circuit → Level → ℕ → Heard → Option DropName
 lsp_drop r place c l snpa h =
@@ -78,7 +80,8 @@ drop_of r place c (SnpHeard l snpa source range entries) = snp_drop r place c l 
 
 -- a purge that isn't held is acknowledged at once on a point-to-point circuit (ISO 10589 7.3.16.4)
 abbrev pub acks : Circuit → Level → Heard → LspCase → Reply
-acks c l h lsp.AckPurge = if c.lan then Done else Send (Psnp l (record { id = h.id; rank = h.rank; lifetime = 0; checksum = 0 } ∷ []) ∷ [])
+acks c l h lsp.AckPurge =
+    if c.lan then Done else Send (Psnp l (record { id = h.id; rank = h.rank; lifetime = 0; checksum = 0 } ∷ []) ∷ [])
 acks c l h lsp.Outbid = Done
 acks c l h lsp.PurgedOwn = Done
 acks c l h lsp.Confused = Done
@@ -100,14 +103,21 @@ taken given r place c (LanHelloHeard l h) = record { router = take_lan r place c
 taken given r place c (LspHeard l snpa h) =
     let state = level_of r l in
     let whose = whose_of r.config.system state h.id in
-    record { router = with_level r l (take_lsp (scene_of given r l) state place whose h); reply = acks c l h (met state.book whose h) }
+    record {
+      router = with_level r l (take_lsp (scene_of given r l) state place whose h);
+      reply = acks c l h (met state.book whose h);
+    }
 taken given r place c (SnpHeard l snpa source range entries) =
-    record { router = with_level r l (take_snp (scene_of given r l) (level_of r l) r.config.system place range entries); reply = Done }
+    record {
+      router = with_level r l (take_snp (scene_of given r l) (level_of r l) r.config.system place range entries);
+      reply = Done;
+    }
 
 -- ---- either
 
 abbrev pub take_or_drop : Given → Router → ℕ → Circuit → Message → Option DropName → Outcome
-take_or_drop given r place c m (Some cause) = record { router = record r { drops = count_drop r.drops cause }; reply = Dropped cause }
+take_or_drop given r place c m (Some cause) =
+    record { router = record r { drops = count_drop r.drops cause }; reply = Dropped cause }
 take_or_drop given r place c m None = settled (taken given r place c m)
 
 -- a datagram is taken on a circuit, where that is there

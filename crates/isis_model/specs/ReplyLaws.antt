@@ -73,7 +73,8 @@ pub record ListsHeld (entries : List SnpEntry) (id : ℕ) (held : Option Cell) :
 
 -- what a CSNP tells of the keys in its range: each one that is held, and none that isn't
 pub record TellsKeys (r : Router) (level : Level) (first last : ℕ) (entries : List SnpEntry) : Type 0 where
-  pub lists : (id : ℕ) → first ≤ id → id ≤ last → 0 < rank_at (book_of r level) id → ListsHeld entries id (cell_at (book_of r level) id)
+  pub lists : (id : ℕ) → first ≤ id → id ≤ last → 0 < rank_at (book_of r level) id
+      → ListsHeld entries id (cell_at (book_of r level) id)
   pub holds : (h : SnpEntry) → Entry h entries → h.rank ≡ rank_at (book_of r level) h.id
 
 abbrev pub IsTold : Router → Sent → Type 0

@@ -23,11 +23,30 @@ use Rattle.isis_model.specs.Starts.{quiet, start}
 
 -- number 2 is held live, with SRM on circuit 2 and SSN on circuits 2 and 3
 abbrev pub held : Cell
-held = record { rank = 4; checksum = 5; flags = 3; left = 900; octets = replicate 27 1; srm = 2; ssn = 6; waits = no_waits }
+held =
+    record {
+      rank = 4;
+      checksum = 5;
+      flags = 3;
+      left = 900;
+      octets = replicate 27 1;
+      srm = 2;
+      ssn = 6;
+      waits = no_waits;
+    }
 
 -- the cell with another key, other seconds, octets and flags
 abbrev pub cell_of : ℕ → ℕ → ℕ → List ℕ → ℕ → ℕ → Cell
-cell_of rank checksum left octets srm ssn = record { rank = rank; checksum = checksum; flags = 3; left = left; octets = octets; srm = srm; ssn = ssn; waits = no_waits }
+cell_of rank checksum left octets srm ssn = record {
+  rank = rank;
+  checksum = checksum;
+  flags = 3;
+  left = left;
+  octets = octets;
+  srm = srm;
+  ssn = ssn;
+  waits = no_waits;
+}
 
 -- a purge's header: octets 8 to 11 and 24 and 25 are written anew
 abbrev pub header : List ℕ

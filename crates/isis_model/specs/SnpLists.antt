@@ -20,12 +20,14 @@ snp_entry id cell = record {
 -- what is said of the cells that pass a test, in order
 abbrev pub entries_where : (Cell → Bool) → List (ℕ × Cell) → List SnpEntry
 entries_where test [] = []
-entries_where test (pair ∷ cells) = if test pair.1 then snp_entry pair.0 pair.1 ∷ entries_where test cells else entries_where test cells
+entries_where test (pair ∷ cells) =
+    if test pair.1 then snp_entry pair.0 pair.1 ∷ entries_where test cells else entries_where test cells
 
 -- a list in pieces of 75 (own), of so many pieces at most
 abbrev pub pieces : ℕ → List SnpEntry → List (List SnpEntry)
 pieces zero entries = []
-pieces (suc count) entries = if nat_le (length entries) 75 then entries ∷ [] else take 75 entries ∷ pieces count (drop 75 entries)
+pieces (suc count) entries =
+    if nat_le (length entries) 75 then entries ∷ [] else take 75 entries ∷ pieces count (drop 75 entries)
 
 abbrev pub last_id : List SnpEntry → ℕ
 last_id [] = 0

@@ -1,5 +1,5 @@
 //! Laws of states: what holds at the start and is kept by every step, where new LSPs come from, own LSPs, and drops.
-ghost use Rattle.std.specs.Prelude.{◌≡◌, ◌≢◌, ℕ, ◌/◌, ◌^◌, ◌<◌, ◌≤◌, List, length, Some};
+ghost use Rattle.std.specs.Prelude.{◌+◌, ◌≡◌, ◌≢◌, ℕ, ◌/◌, ◌^◌, ◌<◌, ◌≤◌, List, length, Some};
 ghost use Rattle.std.specs.List.{AllByRecursion};
 ghost use Rattle.isis_base.specs.declared.level.Level.{Level};
 ghost use Rattle.isis_model.specs.declared.drop_name.DropName.{DropName};
@@ -9,6 +9,7 @@ ghost use Rattle.isis_model.specs.Configs.{Config};
 ghost use Rattle.isis_model.specs.Drops.{drop_place, drops_of, count_drop};
 ghost use Rattle.isis_model.specs.Routers.{Circuit, Contents, Router};
 ghost use Rattle.isis_model.specs.Givens.{Given};
+ghost use Rattle.isis_model.specs.Splits.{Item, split};
 ghost use Rattle.isis_model.specs.Wanted.{wanted};
 ghost use Rattle.isis_model.specs.Events.{Message, Event, Take, Dropped};
 ghost use Rattle.isis_model.specs.Receiving.{drop_of};
@@ -73,6 +74,15 @@ pub fn step_tells()
 pub fn wanted_own()
     ensures { (given : Given) (before r : Router) (level : Level) → length r.circuits ≤ 255
         → AllByRecursion (λ w. w.0 / 65536 ≡ r.config.system) (wanted given before r level) }
+{}
+
+/// A split has at most 256 fragments, and each of them fits the room where each entry fits one alone.
+pub fn split_laws()
+    ensures count { (first : List ℕ) (items : List Item) (room : ℕ)
+        → length (split first items room).fragments ≤ 256 }
+    ensures room { (first : List ℕ) (items : List Item) (room : ℕ) → length first ≤ room
+        → AllByRecursion (λ i. (0 < i.code) × (2 + length i.octets ≤ room)) items
+        → AllByRecursion (λ f. length f ≤ room) (split first items room).fragments }
 {}
 
 /// A datagram is dropped where a test refuses it, and then its cause's counter alone changes.
