@@ -33,7 +33,8 @@ shake_drop config extended (Some shake) = names_drop config extended shake.names
 -- a point-to-point hello's; `extended` is one's own extended circuit ID
 abbrev pub point_drop : Config → ℕ → Hello → Option DropName
 point_drop config extended h =
-    or_else (hello_drop config (common_of config h) (config.runs.one && h.runs.one) h) (shake_drop config extended h.handshake)
+    let both_one = config.runs.one && h.runs.one in
+    or_else (hello_drop config (common_of config h) both_one h) (shake_drop config extended h.handshake)
 
 -- whether a LAN neighbour is new where 200 are heard (own)
 abbrev pub many_drop : List (ℕ × LanNeighbour) → ℕ → Option DropName
@@ -42,4 +43,5 @@ many_drop heard snpa = if nat_le 200 (length heard) && is_none (find heard snpa)
 -- a LAN hello's, of which its own level alone is looked at
 abbrev pub lan_drop : Config → Level → List (ℕ × LanNeighbour) → Hello → Option DropName
 lan_drop config l heard h =
-    or_else (hello_drop config (alone l (common_of config h)) (is_level l level.One && config.runs.one && h.runs.one) h) (many_drop heard h.snpa)
+    let both_one = is_level l level.One && config.runs.one && h.runs.one in
+    or_else (hello_drop config (alone l (common_of config h)) both_one h) (many_drop heard h.snpa)
