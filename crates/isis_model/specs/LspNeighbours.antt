@@ -2,7 +2,7 @@
 -- its LAN (ISO 10589 7.3.8, 7.3.10), and their TLVs (RFC 5305 3).
 use Rattle.std.specs.Prelude.{ℕ, ◌+◌, ◌*◌, ◌/◌, ◌%◌, ◌^◌, ◌==◌, nat_lt, ◌&&◌, List, [], ◌∷◌, ◌++◌, Option, Some, None, if◌then◌else◌}
 use Rattle.isis_base.specs.declared.level.Level.{Level}
-use Rattle.isis_tlv.specs.Numbers.{three_of, four_of}
+use Rattle.isis_base.specs.Fields.{u24_octets, u32_octets}
 use Rattle.isis_model.specs.Configs.{Config}
 use Rattle.isis_model.specs.Adjacencies.{Neighbour, point_open}
 use Rattle.isis_model.specs.Routers.{LanNeighbour, Circuit}
@@ -10,8 +10,8 @@ use Rattle.isis_model.specs.Elections.{Candidate, designated}
 use Rattle.isis_model.specs.Splits.{Item}
 
 -- a node's seven octets (ISO 10589 9.8)
-abbrev pub seven_of : ℕ → List ℕ
-seven_of node = three_of (node / 2 ^ 32) ++ four_of node
+abbrev pub u56_octets : ℕ → List ℕ
+u56_octets node = u24_octets (node / 2 ^ 32) ++ u32_octets node
 
 -- the pseudonode of a LAN's designated system, where its LAN ID names it
 abbrev pub lan_node : ℕ → Option Candidate → List (ℕ × ℕ)
@@ -53,4 +53,4 @@ lan_nodes (pair ∷ heard) nodes =
 abbrev pub node_items : List (ℕ × ℕ) → List Item
 node_items [] = []
 node_items (node ∷ nodes) =
-    record { code = 22; octets = seven_of node.0 ++ three_of node.1 ++ 0 ∷ [] } ∷ node_items nodes
+    record { code = 22; octets = u56_octets node.0 ++ u24_octets node.1 ++ 0 ∷ [] } ∷ node_items nodes

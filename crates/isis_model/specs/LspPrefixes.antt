@@ -1,10 +1,10 @@
 -- The prefixes of the system's LSP: its own, and those that are leaked from the other level (RFC 5302 3), with their TLVs
 -- (RFC 5305 4). A prefix is 64 times its address plus its length, so that prefixes are in order.
-use Rattle.std.specs.Prelude.{ℕ, ◌/◌, ◌%◌, Bool, true, false, ◌&&◌, List, [], ◌∷◌, is_some, if◌then◌else◌}
+use Rattle.std.specs.Prelude.{ℕ, ◌+◌, ◌/◌, ◌%◌, Bool, true, false, ◌&&◌, List, [], ◌∷◌, ◌++◌, take, is_some, if◌then◌else◌}
 use Rattle.isis_base.specs.declared.level.Level.{Level}
 use Rattle.isis_base.specs.declared.level.Level.TheVariants as level
-use Rattle.isis_tlv.specs.Items.{PrefixView}
-use Rattle.isis_tlv.specs.Spelling.{prefix_octets}
+use Rattle.isis_base.specs.Fields.{u32_octets}
+use Rattle.isis_tlv.specs.Items.{octets_for}
 use Rattle.isis_model.specs.Maps.{find, put}
 use Rattle.isis_model.specs.Configs.{Config}
 use Rattle.isis_model.specs.Routers.{Router}
@@ -30,8 +30,9 @@ with_leaks down prefixes (p ∷ leaks) =
 abbrev pub reach_items : List (ℕ × Reach) → List Item
 reach_items [] = []
 reach_items (p ∷ prefixes) =
-    let item : PrefixView = record { address = p.0 / 64; length = p.0 % 64; metric = p.1.metric; down = p.1.down } in
-    record { code = 135; octets = prefix_octets item } ∷ reach_items prefixes
+    let control = (if p.1.down then 128 else 0) + p.0 % 64 in
+    let address = take (octets_for (p.0 % 64)) (u32_octets (p.0 / 64)) in
+    record { code = 135; octets = u32_octets p.1.metric ++ control ∷ address } ∷ reach_items prefixes
 
 abbrev pub leaks_down : Config → Bool
 leaks_down config = config.runs.one && config.runs.two && config.leak
