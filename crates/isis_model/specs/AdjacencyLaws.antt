@@ -1,4 +1,5 @@
--- Adjacencies from a router to the one after a step: which circuits are open, whom they keep, and what hellos tell of it.
+-- Adjacencies from a router to the one after a step: which circuits are open, whom they keep, and what hellos tell of it
+-- (ISO 10589 8.2.4, RFC 5303 3.2; the words: own).
 use Rattle.std.specs.Prelude.{◌≡◌, ◌≢◌, ℕ, ◌<◌, Bool, true, false, not, ◌⊎◌, length, Option, Some, None}
 use Rattle.isis_tlv.specs.declared.three_way.Adj.{Adj}
 use Rattle.isis_tlv.specs.declared.three_way.Adj.TheVariants.{Up, Down}

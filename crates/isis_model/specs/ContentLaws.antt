@@ -1,5 +1,5 @@
 -- Keys and contents from a book to the one after a step: where new ones come from, and that none changed while the count of
--- changes stood still.
+-- changes stood still (own).
 use Rattle.std.specs.Prelude.{◌≡◌, ℕ, ◌-◌, ◌^◌, ◌<◌, ◌≤◌, true, ◌⊎◌, Option, Some, None}
 use Rattle.isis_base.specs.declared.level.Level.{Level}
 use Rattle.isis_model.specs.Ranks.{is_live}

@@ -1,4 +1,4 @@
--- What a datagram that is sent says.
+-- What a datagram that is sent says (ISO 10589 9, RFC 5303 3.1).
 use Rattle.std.specs.Prelude.{ℕ, List, Option}
 use Rattle.isis_base.specs.declared.level.Level.{Level}
 use Rattle.isis_tlv.specs.declared.three_way.Adj.{Adj}

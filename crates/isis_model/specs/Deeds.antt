@@ -1,4 +1,4 @@
--- What the parts of a step do to a level, as a chain of deeds: one description from which each law of a step is proved.
+-- What the parts of a step do to a level, as a chain of deeds: one description from which each law of a step is proved (own).
 use Rattle.std.specs.Prelude.{Some, ◌≡◌, ℕ, ◌^◌, ◌<◌, ◌≤◌, false, List}
 use Rattle.isis_base.specs.declared.level.Level.{Level}
 use Rattle.isis_model.specs.declared.whose.Whose.{Whose}
@@ -47,6 +47,7 @@ pub record Issues (heard : Hearing) (given : Given) (r : Router) (level : Level)
 abbrev pub Fits : Hearing → LevelState → ℕ → Cell → Type 0
 Fits heard s id cell = heard.sane → IsGoodBook s.book → IsGood id (Some (flagged cell s.book.opened 0))
 
+-- a chain of deeds on a level, each with what is known where it is done
 pub data Way (heard : Hearing) : LevelState → LevelState → Type 0 where
   Still : (s : LevelState) → Way heard s s
   Then : (a b c : LevelState) → Way heard a b → Way heard b c → Way heard a c

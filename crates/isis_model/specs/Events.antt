@@ -1,4 +1,4 @@
--- The events of a router, what it answers, and the state and answer after one.
+-- The events of a router, what it answers, and the state and answer after one (own).
 use Rattle.std.specs.Prelude.{ℕ, Bool, List, Option}
 use Rattle.isis_base.specs.declared.level.Level.{Level}
 use Rattle.isis_model.specs.declared.drop_name.DropName.{DropName}

@@ -1,4 +1,4 @@
--- What a reply says is so: of what is held after the step, and in a form that passes the tests of receiving.
+-- What a reply says is so: of what is held after the step, and in a form that passes the tests of receiving (own).
 use Rattle.std.specs.Prelude.{◌≡◌, ℕ, ◌^◌, ◌<◌, ◌≤◌, true, ◌⊎◌, List, [], ◌∷◌, Option, Some, None}
 use Rattle.std.specs.List.{AllByRecursion}
 use Rattle.isis_base.specs.declared.level.Level.{Level}

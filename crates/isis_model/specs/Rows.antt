@@ -1,4 +1,4 @@
--- Small books, and a router of two circuits with its neighbour on the first, for rows that are worked out.
+-- Small books, and a router of two circuits with its neighbour on the first, for rows that are worked out (own).
 use Rattle.std.specs.Prelude.{ℕ, zero, suc, Bool, true, false, List, [], ◌∷◌, replicate, Option, Some, None}
 use Rattle.isis_base.specs.declared.level.Level.{Level}
 use Rattle.isis_base.specs.declared.level.Level.TheVariants.{Two}

@@ -1,5 +1,5 @@
 //! Laws of states: what holds at the start and is kept by every step, where new LSPs come from, own LSPs, and drops.
-ghost use Rattle.std.specs.Prelude.{◌+◌, ◌≡◌, ◌≢◌, ℕ, ◌/◌, ◌^◌, ◌<◌, ◌≤◌, List, length, Some};
+ghost use Rattle.std.specs.Prelude.{◌≡◌, ◌≢◌, ℕ, ◌/◌, ◌^◌, ◌<◌, ◌≤◌, List, length, Some};
 ghost use Rattle.std.specs.List.{AllByRecursion};
 ghost use Rattle.isis_base.specs.declared.level.Level.{Level};
 ghost use Rattle.isis_model.specs.declared.drop_name.DropName.{DropName};
@@ -10,6 +10,7 @@ ghost use Rattle.isis_model.specs.Drops.{drop_place, drops_of, count_drop};
 ghost use Rattle.isis_model.specs.Routers.{Circuit, Contents, Router};
 ghost use Rattle.isis_model.specs.Givens.{Given};
 ghost use Rattle.isis_model.specs.Splits.{Item, split};
+ghost use Rattle.isis_model.specs.SplitLaws.{IsSmall, SaysEntries};
 ghost use Rattle.isis_model.specs.Wanted.{wanted};
 ghost use Rattle.isis_model.specs.Events.{Message, Event, Take, Dropped};
 ghost use Rattle.isis_model.specs.Receiving.{drop_of};
@@ -76,13 +77,16 @@ pub fn wanted_own()
         → AllByRecursion (λ w. w.0 / 65536 ≡ r.config.system) (wanted given before r level) }
 {}
 
-/// A split has at most 256 fragments, and each of them fits the room where each entry fits one alone.
+/// A split has at most 256 fragments. Where each entry fits a TLV and a fragment alone, each fragment fits the room, and
+/// the fragments say the entries in order, each once, up to the first that doesn't fit.
 pub fn split_laws()
     ensures count { (first : List ℕ) (items : List Item) (room : ℕ)
         → length (split first items room).fragments ≤ 256 }
-    ensures room { (first : List ℕ) (items : List Item) (room : ℕ) → length first ≤ room
-        → AllByRecursion (λ i. (0 < i.code) × (2 + length i.octets ≤ room)) items
+    ensures room { (first : List ℕ) (items : List Item) (room : ℕ)
+        → length first ≤ room → AllByRecursion (IsSmall room) items
         → AllByRecursion (λ f. length f ≤ room) (split first items room).fragments }
+    ensures entries { (first : List ℕ) (items : List Item) (room : ℕ)
+        → AllByRecursion (IsSmall room) items → SaysEntries first items (split first items room) }
 {}
 
 /// A datagram is dropped where a test refuses it, and then its cause's counter alone changes.
