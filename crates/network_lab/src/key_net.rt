@@ -1,3 +1,4 @@
+//! The plain network.
 ghost use Rattle.std.specs.Prelude.{◌≡◌, ℕ, List, ◌<◌, ◌≤◌, ◌+◌, true, false, length, slice_index, IfOk, IfErr, OnOk, OnErr, IsOk};
 ghost use Rattle.isis_base.specs.declared.identifiers.LspId.{LspId};
 ghost use Rattle.isis_base.specs.declared.key.Key.{Key};
@@ -20,12 +21,6 @@ pub const ROUTER_LIMIT: usize = 1024;
 
 /// The most links of a network.
 pub const LINK_LIMIT: usize = 4096;
-
-/// The limits in numbers.
-pub fn limit_laws()
-    ensures routers { ROUTER_LIMIT ≡ 1024 }
-    ensures links { LINK_LIMIT ≡ 4096 }
-{}
 
 /// A plain network in which numbered copies of keys are passed along links, each router keeping the newest key
 /// of each LSP ID. Routers are numbered from 0, copies from 1.

@@ -4,9 +4,9 @@ use Rattle.std.specs.Str.{bytes_eq}
 use Rattle.std.specs.Borrow.{Bor}
 use Rattle.std.proofs.lemmas.Bool.{cases_Bool}
 use Rattle.std.proofs.lemmas.Slice.Eq.{bytes_eq-Decides}
-use Rattle.isis_daemon.specs.Names.{router_of}
-use Rattle.isis_daemon.specs.Words.{texts}
-use Rattle.isis_daemon.proofs.LineLemmas.{no_word}
+use Rattle.lab_text.specs.Names.{number_of_name}
+use Rattle.lab_text.specs.Words.{texts}
+use Rattle.lab_text.proofs.LineLemmas.{no_word}
 
 passed : (t : List ℕ → Bool) (i : ℕ) (xs : List (List ℕ)) (x : List ℕ) → t x ≡ false → position_from t i (xs ++ x ∷ []) ≡ position_from t i xs
 passed t i [] x e = ap (λ (b : Bool). cond b (Some i) None) e
@@ -26,14 +26,14 @@ taken t i (y ∷ xs) x none e =
     ap (λ (b : Bool). cond b (Some i) (position_from t (i + 1) (xs ++ x ∷ []))) before.0 ∙ taken t (i + 1) xs x before.1 e ∙ some-same _ _ (omega arith)
 
 -- one name more, which was none before
-pub router_of-push : (names : List (List ℕ)) (new name : List ℕ) → router_of names new ≡ None → router_of (names ++ new ∷ []) name ≡ cond (bytes_eq new name) (Some (length names)) (router_of names name)
-router_of-push names new name none =
+pub number_of_name-push : (names : List (List ℕ)) (new name : List ℕ) → number_of_name names new ≡ None → number_of_name (names ++ new ∷ []) name ≡ cond (bytes_eq new name) (Some (length names)) (number_of_name names name)
+number_of_name-push names new name none =
     elim (cases_Bool (bytes_eq new name)) [
       | inl same ↦
           (let equal = (bytes_eq-Decides new name).0 same in
-          let absent = subst (λ (n : List ℕ). router_of names n ≡ None) equal none in
-          taken (λ other. bytes_eq other name) 0 names new absent same ∙ some-same _ _ (omega arith) ∙ sym (ap (λ (b : Bool). cond b (Some (length names)) (router_of names name)) same))
-      | inr apart ↦ passed (λ other. bytes_eq other name) 0 names new apart ∙ sym (ap (λ (b : Bool). cond b (Some (length names)) (router_of names name)) apart)
+          let absent = subst (λ (n : List ℕ). number_of_name names n ≡ None) equal none in
+          taken (λ other. bytes_eq other name) 0 names new absent same ∙ some-same _ _ (omega arith) ∙ sym (ap (λ (b : Bool). cond b (Some (length names)) (number_of_name names name)) same))
+      | inr apart ↦ passed (λ other. bytes_eq other name) 0 names new apart ∙ sym (ap (λ (b : Bool). cond b (Some (length names)) (number_of_name names name)) apart)
     ]
 
 pub texts-push : (words : List (Bor (List ℕ))) (word : Bor (List ℕ)) → texts (words ++ word ∷ []) ≡ texts words ++ word.now ∷ []
@@ -54,8 +54,8 @@ within-from t i (x ∷ xs) = chosen (t x) (position_from t (i + 1) xs) (within-f
     chosen false (Some place) h = omega arith
 
 -- a name that is found is a router's
-pub router_of-within : (names : List (List ℕ)) (name : List ℕ) → IfSome (router_of names name) (λ router. router < length names)
-router_of-within names name = counted (router_of names name) (within-from (λ other. bytes_eq other name) 0 names)
+pub number_of_name-within : (names : List (List ℕ)) (name : List ℕ) → IfSome (number_of_name names name) (λ router. router < length names)
+number_of_name-within names name = counted (number_of_name names name) (within-from (λ other. bytes_eq other name) 0 names)
   where
     counted : (o : Option ℕ) → IfSome o (λ place. place < 0 + length names) → IfSome o (λ router. router < length names)
     counted None h = tt

@@ -12,7 +12,7 @@ use Rattle.isis_base.specs.declared.texts.TheConstants.{LSP_TEXT}
 use Rattle.isis_base.specs.Misfit.{later, after_pair, misfit_of, octets_of, unless_misfit, text_octets}
 use Rattle.isis_base.proofs.MisfitLemmas.{later-none}
 use Rattle.isis_base.proofs.SpellingLemmas.{HasPlainMarks}
-use Rattle.isis_daemon.specs.KeysScript.{id_of}
+use Rattle.lab_text.specs.Fields.{id_of}
 
 digit-ascii : (c : ℕ) → ltb (digit_value c) 16 ≡ true → c < 128
 digit-ascii c h = grind (arith, nat_tests)

@@ -3,7 +3,7 @@ use Rattle.std.proofs.Math.Nat.{zero-lt-suc}
 use Rattle.std.proofs.lemmas.Bool.{lt-ltb}
 use Rattle.isis_base.specs.declared.key.Key.{Key}
 use Rattle.isis_base.proofs.KeyLemmas.{key-same}
-use Rattle.isis_daemon.specs.KeysScript.{key_from}
+use Rattle.lab_text.specs.Fields.{key_from}
 
 made : (n : ℕ) (number : ℕ) (purged : Bool) (h : 0 < number) → n ≡ number → number < 2 ^ 32 → key_from n purged ≡ Some (record { number = number; purged = purged; numbered = h })
 made zero number purged h e lt = absurd (omega arith)

@@ -1,0 +1,10 @@
+-- What ends a run whose script is refused or has no memory.
+use Rattle.lab_text.specs.declared.reason.ScriptFault.{ScriptFault}
+use Rattle.lab_text.specs.declared.reason.ScriptFault.TheVariants as script
+use Rattle.lab_text.specs.declared.reason.RunFault.{RunFault}
+use Rattle.lab_text.specs.declared.reason.RunFault.TheVariants.{Refused, Limit, OutOfMemory}
+
+abbrev pub run_fault_of : ScriptFault → RunFault
+run_fault_of (script.Refused line reason) = Refused line reason
+run_fault_of (script.Limit which) = Limit which
+run_fault_of script.OutOfMemory = OutOfMemory

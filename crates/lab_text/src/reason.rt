@@ -1,0 +1,104 @@
+//! Why a line is refused, and why a script can't be read or run.
+ghost use Rattle.lab_text.specs.declared.reason.ScriptFault.TheVariants.{OutOfMemory};
+ghost use Rattle.std.specs.Prelude.{◌≡◌, Some};
+ghost use Rattle.lab_text.specs.Reasons.{reason_word};
+
+use network_lab::LimitName;
+use std::alloc::{AllocError, AllocFailed};
+use std::fmt;
+
+/// Why a line of a script is refused.
+#[derive(Clone, Copy, Debug, PartialEq, Eq)]
+pub enum Reason {
+    /// Line 1 is no head of a script.
+    Head,
+    /// This program doesn't play such scripts yet.
+    NotBuilt,
+    /// The line has none of the forms of lines, or a field that is none or out of its range.
+    Form,
+    /// A setup line after an event line.
+    Late,
+    /// An unknown router or link is named.
+    Name,
+    /// A name is given again, or a router is put twice on a link.
+    Again,
+    /// The routers aren't joined by a link.
+    NotOn,
+    /// The copy isn't made yet, or isn't where it is passed from.
+    NotSent,
+    /// The sender restarted since.
+    Stale,
+}
+
+impl fmt::Display for Reason {
+    ghost output = { λ reason. Some (reason_word reason) };
+
+    fn fmt<W: fmt::Write>(&self, f: &mut fmt::Formatter<W>) -> fmt::Result {
+        match self {
+            Reason::Head => write!(f, "head"),
+            Reason::NotBuilt => write!(f, "not-built"),
+            Reason::Form => write!(f, "form"),
+            Reason::Late => write!(f, "late"),
+            Reason::Name => write!(f, "name"),
+            Reason::Again => write!(f, "again"),
+            Reason::NotOn => write!(f, "not-on"),
+            Reason::NotSent => write!(f, "not-sent"),
+            Reason::Stale => write!(f, "stale"),
+        }
+    }
+}
+
+/// Why a script can't be read. Lines are counted from 1.
+#[derive(Clone, Copy, Debug, PartialEq, Eq)]
+pub enum ScriptFault {
+    /// This line is the first that is refused, and why.
+    Refused { line: usize, reason: Reason },
+    /// The first line that isn't good passes this limit.
+    Limit(LimitName),
+    /// There is no memory for the script.
+    OutOfMemory,
+}
+
+/// Why a script's run didn't end with its whole report. Lines are counted from 1.
+#[derive(Clone, Copy, Debug, PartialEq, Eq)]
+pub enum RunFault {
+    /// This event line is refused, and why. Nothing was written.
+    Refused { line: usize, reason: Reason },
+    /// The run passes this limit. Nothing was written.
+    Limit(LimitName),
+    /// A write failed. A prefix of the report was written.
+    Write,
+    /// There is no memory for the run. A prefix of the report was written.
+    OutOfMemory,
+}
+
+impl From<AllocError> for ScriptFault {
+    ghost from_gives = { λ _ fault. fault ≡ OutOfMemory };
+
+    fn from(_error: AllocError) -> ScriptFault {
+        ScriptFault::OutOfMemory
+    }
+}
+
+impl<T: Drop> From<AllocFailed<T>> for ScriptFault {
+    ghost from_gives = { λ _ fault. fault ≡ OutOfMemory };
+
+    fn from(_error: AllocFailed<T>) -> ScriptFault {
+        ScriptFault::OutOfMemory
+    }
+}
+
+impl From<ScriptFault> for RunFault {
+    ghost use Rattle.std.specs.Prelude.{◌≡◌};
+    ghost use Rattle.lab_text.specs.RunFaults.{run_fault_of};
+
+    ghost from_gives = { λ fault end. end ≡ run_fault_of fault };
+
+    fn from(fault: ScriptFault) -> RunFault {
+        match fault {
+            ScriptFault::Refused { line, reason } => RunFault::Refused { line, reason },
+            ScriptFault::Limit(which) => RunFault::Limit(which),
+            ScriptFault::OutOfMemory => RunFault::OutOfMemory,
+        }
+    }
+}
