@@ -66,7 +66,7 @@ prefix_at octets =
     let end = 5 + octets_for bits in
     option_and_then
     (λ (prefix : Prefix). sized (end + subs_at control end octets) octets
-        (record { prefix = prefix; metric = u32_at 0 octets; down = bit_at control 7 == 1 }))
+    (record { prefix = prefix; metric = u32_at 0 octets; down = bit_at control 7 == 1 }))
     (prefix_from (address_of bits (drop 5 octets)) bits)
 
 -- an item that octets begin with has at least one of them (own)

@@ -7,7 +7,7 @@ ghost use Rattle.isis_tlv.specs.Spelling.{area_octets, area_value, area_tlv};
 use crate::items::{Item, Items};
 use crate::laws::item_laws;
 use crate::put::put_tlv;
-use isis_base::{Draft, AreaAddress, Octets, OutOfMemory};
+use isis_base::{AreaAddress, Draft, Octets, OutOfMemory};
 
 /// The area addresses of a value of code 1, in order. A fault is the last item. Contracts see what is left.
 pub type AreaItems<'a> = Items<'a, AreaAddress>;

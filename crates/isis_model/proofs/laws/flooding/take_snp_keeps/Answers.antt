@@ -1,0 +1,13 @@
+-- An SNP that is taken keeps a level's flooding.
+use Rattle.std.proofs.Common.{ℕ}
+use Rattle.isis_model.specs.Deeds.{Hearing}
+use Rattle.isis_model.proofs.WayLemmas.{way-keeps}
+use Rattle.isis_model.proofs.LevelWays.{take_snp-way}
+use Rattle.isis_model.proofs.laws.flooding.take_snp_keeps.Goals as goal
+
+any : (ℕ → ℕ → ℕ) → Hearing
+any heard = record { rank = heard; source = λ id rank content. Unit {0}; sane = ⊥; mine = λ id. Unit {0} }
+
+pub returns : goal.returns
+unfolding any
+returns c heard scene s system place range entries all = way-keeps (any heard) s _ (take_snp-way (any heard) scene (record { source = λ id number contents mine. tt; good = λ sane. absurd sane }) s system place range entries all (λ sane. absurd sane) (λ id own. tt))

@@ -1,0 +1,27 @@
+-- By computation.
+use Rattle.std.proofs.Common.{refl}
+use Rattle.isis_model.proofs.rows.hello_rows.Goals as goal
+
+pub returns-clause-good : goal.returns-clause-good
+returns-clause-good c = refl
+
+pub returns-clause-own_id : goal.returns-clause-own_id
+returns-clause-own_id c = refl
+
+pub returns-clause-other_snpa : goal.returns-clause-other_snpa
+returns-clause-other_snpa c = refl
+
+pub returns-clause-no_level : goal.returns-clause-no_level
+returns-clause-no_level c = refl
+
+pub returns-clause-no_area : goal.returns-clause-no_area
+returns-clause-no_area c = refl
+
+pub returns-clause-no_three_way : goal.returns-clause-no_three_way
+returns-clause-no_three_way c = refl
+
+pub returns-clause-other_system : goal.returns-clause-other_system
+returns-clause-other_system c = refl
+
+pub returns-clause-other_boot : goal.returns-clause-other_boot
+returns-clause-other_boot c = refl

@@ -1,0 +1,18 @@
+-- By computation.
+use Rattle.std.proofs.Common.{refl}
+use Rattle.isis_model.proofs.rows.issue_rows.Goals as goal
+
+pub returns-clause-first : goal.returns-clause-first
+returns-clause-first c = refl
+
+pub returns-clause-same : goal.returns-clause-same
+returns-clause-same c = refl
+
+pub returns-clause-old : goal.returns-clause-old
+returns-clause-old c = refl
+
+pub returns-clause-changed_early : goal.returns-clause-changed_early
+returns-clause-changed_early c = refl
+
+pub returns-clause-changed : goal.returns-clause-changed
+returns-clause-changed c = refl

@@ -1,0 +1,67 @@
+-- The causes of a drop by name, and their counters (own).
+use Rattle.std.specs.Prelude.{ℕ, List, Option, Some, None, codes}
+use Rattle.isis_model.specs.declared.drop_name.DropName.{DropName}
+use Rattle.isis_model.specs.declared.drop_name.DropName.TheVariants.{Frame, Pdu, TooLong, WrongKind, WrongLevel, Auth, Value, ZeroNumber, BadChecksum, OwnId, OtherSnpa, NoLevel, NoArea, NoThreeWay, OtherNeighbour, TooMany, NoAdjacency, NotDesignated, StoreFull}
+use Rattle.isis_model.specs.Places.{nth, with_nth}
+use Rattle.isis_model.specs.Books.{risen}
+
+-- the word of a cause
+abbrev pub drop_word : DropName → List ℕ
+drop_word Frame = codes "frame"
+drop_word Pdu = codes "pdu"
+drop_word TooLong = codes "too-long"
+drop_word WrongKind = codes "wrong-kind"
+drop_word WrongLevel = codes "wrong-level"
+drop_word Auth = codes "auth"
+drop_word Value = codes "value"
+drop_word ZeroNumber = codes "zero-number"
+drop_word BadChecksum = codes "checksum"
+drop_word OwnId = codes "own-id"
+drop_word OtherSnpa = codes "other-snpa"
+drop_word NoLevel = codes "no-level"
+drop_word NoArea = codes "no-area"
+drop_word NoThreeWay = codes "no-three-way"
+drop_word OtherNeighbour = codes "other-neighbour"
+drop_word TooMany = codes "too-many"
+drop_word NoAdjacency = codes "no-adjacency"
+drop_word NotDesignated = codes "not-designated"
+drop_word StoreFull = codes "store-full"
+
+-- the place of a cause's counter: the order in which a datagram is tested
+abbrev pub drop_place : DropName → ℕ
+drop_place Frame = 0
+drop_place Pdu = 1
+drop_place TooLong = 2
+drop_place WrongKind = 3
+drop_place WrongLevel = 4
+drop_place Auth = 5
+drop_place Value = 6
+drop_place ZeroNumber = 7
+drop_place BadChecksum = 8
+drop_place OwnId = 9
+drop_place OtherSnpa = 10
+drop_place NoLevel = 11
+drop_place NoArea = 12
+drop_place NoThreeWay = 13
+drop_place OtherNeighbour = 14
+drop_place TooMany = 15
+drop_place NoAdjacency = 16
+drop_place NotDesignated = 17
+drop_place StoreFull = 18
+
+abbrev pub count_or : Option ℕ → ℕ
+count_or None = 0
+count_or (Some count) = count
+
+-- how often a cause was met
+abbrev pub drops_of : List ℕ → DropName → ℕ
+drops_of drops cause = count_or (nth drops (drop_place cause))
+
+-- the counters with one more of a cause
+abbrev pub count_drop : List ℕ → DropName → List ℕ
+count_drop drops cause = with_nth drops (drop_place cause) (risen (drops_of drops cause))
+
+-- the first of two tests that refuses
+abbrev pub or_else : Option DropName → Option DropName → Option DropName
+or_else None later = later
+or_else (Some cause) later = Some cause

@@ -1,0 +1,115 @@
+//! Rows of the tables and the first steps of a router, worked out by computation.
+ghost use Rattle.std.specs.Prelude.{◌≡◌, ◌-◌, ◌^◌, true, false, [], ◌∷◌, replicate, Some, None};
+ghost use Rattle.isis_base.specs.declared.level.Level.TheVariants.{Two};
+ghost use Rattle.isis_tlv.specs.declared.three_way.Adj.TheVariants.{Up, Initializing, Down};
+ghost use Rattle.isis_model.specs.declared.whose.Whose.TheVariants.{Other, Unissued};
+ghost use Rattle.isis_model.specs.declared.drop_name.DropName.TheVariants.{OwnId, OtherSnpa, NoLevel, NoArea, NoThreeWay, OtherNeighbour, NoAdjacency, NotDesignated};
+ghost use Rattle.isis_model.specs.Waits.{no_waits, wait, five_at, fallen};
+ghost use Rattle.isis_model.specs.Books.{cell_at};
+ghost use Rattle.isis_model.specs.LspTable.{hear_lsp};
+ghost use Rattle.isis_model.specs.SnpTable.{hear_entry};
+ghost use Rattle.isis_model.specs.OwnLsps.{is_due};
+ghost use Rattle.isis_model.specs.Datagrams.{PointHello, LanHello, Csnp, Lsp};
+ghost use Rattle.isis_model.specs.Events.{Second, Take, Pull, SnpHeard, Done, Dropped, Send};
+ghost use Rattle.isis_model.specs.Rows.{cell_of, header, lsp, entry, asked_for, book_with, before, config, level_one, level_two, shake, tested, contents_of, issued_at, hello, lan_hello, events_up, seconds, own_lsp, answer_to};
+
+/// A flag that was sent waits five seconds, and each second one less.
+pub fn wait_rows()
+    ensures five { wait (five_at no_waits 1) 1 ≡ 5 }
+    ensures four { wait (fallen (five_at no_waits 1)) 1 ≡ 4 }
+    ensures three { wait (fallen (fallen (five_at no_waits 1))) 1 ≡ 3 }
+    ensures others { wait (fallen (five_at no_waits 1)) 2 ≡ 0 }
+{}
+
+/// Rows of the table for LSPs, where number 2 is held: circuits 1 and 2 are point-to-point, circuit 3 is a LAN.
+pub fn lsp_rows()
+    ensures stored { hear_lsp before 0 Other (lsp 6 9)
+        ≡ book_with ((7, cell_of 6 9 1100 (replicate 30 1) 6 1) ∷ []) 5 }
+    ensures stored_lan { hear_lsp before 2 Other (lsp 6 9)
+        ≡ book_with ((7, cell_of 6 9 1100 (replicate 30 1) 3 4) ∷ []) 5 }
+    ensures purge { hear_lsp before 0 Other (lsp 5 0)
+        ≡ book_with ((7, cell_of 5 0 60 header 6 1) ∷ []) 5 }
+    ensures confused { hear_lsp before 0 Other (lsp 4 9)
+        ≡ book_with ((7, cell_of 5 0 60 header 7 0) ∷ []) 5 }
+    ensures purged_own { hear_lsp before 0 Unissued (lsp 6 9)
+        ≡ book_with ((7, cell_of 7 0 60 header 7 0) ∷ []) 5 }
+    ensures same { hear_lsp before 1 Other (lsp 4 5)
+        ≡ book_with ((7, cell_of 4 5 900 (replicate 27 1) 0 6) ∷ []) 4 }
+    ensures same_lan { hear_lsp before 2 Other (lsp 4 5)
+        ≡ book_with ((7, cell_of 4 5 900 (replicate 27 1) 2 6) ∷ []) 4 }
+    ensures older { hear_lsp before 2 Other (lsp 2 5)
+        ≡ book_with ((7, cell_of 4 5 900 (replicate 27 1) 6 2) ∷ []) 4 }
+    ensures unheld { hear_lsp (book_with [] 4) 0 Other (lsp 5 0) ≡ book_with [] 4 }
+{}
+
+/// Rows of the table for entries.
+pub fn snp_rows()
+    ensures same { hear_entry before 1 Other (entry 4 5)
+        ≡ book_with ((7, cell_of 4 5 900 (replicate 27 1) 0 6) ∷ []) 4 }
+    ensures same_lan { hear_entry before 2 Other (entry 4 5) ≡ before }
+    ensures newer { hear_entry before 1 Other (entry 6 5)
+        ≡ book_with ((7, cell_of 4 5 900 (replicate 27 1) 0 6) ∷ []) 4 }
+    ensures older { hear_entry before 2 Other (entry 2 5)
+        ≡ book_with ((7, cell_of 4 5 900 (replicate 27 1) 6 2) ∷ []) 4 }
+    ensures asked { cell_at (hear_entry (book_with [] 4) 0 Other (entry 6 5)) 7
+        ≡ Some asked_for }
+    ensures unasked { hear_entry (book_with [] 4) 0 Other (entry 6 0) ≡ book_with [] 4 }
+{}
+
+/// A fragment with the same contents is issued anew after 900 seconds, one with other contents after 5.
+pub fn issue_rows()
+    ensures first { is_due None (contents_of 1) ≡ true }
+    ensures same { is_due (issued_at 899) (contents_of 1) ≡ false }
+    ensures old { is_due (issued_at 900) (contents_of 1) ≡ true }
+    ensures changed_early { is_due (issued_at 4) (contents_of 3) ≡ false }
+    ensures changed { is_due (issued_at 5) (contents_of 3) ≡ true }
+{}
+
+/// The tests of a point-to-point hello, by a router of L2 in area 49.0001 with extended circuit ID 257.
+pub fn hello_rows()
+    ensures good { tested config 2 2 level_two [] (shake (Some (1, 257))) ≡ None }
+    ensures own_id { tested config 1 1 level_two [] (shake None) ≡ Some OwnId }
+    ensures other_snpa { tested config 2 3 level_two [] (shake None) ≡ Some OtherSnpa }
+    ensures no_level { tested config 2 2 level_one [] (shake None) ≡ Some NoLevel }
+    ensures no_area { tested (record config { runs = level_one }) 2 2 level_one [] (shake None)
+        ≡ Some NoArea }
+    ensures no_three_way { tested config 2 2 level_two [] None ≡ Some NoThreeWay }
+    ensures other_system { tested config 2 2 level_two [] (shake (Some (3, 257)))
+        ≡ Some OtherNeighbour }
+    ensures other_boot { tested config 2 2 level_two [] (shake (Some (1, 513)))
+        ≡ Some OtherNeighbour }
+{}
+
+/// A router's first hellos, the handshake, its first CSNP set, and its first LSP, which is sent again after five
+/// seconds; and its hellos every ten seconds.
+pub fn first_steps()
+    ensures hello_sent { (answer_to (Pull 0) []).reply ≡ Send (PointHello Down 257 None ∷ []) }
+    ensures lan_hello { (answer_to (Pull 1) []).reply ≡ Send (LanHello Two 258 [] ∷ []) }
+    ensures hello_waits { (answer_to (Pull 0) (seconds 9 (Pull 0 ∷ []))).reply ≡ Send [] }
+    ensures hello_again { (answer_to (Pull 0) (seconds 10 (Pull 0 ∷ []))).reply
+        ≡ Send (PointHello Down 257 None ∷ []) }
+    ensures initializing { (answer_to (Pull 0) (hello Down None ∷ [])).reply
+        ≡ Send (PointHello Initializing 257 (Some (2, 513)) ∷ []) }
+    ensures up { (answer_to (Pull 0) events_up).reply
+        ≡ Send (PointHello Up 257 (Some (2, 513)) ∷ Csnp Two 0 (2 ^ 64 - 1) [] ∷ []) }
+    ensures issued { (answer_to (Pull 0) (Second ∷ Pull 0 ∷ events_up)).reply
+        ≡ Send (Lsp Two 65536 (own_lsp 1200 0 1) ∷ []) }
+    ensures silent { (answer_to (Pull 0) (seconds 4 (Pull 0 ∷ Second ∷ Pull 0 ∷ events_up))).reply
+        ≡ Send [] }
+    ensures again { (answer_to (Pull 0) (seconds 5 (Pull 0 ∷ Second ∷ Pull 0 ∷ events_up))).reply
+        ≡ Send (Lsp Two 65536 (own_lsp 1195 0 1) ∷ []) }
+{}
+
+/// On a LAN the neighbour of the greater SNPA is designated; an LSP is sent once, and PSNPs are left to the neighbour.
+pub fn lan_steps()
+    ensures issued { (answer_to (Pull 1) (Second ∷ lan_hello ∷ [])).reply
+        ≡ Send (LanHello Two 513 (2 ∷ []) ∷ Lsp Two 65536 (own_lsp 1200 1 2) ∷ []) }
+    ensures once { (answer_to (Pull 1) (seconds 5 (Pull 1 ∷ Second ∷ lan_hello ∷ []))).reply
+        ≡ Send [] }
+    ensures partial { (answer_to (Take 1 (SnpHeard Two 2 2 None [])) (lan_hello ∷ [])).reply
+        ≡ Dropped NotDesignated }
+    ensures complete { (answer_to (Take 1 (SnpHeard Two 2 2 (Some (0, 9)) [])) (lan_hello ∷ [])).reply
+        ≡ Done }
+    ensures other_source { (answer_to (Take 1 (SnpHeard Two 2 3 (Some (0, 9)) [])) (lan_hello ∷ [])).reply
+        ≡ Dropped NoAdjacency }
+{}
