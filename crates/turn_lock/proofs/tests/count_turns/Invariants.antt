@@ -1,3 +1,4 @@
+-- So many turns are left as were not taken yet.
 use Rattle.std.proofs.Common.{◌≡◌, ◌+◌}
 use Rattle.turn_lock.specs.Passes.{turns_left, Belongs}
 use Rattle.turn_lock.proofs.tests.count_turns.Given as goal
