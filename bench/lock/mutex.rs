@@ -4,8 +4,8 @@ use std::sync::{Barrier, Mutex};
 use std::thread;
 use std::time::Instant;
 
-const ROUNDS: usize = 11;
-const TURNS: u64 = 1_000_000;
+const ROUNDS: usize = 7;
+const TURNS: u64 = 4_000_000;
 
 fn take(start: &Barrier, count: &Mutex<u64>, turns: u64) {
     start.wait();
