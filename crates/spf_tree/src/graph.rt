@@ -1,0 +1,63 @@
+//! Graphs: the rows that may be walked, and the root.
+
+ghost use Rattle.std.specs.Prelude.{◌≡◌, IfOk};
+ghost use Rattle.std.specs.List.Sorted.{IsNonDecreasingBy};
+ghost use Rattle.spf_tree.specs.Walks.{start};
+ghost use Rattle.spf_tree.specs.Search.{IsBounded};
+
+use crate::row::Row;
+use isis_base::{NodeId, OutOfMemory};
+use std::marker::Model;
+
+/// The rows of a level that may be walked, and the root. Contracts see it as both.
+#[derive(Drop, Debug)]
+pub struct Graph {
+    pub(crate) rows: Vec<Row>,
+    pub(crate) root: NodeId,
+}
+
+impl Model for Graph {
+    ghost use Rattle.std.specs.List.Sorted.{IsNonDecreasingBy};
+    ghost use Rattle.spf_tree.specs.Walks.{start};
+    ghost use Rattle.spf_tree.specs.Search.{IsBounded};
+    ghost use Rattle.spf_tree.specs.Graphs.{GraphOf};
+
+    ghost Value = { GraphOf };
+
+    ghost view = { λ g. record { rows = g.rows.items; root = g.root } };
+
+    ghost invariant = { λ g. IsNonDecreasingBy start g.rows.items × IsBounded g.rows.items };
+}
+
+impl Graph {
+    /// The rows, those of one start one after another.
+    pub fn rows(&self) -> &[Row]
+        ensures { result.now ≡ self.now.rows }
+    {
+        self.rows.as_slice()
+    }
+
+    /// The root.
+    pub fn root(&self) -> NodeId
+        ensures { result ≡ self.now.root }
+    {
+        self.root
+    }
+
+    /// An equal graph.
+    pub fn copy(&self) -> Result<Graph, OutOfMemory>
+        ensures { IfOk result (λ copy. copy ≡ self.now) }
+    {
+        let rows = self.rows.clone()?;
+        Ok(Graph { rows, root: self.root })
+    }
+}
+
+/// The rows in order of their starts; there are fewer than 2 ^ 32, of metrics below 2 ^ 32.
+pub fn rows_in_order(graph: &Graph) -> &[Row]
+    ensures same { result.now ≡ graph.now.rows }
+    ensures sorted { IsNonDecreasingBy start result.now }
+    ensures bounded { IsBounded result.now }
+{
+    graph.rows.as_slice()
+}

@@ -1,0 +1,131 @@
+//! Labels: what a search knows so far, looked up by binary search.
+
+ghost use Rattle.std.specs.Prelude.{◌≡◌, ◌≤◌, ◌<◌, ◌==◌, ℕ, Some, length, slice_index_or, if◌then◌else◌};
+ghost use Rattle.std.specs.List.{Contains};
+ghost use Rattle.spf_tree.specs.declared.label.Label.{Label};
+ghost use Rattle.spf_tree.specs.Labels.{at};
+ghost use Rattle.std.specs.Prelude.{None, IfOk};
+ghost use Rattle.spf_tree.specs.Search.{AreNamed};
+ghost use Rattle.spf_tree.specs.Labels.{IsRising, names};
+
+use crate::label::Label;
+use crate::nodes::{ends, in_order, unknown_labels};
+use crate::row::Row;
+use isis_base::OutOfMemory;
+use std::alloc::Global;
+use std::marker::Model;
+
+/// The costs known so far, for a set of nodes that stays.
+#[derive(Drop, Debug)]
+pub struct Labels {
+    items: Vec<Label>,
+}
+
+impl Model for Labels {
+    ghost use Rattle.std.specs.Prelude.{List};
+    ghost use Rattle.spf_tree.specs.declared.label.Label.{Label};
+    ghost use Rattle.spf_tree.specs.Labels.{IsRising};
+
+    ghost Value = { List Label };
+
+    ghost view = { λ l. l.items.items };
+
+    ghost invariant = { λ l. IsRising l.items.items };
+}
+
+/// The place of the first label whose node isn't below this one.
+fn place(labels: &[Label], node: u64) -> usize
+    requires { IsRising labels.now }
+    ensures within { result ≤ length labels.now }
+    ensures below { (k : ℕ) (d : Label) → k < result → (slice_index_or labels.now k d).node < node }
+    ensures above { (k : ℕ) (d : Label) → result ≤ k → k < length labels.now → node ≤ (slice_index_or labels.now k d).node }
+{
+    let (mut low, mut high) = (0, labels.len());
+    while low < high {
+        let middle = low + (high - low) / 2;
+        if labels[middle].node < node {
+            low = middle + 1;
+        } else {
+            high = middle;
+        }
+    }
+    low
+}
+
+impl Labels {
+    /// The same nodes without costs.
+    pub fn blank(&self, alloc: Global) -> Result<Labels, OutOfMemory>
+        ensures names { IfOk result (λ labels. names labels ≡ names self.now) }
+        ensures none { IfOk result (λ labels. (q : ℕ) → at labels q ≡ None) }
+    {
+        let mut nodes = Vec::new(alloc);
+        for label in self.items.as_slice() {
+            match nodes.push(label.node) {
+                Ok(()) => {}
+                Err(_) => return Err(OutOfMemory),
+            }
+        }
+        match unknown_labels(alloc, nodes.as_slice()) {
+            Ok(items) => Ok(Labels { items }),
+            Err(error) => Err(error),
+        }
+    }
+
+    /// A label without cost for the root and for the end of each row.
+    pub fn unlabelled(alloc: Global, rows: &[Row], root: u64) -> Result<Labels, OutOfMemory>
+        ensures named { IfOk result (λ labels. AreNamed rows.now root (names labels)) }
+        ensures none { IfOk result (λ labels. (q : ℕ) → at labels q ≡ None) }
+    {
+        let nodes = match ends(alloc, rows, root) {
+            Ok(nodes) => in_order(nodes),
+            Err(error) => return Err(error),
+        };
+        match unknown_labels(alloc, nodes.as_slice()) {
+            Ok(items) => Ok(Labels { items }),
+            Err(error) => Err(error),
+        }
+    }
+
+    /// The labels are in order of node.
+    pub fn rising(&self)
+        ensures { IsRising self.now }
+    {
+        let _items = self.items.as_slice();
+    }
+
+    /// Equal labels.
+    pub fn copy(&self) -> Result<Labels, OutOfMemory>
+        ensures { IfOk result (λ copy. copy ≡ self.now) }
+    {
+        let items = self.items.clone()?;
+        Ok(Labels { items })
+    }
+
+    /// The cost of a node; `None` exactly where none is known.
+    pub fn get(&self, node: u64) -> Option<u64>
+        ensures { result ≡ at self.now node }
+    {
+        let labels = self.items.as_slice();
+        let place = place(labels, node);
+        if place == labels.len() {
+            return None;
+        }
+        if labels[place].node != node {
+            return None;
+        }
+        labels[place].cost
+    }
+
+    /// Sets the cost of a node.
+    pub fn set(&mut self, node: u64, cost: u64)
+        requires { Contains (names self.old) node }
+        ensures names { names self.new ≡ names self.old }
+        ensures costs { (q : ℕ) → at self.new q ≡ (if q == node then Some cost else at self.old q) }
+    {
+        let place = place(self.items.as_slice(), node);
+        self.items[place] = Label {
+            node,
+            cost: Some(cost),
+        };
+    }
+}
