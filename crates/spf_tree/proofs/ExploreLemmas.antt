@@ -1,6 +1,6 @@
 -- An exploration over tight rows.
 
-use Rattle.std.proofs.Common.{◌≡◌, ◌≢◌, ◌∙◌, ℕ, zero, suc, ◌+◌, ◌≤◌, ◌<◌, Bool, true, false, not, cond, List, [], ◌∷◌, ◌++◌, length, get_or, Option, None, refl, sym, ap, subst, arith, inl, inr}
+use Rattle.std.proofs.Common.{◌≡◌, ◌≢◌, ◌∙◌, ℕ, zero, suc, ◌+◌, ◌≤◌, ◌<◌, Bool, true, false, not, cond, List, [], ◌∷◌, ◌++◌, length, get_or, Option, Some, None, refl, sym, ap, subst, arith, inl, inr}
 use Rattle.std.specs.List.{Contains, count_by}
 use Rattle.std.specs.List.Sorted.{IsNonDecreasingBy}
 use Rattle.std.specs.Option.{is_some}
@@ -13,9 +13,9 @@ use Rattle.spf_tree.specs.declared.label.Label.{Label}
 use Rattle.spf_tree.specs.Walks.{start, end}
 use Rattle.spf_tree.specs.Labels.{at}
 use Rattle.spf_tree.specs.Labels.{names}
-use Rattle.spf_tree.specs.Search.{AreNamed}
 use Rattle.spf_tree.specs.Exploring.{IsTight, goes_on, Leads, AreReached, IsTouched, unmarked, IsExploring, IsSpreading, IsFront}
-use Rattle.spf_tree.proofs.SearchLemmas.{IsLabelled, label_here, label_there}
+use Rattle.spf_tree.proofs.SearchLemmas.{IsLabelled, label_here, label_there, some_of}
+use Rattle.spf_tree.proofs.LabelLemmas.{named_at}
 
 -- ---- one mark more
 
@@ -121,7 +121,7 @@ here_more rows root labels node marks m e in' before now k d h =
     ]
 
 pub touch_more : (rows : List Row) (root : ℕ) (labels : List Label) (all : Bool) (from node : ℕ) (marks : List Label) (nodes : List ℕ) (later : List Label) (more : List ℕ) (many m : ℕ) (e : Row)
-    → m < length rows → start (get_or rows m e) ≡ node → goes_on all root node ≡ true → Contains (names marks) (end (get_or rows m e)) → names later ≡ names marks
+    → m < length rows → start (get_or rows m e) ≡ node → goes_on all root node ≡ true → names marks ≡ names labels → names later ≡ names marks
     → IsSpreading rows root labels all from node marks nodes many m
     → IsTouched labels root node (end (get_or rows m e)) (get_or rows m e).metric marks nodes later more
     → IsMore rows root labels all from node marks nodes later more many (m + 1)
@@ -143,7 +143,8 @@ touch_more rows root labels all from node marks nodes later more many m e in' st
           (subst (λ (ns : List ℕ). IsMore rows root labels all from node marks nodes marks ns many (m + 1)) (sym still.1) base)
       | inr new ↦
           let tight : IsTight labels row = (new.1.0, ap (at labels) starts ∙ new.1.1, new.1.2) in
-          let less = mark_less marks later (end row) named same new.2 new.4 in
+          let there : Contains (names marks) (end row) = subst (λ (ns : List ℕ). Contains ns (end row)) (sym named) (named_at labels (end row) (new.1.0 + row.metric) new.1.2) in
+          let less = mark_less marks later (end row) there same new.2 new.4 in
           let base : IsMore rows root labels all from node marks nodes later (nodes ++ end row ∷ []) many (m + 1) = record {
             spreading = record {
               so_far = explored_push rows root labels all from node marks later nodes many row sp.so_far sp.at_node (Contains-get_or rows m e in') starts goes new.0 tight new.4;
@@ -249,10 +250,25 @@ explored rows root labels all from marks nodes many past ex =
 
 -- ---- as the code has it
 
-pub named_end : (rows : List Row) (from : ℕ) (old marks : List Label) (m n : ℕ) (e : Row) → AreNamed rows from (names old) → names marks ≡ names old → m < length rows → n ≡ end (get_or rows m e) → Contains (names marks) n
-named_end rows from old marks m n e named same in' is =
-    subst (λ (k : ℕ). Contains (names marks) k) (sym is)
-    (subst (λ (ns : List ℕ). Contains ns (end (get_or rows m e))) (sym same) (named.ends (get_or rows m e) (Contains-get_or rows m e in')))
+stuck : (rows : List Row) (root : ℕ) (labels : List Label) (all : Bool) (from : ℕ) → at labels from ≡ None → (walk : List Row) (node : ℕ) → Leads rows root labels all from walk node → node ≡ from
+stuck rows root labels all from none [] node h = h
+stuck rows root labels all from none (row ∷ walk) node h =
+    let is = stuck rows root labels all from none walk (start row) h.5 in
+    let tight = h.3 in
+    let e : Some tight.0 ≡ None = sym tight.1 ∙ ap (at labels) is ∙ none in
+    cc
+
+pub alone : (rows : List Row) (root : ℕ) (labels : List Label) (all : Bool) (from : ℕ) → at labels from ≡ None → AreReached rows root labels all from (from ∷ [])
+alone rows root labels all from none =
+    record {
+      walk = λ n h. ([], (let l = h.1 in let e : h.0 ≡ 0 = omega arith in sym (subst (λ (k : ℕ). get_or (from ∷ []) k n ≡ n) e h.2)));
+      every = λ walk n h. (0, omega arith, sym (stuck rows root labels all from none walk n h));
+    }
+
+pub from_named : (labels marks : List Label) (from : ℕ) → is_some (at labels from) ≡ true → names marks ≡ names labels → Contains (names marks) from
+from_named labels marks from some same =
+    let c = some_of (at labels from) some in
+    subst (λ (ns : List ℕ). Contains ns from) (sym same) (named_at labels from c.0 c.1)
 
 pub front_trans : (a b c : List ℕ) → IsFront a b → IsFront b c → IsFront a c
 front_trans a b c f g =

@@ -1,15 +1,14 @@
 -- Labels in order: how they are found and set.
 
-use Rattle.std.proofs.Common.{◌≡◌, ◌≢◌, ◌∙◌, ℕ, zero, suc, ◌+◌, ◌≤◌, ◌<◌, ◌==◌, if◌then◌else◌, List, [], ◌∷◌, length, map, get_or, set, Option, None, refl, sym, ap, subst, arith, inl, inr}
+use Rattle.std.proofs.Common.{◌≡◌, ◌≢◌, ◌∙◌, ℕ, zero, suc, ◌+◌, ◌≤◌, ◌<◌, ◌==◌, if◌then◌else◌, List, [], ◌∷◌, length, map, get_or, set, Option, Some, None, refl, sym, ap, subst, arith, inl, inr}
 use Rattle.std.specs.List.{Contains}
 use Rattle.std.proofs.lemmas.Bool.{cases_eq, cases_lt, eq-eqb, ne_eqb}
 use Rattle.std.proofs.Math.ListN.{get_or-map as get_or-map_any}
 use Rattle.std.proofs.lemmas.List.{get_or_default, get_or-map, length-map}
 use Rattle.spf_tree.specs.declared.label.Label.{Label}
-use Rattle.spf_tree.specs.Labels.{at}
 use Rattle.spf_tree.specs.declared.row.Row.{Row}
 use Rattle.spf_tree.specs.Walks.{end}
-use Rattle.spf_tree.specs.Search.{AreNamed}
+use Rattle.spf_tree.specs.Labels.{at}
 use Rattle.spf_tree.specs.Labels.{IsRising, names, unknown}
 use Rattle.std.specs.List.Sorted.{IsStrictlyIncreasing}
 use Rattle.std.proofs.lemmas.List.Kept.{AllPairs-from_increasing}
@@ -179,11 +178,24 @@ rising_unknown nodes up =
           omega arith;
     }
 
-pub named_unknown : (rows : List Row) (root : ℕ) (ends_ nodes : List ℕ) (labels : List Label) → ends_ ≡ root ∷ map end rows → ((node : ℕ) → Contains ends_ node → Contains nodes node) → labels ≡ map unknown nodes → AreNamed rows root (names labels)
-named_unknown rows root ends_ nodes labels e all is =
-    let same : names labels ≡ nodes = ap names is ∙ names_unknown nodes in
-    let every : (node : ℕ) → Contains (root ∷ map end rows) node → Contains (names labels) node = λ node h. subst (λ (ns : List ℕ). Contains ns node) (sym same) (all node (subst (λ (ns : List ℕ). Contains ns node) (sym e) h)) in
-    record {
-      first = every root (0, omega arith, refl);
-      ends = λ row h. every (end row) (suc h.0, (let l = h.1 in simp length-map (omega arith)), (get_or-map end rows h.0 row (end row) h.1 ∙ ap end h.2));
-    }
+pub some_unknown : (nodes : List ℕ) (labels : List Label) (n : ℕ) → labels ≡ map unknown nodes → Contains nodes n → Contains (names labels) n
+some_unknown nodes labels n is h = subst (λ (ns : List ℕ). Contains ns n) (sym (ap names is ∙ names_unknown nodes)) h
+
+-- ---- the ends of rows
+
+pub ends_among : (rows : List Row) (nodes : List ℕ) (root : ℕ) (row : Row) → nodes ≡ root ∷ map end rows → Contains rows row → Contains nodes (end row)
+ends_among rows nodes root row is h =
+    subst (λ (ns : List ℕ). Contains ns (end row)) (sym is) (suc h.0, (let l = h.1 in simp length-map (omega arith)), (get_or-map end rows h.0 row (end row) h.1 ∙ ap end h.2))
+
+-- ---- a node that has a cost is named
+
+pub named_at : (labels : List Label) (n c : ℕ) → at labels n ≡ Some c → Contains (names labels) n
+named_at [] n c e = cc
+named_at (l ∷ labels) n c e =
+    elim (cases_eq l.node n) [
+      | inl is ↦ (0, omega arith, is)
+      | inr ne ↦
+          let rest = named_at labels n c (rw (ne_eqb l.node n ne) at e) in
+          let l = rest.1 in
+          (suc rest.0, omega arith, rest.2)
+    ]

@@ -323,7 +323,7 @@ one_offer : (n c : ℕ) (queue : List (ℕ × ℕ)) → IsPermutation ((c, n) �
 one_offer n c queue perm o h =
     elim (contains_cases (c, n) o [] (Contains-permutation queue ((c, n) ∷ []) o (IsPermutation-sym ((c, n) ∷ []) queue perm) h)) [ inl is ↦ is | inr none ↦ absurd (contains_none o none) ]
 
-pub begin : (rows : List Row) (root : ℕ) (labels : List Label) (queue : List (ℕ × ℕ)) → AreNamed rows root (names labels) → ((q : ℕ) → at labels q ≡ None) → IsPermutation ((0, root) ∷ []) queue → IsSearch rows root labels queue
+pub begin : (rows : List Row) (root : ℕ) (labels : List Label) (queue : List (ℕ × ℕ)) → Contains (names labels) root → ((q : ℕ) → at labels q ≡ None) → IsPermutation ((0, root) ∷ []) queue → IsSearch rows root labels queue
 begin rows root labels queue named none perm =
     let no : (n d : ℕ) → at labels n ≡ Some d → ⊥ = λ n d e. let f = none n in cc in
     let only = one_offer root 0 queue perm in
@@ -333,5 +333,5 @@ begin rows root labels queue named none perm =
       relaxed = λ row c there ne e. absurd (no (start row) c e);
       zero = inr ((0, root), Contains-permutation ((0, root) ∷ []) queue (0, root) perm (contains_first (0, root) []), refl, omega arith);
       order = λ n c o e. absurd (no n c e);
-      named = λ o h. subst (λ (m : ℕ). Contains (names labels) m) (ap (λ (p : ℕ × ℕ). p.1) (only o h)) named.first;
+      named = λ o h. subst (λ (m : ℕ). Contains (names labels) m) (ap (λ (p : ℕ × ℕ). p.1) (only o h)) named;
     }

@@ -2,7 +2,7 @@
 
 use Rattle.std.specs.Prelude.{◌≡◌, ◌≢◌, ℕ, ◌+◌, ◌≤◌, ◌<◌, ◌^◌, ◌⊎◌, ◌==◌, Bool, not, List, ◌∷◌, length, take, Some, is_some, slice_index_or}
 use Rattle.std.specs.List.{Contains, count_by}
-use Rattle.std.specs.List.Sorted.{IsPermutation}
+use Rattle.std.specs.List.Sorted.{IsPermutation, IsNonDecreasingBy, IsStrictlyIncreasing}
 use Rattle.spf_tree.specs.declared.row.Row.{Row}
 use Rattle.spf_tree.specs.declared.label.Label.{Label}
 use Rattle.spf_tree.specs.Labels.{at, names}
@@ -12,6 +12,13 @@ use Rattle.spf_tree.specs.Walks.{start, end, IsWalk, cost, IsWithin}
 pub record IsBounded (rows : List Row) : Type 0 where
   pub few : length rows < 2 ^ 32
   pub small : (row : Row) → Contains rows row → row.metric < 2 ^ 32
+
+-- rows and nodes as a graph keeps them: both in order, and each row ends at one of the nodes
+pub record IsKept (rows : List Row) (nodes : List ℕ) : Type 0 where
+  pub sorted : IsNonDecreasingBy start rows
+  pub bounded : IsBounded rows
+  pub rising : IsStrictlyIncreasing nodes
+  pub ends : (row : Row) → Contains rows row → Contains nodes (end row)
 
 -- from each labelled node, each row that doesn't end at the root gives its end no less than its label, as far as sums
 -- fit 64 bits

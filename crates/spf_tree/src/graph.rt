@@ -1,8 +1,10 @@
 //! Graphs: the rows that may be walked, and the root.
 
 ghost use Rattle.std.specs.Prelude.{◌≡◌, IfOk};
-ghost use Rattle.std.specs.List.Sorted.{IsNonDecreasingBy};
-ghost use Rattle.spf_tree.specs.Walks.{start};
+ghost use Rattle.std.specs.List.{Contains};
+ghost use Rattle.std.specs.List.Sorted.{IsNonDecreasingBy, IsStrictlyIncreasing};
+ghost use Rattle.spf_tree.specs.declared.row.Row.{Row};
+ghost use Rattle.spf_tree.specs.Walks.{start, end};
 ghost use Rattle.spf_tree.specs.Search.{IsBounded};
 
 use crate::row::Row;
@@ -13,20 +15,19 @@ use std::marker::Model;
 #[derive(Drop, Debug)]
 pub struct Graph {
     pub(crate) rows: Vec<Row>,
+    pub(crate) nodes: Vec<u64>,
     pub(crate) root: NodeId,
 }
 
 impl Model for Graph {
-    ghost use Rattle.std.specs.List.Sorted.{IsNonDecreasingBy};
-    ghost use Rattle.spf_tree.specs.Walks.{start};
-    ghost use Rattle.spf_tree.specs.Search.{IsBounded};
+    ghost use Rattle.spf_tree.specs.Search.{IsKept};
     ghost use Rattle.spf_tree.specs.Graphs.{GraphOf};
 
     ghost Value = { GraphOf };
 
     ghost view = { λ g. record { rows = g.rows.items; root = g.root } };
 
-    ghost invariant = { λ g. IsNonDecreasingBy start g.rows.items × IsBounded g.rows.items };
+    ghost invariant = { λ g. IsKept g.rows.items g.nodes.items };
 }
 
 impl Graph {
@@ -49,7 +50,8 @@ impl Graph {
         ensures { IfOk result (λ copy. copy ≡ self.now) }
     {
         let rows = self.rows.clone()?;
-        Ok(Graph { rows, root: self.root })
+        let nodes = self.nodes.clone()?;
+        Ok(Graph { rows, nodes, root: self.root })
     }
 }
 
@@ -60,4 +62,12 @@ pub fn rows_in_order(graph: &Graph) -> &[Row]
     ensures bounded { IsBounded result.now }
 {
     graph.rows.as_slice()
+}
+
+/// The nodes in order, among them the end of each row.
+pub fn nodes_in_order(graph: &Graph) -> &[u64]
+    ensures rising { IsStrictlyIncreasing result.now }
+    ensures ends { (row : Row) → Contains graph.now.rows row → Contains result.now (end row) }
+{
+    graph.nodes.as_slice()
 }

@@ -5,12 +5,11 @@ ghost use Rattle.std.specs.List.{Contains};
 ghost use Rattle.spf_tree.specs.declared.label.Label.{Label};
 ghost use Rattle.spf_tree.specs.Labels.{at};
 ghost use Rattle.std.specs.Prelude.{None, IfOk};
-ghost use Rattle.spf_tree.specs.Search.{AreNamed};
+ghost use Rattle.std.specs.List.Sorted.{IsStrictlyIncreasing};
 ghost use Rattle.spf_tree.specs.Labels.{IsRising, names};
 
 use crate::label::Label;
-use crate::nodes::{ends, in_order, unknown_labels};
-use crate::row::Row;
+use crate::nodes::{unknown_labels, with_node};
 use isis_base::OutOfMemory;
 use std::alloc::Global;
 use std::marker::Model;
@@ -71,16 +70,18 @@ impl Labels {
         }
     }
 
-    /// A label without cost for the root and for the end of each row.
-    pub fn unlabelled(alloc: Global, rows: &[Row], root: u64) -> Result<Labels, OutOfMemory>
-        ensures named { IfOk result (λ labels. AreNamed rows.now root (names labels)) }
-        ensures none { IfOk result (λ labels. (q : ℕ) → at labels q ≡ None) }
+    /// A label without cost for each node, and for one more unless it is among them.
+    pub fn unlabelled(alloc: Global, nodes: &[u64], root: u64) -> Result<Labels, OutOfMemory>
+        requires { IsStrictlyIncreasing nodes.now }
+        ensures root { IfOk result (λ labels. Contains (names labels) root) }
+        ensures rest { IfOk result (λ labels. (node : ℕ) → Contains nodes.now node → Contains (names labels) node) }
+        ensures none { IfOk result (λ labels. (node : ℕ) → at labels node ≡ None) }
     {
-        let nodes = match ends(alloc, rows, root) {
-            Ok(nodes) => in_order(nodes),
+        let all = match with_node(alloc, nodes, root) {
+            Ok(all) => all,
             Err(error) => return Err(error),
         };
-        match unknown_labels(alloc, nodes.as_slice()) {
+        match unknown_labels(alloc, all.as_slice()) {
             Ok(items) => Ok(Labels { items }),
             Err(error) => Err(error),
         }

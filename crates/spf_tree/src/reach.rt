@@ -7,7 +7,6 @@ ghost use Rattle.std.specs.List.{Contains};
 ghost use Rattle.std.specs.List.Sorted.{IsNonDecreasingBy};
 ghost use Rattle.spf_tree.specs.Labels.{names};
 ghost use Rattle.spf_tree.specs.Walks.{start};
-ghost use Rattle.spf_tree.specs.Search.{AreNamed};
 ghost use Rattle.spf_tree.specs.Exploring.{AreReached, IsStep, IsTouched, IsSpreading, IsExploring, IsFront, goes_on, unmarked};
 
 use crate::labels::Labels;
@@ -43,7 +42,7 @@ fn touch(
     marks: &mut Labels,
     nodes: &mut Vec<u64>,
 ) -> Result<(), OutOfMemory>
-    requires { Contains (names marks.old) to }
+    requires { names marks.old ≡ names labels.now }
     ensures names { OnOk result (names marks.new ≡ names marks.old) }
     ensures touched { OnOk result (IsTouched labels.now root node to metric marks.old nodes.old.items marks.new nodes.new.items) }
 {
@@ -84,7 +83,7 @@ fn spread(
     nodes: &mut Vec<u64>,
 ) -> Result<(), OutOfMemory>
     requires sorted { IsNonDecreasingBy start rows.now }
-    requires named { AreNamed rows.now from (names marks.old) }
+    requires named { names marks.old ≡ names labels.now }
     requires goes { goes_on all root node ≡ true }
     requires so_far { IsExploring rows.now root labels.now all from marks.old nodes.old.items many }
     requires at_node { Contains nodes.old.items node }
@@ -118,7 +117,7 @@ fn visit(
     nodes: &mut Vec<u64>,
 ) -> Result<(), OutOfMemory>
     requires sorted { IsNonDecreasingBy start rows.now }
-    requires named { AreNamed rows.now from (names marks.old) }
+    requires named { names marks.old ≡ names labels.now }
     requires so_far { IsExploring rows.now root labels.now all from marks.old nodes.old.items many }
     requires in_list { many < length nodes.old.items }
     ensures names { OnOk result (names marks.new ≡ names marks.old) }
@@ -147,15 +146,18 @@ pub fn explore(
     requires { IsNonDecreasingBy start rows.now }
     ensures { IfOk result (λ nodes. AreReached rows.now root labels.now all from nodes.items) }
 {
-    let mut marks = match Labels::unlabelled(alloc, rows, from) {
-        Ok(marks) => marks,
-        Err(error) => return Err(error),
-    };
     let mut nodes = Vec::new(alloc);
     match nodes.push(from) {
         Ok(()) => {}
         Err(_) => return Err(OutOfMemory),
     }
+    if labels.get(from).is_none() {
+        return Ok(nodes);
+    }
+    let mut marks = match labels.blank(alloc) {
+        Ok(marks) => marks,
+        Err(error) => return Err(error),
+    };
     marks.set(from, 0);
     let mut many = 0;
     while many < nodes.len() {

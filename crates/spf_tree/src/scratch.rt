@@ -5,7 +5,7 @@ ghost use Rattle.spf_tree.specs.Nodes.{node_number};
 ghost use Rattle.spf_tree.specs.Distances.{AreDistances};
 
 use crate::distances::Distances;
-use crate::graph::{Graph, rows_in_order};
+use crate::graph::{Graph, nodes_in_order, rows_in_order};
 use crate::labels::Labels;
 use crate::node::number;
 use crate::queue::Queue;
@@ -19,7 +19,7 @@ pub fn from_scratch(alloc: Global, graph: &Graph, root: NodeId) -> Result<Distan
 {
     let rows = rows_in_order(graph);
     let start = number(root);
-    let mut labels = match Labels::unlabelled(alloc, rows, start) {
+    let mut labels = match Labels::unlabelled(alloc, nodes_in_order(graph), start) {
         Ok(labels) => labels,
         Err(error) => return Err(error),
     };

@@ -1,12 +1,11 @@
-use Rattle.std.proofs.Common.{◌+◌, ◌-◌, length}
+use Rattle.std.proofs.Common.{◌≡◌, ◌+◌, ◌-◌, length}
 use Rattle.spf_tree.specs.Labels.{names}
-use Rattle.spf_tree.specs.Search.{AreNamed}
 use Rattle.spf_tree.specs.Exploring.{IsExploring, unmarked}
 use Rattle.spf_tree.proofs.reach.explore.Given as goal
 
 abbrev pub invariant-loop-many : goal.invariant-loop-many
 invariant-loop-many l = record {
-  named : AreNamed l.rows l.from (names l.marks);
+  named : names l.marks ≡ names l.labels;
   exploring : IsExploring l.rows l.root l.labels l.all l.from l.marks l.nodes.items l.many;
 }
 

@@ -2,7 +2,7 @@ use Rattle.std.proofs.Common.{◌∙◌, ◌+◌, ℕ, get_or, refl, sym, subst,
 use Rattle.spf_tree.specs.Walks.{end}
 use Rattle.spf_tree.specs.Exploring.{IsTouched}
 use Rattle.spf_tree.proofs.SearchLemmas.{no_row}
-use Rattle.spf_tree.proofs.ExploreLemmas.{IsMore, touch_more, spread_done, named_end, front_trans}
+use Rattle.spf_tree.proofs.ExploreLemmas.{IsMore, touch_more, spread_done, front_trans}
 use Rattle.spf_tree.proofs.reach.spread.Goals as goal
 
 pub returns-then-number-node-clause-spread : goal.returns-then-number-node-clause-spread
@@ -12,9 +12,6 @@ returns-then-number-node-clause-spread c =
     let ne = c.if-number-node.true in
     spread_done c.args.rows.now c.args.root c.args.labels.now c.args.all c.args.from c.args.node c.loop-place.marks c.loop-place.nodes.items c.args.many c.loop-place.place no_row c.loop-place-test.true c.requires.sorted (omega (arith, up)) c.loop-place.invariant.spreading
 
-pub touch-requires : goal.touch-requires
-touch-requires c = named_end c.args.rows.now c.args.from c.args.marks.now c.loop-place.marks c.loop-place.place c.number-in-loop-place.result no_row c.requires.named c.loop-place.invariant.names c.loop-place-test.true c.number-in-loop-place.ensures
-
 pub loop-place-preserved : goal.loop-place-preserved
 loop-place-preserved c =
     let rows = c.args.rows.now in
@@ -22,7 +19,7 @@ loop-place-preserved c =
     let more : IsMore rows c.args.root c.args.labels.now c.args.all c.args.from c.args.node c.loop-place.marks c.loop-place.nodes.items c.touch.new.marks c.touch.new.nodes.items c.args.many (m + 1) =
     touch_more rows c.args.root c.args.labels.now c.args.all c.args.from c.args.node c.loop-place.marks c.loop-place.nodes.items c.touch.new.marks c.touch.new.nodes.items c.args.many m no_row
     c.loop-place-test.true (sym c.number.ensures ∙ c.if-number-node.false) c.requires.goes
-    (named_end rows c.args.from c.args.marks.now c.loop-place.marks m (end (get_or rows m no_row)) no_row c.requires.named c.loop-place.invariant.names c.loop-place-test.true refl)
+    (c.loop-place.invariant.names ∙ c.requires.named)
     c.in-Ok.ensures.names c.loop-place.invariant.spreading
     (subst (λ (n : ℕ). IsTouched c.args.labels.now c.args.root c.args.node n (get_or rows m no_row).metric c.loop-place.marks c.loop-place.nodes.items c.touch.new.marks c.touch.new.nodes.items) c.number-in-loop-place.ensures c.in-Ok.ensures.touched)
     in
