@@ -1,7 +1,8 @@
 -- Labels in order: how they are found and set.
 
-use Rattle.std.proofs.Common.{◌≡◌, ◌≢◌, ◌∙◌, ℕ, zero, suc, ◌+◌, ◌≤◌, ◌<◌, ◌==◌, if◌then◌else◌, List, [], ◌∷◌, length, map, get_or, set, Option, Some, None, refl, sym, ap, subst, arith, inl, inr}
+use Rattle.std.proofs.Common.{◌≡◌, ◌≢◌, ◌∙◌, ℕ, zero, suc, ◌+◌, ◌≤◌, ◌<◌, Bool, true, false, ◌==◌, if◌then◌else◌, List, [], ◌∷◌, length, map, get_or, set, Option, Some, None, refl, sym, ap, subst, arith, inl, inr}
 use Rattle.std.specs.List.{Contains}
+use Rattle.std.specs.Option.{is_some}
 use Rattle.std.proofs.lemmas.Bool.{cases_eq, cases_lt, eq-eqb, ne_eqb}
 use Rattle.std.proofs.Math.ListN.{get_or-map as get_or-map_any}
 use Rattle.std.proofs.lemmas.List.{get_or_default, get_or-map, length-map}
@@ -9,7 +10,7 @@ use Rattle.spf_tree.specs.declared.label.Label.{Label}
 use Rattle.spf_tree.specs.declared.row.Row.{Row}
 use Rattle.spf_tree.specs.Walks.{end}
 use Rattle.spf_tree.specs.Labels.{at}
-use Rattle.spf_tree.specs.Labels.{IsRising, names, unknown}
+use Rattle.spf_tree.specs.Labels.{IsPlace, IsRising, carry, names, unknown}
 use Rattle.std.specs.List.Sorted.{IsStrictlyIncreasing}
 use Rattle.std.proofs.lemmas.List.Kept.{AllPairs-from_increasing}
 
@@ -115,6 +116,15 @@ rising_names old new e rising =
 
 -- ---- `set` and `get` as the code has them: the slice that is searched, the fields and the model are one list
 
+pub place_names : (old new : List Label) (place n : ℕ) → names new ≡ names old → IsPlace old place n → IsPlace new place n
+place_names old new place n e is =
+    let same : (k : ℕ) (d : Label) → (get_or new k d).node ≡ (get_or old k d).node = λ k d. sym (node_named new k d) ∙ ap (λ (ns : List ℕ). get_or ns k d.node) e ∙ node_named old k d in
+    let long : length new ≡ length old = sym (length-map new (λ (l : Label). l.node)) ∙ ap length e ∙ length-map old (λ (l : Label). l.node) in
+    record {
+      below = λ k d h. let low = is.below k d h in let at_k = same k d in omega arith;
+      above = λ k d h l. let high = is.above k d h (omega arith) in let at_k = same k d in omega arith;
+    }
+
 pub record IsSet (xs old : List Label) (i n : ℕ) (v : Option ℕ) : Type 0 where
   pub in' : i < length xs
   pub rising : IsRising (set xs i (record { node = n; cost = v }))
@@ -199,3 +209,36 @@ named_at (l ∷ labels) n c e =
           let l = rest.1 in
           (suc rest.0, omega arith, rest.2)
     ]
+
+-- ---- labels carried over
+
+pub names_carry : (old marks : List Label) (nodes : List ℕ) → names (map (carry old marks) nodes) ≡ nodes
+names_carry old marks [] = refl
+names_carry old marks (n ∷ nodes) = ap (λ (ns : List ℕ). n ∷ ns) (names_carry old marks nodes)
+
+carry_cases : (b : Bool) (o : Option ℕ) (c : ℕ) → (if b then None else o) ≡ Some c → (o ≡ Some c) × (b ≡ false)
+carry_cases true o c e = cc
+carry_cases false o c e = (e, refl)
+
+pub carry_from : (old marks : List Label) (nodes : List ℕ) (n c : ℕ) → at (map (carry old marks) nodes) n ≡ Some c → (at old n ≡ Some c) × (is_some (at marks n) ≡ false)
+carry_from old marks [] n c e = cc
+carry_from old marks (m ∷ nodes) n c e =
+    elim (cases_eq m n) [
+      | inl is ↦ subst (λ (k : ℕ). (at old k ≡ Some c) × (is_some (at marks k) ≡ false)) is (carry_cases (is_some (at marks m)) (at old m) c (rw (eq-eqb m n is) at e))
+      | inr ne ↦ carry_from old marks nodes n c (rw (ne_eqb m n ne) at e)
+    ]
+
+carry_at : (old marks : List Label) (nodes : List ℕ) (n k : ℕ) → k < length nodes → get_or nodes k n ≡ n → is_some (at marks n) ≡ false → at (map (carry old marks) nodes) n ≡ at old n
+carry_at old marks [] n k l e free = absurd (omega arith)
+carry_at old marks (m ∷ nodes) n zero l e free = let f : is_some (at marks m) ≡ false = ap (λ (x : ℕ). is_some (at marks x)) e ∙ free in rw (eq-eqb m n e, f) (ap (at old) e)
+carry_at old marks (m ∷ nodes) n (suc k) l e free =
+    elim (cases_eq m n) [
+      | inl is ↦ let f : is_some (at marks m) ≡ false = ap (λ (x : ℕ). is_some (at marks x)) is ∙ free in rw (eq-eqb m n is, f) (ap (at old) is)
+      | inr ne ↦ rw (ne_eqb m n ne) (carry_at old marks nodes n k (omega arith) e free)
+    ]
+
+pub carry_into : (old marks : List Label) (nodes : List ℕ) (n : ℕ) → Contains nodes n → is_some (at marks n) ≡ false → at (map (carry old marks) nodes) n ≡ at old n
+carry_into old marks nodes n h free = carry_at old marks nodes n h.0 h.1 h.2 free
+
+pub rising_by : (nodes : List ℕ) (labels : List Label) → IsStrictlyIncreasing nodes → names labels ≡ nodes → IsRising labels
+rising_by nodes labels up e = rising_names (map unknown nodes) labels (e ∙ sym (names_unknown nodes)) (rising_unknown nodes up)

@@ -38,17 +38,31 @@ contains_none x h = let l = h.1 in absurd (omega arith)
 
 -- ---- a step of the search for the first row
 
-pub left_rows : (rows : List Row) (n m : ℕ) (e : Row) → IsNonDecreasingBy start rows → m < length rows → start (get_or rows m e) < n → (k : ℕ) (d : Row) → k < m + 1 → start (get_or rows k d) < n
-left_rows rows n m e sorted in' low k d h =
+pub left_by : {X : Type 0} (f : X → ℕ) (xs : List X) (n m : ℕ) (e : X) → IsNonDecreasingBy f xs → m < length xs → f (get_or xs m e) < n → (k : ℕ) (d : X) → k < m + 1 → f (get_or xs k d) < n
+left_by f xs n m e sorted in' low k d h =
     let up = sorted k m d (omega arith) in' in
-    let same = ap start (get_or_default rows m d e in') in
+    let same = ap f (get_or_default xs m d e in') in
     omega arith
 
-pub right_rows : (rows : List Row) (n m : ℕ) (e : Row) → IsNonDecreasingBy start rows → m < length rows → n ≤ start (get_or rows m e) → (k : ℕ) (d : Row) → m ≤ k → k < length rows → n ≤ start (get_or rows k d)
-right_rows rows n m e sorted in' high k d h l =
+pub right_by : {X : Type 0} (f : X → ℕ) (xs : List X) (n m : ℕ) (e : X) → IsNonDecreasingBy f xs → m < length xs → n ≤ f (get_or xs m e) → (k : ℕ) (d : X) → m ≤ k → k < length xs → n ≤ f (get_or xs k d)
+right_by f xs n m e sorted in' high k d h l =
     let up = sorted m k d h l in
-    let same = ap start (get_or_default rows m d e in') in
+    let same = ap f (get_or_default xs m d e in') in
     omega arith
+
+-- ---- facts of the first so many rows
+
+pub upto_more : (rows : List Row) (P : Row → Type 0) (m : ℕ) (e : Row) → m < length rows → ((k : ℕ) (d : Row) → k < m → P (get_or rows k d)) → P (get_or rows m e) → (k : ℕ) (d : Row) → k < m + 1 → P (get_or rows k d)
+upto_more rows P m e in' before here k d h =
+    elim (cases_lt k m) [
+      | inl less ↦ before k d less
+      | inr not_less ↦
+          let k_is : m ≡ k = omega arith in
+          subst P (get_or_default rows m e d in' ∙ ap (λ (j : ℕ). get_or rows j d) k_is) here
+    ]
+
+pub upto_all : (rows : List Row) (P : Row → Type 0) (m : ℕ) → length rows ≤ m → ((k : ℕ) (d : Row) → k < m → P (get_or rows k d)) → (row : Row) → Contains rows row → P row
+upto_all rows P m past h row there = let l = there.1 in subst P there.2 (h there.0 row (omega arith))
 
 -- ---- what the rows from a node offer
 

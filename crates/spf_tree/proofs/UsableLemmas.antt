@@ -2,14 +2,14 @@
 
 use Rattle.std.proofs.Common.{◌≡◌, ◌∙◌, ℕ, ◌+◌, ◌<◌, ◌^◌, Bool, true, false, cond, ◌==◌, ◌&&◌, ◌||◌, if◌then◌else◌, List, [], ◌∷◌, length, map, get_or, refl, sym, ap, arith, inl, inr}
 use Rattle.std.specs.declared.cmp.Ordering.TheVariants.{Less, Equal, Greater}
-use Rattle.std.specs.Ordering.{nat_cmp, ordering_then, ordering_index}
+use Rattle.std.specs.Ordering.{nat_cmp, ordering_then, ordering_index, is_lt}
 use Rattle.std.specs.List.{list_any, filter, HoldsAt, All}
-use Rattle.std.specs.List.Sorted.{IsSorted, IsPermutation, IsNonDecreasingBy, IsPartitionPoint}
+use Rattle.std.specs.List.Sorted.{IsSorted, IsPermutation, IsNonDecreasingBy, IsPartitionPoint, IsSortedByKey}
 use Rattle.std.proofs.lemmas.Bool.{cases_lt, eqb-true, and_parts}
 use Rattle.std.proofs.lemmas.Bool.Decides.{nat_tests}
 use Rattle.std.proofs.lemmas.Cmp.{nat_cmp_total, on_total, then_total}
 use Rattle.std.proofs.lemmas.List.Folds.{list_any_at, list_any_none}
-use Rattle.std.proofs.lemmas.List.Sorted.{searchable_from_sorted, list_any-IsPermutation, sum_by-IsPermutation, length_permutation, Contains-permutation, IsPermutation-sym}
+use Rattle.std.proofs.lemmas.List.Sorted.{IsNonDecreasingBy-from_sort, searchable_from_sorted, list_any-IsPermutation, sum_by-IsPermutation, length_permutation, Contains-permutation, IsPermutation-sym}
 use Rattle.std.proofs.lemmas.List.Sums.{sum_by-cons, length-filter, count_by-le-length}
 use Rattle.isis_base.specs.declared.identifiers.NodeId.{NodeId}
 use Rattle.spf_tree.specs.declared.row.Row.{Row}
@@ -121,3 +121,18 @@ kept_bounded test rows kept sorted few is small moved =
       few = omega arith;
       small = λ row h. All-contains (λ (r : Row). r.metric < 2 ^ 32) kept row small (Contains-permutation sorted kept row (IsPermutation-sym kept sorted moved) h);
     }
+
+-- ---- rows in order
+
+abbrev pub row_key : Row → ℕ × ℕ × ℕ
+row_key row = (start row, end row, row.metric)
+
+first_falls : (a b c d e f : ℕ) → is_lt (ordering_then (ordering_then (nat_cmp a d) (nat_cmp b e)) (nat_cmp c f)) ≡ false → is_lt (nat_cmp a d) ≡ false
+first_falls a b c d e f h = grind (arith, nat_tests)
+
+pub starts_rise : (rows : List Row) → IsSortedByKey row_key (λ x y. ordering_then (ordering_then (nat_cmp x.0 y.0) (nat_cmp x.1 y.1)) (nat_cmp x.2 y.2)) rows → IsNonDecreasingBy start rows
+starts_rise rows sorted =
+    IsNonDecreasingBy-from_sort start rows (λ k d low h.
+    let x = get_or rows (k + 1) d in
+    let y = get_or rows k d in
+    first_falls (start x) (end x) x.metric (start y) (end y) y.metric (sorted k d low h))

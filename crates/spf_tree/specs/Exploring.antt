@@ -1,13 +1,15 @@
 -- What is explored over tight rows, those of which least walks are made, on the way to next hops. All of it own.
 
 use Rattle.std.specs.Prelude.{◌≡◌, ◌≢◌, ℕ, ◌+◌, ◌≤◌, ◌<◌, ◌==◌, ◌||◌, Bool, true, false, not, if◌then◌else◌, List, [], ◌∷◌, ◌++◌, ◌⊎◌, length, Option, Some, None, is_some, slice_index_or}
-use Rattle.std.specs.List.{Contains, count_by}
+use Rattle.std.specs.List.{All, Contains, count_by}
+use Rattle.std.specs.List.Sorted.{IsStrictlyIncreasing, IsStrictlySortedBy}
 use Rattle.spf_tree.specs.declared.row.Row.{Row}
 use Rattle.spf_tree.specs.declared.label.Label.{Label}
 use Rattle.spf_tree.specs.Nodes.{is_system}
 use Rattle.spf_tree.specs.Labels.{at, names}
 use Rattle.spf_tree.specs.Walks.{start, end, IsWalk, cost}
 use Rattle.spf_tree.specs.NextHops.{first_system}
+use Rattle.spf_tree.specs.Pairs.{pair_cmp}
 
 -- the first system after the root on a walk to the target whose cost is the target's label
 abbrev pub IsHopByLabels : List Row → ℕ → List Label → ℕ → ℕ → Type 0
@@ -92,3 +94,15 @@ pub record IsTabled (rows : List Row) (root : ℕ) (labels : List Label) (hop : 
 pub record AreTabled (rows : List Row) (root : ℕ) (labels : List Label) (nodes : List ℕ) (table : List (ℕ × ℕ)) : Type 0 where
   pub from : (target hop : ℕ) → Contains table (target, hop) → Contains nodes hop × LeadsOn rows root labels target hop
   pub all : (target hop : ℕ) → Contains nodes hop → LeadsOn rows root labels target hop → Contains table (target, hop)
+
+-- a table of targets beside hops: in order, each pair once, and each hop a system
+pub record IsTable (table : List (ℕ × ℕ)) : Type 0 where
+  pub rising : IsStrictlySortedBy pair_cmp table
+  pub systems : All (λ (pair : ℕ × ℕ). is_system pair.1 ≡ true) table
+
+-- the hops beside the target among the first so many pairs
+pub record AreHopsOf (table : List (ℕ × ℕ)) (target : ℕ) (hops : List ℕ) (many : ℕ) : Type 0 where
+  pub from : (hop : ℕ) → Contains hops hop → Contains table (target, hop)
+  pub all : (k : ℕ) (d : ℕ × ℕ) → k < many → (slice_index_or table k d).0 ≡ target → Contains hops (slice_index_or table k d).1
+  pub rising : IsStrictlyIncreasing hops
+  pub below : (hop k : ℕ) (d : ℕ × ℕ) → Contains hops hop → many ≤ k → k < length table → (slice_index_or table k d).0 ≡ target → hop < (slice_index_or table k d).1

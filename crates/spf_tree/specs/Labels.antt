@@ -1,6 +1,6 @@
 -- Labels: the nodes of a search beside the costs known so far.
 
-use Rattle.std.specs.Prelude.{ℕ, ◌<◌, ◌==◌, List, [], ◌∷◌, map, length, slice_index_or, Option, None, if◌then◌else◌}
+use Rattle.std.specs.Prelude.{ℕ, ◌<◌, ◌≤◌, ◌==◌, List, [], ◌∷◌, map, length, slice_index_or, Option, None, is_some, if◌then◌else◌}
 use Rattle.spf_tree.specs.declared.label.Label.{Label}
 
 -- the cost that the labels have for a node (own)
@@ -19,3 +19,12 @@ pub record IsRising (labels : List Label) : Type 0 where
 -- a node of which no cost is known (own)
 abbrev pub unknown : ℕ → Label
 unknown node = record { node = node; cost = None }
+
+-- the old cost of a node, unless it is marked (own)
+abbrev pub carry : List Label → List Label → ℕ → Label
+carry old marks node = record { node = node; cost = if is_some (at marks node) then None else at old node }
+
+-- the labels before a place are below the node, and those from it on aren't (own)
+pub record IsPlace (labels : List Label) (place node : ℕ) : Type 0 where
+  pub below : (k : ℕ) (d : Label) → k < place → (slice_index_or labels k d).node < node
+  pub above : (k : ℕ) (d : Label) → place ≤ k → k < length labels → node ≤ (slice_index_or labels k d).node

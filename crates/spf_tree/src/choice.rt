@@ -4,15 +4,13 @@ ghost use Rattle.std.specs.Prelude.{◌≡◌, ◌<◌, ◌≤◌, ◌^◌, ℕ,
 ghost use Rattle.std.specs.List.{list_any, filter, All};
 ghost use Rattle.std.specs.List.Sorted.{IsPermutation, IsSorted, IsNonDecreasingBy};
 ghost use Rattle.spf_tree.specs.Walks.{start};
-ghost use Rattle.spf_tree.specs.Search.{IsBounded};
 ghost use Rattle.spf_tree.specs.Nodes.{node_number};
 ghost use Rattle.spf_tree.specs.declared.row.Row.{Row};
 ghost use Rattle.spf_tree.specs.Graphs.{AreUsable};
 ghost use Rattle.spf_tree.specs.Pairs.{is_pair, row_passes, ends_of, node_pair, pair_cmp};
 
-use crate::graph::Graph;
+use crate::graph::{Graph, graph_of};
 use crate::node::number;
-use crate::nodes::{ends, in_order};
 use crate::row::Row;
 use isis_base::{NodeId, OutOfMemory};
 use std::alloc::Global;
@@ -127,12 +125,12 @@ fn kept(
     Ok(kept)
 }
 
-/// The rows in order of their starts.
+/// The rows in order of their starts, then of their ends and metrics.
 pub fn by_start(mut rows: Vec<Row>) -> Vec<Row>
     ensures moved { IsPermutation rows.items result.items }
     ensures sorted { IsNonDecreasingBy start result.items }
 {
-    rows.sort_unstable_by_key(|row| number(row.from));
+    rows.sort_unstable_by_key(|row| (number(row.from), number(row.to), row.metric));
     rows
 }
 
@@ -157,21 +155,6 @@ pub fn usable(
     let start = number(root);
     match kept(alloc, rows, pairs.as_slice(), over.as_slice(), start) {
         Ok(kept) => graph_of(alloc, by_start(kept), root),
-        Err(error) => Err(error),
-    }
-}
-
-/// The graph of rows in order.
-pub fn graph_of(alloc: Global, rows: Vec<Row>, root: NodeId) -> Result<Graph, OutOfMemory>
-    requires sorted { IsNonDecreasingBy start rows.items }
-    requires bounded { IsBounded rows.items }
-    ensures { IfOk result (λ graph. (graph.rows ≡ rows.items) × (graph.root ≡ root)) }
-{
-    match ends(alloc, rows.as_slice(), number(root)) {
-        Ok(nodes) => {
-            let nodes = in_order(nodes);
-            Ok(Graph { rows, nodes, root })
-        }
         Err(error) => Err(error),
     }
 }

@@ -1,14 +1,17 @@
 //! Graphs: the rows that may be walked, and the root.
 
-ghost use Rattle.std.specs.Prelude.{◌≡◌, IfOk};
+ghost use Rattle.std.specs.Prelude.{◌≡◌, ◌⊎◌, IfOk};
 ghost use Rattle.std.specs.List.{Contains};
 ghost use Rattle.std.specs.List.Sorted.{IsNonDecreasingBy, IsStrictlyIncreasing};
 ghost use Rattle.spf_tree.specs.declared.row.Row.{Row};
 ghost use Rattle.spf_tree.specs.Walks.{start, end};
 ghost use Rattle.spf_tree.specs.Search.{IsBounded};
 
+use crate::node::number;
+use crate::nodes::{ends, have_ends, in_order};
 use crate::row::Row;
 use isis_base::{NodeId, OutOfMemory};
+use std::alloc::Global;
 use std::marker::Model;
 
 /// The rows of a level that may be walked, and the root. Contracts see it as both.
@@ -70,4 +73,43 @@ pub fn nodes_in_order(graph: &Graph) -> &[u64]
     ensures ends { (row : Row) → Contains graph.now.rows row → Contains result.now (end row) }
 {
     graph.nodes.as_slice()
+}
+
+/// The graph of rows in order.
+pub fn graph_of(alloc: Global, rows: Vec<Row>, root: NodeId) -> Result<Graph, OutOfMemory>
+    requires sorted { IsNonDecreasingBy start rows.items }
+    requires bounded { IsBounded rows.items }
+    ensures { IfOk result (λ graph. (graph.rows ≡ rows.items) × (graph.root ≡ root)) }
+{
+    match ends(alloc, rows.as_slice(), number(root)) {
+        Ok(nodes) => {
+            let nodes = in_order(nodes);
+            Ok(Graph { rows, nodes, root })
+        }
+        Err(error) => Err(error),
+    }
+}
+
+/// The graph of rows in order each of which ends where a row of this graph does, or an added one. The nodes are put in
+/// order anew only where an added row ends at a new one.
+pub fn with_rows(
+    alloc: Global,
+    graph: &Graph,
+    rows: Vec<Row>,
+    added: &[Row],
+) -> Result<Graph, OutOfMemory>
+    requires sorted { IsNonDecreasingBy start rows.items }
+    requires bounded { IsBounded rows.items }
+    requires ends { (row : Row) → Contains rows.items row → (other : Row) × (Contains graph.now.rows other ⊎ Contains added.now other) × (end other ≡ end row) }
+    ensures { IfOk result (λ g. (g.rows ≡ rows.items) × (g.root ≡ graph.now.root)) }
+{
+    let root = graph.root;
+    let held = graph.nodes.as_slice();
+    if !have_ends(held, added) {
+        return graph_of(alloc, rows, root);
+    }
+    match Vec::from_slice(alloc, held) {
+        Ok(nodes) => Ok(Graph { rows, nodes, root }),
+        Err(_) => Err(OutOfMemory),
+    }
 }

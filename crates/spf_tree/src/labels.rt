@@ -4,9 +4,9 @@ ghost use Rattle.std.specs.Prelude.{◌≡◌, ◌≤◌, ◌<◌, ◌==◌, ℕ
 ghost use Rattle.std.specs.List.{Contains};
 ghost use Rattle.spf_tree.specs.declared.label.Label.{Label};
 ghost use Rattle.spf_tree.specs.Labels.{at};
-ghost use Rattle.std.specs.Prelude.{None, IfOk};
+ghost use Rattle.std.specs.Prelude.{None, IfOk, map};
 ghost use Rattle.std.specs.List.Sorted.{IsStrictlyIncreasing};
-ghost use Rattle.spf_tree.specs.Labels.{IsRising, names};
+ghost use Rattle.spf_tree.specs.Labels.{IsPlace, IsRising, carry, names};
 
 use crate::label::Label;
 use crate::nodes::{unknown_labels, with_node};
@@ -51,7 +51,58 @@ fn place(labels: &[Label], node: u64) -> usize
     low
 }
 
+/// The old cost of a node whose place is known, unless it is marked.
+fn carry(old: &Labels, marks: &Labels, place: usize, node: u64) -> Label
+    requires place { IsPlace old.now place node }
+    requires marks { names marks.now ≡ names old.now }
+    ensures { result ≡ carry old.now marks.now node }
+{
+    if marks.get_at(place, node).is_some() {
+        return Label { node, cost: None };
+    }
+    let cost = old.get_at(place, node);
+    Label { node, cost }
+}
+
+/// The place of the first label, from a place on, whose node isn't below this one.
+fn next_place(labels: &[Label], from: usize, node: u64) -> usize
+    requires rising { IsRising labels.now }
+    requires below { (k : ℕ) (d : Label) → k < from → (slice_index_or labels.now k d).node < node }
+    ensures { IsPlace labels.now result node }
+{
+    let mut place = from;
+    while place < labels.len() && labels[place].node < node {
+        place += 1;
+    }
+    place
+}
+
 impl Labels {
+    /// The old cost of each node, in order, unless it is marked.
+    pub fn carried(
+        alloc: Global,
+        nodes: &[u64],
+        old: &Labels,
+        marks: &Labels,
+    ) -> Result<Labels, OutOfMemory>
+        requires rising { IsStrictlyIncreasing nodes.now }
+        requires marks { names marks.now ≡ names old.now }
+        ensures { IfOk result (λ labels. labels ≡ map (carry old.now marks.now) nodes.now) }
+    {
+        old.rising();
+        let mut items = Vec::new(alloc);
+        let mut at = 0;
+        for place in 0..nodes.len() {
+            let node = nodes[place];
+            at = next_place(old.items.as_slice(), at, node);
+            match items.push(carry(old, marks, at, node)) {
+                Ok(()) => {}
+                Err(_) => return Err(OutOfMemory),
+            }
+        }
+        Ok(Labels { items })
+    }
+
     /// The same nodes without costs.
     pub fn blank(&self, alloc: Global) -> Result<Labels, OutOfMemory>
         ensures names { IfOk result (λ labels. names labels ≡ names self.now) }
@@ -106,9 +157,17 @@ impl Labels {
     pub fn get(&self, node: u64) -> Option<u64>
         ensures { result ≡ at self.now node }
     {
+        let place = place(self.items.as_slice(), node);
+        self.get_at(place, node)
+    }
+
+    /// The cost of a node whose place is known.
+    fn get_at(&self, place: usize, node: u64) -> Option<u64>
+        requires { IsPlace self.now place node }
+        ensures { result ≡ at self.now node }
+    {
         let labels = self.items.as_slice();
-        let place = place(labels, node);
-        if place == labels.len() {
+        if place >= labels.len() {
             return None;
         }
         if labels[place].node != node {

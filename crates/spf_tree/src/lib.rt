@@ -30,6 +30,19 @@ mod scratch;
 mod search;
 mod table;
 
+/// Parts of the search, for the crate that repairs distances.
+pub mod parts {
+    pub use crate::choice::{by_start, whole};
+    pub use crate::graph::{nodes_in_order, rows_in_order, with_rows};
+    pub use crate::label::Label;
+    pub use crate::labels::Labels;
+    pub use crate::node::number;
+    pub use crate::nodes::with_node;
+    pub use crate::queue::Queue;
+    pub use crate::reach::is_step;
+    pub use crate::search::{first_row, offer, offer_rows};
+}
+
 pub use choice::usable;
 pub use distances::Distances;
 pub use graph::Graph;
@@ -37,4 +50,7 @@ pub use hops::Hops;
 pub use next::next_hops;
 pub use row::Row;
 pub use scratch::from_scratch;
-pub use table::all_next_hops;
+pub use table::{HopTable, all_next_hops};
+
+#[cfg(test)]
+mod tests;

@@ -15,7 +15,7 @@ use crate::distances::Distances;
 use crate::graph::{Graph, rows_in_order};
 use crate::hops::{Hops, hops_of};
 use crate::labels::Labels;
-use crate::node::{is_system, number};
+use crate::node::{is_system, number, system_number};
 use crate::nodes::in_order;
 use crate::reach::explore;
 use crate::row::Row;
@@ -138,14 +138,14 @@ pub fn next_hops(
     target: NodeId,
 ) -> Result<Hops, OutOfMemory>
     requires distances { AreDistances graph.now.rows (node_number root) distances.now }
-    requires target { is_system (node_number target) ≡ true }
+    requires target { target.pseudonode ≡ 0 }
     ensures rising { IfOk result (λ hops. IsStrictlyIncreasing hops) }
     ensures hops { IfOk result (λ hops. (hop : ℕ) → Contains hops hop ↔ IsNextHop graph.now.rows (node_number root) (node_number target) hop) }
     ensures empty { IfOk result (λ hops. (hops ≡ []) ↔ ((node_number target ≡ node_number root) ⊎ (cost_at distances.now (node_number target) ≡ None))) }
 {
     let rows = rows_in_order(graph);
     let labels = distances.labels();
-    match first_systems(alloc, rows, labels, number(root), number(target)) {
+    match first_systems(alloc, rows, labels, number(root), system_number(target)) {
         Ok(hops) => hops_of(alloc, hops.as_slice()),
         Err(error) => Err(error),
     }

@@ -13,6 +13,15 @@ pub fn number(node: NodeId) -> u64
     LspId { node, number: 0 }.to_number()
 }
 
+/// A system's own node as a number.
+pub fn system_number(node: NodeId) -> u64
+    requires { node.pseudonode ≡ 0 }
+    ensures same { result ≡ node_number node }
+    ensures system { is_system result ≡ true }
+{
+    number(node)
+}
+
 /// Whether the number is that of a system.
 pub fn is_system(node: u64) -> bool
     ensures { result ≡ is_system node }

@@ -1,7 +1,9 @@
 //! The nodes of rows, in order.
 
 ghost use Rattle.std.specs.Prelude.{◌≡◌, ℕ, ◌∷◌, ◌++◌, map, take, IfOk};
+ghost use Rattle.std.specs.Bool.{OnTrue};
 ghost use Rattle.std.specs.List.{Contains};
+ghost use Rattle.spf_tree.specs.declared.row.Row.{Row};
 ghost use Rattle.std.specs.List.Sorted.{IsStrictlyIncreasing};
 ghost use Rattle.spf_tree.specs.Walks.{end};
 ghost use Rattle.spf_tree.specs.Labels.{unknown};
@@ -41,6 +43,28 @@ pub fn in_order(mut nodes: Vec<u64>) -> Vec<u64>
     nodes
 }
 
+/// Whether the node is among them.
+fn is_among(nodes: &[u64], node: u64) -> bool
+    ensures { OnTrue result (Contains nodes.now node) }
+{
+    if let Ok(_) = nodes.binary_search(&node) {
+        return true;
+    }
+    false
+}
+
+/// Whether each row ends at one of the nodes.
+pub fn have_ends(nodes: &[u64], rows: &[Row]) -> bool
+    ensures { OnTrue result ((row : Row) → Contains rows.now row → Contains nodes.now (end row)) }
+{
+    for place in 0..rows.len() {
+        if !is_among(nodes, number(rows[place].to)) {
+            return false;
+        }
+    }
+    true
+}
+
 /// The nodes, and one more unless it is among them.
 pub fn with_node(alloc: Global, nodes: &[u64], node: u64) -> Result<Vec<u64>, OutOfMemory>
     requires { IsStrictlyIncreasing nodes.now }
@@ -53,7 +77,7 @@ pub fn with_node(alloc: Global, nodes: &[u64], node: u64) -> Result<Vec<u64>, Ou
         Ok(()) => {}
         Err(_) => return Err(OutOfMemory),
     }
-    if let Ok(_) = nodes.binary_search(&node) {
+    if is_among(nodes, node) {
         return Ok(all);
     }
     match all.push(node) {

@@ -12,8 +12,8 @@ returns-in-Ok-clause-hops c =
     let root = node_number c.args.root in
     let target = node_number c.args.target in
     let are : (hop : ℕ) → Contains c.in-Ok.hops.items hop ↔ IsNextHop rows root target hop =
-    subst (λ (n : ℕ). (hop : ℕ) → Contains c.in-Ok.hops.items hop ↔ IsNextHop rows root n hop) c.number-2.ensures
-    (subst (λ (n : ℕ). (hop : ℕ) → Contains c.in-Ok.hops.items hop ↔ IsNextHop rows n c.number-2.result hop) c.number.ensures
-    (subst (λ (rs : List Row). (hop : ℕ) → Contains c.in-Ok.hops.items hop ↔ IsNextHop rs c.number.result c.number-2.result hop) c.rows_in_order-rows.ensures.same c.in-Ok.ensures.hops)) in
+    subst (λ (n : ℕ). (hop : ℕ) → Contains c.in-Ok.hops.items hop ↔ IsNextHop rows root n hop) c.system_number.ensures.same
+    (subst (λ (n : ℕ). (hop : ℕ) → Contains c.in-Ok.hops.items hop ↔ IsNextHop rows n c.system_number.result hop) c.number.ensures
+    (subst (λ (rs : List Row). (hop : ℕ) → Contains c.in-Ok.hops.items hop ↔ IsNextHop rs c.number.result c.system_number.result hop) c.rows_in_order-rows.ensures.same c.in-Ok.ensures.hops)) in
     IfOk-weaker c.hops_of.result (λ hops. hops ≡ c.as_slice.result.now) (λ hops. (hop : ℕ) → Contains hops hop ↔ IsNextHop rows root target hop)
     (λ hops is hop. subst (λ (ns : List ℕ). Contains ns hop ↔ IsNextHop rows root target hop) (sym (is ∙ c.as_slice.ensures.value)) (are hop)) c.hops_of.ensures

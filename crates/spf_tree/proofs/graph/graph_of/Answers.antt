@@ -4,7 +4,7 @@ use Rattle.spf_tree.specs.declared.row.Row.{Row}
 use Rattle.spf_tree.specs.Nodes.{node_number}
 use Rattle.spf_tree.specs.Walks.{end}
 use Rattle.spf_tree.proofs.LabelLemmas.{ends_among}
-use Rattle.spf_tree.proofs.choice.graph_of.Goals as goal
+use Rattle.spf_tree.proofs.graph.graph_of.Goals as goal
 
 pub invariant_of-result : goal.invariant_of-result
 invariant_of-result c = record {
