@@ -1,12 +1,12 @@
 -- Distances as the reached part of labels, and that rows have one list of them.
 
-use Rattle.std.proofs.Common.{◌≡◌, ◌≢◌, ◌∙◌, ℕ, zero, suc, ◌+◌, ◌≤◌, ◌<◌, ◌==◌, if◌then◌else◌, List, [], ◌∷◌, length, map, get_or, Option, Some, None, refl, sym, ap, subst, arith, ◌⊎◌, inl, inr}
+use Rattle.std.proofs.Common.{◌≡◌, ◌≢◌, ◌∙◌, ℕ, zero, suc, ◌+◌, ◌<◌, ◌==◌, if◌then◌else◌, List, [], ◌∷◌, length, map, get_or, Option, Some, None, refl, sym, ap, subst, arith, ◌⊎◌, inl, inr}
 use Rattle.std.specs.List.Sorted.{IsStrictlyIncreasing}
 use Rattle.std.proofs.lemmas.Bool.{cases_eq, cases_lt, eq-eqb, ne_eqb}
 use Rattle.spf_tree.specs.declared.row.Row.{Row}
 use Rattle.spf_tree.specs.declared.label.Label.{Label}
 use Rattle.spf_tree.specs.Labels.{at, IsRising}
-use Rattle.spf_tree.specs.Walks.{IsWalk, cost, IsWithin, AreLeast}
+use Rattle.spf_tree.specs.Walks.{cost, IsWithin, AreLeast}
 use Rattle.spf_tree.specs.Distances.{cost_at, AreDistances, reached_of, reached}
 use Rattle.spf_tree.proofs.LabelLemmas.{at_none}
 use Rattle.spf_tree.proofs.SearchLemmas.{some_same}

@@ -12,7 +12,7 @@ use Rattle.spf_tree.specs.declared.label.Label.{Label}
 use Rattle.spf_tree.specs.Walks.{start, end, IsWalk, cost, IsWithin, AreLeast}
 use Rattle.spf_tree.specs.Labels.{at}
 use Rattle.spf_tree.specs.Nodes.{is_system}
-use Rattle.spf_tree.specs.NextHops.{first_system, IsLeastWalk, IsNextHop}
+use Rattle.spf_tree.specs.NextHops.{first_system, IsNextHop}
 use Rattle.spf_tree.specs.Exploring.{IsHopByLabels, IsTight, goes_on, Leads, LeadsOn, AreReached, IsChosen, AreChosen}
 use Rattle.spf_tree.proofs.WalkLemmas.{within_some}
 use Rattle.spf_tree.proofs.SearchLemmas.{some_same}

@@ -29,4 +29,3 @@ node_pair node = (node_number node, 0)
 -- pairs in order
 abbrev pub pair_cmp : ℕ × ℕ → ℕ × ℕ → Ordering
 pair_cmp a b = ordering_then (nat_cmp a.0 b.0) (nat_cmp a.1 b.1)
-

@@ -54,7 +54,11 @@ impl Graph {
     {
         let rows = self.rows.clone()?;
         let nodes = self.nodes.clone()?;
-        Ok(Graph { rows, nodes, root: self.root })
+        Ok(Graph {
+            rows,
+            nodes,
+            root: self.root,
+        })
     }
 }
 

@@ -169,4 +169,3 @@ pub fn explore(
     }
     Ok(nodes)
 }
-

@@ -21,12 +21,27 @@ const CASES: &[Case] = &[
     Case {
         name: "two ways over a pseudonode",
         rows: &[
-            (1, 101, 10), (101, 1, 0), (101, 2, 0), (101, 3, 0), (2, 101, 10), (3, 101, 10), (2, 4, 5), (3, 4, 5),
-            (4, 2, 5), (4, 3, 5), (1, 4, 16_777_215), (4, 1, 16_777_215),
+            (1, 101, 10),
+            (101, 1, 0),
+            (101, 2, 0),
+            (101, 3, 0),
+            (2, 101, 10),
+            (3, 101, 10),
+            (2, 4, 5),
+            (3, 4, 5),
+            (4, 2, 5),
+            (4, 3, 5),
+            (1, 4, 16_777_215),
+            (4, 1, 16_777_215),
         ],
         overloaded: &[],
         usable: 10,
-        targets: &[(1, Some(0), &[]), (101, Some(10), &[]), (2, Some(10), &[2]), (4, Some(15), &[2, 3])],
+        targets: &[
+            (1, Some(0), &[]),
+            (101, Some(10), &[]),
+            (2, Some(10), &[2]),
+            (4, Some(15), &[2, 3]),
+        ],
     },
     Case {
         name: "a row that one end lists",
@@ -44,7 +59,14 @@ const CASES: &[Case] = &[
     },
     Case {
         name: "no way through an overloaded system, but to it",
-        rows: &[(1, 2, 1), (2, 1, 1), (2, 3, 1), (3, 2, 1), (1, 3, 9), (3, 1, 9)],
+        rows: &[
+            (1, 2, 1),
+            (2, 1, 1),
+            (2, 3, 1),
+            (3, 2, 1),
+            (1, 3, 9),
+            (3, 1, 9),
+        ],
         overloaded: &[2],
         usable: 4,
         targets: &[(2, Some(1), &[2]), (3, Some(9), &[3])],
@@ -65,10 +87,23 @@ const CASES: &[Case] = &[
     },
     Case {
         name: "a circle of metric 0 between two first systems",
-        rows: &[(1, 2, 4), (2, 1, 4), (1, 3, 4), (3, 1, 4), (2, 3, 0), (3, 2, 0), (2, 4, 1), (4, 2, 1)],
+        rows: &[
+            (1, 2, 4),
+            (2, 1, 4),
+            (1, 3, 4),
+            (3, 1, 4),
+            (2, 3, 0),
+            (3, 2, 0),
+            (2, 4, 1),
+            (4, 2, 1),
+        ],
         overloaded: &[],
         usable: 8,
-        targets: &[(2, Some(4), &[2, 3]), (3, Some(4), &[2, 3]), (4, Some(5), &[2, 3])],
+        targets: &[
+            (2, Some(4), &[2, 3]),
+            (3, Some(4), &[2, 3]),
+            (4, Some(5), &[2, 3]),
+        ],
     },
 ];
 
@@ -108,7 +143,13 @@ fn are(hops: &Hops, want: &[u8]) -> bool {
 }
 
 /// Whether the next hops of a target are these, asked for alone and in the table.
-fn leads(alloc: Global, graph: &Graph, distances: &Distances, target: NodeId, want: &[u8]) -> Result<bool, OutOfMemory>
+fn leads(
+    alloc: Global,
+    graph: &Graph,
+    distances: &Distances,
+    target: NodeId,
+    want: &[u8],
+) -> Result<bool, OutOfMemory>
     requires { AreDistances graph.now.rows (node_number graph.now.root) distances.now }
 {
     if target.pseudonode != 0 {

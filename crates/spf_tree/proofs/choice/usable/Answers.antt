@@ -10,7 +10,7 @@ use Rattle.spf_tree.proofs.choice.usable.Goals as goal
 
 pub graph_of-requires-clause-bounded : goal.graph_of-requires-clause-bounded
 graph_of-requires-clause-bounded c =
-  kept_bounded (row_passes c.as_slice.result.now c.as_slice-2.result.now c.number-start.result) c.args.rows.now c.in-Ok-kept.kept.items c.by_start.result.items c.requires c.in-Ok-kept.ensures.rows c.in-Ok-kept.ensures.small c.by_start.ensures.moved
+    kept_bounded (row_passes c.as_slice.result.now c.as_slice-2.result.now c.number-start.result) c.args.rows.now c.in-Ok-kept.kept.items c.by_start.result.items c.requires c.in-Ok-kept.ensures.rows c.in-Ok-kept.ensures.small c.by_start.ensures.moved
 
 pub returns-in-Ok-kept : goal.returns-in-Ok-kept
 returns-in-Ok-kept c =

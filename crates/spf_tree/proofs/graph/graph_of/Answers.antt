@@ -1,7 +1,6 @@
-use Rattle.std.proofs.Common.{◌∙◌, ◌∷◌, List, ℕ, map, sym, ap, subst}
+use Rattle.std.proofs.Common.{List, sym, subst}
 use Rattle.std.specs.List.{Contains}
 use Rattle.spf_tree.specs.declared.row.Row.{Row}
-use Rattle.spf_tree.specs.Nodes.{node_number}
 use Rattle.spf_tree.specs.Walks.{end}
 use Rattle.spf_tree.proofs.LabelLemmas.{ends_among}
 use Rattle.spf_tree.proofs.graph.graph_of.Goals as goal

@@ -1,5 +1,5 @@
-use Rattle.std.proofs.Common.{List, false, subst, ℕ}
-use Rattle.spf_tree.specs.Exploring.{AreReached, AreChosen}
+use Rattle.std.proofs.Common.{List, subst, ℕ}
+use Rattle.spf_tree.specs.Exploring.{AreChosen}
 use Rattle.spf_tree.proofs.HopLemmas.{hops_are, next_are, empty_is, all_systems}
 use Rattle.spf_tree.proofs.next.first_systems.Goals as goal
 

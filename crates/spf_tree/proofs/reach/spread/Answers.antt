@@ -1,5 +1,4 @@
-use Rattle.std.proofs.Common.{◌∙◌, ◌+◌, ℕ, get_or, refl, sym, subst, arith}
-use Rattle.spf_tree.specs.Walks.{end}
+use Rattle.std.proofs.Common.{◌∙◌, ◌+◌, ℕ, get_or, sym, subst, arith}
 use Rattle.spf_tree.specs.Exploring.{IsTouched}
 use Rattle.spf_tree.proofs.SearchLemmas.{no_row}
 use Rattle.spf_tree.proofs.ExploreLemmas.{IsMore, touch_more, spread_done, front_trans}

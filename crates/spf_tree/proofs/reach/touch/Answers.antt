@@ -1,7 +1,5 @@
-use Rattle.std.proofs.Common.{◌+◌, ◌<◌, List, ℕ, sym, subst}
+use Rattle.std.proofs.Common.{◌+◌, List, ℕ, sym, subst}
 use Rattle.std.specs.List.{Contains}
-use Rattle.std.specs.Bool.{MatchBool}
-use Rattle.spf_tree.specs.Labels.{names}
 use Rattle.spf_tree.proofs.LabelLemmas.{named_at}
 use Rattle.spf_tree.proofs.reach.touch.Goals as goal
 

@@ -1,4 +1,4 @@
-use Rattle.std.proofs.Common.{◌<◌, ◌≤◌, ◌+◌, ◌-◌, ◌/◌, ℕ, arith}
+use Rattle.std.proofs.Common.{◌+◌, ◌-◌, ◌/◌, ℕ, arith}
 use Rattle.spf_tree.proofs.SearchLemmas.{left_by, right_by}
 use Rattle.spf_tree.proofs.TableLemmas.{targets_rise}
 use Rattle.spf_tree.proofs.table.first_pair.Goals as goal

@@ -1,4 +1,4 @@
-use Rattle.std.proofs.Common.{◌∙◌, ◌+◌, ◌++◌, ◌∷◌, [], List, ℕ, ap, sym, subst, arith}
+use Rattle.std.proofs.Common.{◌∙◌, ◌+◌, ◌++◌, ◌∷◌, [], List, ℕ, ap, sym, subst}
 use Rattle.spf_tree.specs.Exploring.{AreHopsOf}
 use Rattle.spf_tree.proofs.TableLemmas.{hops_more, hops_done, past_first}
 use Rattle.spf_tree.proofs.table.hops_beside.Goals as goal

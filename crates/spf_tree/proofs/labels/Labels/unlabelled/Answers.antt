@@ -1,5 +1,4 @@
 use Rattle.std.proofs.Common.{◌∙◌, ℕ, List, ap, subst, map, sym}
-use Rattle.std.specs.List.{Contains}
 use Rattle.spf_tree.specs.declared.label.Label.{Label}
 use Rattle.spf_tree.specs.Labels.{at, IsRising, unknown}
 use Rattle.spf_tree.proofs.LabelLemmas.{rising_unknown, some_unknown, at_unknown}
