@@ -281,3 +281,22 @@ exchanged_counts rows removed added out come merged found q of_out of_come x =
     let all_come = times_all come (length come) q (omega arith) in
     let moved = moved_times added come q of_come in
     omega arith
+
+-- ---- one row that is there
+
+times_some : (rows : List Row) (q : Row) (k : ℕ) (d : Row) → k < length rows → same_row q (get_or rows k d) ≡ true → 1 ≤ times rows q
+times_some [] q k d l e = absurd (omega arith)
+times_some (x ∷ rows) q zero d l e = let split = times_cons q x rows in let one = bit_one (same_row q x) e in omega arith
+times_some (x ∷ rows) q (suc k) d l e = let rest = times_some rows q k d (omega arith) e in let split = times_cons q x rows in omega arith
+
+pub one_there : (rows : List Row) (i : ℕ) (row q d : Row) → i < length rows → row ≡ get_or rows i d → times (row ∷ []) q ≤ times rows q
+one_there rows i row q d in' is =
+    let split = times_cons q row [] in
+    let empty : times [] q ≡ 0 = refl in
+    elim (cases_Bool (same_row q row)) [
+      | inl y ↦
+          let one = bit_one (same_row q row) y in
+          let some = times_some rows q i d in' (ap (same_row q) (sym is) ∙ y) in
+          omega arith
+      | inr z ↦ let none = bit_none (same_row q row) z in omega arith
+    ]

@@ -20,3 +20,6 @@ mod steps;
 
 pub use repaired::Repaired;
 pub use steps::Steps;
+
+#[cfg(test)]
+mod tests;
