@@ -8,7 +8,7 @@ import hashlib
 import hmac
 import struct
 
-LENGTHS = [0, 1, 55, 56, 63, 64, 65, 119, 128, 1492]
+LENGTHS = [0, 64, 65]
 AREA, DOMAIN, LINK = b"area key", b"\x00" * 20, bytes(range(70))
 SYSTEM = bytes.fromhex("000000000001")
 PROTOCOLS = b"\x81\x01\xcc"

@@ -1,3 +1,4 @@
+-- Each fault comes just where its cause stands.
 use Rattle.std.proofs.Common.{◌≡◌, ◌≢◌, ◌∙◌, ℕ, ◌+◌, List, length, take, drop, get_or, Bool, true, false, cond, not, eqb, ◌&&◌, ◌↔◌, Option, Some, None, Result, Ok, Err, refl, sym, ap, subst}
 use Rattle.std.specs.Prelude.{Any, IsSomeAnd, IsOk}
 use Rattle.std.specs.List.{list_any}

@@ -1,3 +1,4 @@
+-- The pieces of a PDU are the octets that its digest is taken of.
 use Rattle.std.proofs.Common.{◌≡◌, ◌∙◌, ℕ, ◌+◌, ◌-◌, ◌≤◌, List, [], ◌++◌, length, take, drop, replicate, Bool, true, false, cond, sym, ap, arith, append-nil}
 use Rattle.std.proofs.lemmas.List.{take-take, take-append-le, drop-append-le, drop-take, take_rest, length-take-le}
 use Rattle.hmac_auth.specs.Pdus.{is_lsp, with_piece, zeroed, blanked}

@@ -1,3 +1,4 @@
+-- A digest written into its place.
 use Rattle.std.proofs.Common.{◌≡◌, ◌∙◌, ℕ, ◌+◌, ◌-◌, ◌<◌, ◌≤◌, List, [], ◌∷◌, ◌++◌, length, take, drop, get_or, Bool, true, false, cond, not, eqb, ◌&&◌, ◌||◌, Some, None, Result, Ok, Err, refl, sym, ap, arith, append_assoc, length-append, length-drop}
 use Rattle.std.specs.Prelude.{find}
 use Rattle.std.specs.List.{list_any}

@@ -1,3 +1,4 @@
+-- A PDU that was signed passes.
 use Rattle.std.proofs.Common.{◌≡◌, ◌∙◌, ℕ, ◌+◌, ◌-◌, ◌*◌, ◌%◌, ◌≤◌, List, ◌++◌, length, take, drop, replicate, Bool, true, cond, eqb, ◌&&◌, ◌||◌, Some, None, Ok, sym, ap, subst, arith}
 use Rattle.std.specs.Prelude.{find}
 use Rattle.std.specs.List.{list_any}
@@ -8,7 +9,10 @@ use Rattle.isis_tlv.specs.Tlvs.{tlvs_of, tlv_list}
 use Rattle.isis_tlv.proofs.TlvLemmas.{fault-anywhere}
 use Rattle.hmac_auth.specs.declared.fault.AuthFault.TheVariants.{PurgeBody, Wrong}
 use Rattle.hmac_auth.specs.Hmac.{hmac}
-use Rattle.hmac_auth.specs.Pdus.{IsPdu, pdu_type, header_length, is_lsp, is_purge, with_piece, zeroed, blanked}
+use Rattle.isis_tlv.specs.Framed.{IsPdu}
+use Rattle.std.specs.Option.{option_map}
+use Rattle.isis_base.specs.PduKinds.{header_length, kind_of_number}
+use Rattle.hmac_auth.specs.Pdus.{pdu_type, is_lsp, is_purge, with_piece, zeroed, blanked}
 use Rattle.hmac_auth.specs.Auth.{HasDigest, place_in, digest_place, IsDigestPlace, has_purge_body, has_digest, fault_at, auth_fault}
 use Rattle.hmac_auth.proofs.HmacLemmas.{length-hmac}
 use Rattle.hmac_auth.proofs.PduLemmas.{header-least, lsp-behind}
@@ -81,7 +85,7 @@ module _ (d pdu : List ℕ) (place : ℕ) (sixteen : length d ≡ 16) where
         let long = piece-length d pdu place (omega (arith, b.1)) in
         let within = is.within in
         record {
-          kind = ap header_length (same-type (omega (arith, b.0)) b.1) ∙ is.kind;
+          kind = ap (λ (n : ℕ). option_map header_length (kind_of_number n)) (same-type (omega (arith, b.0)) b.1) ∙ is.kind;
           within = omega arith;
           tlvs = ap (λ (s : List ℕ). fault_of (tlvs_of 0 s)) same-body ∙ fault-anywhere (with_piece (place - header) d (drop header pdu)) header 0 kept.tlvs;
         }

@@ -1,3 +1,4 @@
+-- When a PDU is authentic, and when each fault comes.
 use Rattle.std.specs.Prelude.{◌≡◌, ◌≢◌, ℕ, ◌+◌, ◌==◌, ◌&&◌, not, Bool, IsTrue, List, length, take, drop, slice_index, Option, Some, None, Result, Ok, Err, IsSomeAnd, Any, find, if◌then◌else◌}
 use Rattle.std.specs.List.{list_any}
 use Rattle.std.specs.Str.{bytes_eq}
@@ -5,7 +6,8 @@ use Rattle.isis_tlv.specs.Tlvs.{TlvView, tlv_list}
 use Rattle.hmac_auth.specs.declared.fault.AuthFault.{AuthFault}
 use Rattle.hmac_auth.specs.declared.fault.AuthFault.TheVariants.{Missing, OtherType, PurgeBody, Wrong}
 use Rattle.hmac_auth.specs.Hmac.{hmac}
-use Rattle.hmac_auth.specs.Pdus.{IsPdu, is_purge, blanked}
+use Rattle.isis_tlv.specs.Framed.{IsPdu}
+use Rattle.hmac_auth.specs.Pdus.{is_purge, blanked}
 
 -- the TLVs behind the header (ISO 10589 9)
 abbrev pub pdu_tlvs : List ℕ → ℕ → List TlvView

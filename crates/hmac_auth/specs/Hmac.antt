@@ -1,3 +1,4 @@
+-- HMAC over MD5 (RFC 2104).
 use Rattle.std.specs.Prelude.{ℕ, ◌-◌, nat_lt, List, ◌++◌, length, map, replicate, bit_xor, if◌then◌else◌}
 use Rattle.md5.specs.Md5.{md5}
 

@@ -1,3 +1,4 @@
 pub mod Hmac
 pub mod Pdus
 pub mod Auth
+pub mod Faults

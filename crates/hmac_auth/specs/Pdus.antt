@@ -1,26 +1,10 @@
+-- LSPs and purges, and the octets that a digest is taken of.
 use Rattle.std.specs.Prelude.{◌≡◌, ℕ, ◌+◌, ◌%◌, ◌≤◌, ◌==◌, ◌&&◌, ◌||◌, Bool, List, ◌++◌, length, take, drop, replicate, slice_index, Option, Some, None, if◌then◌else◌}
-use Rattle.isis_tlv.specs.Numbers.{two_at}
-use Rattle.isis_tlv.specs.Tlvs.{AreTlvs}
+use Rattle.isis_base.specs.Fields.{u16_at}
 
 -- the type of a PDU: the low five bits of the octet at 4 (ISO 10589 9)
 abbrev pub pdu_type : List ℕ → ℕ
 pdu_type pdu = slice_index pdu 4 % 32
-
--- the length of the header by type: LAN hellos, point-to-point hello, LSPs, CSNPs, PSNPs (ISO 10589 9)
-unfoldable pub header_length : ℕ → Option ℕ
-header_length kind =
-    if (kind == 15) || (kind == 16) then Some 27
-    else (if kind == 17 then Some 20
-    else (if (kind == 18) || (kind == 20) then Some 27
-    else (if (kind == 24) || (kind == 25) then Some 33
-    else (if (kind == 26) || (kind == 27) then Some 17
-    else None))))
-
--- the octets have the header of their type, and behind it TLVs to their end (ISO 10589 9)
-pub record IsPdu (pdu : List ℕ) (header : ℕ) : Type 0 where
-  pub kind : header_length (pdu_type pdu) ≡ Some header
-  pub within : header ≤ length pdu
-  pub tlvs : AreTlvs (drop header pdu)
 
 -- an LSP of level 1 or 2 (ISO 10589 9)
 abbrev pub is_lsp : List ℕ → Bool
@@ -28,7 +12,7 @@ is_lsp pdu = (pdu_type pdu == 18) || (pdu_type pdu == 20)
 
 -- an LSP whose remaining lifetime, at 10, is 0 (ISO 10589 7.3.16.4)
 abbrev pub is_purge : List ℕ → Bool
-is_purge pdu = is_lsp pdu && (two_at 10 pdu == 0)
+is_purge pdu = is_lsp pdu && (u16_at 10 pdu == 0)
 
 -- the octets with these from a place on (own)
 abbrev pub with_piece : ℕ → List ℕ → List ℕ → List ℕ

@@ -1,7 +1,9 @@
+//! Whether a PDU is authentic, or which fault it has.
 ghost use Rattle.std.specs.Prelude.{◌≡◌, ◌+◌, ◌≤◌, ◌↔◌, length, IsTrue, IsOk, Err};
 ghost use Rattle.std.specs.Result.{result_err};
 ghost use Rattle.std.specs.Str.{bytes_eq};
-ghost use Rattle.hmac_auth.specs.Pdus.{IsPdu, is_lsp};
+ghost use Rattle.isis_tlv.specs.Framed.{IsPdu};
+ghost use Rattle.hmac_auth.specs.Pdus.{is_lsp};
 ghost use Rattle.hmac_auth.specs.Auth.{AuthCause, IsAuthentic, auth_fault, has_purge_body, has_digest};
 ghost use Rattle.hmac_auth.specs.declared.fault.AuthFault.{AuthFault};
 

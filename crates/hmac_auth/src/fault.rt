@@ -1,3 +1,4 @@
+//! Why a PDU isn't authentic.
 use std::error::Error;
 use std::fmt;
 
@@ -15,14 +16,18 @@ pub enum AuthFault {
 }
 
 impl fmt::Display for AuthFault {
+    ghost use Rattle.std.specs.Prelude.{Some};
+    ghost use Rattle.hmac_auth.specs.Faults.{fault_text};
+
+    ghost output = { λ fault. Some (fault_text fault) };
+
     fn fmt<W: fmt::Write>(&self, f: &mut fmt::Formatter<W>) -> fmt::Result {
-        let words = match self {
-            AuthFault::Missing => "the PDU has no authentication",
-            AuthFault::OtherType => "the authentication isn't HMAC-MD5",
-            AuthFault::PurgeBody => "a purge has more than its authentication",
-            AuthFault::Wrong => "the digest isn't that of the PDU under the key",
-        };
-        f.write_str(words)
+        match self {
+            AuthFault::Missing => write!(f, "the PDU has no authentication"),
+            AuthFault::OtherType => write!(f, "the authentication isn't HMAC-MD5"),
+            AuthFault::PurgeBody => write!(f, "a purge has more than its authentication"),
+            AuthFault::Wrong => write!(f, "the digest isn't that of the PDU under the key"),
+        }
     }
 }
 

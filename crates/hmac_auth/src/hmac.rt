@@ -1,3 +1,4 @@
+//! HMAC over MD5, of a message in pieces.
 ghost use Rattle.std.specs.Prelude.{◌≡◌, map};
 ghost use Rattle.std.specs.List.{concat};
 ghost use Rattle.hmac_auth.specs.Hmac.{hmac, key_block, padded};

@@ -1,8 +1,10 @@
+//! The message that a PDU's digest is taken of.
 ghost use Rattle.std.specs.Prelude.{◌≡◌, ◌+◌, ◌<◌, ◌≤◌, length, IsTrue};
 ghost use Rattle.hmac_auth.specs.Hmac.{hmac};
 ghost use Rattle.hmac_auth.specs.Pdus.{is_lsp, is_purge, blanked};
 
 use crate::hmac::digest_of_pieces;
+use isis_base::fields::u16_at;
 
 /// The number of octets of a digest.
 pub(crate) const DIGEST: usize = 16;
@@ -41,8 +43,7 @@ pub(crate) fn is_purge(pdu: &[u8]) -> bool
     requires { 16 < length pdu.now }
     ensures { result ≡ is_purge pdu.now }
 {
-    let lifetime = u16::from_be_bytes([pdu[LIFETIME], pdu[LIFETIME + 1]]);
-    is_lsp(pdu) && lifetime == 0
+    is_lsp(pdu) && u16_at(pdu, LIFETIME) == 0
 }
 
 /// The digest under the key that belongs at a place of the PDU.

@@ -1,3 +1,4 @@
+//! Where a PDU's digest stands.
 ghost use Rattle.std.specs.Prelude.{◌≡◌, ◌+◌, ◌≤◌, length, IfOk};
 ghost use Rattle.std.specs.Option.{option_map};
 ghost use Rattle.isis_tlv.specs.TlvViews.{one_view};

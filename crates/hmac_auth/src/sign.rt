@@ -1,6 +1,8 @@
+//! A PDU signed.
 ghost use Rattle.std.specs.Prelude.{◌≡◌, ℕ, ◌+◌, ◌≤◌, length, Some, None, if◌then◌else◌};
 ghost use Rattle.hmac_auth.specs.Hmac.{hmac};
-ghost use Rattle.hmac_auth.specs.Pdus.{IsPdu, with_piece, blanked};
+ghost use Rattle.isis_tlv.specs.Framed.{IsPdu};
+ghost use Rattle.hmac_auth.specs.Pdus.{with_piece, blanked};
 ghost use Rattle.hmac_auth.specs.Auth.{IsDigestPlace, HasDigest, auth_fault, has_purge_body};
 ghost use Rattle.hmac_auth.specs.declared.fault.AuthFault.TheVariants.{PurgeBody};
 

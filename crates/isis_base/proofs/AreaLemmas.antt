@@ -1,4 +1,5 @@
-use Rattle.std.proofs.Common.{◌≡◌, ℕ, zero, suc, ◌+◌, ◌*◌, ◌/◌, ◌-◌, ◌<◌, ◌≤◌, Bool, true, false, cond, eqb, ltb, List, [], ◌∷◌, ◌++◌, length, take, Option, Some, None, Result, Ok, Err, refl, sym, ap, ◌∙◌, subst, arith, inl, inr, append_assoc, lit<, zero-add}
+-- Area addresses' texts: their forms by length, what is read of them and where they go wrong.
+use Rattle.std.proofs.Common.{◌≡◌, ℕ, zero, suc, ◌+◌, ◌*◌, ◌/◌, ◌-◌, ◌<◌, ◌≤◌, Bool, true, false, cond, eqb, ltb, List, [], ◌∷◌, ◌++◌, length, take, Option, Some, None, Result, Ok, Err, refl, sym, ap, ◌∙◌, subst, arith, inl, inr, append_assoc, lit<, zero-add, max, min}
 use Rattle.std.specs.Char.{digit_value}
 use Rattle.std.specs.List.{AllByRecursion}
 use Rattle.std.specs.Str.{str_to_ascii_lowercase}
@@ -7,10 +8,10 @@ use Rattle.isis_base.specs.declared.parts.Part.{Part}
 use Rattle.isis_base.specs.declared.parts.Part.TheVariants.{Octet, Mark}
 use Rattle.isis_base.specs.declared.area_text.TheConstants.{AREA_TEXT}
 use Rattle.isis_base.specs.Texts.{spelled, octet_count, Spells, IsFaultAt}
-use Rattle.isis_base.specs.AreaTexts.{groups_text, area_text, SpellsArea, IsArea}
-use Rattle.isis_base.specs.Misfit.{later, pair_of, after_pair, misfit_of, octets_of}
+use Rattle.isis_base.specs.AreaTexts.{groups_text, area_text, SpellsArea, IsArea, octets_of_length, area_of}
+use Rattle.isis_base.specs.Misfit.{later, pair_of, after_pair, misfit_of, octets_of, unless_misfit, text_octets}
 use Rattle.isis_base.proofs.MisfitLemmas.{later-none, misfit_of-longest, misfit_of-goes_on, misfit_of-within, blank, misfit_of-blank, never-none}
-use Rattle.isis_base.proofs.SpellingLemmas.{HasPlainMarks, Spells-from_misfit, Spells-fits, Spells-one, Spells-spelled}
+use Rattle.isis_base.proofs.SpellingLemmas.{HasPlainMarks, Spells-from_misfit, Spells-fits, Spells-one, Spells-spelled, text_octets-spelled}
 
 -- the form of the groups of n octets
 abbrev pub group_form : ℕ → List Part
@@ -258,3 +259,30 @@ SpellsArea-written octets some fits small =
     let n = length octets in
     let s = Spells-spelled (area_form n) octets (area_form-plain n) small (sym (area_form-count n)) in
     subst (λ (text : List ℕ). SpellsArea text octets) (area-spelled octets) (SpellsArea-from_form n (spelled (area_form n) octets) octets some fits s)
+
+-- the number of octets by the text's length
+pub octets_of_length-count : (long : ℕ) → IsCount long (octets_of_length long)
+octets_of_length-count long = record { some = omega arith; fits = omega arith; no_shorter = λ h. omega arith; least = λ h. omega arith }
+
+-- a text that doesn't fit the form of its length spells no area address
+pub area_of-misfit : (text : List ℕ) (place : ℕ) (parts : List Part) → parts ≡ take (octets_of_length (length text) + octets_of_length (length text) / 2) AREA_TEXT → Some place ≡ misfit_of parts text → None ≡ area_of text
+unfolding area_of text_octets
+area_of-misfit text place parts form e =
+    ap (λ (o : Option ℕ). unless_misfit o (octets_of parts text)) e ∙ ap (λ (p : List Part). text_octets p text) form
+
+-- one that fits spells the octets of its digits
+pub area_of-octets : (text octets : List ℕ) (parts : List Part) → parts ≡ take (octets_of_length (length text) + octets_of_length (length text) / 2) AREA_TEXT → None ≡ misfit_of parts text → octets ≡ octets_of parts text → Some octets ≡ area_of text
+unfolding area_of text_octets
+area_of-octets text octets parts form fits e =
+    ap Some e ∙ ap (λ (o : Option ℕ). unless_misfit o (octets_of parts text)) fits ∙ ap (λ (p : List Part). text_octets p text) form
+
+-- a text that spells an area address is read as it
+pub area_of-spelled : (text octets : List ℕ) → SpellsArea text octets → area_of text ≡ Some octets
+unfolding area_of
+area_of-spelled text octets s =
+    let count = octets_of_length-count (length text) in
+    let n = octets_of_length (length text) in
+    let m = length octets in
+    let same : m ≡ n = IsCount-one (length text) n m count s.some s.fits (area-length text octets s) in
+    let form : take (n + n / 2) AREA_TEXT ≡ area_form m = form-front n count.some count.fits ∙ ap area_form (sym same) in
+    ap (λ (p : List Part). text_octets p text) form ∙ text_octets-spelled (area_form m) text octets (area_form-plain m) (Spells-from_area text octets s)

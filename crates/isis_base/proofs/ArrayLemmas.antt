@@ -1,7 +1,10 @@
-use Rattle.std.proofs.Common.{◌≡◌, ◌<◌, ℕ, zero, suc, List, [], ◌∷◌, length, get_or, refl, sym, ap, ◌∙◌, subst, arith, ◌++◌}
+-- Identifiers and the octets of their arrays.
+use Rattle.std.proofs.Common.{◌≡◌, ◌<◌, ℕ, zero, suc, List, [], ◌∷◌, length, get_or, refl, sym, ap, ◌∙◌, subst, arith, ◌++◌, length-append}
 use Rattle.std.specs.List.{AllByRecursion}
 use Rattle.isis_base.specs.declared.identifiers.LspId.{LspId}
-use Rattle.isis_base.specs.Identifiers.{lsp_octets, lsp_from}
+use Rattle.std.specs.Int.{to_be_bytes, from_be_bytes, w64}
+use Rattle.std.proofs.lemmas.Nat.{be_bytes_8}
+use Rattle.isis_base.specs.Identifiers.{IsId, lsp_number, lsp_octets, lsp_from}
 
 -- a list of a known length is its elements
 pub list_of_6 : (xs : List ℕ) → length xs ≡ 6 → get_or xs 0 0 ∷ get_or xs 1 0 ∷ get_or xs 2 0 ∷ get_or xs 3 0 ∷ get_or xs 4 0 ∷ get_or xs 5 0 ∷ [] ≡ xs
@@ -50,3 +53,15 @@ pub small-at : (xs : List ℕ) → AllByRecursion (λ x. x < 256) xs → (i : �
 small-at [] h i = omega arith
 small-at (x ∷ xs) h zero = h.0
 small-at (x ∷ xs) h (suc i) = small-at xs h.1 i
+
+-- LSP IDs of one number are one
+pub lsp_number-one : (a b : LspId) → IsId a → IsId b → lsp_number a ≡ lsp_number b → a ≡ b
+unfolding lsp_number
+lsp_number-one a b p q same =
+    let six = p.six in
+    let other_six = q.six in
+    let eight : length (lsp_octets a) ≡ 8 = omega (arith, length-append a.node.system.0 (a.node.pseudonode ∷ []), length-append (a.node.system.0 ++ a.node.pseudonode ∷ []) (a.number ∷ [])) in
+    let other_eight : length (lsp_octets b) ≡ 8 = omega (arith, length-append b.node.system.0 (b.node.pseudonode ∷ []), length-append (b.node.system.0 ++ b.node.pseudonode ∷ []) (b.number ∷ [])) in
+    let of_a : to_be_bytes w64 (lsp_number a) ≡ lsp_octets a = be_bytes_8 (lsp_octets a) (lsp_number a) eight (small-at (lsp_octets a) p.small) refl in
+    let of_b : to_be_bytes w64 (lsp_number b) ≡ lsp_octets b = be_bytes_8 (lsp_octets b) (lsp_number b) other_eight (small-at (lsp_octets b) q.small) refl in
+    lsp-same a b p.six q.six (sym of_a ∙ ap (to_be_bytes w64) same ∙ of_b)

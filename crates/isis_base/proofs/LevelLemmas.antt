@@ -1,11 +1,14 @@
-use Rattle.std.proofs.Common.{◌≡◌, ℕ, zero, suc, ◌+◌, ◌≤◌, Bool, true, false, cond, List, [], ◌∷◌, ◌++◌, length, take, drop, max, nat_eq, codes, refl, sym, ap, ◌∙◌, subst, arith, inl, inr, one-add}
+-- The texts of sets of levels.
+use Rattle.std.proofs.Common.{◌≡◌, ℕ, zero, suc, ◌+◌, ◌≤◌, Bool, true, false, cond, List, [], ◌∷◌, ◌++◌, length, take, drop, max, nat_eq, codes, Option, Some, None, refl, sym, ap, ◌∙◌, subst, arith, inl, inr, one-add}
 use Rattle.std.specs.List.{common_prefix_len}
 use Rattle.std.proofs.lemmas.Bool.{eqb-true, eq-eqb, cases_lt}
 use Rattle.std.proofs.lemmas.List.{take-append-drop}
 use Rattle.std.proofs.lemmas.List.Sums.{common_prefix_len-le}
 use Rattle.isis_base.specs.declared.level.LevelSet.{LevelSet}
 use Rattle.isis_base.specs.declared.level.LevelSet.TheVariants.{One, Two, Both}
-use Rattle.isis_base.specs.Levels.{levels_text, IsLevels}
+use Rattle.std.specs.Str.{bytes_eq}
+use Rattle.std.proofs.lemmas.Slice.Eq.{bytes_eq-Decides}
+use Rattle.isis_base.specs.Levels.{levels_text, levels_of, IsLevels}
 use Rattle.isis_base.specs.Texts.{IsFaultAt}
 
 abbrev common : List ℕ → List ℕ → ℕ
@@ -75,3 +78,28 @@ IsFaultAt-levels text place e none =
     bound One n h = let longer = common-longer (codes "L1") (codes "L2") text in omega arith
     bound Two n h = omega arith
     bound Both n h = omega arith
+
+same-text : (text word : List ℕ) → bytes_eq text word ≡ true → text ≡ word
+same-text text word e = grind (arith, bytes_eq-Decides text word)
+
+-- the set that a text is read as has this text
+pub levels_of-text : (text : List ℕ) (set : LevelSet) → levels_of text ≡ Some set → text ≡ levels_text set
+levels_of-text text set e = by_one (bytes_eq text (codes "L1")) refl e
+  where
+    by_both : (t : Bool) → bytes_eq text (codes "L1L2") ≡ t → cond t (Some Both) None ≡ Some set → text ≡ levels_text set
+    by_both true t e = let is : Both ≡ set = cc in same-text text (codes "L1L2") t ∙ ap levels_text is
+    by_both false t e = cc
+
+    by_two : (t : Bool) → bytes_eq text (codes "L2") ≡ t → cond t (Some Two) (cond (bytes_eq text (codes "L1L2")) (Some Both) None) ≡ Some set → text ≡ levels_text set
+    by_two true t e = let is : Two ≡ set = cc in same-text text (codes "L2") t ∙ ap levels_text is
+    by_two false t e = by_both (bytes_eq text (codes "L1L2")) refl e
+
+    by_one : (t : Bool) → bytes_eq text (codes "L1") ≡ t → cond t (Some One) (cond (bytes_eq text (codes "L2")) (Some Two) (cond (bytes_eq text (codes "L1L2")) (Some Both) None)) ≡ Some set → text ≡ levels_text set
+    by_one true t e = let is : One ≡ set = cc in same-text text (codes "L1") t ∙ ap levels_text is
+    by_one false t e = by_two (bytes_eq text (codes "L2")) refl e
+
+-- a set's text is read as it
+pub levels_of-written : (set : LevelSet) → levels_of (levels_text set) ≡ Some set
+levels_of-written One = refl
+levels_of-written Two = refl
+levels_of-written Both = refl

@@ -6,3 +6,4 @@ pub mod MisfitLemmas
 pub mod OrderLemmas
 pub mod SpellingLemmas
 pub mod PrefixLemmas
+pub mod PrefixValues

@@ -1,3 +1,4 @@
+-- Prefixes' texts, octet by octet.
 use Rattle.std.proofs.Common.{◌≡◌, ◌≢◌, ℕ, zero, suc, ◌+◌, ◌*◌, ◌/◌, ◌%◌, ◌^◌, ◌-◌, ◌<◌, ◌≤◌, Bool, true, false, ◌&&◌, cond, eqb, ltb, leb, List, [], ◌∷◌, ◌++◌, length, take, drop, set, get_or, map, decimal, Option, Some, None, option_and_then, refl, sym, ap, ◌∙◌, subst, arith, inl, inr, append_assoc, append-nil, add-one, lit<, lit≤}
 use Rattle.std.specs.List.{AllByRecursion, join_with_byte}
 use Rattle.std.specs.Char.{is_ascii_digit}
@@ -9,7 +10,7 @@ use Rattle.std.proofs.Math.Seq.{take-length}
 use Rattle.std.proofs.lemmas.Nat.{mod-pow-add, be_bytes_4, from_be_bytes-to_be_bytes_4}
 use Rattle.std.proofs.lemmas.Fmt.{decimal_digit, decimal_step}
 use Rattle.isis_base.specs.declared.prefix_text.Front.{Front}
-use Rattle.isis_base.specs.PrefixFronts.{address_of, is_clear, longest, with_digit, may_stand, mark_behind, after_digit, after_mark, after_byte, after_text, ends_text, ends_prefix, no_front}
+use Rattle.isis_base.specs.PrefixFronts.{address_of, is_clear, longest, with_digit, may_stand, mark_behind, after_digit, after_mark, after_byte, after_text, ends_text, ends_prefix, no_front, parts_of_front, prefix_parts}
 use Rattle.isis_base.specs.PrefixTexts.{SpellsPrefix, IsPrefix}
 use Rattle.isis_base.specs.Texts.{IsFaultAt}
 
@@ -545,13 +546,20 @@ taken (x ∷ text) (suc place) (suc n) byte h at below =
 never-prefix : (text : List ℕ) → after_text no_front text ≡ None → IsPrefix text → ⊥
 never-prefix text e (address, long, s) = let whole = reads_prefix text address long s in cc
 
+-- such an octet of a text
+split-at : (text : List ℕ) (place byte : ℕ) → place < length text → get_or text place 0 ≡ byte → take place text ++ byte ∷ drop (place + 1) text ≡ text
+split-at text place byte within at =
+    ap (λ (b : ℕ). take place text ++ b ∷ drop (place + 1) text) (sym at) ∙ ap (λ (t : List ℕ). take place text ++ t) (sym (drop_more text place 0 within)) ∙ take-append-drop place text
+
+pub after_text-stuck : (text : List ℕ) (place byte : ℕ) (f : Front) → place < length text → get_or text place 0 ≡ byte → after_text no_front (take place text) ≡ Some f → after_byte f byte ≡ None → after_text no_front text ≡ None
+after_text-stuck text place byte f within at e none =
+    ap (after_text no_front) (sym (split-at text place byte within at)) ∙ stuck (take place text) byte (drop (place + 1) text) f e none
+
 -- where the first such octet stands is the fault
 pub IsFaultAt-byte : (text : List ℕ) (place byte : ℕ) (f : Front) → place < length text → get_or text place 0 ≡ byte → after_text no_front (take place text) ≡ Some f → after_byte f byte ≡ None → IsFaultAt IsPrefix text place
 IsFaultAt-byte text place byte f within at e none =
-    let parts : take place text ++ byte ∷ drop (place + 1) text ≡ text =
-    ap (λ (b : ℕ). take place text ++ b ∷ drop (place + 1) text) (sym at) ∙ ap (λ (t : List ℕ). take place text ++ t) (sym (drop_more text place 0 within)) ∙ take-append-drop place text in
     record {
-      none = never-prefix text (ap (after_text no_front) (sym parts) ∙ stuck (take place text) byte (drop (place + 1) text) f e none);
+      none = never-prefix text (after_text-stuck text place byte f within at e none);
       within = omega arith;
       begins = begins-prefix (take place text) f e;
       longest = λ n more h p. elim (cases_lt place n) [
@@ -580,3 +588,11 @@ pub read-whole : (text : List ℕ) (place : ℕ) (f : Front) → place ≤ lengt
 read-whole text place f h k e =
     let all : place ≡ length text = omega arith in
     ap (after_text no_front) (sym (ap (λ (n : ℕ). take n text) all ∙ take-length text)) ∙ e
+
+-- a text that spells a prefix is read as it
+pub prefix_parts-spelled : (text : List ℕ) (address long : ℕ) → SpellsPrefix text address long → prefix_parts text ≡ Some (address, long)
+prefix_parts-spelled text address long s =
+    let octets = to_be_bytes w32 address in
+    ap (option_and_then parts_of_front) (reads_prefix text address long s)
+    ∙ ap (λ (t : Bool). cond t (Some (address_of octets, long)) None) (ends_there address long s.small s.fits s.clear)
+    ∙ ap (λ (a : ℕ). Some (a, long)) (address_of-octets address s.small)

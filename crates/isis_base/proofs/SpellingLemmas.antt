@@ -1,3 +1,4 @@
+-- What is written into a form reads back.
 use Rattle.std.proofs.Common.{◌≡◌, ℕ, ◌+◌, ◌*◌, ◌/◌, ◌%◌, ◌<◌, Bool, true, false, cond, eqb, ltb, List, [], ◌∷◌, ◌++◌, length, take, Option, Some, None, Result, Ok, Err, refl, sym, ap, ◌∙◌, arith}
 use Rattle.std.specs.Char.{digit_value, digit_char, to_ascii_lowercase}
 use Rattle.std.specs.Str.{str_to_ascii_lowercase}

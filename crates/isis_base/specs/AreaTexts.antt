@@ -1,6 +1,9 @@
-use Rattle.std.specs.Prelude.{◌≡◌, ℕ, ◌<◌, ◌≤◌, List, [], ◌∷◌, ◌++◌, length, codes}
+-- The texts of area addresses.
+use Rattle.std.specs.Prelude.{◌≡◌, ℕ, ◌+◌, ◌*◌, ◌/◌, ◌<◌, ◌≤◌, max, min, List, [], ◌∷◌, ◌++◌, length, take, Option, codes}
 use Rattle.std.specs.List.{AllByRecursion}
 use Rattle.std.specs.Str.{str_to_ascii_lowercase}
+use Rattle.isis_base.specs.declared.area_text.TheConstants.{AREA_TEXT}
+use Rattle.isis_base.specs.Misfit.{text_octets}
 use Rattle.isis_base.specs.Texts.{hex_pair}
 
 -- the groups behind an area's first octet: a dot and two octets each, of which the last may have one (own)
@@ -24,3 +27,12 @@ pub record SpellsArea (text octets : List ℕ) : Type 0 where
 -- the text is that of an area address
 abbrev pub IsArea : List ℕ → Type 0
 IsArea text = (octets : List ℕ) × SpellsArea text octets
+
+-- how many octets an area address has whose text has this length: the least number n from 1 to 13 whose texts, of
+-- 2 n + n / 2 characters, are no shorter
+abbrev pub octets_of_length : ℕ → ℕ
+octets_of_length long = max ((2 * min long 32 + 4) / 5) 1
+
+-- the area address that a text spells; nothing where it spells none
+unfoldable pub area_of : List ℕ → Option (List ℕ)
+area_of text = let count = octets_of_length (length text) in text_octets (take (count + count / 2) AREA_TEXT) text

@@ -1,4 +1,6 @@
-use Rattle.std.specs.Prelude.{ℕ, List, [], ◌∷◌, ◌++◌, take, slice_index}
+-- Node IDs and LSP IDs as octets, and LSP IDs as numbers.
+use Rattle.std.specs.Prelude.{◌≡◌, ℕ, ◌<◌, List, [], ◌∷◌, ◌++◌, length, take, slice_index}
+use Rattle.std.specs.List.{AllByRecursion}
 use Rattle.std.specs.Int.{from_be_bytes, w64}
 use Rattle.isis_base.specs.declared.identifiers.SystemId.{SystemId}
 use Rattle.isis_base.specs.declared.identifiers.NodeId.{NodeId}
@@ -11,6 +13,11 @@ node_octets node = node.system.0 ++ node.pseudonode ∷ []
 -- the eight octets of an LSP ID: the node ID and the LSP number (ISO 10589 9.8)
 abbrev pub lsp_octets : LspId → List ℕ
 lsp_octets id = node_octets id.node ++ id.number ∷ []
+
+-- what an LSP ID of the program is: a system ID of six octets, and each octet is below 256 (own)
+pub record IsId (id : LspId) : Type 0 where
+  pub six : length id.node.system.0 ≡ 6
+  pub small : AllByRecursion (λ octet. octet < 256) (lsp_octets id)
 
 -- an LSP ID as a number: its eight octets, the first one the greatest
 unfoldable pub lsp_number : LspId → ℕ

@@ -1,3 +1,4 @@
+-- Which of two keys is newer, and the newer of two.
 use Rattle.std.specs.Prelude.{◌≡◌, ℕ, ◌+◌, ◌*◌, ◌<◌, nat_lt, Option, Some, None, if◌then◌else◌, List, codes}
 use Rattle.isis_base.specs.declared.key.Key.{Key}
 use Rattle.isis_base.specs.declared.order.Order3.{Order3}

@@ -1,4 +1,6 @@
-use Rattle.std.specs.Prelude.{◌≡◌, ℕ, List, codes}
+-- The texts of levels and of sets of levels.
+use Rattle.std.specs.Prelude.{◌≡◌, ℕ, List, Option, Some, None, codes, if◌then◌else◌}
+use Rattle.std.specs.Str.{bytes_eq}
 use Rattle.isis_base.specs.declared.level.Level.{Level}
 use Rattle.isis_base.specs.declared.level.Level.TheVariants as level
 use Rattle.isis_base.specs.declared.level.LevelSet.{LevelSet}
@@ -18,3 +20,11 @@ levels_text levels.Both = codes "L1L2"
 -- the text is that of a set of levels
 abbrev pub IsLevels : List ℕ → Type 0
 IsLevels text = (set : LevelSet) × (text ≡ levels_text set)
+
+-- the set of levels that a text is that of
+abbrev pub levels_of : List ℕ → Option LevelSet
+levels_of text =
+    if bytes_eq text (codes "L1") then Some levels.One
+    else if bytes_eq text (codes "L2") then Some levels.Two
+    else if bytes_eq text (codes "L1L2") then Some levels.Both
+    else None

@@ -1,5 +1,6 @@
 pub mod Areas
 pub mod AreaTexts
+pub mod Fields
 pub mod Identifiers
 pub mod Keys
 pub mod Lending
@@ -7,5 +8,7 @@ pub mod Levels
 pub mod Octets
 pub mod Texts
 pub mod Misfit
+pub mod Prefixes
 pub mod PrefixFronts
 pub mod PrefixTexts
+pub mod PduKinds

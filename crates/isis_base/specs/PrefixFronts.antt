@@ -1,4 +1,6 @@
+-- What the octets of a prefix's text read as, one after another.
 use Rattle.std.specs.Prelude.{ℕ, ◌+◌, ◌-◌, ◌*◌, ◌%◌, ◌^◌, ◌==◌, nat_lt, nat_le, Bool, false, ◌&&◌, ◌||◌, List, [], ◌∷◌, Option, Some, None, option_and_then, slice_set, if◌then◌else◌}
+use Rattle.std.specs.Option.{option_map}
 use Rattle.std.specs.Char.{is_ascii_digit}
 use Rattle.std.specs.Int.{from_be_bytes, w32}
 use Rattle.isis_base.specs.declared.prefix_text.Front.{Front}
@@ -61,3 +63,12 @@ ends_prefix front = ends_text front.octets front.count front.number
 -- nothing is read
 abbrev pub no_front : Front
 no_front = record { octets = 0 ∷ 0 ∷ 0 ∷ 0 ∷ []; count = 0; number = None }
+
+-- the address and the length of what is read, where it is a prefix's whole text
+abbrev pub parts_of_front : Front → Option (ℕ × ℕ)
+parts_of_front front =
+    if ends_prefix front then option_map (λ (length : ℕ). (address_of front.octets, length)) front.number else None
+
+-- the address and the length of the prefix that a text spells; nothing where it spells none
+abbrev pub prefix_parts : List ℕ → Option (ℕ × ℕ)
+prefix_parts text = option_and_then (λ (front : Front). parts_of_front front) (after_text no_front text)

@@ -1,3 +1,4 @@
+//! Area addresses.
 ghost use Rattle.std.specs.Prelude.{◌≡◌, ◌≤◌, length, IsNone, IfSome, ◌↔◌};
 
 use std::marker::Model;

@@ -1,5 +1,7 @@
-ghost use Rattle.std.specs.Prelude.{◌≡◌, ℕ, ◌+◌, ◌*◌, ◌/◌, ◌-◌, ◌<◌, ◌≤◌, List, length, IfOk, IfErr, Ok, max, min};
-ghost use Rattle.isis_base.specs.AreaTexts.{SpellsArea, IsArea};
+//! Area addresses read from their texts.
+ghost use Rattle.std.specs.Prelude.{◌≡◌, ℕ, List, IfOk, IfErr, Ok};
+ghost use Rattle.std.specs.Result.{result_ok};
+ghost use Rattle.isis_base.specs.AreaTexts.{SpellsArea, IsArea, octets_of_length, area_of};
 ghost use Rattle.isis_base.specs.Texts.{IsFaultAt};
 
 use crate::area::AreaAddress;
@@ -34,6 +36,7 @@ pub const AREA_TEXT: [Part; 19] = [
 pub fn read_area(text: &str) -> Result<AreaAddress, TextFault>
     ensures ok { IfOk result (λ area. SpellsArea text.now area) }
     ensures read { (octets : List ℕ) → SpellsArea text.now octets → result ≡ Ok octets }
+    ensures value { result_ok result ≡ area_of text.now }
     ensures err { IfErr result (λ fault. IsFaultAt IsArea text.now fault.place) }
 {
     let mut octets = [0u8; 13];
@@ -48,9 +51,7 @@ pub fn read_area(text: &str) -> Result<AreaAddress, TextFault>
 /// The number of octets of the area addresses whose texts have this length: the least whose text is no shorter,
 /// since the text of `n` octets has `2 * n + n / 2`.
 fn octets_of_length(length: usize) -> usize
-    ensures counted { (1 ≤ result) × (result ≤ 13) }
-    ensures no_shorter { result < 13 → length ≤ 2 * result + result / 2 }
-    ensures least { 1 < result → 2 * (result - 1) + (result - 1) / 2 < length }
+    ensures { result ≡ octets_of_length length }
 {
     (2 * length.min(32)).div_ceil(5).max(1)
 }

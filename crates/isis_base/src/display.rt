@@ -1,3 +1,4 @@
+//! The texts of identifiers, keys and levels, written.
 ghost use Rattle.std.specs.Prelude.{Some, ◌++◌, ◌∷◌, []};
 ghost use Rattle.isis_base.specs.Levels.{level_text, levels_text};
 ghost use Rattle.isis_base.specs.Keys.{order_text};

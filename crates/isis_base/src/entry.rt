@@ -1,3 +1,4 @@
+//! What a sequence number PDU says of one LSP.
 ghost use Rattle.std.specs.Prelude.{◌≡◌, ◌↔◌, ℕ, IsNone, IfSome, IsTrue};
 ghost use Rattle.isis_base.specs.Keys.{rank, entry_rank};
 

@@ -1,3 +1,4 @@
+//! The key of a copy of an LSP.
 ghost use Rattle.std.specs.Prelude.{◌<◌};
 
 /// What is known of one copy of an LSP: its sequence number, at least 1, and whether it is purged

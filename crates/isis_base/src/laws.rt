@@ -1,12 +1,21 @@
-ghost use Rattle.std.specs.Prelude.{◌≡◌, ◌<◌, ◌≤◌, Some, List, ℕ, length};
+//! What holds of all values: functions without a body, whose contracts are the laws.
+ghost use Rattle.std.specs.Prelude.{◌≡◌, ◌<◌, Some, List, [], ◌∷◌, ◌++◌, ℕ, Option};
+ghost use Rattle.std.specs.declared.cmp.Ordering.TheVariants.{Less, Equal, Greater};
 ghost use Rattle.std.specs.Cmp.Lexicographic.{slice_cmp};
 ghost use Rattle.std.specs.Ordering.{nat_cmp};
 ghost use Rattle.std.specs.List.{AllByRecursion};
 ghost use Rattle.std.specs.Option.{option_map};
-ghost use Rattle.isis_base.specs.Identifiers.{node_octets, lsp_octets, lsp_number, lsp_from, system_from};
-ghost use Rattle.isis_base.specs.AreaTexts.{SpellsArea, area_text};
+ghost use Rattle.isis_base.specs.Identifiers.{IsId, node_octets, lsp_octets, lsp_number, lsp_from, system_from};
+ghost use Rattle.isis_base.specs.declared.key.Key.{Key};
+ghost use Rattle.isis_base.specs.declared.level.Level.{Level};
+ghost use Rattle.isis_base.specs.declared.level.Level.TheVariants as level;
+ghost use Rattle.isis_base.specs.declared.parts.Part.TheVariants.{Octet, Mark};
+ghost use Rattle.isis_base.specs.Keys.{join_of};
+ghost use Rattle.isis_base.specs.AreaTexts.{SpellsArea, area_text, area_of};
 ghost use Rattle.isis_base.specs.declared.level.LevelSet.{LevelSet};
-ghost use Rattle.isis_base.specs.Levels.{levels_text};
+ghost use Rattle.isis_base.specs.Levels.{levels_text, levels_of};
+ghost use Rattle.isis_base.specs.Prefixes.{prefix_from};
+ghost use Rattle.isis_base.specs.PrefixFronts.{prefix_parts};
 ghost use Rattle.isis_base.specs.PrefixTexts.{SpellsPrefix, prefix_text};
 ghost use Rattle.isis_base.specs.Misfit.{text_octets};
 ghost use Rattle.isis_base.specs.declared.texts.TheConstants.{SYSTEM_TEXT, NODE_TEXT, LSP_TEXT};
@@ -14,6 +23,7 @@ ghost use Rattle.isis_base.specs.Texts.{Spells, system_text, snpa_text, node_tex
 
 use crate::area::AreaAddress;
 use crate::identifiers::{LspId, NodeId, Snpa, SystemId};
+use crate::level::Level;
 use crate::numbers::{octets_of_lsp, octets_of_system};
 use crate::prefix::Prefix;
 
@@ -51,25 +61,28 @@ pub fn lsp_text_laws(a: LspId, b: LspId)
     let _octets = octets_of_lsp(a);
 }
 
-/// What Display writes of an area address spells it, and a text spells one area address.
+/// What Display writes of an area address spells it and is read as it, and a text spells one area address.
 pub fn area_text_laws(area: AreaAddress)
     ensures written { SpellsArea (area_text area) area }
+    ensures read { area_of (area_text area) ≡ Some area }
     ensures one { (text a b : List ℕ) → SpellsArea text a → SpellsArea text b → a ≡ b }
 {
     octets_law(area.octets());
 }
 
-/// What Display writes of a prefix spells it, and a text spells one prefix.
+/// What Display writes of a prefix spells it and is read as it, and a text spells one prefix.
 pub fn prefix_text_laws(prefix: Prefix)
     ensures written { SpellsPrefix (prefix_text prefix.address prefix.length) prefix.address prefix.length }
+    ensures read { prefix_parts (prefix_text prefix.address prefix.length) ≡ Some (prefix.address, prefix.length) }
     ensures one { (text : List ℕ) (a b c d : ℕ) → SpellsPrefix text a b → SpellsPrefix text c d → (a ≡ c) × (b ≡ d) }
 {
     let _address = prefix.address();
 }
 
-/// A text is that of one set of levels.
-pub fn levels_text_law()
-    ensures { (a b : LevelSet) → levels_text a ≡ levels_text b → a ≡ b }
+/// What Display writes of a set of levels is read as it, and a text is that of one set of levels.
+pub fn levels_text_laws()
+    ensures read { (a : LevelSet) → levels_of (levels_text a) ≡ Some a }
+    ensures one { (a b : LevelSet) → levels_text a ≡ levels_text b → a ≡ b }
 {}
 
 /// System IDs are ordered by their octets.
@@ -95,6 +108,49 @@ pub fn lsp_order_law(a: LspId, b: LspId)
     let _of_a = octets_of_lsp(a);
     let _of_b = octets_of_lsp(b);
 }
+
+/// An LSP ID has eight octets.
+pub fn lsp_id_law(id: LspId)
+    ensures { IsId id }
+{
+    let _octets = octets_of_lsp(id);
+}
+
+/// LSP IDs of one number are one. So `LspId::from_number(id.to_number())` is `id`.
+pub fn lsp_number_law(a: LspId, b: LspId)
+    ensures { lsp_number a ≡ lsp_number b → a ≡ b }
+{
+    let _of_a = octets_of_lsp(a);
+    let _of_b = octets_of_lsp(b);
+}
+
+/// `join` is commutative, associative and idempotent: copies may come in any order and any number of times.
+pub fn join_laws()
+    ensures commutative { (a b : Option Key) → join_of a b ≡ join_of b a }
+    ensures associative { (a b c : Option Key) → join_of (join_of a b) c ≡ join_of a (join_of b c) }
+    ensures idempotent { (a : Option Key) → join_of a a ≡ a }
+{}
+
+/// A prefix is the one of its address and length, and two of one address and length are one.
+pub fn prefix_laws(a: Prefix, b: Prefix)
+    ensures from { prefix_from a.address a.length ≡ Some a }
+    ensures one { a.address ≡ b.address → a.length ≡ b.length → a ≡ b }
+{}
+
+/// Level 1 comes before level 2.
+pub fn level_order_law()
+    ensures one { ⟦<Level as Ord>⟧.cmp level.One level.Two ≡ Less }
+    ensures two { ⟦<Level as Ord>⟧.cmp level.Two level.One ≡ Greater }
+    ensures same { (a : Level) → ⟦<Level as Ord>⟧.cmp a a ≡ Equal }
+{}
+
+/// The marks of identifiers' texts: dots (46) between groups of two octets and before a pseudonode's octet, a hyphen (45)
+/// before an LSP's number.
+pub fn text_form_laws()
+    ensures system { SYSTEM_TEXT ≡ Octet ∷ Octet ∷ Mark 46 ∷ Octet ∷ Octet ∷ Mark 46 ∷ Octet ∷ Octet ∷ [] }
+    ensures node { NODE_TEXT ≡ SYSTEM_TEXT ++ Mark 46 ∷ Octet ∷ [] }
+    ensures lsp { LSP_TEXT ≡ NODE_TEXT ++ Mark 45 ∷ Octet ∷ [] }
+{}
 
 /// Octets are below 256.
 fn octets_law(octets: &[u8])

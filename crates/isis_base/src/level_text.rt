@@ -1,6 +1,8 @@
-ghost use Rattle.std.specs.Prelude.{◌≡◌, ◌≤◌, length, nat_eq, IfOk, IfErr, Ok, IfSome, Some};
+//! Sets of levels read from their texts.
+ghost use Rattle.std.specs.Prelude.{◌≡◌, ◌≤◌, length, nat_eq, IfOk, IfErr, Ok};
 ghost use Rattle.std.specs.List.{common_prefix_len};
-ghost use Rattle.isis_base.specs.Levels.{levels_text, IsLevels};
+ghost use Rattle.std.specs.Result.{result_ok};
+ghost use Rattle.isis_base.specs.Levels.{levels_text, levels_of, IsLevels};
 ghost use Rattle.isis_base.specs.declared.level.LevelSet.{LevelSet};
 ghost use Rattle.isis_base.specs.Texts.{IsFaultAt};
 
@@ -11,6 +13,7 @@ use crate::texts::TextFault;
 pub fn read_levels(text: &str) -> Result<LevelSet, TextFault>
     ensures ok { IfOk result (λ set. text.now ≡ levels_text set) }
     ensures read { (set : LevelSet) → text.now ≡ levels_text set → result ≡ Ok set }
+    ensures value { result_ok result ≡ levels_of text.now }
     ensures err { IfErr result (λ fault. IsFaultAt IsLevels text.now fault.place) }
 {
     let bytes = text.as_bytes();
@@ -25,15 +28,18 @@ pub fn read_levels(text: &str) -> Result<LevelSet, TextFault>
 
 /// The set of levels of this text.
 fn levels_of(text: &[u8]) -> Option<LevelSet>
-    ensures some { IfSome result (λ set. text.now ≡ levels_text set) }
-    ensures read { (set : LevelSet) → text.now ≡ levels_text set → result ≡ Some set }
+    ensures { result ≡ levels_of text.now }
 {
-    match text {
-        b"L1" => Some(LevelSet::One),
-        b"L2" => Some(LevelSet::Two),
-        b"L1L2" => Some(LevelSet::Both),
-        _ => None,
+    if text == b"L1".as_slice() {
+        return Some(LevelSet::One);
     }
+    if text == b"L2".as_slice() {
+        return Some(LevelSet::Two);
+    }
+    if text == b"L1L2".as_slice() {
+        return Some(LevelSet::Both);
+    }
+    None
 }
 
 /// The number of octets in which two texts agree, before the first in which they don't.

@@ -9,21 +9,28 @@
 //! - `identifiers.rt`: system ID, SNPA, node ID, LSP ID; `numbers.rt`: an LSP ID as a number
 //! - `level.rt`: levels, sets of levels, kinds of circuits
 //! - `key.rt`: a key; `order.rt`: which key is newer, and the newer of two
+//! - `pdu_kind.rt`: the types of PDUs, with their numbers and the lengths of their headers
 //! - `entry.rt`: what a sequence number PDU says of an LSP
 //! - `area.rt`, `prefix.rt`: area addresses and IPv4 prefixes
 //! - `parts.rt`: texts made of octets in hex and marks; `texts.rt`: system and LSP IDs read from theirs
 //! - `area_text.rt`, `prefix_text.rt`, `level_text.rt`: areas, prefixes and sets of levels read from their texts
-//! - `display.rt`: the texts written
-//! - `laws.rt`: what is written is read as the value, a text has one value, IDs are ordered by their octets
+//! - `display.rt`: the texts written through a formatter; `writers.rt`: the texts, and numbers, put behind octets, whose hex
+//!   digits `digits.rt` has
+//! - `fields.rt`: numbers and identifiers at a place of octets; `draft.rt`: up to 255 octets while they are written
+//! - `laws.rt`: what is written is read as the value, a text has one value, IDs are ordered by their octets, the newer of
+//!   two keys depends on no order: functions without a body, whose contracts are the laws
 #![tactic(auto)]
 
 mod area;
 mod area_text;
+mod digits;
 mod display;
+mod draft;
 mod entry;
+pub mod fields;
 mod identifiers;
 mod key;
-mod laws;
+pub mod laws;
 mod level;
 mod level_text;
 mod memory;
@@ -31,28 +38,28 @@ mod numbers;
 mod octets;
 mod order;
 mod parts;
+mod pdu_kind;
 mod prefix;
 mod prefix_text;
 mod texts;
+mod writers;
 
 pub use area::AreaAddress;
 pub use area_text::read_area;
+pub use draft::Draft;
 pub use entry::LspEntry;
 pub use identifiers::{LspId, NodeId, Snpa, SystemId};
 pub use key::Key;
-pub use laws::{
-    area_text_laws, levels_text_law, lsp_order_law, lsp_text_laws, node_order_law, node_text_laws,
-    prefix_text_laws, snpa_order_law, snpa_text_laws, system_order_law, system_text_laws,
-};
 pub use level::{CircuitKind, Level, LevelSet};
 pub use level_text::read_levels;
 pub use memory::OutOfMemory;
-pub use numbers::lsp_number_law;
 pub use octets::Octets;
-pub use order::{Order3, join, join_laws, newer};
+pub use order::{Order3, join, newer};
+pub use pdu_kind::PduKind;
 pub use prefix::Prefix;
 pub use prefix_text::read_prefix;
 pub use texts::{TextFault, read_lsp_id, read_system};
+pub use writers::{add_hex, add_levels, add_lsp_id, add_node_id, add_number, add_system_id};
 
 #[cfg(test)]
 mod tests;

@@ -1,3 +1,4 @@
+//! LSP IDs as octets and as numbers.
 ghost use Rattle.std.specs.Prelude.{◌≡◌, ◌<◌};
 ghost use Rattle.std.specs.List.{AllByRecursion};
 ghost use Rattle.isis_base.specs.Identifiers.{lsp_octets, lsp_from, lsp_number};
@@ -49,12 +50,4 @@ impl LspId {
     {
         lsp_of(n.to_be_bytes())
     }
-}
-
-/// LSP IDs of one number are one. So `LspId::from_number(id.to_number())` is `id`.
-pub fn lsp_number_law(a: LspId, b: LspId)
-    ensures { lsp_number a ≡ lsp_number b → a ≡ b }
-{
-    let _of_a = octets_of_lsp(a);
-    let _of_b = octets_of_lsp(b);
 }

@@ -1,3 +1,4 @@
+//! A growing list of octets.
 ghost use Rattle.std.specs.Prelude.{◌≡◌, ◌≤◌, [], ◌∷◌, ◌++◌, length, take, IsTrue, ◌↔◌, OnOk, OnErr, IfOk, slice_get};
 ghost use Rattle.std.specs.Borrow.{sem};
 ghost use Rattle.isis_base.specs.Lending.{LendsOctets};

@@ -1,5 +1,5 @@
-ghost use Rattle.std.specs.Prelude.{◌≡◌, ℕ, Option};
-ghost use Rattle.isis_base.specs.declared.key.Key.{Key};
+//! Which of two keys is newer, and the newer of two.
+ghost use Rattle.std.specs.Prelude.{◌≡◌, Some};
 ghost use Rattle.isis_base.specs.Keys.{rank, Stands, join_of};
 
 use crate::key::Key;
@@ -50,10 +50,3 @@ pub fn join(a: Option<Key>, b: Option<Key>) -> Option<Key>
         _ => a,
     }
 }
-
-/// `join` is commutative, associative and idempotent: copies may come in any order and any number of times.
-pub fn join_laws()
-    ensures commutative { (a b : Option Key) → join_of a b ≡ join_of b a }
-    ensures associative { (a b c : Option Key) → join_of (join_of a b) c ≡ join_of a (join_of b c) }
-    ensures idempotent { (a : Option Key) → join_of a a ≡ a }
-{}

@@ -1,3 +1,4 @@
+//! Texts made of octets in hex and of marks.
 ghost use Rattle.std.specs.Prelude.{◌≡◌, ◌≤◌, ◌<◌, length, take, SomeIff, IfNone};
 ghost use Rattle.std.specs.Char.{digit_value};
 ghost use Rattle.isis_base.specs.Texts.{octet_count};

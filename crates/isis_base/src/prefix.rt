@@ -1,3 +1,4 @@
+//! IPv4 prefixes.
 ghost use Rattle.std.specs.Prelude.{◌≡◌, ◌≤◌, ◌-◌, ◌%◌, ◌^◌, IsSome, IfSome, ◌↔◌};
 
 /// An IPv4 prefix: an address whose bits past the length are 0.

@@ -1,3 +1,4 @@
+//! Prefixes read from their texts.
 ghost use Rattle.std.specs.Prelude.{◌≡◌, ℕ, ◌-◌, ◌%◌, ◌^◌, ◌<◌, ◌≤◌, Option, Some, IfOk, IfErr, IfSome, IsNone, IsOkAnd, true, false};
 ghost use Rattle.isis_base.specs.PrefixFronts.{
   address_of,
@@ -12,7 +13,10 @@ ghost use Rattle.isis_base.specs.PrefixFronts.{
   ends_prefix,
   after_text,
   no_front,
+  prefix_parts,
 };
+ghost use Rattle.std.specs.Option.{option_map};
+ghost use Rattle.std.specs.Result.{result_ok};
 ghost use Rattle.isis_base.specs.PrefixTexts.{SpellsPrefix, IsPrefix};
 ghost use Rattle.isis_base.specs.Texts.{IsFaultAt};
 
@@ -35,6 +39,8 @@ pub fn read_prefix(text: &str) -> Result<Prefix, TextFault>
     ensures ok { IfOk result (λ prefix. SpellsPrefix text.now prefix.address prefix.length) }
     ensures read { (address length : ℕ) → SpellsPrefix text.now address length
         → IsOkAnd result (λ prefix. (prefix.address ≡ address) × (prefix.length ≡ length)) }
+    ensures value { option_map (λ prefix. (prefix.address, prefix.length)) (result_ok result)
+        ≡ prefix_parts text.now }
     ensures err { IfErr result (λ fault. IsFaultAt IsPrefix text.now fault.place) }
 {
     let bytes = text.as_bytes();

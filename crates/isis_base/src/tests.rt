@@ -1,3 +1,4 @@
+//! What no clause says: readings of sample texts, each call once with ample memory.
 use super::*;
 use std::test::Fail;
 

@@ -10,7 +10,7 @@ use Rattle.isis_base.specs.declared.level.LevelSet.{LevelSet}
 use Rattle.isis_base.specs.Levels.{levels_text}
 use Rattle.isis_base.specs.Texts.{hex_pair, system_text, node_text, lsp_text}
 use Rattle.iso_checksum.specs.Checksum.{checksum_holds}
-use Rattle.isis_tlv.specs.Numbers.{two_of}
+use Rattle.isis_base.specs.Fields.{u16_octets}
 use Rattle.isis_tlv.specs.Tlvs.{TlvView, tlv_list}
 use Rattle.isis_pdu.specs.declared.fault.PduFault.{PduFault}
 use Rattle.isis_pdu.specs.declared.fault.PduFaultKind.{PduFaultKind}
@@ -48,7 +48,7 @@ hello_text circuit_type source holding =
 
 -- two octets in hex
 unfoldable pub two_text : ℕ → List ℕ
-two_text number = flat_map hex_pair (two_of number)
+two_text number = flat_map hex_pair (u16_octets number)
 
 -- the last fields of an LSP
 abbrev pub checksum_text : ℕ → ℕ → ℕ → List ℕ → List ℕ

@@ -1,6 +1,7 @@
+-- What is taken, written and left over several calls.
 use Rattle.std.proofs.Common.{◌≡◌, ℕ, ◌+◌, ◌-◌, ◌<◌, ◌≤◌, List, [], ◌++◌, length, take, drop, Option, Some, None, refl, sym, ap, ◌∙◌, arith, append_assoc}
 use Rattle.std.proofs.lemmas.List.{take-append-drop, drop-drop, length-append, length-drop, length-take, length-take-le, take_at, take_rest, append-nil}
-use Rattle.isis_edge.specs.Told.{Took, Wrote, Stays}
+use Rattle.isis_edge.specs.Told.{Took, Wrote, WrotePrefix, Stays}
 
 -- nothing is taken
 pub Took-none : (a : Option (List ℕ)) → Took a a []
@@ -81,3 +82,44 @@ copied_front octets buffer copied place count some fits left same =
     let both = length-append copied (drop count buffer) in
     let back : drop count (drop place octets) ≡ drop (place + count) octets = drop-drop count place octets in
     (some, omega arith, rw (front, same, ← back) (sym (take-append-drop count (drop place octets))))
+
+-- ---- texts
+
+-- what is written of a piece is the first of it
+pub WrotePrefix-from_count : (before now : Option (List ℕ)) (piece : List ℕ) (count : ℕ) → Wrote before now (take count piece) → WrotePrefix before now piece
+WrotePrefix-from_count None now piece count w = tt
+WrotePrefix-from_count (Some held) now piece count w = (take count piece, drop count piece, w, take-append-drop count piece)
+
+-- a prefix of what waits, behind what was written
+pub WrotePrefix-later : (whole page rest : List ℕ) (before mid now : Option (List ℕ)) → IsUnderway whole (page ++ rest) before mid → WrotePrefix mid now page → WrotePrefix before now whole
+WrotePrefix-later whole page rest None mid now u p = tt
+WrotePrefix-later whole page rest (Some held) None now u p = absurd (let w = u.written in cc)
+WrotePrefix-later whole page rest (Some held) (Some mid) now u (written, left, there, joined) =
+    let at : mid ≡ held ++ u.front = let w = u.written in cc in (
+      u.front ++ written,
+      left ++ rest,
+      there ∙ ap (λ (xs : List ℕ). Some (xs ++ written)) at ∙ ap (λ (xs : List ℕ). Some xs) (append_assoc held u.front written),
+      append_assoc u.front written (left ++ rest) ∙ ap (λ (xs : List ℕ). u.front ++ xs) (sym (append_assoc written left rest) ∙ ap (λ (xs : List ℕ). xs ++ rest) joined) ∙ u.joined,
+    )
+
+-- what was written so far is the first of the whole
+pub WrotePrefix-underway : (whole left : List ℕ) (before now : Option (List ℕ)) → IsUnderway whole left before now → WrotePrefix before now whole
+WrotePrefix-underway whole left None now u = tt
+WrotePrefix-underway whole left (Some held) now u = (u.front, left, u.written, u.joined)
+
+-- what waits is written
+pub underway_piece : (whole page rest : List ℕ) (before mid now : Option (List ℕ)) → IsUnderway whole (page ++ rest) before mid → Wrote mid now page → IsUnderway whole rest before now
+underway_piece whole page rest before mid now u w = record {
+  front = u.front ++ page;
+  joined = append_assoc u.front page rest ∙ u.joined;
+  written = Wrote-more before mid now u.front page u.written w;
+}
+
+-- what waited and was to come is what waits and is to come now
+pub underway_same : (whole one two : List ℕ) (before now : Option (List ℕ)) → two ≡ one → IsUnderway whole one before now → IsUnderway whole two before now
+underway_same whole one two before now e u = rw e u
+
+-- the front of what waits is written
+pub underway_front : (whole old front page rest : List ℕ) (before mid now : Option (List ℕ)) → front ++ page ≡ old → IsUnderway whole (old ++ rest) before mid → Wrote mid now front → IsUnderway whole (page ++ rest) before now
+underway_front whole old front page rest before mid now e u w =
+    underway_piece whole front (page ++ rest) before mid now (underway_same whole (old ++ rest) (front ++ (page ++ rest)) before mid (sym (append_assoc front page rest) ∙ ap (λ (xs : List ℕ). xs ++ rest) e) u) w

@@ -3,3 +3,4 @@ pub mod Memory
 pub mod Sinks
 pub mod Sources
 pub mod Told
+pub mod Texts

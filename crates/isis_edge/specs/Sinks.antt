@@ -13,6 +13,11 @@ abbrev pub OnFailed : Put → Type 0 → Type 0
 OnFailed (put.Some count) P = Unit {0}
 OnFailed put.Failed P = P
 
+-- the fact, where the write didn't fail
+abbrev pub UnlessFailed : Put → Type 0 → Type 0
+UnlessFailed (put.Some count) P = P
+UnlessFailed put.Failed P = Unit {0}
+
 -- the fact on the count, where octets were written
 abbrev pub IfPut : Put → (ℕ → Type 0) → Type 0
 IfPut (put.Some count) P = P count

@@ -15,6 +15,12 @@ OnFailed (got.Some count) P = Unit {0}
 OnFailed got.End P = Unit {0}
 OnFailed got.Failed P = P
 
+-- the fact, where the read didn't fail
+abbrev pub UnlessFailed : Got → Type 0 → Type 0
+UnlessFailed (got.Some count) P = P
+UnlessFailed got.End P = P
+UnlessFailed got.Failed P = Unit {0}
+
 -- the fact on the count, where the read gave octets
 abbrev pub IfGave : Got → (ℕ → Type 0) → Type 0
 IfGave (got.Some count) P = P count

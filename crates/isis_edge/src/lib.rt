@@ -6,6 +6,7 @@
 //!
 //! - `source.rt`, `sink.rt`: the traits
 //! - `reading.rt`, `writing.rt`: a whole input read, a whole piece written
+//! - `text.rt`: texts that are made as they are written, and the one writer of them all
 //! - `memory_source.rt`, `memory_sink.rt`: their forms in memory; `calls.rt`: which calls of these fail
 //! - `standard.rt`: the thin adapters over readers and writers of the system
 #![tactic(auto)]
@@ -19,6 +20,7 @@ mod source;
 mod standard;
 #[cfg(test)]
 mod tests;
+mod text;
 mod writing;
 
 pub use memory_sink::MemorySink;
@@ -27,4 +29,5 @@ pub use reading::{WholeFault, read_whole};
 pub use sink::{Put, Sink};
 pub use source::{Got, Source};
 pub use standard::{StdSink, StdSource};
+pub use text::{Text, TextFailed, write_text};
 pub use writing::{WriteFailed, write_all};

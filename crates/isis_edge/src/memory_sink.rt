@@ -1,6 +1,6 @@
 ghost use Rattle.std.specs.Prelude.{◌≡◌, ◌-◌, ◌<◌, ◌≤◌, ◌↔◌, ◌⊎◌, [], length, min, Some, IfOk};
 ghost use Rattle.isis_edge.specs.Faults.{Rose};
-ghost use Rattle.isis_edge.specs.Sinks.{Writes, OnFailed, IfPut};
+ghost use Rattle.isis_edge.specs.Sinks.{Writes, OnFailed, UnlessFailed, IfPut};
 ghost use Rattle.isis_edge.specs.Memory.{IsToFail, after_write};
 
 use crate::calls::Calls;
@@ -82,6 +82,7 @@ impl Sink for MemorySink {
         ensures octets { Writes (Some self.old.held) (Some self.new.held) result piece.now }
         ensures later { self.old.faults ≤ self.new.faults }
         ensures cause { OnFailed result (Rose self.old.faults self.new.faults) }
+        ensures quiet { UnlessFailed result (self.new.faults ≡ self.old.faults) }
         ensures fails { (result ≡ Put.Failed)
             ↔ (IsToFail self.old.failing self.old.calls ⊎ (self.old.room ≤ length self.old.held)) }
         ensures count { IfPut result (λ count. count

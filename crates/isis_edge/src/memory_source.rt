@@ -1,6 +1,6 @@
 ghost use Rattle.std.specs.Prelude.{◌≡◌, ◌<◌, ◌≤◌, ◌↔◌, length, min, Some};
 ghost use Rattle.isis_edge.specs.Faults.{Rose};
-ghost use Rattle.isis_edge.specs.Sources.{Reads, OnFailed, IfGave};
+ghost use Rattle.isis_edge.specs.Sources.{Reads, OnFailed, UnlessFailed, IfGave};
 ghost use Rattle.isis_edge.specs.Memory.{IsToFail, after_read};
 
 use crate::calls::Calls;
@@ -66,6 +66,7 @@ impl Source for MemorySource {
         ensures octets { Reads (Some self.old.left) (Some self.new.left) result into.new }
         ensures later { self.old.faults ≤ self.new.faults }
         ensures cause { OnFailed result (Rose self.old.faults self.new.faults) }
+        ensures quiet { UnlessFailed result (self.new.faults ≡ self.old.faults) }
         ensures fails { (result ≡ Got.Failed) ↔ IsToFail self.old.failing self.old.calls }
         ensures count { IfGave result
             (λ count. count ≡ min (min self.old.piece (length into.old)) (length self.old.left)) }

@@ -23,6 +23,11 @@ pub enum WholeFault {
 }
 
 impl fmt::Display for WholeFault {
+    ghost use Rattle.std.specs.Prelude.{Some};
+    ghost use Rattle.isis_edge.specs.Texts.{whole_fault_text};
+
+    ghost output = { λ fault. Some (whole_fault_text fault) };
+
     fn fmt<W: fmt::Write>(&self, f: &mut fmt::Formatter<W>) -> fmt::Result {
         match self {
             WholeFault::Fault => write!(f, "read fault"),

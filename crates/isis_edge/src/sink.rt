@@ -1,6 +1,6 @@
-ghost use Rattle.std.specs.Prelude.{ℕ, List, Option, ◌<◌, ◌≤◌, length};
+ghost use Rattle.std.specs.Prelude.{◌≡◌, ℕ, List, Option, ◌<◌, ◌≤◌, length};
 ghost use Rattle.isis_edge.specs.Faults.{Rose};
-ghost use Rattle.isis_edge.specs.Sinks.{Writes, OnFailed};
+ghost use Rattle.isis_edge.specs.Sinks.{Writes, OnFailed, UnlessFailed};
 
 /// What a write did.
 #[derive(Clone, Copy, Debug, PartialEq, Eq)]
@@ -23,5 +23,6 @@ pub trait Sink: Send {
         requires { 0 < length piece.now }
         ensures octets { Writes (held self.old) (held self.new) result piece.now }
         ensures later { faults self.old ≤ faults self.new }
-        ensures cause { OnFailed result (Rose (faults self.old) (faults self.new)) };
+        ensures cause { OnFailed result (Rose (faults self.old) (faults self.new)) }
+        ensures quiet { UnlessFailed result (faults self.new ≡ faults self.old) };
 }

@@ -1,6 +1,6 @@
-ghost use Rattle.std.specs.Prelude.{ℕ, List, Option, ◌<◌, ◌≤◌, length};
+ghost use Rattle.std.specs.Prelude.{◌≡◌, ℕ, List, Option, ◌<◌, ◌≤◌, length};
 ghost use Rattle.isis_edge.specs.Faults.{Rose};
-ghost use Rattle.isis_edge.specs.Sources.{Reads, OnFailed};
+ghost use Rattle.isis_edge.specs.Sources.{Reads, OnFailed, UnlessFailed};
 
 /// What a read gave.
 #[derive(Clone, Copy, Debug, PartialEq, Eq)]
@@ -25,5 +25,6 @@ pub trait Source {
         requires { 0 < length into.old }
         ensures octets { Reads (left self.old) (left self.new) result into.new }
         ensures later { faults self.old ≤ faults self.new }
-        ensures cause { OnFailed result (Rose (faults self.old) (faults self.new)) };
+        ensures cause { OnFailed result (Rose (faults self.old) (faults self.new)) }
+        ensures quiet { UnlessFailed result (faults self.new ≡ faults self.old) };
 }

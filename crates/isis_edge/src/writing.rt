@@ -11,6 +11,10 @@ use std::fmt;
 pub struct WriteFailed;
 
 impl fmt::Display for WriteFailed {
+    ghost use Rattle.std.specs.Prelude.{Some, codes};
+
+    ghost output = { λ _. Some (codes "write fault") };
+
     fn fmt<W: fmt::Write>(&self, f: &mut fmt::Formatter<W>) -> fmt::Result {
         write!(f, "write fault")
     }

@@ -1,3 +1,4 @@
+-- The tests accept just the octets that read as a value.
 use Rattle.std.proofs.Common.{◌≡◌, ◌∙◌, ℕ, ◌%◌, ◌≤◌, List, [], ◌∷◌, ◌++◌, length, get_or, Bool, true, false, cond, not, eqb, leb, ◌&&◌, ◌||◌, ◌⊎◌, inl, inr, ⊎_elim, ◌↔◌, Option, Some, None, Result, Ok, Err, arith, refl, sym, ap, subst}
 use Rattle.std.specs.List.{AllByRecursion, find}
 use Rattle.std.specs.Option.{is_some, is_none, option_map}
@@ -8,12 +9,13 @@ use Rattle.isis_tlv.specs.declared.tlv.TlvFault.{TlvFault}
 use Rattle.isis_tlv.specs.Walks.{fault_of}
 use Rattle.isis_tlv.specs.Tlvs.{AreTlvs, tlvs_of}
 use Rattle.isis_tlv.proofs.TlvLemmas.{fault-anywhere}
-use Rattle.isis_pdu.specs.declared.kind.Kind.{Kind}
-use Rattle.isis_pdu.specs.declared.kind.Kind.TheVariants as kind
+use Rattle.isis_base.specs.declared.pdu_kind.PduKind.{PduKind}
+use Rattle.isis_base.specs.declared.pdu_kind.PduKind.TheVariants as kind
 use Rattle.isis_pdu.specs.declared.fault.PduFault.{PduFault}
 use Rattle.isis_pdu.specs.declared.pdu.Pdu.{Pdu}
 use Rattle.isis_pdu.specs.Views.{PduView, pdu_view, tlvs_of_pdu, decoded_view}
-use Rattle.isis_pdu.specs.Layout.{kind_of, type_number, kinds, kind_of_number, kind_at, header_length, is_hello, length_at, body_at, value_at}
+use Rattle.isis_base.specs.PduKinds.{type_number, kinds, kind_of_number, kind_at, header_length, is_hello}
+use Rattle.isis_pdu.specs.Layout.{kind_of, length_at, body_at, value_at}
 use Rattle.isis_pdu.specs.Table.{Test, first_failing, place_of_fault, tlv_fault, start_tests, kind_tests, tests_of, first_fault}
 use Rattle.isis_pdu.specs.Reading.{Reads, Begins}
 use Rattle.isis_pdu.specs.Decoded.{decoded_by, decoded}
@@ -52,7 +54,7 @@ fails-rest (test ∷ first) rest e =
       | false ↦ λ h. cc
     ] e
 
-start-fails : (found : Option Kind) (octets : List ℕ) (fault : PduFault) → first_failing (start_tests octets) ≡ Some fault → first_failing (tests_of found octets) ≡ Some fault
+start-fails : (found : Option PduKind) (octets : List ℕ) (fault : PduFault) → first_failing (start_tests octets) ≡ Some fault → first_failing (tests_of found octets) ≡ Some fault
 start-fails None octets fault e = e
 start-fails (Some kind) octets fault e = fails-first (start_tests octets) (kind_tests kind octets) fault e
 
@@ -60,10 +62,10 @@ pub start-fault : (octets : List ℕ) (fault : PduFault) → Some fault ≡ firs
 unfolding first_fault
 start-fault octets fault e = sym (start-fails (kind_at octets) octets fault (sym e))
 
-pub later-fault : (octets : List ℕ) (kind : Kind) → kind_at octets ≡ Some kind → None ≡ first_failing (start_tests octets) → first_fault octets ≡ first_failing (kind_tests kind octets)
+pub later-fault : (octets : List ℕ) (kind : PduKind) → kind_at octets ≡ Some kind → None ≡ first_failing (start_tests octets) → first_fault octets ≡ first_failing (kind_tests kind octets)
 unfolding first_fault
 later-fault octets kind is e =
-    ap (λ (found : Option Kind). first_failing (tests_of found octets)) is
+    ap (λ (found : Option PduKind). first_failing (tests_of found octets)) is
     ∙ fails-rest (start_tests octets) (kind_tests kind octets) (sym e)
 
 -- ---- types
@@ -76,11 +78,11 @@ found-passes test (first ∷ items) item e =
       | false ↦ λ h same. found-passes test items item same
     ] refl e
 
-number-of : (number : ℕ) (kind : Kind) → kind_of_number number ≡ Some kind → type_number kind ≡ number
+number-of : (number : ℕ) (kind : PduKind) → kind_of_number number ≡ Some kind → type_number kind ≡ number
 unfolding kind_of_number
-number-of number kind e = eqb-true (type_number kind) number (found-passes (λ (k : Kind). eqb (type_number k) number) kinds kind e)
+number-of number kind e = eqb-true (type_number kind) number (found-passes (λ (k : PduKind). eqb (type_number k) number) kinds kind e)
 
-kind-again : (kind : Kind) → kind_of_number (type_number kind) ≡ Some kind
+pub kind-again : (kind : PduKind) → kind_of_number (type_number kind) ≡ Some kind
 unfolding kind_of_number
 kind-again (kind.LanHello level.One) = refl
 kind-again (kind.LanHello level.Two) = refl
@@ -92,21 +94,21 @@ kind-again (kind.Csnp level.Two) = refl
 kind-again (kind.Psnp level.One) = refl
 kind-again (kind.Psnp level.Two) = refl
 
-kind-of_value : (kind : Kind) (octets tlvs : List ℕ) → kind_of (value_at kind octets tlvs) ≡ kind
+kind-of_value : (kind : PduKind) (octets tlvs : List ℕ) → kind_of (value_at kind octets tlvs) ≡ kind
 kind-of_value (kind.LanHello level) octets tlvs = refl
 kind-of_value kind.PointHello octets tlvs = refl
 kind-of_value (kind.Lsp level) octets tlvs = refl
 kind-of_value (kind.Csnp level) octets tlvs = refl
 kind-of_value (kind.Psnp level) octets tlvs = refl
 
-header-least : (kind : Kind) → 17 ≤ header_length kind
+pub header-least : (kind : PduKind) → 17 ≤ header_length kind
 header-least (kind.LanHello level) = omega arith
 header-least kind.PointHello = omega arith
 header-least (kind.Lsp level) = omega arith
 header-least (kind.Csnp level) = omega arith
 header-least (kind.Psnp level) = omega arith
 
-tlvs-of_value : (kind : Kind) (octets tlvs : List ℕ) → tlvs_of_pdu (value_at kind octets tlvs) ≡ tlvs
+pub tlvs-of_value : (kind : PduKind) (octets tlvs : List ℕ) → tlvs_of_pdu (value_at kind octets tlvs) ≡ tlvs
 tlvs-of_value (kind.LanHello level) octets tlvs = refl
 tlvs-of_value kind.PointHello octets tlvs = refl
 tlvs-of_value (kind.Lsp level) octets tlvs = refl
@@ -143,7 +145,7 @@ holds-circuit false levels h is zero = cc
 
 module _ (octets : List ℕ) where
   -- where each test holds, the octets read as what the fields say
-  reads-as : (kind : Kind) (pdu : PduView) (n : ℕ) → length_at kind octets ≡ n → value_at kind octets (body_at kind octets n) ≡ pdu → kind_of pdu ≡ kind → kind_at octets ≡ Some kind → AllByRecursion Holds (start_tests octets) → AllByRecursion Holds (kind_tests kind octets) → Reads octets pdu n
+  reads-as : (kind : PduKind) (pdu : PduView) (n : ℕ) → length_at kind octets ≡ n → value_at kind octets (body_at kind octets n) ≡ pdu → kind_of pdu ≡ kind → kind_at octets ≡ Some kind → AllByRecursion Holds (start_tests octets) → AllByRecursion Holds (kind_tests kind octets) → Reads octets pdu n
   reads-as kind pdu n size value same is start rest =
       let m = length_at kind octets in
       let body = subst (λ (m : ℕ). is_none (tlv_fault (header_length kind) (body_at kind octets m)) ≡ true) size rest.1.1.1.1.0 in
@@ -158,14 +160,14 @@ module _ (octets : List ℕ) where
         other_version = eqb-true _ _ start.1.1.1.1.1.0;
         areas = either-holds _ _ _ start.1.1.1.1.1.1.0;
         circuit_type = λ hello. holds-circuit (is_hello kind) (get_or octets 8 0 % 4) rest.1.1.0 (sym (ap is_hello same) ∙ hello);
-        size = ap (λ (k : Kind). length_at k octets) same ∙ size;
-        least = subst (λ (k : Kind). header_length k ≤ n) (sym same) (subst (λ (m : ℕ). header_length kind ≤ m) size (leb-true (header_length kind) m parts.0));
-        value = ap (λ (k : Kind). value_at k octets (body_at k octets n)) same ∙ value;
+        size = ap (λ (k : PduKind). length_at k octets) same ∙ size;
+        least = subst (λ (k : PduKind). header_length k ≤ n) (sym same) (subst (λ (m : ℕ). header_length kind ≤ m) size (leb-true (header_length kind) m parts.0));
+        value = ap (λ (k : PduKind). value_at k octets (body_at k octets n)) same ∙ value;
         tlvs = subst AreTlvs (sym whose) (tlvs-hold (header_length kind) (body_at kind octets n) body);
       }
 
   module _ (pdu : PduView) (n : ℕ) (reads : Reads octets pdu n) (within : n ≤ length octets) where
-    abbrev its : Kind
+    abbrev its : PduKind
     its = kind_of pdu
 
     kind-read : kind_at octets ≡ Some its
@@ -234,7 +236,7 @@ module _ (octets : List ℕ) where
   )
 
   -- without one there is one value to read
-  pub accepted : (kind : Kind) (p : Pdu) (m : ℕ) → kind_at octets ≡ Some kind → None ≡ first_failing (start_tests octets) → None ≡ first_failing (kind_tests kind octets) → m ≡ length_at kind octets → m ≤ length octets → pdu_view p ≡ value_at kind octets (body_at kind octets m) → (pdu : PduView) (n : ℕ) → (decoded_view (Ok (p, m)) ≡ Ok (pdu, n)) ↔ (Reads octets pdu n × (n ≤ length octets))
+  pub accepted : (kind : PduKind) (p : Pdu) (m : ℕ) → kind_at octets ≡ Some kind → None ≡ first_failing (start_tests octets) → None ≡ first_failing (kind_tests kind octets) → m ≡ length_at kind octets → m ≤ length octets → pdu_view p ≡ value_at kind octets (body_at kind octets m) → (pdu : PduView) (n : ℕ) → (decoded_view (Ok (p, m)) ≡ Ok (pdu, n)) ↔ (Reads octets pdu n × (n ≤ length octets))
   accepted kind p m is start rest size fits value pdu n =
       let base = reads-as kind (pdu_view p) m (sym size) (sym value) (ap kind_of value ∙ kind-of_value kind octets (body_at kind octets m)) is (all-hold (start_tests octets) (sym start)) (all-hold (kind_tests kind octets) (sym rest)) in (
         (λ read.
@@ -243,8 +245,8 @@ module _ (octets : List ℕ) where
         (λ (reads, within).
             let its = kind-read pdu n reads within in
             let same : kind ≡ kind_of pdu = cc in
-            let sizes : m ≡ n = size ∙ ap (λ (k : Kind). length_at k octets) same ∙ reads.size in
-            let values : pdu_view p ≡ pdu = value ∙ ap (λ (k : Kind). value_at k octets (body_at k octets m)) same ∙ ap (λ (it : ℕ). value_at (kind_of pdu) octets (body_at (kind_of pdu) octets it)) sizes ∙ reads.value in
+            let sizes : m ≡ n = size ∙ ap (λ (k : PduKind). length_at k octets) same ∙ reads.size in
+            let values : pdu_view p ≡ pdu = value ∙ ap (λ (k : PduKind). value_at k octets (body_at k octets m)) same ∙ ap (λ (it : ℕ). value_at (kind_of pdu) octets (body_at (kind_of pdu) octets it)) sizes ∙ reads.value in
             (λ i. Ok (values i, sizes i))),
       )
 
@@ -260,5 +262,5 @@ decoded-from octets (Ok found) ok err =
     let value = sym reads.value ∙ ap (λ (n : ℕ). value_at its octets (body_at its octets n)) size in
     let known : kind_at octets ≡ Some its = ap kind_of_number reads.kind ∙ kind-again its in
     (λ i. Ok (value i, size i))
-    ∙ ap (λ (kind : Option Kind). decoded_by None kind octets) (sym known)
+    ∙ ap (λ (kind : Option PduKind). decoded_by None kind octets) (sym known)
     ∙ ap (λ (found : Option PduFault). decoded_by found (kind_at octets) octets) err

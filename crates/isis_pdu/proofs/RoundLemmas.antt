@@ -1,3 +1,4 @@
+-- What is written of a PDU reads as that PDU.
 use Rattle.std.proofs.Common.{◌≡◌, ◌∙◌, ℕ, ◌+◌, ◌-◌, ◌*◌, ◌/◌, ◌%◌, ◌<◌, ◌≤◌, List, [], ◌∷◌, ◌++◌, length, take, inl, refl, ap, arith, length-append}
 use Rattle.std.proofs.lemmas.List.{take_at}
 use Rattle.isis_base.specs.declared.identifiers.LspId.{LspId}
@@ -6,10 +7,11 @@ use Rattle.isis_base.specs.declared.level.Level.TheVariants as level
 use Rattle.isis_base.specs.declared.level.LevelSet.{LevelSet}
 use Rattle.isis_base.specs.declared.level.LevelSet.TheVariants as levels
 use Rattle.isis_tlv.specs.Tlvs.{AreTlvs}
-use Rattle.isis_pdu.specs.declared.kind.Kind.{Kind}
-use Rattle.isis_pdu.specs.declared.kind.Kind.TheVariants as kind
+use Rattle.isis_base.specs.declared.pdu_kind.PduKind.{PduKind}
+use Rattle.isis_base.specs.declared.pdu_kind.PduKind.TheVariants as kind
 use Rattle.isis_pdu.specs.Views.{PduView, LanHello, PointHello, Lsp, Csnp, Psnp}
-use Rattle.isis_pdu.specs.Layout.{type_number, levels_of}
+use Rattle.isis_base.specs.PduKinds.{type_number}
+use Rattle.isis_pdu.specs.Layout.{levels_of}
 use Rattle.isis_pdu.specs.Spelling.{encoded_len, levels_octet, spelled, IsWritable}
 use Rattle.isis_pdu.specs.Reading.{Reads, Begins}
 
@@ -39,7 +41,7 @@ levels-some levels.One e = cc
 levels-some levels.Two e = cc
 levels-some levels.Both e = cc
 
-type-small : (kind : Kind) → type_number kind % 32 ≡ type_number kind
+type-small : (kind : PduKind) → type_number kind % 32 ≡ type_number kind
 type-small (kind.LanHello level.One) = refl
 type-small (kind.LanHello level.Two) = refl
 type-small kind.PointHello = refl

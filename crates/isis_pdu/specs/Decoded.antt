@@ -1,13 +1,15 @@
+-- What octets say, as one function of them.
 use Rattle.std.specs.Prelude.{ℕ, List, Option, Some, None, Result, Ok, Err}
-use Rattle.isis_pdu.specs.declared.kind.Kind.{Kind}
+use Rattle.isis_base.specs.declared.pdu_kind.PduKind.{PduKind}
 use Rattle.isis_pdu.specs.declared.fault.PduFault.{PduFault}
 use Rattle.isis_pdu.specs.declared.fault.PduFaultKind.TheVariants.{PduType}
-use Rattle.isis_pdu.specs.Layout.{kind_at, length_at, body_at, value_at}
+use Rattle.isis_base.specs.PduKinds.{kind_at}
+use Rattle.isis_pdu.specs.Layout.{length_at, body_at, value_at}
 use Rattle.isis_pdu.specs.Table.{first_fault}
 use Rattle.isis_pdu.specs.Views.{PduView}
 
 -- a fault, or the fields of a type at their offsets with the PDU length; where no test fails the type is known
-abbrev pub decoded_by : Option PduFault → Option Kind → List ℕ → Result (PduView × ℕ) PduFault
+abbrev pub decoded_by : Option PduFault → Option PduKind → List ℕ → Result (PduView × ℕ) PduFault
 decoded_by (Some fault) kind octets = Err fault
 decoded_by None (Some kind) octets = Ok (value_at kind octets (body_at kind octets (length_at kind octets)), length_at kind octets)
 decoded_by None None octets = Err (record { kind = PduType; place = 4 })

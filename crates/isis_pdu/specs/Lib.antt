@@ -4,3 +4,4 @@ pub mod Table
 pub mod Reading
 pub mod Decoded
 pub mod Spelling
+pub mod Faults

@@ -1,7 +1,9 @@
+-- When octets read as a value.
 use Rattle.std.specs.Prelude.{◌≡◌, ◌≢◌, ◌⊎◌, ℕ, ◌%◌, ◌≤◌, List, length, IsTrue, slice_index}
 use Rattle.isis_tlv.specs.Tlvs.{AreTlvs}
 use Rattle.isis_pdu.specs.Views.{PduView, tlvs_of_pdu}
-use Rattle.isis_pdu.specs.Layout.{kind_of, type_number, header_length, is_hello, length_at, body_at, value_at}
+use Rattle.isis_base.specs.PduKinds.{type_number, header_length, is_hello}
+use Rattle.isis_pdu.specs.Layout.{kind_of, length_at, body_at, value_at}
 
 -- The octets read as this value, with n as their PDU length (ISO 10589 9). Reserved bits and octets aren't looked at, and
 -- an octet past the end counts as 0.

@@ -1,21 +1,23 @@
+-- What is written of a PDU.
 use Rattle.std.specs.Prelude.{◌≡◌, ℕ, ◌+◌, ◌^◌, ◌<◌, ◌≤◌, List, [], ◌∷◌, ◌++◌, length}
 use Rattle.isis_base.specs.declared.identifiers.NodeId.{NodeId}
 use Rattle.isis_base.specs.declared.identifiers.LspId.{LspId}
 use Rattle.isis_base.specs.declared.level.LevelSet.{LevelSet}
 use Rattle.isis_base.specs.declared.level.LevelSet.TheVariants as levels
 use Rattle.isis_base.specs.Identifiers.{node_octets, lsp_octets}
-use Rattle.isis_tlv.specs.Numbers.{two_of, four_of}
+use Rattle.isis_base.specs.Fields.{u16_octets, u32_octets}
 use Rattle.isis_tlv.specs.Tlvs.{AreTlvs}
-use Rattle.isis_pdu.specs.declared.kind.Kind.{Kind}
+use Rattle.isis_base.specs.declared.pdu_kind.PduKind.{PduKind}
 use Rattle.isis_pdu.specs.Views.{PduView, LanHello, PointHello, Lsp, Csnp, Psnp, tlvs_of_pdu}
-use Rattle.isis_pdu.specs.Layout.{kind_of, type_number, header_length}
+use Rattle.isis_base.specs.PduKinds.{type_number, header_length}
+use Rattle.isis_pdu.specs.Layout.{kind_of}
 
 -- the PDU length: the header's octets and the TLVs' (ISO 10589 9)
 abbrev pub encoded_len : PduView → ℕ
 encoded_len pdu = header_length (kind_of pdu) + length (tlvs_of_pdu pdu)
 
 -- the octets that a PDU of a type begins with: ID length, reserved bits and the number of areas are 0 (ISO 10589 9)
-abbrev pub start_octets : Kind → List ℕ
+abbrev pub start_octets : PduKind → List ℕ
 start_octets kind = 131 ∷ header_length kind ∷ 1 ∷ 0 ∷ type_number kind ∷ 1 ∷ 0 ∷ 0 ∷ []
 
 -- the octet of a circuit type (ISO 10589 9.5)
@@ -27,13 +29,13 @@ levels_octet levels.Both = 3
 -- the octets of a header behind those, with the PDU length (ISO 10589 9.5 to 9.13)
 abbrev pub field_octets : PduView → ℕ → List ℕ
 field_octets (LanHello level circuit_type source holding priority lan tlvs) n =
-    levels_octet circuit_type ∷ [] ++ source.0 ++ two_of holding ++ two_of n ++ priority ∷ [] ++ node_octets lan
+    levels_octet circuit_type ∷ [] ++ source.0 ++ u16_octets holding ++ u16_octets n ++ priority ∷ [] ++ node_octets lan
 field_octets (PointHello circuit_type source holding circuit tlvs) n =
-    levels_octet circuit_type ∷ [] ++ source.0 ++ two_of holding ++ two_of n ++ circuit ∷ []
+    levels_octet circuit_type ∷ [] ++ source.0 ++ u16_octets holding ++ u16_octets n ++ circuit ∷ []
 field_octets (Lsp level lifetime id number checksum flags tlvs) n =
-    two_of n ++ two_of lifetime ++ lsp_octets id ++ four_of number ++ two_of checksum ++ flags ∷ []
-field_octets (Csnp level source start end tlvs) n = two_of n ++ node_octets source ++ lsp_octets start ++ lsp_octets end
-field_octets (Psnp level source tlvs) n = two_of n ++ node_octets source
+    u16_octets n ++ u16_octets lifetime ++ lsp_octets id ++ u32_octets number ++ u16_octets checksum ++ flags ∷ []
+field_octets (Csnp level source start end tlvs) n = u16_octets n ++ node_octets source ++ lsp_octets start ++ lsp_octets end
+field_octets (Psnp level source tlvs) n = u16_octets n ++ node_octets source
 
 -- the header, and the octets that are written
 abbrev pub header_octets : PduView → List ℕ

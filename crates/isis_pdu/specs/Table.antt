@@ -1,14 +1,16 @@
+-- The tests on octets, in order, each with the fault where it fails.
 use Rattle.std.specs.Prelude.{ℕ, ◌%◌, ◌==◌, nat_le, ◌&&◌, ◌||◌, not, Bool, List, [], ◌∷◌, ◌++◌, length, slice_index, Option, Some, None, if◌then◌else◌}
 use Rattle.std.specs.Option.{is_some, is_none, option_map, unwrap_or}
 use Rattle.isis_tlv.specs.declared.tlv.TlvFault.{TlvFault}
 use Rattle.isis_tlv.specs.declared.tlv.TlvFault.TheVariants.{Header, Past}
 use Rattle.isis_tlv.specs.Walks.{fault_of}
 use Rattle.isis_tlv.specs.Tlvs.{tlvs_of}
-use Rattle.isis_pdu.specs.declared.kind.Kind.{Kind}
+use Rattle.isis_base.specs.declared.pdu_kind.PduKind.{PduKind}
 use Rattle.isis_pdu.specs.declared.fault.PduFault.{PduFault}
 use Rattle.isis_pdu.specs.declared.fault.PduFaultKind.{PduFaultKind}
 use Rattle.isis_pdu.specs.declared.fault.PduFaultKind.TheVariants.{Short, Discriminator, Version, IdLength, PduType, MaxAreas, HeaderLength, CircuitType, PduLength, Tlv}
-use Rattle.isis_pdu.specs.Layout.{kind_at, header_length, is_hello, length_place, length_at, body_at}
+use Rattle.isis_base.specs.PduKinds.{kind_at, header_length, is_hello, length_place}
+use Rattle.isis_pdu.specs.Layout.{length_at, body_at}
 
 -- a test, and the fault where it fails (own)
 pub record Test : Type 0 where
@@ -45,7 +47,7 @@ start_tests octets =
     ∷ []
 
 -- the tests on the octets of a PDU of a type (ISO 10589 9; the order: own)
-abbrev pub kind_tests : Kind → List ℕ → List Test
+abbrev pub kind_tests : PduKind → List ℕ → List Test
 kind_tests kind octets =
     let header = header_length kind in
     let n = length_at kind octets in
@@ -58,7 +60,7 @@ kind_tests kind octets =
     ∷ []
 
 -- all of them in order; of an unknown type there are no more
-abbrev pub tests_of : Option Kind → List ℕ → List Test
+abbrev pub tests_of : Option PduKind → List ℕ → List Test
 tests_of None octets = start_tests octets
 tests_of (Some kind) octets = start_tests octets ++ kind_tests kind octets
 

@@ -1,11 +1,14 @@
+//! The tests on octets, in order.
 ghost use Rattle.std.specs.Prelude.{◌≡◌, ◌+◌, ◌^◌, ◌<◌, ◌≤◌, length, Some, Err, IfOk, OnOk};
 ghost use Rattle.std.specs.Result.{result_err};
-ghost use Rattle.isis_pdu.specs.Layout.{kind_at, header_length, length_at};
+ghost use Rattle.isis_base.specs.PduKinds.{kind_at, header_length};
+ghost use Rattle.isis_pdu.specs.Layout.{length_at};
 ghost use Rattle.isis_pdu.specs.Table.{first_failing, start_tests, kind_tests, tlv_fault};
 
 use crate::fault::{PduFault, PduFaultKind};
-use crate::fields::{LEVELS, two_at};
-use crate::kind::Kind;
+use crate::fields::LEVELS;
+use isis_base::PduKind;
+use isis_base::fields::u16_at;
 use isis_tlv::{TlvFault, Tlvs};
 
 /// What every PDU begins with: the discriminator of IS-IS (ISO 10589 9).
@@ -18,7 +21,7 @@ pub(crate) const VERSION: u8 = 1;
 const TYPE: u8 = 0x1f;
 
 /// The type that octets have, where what every PDU begins with is there and right.
-pub(crate) fn check_start(octets: &[u8]) -> Result<Kind, PduFault>
+pub(crate) fn check_start(octets: &[u8]) -> Result<PduKind, PduFault>
     ensures kind { IfOk result (λ kind. kind_at octets.now ≡ Some kind) }
     ensures eight { OnOk result (8 ≤ length octets.now) }
     ensures fault { result_err result ≡ first_failing (start_tests octets.now) }
@@ -46,7 +49,7 @@ pub(crate) fn check_start(octets: &[u8]) -> Result<Kind, PduFault>
     if *id_length != 0 && *id_length != 6 {
         return fault(PduFaultKind::IdLength, 3);
     }
-    let Some(kind) = Kind::of_number(*number & TYPE) else {
+    let Some(kind) = PduKind::of_number(*number & TYPE) else {
         return fault(PduFaultKind::PduType, 4);
     };
     if *other_version != VERSION {
@@ -59,7 +62,7 @@ pub(crate) fn check_start(octets: &[u8]) -> Result<Kind, PduFault>
 }
 
 /// The PDU length of octets that begin as a PDU of this type, where they are one.
-pub(crate) fn check_kind(kind: Kind, octets: &[u8]) -> Result<usize, PduFault>
+pub(crate) fn check_kind(kind: PduKind, octets: &[u8]) -> Result<usize, PduFault>
     requires { 8 ≤ length octets.now }
     ensures size { IfOk result (λ n. n ≡ length_at kind octets.now) }
     ensures least { IfOk result (λ n. header_length kind ≤ n) }
@@ -77,7 +80,7 @@ pub(crate) fn check_kind(kind: Kind, octets: &[u8]) -> Result<usize, PduFault>
         return fault(PduFaultKind::CircuitType, 8);
     }
     let place = kind.length_place();
-    let end = usize::from(two_at(octets, place));
+    let end = usize::from(u16_at(octets, place));
     if end < header || octets.len() < end {
         return fault(PduFaultKind::PduLength, place);
     }

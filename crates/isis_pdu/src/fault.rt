@@ -1,3 +1,4 @@
+//! Why octets are no PDU.
 use std::error::Error;
 use std::fmt;
 
@@ -33,22 +34,38 @@ pub struct PduFault {
     pub place: usize,
 }
 
-impl fmt::Display for PduFault {
+impl fmt::Display for PduFaultKind {
+    ghost use Rattle.std.specs.Prelude.{Some};
+    ghost use Rattle.isis_pdu.specs.Faults.{kind_text};
+
+    ghost output = { λ kind. Some (kind_text kind) };
+
     fn fmt<W: fmt::Write>(&self, f: &mut fmt::Formatter<W>) -> fmt::Result {
-        let words = match self.kind {
-            PduFaultKind::Short => "the header ends too early",
-            PduFaultKind::Discriminator => "the protocol isn't IS-IS",
-            PduFaultKind::Version => "the version isn't 1",
-            PduFaultKind::IdLength => "system IDs don't have six octets",
-            PduFaultKind::PduType => "the type is unknown",
-            PduFaultKind::MaxAreas => "the number of area addresses isn't three",
-            PduFaultKind::HeaderLength => "the header length isn't that of the type",
-            PduFaultKind::CircuitType => "the circuit type has no level",
-            PduFaultKind::PduLength => "the PDU length doesn't fit",
-            PduFaultKind::Tlv => "the TLV doesn't fit",
-        };
+        match self {
+            PduFaultKind::Short => write!(f, "the header ends too early"),
+            PduFaultKind::Discriminator => write!(f, "the protocol isn't IS-IS"),
+            PduFaultKind::Version => write!(f, "the version isn't 1"),
+            PduFaultKind::IdLength => write!(f, "system IDs don't have six octets"),
+            PduFaultKind::PduType => write!(f, "the type is unknown"),
+            PduFaultKind::MaxAreas => write!(f, "the number of area addresses isn't three"),
+            PduFaultKind::HeaderLength => write!(f, "the header length isn't that of the type"),
+            PduFaultKind::CircuitType => write!(f, "the circuit type has no level"),
+            PduFaultKind::PduLength => write!(f, "the PDU length doesn't fit"),
+            PduFaultKind::Tlv => write!(f, "the TLV doesn't fit"),
+        }
+    }
+}
+
+impl fmt::Display for PduFault {
+    ghost use Rattle.std.specs.Prelude.{Some};
+    ghost use Rattle.isis_pdu.specs.Faults.{fault_text};
+
+    ghost output = { λ fault. Some (fault_text fault) };
+
+    fn fmt<W: fmt::Write>(&self, f: &mut fmt::Formatter<W>) -> fmt::Result {
         let place = self.place;
-        write!(f, "at octet {place}: {words}")
+        let kind = self.kind;
+        write!(f, "at octet {place}: {kind}")
     }
 }
 

@@ -5,27 +5,23 @@
 //! that say so are written as 0 and read as 0 or as that number. Reserved bits and octets are written as 0 and not read.
 //! TLVs are kept as octets, which `isis_tlv` reads. Reading takes no memory.
 //!
-//! - `pdu.rt`: the value of a PDU
-//! - `kind.rt`: its type; `layout.rt`: the number, the header length and the place of the PDU length of each type
+//! - `pdu.rt`: the value of a PDU; `parts.rt`: its type, its header's length and its TLVs
 //! - `fault.rt`: why octets are no PDU
 //! - `check.rt`: the tests on octets, in order; `fields.rt`: the fields at their offsets; `read.rt`: both together
-//! - `header.rt`: a header while it is written; `write.rt`: the writing
+//! - `write.rt`: the writing
 //! - `laws.rt`: what is written reads as the value: a function without a body, whose contract is the law
 #![tactic(auto)]
 
 mod check;
 mod fault;
 mod fields;
-mod header;
-mod kind;
-mod laws;
-mod layout;
+pub mod laws;
+mod parts;
 mod pdu;
 mod read;
 mod write;
 
 pub use fault::{PduFault, PduFaultKind};
-pub use laws::round_trip_law;
 pub use pdu::Pdu;
 pub use read::decode;
 pub use write::{encode, encoded_len};

@@ -1,3 +1,4 @@
+//! The value of a PDU.
 use isis_base::{Level, LevelSet, LspId, NodeId, SystemId};
 
 /// A PDU (ISO 10589 9). `tlvs` are the octets behind its header. Times are in seconds.

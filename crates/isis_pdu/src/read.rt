@@ -1,3 +1,4 @@
+//! PDUs read.
 ghost use Rattle.std.specs.Prelude.{◌≡◌, ℕ, ◌↔◌, Ok};
 ghost use Rattle.std.specs.Result.{result_err};
 ghost use Rattle.isis_pdu.specs.Views.{PduView, decoded_view};
@@ -7,6 +8,7 @@ ghost use Rattle.isis_pdu.specs.Decoded.{decoded};
 
 use crate::check::{check_kind, check_start};
 use crate::fault::PduFault;
+use crate::fields::value_at;
 use crate::pdu::Pdu;
 
 /// The PDU that octets begin with, and its length in octets; octets past it aren't looked at (ISO 10589 9). Where there
@@ -22,6 +24,6 @@ pub fn decode(octets: &[u8]) -> Result<(Pdu<'_>, usize), PduFault>
     let kind = check_start(octets)?;
     let end = check_kind(kind, octets)?;
     let header = usize::from(kind.header_length());
-    let pdu = kind.value_at(octets, &octets[header..end]);
+    let pdu = value_at(kind, octets, &octets[header..end]);
     Ok((pdu, end))
 }

@@ -1,15 +1,13 @@
 //! The tables are from vectors.py beside src/, which packs PDUs with Python's `struct` and prints their values in the form
 //! of `Debug`.
 
-ghost use Rattle.std.specs.Prelude.{◌≡◌, ◌^◌, ◌<◌, ◌≤◌, length};
-ghost use Rattle.std.specs.Bool.{OnTrue};
-ghost use Rattle.isis_tlv.specs.Tlvs.{AreTlvs};
+ghost use Rattle.std.specs.Prelude.{◌≡◌};
 ghost use Rattle.isis_pdu.specs.Views.{pdu_view};
 ghost use Rattle.isis_pdu.specs.Spelling.{priority_of};
 
 use super::{Pdu, PduFaultKind, decode, encode, encoded_len};
-use isis_base::{Level, LspId, NodeId, Octets, SystemId};
-use isis_tlv::Tlvs;
+use isis_base::Octets;
+use isis_tlv::are_tlvs;
 use std::alloc::Global;
 use std::test::Fail;
 
@@ -99,19 +97,6 @@ fn octets_of(alloc: Global, hex: &str) -> Result<Vec<u8>, Fail> {
     Ok(octets)
 }
 
-/// Whether octets are TLVs to their end.
-fn are_tlvs(octets: &[u8]) -> bool
-    requires { length octets.now < 2 ^ 64 }
-    ensures { OnTrue result (AreTlvs octets.now) }
-{
-    for tlv in Tlvs::new(octets, 0) {
-        if let Err(_) = tlv {
-            return false;
-        }
-    }
-    true
-}
-
 /// A LAN hello's priority, 0 of another PDU.
 fn priority_of(pdu: &Pdu<'_>) -> u8
     ensures { result ≡ priority_of (pdu_view pdu.now) }
@@ -198,28 +183,5 @@ fn a_header_is_whole_and_unchanged(rt: HostRuntime) -> Result<(), Fail> {
         let want = want.map(|row| (row.1, row.2));
         assert_eq!(rt; got, want, "at {place}");
     }
-    Ok(())
-}
-
-#[test]
-fn the_longest_pdu_reads_back(rt: HostRuntime) -> Result<(), Fail> {
-    let tlvs = vec![in rt.alloc(); 0u8; 65508]?;
-    let system = SystemId([0, 0, 0, 0, 0, 1]);
-    let node = NodeId {
-        system,
-        pseudonode: 0,
-    };
-    let pdu = Pdu::Lsp {
-        level: Level::Two,
-        lifetime: 1200,
-        id: LspId { node, number: 0 },
-        number: 1,
-        checksum: 1,
-        flags: 3,
-        tlvs: &tlvs,
-    };
-    let octets = written(rt.alloc(), &pdu)?;
-    assert_eq!(rt; octets.len(), 65535);
-    assert_eq!(rt; decode(octets.as_slice()), Ok((pdu, 65535)));
     Ok(())
 }

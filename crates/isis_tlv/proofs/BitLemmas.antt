@@ -1,3 +1,4 @@
+-- Single bits of an octet, and the low bits of an address.
 use Rattle.std.proofs.Common.{◌≡◌, ℕ, zero, suc, ◌+◌, ◌*◌, ◌/◌, ◌%◌, ◌^◌, ◌<◌, ◌≤◌, eqb, refl, ap, ◌∙◌, arith}
 use Rattle.std.specs.Prelude.{not, bit_and}
 use Rattle.std.specs.Int.{bit_at}

@@ -1,10 +1,15 @@
-use Rattle.std.proofs.Common.{◌≡◌, ℕ, zero, suc, ◌+◌, ◌-◌, ◌*◌, ◌/◌, ◌%◌, ◌^◌, ◌<◌, ◌≤◌, List, ◌++◌, length, take, drop, get_or, Bool, true, false, cond, leb, eqb, Option, Some, None, ap, ◌∙◌, arith, length-append}
-use Rattle.std.proofs.lemmas.Bool.{le-leb}
+-- Prefixes, read off the front of octets.
+use Rattle.std.proofs.Common.{◌≡◌, ℕ, zero, suc, ◌+◌, ◌-◌, ◌*◌, ◌/◌, ◌%◌, ◌^◌, ◌<◌, ◌≤◌, List, ◌++◌, length, take, drop, get_or, Bool, true, false, cond, leb, eqb, Option, Some, None, option_and_then, refl, sym, ap, subst, ◌∙◌, arith, length-append}
+use Rattle.std.proofs.lemmas.Bool.{le-leb, lt-leb}
 use Rattle.std.proofs.lemmas.List.{take_at, length-take-le}
 use Rattle.std.proofs.lemmas.Nat.{shr_split, mod-pow-add}
 use Rattle.std.specs.Int.{bit_at}
-use Rattle.isis_tlv.specs.Numbers.{four_at, four_of}
-use Rattle.isis_tlv.specs.Items.{sized, prefix_at, PrefixView, octets_for, cleared, address_of}
+use Rattle.isis_base.specs.Fields.{u32_at, u32_octets}
+use Rattle.isis_tlv.specs.Items.{sized, prefix_at, octets_for, cleared, address_of, subs_at}
+use Rattle.isis_base.specs.declared.prefix.Prefix.{Prefix}
+use Rattle.isis_base.specs.Prefixes.{prefix_from}
+use Rattle.isis_base.proofs.PrefixValues.{prefix_from-prefix, prefix_from-long}
+use Rattle.isis_tlv.specs.declared.prefix.PrefixItem.{PrefixItem}
 use Rattle.isis_tlv.specs.Spelling.{prefix_octets}
 use Rattle.isis_tlv.specs.Fits.{IsPrefix}
 use Rattle.isis_tlv.proofs.RoundLemmas.{Again, sized-fits, four-again}
@@ -18,7 +23,7 @@ low-clear n j k h e =
     omega arith
 
 -- the first octets of an address whose other octets are 0 give the address
-held-again : (count address : ℕ) → count ≤ 4 → address < 4294967296 → address % 2 ^ (32 - 8 * count) ≡ 0 → four_at 0 (take count (four_of address)) ≡ address
+held-again : (count address : ℕ) → count ≤ 4 → address < 4294967296 → address % 2 ^ (32 - 8 * count) ≡ 0 → u32_at 0 (take count (u32_octets address)) ≡ address
 held-again zero a h small e = omega arith
 held-again (suc zero) a h small e = omega arith
 held-again (suc (suc zero)) a h small e = omega arith
@@ -26,16 +31,18 @@ held-again (suc (suc (suc zero))) a h small e = omega arith
 held-again (suc (suc (suc (suc zero)))) a h small e = four-again a small
 held-again (suc (suc (suc (suc (suc n))))) a h small e = absurd (omega arith)
 
-address-again : (bits address : ℕ) → bits ≤ 32 → address < 4294967296 → address % 2 ^ (32 - bits) ≡ 0 → cleared bits (four_at 0 (take (octets_for bits) (four_of address))) ≡ address
+address-again : (bits address : ℕ) → bits ≤ 32 → address < 4294967296 → address % 2 ^ (32 - bits) ≡ 0 → cleared bits (u32_at 0 (take (octets_for bits) (u32_octets address))) ≡ address
 address-again bits address h small clear =
     let held = held-again (octets_for bits) address (omega arith) small (low-clear address (32 - 8 * octets_for bits) (32 - bits) (omega arith) clear) in
     let same : cleared bits address ≡ address = omega (arith, shr_split address (32 - bits)) in
     ap (cleared bits) held ∙ same
 
 -- what is read of a prefix, by its length, its mark for sub-TLVs and its other mark
-abbrev read_by : List ℕ → ℕ → Bool → Bool → Option (PrefixView × ℕ)
+abbrev read_by : List ℕ → ℕ → Bool → Bool → Option (PrefixItem × ℕ)
 read_by octets bits subs down =
-    cond (leb bits 32) (sized (5 + octets_for bits + cond subs (1 + get_or octets (5 + octets_for bits) 0) 0) octets (record { address = address_of bits (drop 5 octets); length = bits; metric = four_at 0 octets; down = down })) None
+    option_and_then
+    (λ (prefix : Prefix). sized (5 + octets_for bits + cond subs (1 + get_or octets (5 + octets_for bits) 0) 0) octets (record { prefix = prefix; metric = u32_at 0 octets; down = down }))
+    (prefix_from (address_of bits (drop 5 octets)) bits)
 
 length-mark : (down : Bool) (bits : ℕ) → bits ≤ 32 → (cond down 128 0 + bits) % 64 ≡ bits
 length-mark true bits h = omega arith
@@ -51,20 +58,59 @@ down-mark false bits h = let none : (0 + bits) / 128 % 2 ≡ 0 = omega arith in 
 
 pub prefix-again : Again prefix_at prefix_octets IsPrefix
 prefix-again item rest is =
-    let bits = item.length in
-    let count = octets_for item.length in
-    let held = take count (four_of item.address) in
+    let prefix = item.prefix in
+    let bits = prefix.length in
+    let count = octets_for bits in
+    let held = take count (u32_octets prefix.address) in
     let octets = prefix_octets item ++ rest in
-    let within = is.fits in
-    let control = cond item.down 128 0 + item.length in
+    let within = prefix.fits in
+    let control = cond item.down 128 0 + bits in
     let few : count ≤ 4 = omega arith in
-    let many : length held ≡ count = length-take-le count (four_of item.address) few in
-    let address : address_of bits (held ++ rest) ≡ item.address = ap (λ (s : List ℕ). cleared bits (four_at 0 s)) (take_at held rest count many) ∙ address-again bits item.address is.fits is.address is.clear in
+    let many : length held ≡ count = length-take-le count (u32_octets prefix.address) few in
+    let address : address_of bits (held ++ rest) ≡ prefix.address = ap (λ (s : List ℕ). cleared bits (u32_at 0 s)) (take_at held rest count many) ∙ address-again bits prefix.address prefix.fits is.address prefix.clear in
     let metric = four-again item.metric is.metric in
-    ap (λ (n : ℕ). read_by octets n (eqb (bit_at control 6) 1) (eqb (bit_at control 7) 1)) (length-mark item.down bits is.fits)
-    ∙ ap (λ (t : Bool). read_by octets bits t (eqb (bit_at control 7) 1)) (subs-mark item.down bits is.fits)
-    ∙ ap (λ (t : Bool). read_by octets bits false t) (down-mark item.down bits is.fits)
-    ∙ ap (λ (t : Bool). cond t (sized (5 + count + 0) octets (record { address = address_of bits (held ++ rest); length = bits; metric = four_at 0 octets; down = item.down })) None) (le-leb bits 32 is.fits)
-    ∙ sized-fits (5 + count + 0) octets (record { address = address_of bits (held ++ rest); length = bits; metric = four_at 0 octets; down = item.down }) (let all = length-append held rest in omega arith)
-    ∙ (λ i. Some (record { address = address i; length = bits; metric = metric i; down = item.down }, 5 + count + 0))
+    ap (λ (n : ℕ). read_by octets n (eqb (bit_at control 6) 1) (eqb (bit_at control 7) 1)) (length-mark item.down bits prefix.fits)
+    ∙ ap (λ (t : Bool). read_by octets bits t (eqb (bit_at control 7) 1)) (subs-mark item.down bits prefix.fits)
+    ∙ ap (λ (t : Bool). read_by octets bits false t) (down-mark item.down bits prefix.fits)
+    ∙ ap (option_and_then (λ (p : Prefix). sized {X = PrefixItem} (5 + count + 0) octets (record { prefix = p; metric = u32_at 0 octets; down = item.down })))
+    (ap (λ (a : ℕ). prefix_from a bits) address ∙ prefix_from-prefix prefix prefix.address bits refl refl)
+    ∙ sized-fits {X = PrefixItem} (5 + count + 0) octets (record { prefix = prefix; metric = u32_at 0 octets; down = item.down }) (let all = length-append held rest in omega arith)
+    ∙ (λ i. Some (record { prefix = prefix; metric = metric i; down = item.down }, 5 + count + 0))
     ∙ ap (λ (n : ℕ). Some (item, n)) (omega arith)
+
+-- what is read, by the control octet and the length
+abbrev pub read_from : List ℕ → ℕ → ℕ → Option (PrefixItem × ℕ)
+read_from octets control bits =
+    option_and_then
+    (λ (prefix : Prefix). sized (5 + octets_for bits + subs_at control (5 + octets_for bits) octets) octets (record { prefix = prefix; metric = u32_at 0 octets; down = eqb (bit_at control 7) 1 }))
+    (prefix_from (address_of bits (drop 5 octets)) bits)
+
+read_from-all : (octets : List ℕ) (control bits : ℕ) → control ≡ get_or octets 4 0 → bits ≡ control % 64 → read_from octets control bits ≡ prefix_at octets
+read_from-all octets control bits is low =
+    ap (read_from octets control) low ∙ ap (λ (c : ℕ). read_from octets c (c % 64)) is
+
+-- none is longer than 32 bits
+pub prefix_at-long : (octets : List ℕ) (control bits : ℕ) → control ≡ get_or octets 4 0 → bits ≡ control % 64 → 32 < bits → None ≡ prefix_at octets
+prefix_at-long octets control bits is low h =
+    sym (ap (option_and_then (λ (p : Prefix). sized {X = PrefixItem} (5 + octets_for bits + subs_at control (5 + octets_for bits) octets) octets (record { prefix = p; metric = u32_at 0 octets; down = eqb (bit_at control 7) 1 }))) (prefix_from-long (address_of bits (drop 5 octets)) bits h))
+    ∙ read_from-all octets control bits is low
+
+then-none : {P X : Type 0} (o : Option P) (size : ℕ) (octets : List ℕ) (item : P → X) → length octets < size → option_and_then (λ (p : P). sized size octets (item p)) o ≡ None
+then-none None size octets item h = refl
+then-none (Some p) size octets item h = ap (λ (t : Bool). cond t (Some (item p, size)) None) (lt-leb size (length octets) h)
+
+-- none passes the end
+pub prefix_at-short : (octets : List ℕ) (control bits size : ℕ) → control ≡ get_or octets 4 0 → bits ≡ control % 64 → size ≡ 5 + octets_for bits + subs_at control (5 + octets_for bits) octets → length octets < size → None ≡ prefix_at octets
+prefix_at-short octets control bits size is low counted h =
+    sym (then-none (prefix_from (address_of bits (drop 5 octets)) bits) (5 + octets_for bits + subs_at control (5 + octets_for bits) octets) octets (λ (p : Prefix). record { prefix = p; metric = u32_at 0 octets; down = eqb (bit_at control 7) 1 }) (subst (λ (n : ℕ). length octets < n) counted h))
+    ∙ read_from-all octets control bits is low
+
+-- a prefix of the address and the length that stand there is the first item
+pub prefix_at-item : (octets : List ℕ) (control bits size : ℕ) (item : PrefixItem) → control ≡ get_or octets 4 0 → bits ≡ control % 64 → size ≡ 5 + octets_for bits + subs_at control (5 + octets_for bits) octets → size ≤ length octets → item.prefix.address ≡ address_of bits (drop 5 octets) → item.prefix.length ≡ bits → item.metric ≡ u32_at 0 octets → item.down ≡ eqb (bit_at control 7) 1 → Some (item, size) ≡ prefix_at octets
+prefix_at-item octets control bits size item is low counted h address long metric down =
+    let whole = 5 + octets_for bits + subs_at control (5 + octets_for bits) octets in
+    let read : Prefix → PrefixItem = λ p. record { prefix = p; metric = u32_at 0 octets; down = eqb (bit_at control 7) 1 } in
+    let found : read_from octets control bits ≡ sized whole octets (read item.prefix) = ap (option_and_then (λ (p : Prefix). sized whole octets (read p))) (prefix_from-prefix item.prefix (address_of bits (drop 5 octets)) bits address long) in
+    let fits : sized whole octets (read item.prefix) ≡ Some (read item.prefix, whole) = sized-fits whole octets (read item.prefix) (subst (λ (n : ℕ). n ≤ length octets) counted h) in
+    let same : read item.prefix ≡ item = λ i. record { prefix = item.prefix; metric = sym metric i; down = sym down i } in
+    ap (λ (n : ℕ). Some (item, n)) counted ∙ ap (λ (x : PrefixItem). Some (x, whole)) (sym same) ∙ sym fits ∙ sym found ∙ read_from-all octets control bits is low

@@ -1,3 +1,4 @@
+-- Items that are written read as those items.
 use Rattle.std.proofs.Common.{◌≡◌, ℕ, ◌+◌, ◌*◌, ◌/◌, ◌%◌, ◌<◌, ◌≤◌, List, [], ◌∷◌, ◌++◌, length, take, map, Bool, false, cond, leb, eqb, ◌&&◌, Option, Some, None, Result, Ok, refl, sym, ap, ◌∙◌, subst, arith, length-append}
 use Rattle.std.proofs.lemmas.Bool.{le-leb, ne_eqb}
 use Rattle.std.proofs.lemmas.List.{take_at, drop_at}
@@ -7,10 +8,10 @@ use Rattle.isis_base.specs.declared.identifiers.Snpa.{Snpa}
 use Rattle.isis_base.specs.declared.entry.LspEntry.{LspEntry}
 use Rattle.isis_tlv.specs.declared.fault.ValueFault.{ValueFault}
 use Rattle.isis_tlv.specs.declared.neighbour.NeighbourItem.{NeighbourItem}
-use Rattle.isis_tlv.specs.Items.{sized, area_at, snpa_at, entry_at, neighbour_at, values_of}
+use Rattle.isis_tlv.specs.Items.{sized, area_at, snpa_at, entry_at, neighbour_at, values_of, TakesSome}
 use Rattle.isis_tlv.specs.Spelling.{area_octets, entry_octets, neighbour_octets}
 use Rattle.isis_tlv.specs.Fits.{IsArea, IsSnpa, IsEntry, IsNeighbour}
-use Rattle.isis_tlv.proofs.WalkLemmas.{TakesSome, values-end, values-item}
+use Rattle.isis_tlv.proofs.WalkLemmas.{values-end, values-item}
 
 -- the octets of each item read as that item, whatever follows
 abbrev pub Again : {X : Type 0} → (List ℕ → Option (X × ℕ)) → (X → List ℕ) → (X → Type 0) → Type 0

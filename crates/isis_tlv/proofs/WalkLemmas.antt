@@ -1,10 +1,11 @@
+-- What a walk has left after an item, a fault or the end.
 use Rattle.std.proofs.Common.{◌≡◌, ℕ, zero, suc, ◌+◌, ◌<◌, ◌≤◌, List, [], ◌∷◌, length, drop, true, false, eqb, Option, Some, None, Result, Ok, Err, refl, sym, ap, ◌∙◌, arith, length-drop}
 use Rattle.std.specs.Result.{IfOk}
 use Rattle.std.specs.Option.{ok_or, IfSome}
 use Rattle.std.proofs.lemmas.Bool.{eqb-true, eqb-false, eq-eqb}
 use Rattle.isis_tlv.specs.declared.fault.ValueFault.{ValueFault}
 use Rattle.isis_tlv.specs.Walks.{before, walk, items_of}
-use Rattle.isis_tlv.specs.Items.{values_of}
+use Rattle.isis_tlv.specs.Items.{values_of, TakesSome}
 
 module _ {X F : Type 0} where
   -- an item has at least one octet
@@ -76,10 +77,6 @@ module _ {X F : Type 0} where
         sym view
         ∙ items-err place octets fault (let ne = eqb-false _ _ (sym some) in omega arith) (sym is)
         ∙ ap (λ (others : List (Result X F)). Err fault ∷ others) (sym (items-end later rest (items_of first later rest) refl (sym (eq-eqb (length rest) 0 (ap length past)))))
-
--- an item of a value has at least one octet
-abbrev pub TakesSome : {X : Type 0} → (List ℕ → Option (X × ℕ)) → Type 0
-TakesSome {X} first = (octets : List ℕ) → IfSome {T = X × ℕ} (first octets) (λ item. 1 ≤ item.1)
 
 Takes-from_some : {X : Type 0} (found : Option (X × ℕ)) (fault : ValueFault) → IfSome {T = X × ℕ} found (λ item. 1 ≤ item.1) → Takes (ok_or found fault)
 Takes-from_some None fault takes = tt

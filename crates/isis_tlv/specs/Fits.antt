@@ -1,9 +1,10 @@
+-- What a field of the standard's size holds.
 use Rattle.std.specs.Prelude.{◌≡◌, ℕ, ◌-◌, ◌%◌, ◌^◌, ◌<◌, ◌≤◌, List, length, IfSome, IsSome}
 use Rattle.isis_base.specs.declared.identifiers.Snpa.{Snpa}
 use Rattle.isis_base.specs.declared.entry.LspEntry.{LspEntry}
 use Rattle.isis_tlv.specs.declared.neighbour.NeighbourItem.{NeighbourItem}
 use Rattle.isis_tlv.specs.declared.three_way.ThreeWay.{ThreeWay}
-use Rattle.isis_tlv.specs.Items.{PrefixView}
+use Rattle.isis_tlv.specs.declared.prefix.PrefixItem.{PrefixItem}
 
 -- What a field of the standard's size holds. A clause's numbers and lists have no size of their own.
 
@@ -29,11 +30,9 @@ pub record IsNeighbour (item : NeighbourItem) : Type 0 where
   pub metric : item.metric < 2 ^ 24
 
 -- a prefix (RFC 5305 4)
-pub record IsPrefix (item : PrefixView) : Type 0 where
+pub record IsPrefix (item : PrefixItem) : Type 0 where
   pub metric : item.metric < 2 ^ 32
-  pub address : item.address < 2 ^ 32
-  pub fits : item.length ≤ 32
-  pub clear : item.address % 2 ^ (32 - item.length) ≡ 0
+  pub address : item.prefix.address < 2 ^ 32
 
 -- a three-way value (RFC 5303 3): no neighbour without an own ID
 pub record IsThreeWay (value : ThreeWay) : Type 0 where

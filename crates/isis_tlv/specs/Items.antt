@@ -1,14 +1,18 @@
-use Rattle.std.specs.Prelude.{ℕ, suc, zero, ◌+◌, ◌-◌, ◌*◌, ◌/◌, ◌%◌, ◌^◌, ◌==◌, ◌&&◌, nat_le, Bool, List, length, take, drop, slice_index, Option, Some, None, Result, if◌then◌else◌, option_and_then}
-use Rattle.std.specs.Option.{ok_or}
+-- What the values of codes 1, 6, 9, 22, 135 and 240 read as.
+use Rattle.std.specs.Prelude.{ℕ, suc, zero, ◌+◌, ◌-◌, ◌*◌, ◌/◌, ◌%◌, ◌^◌, ◌≤◌, ◌==◌, ◌&&◌, nat_le, Bool, List, length, take, drop, slice_index, Option, Some, None, Result, if◌then◌else◌, option_and_then}
+use Rattle.std.specs.Option.{ok_or, IfSome}
 use Rattle.std.specs.Int.{bit_at}
 use Rattle.isis_base.specs.declared.identifiers.Snpa.{Snpa}
 use Rattle.isis_base.specs.declared.entry.LspEntry.{LspEntry}
+use Rattle.isis_base.specs.declared.prefix.Prefix.{Prefix}
+use Rattle.isis_base.specs.Prefixes.{prefix_from}
+use Rattle.isis_tlv.specs.declared.prefix.PrefixItem.{PrefixItem}
 use Rattle.isis_tlv.specs.declared.fault.ValueFault.{ValueFault}
 use Rattle.isis_tlv.specs.declared.neighbour.NeighbourItem.{NeighbourItem}
 use Rattle.isis_tlv.specs.declared.three_way.ThreeWay.{ThreeWay}
 use Rattle.isis_tlv.specs.declared.three_way.Adj.{Adj}
 use Rattle.isis_tlv.specs.declared.three_way.Adj.TheVariants.{Down, Initializing, Up}
-use Rattle.isis_tlv.specs.Numbers.{two_at, three_at, four_at, system_at, node_at, lsp_at}
+use Rattle.isis_base.specs.Fields.{u16_at, u24_at, u32_at, system_at, node_at, lsp_at}
 use Rattle.isis_tlv.specs.Walks.{items_of}
 
 -- Each function below gives the item that octets begin with and the number of its octets, or None where none fits.
@@ -31,19 +35,12 @@ snpa_at octets = sized 6 octets (record { 0 = take 6 octets })
 -- lifetime, LSP ID, sequence number and checksum (ISO 10589 9.10)
 abbrev pub entry_at : List ℕ → Option (LspEntry × ℕ)
 entry_at octets =
-    sized 16 octets (record { lifetime = two_at 0 octets; id = lsp_at 2 octets; number = four_at 10 octets; checksum = two_at 14 octets })
+    sized 16 octets (record { lifetime = u16_at 0 octets; id = lsp_at 2 octets; number = u32_at 10 octets; checksum = u16_at 14 octets })
 
 -- a node, a metric, a length and as many octets of sub-TLVs (RFC 5305 3)
 abbrev pub neighbour_at : List ℕ → Option (NeighbourItem × ℕ)
 neighbour_at octets =
-    sized (11 + slice_index octets 10) octets (record { node = node_at 0 octets; metric = three_at 7 octets })
-
--- an IPv4 prefix with its metric, and whether it was leaked down (own)
-pub record PrefixView : Type 0 where
-  pub address : ℕ
-  pub length : ℕ
-  pub metric : ℕ
-  pub down : Bool
+    sized (11 + slice_index octets 10) octets (record { node = node_at 0 octets; metric = u24_at 7 octets })
 
 -- the number of octets that hold so many bits (RFC 5305 4)
 abbrev pub octets_for : ℕ → ℕ
@@ -55,21 +52,26 @@ cleared bits address = address / 2 ^ (32 - bits) * 2 ^ (32 - bits)
 
 -- the address of the octets that hold a prefix of so many bits (RFC 5305 4)
 abbrev pub address_of : ℕ → List ℕ → ℕ
-address_of bits octets = cleared bits (four_at 0 (take (octets_for bits) octets))
+address_of bits octets = cleared bits (u32_at 0 (take (octets_for bits) octets))
 
 -- after a prefix: nothing without the mark for sub-TLVs, else a length and as many octets (RFC 5305 4)
 abbrev pub subs_at : ℕ → ℕ → List ℕ → ℕ
 subs_at control place octets = if bit_at control 6 == 1 then 1 + slice_index octets place else 0
 
 -- a metric, a control octet, as few octets as hold the prefix, and sub-TLVs (RFC 5305 4)
-abbrev pub prefix_at : List ℕ → Option (PrefixView × ℕ)
+abbrev pub prefix_at : List ℕ → Option (PrefixItem × ℕ)
 prefix_at octets =
     let control = slice_index octets 4 in
     let bits = control % 64 in
     let end = 5 + octets_for bits in
-    if nat_le bits 32
-    then sized (end + subs_at control end octets) octets (record { address = address_of bits (drop 5 octets); length = bits; metric = four_at 0 octets; down = bit_at control 7 == 1 })
-    else None
+    option_and_then
+    (λ (prefix : Prefix). sized (end + subs_at control end octets) octets
+        (record { prefix = prefix; metric = u32_at 0 octets; down = bit_at control 7 == 1 }))
+    (prefix_from (address_of bits (drop 5 octets)) bits)
+
+-- an item that octets begin with has at least one of them (own)
+abbrev pub TakesSome : {X : Type 0} → (List ℕ → Option (X × ℕ)) → Type 0
+TakesSome {X} first = (octets : List ℕ) → IfSome {T = X × ℕ} (first octets) (λ item. 1 ≤ item.1)
 
 -- what a value reads as: its items, and the fault at the first octet of one that doesn't fit (own)
 abbrev pub values_of : {X : Type 0} → (List ℕ → Option (X × ℕ)) → ℕ → List ℕ → List (Result X ValueFault)
@@ -88,7 +90,7 @@ entries_of value = values_of entry_at 0 value
 abbrev pub neighbours_of : List ℕ → List (Result NeighbourItem ValueFault)
 neighbours_of value = values_of neighbour_at 0 value
 
-abbrev pub prefixes_of : List ℕ → List (Result PrefixView ValueFault)
+abbrev pub prefixes_of : List ℕ → List (Result PrefixItem ValueFault)
 prefixes_of value = values_of prefix_at 0 value
 
 -- the state of its octet (RFC 5303 3)
@@ -102,8 +104,8 @@ state_of (suc (suc (suc n))) = None
 abbrev pub parts_at : List ℕ → Adj → Option ThreeWay
 parts_at octets state =
     if length octets == 1 then Some (record { state = state; own_id = None; neighbour = None })
-    else (if length octets == 5 then Some (record { state = state; own_id = Some (four_at 1 octets); neighbour = None })
-    else (if length octets == 15 then Some (record { state = state; own_id = Some (four_at 1 octets); neighbour = Some (system_at 5 octets, four_at 11 octets) })
+    else (if length octets == 5 then Some (record { state = state; own_id = Some (u32_at 1 octets); neighbour = None })
+    else (if length octets == 15 then Some (record { state = state; own_id = Some (u32_at 1 octets); neighbour = Some (system_at 5 octets, u32_at 11 octets) })
     else None))
 
 -- what a three-way value reads as; a fault is at 0 (own)

@@ -1,7 +1,9 @@
-pub mod Numbers
 pub mod Walks
 pub mod Tlvs
 pub mod TlvViews
 pub mod Items
+pub mod Takes
 pub mod Spelling
 pub mod Fits
+pub mod Framed
+pub mod Faults

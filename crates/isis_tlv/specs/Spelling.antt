@@ -1,3 +1,4 @@
+-- What is written of the values of codes 1, 6, 9, 22, 129, 132, 135 and 240.
 use Rattle.std.specs.Prelude.{ℕ, ◌+◌, List, [], ◌∷◌, ◌++◌, length, take, map, Option, Some, None, Result, Ok, Err, if◌then◌else◌}
 use Rattle.std.specs.List.{flat_map}
 use Rattle.isis_base.specs.declared.identifiers.Snpa.{Snpa}
@@ -10,8 +11,8 @@ use Rattle.isis_tlv.specs.declared.fault.ValueFault.{ValueFault}
 use Rattle.isis_tlv.specs.declared.three_way.ThreeWay.{ThreeWay}
 use Rattle.isis_tlv.specs.declared.three_way.Adj.{Adj}
 use Rattle.isis_tlv.specs.declared.three_way.Adj.TheVariants.{Down, Initializing, Up}
-use Rattle.isis_tlv.specs.Numbers.{two_of, three_of, four_of}
-use Rattle.isis_tlv.specs.Items.{PrefixView, octets_for}
+use Rattle.isis_base.specs.Fields.{u16_octets, u24_octets, u32_octets}
+use Rattle.isis_tlv.specs.Items.{octets_for}
 use Rattle.isis_tlv.specs.Tlvs.{tlv_octets}
 
 -- area addresses (ISO 10589 9.5)
@@ -33,7 +34,7 @@ snpa_tlv list = tlv_octets 6 (snpa_value list)
 
 -- LSP entries (ISO 10589 9.10)
 abbrev pub entry_octets : LspEntry → List ℕ
-entry_octets entry = two_of entry.lifetime ++ lsp_octets entry.id ++ four_of entry.number ++ two_of entry.checksum
+entry_octets entry = u16_octets entry.lifetime ++ lsp_octets entry.id ++ u32_octets entry.number ++ u16_octets entry.checksum
 
 abbrev pub entry_value : List LspEntry → List ℕ
 entry_value list = flat_map entry_octets list
@@ -43,7 +44,7 @@ entry_tlv list = tlv_octets 9 (entry_value list)
 
 -- neighbours without sub-TLVs (RFC 5305 3)
 abbrev pub neighbour_octets : NeighbourItem → List ℕ
-neighbour_octets item = node_octets item.node ++ three_of item.metric ++ 0 ∷ []
+neighbour_octets item = node_octets item.node ++ u24_octets item.metric ++ 0 ∷ []
 
 abbrev pub neighbour_value : List NeighbourItem → List ℕ
 neighbour_value list = flat_map neighbour_octets list
@@ -52,23 +53,20 @@ abbrev pub neighbour_tlv : List NeighbourItem → List ℕ
 neighbour_tlv list = tlv_octets 22 (neighbour_value list)
 
 -- prefixes without sub-TLVs (RFC 5305 4)
-abbrev pub prefix_octets : PrefixView → List ℕ
+abbrev pub prefix_octets : PrefixItem → List ℕ
 prefix_octets item =
-    four_of item.metric ++ ((if item.down then 128 else 0) + item.length) ∷ take (octets_for item.length) (four_of item.address)
-
--- a prefix, as contracts see it (own)
-abbrev pub prefix_view : PrefixItem → PrefixView
-prefix_view item = record { address = item.prefix.address; length = item.prefix.length; metric = item.metric; down = item.down }
+    u32_octets item.metric ++ ((if item.down then 128 else 0) + item.prefix.length)
+    ∷ take (octets_for item.prefix.length) (u32_octets item.prefix.address)
 
 abbrev pub prefix_value : List PrefixItem → List ℕ
-prefix_value list = flat_map prefix_octets (map prefix_view list)
+prefix_value list = flat_map prefix_octets list
 
 abbrev pub prefix_tlv : List PrefixItem → List ℕ
 prefix_tlv list = tlv_octets 135 (prefix_value list)
 
 -- IPv4 addresses (RFC 1195 5.3)
 abbrev pub address_value : List ℕ → List ℕ
-address_value list = flat_map four_of list
+address_value list = flat_map u32_octets list
 
 abbrev pub address_tlv : List ℕ → List ℕ
 address_tlv list = tlv_octets 132 (address_value list)
@@ -85,19 +83,14 @@ state_octet Down = 2
 
 abbrev pub own_octets : Option ℕ → List ℕ
 own_octets None = []
-own_octets (Some id) = four_of id
+own_octets (Some id) = u32_octets id
 
 abbrev pub neighbour_part : Option (SystemId × ℕ) → List ℕ
 neighbour_part None = []
-neighbour_part (Some neighbour) = neighbour.0.0 ++ four_of neighbour.1
+neighbour_part (Some neighbour) = neighbour.0.0 ++ u32_octets neighbour.1
 
 abbrev pub three_way_octets : ThreeWay → List ℕ
 three_way_octets value = state_octet value.state ∷ own_octets value.own_id ++ neighbour_part value.neighbour
 
 abbrev pub three_way_tlv : ThreeWay → List ℕ
 three_way_tlv value = tlv_octets 240 (three_way_octets value)
-
--- a prefix or a fault, as contracts see it (own)
-abbrev pub prefix_result : Result PrefixItem ValueFault → Result PrefixView ValueFault
-prefix_result (Ok item) = Ok (prefix_view item)
-prefix_result (Err fault) = Err fault

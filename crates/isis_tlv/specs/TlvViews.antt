@@ -1,3 +1,4 @@
+-- TLVs and faults without where they lie in memory.
 use Rattle.std.specs.Prelude.{ℕ, ◌+◌, length, Result, Ok, Err}
 use Rattle.isis_tlv.specs.declared.tlv.Tlv.{Tlv}
 use Rattle.isis_tlv.specs.declared.tlv.TlvFault.{TlvFault}

@@ -1,3 +1,4 @@
+-- TLVs: a code, a length and a value, one after another.
 use Rattle.std.specs.Prelude.{◌≡◌, ℕ, ◌+◌, ◌-◌, ◌≤◌, nat_le, List, [], ◌∷◌, length, take, drop, None, Result, Ok, Err, if◌then◌else◌}
 use Rattle.std.specs.Result.{ok_prefix}
 use Rattle.isis_tlv.specs.declared.tlv.TlvFault.{TlvFault}

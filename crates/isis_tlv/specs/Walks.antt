@@ -1,3 +1,4 @@
+-- Walks over octets, item by item, up to the end or a fault.
 use Rattle.std.specs.Prelude.{ℕ, zero, suc, ◌+◌, List, [], ◌∷◌, length, drop, Option, Some, None, Result, Ok, Err}
 
 module _ {X F : Type 0} where

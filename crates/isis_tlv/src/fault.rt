@@ -1,3 +1,4 @@
+//! Where a value doesn't fit.
 use std::error::Error;
 use std::fmt;
 
@@ -8,6 +9,11 @@ pub struct ValueFault {
 }
 
 impl fmt::Display for ValueFault {
+    ghost use Rattle.std.specs.Prelude.{Some};
+    ghost use Rattle.isis_tlv.specs.Faults.{value_fault_text};
+
+    ghost output = { λ fault. Some (value_fault_text fault) };
+
     fn fmt<W: fmt::Write>(&self, f: &mut fmt::Formatter<W>) -> fmt::Result {
         let place = self.place;
         write!(f, "the item at octet {place} of the value doesn't fit")

@@ -1,8 +1,9 @@
+//! IPv4 addresses and protocols, the values of codes 132 and 129, which are only written.
 ghost use Rattle.std.specs.Prelude.{◌≡◌, ◌≤◌, ◌*◌, ◌++◌, length, OnOk, OnErr};
 ghost use Rattle.isis_tlv.specs.Spelling.{address_value, address_tlv, protocol_tlv};
 
-use crate::draft::{Draft, put_tlv};
-use isis_base::{Octets, OutOfMemory};
+use crate::put::put_tlv;
+use isis_base::{Draft, Octets, OutOfMemory};
 
 /// Adds a TLV of code 132 with these IPv4 addresses, at most 63, each with its first octet the greatest. At
 /// `OutOfMemory` the list is as it was.
@@ -16,7 +17,7 @@ pub fn put_addresses(out: &mut Octets, list: &[u32]) -> Result<(), OutOfMemory>
     for address in list {
         draft.add(&address.to_be_bytes());
     }
-    draft.put(132, out)
+    put_tlv(out, 132, draft.as_slice())
 }
 
 /// Adds the TLV of code 129 that names IPv4 alone. At `OutOfMemory` the list is as it was.

@@ -1,3 +1,4 @@
+//! What holds of all octets: functions without a body, whose contracts are the laws.
 ghost use Rattle.std.specs.Prelude.{◌≡◌, ℕ, ◌+◌, ◌<◌, ◌++◌, [], ◌∷◌, List, map, sum_by, length, Ok, Err, None, ◌↔◌};
 ghost use Rattle.std.specs.List.{AllByRecursion, flat_map};
 ghost use Rattle.isis_base.specs.declared.entry.LspEntry.{LspEntry};
@@ -8,8 +9,8 @@ ghost use Rattle.isis_tlv.specs.declared.prefix.PrefixItem.{PrefixItem};
 ghost use Rattle.isis_tlv.specs.declared.three_way.ThreeWay.{ThreeWay};
 ghost use Rattle.isis_tlv.specs.Walks.{fault_of};
 ghost use Rattle.isis_tlv.specs.Tlvs.{TlvView, tlv_octets, tlvs_of, tlv_list, AreTlvs, StandsIn};
-ghost use Rattle.isis_tlv.specs.Items.{PrefixView, octets_for, areas_of, snpas_of, entries_of, neighbours_of, prefixes_of, three_way_of};
-ghost use Rattle.isis_tlv.specs.Spelling.{area_value, snpa_value, entry_value, neighbour_value, prefix_octets, prefix_value, three_way_octets};
+ghost use Rattle.isis_tlv.specs.Items.{octets_for, areas_of, snpas_of, entries_of, neighbours_of, prefixes_of, three_way_of};
+ghost use Rattle.isis_tlv.specs.Spelling.{area_value, snpa_value, entry_value, neighbour_value, prefix_value, three_way_octets};
 ghost use Rattle.isis_tlv.specs.Fits.{IsArea, IsSnpa, IsEntry, IsNeighbour, IsPrefix, IsThreeWay};
 
 /// What octets read as, one TLV at a time: each list of octets has one of these forms.
@@ -50,7 +51,7 @@ pub fn item_laws()
         → entries_of (entry_value list) ≡ map (λ entry. Ok entry) list }
     ensures neighbours { (list : List NeighbourItem) → AllByRecursion IsNeighbour list
         → neighbours_of (neighbour_value list) ≡ map (λ item. Ok item) list }
-    ensures prefixes { (list : List PrefixView) → AllByRecursion IsPrefix list
-        → prefixes_of (flat_map prefix_octets list) ≡ map (λ item. Ok item) list }
+    ensures prefixes { (list : List PrefixItem) → AllByRecursion IsPrefix list
+        → prefixes_of (prefix_value list) ≡ map (λ item. Ok item) list }
     ensures three_way { (value : ThreeWay) → IsThreeWay value → three_way_of (three_way_octets value) ≡ Ok value }
 {}

@@ -1,3 +1,4 @@
+//! The octets that a walk has left.
 ghost use Rattle.std.specs.Prelude.{◌≡◌, ◌+◌, ◌^◌, ◌<◌, ◌≤◌, ◌==◌, [], length, drop};
 
 /// The octets that a walk has left, and the place of the first of them.

@@ -8,22 +8,24 @@
 //! - `tlv.rt`: the walk over TLVs
 //! - `fault.rt`: where a value doesn't fit
 //! - `left.rt`: the octets that a walk has left
+//! - `items.rt`: the walk over the items of a value, whatever they are
 //! - `area.rt`, `snpa.rt`, `entry.rt`, `neighbour.rt`, `prefix.rt`: the values of codes 1, 6, 9, 22 and 135
 //! - `three_way.rt`: the value of code 240
 //! - `ipv4.rt`: codes 129 and 132, which are only written
-//! - `draft.rt`: a value while it is written
+//! - `put.rt`: a TLV put behind others
 //! - `laws.rt`: what follows for all octets: functions without a body, whose contracts are the laws
 #![tactic(auto)]
 
 mod area;
-mod draft;
 mod entry;
 mod fault;
 mod ipv4;
-mod laws;
+mod items;
+pub mod laws;
 mod left;
 mod neighbour;
 mod prefix;
+mod put;
 mod snpa;
 mod three_way;
 mod tlv;
@@ -32,12 +34,12 @@ pub use area::{AreaItems, areas, put_areas};
 pub use entry::{EntryItems, entries, put_entries};
 pub use fault::ValueFault;
 pub use ipv4::{put_addresses, put_protocols};
-pub use laws::{item_laws, length_laws, tlv_laws, tlv_steps};
+pub use items::{Item, Items};
 pub use neighbour::{NeighbourItem, NeighbourItems, neighbours, put_neighbours};
 pub use prefix::{PrefixItem, PrefixItems, prefixes, put_prefixes};
 pub use snpa::{SnpaItems, put_snpas, snpas};
 pub use three_way::{Adj, ThreeWay, put_three_way, three_way_value};
-pub use tlv::{Tlv, TlvFault, Tlvs};
+pub use tlv::{Tlv, TlvFault, Tlvs, are_tlvs};
 
 #[cfg(test)]
 mod tests;

@@ -1,17 +1,17 @@
-ghost use Rattle.std.specs.Prelude.{◌≡◌, ◌≤◌, ◌+◌, ◌++◌, ◌==◌, map, length, Ok, OnOk, OnErr};
+//! Prefixes, the value of code 135.
+ghost use Rattle.std.specs.Prelude.{◌≡◌, ◌≤◌, ◌+◌, ◌%◌, ◌++◌, ◌==◌, map, length, Ok, OnOk, OnErr};
 ghost use Rattle.std.specs.Option.{option_map};
 ghost use Rattle.std.specs.Int.{bit_at};
-ghost use Rattle.isis_tlv.specs.Numbers.{four_at};
+ghost use Rattle.isis_base.specs.Fields.{u32_at};
 ghost use Rattle.isis_tlv.specs.Items.{prefix_at, prefixes_of, cleared, octets_for, subs_at};
 ghost use Rattle.isis_tlv.specs.Fits.{IsPrefix};
-ghost use Rattle.isis_tlv.specs.Spelling.{prefix_octets, prefix_view, prefix_value, prefix_tlv};
+ghost use Rattle.isis_tlv.specs.Spelling.{prefix_octets, prefix_value, prefix_tlv};
 
-use crate::draft::Draft;
-use crate::fault::ValueFault;
+use crate::items::{Item, Items};
 use crate::laws::item_laws;
-use crate::left::Left;
-use isis_base::{Octets, OutOfMemory, Prefix};
-use std::marker::Model;
+use crate::put::put_tlv;
+use isis_base::fields::u32_at;
+use isis_base::{Draft, Octets, OutOfMemory, Prefix};
 
 /// One prefix of an extended IP reachability TLV (RFC 5305 4), the metric to it, and whether it was leaked down.
 #[derive(Clone, Copy, Debug, PartialEq, Eq)]
@@ -22,54 +22,43 @@ pub struct PrefixItem {
 }
 
 /// The prefixes of a value of code 135, in order. A fault is the last item. Contracts see what is left.
-#[derive(Debug, Drop)]
-pub struct PrefixItems<'a> {
-    left: Left<'a>,
-}
-
-impl<'a> Model for PrefixItems<'a> {
-    ghost use Rattle.std.specs.Prelude.{List, Result};
-    ghost use Rattle.isis_tlv.specs.Items.{PrefixView};
-    ghost use Rattle.isis_tlv.specs.declared.fault.ValueFault.{ValueFault};
-    ghost use Rattle.isis_tlv.specs.Items.{values_of, prefix_at};
-
-    ghost Value = { List (Result PrefixView ValueFault) };
-
-    ghost view = { λ walk. values_of prefix_at walk.left.place walk.left.octets.now };
-}
+pub type PrefixItems<'a> = Items<'a, PrefixItem>;
 
 /// The prefixes of a value of code 135 (RFC 5305 4). Bits past a prefix's length are read as 0, and sub-TLVs
 /// are stepped over. A prefix length above 32, or a length of sub-TLVs that passes the end, is a fault.
 pub fn prefixes(value: &[u8]) -> PrefixItems<'_>
     ensures { result ≡ prefixes_of value.now }
 {
-    let left = Left {
-        octets: value,
-        place: 0,
-    };
-    PrefixItems { left }
+    Items::new(value)
 }
 
-impl<'a> Iterator for PrefixItems<'a> {
-    ghost use Rattle.std.specs.Iterator.{YieldsFirstBy, item_count};
-    ghost use Rattle.isis_tlv.specs.Spelling.{prefix_result};
+impl Item for PrefixItem {
+    ghost use Rattle.isis_tlv.specs.Items.{prefix_at};
+    ghost use Rattle.isis_tlv.specs.Takes.{prefix-some};
 
-    type Item = Result<PrefixItem, ValueFault>;
+    ghost first = { prefix_at };
 
-    ghost next_gives = { YieldsFirstBy prefix_result (λ rest. rest) };
+    ghost takes = { prefix-some };
 
-    ghost remaining = { item_count (λ rest. rest) };
-
-    fn next(&mut self) -> Option<Result<PrefixItem, ValueFault>> {
-        if self.left.is_done() {
+    fn read_first(octets: &[u8]) -> Option<(PrefixItem, usize)> {
+        let Some(control) = octets.get(4) else {
+            return None;
+        };
+        let bits = length_of(*control);
+        if bits > 32 {
             return None;
         }
-        let Some((item, count)) = prefix_at(self.left.octets) else {
-            let place = self.left.stop();
-            return Some(Err(ValueFault { place }));
+        let end = 5 + octets_for(bits);
+        let size = end + subs_at(*control, end, octets);
+        if size > octets.len() {
+            return None;
+        }
+        let item = PrefixItem {
+            prefix: prefix_of(&octets[5..end], bits),
+            metric: u32_at(octets, 0),
+            down: is_down(*control),
         };
-        self.left.pass(count);
-        Some(Ok(item))
+        Some((item, size))
     }
 }
 
@@ -79,32 +68,11 @@ const DOWN: u8 = 0x80;
 /// The control octet's mark for sub-TLVs.
 const SUBS: u8 = 0x40;
 
-/// The prefix that stands first, and the number of its octets with those of its sub-TLVs.
-fn prefix_at(octets: &[u8]) -> Option<(PrefixItem, usize)>
-    ensures { option_map (λ found. (prefix_view found.0, found.1)) result ≡ prefix_at octets.now }
+/// The length of a prefix, in bits, that the control octet tells: its low six bits.
+fn length_of(control: u8) -> u8
+    ensures { result ≡ control % 64 }
 {
-    let [m, n, o, p, control, ..] = octets else {
-        return None;
-    };
-    let control = *control;
-    let bits = control & 0x3f;
-    if bits > 32 {
-        return None;
-    }
-    let end = 5 + octets_for(bits);
-    let size = end + subs_at(control, end, octets);
-    if size > octets.len() {
-        return None;
-    }
-    let prefix = prefix_of(&octets[5..end], bits);
-    let metric = u32::from_be_bytes([*m, *n, *o, *p]);
-    let down = is_down(control);
-    let item = PrefixItem {
-        prefix,
-        metric,
-        down,
-    };
-    Some((item, size))
+    control % 64
 }
 
 /// The number of octets that hold so many bits.
@@ -145,7 +113,7 @@ fn subs_at(control: u8, place: usize, octets: &[u8]) -> usize
 fn prefix_of(held: &[u8], bits: u8) -> Prefix
     requires bits { bits ≤ 32 }
     requires held { length held.now ≤ 4 }
-    ensures address { result.address ≡ cleared bits (four_at 0 held.now) }
+    ensures address { result.address ≡ cleared bits (u32_at 0 held.now) }
     ensures length { result.length ≡ bits }
 {
     let past = 32 - bits;
@@ -156,7 +124,7 @@ fn prefix_of(held: &[u8], bits: u8) -> Prefix
 /// The address that begins with these octets and goes on with zeros.
 fn address_of(held: &[u8]) -> u32
     requires { length held.now ≤ 4 }
-    ensures { result ≡ four_at 0 held.now }
+    ensures { result ≡ u32_at 0 held.now }
 {
     let mut octets = [0; 4];
     octets[..held.len()].copy_from_slice(held);
@@ -165,9 +133,9 @@ fn address_of(held: &[u8]) -> u32
 
 /// Adds the octets of a prefix, without sub-TLVs.
 fn add_prefix(draft: &mut Draft, item: &PrefixItem)
-    requires { length draft.old + length (prefix_octets (prefix_view item.now)) ≤ 255 }
-    ensures added { draft.new ≡ draft.old ++ prefix_octets (prefix_view item.now) }
-    ensures fits { IsPrefix (prefix_view item.now) }
+    requires { length draft.old + length (prefix_octets item.now) ≤ 255 }
+    ensures added { draft.new ≡ draft.old ++ prefix_octets item.now }
+    ensures fits { IsPrefix item.now }
 {
     let length = item.prefix.length();
     let mark = if item.down { DOWN } else { 0 };
@@ -184,12 +152,12 @@ pub fn put_prefixes(out: &mut Octets, list: &[PrefixItem]) -> Result<(), OutOfMe
     requires { length (prefix_value list.now) ≤ 255 }
     ensures ok { OnOk result (out.new ≡ out.old ++ prefix_tlv list.now) }
     ensures err { OnErr result (out.new ≡ out.old) }
-    ensures reads { prefixes_of (prefix_value list.now) ≡ map (λ item. Ok item) (map prefix_view list.now) }
+    ensures reads { prefixes_of (prefix_value list.now) ≡ map (λ item. Ok item) list.now }
 {
     let mut draft = Draft::new();
     for item in list {
         add_prefix(&mut draft, item);
     }
     item_laws();
-    draft.put(135, out)
+    put_tlv(out, 135, draft.as_slice())
 }

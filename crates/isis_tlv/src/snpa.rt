@@ -1,71 +1,36 @@
+//! SNPAs, the value of code 6.
 ghost use Rattle.std.specs.Prelude.{◌≡◌, ◌≤◌, ◌+◌, ◌*◌, ◌++◌, map, length, Ok, OnOk, OnErr};
 ghost use Rattle.isis_tlv.specs.Items.{snpa_at, snpas_of};
 ghost use Rattle.isis_tlv.specs.Fits.{IsSnpa};
 ghost use Rattle.isis_tlv.specs.Spelling.{snpa_value, snpa_tlv};
 
-use crate::draft::Draft;
-use crate::fault::ValueFault;
+use crate::items::{Item, Items};
 use crate::laws::item_laws;
-use crate::left::Left;
-use isis_base::{Octets, OutOfMemory, Snpa};
-use std::marker::Model;
+use crate::put::put_tlv;
+use isis_base::{Draft, Octets, OutOfMemory, Snpa};
 
 /// The SNPAs of a value of code 6 (ISO 10589 9.5), in order. A fault is the last item. Contracts see what is left.
-#[derive(Debug, Drop)]
-pub struct SnpaItems<'a> {
-    left: Left<'a>,
-}
-
-impl<'a> Model for SnpaItems<'a> {
-    ghost use Rattle.std.specs.Prelude.{List, Result};
-    ghost use Rattle.isis_base.specs.declared.identifiers.Snpa.{Snpa};
-    ghost use Rattle.isis_tlv.specs.declared.fault.ValueFault.{ValueFault};
-    ghost use Rattle.isis_tlv.specs.Items.{values_of, snpa_at};
-
-    ghost Value = { List (Result Snpa ValueFault) };
-
-    ghost view = { λ walk. values_of snpa_at walk.left.place walk.left.octets.now };
-}
+pub type SnpaItems<'a> = Items<'a, Snpa>;
 
 /// The SNPAs of a value of code 6.
 pub fn snpas(value: &[u8]) -> SnpaItems<'_>
     ensures { result ≡ snpas_of value.now }
 {
-    let left = Left {
-        octets: value,
-        place: 0,
-    };
-    SnpaItems { left }
+    Items::new(value)
 }
 
-impl<'a> Iterator for SnpaItems<'a> {
-    ghost use Rattle.std.specs.Iterator.{YieldsFirst, item_count};
+impl Item for Snpa {
+    ghost use Rattle.isis_tlv.specs.Items.{snpa_at};
+    ghost use Rattle.isis_tlv.specs.Takes.{snpa-some};
 
-    type Item = Result<Snpa, ValueFault>;
+    ghost first = { snpa_at };
 
-    ghost next_gives = { YieldsFirst (λ rest. rest) };
+    ghost takes = { snpa-some };
 
-    ghost remaining = { item_count (λ rest. rest) };
-
-    fn next(&mut self) -> Option<Result<Snpa, ValueFault>> {
-        if self.left.is_done() {
-            return None;
-        }
-        let Some((snpa, count)) = snpa_at(self.left.octets) else {
-            let place = self.left.stop();
-            return Some(Err(ValueFault { place }));
-        };
-        self.left.pass(count);
-        Some(Ok(snpa))
+    fn read_first(octets: &[u8]) -> Option<(Snpa, usize)> {
+        let (snpa, _) = octets.split_first_chunk::<6>()?;
+        Some((Snpa(*snpa), 6))
     }
-}
-
-/// The SNPA that stands first, and the number of its octets.
-fn snpa_at(octets: &[u8]) -> Option<(Snpa, usize)>
-    ensures { result ≡ snpa_at octets.now }
-{
-    let (snpa, _) = octets.split_first_chunk::<6>()?;
-    Some((Snpa(*snpa), 6))
 }
 
 /// Adds the six octets of an SNPA.
@@ -91,5 +56,5 @@ pub fn put_snpas(out: &mut Octets, list: &[Snpa]) -> Result<(), OutOfMemory>
         add_snpa(&mut draft, snpa);
     }
     item_laws();
-    draft.put(6, out)
+    put_tlv(out, 6, draft.as_slice())
 }

@@ -1,9 +1,5 @@
-ghost use Rattle.std.specs.Prelude.{◌≡◌, ◌==◌, ◌+◌, ◌^◌, ◌<◌, length, OnOk, IfErr, Some, find};
-ghost use Rattle.std.specs.Option.{option_map};
+//! What no clause says: vectors of another program, and each call once with ample memory.
 ghost use Rattle.std.specs.Iterator.{IsFinite};
-ghost use Rattle.isis_tlv.specs.Walks.{fault_of};
-ghost use Rattle.isis_tlv.specs.Tlvs.{AreTlvs, tlvs_of, tlv_list};
-ghost use Rattle.isis_tlv.specs.TlvViews.{one_view};
 
 use super::*;
 use isis_base::{AreaAddress, LspEntry, LspId, NodeId, Octets, Prefix, Snpa, SystemId};
@@ -233,154 +229,30 @@ fn values_say_what_was_packed(rt: HostRuntime) -> Result<(), Fail> {
     Ok(())
 }
 
-/// A decoder's look at its TLVs: the first fault, if there is one.
-fn check(octets: &[u8], first: usize) -> Result<(), TlvFault>
-    requires { first + length octets.now < 2 ^ 64 }
-    ensures ok { OnOk result (AreTlvs octets.now) }
-    ensures err { IfErr result (λ fault. fault_of (tlvs_of first octets.now) ≡ Some fault) }
-{
-    for tlv in Tlvs::new(octets, first) {
-        if let Err(fault) = tlv {
-            return Err(fault);
-        }
-    }
-    tlv_laws();
-    Ok(())
-}
-
-/// The first TLV of a code before a fault.
-fn first_of(octets: &[u8], code: u8) -> Option<Tlv<'_>>
-    ensures { option_map one_view result ≡ find (λ tlv. tlv.code == code) (tlv_list 0 octets.now) }
-{
-    for tlv in Tlvs::new(octets, 0) {
-        match tlv {
-            Ok(tlv) if tlv.code == code => return Some(tlv),
-            Ok(_) => {}
-            Err(_) => return None,
-        }
-    }
-    None
-}
-
-/// How many items a value has before its end or its fault, and the fault's place.
-fn tally<T: Drop, I: Iterator<Item = Result<T, ValueFault>> + Drop>(
-    items: I,
-) -> (usize, Option<usize>)
-    requires can { I.can_next items }
-    requires ends { IsFinite (I.remaining items) }
-{
-    let mut count = 0usize;
-    for item in items {
-        match item {
-            Ok(_) => count = count.saturating_add(1),
-            Err(fault) => return (count, Some(fault.place)),
-        }
-    }
-    (count, None)
-}
-
-fn tally_of(code: u8, value: &[u8]) -> (usize, Option<usize>) {
-    match code {
-        1 => tally(areas(value)),
-        6 => tally(snpas(value)),
-        9 => tally(entries(value)),
-        22 => tally(neighbours(value)),
-        _ => tally(prefixes(value)),
-    }
-}
-
 #[test]
-fn cut_values_end_in_a_fault(rt: HostRuntime) -> Result<(), Fail> {
-    let alloc = rt.alloc();
-    // The places where the items end.
-    let rows = [
-        (1, "03490001034900020547000580ff", [4, 8, 14].as_slice()),
-        (
-            6,
-            "00aabbccddeeffffffffffff000000000002",
-            [6, 12, 18].as_slice(),
-        ),
-        (
-            9,
-            "04b01921680010010203ffffffffffff0000ffffffffffffffff000000070000",
-            [16, 32].as_slice(),
-        ),
-        (
-            22,
-            "000000000002000000640c0604c0a800010804c0a800020000000000030001000000",
-            [23, 34].as_slice(),
-        ),
-        (
-            135,
-            "0000001e4a0a400000000001080a0000001400",
-            [8, 14, 19].as_slice(),
-        ),
-    ];
-    for (code, hex, ends) in rows {
-        let value = octets_of(alloc, hex)?;
-        for len in 0..=value.len() {
-            let whole = ends.iter().filter(|end| **end <= len).count();
-            let last = ends
-                .iter()
-                .copied()
-                .filter(|end| *end <= len)
-                .max()
-                .unwrap_or(0);
-            let fault = if last == len { None } else { Some(last) };
-            assert_eq!(rt;
-                tally_of(code, &value[..len]),
-                (whole, fault),
-                "code {code} cut at {len}"
-            );
-        }
-    }
-    Ok(())
-}
-
-/// How many TLVs stand before the end or the fault, and the fault.
-fn tally_tlvs(octets: &[u8], first: usize) -> (usize, Option<TlvFault>)
-    requires { first + length octets.now < 2 ^ 64 }
-{
-    let mut count = 0usize;
-    for tlv in Tlvs::new(octets, first) {
-        match tlv {
-            Ok(_) => count = count.saturating_add(1),
-            Err(fault) => return (count, Some(fault)),
-        }
-    }
-    (count, None)
-}
-
-#[test]
-fn tlvs_stand_where_they_say(rt: HostRuntime) -> Result<(), Fail> {
-    // Areas, protocols, an address, a neighbour, a prefix and an empty value, behind a header of 27 octets.
+fn tlvs_are_walked(rt: HostRuntime) -> Result<(), Fail> {
+    // Areas, protocols, an address, a neighbour, a prefix, an empty value, and one octet too few or too many.
     let body = octets_of(
         rt.alloc(),
-        "0104034900018101cc84040a000001160b0000000000020000000a00870600000014080af000",
+        "0104034900018101cc84040a000001160b0000000000020000000a00870600000014080a06000a",
     )?;
-    let ends = [33, 36, 42, 55, 63, 65];
-    assert_eq!(rt; body.len(), 38);
-    for len in 0..=38usize {
-        let octets = &body[..len];
-        let whole = ends.iter().filter(|end| **end <= 27 + len).count();
-        let place = ends
-            .iter()
-            .copied()
-            .filter(|end| *end <= 27 + len)
-            .max()
-            .unwrap_or(27);
-        let fault = match (27 + len).saturating_sub(place) {
-            0 => None,
-            1 => Some(TlvFault::Header { place }),
-            _ => Some(TlvFault::Past { place }),
-        };
-        assert_eq!(rt; tally_tlvs(octets, 27), (whole, fault), "cut at {len}");
-        assert_eq!(rt; check(octets, 27).err(), fault, "cut at {len}");
+    let mut text = String::new(rt.alloc());
+    for tlv in Tlvs::new(&body, 27) {
+        match tlv {
+            Ok(tlv) => {
+                let (code, place, len) = (tlv.code, tlv.place, tlv.value.len());
+                write!(text, " {code}@{place}:{len}")?;
+            }
+            Err(fault) => write!(text, " {fault}")?,
+        }
     }
-    let neighbour = first_of(&body, 22).ok_or("a neighbour TLV")?;
-    assert_eq!(rt; neighbour.place, 15);
-    assert_eq!(rt; Some(neighbour.value), body.as_slice().get(17..28));
-    assert_eq!(rt; first_of(&body, 10), None);
+    assert_eq!(rt;
+        text.as_str(),
+        " 1@27:4 129@33:1 132@36:4 22@42:11 135@55:6 6@63:0 the TLV at octet 65 has no length"
+    );
+    assert!(rt; !are_tlvs(&body));
+    assert!(rt; are_tlvs(&body[..38]));
+    assert!(rt; !are_tlvs(&body[..35]));
     Ok(())
 }
 

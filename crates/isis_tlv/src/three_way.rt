@@ -1,11 +1,13 @@
+//! The state of the three-way handshake, the value of code 240.
 ghost use Rattle.std.specs.Prelude.{◌≡◌, ◌≤◌, ◌++◌, length, IsSome, Ok, OnOk, OnErr};
-ghost use Rattle.isis_tlv.specs.Items.{three_way_of};
+ghost use Rattle.isis_tlv.specs.Items.{state_of, three_way_of};
 ghost use Rattle.isis_tlv.specs.Spelling.{state_octet, three_way_octets, three_way_tlv};
 
-use crate::draft::Draft;
 use crate::fault::ValueFault;
 use crate::laws::item_laws;
-use isis_base::{Octets, OutOfMemory, SystemId};
+use crate::put::put_tlv;
+use isis_base::fields::{system_at, u32_at};
+use isis_base::{Draft, Octets, OutOfMemory, SystemId};
 
 /// The state of a point-to-point adjacency (RFC 5303 3).
 #[derive(Clone, Copy, Debug, PartialEq, Eq)]
@@ -29,24 +31,19 @@ pub fn three_way_value(value: &[u8]) -> Result<ThreeWay, ValueFault>
     ensures { result ≡ three_way_of value.now }
 {
     let fault = ValueFault { place: 0 };
-    let (state, own_id, neighbour) = match value {
-        [state] => (*state, None, None),
-        [state, a, b, c, d] => (*state, Some(u32::from_be_bytes([*a, *b, *c, *d])), None),
-        [state, a, b, c, d, s, t, u, v, w, x, e, f, g, h] => {
-            let system = SystemId([*s, *t, *u, *v, *w, *x]);
-            let id = u32::from_be_bytes([*e, *f, *g, *h]);
-            (
-                *state,
-                Some(u32::from_be_bytes([*a, *b, *c, *d])),
-                Some((system, id)),
-            )
-        }
-        _ => return Err(fault),
+    let Some(state) = value.first() else {
+        return Err(fault);
     };
-    let state = match state {
-        0 => Adj::Up,
-        1 => Adj::Initializing,
-        2 => Adj::Down,
+    let Some(state) = state_of_octet(*state) else {
+        return Err(fault);
+    };
+    let (own_id, neighbour) = match value.len() {
+        1 => (None, None),
+        5 => (Some(u32_at(value, 1)), None),
+        15 => {
+            let heard = (system_at(value, 5), u32_at(value, 11));
+            (Some(u32_at(value, 1)), Some(heard))
+        }
         _ => return Err(fault),
     };
     Ok(ThreeWay {
@@ -54,6 +51,18 @@ pub fn three_way_value(value: &[u8]) -> Result<ThreeWay, ValueFault>
         own_id,
         neighbour,
     })
+}
+
+/// The state of an octet.
+fn state_of_octet(octet: u8) -> Option<Adj>
+    ensures { result ≡ state_of octet }
+{
+    match octet {
+        0 => Some(Adj::Up),
+        1 => Some(Adj::Initializing),
+        2 => Some(Adj::Down),
+        _ => None,
+    }
 }
 
 /// The octet of a state.
@@ -84,5 +93,5 @@ pub fn put_three_way(out: &mut Octets, value: &ThreeWay) -> Result<(), OutOfMemo
         draft.add(&id.to_be_bytes());
     }
     item_laws();
-    draft.put(240, out)
+    put_tlv(out, 240, draft.as_slice())
 }

@@ -1,5 +1,6 @@
-ghost use Rattle.std.specs.Prelude.{◌≡◌, ◌+◌, ◌^◌, ◌<◌, ◌≤◌, length};
-ghost use Rattle.isis_tlv.specs.Tlvs.{tlv_at, tlvs_of};
+//! The walk over TLVs.
+ghost use Rattle.std.specs.Prelude.{◌≡◌, ◌+◌, ◌^◌, ◌<◌, ◌≤◌, ◌↔◌, length, IsTrue};
+ghost use Rattle.isis_tlv.specs.Tlvs.{AreTlvs, tlv_at, tlvs_of};
 ghost use Rattle.isis_tlv.specs.TlvViews.{found_view};
 
 use crate::left::Left;
@@ -25,6 +26,11 @@ pub enum TlvFault {
 }
 
 impl fmt::Display for TlvFault {
+    ghost use Rattle.std.specs.Prelude.{Some};
+    ghost use Rattle.isis_tlv.specs.Faults.{tlv_fault_text};
+
+    ghost output = { λ fault. Some (tlv_fault_text fault) };
+
     fn fmt<W: fmt::Write>(&self, f: &mut fmt::Formatter<W>) -> fmt::Result {
         match self {
             TlvFault::Header { place } => write!(f, "the TLV at octet {place} has no length"),
@@ -66,6 +72,19 @@ impl<'a> Tlvs<'a> {
         };
         Tlvs { left }
     }
+}
+
+/// Whether octets are TLVs to their end (ISO 10589 9.5).
+pub fn are_tlvs(octets: &[u8]) -> bool
+    ensures { IsTrue result ↔ AreTlvs octets.now }
+{
+    for tlv in Tlvs::new(octets, 0) {
+        match tlv {
+            Ok(_) => {}
+            Err(_) => return false,
+        }
+    }
+    true
 }
 
 impl<'a> Iterator for Tlvs<'a> {

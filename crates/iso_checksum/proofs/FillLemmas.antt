@@ -1,3 +1,4 @@
+-- The pair of check octets that makes both sums 0, and that there is no other.
 use Rattle.std.proofs.Common.{◌≡◌, ℕ, suc, ◌+◌, ◌*◌, ◌/◌, ◌%◌, ◌<◌, ◌≤◌, List, length, zero, set, take, drop, ◌++◌, [], ◌∷◌, ap, ◌∙◌, arith, refl, sym, get_or, length-set, length-drop, get_or-set_same, get_or-set_other, rules, tests}
 use Rattle.std.proofs.lemmas.List.{set-set, set_comm}
 use Rattle.iso_checksum.specs.Checksum.{octet_sum, weighted_sum, checksum_holds, Holds, with_pair, IsCheckOctet}

@@ -1,3 +1,4 @@
+-- The checksum of octets: a sum and a weighted sum modulo 255 (ISO 8473 6.11).
 use Rattle.std.specs.Prelude.{ℕ, ◌+◌, ◌*◌, ◌%◌, ◌≤◌, ◌==◌, ◌&&◌, Bool, IsTrue, List, [], ◌∷◌, ◌++◌, length, take, drop}
 
 -- the sum of the octets (ISO 8473 6.11)

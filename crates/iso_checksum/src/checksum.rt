@@ -1,3 +1,4 @@
+//! Whether the checksum holds, and the check octets that make it hold.
 ghost use Rattle.std.specs.Prelude.{◌≡◌, ℕ, ◌+◌, ◌≤◌, ◌↔◌, length, IsTrue, slice_index};
 ghost use Rattle.iso_checksum.specs.Checksum.{checksum_holds, Holds, with_pair, IsCheckOctet};
 

@@ -1,3 +1,4 @@
+//! The two sums, block by block.
 ghost use Rattle.std.specs.Prelude.{◌≡◌, ◌+◌, ◌*◌, ◌%◌, ◌<◌, ◌≤◌, length};
 ghost use Rattle.iso_checksum.specs.Checksum.{octet_sum, weighted_sum, IsCheckOctet};
 

@@ -1,3 +1,4 @@
 pub mod HeldLemmas
 pub mod NetLemmas
 pub mod PairLemmas
+pub mod KeysLemmas

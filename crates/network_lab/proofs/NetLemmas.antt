@@ -1,6 +1,8 @@
+-- The entries of a router after each call.
 use Rattle.std.proofs.Common.{◌≡◌, ◌≢◌, ℕ, zero, suc, ◌+◌, ◌-◌, ◌<◌, ◌≤◌, true, List, [], ◌∷◌, ◌++◌, length, get_or, set, ◌⊎◌, inl, inr, refl, sym, ap, ◌∙◌, subst, arith, Some, length-append, get_or-set_same, get_or-set_other}
 use Rattle.std.specs.BTreeSet.{insert_key}
-use Rattle.std.specs.List.{slice_get}
+use Rattle.std.specs.List.{slice_get, AllByRecursion}
+use Rattle.isis_base.specs.Identifiers.{IsId}
 use Rattle.std.proofs.lemmas.Bool.{cases_eq, cases_lt}
 use Rattle.std.proofs.Math.Seq.{get_or-append_seam}
 use Rattle.std.proofs.lemmas.List.{length-set, get_or_append_left}
@@ -25,6 +27,10 @@ slice_get-front (z ∷ xs) x y (suc i) h e = slice_get-front xs x y i (omega ari
 slice_get-last : {X : Type 0} (xs : List X) (x : X) → slice_get (xs ++ x ∷ []) (length xs) ≡ Some x
 slice_get-last [] x = refl
 slice_get-last (z ∷ xs) x = slice_get-last xs x
+
+AllByRecursion-push : (copies : List (LspId × Key)) (copy : LspId × Key) → AllByRecursion (λ c. IsId c.0) copies → IsId copy.0 → AllByRecursion (λ c. IsId c.0) (copies ++ copy ∷ [])
+AllByRecursion-push [] copy h id = (id, tt)
+AllByRecursion-push (x ∷ copies) copy h id = (h.0, AllByRecursion-push copies copy h.1 id)
 
 -- a copy more at a router is joined into its entries
 IsHeldAt-join : (copies copies' : List (LspId × Key)) (places places' : List (ℕ × ℕ)) (r : ℕ) (xs ys : List (LspId × Key)) (copy : LspId × Key) → IsHeldAt copies places r xs → Joins xs ys copy
@@ -74,6 +80,7 @@ AreHeld-room entries copies places held r w x are lt read same = record {
       (subst (λ (xs : List (LspId × Key)). IsHeldAt copies places r xs) (sym (same ∙ ap entries read)) (are.each r x lt))
       (λ q d h apart. are.each q d h);
   numbered = λ n q h. let old = are.numbered n q h in (old.0, old.1, omega (arith, length-set held r w, old.2));
+  ids = are.ids;
 }
 
 copy-kept : (copies : List (LspId × Key)) (places : List (ℕ × ℕ)) (r : ℕ) (copy : LspId × Key) (q n : ℕ) (x : LspId × Key) → IsCopyAt copies places q n x → IsCopyAt (copies ++ copy ∷ []) (insert_key pair_cmp places (length copies + 1, r)) q n x
@@ -99,8 +106,8 @@ copy-only copies places r copy numbered q n x h =
     ]
 
 -- the next copy is made at a router, and is joined into its entries
-pub AreHeld-copy : {V : Type 0} (entries : V → List (LspId × Key)) (copies : List (LspId × Key)) (places : List (ℕ × ℕ)) (held : List V) (r : ℕ) (w x : V) (copy : LspId × Key) → AreHeld entries copies places held → r < length held → x ≡ get_or held r x → Joins (entries x) (entries w) copy → AreHeld entries (copies ++ copy ∷ []) (insert_key pair_cmp places (length copies + 1, r)) (set held r w)
-AreHeld-copy entries copies places held r w x copy are lt read joins =
+pub AreHeld-copy : {V : Type 0} (entries : V → List (LspId × Key)) (copies : List (LspId × Key)) (places : List (ℕ × ℕ)) (held : List V) (r : ℕ) (w x : V) (copy : LspId × Key) → AreHeld entries copies places held → r < length held → x ≡ get_or held r x → Joins (entries x) (entries w) copy → IsId copy.0 → AreHeld entries (copies ++ copy ∷ []) (insert_key pair_cmp places (length copies + 1, r)) (set held r w)
+AreHeld-copy entries copies places held r w x copy are lt read joins id =
     let numbered : (n q : ℕ) → has_pair places n q ≡ true → n ≤ length copies = λ n q h. (are.numbered n q h).1 in
     let only = copy-only copies places r copy numbered in
     record {
@@ -112,6 +119,7 @@ AreHeld-copy entries copies places held r w x copy are lt read joins =
         | inl old ↦ (let was = are.numbered n q old in (was.0, omega (arith, length-append copies (copy ∷ []), was.1), omega (arith, length-set held r w, was.2)))
         | inr new ↦ (omega (arith, new.0), omega (arith, length-append copies (copy ∷ []), new.0), omega (arith, length-set held r w, new.1))
       ];
+      ids = AllByRecursion-push copies copy are.ids id;
     }
 
 pass-kept : (copies : List (LspId × Key)) (places : List (ℕ × ℕ)) (m to q n : ℕ) (x : LspId × Key) → IsCopyAt copies places q n x → IsCopyAt copies (insert_key pair_cmp places (m, to)) q n x
@@ -140,6 +148,7 @@ AreHeld-pass entries copies places held m to w x copy are lt some made read join
         | inl old ↦ (let was = are.numbered n q old in (was.0, was.1, omega (arith, length-set held to w, was.2)))
         | inr new ↦ (omega (arith, new.0), omega (arith, within, new.0), omega (arith, length-set held to w, new.1))
       ];
+      ids = are.ids;
     }
 
 -- a router without copies
@@ -159,4 +168,5 @@ AreHeld-router entries copies places held v are none =
             })))
       ];
       numbered = λ n q h. let was = are.numbered n q h in (was.0, was.1, omega (arith, was.2));
+      ids = are.ids;
     }

@@ -3,3 +3,4 @@ pub mod Held
 pub mod Inside
 pub mod KeysNet
 pub mod Limits
+pub mod KeysHeld

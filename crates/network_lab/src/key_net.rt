@@ -4,10 +4,12 @@ ghost use Rattle.isis_base.specs.declared.key.Key.{Key};
 ghost use Rattle.network_lab.specs.declared.faults.LabFault.TheVariants.{NotSent, NotOn, Limit, OutOfMemory};
 ghost use Rattle.network_lab.specs.declared.faults.LimitName.TheVariants.{Routers, Links};
 ghost use Rattle.network_lab.specs.KeysNet.{ordered as ordered_pair, empty_net, with_router, with_link, with_copy, with_pass, has_pair, is_joined, is_at, IsHeldAt};
+ghost use Rattle.network_lab.specs.KeysHeld.{keys_at};
 ghost use Rattle.network_lab.specs.Causes.{RouterCause, LinkCause, PassCause};
 
 use crate::faults::{LabFault, LimitName};
 use crate::held::{join_in, make_room};
+use isis_base::laws::lsp_id_law;
 use isis_base::{Key, LspId};
 use std::alloc::Global;
 use std::collections::BTreeSet;
@@ -126,6 +128,7 @@ impl KeyNet {
         ensures cause { IfErr result (λ fault. fault ≡ OutOfMemory) }
         ensures err { OnErr result (self.new ≡ self.old) }
     {
+        lsp_id_law(id);
         self.copies.reserve(1)?;
         make_room(&mut self.held[router])?;
         let copy = self.copies.len() + 1;
@@ -164,9 +167,7 @@ impl KeyNet {
     /// The keys that a router holds, by LSP ID.
     pub fn held(&self, router: usize) -> &[(LspId, Key)]
         requires { router < self.now.routers }
-        ensures held { IsHeldAt self.now.copies self.now.places router result.now }
-        ensures each { (other : ℕ) → other < self.now.routers
-            → (entries : List (LspId × Key)) × IsHeldAt self.now.copies self.now.places other entries }
+        ensures { result.now ≡ keys_at self.now router }
     {
         self.held[router].as_slice()
     }

@@ -1,5 +1,6 @@
 use Rattle.std.proofs.Common.{refl, arith}
-use Rattle.isis_base.proofs.PrefixLemmas.{SpellsPrefix-one}
+use Rattle.isis_base.specs.PrefixTexts.{prefix_text}
+use Rattle.isis_base.proofs.PrefixLemmas.{SpellsPrefix-one, prefix_parts-spelled}
 use Rattle.isis_base.proofs.laws.prefix_text_laws.Goals as goal
 
 pub returns-clause-written : goal.returns-clause-written
@@ -9,3 +10,6 @@ returns-clause-written c =
 
 pub returns-clause-one : goal.returns-clause-one
 returns-clause-one c = SpellsPrefix-one
+
+pub returns-clause-read : goal.returns-clause-read
+returns-clause-read c = let prefix = c.args.prefix in prefix_parts-spelled (prefix_text prefix.address prefix.length) prefix.address prefix.length (returns-clause-written c)

@@ -1,9 +1,9 @@
-use Rattle.std.proofs.Common.{◌∙◌, ℕ, List, Some, length, get_or, take, sym, ap, subst, refl}
+use Rattle.std.proofs.Common.{◌≡◌, ◌∙◌, ℕ, List, Some, None, option_and_then, length, get_or, take, sym, ap, subst, refl}
 use Rattle.std.proofs.lemmas.List.{take_more}
 use Rattle.isis_base.specs.Texts.{IsFaultAt}
-use Rattle.isis_base.specs.PrefixFronts.{after_text, no_front}
+use Rattle.isis_base.specs.PrefixFronts.{after_text, no_front, parts_of_front}
 use Rattle.isis_base.specs.PrefixTexts.{SpellsPrefix, IsPrefix}
-use Rattle.isis_base.proofs.PrefixLemmas.{IsFaultAt-byte, IsFaultAt-end, prefix-from, after_text-push, SpellsPrefix-one, read-whole}
+use Rattle.isis_base.proofs.PrefixLemmas.{after_text-stuck, IsFaultAt-byte, IsFaultAt-end, prefix-from, after_text-push, SpellsPrefix-one, read-whole}
 use Rattle.isis_base.proofs.prefix_text.read_prefix.Goals as goal
 
 pub loop-place-init : goal.loop-place-init
@@ -52,3 +52,10 @@ returns-in-Some-prefix-clause-ok c =
 pub returns-in-Some-prefix-clause-read : goal.returns-in-Some-prefix-clause-read
 returns-in-Some-prefix-clause-read c = λ address long s.
     SpellsPrefix-one c.args.text.now c.in-Some-prefix.prefix.address c.in-Some-prefix.prefix.length address long (returns-in-Some-prefix-clause-ok c) s
+
+pub returns-in-None-clause-value : goal.returns-in-None-clause-value
+returns-in-None-clause-value c =
+    let bytes = c.as_bytes-bytes.result.now in
+    let place = c.loop-place.place in
+    let none : after_text no_front bytes ≡ None = after_text-stuck bytes place (get_or bytes place 0) c.loop-place.front c.loop-place-test.true refl c.loop-place.invariant (sym c.in-None.ensures) in
+    sym (ap (λ (text : List ℕ). option_and_then parts_of_front (after_text no_front text)) (sym c.as_bytes-bytes.ensures.value) ∙ ap (option_and_then parts_of_front) none)

@@ -4,7 +4,7 @@ use Rattle.isis_tlv.specs.Fits.{IsArea, IsSnpa, IsEntry, IsNeighbour, IsPrefix}
 use Rattle.isis_tlv.proofs.RoundLemmas.{values-again, area-again, snpa-again, entry-again, neighbour-again}
 use Rattle.isis_tlv.proofs.PrefixLemmas.{prefix-again}
 use Rattle.isis_tlv.proofs.ThreeWayLemmas.{three_way-again}
-use Rattle.isis_tlv.proofs.SizeLemmas.{area-some, snpa-some, entry-some, neighbour-some, prefix-some}
+use Rattle.isis_tlv.specs.Takes.{area-some, snpa-some, entry-some, neighbour-some, prefix-some}
 use Rattle.isis_tlv.proofs.laws.item_laws.Goals as goal
 
 pub returns-clause-areas : goal.returns-clause-areas

@@ -1,6 +1,6 @@
-use Rattle.std.proofs.Common.{◌≡◌, ◌++◌, drop, take, map}
+use Rattle.std.proofs.Common.{◌≡◌, ◌++◌, drop, take}
 use Rattle.std.specs.List.{AllByRecursion}
-use Rattle.isis_tlv.specs.Spelling.{prefix_value, prefix_view}
+use Rattle.isis_tlv.specs.Spelling.{prefix_value}
 use Rattle.isis_tlv.specs.Fits.{IsPrefix}
 use Rattle.isis_tlv.proofs.prefix.put_prefixes.Given as goal
 
@@ -8,5 +8,5 @@ use Rattle.isis_tlv.proofs.prefix.put_prefixes.Given as goal
 abbrev pub invariant-loop-item : goal.invariant-loop-item
 invariant-loop-item l = record {
   whole : l.draft ++ prefix_value (drop l.item-index l.list) ≡ prefix_value l.list;
-  fits : AllByRecursion IsPrefix (map prefix_view (take l.item-index l.list));
+  fits : AllByRecursion IsPrefix (take l.item-index l.list);
 }

@@ -1,12 +1,16 @@
-use Rattle.std.proofs.Common.{List, get_or, ap, subst, arith}
-use Rattle.isis_base.specs.declared.identifiers.LspId.{LspId}
-use Rattle.isis_base.specs.declared.key.Key.{Key}
-use Rattle.network_lab.specs.KeysNet.{Net, IsHeldAt}
+use Rattle.std.proofs.Common.{◌≡◌, ◌<◌, length, get_or, ap, ◌∙◌, arith}
+use Rattle.network_lab.specs.KeysNet.{Net}
+use Rattle.network_lab.specs.KeysHeld.{keys_at}
+use Rattle.network_lab.proofs.KeysLemmas.{held-joined}
 use Rattle.network_lab.proofs.key_net.KeyNet.held.Goals as goal
 
-pub returns-clause-each : goal.returns-clause-each
-returns-clause-each c = λ other lt.
+pub returns : goal.returns
+returns c =
     let routers = ap (λ (n : Net). n.routers) c.self.view_is in
-    let Holds : Net → Type 0 = λ n. (entries : List (LspId × Key)) × IsHeldAt n.copies n.places other entries in
-    subst Holds c.self.view_is
-    ((get_or c.self.inside.held.items other c.index.result.now).items, c.self.invariant.each other c.index.result.now (omega arith))
+    let inside = c.self.inside in
+    let router = c.args.router in
+    let there : router < length inside.held.items = omega (arith, routers, c.requires) in
+    let held = c.self.invariant.each router c.index.result.now there in
+    c.as_slice.ensures.value ∙ ap (λ (v : _). v.items) c.index.ensures
+    ∙ held-joined inside.copies.items inside.places.keys router (get_or inside.held.items router c.index.result.now).items held c.self.invariant.ids
+    ∙ ap (λ (n : Net). keys_at n router) c.self.view_is

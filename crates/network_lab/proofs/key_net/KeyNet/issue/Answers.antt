@@ -24,4 +24,4 @@ invariant_of-self-2 c =
     let inside : c.args.router < length (set c.self.inside.held.items c.args.router c.make_room.new.held) = omega (arith, c.requires, length-set c.self.inside.held.items c.args.router c.make_room.new.held) in
     let whole : vec_len c.self.inside.copies ≡ length c.self.inside.copies.items = omega arith in
     rw (c.push_reserved.ensures.items, c.in_ok-insert.ensures.keys, length_is, c.reserve.ensures.len, c.reserve.ensures.items, whole)
-    (AreHeld-copy _ _ _ _ _ c.join_in.new.held _ _ roomy inside c.index_mut-2.ensures.value c.join_in.ensures)
+    (AreHeld-copy _ _ _ _ _ c.join_in.new.held _ _ roomy inside c.index_mut-2.ensures.value c.join_in.ensures c.lsp_id_law.ensures)
