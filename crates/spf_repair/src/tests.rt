@@ -119,13 +119,16 @@ fn triangle<L: Ledger>(alloc: Global, blank: Blank) -> Result<Vec<Option<u64>>, 
 
 #[test]
 fn lists_of_changes_leave_the_distances_from_scratch(rt: HostRuntime) -> Result<(), Fail> {
-    assert_eq!(rt; wrong_list::<Brand>(rt.alloc(), Blank::new(1))?, None);
+    let blank = Blank::new(1);
+    let wrong = wrong_list::<Brand>(rt.alloc(), blank)?;
+    assert_eq!(rt; wrong, None);
     Ok(())
 }
 
 #[test]
 fn a_triangle_is_repaired(rt: HostRuntime) -> Result<(), Fail> {
-    let costs = triangle::<Brand>(rt.alloc(), Blank::new(1))?;
+    let blank = Blank::new(1);
+    let costs = triangle::<Brand>(rt.alloc(), blank)?;
     assert_eq!(rt; costs.as_slice(), [Some(20), Some(30), Some(5), Some(10)].as_slice());
     Ok(())
 }
