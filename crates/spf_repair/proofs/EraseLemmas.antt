@@ -1,10 +1,10 @@
 -- Marks, and what hangs on them.
 
-use Rattle.std.proofs.Common.{◌≡◌, ◌≢◌, ◌∙◌, ℕ, ◌+◌, ◌≤◌, ◌<◌, false, List, [], ◌∷◌, ◌++◌, length, get_or, Some, refl, sym, ap, subst, arith, inl, inr}
+use Rattle.std.proofs.Common.{◌≡◌, ◌≢◌, ◌∙◌, ℕ, ◌+◌, ◌≤◌, ◌<◌, false, List, [], ◌∷◌, ◌++◌, length, get_or, refl, sym, ap, subst, arith, inl, inr}
 use Rattle.std.specs.List.{Contains}
 use Rattle.std.specs.List.Sorted.{IsNonDecreasingBy}
 use Rattle.std.specs.Option.{is_some}
-use Rattle.std.proofs.lemmas.Bool.{cases_eq, cases_lt, ne_eqb}
+use Rattle.std.proofs.lemmas.Bool.{cases_eq, cases_lt}
 use Rattle.std.proofs.lemmas.List.{get_or_default, get_or_append_left, length-append}
 use Rattle.std.proofs.lemmas.List.Elements.{Contains-append_left, Contains-push}
 use Rattle.spf_tree.specs.declared.row.Row.{Row}
@@ -13,7 +13,7 @@ use Rattle.spf_tree.specs.Walks.{start, end}
 use Rattle.spf_tree.specs.Labels.{at}
 use Rattle.spf_tree.specs.Labels.{names}
 use Rattle.spf_repair.specs.Erase.{IsMarked, HaveGrown, Hangs, RowHangs, HasParallel, IsStruck, IsErasing, IsClosed, HereHangs}
-use Rattle.spf_tree.proofs.SearchLemmas.{IsLabelled, label_there, contains_rest}
+use Rattle.spf_tree.proofs.SearchLemmas.{IsLabelled, label_there}
 use Rattle.spf_tree.proofs.ExploreLemmas.{mark_less, stays, front_trans}
 
 -- ---- marks grow

@@ -1,23 +1,18 @@
 -- What rows offer.
 
-use Rattle.std.proofs.Common.{◌≡◌, ◌∙◌, ℕ, zero, suc, ◌+◌, ◌≤◌, ◌<◌, Bool, true, false, if◌then◌else◌, List, [], ◌∷◌, length, map, get_or, Option, Some, None, refl, sym, ap, subst, arith, inl, inr}
+use Rattle.std.proofs.Common.{◌≡◌, ◌∙◌, ℕ, ◌+◌, List, ◌∷◌, refl, sym, ap, subst, arith, inl, inr}
 use Rattle.std.specs.List.{Contains}
-use Rattle.std.specs.List.Sorted.{IsStrictlyIncreasing}
-use Rattle.std.specs.Option.{is_some}
-use Rattle.std.proofs.lemmas.Bool.{cases_eq, cases_lt, eq-eqb, ne_eqb, false≢true}
-use Rattle.std.proofs.lemmas.List.{get_or_default, get_or-map, length-map}
+use Rattle.std.proofs.lemmas.Bool.{false≢true}
 use Rattle.std.proofs.lemmas.List.Sorted.{Contains-permutation, IsPermutation-sym}
 use Rattle.spf_tree.specs.declared.row.Row.{Row}
 use Rattle.spf_tree.specs.declared.label.Label.{Label}
 use Rattle.spf_tree.specs.Walks.{start, end}
 use Rattle.spf_tree.specs.Labels.{at}
-use Rattle.spf_tree.specs.Labels.{IsRising, names, unknown}
-use Rattle.spf_tree.specs.Search.{IsCovered, AreNamed}
+use Rattle.spf_tree.specs.Search.{IsCovered}
 use Rattle.spf_repair.specs.Erase.{IsMarked}
 use Rattle.spf_repair.specs.Change.{IsAlike}
 use Rattle.spf_repair.specs.Feed.{IsGiven, IsGivenIf, IsFed, Covers}
 use Rattle.spf_tree.proofs.SearchLemmas.{news, cover_kept, some_same, contains_first, contains_rest, contains_cases}
-
 
 -- ---- rows alike
 

@@ -3,9 +3,7 @@
 use Rattle.std.specs.Prelude.{◌≡◌, ◌≢◌, ℕ, ◌+◌, ◌*◌, ◌≤◌, ◌⊎◌, nat_eq, List, Option, length}
 use Rattle.std.specs.List.{Contains, IsDistinct}
 use Rattle.spf_tree.specs.declared.row.Row.{Row}
-use Rattle.spf_tree.specs.declared.label.Label.{Label}
 use Rattle.spf_tree.specs.Walks.{start, end}
-use Rattle.spf_tree.specs.Labels.{at}
 
 -- a row with the same ends and metric is there
 abbrev pub IsAlike : List Row → Row → Type 0

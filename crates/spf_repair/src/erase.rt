@@ -12,8 +12,8 @@ ghost use Rattle.spf_repair.specs.Erase.{IsMarked, HaveGrown, Hangs, HasParallel
 
 use crate::steps::Steps;
 use isis_base::OutOfMemory;
-use spf_tree::parts::{Labels, first_row, is_step, number};
 use spf_tree::Row;
+use spf_tree::parts::{Labels, first_row, is_step, number};
 use std::sync::ledger::Ledger;
 
 /// Marks a node and adds it to the list, unless it is marked.

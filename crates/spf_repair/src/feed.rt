@@ -10,8 +10,8 @@ ghost use Rattle.spf_repair.specs.Feed.{IsGiven, IsGivenIf, IsFed, Covers};
 
 use crate::steps::Steps;
 use isis_base::OutOfMemory;
-use spf_tree::parts::{Labels, Queue, number, offer};
 use spf_tree::Row;
+use spf_tree::parts::{Labels, Queue, number, offer};
 use std::sync::ledger::Ledger;
 
 /// Offers what a row gives from its start's label.

@@ -13,8 +13,8 @@ ghost use Rattle.spf_repair.specs.Repair.{IsLoose, IsOutcome, IsCounted, effort}
 use crate::outcome::Outcome;
 use crate::steps::Steps;
 use isis_base::OutOfMemory;
-use spf_tree::parts::{Labels, Queue, offer_rows};
 use spf_tree::Row;
+use spf_tree::parts::{Labels, Queue, offer_rows};
 use std::sync::ledger::Ledger;
 
 /// Whether the label is at most the cost.

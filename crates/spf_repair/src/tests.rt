@@ -105,7 +105,14 @@ fn triangle<L: Ledger>(alloc: Global, blank: Blank) -> Result<Vec<Option<u64>>, 
     requires some { 0 < blank.parts }
 {
     let mut steps = Steps::<L>::new(blank);
-    let rows = [row(1, 2, 10), row(2, 1, 10), row(2, 3, 10), row(3, 2, 10), row(1, 3, 30), row(3, 1, 30)];
+    let rows = [
+        row(1, 2, 10),
+        row(2, 1, 10),
+        row(2, 3, 10),
+        row(3, 2, 10),
+        row(1, 3, 30),
+        row(3, 1, 30),
+    ];
     let mut kept = repaired(alloc, rows.as_slice())?;
     let mut costs = Vec::new(alloc);
     costs.push(kept.distances().get(node(3)))?;
@@ -129,6 +136,9 @@ fn lists_of_changes_leave_the_distances_from_scratch(rt: HostRuntime) -> Result<
 fn a_triangle_is_repaired(rt: HostRuntime) -> Result<(), Fail> {
     let blank = Blank::new(1);
     let costs = triangle::<Brand>(rt.alloc(), blank)?;
-    assert_eq!(rt; costs.as_slice(), [Some(20), Some(30), Some(5), Some(10)].as_slice());
+    assert_eq!(rt;
+        costs.as_slice(),
+        [Some(20), Some(30), Some(5), Some(10)].as_slice()
+    );
     Ok(())
 }

@@ -1,5 +1,4 @@
-use Rattle.std.proofs.Common.{◌≡◌, ℕ, length, get_or, sym, subst, arith}
-use Rattle.spf_tree.specs.Walks.{start}
+use Rattle.std.proofs.Common.{◌≡◌, ℕ, length, sym, subst, arith}
 use Rattle.spf_tree.proofs.SearchLemmas.{no_row}
 use Rattle.spf_repair.specs.Replace.{AreFrom, IsExchanged}
 use Rattle.spf_repair.proofs.ReplaceLemmas.{strip_more, from_here}

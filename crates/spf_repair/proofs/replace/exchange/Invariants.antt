@@ -1,4 +1,3 @@
-use Rattle.std.proofs.Common.{◌≤◌, length}
 use Rattle.spf_repair.specs.Replace.{IsExchanged}
 use Rattle.spf_repair.proofs.replace.exchange.Given as goal
 
