@@ -1,0 +1,5 @@
+pub mod RepairLemmas
+pub mod EraseLemmas
+pub mod FeedLemmas
+pub mod ReplaceLemmas
+pub mod ChangeLemmas

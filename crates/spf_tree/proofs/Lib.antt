@@ -1,0 +1,10 @@
+pub mod NodeLemmas
+pub mod WalkLemmas
+pub mod QueueLemmas
+pub mod LabelLemmas
+pub mod SearchLemmas
+pub mod UsableLemmas
+pub mod ExploreLemmas
+pub mod HopLemmas
+pub mod TableLemmas
+pub mod DistanceLemmas

@@ -1,0 +1,9 @@
+pub mod Nodes
+pub mod Walks
+pub mod Distances
+pub mod NextHops
+pub mod Graphs
+pub mod Labels
+pub mod Search
+pub mod Pairs
+pub mod Exploring

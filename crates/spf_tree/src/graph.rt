@@ -1,0 +1,119 @@
+//! Graphs: the rows that may be walked, and the root.
+
+ghost use Rattle.std.specs.Prelude.{◌≡◌, ◌⊎◌, IfOk};
+ghost use Rattle.std.specs.List.{Contains};
+ghost use Rattle.std.specs.List.Sorted.{IsNonDecreasingBy, IsStrictlyIncreasing};
+ghost use Rattle.spf_tree.specs.declared.row.Row.{Row};
+ghost use Rattle.spf_tree.specs.Walks.{start, end};
+ghost use Rattle.spf_tree.specs.Search.{IsBounded};
+
+use crate::node::number;
+use crate::nodes::{ends, have_ends, in_order};
+use crate::row::Row;
+use isis_base::{NodeId, OutOfMemory};
+use std::alloc::Global;
+use std::marker::Model;
+
+/// The rows of a level that may be walked, and the root. Contracts see it as both.
+#[derive(Drop, Debug)]
+pub struct Graph {
+    pub(crate) rows: Vec<Row>,
+    pub(crate) nodes: Vec<u64>,
+    pub(crate) root: NodeId,
+}
+
+impl Model for Graph {
+    ghost use Rattle.spf_tree.specs.Search.{IsKept};
+    ghost use Rattle.spf_tree.specs.Graphs.{GraphOf};
+
+    ghost Value = { GraphOf };
+
+    ghost view = { λ g. record { rows = g.rows.items; root = g.root } };
+
+    ghost invariant = { λ g. IsKept g.rows.items g.nodes.items };
+}
+
+impl Graph {
+    /// The rows, those of one start one after another.
+    pub fn rows(&self) -> &[Row]
+        ensures { result.now ≡ self.now.rows }
+    {
+        self.rows.as_slice()
+    }
+
+    /// The root.
+    pub fn root(&self) -> NodeId
+        ensures { result ≡ self.now.root }
+    {
+        self.root
+    }
+
+    /// An equal graph.
+    pub fn copy(&self) -> Result<Graph, OutOfMemory>
+        ensures { IfOk result (λ copy. copy ≡ self.now) }
+    {
+        let rows = self.rows.clone()?;
+        let nodes = self.nodes.clone()?;
+        Ok(Graph {
+            rows,
+            nodes,
+            root: self.root,
+        })
+    }
+}
+
+/// The rows in order of their starts; there are fewer than 2 ^ 32, of metrics below 2 ^ 32.
+pub fn rows_in_order(graph: &Graph) -> &[Row]
+    ensures same { result.now ≡ graph.now.rows }
+    ensures sorted { IsNonDecreasingBy start result.now }
+    ensures bounded { IsBounded result.now }
+{
+    graph.rows.as_slice()
+}
+
+/// The nodes in order, among them the end of each row.
+pub fn nodes_in_order(graph: &Graph) -> &[u64]
+    ensures rising { IsStrictlyIncreasing result.now }
+    ensures ends { (row : Row) → Contains graph.now.rows row → Contains result.now (end row) }
+{
+    graph.nodes.as_slice()
+}
+
+/// The graph of rows in order.
+pub fn graph_of(alloc: Global, rows: Vec<Row>, root: NodeId) -> Result<Graph, OutOfMemory>
+    requires sorted { IsNonDecreasingBy start rows.items }
+    requires bounded { IsBounded rows.items }
+    ensures { IfOk result (λ graph. (graph.rows ≡ rows.items) × (graph.root ≡ root)) }
+{
+    match ends(alloc, rows.as_slice(), number(root)) {
+        Ok(nodes) => {
+            let nodes = in_order(nodes);
+            Ok(Graph { rows, nodes, root })
+        }
+        Err(error) => Err(error),
+    }
+}
+
+/// The graph of rows in order each of which ends where a row of this graph does, or an added one. The nodes are put in
+/// order anew only where an added row ends at a new one.
+pub fn with_rows(
+    alloc: Global,
+    graph: &Graph,
+    rows: Vec<Row>,
+    added: &[Row],
+) -> Result<Graph, OutOfMemory>
+    requires sorted { IsNonDecreasingBy start rows.items }
+    requires bounded { IsBounded rows.items }
+    requires ends { (row : Row) → Contains rows.items row → (other : Row) × (Contains graph.now.rows other ⊎ Contains added.now other) × (end other ≡ end row) }
+    ensures { IfOk result (λ g. (g.rows ≡ rows.items) × (g.root ≡ graph.now.root)) }
+{
+    let root = graph.root;
+    let held = graph.nodes.as_slice();
+    if !have_ends(held, added) {
+        return graph_of(alloc, rows, root);
+    }
+    match Vec::from_slice(alloc, held) {
+        Ok(nodes) => Ok(Graph { rows, nodes, root }),
+        Err(_) => Err(OutOfMemory),
+    }
+}

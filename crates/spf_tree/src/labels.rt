@@ -1,0 +1,191 @@
+//! Labels: what a search knows so far, looked up by binary search.
+
+ghost use Rattle.std.specs.Prelude.{◌≡◌, ◌≤◌, ◌<◌, ◌==◌, ℕ, Some, length, slice_index_or, if◌then◌else◌};
+ghost use Rattle.std.specs.List.{Contains};
+ghost use Rattle.spf_tree.specs.declared.label.Label.{Label};
+ghost use Rattle.spf_tree.specs.Labels.{at};
+ghost use Rattle.std.specs.Prelude.{None, IfOk, map};
+ghost use Rattle.std.specs.List.Sorted.{IsStrictlyIncreasing};
+ghost use Rattle.spf_tree.specs.Labels.{IsPlace, IsRising, carry, names};
+
+use crate::label::Label;
+use crate::nodes::{unknown_labels, with_node};
+use isis_base::OutOfMemory;
+use std::alloc::Global;
+use std::marker::Model;
+
+/// The costs known so far, for a set of nodes that stays.
+#[derive(Drop, Debug)]
+pub struct Labels {
+    items: Vec<Label>,
+}
+
+impl Model for Labels {
+    ghost use Rattle.std.specs.Prelude.{List};
+    ghost use Rattle.spf_tree.specs.declared.label.Label.{Label};
+    ghost use Rattle.spf_tree.specs.Labels.{IsRising};
+
+    ghost Value = { List Label };
+
+    ghost view = { λ l. l.items.items };
+
+    ghost invariant = { λ l. IsRising l.items.items };
+}
+
+/// The place of the first label whose node isn't below this one.
+fn place(labels: &[Label], node: u64) -> usize
+    requires { IsRising labels.now }
+    ensures within { result ≤ length labels.now }
+    ensures below { (k : ℕ) (d : Label) → k < result → (slice_index_or labels.now k d).node < node }
+    ensures above { (k : ℕ) (d : Label) → result ≤ k → k < length labels.now → node ≤ (slice_index_or labels.now k d).node }
+{
+    let (mut low, mut high) = (0, labels.len());
+    while low < high {
+        let middle = low + (high - low) / 2;
+        if labels[middle].node < node {
+            low = middle + 1;
+        } else {
+            high = middle;
+        }
+    }
+    low
+}
+
+/// The old cost of a node whose place is known, unless it is marked.
+fn carry(old: &Labels, marks: &Labels, place: usize, node: u64) -> Label
+    requires place { IsPlace old.now place node }
+    requires marks { names marks.now ≡ names old.now }
+    ensures { result ≡ carry old.now marks.now node }
+{
+    if marks.get_at(place, node).is_some() {
+        return Label { node, cost: None };
+    }
+    let cost = old.get_at(place, node);
+    Label { node, cost }
+}
+
+/// The place of the first label, from a place on, whose node isn't below this one.
+fn next_place(labels: &[Label], from: usize, node: u64) -> usize
+    requires rising { IsRising labels.now }
+    requires below { (k : ℕ) (d : Label) → k < from → (slice_index_or labels.now k d).node < node }
+    ensures { IsPlace labels.now result node }
+{
+    let mut place = from;
+    while place < labels.len() && labels[place].node < node {
+        place += 1;
+    }
+    place
+}
+
+impl Labels {
+    /// The old cost of each node, in order, unless it is marked.
+    pub fn carried(
+        alloc: Global,
+        nodes: &[u64],
+        old: &Labels,
+        marks: &Labels,
+    ) -> Result<Labels, OutOfMemory>
+        requires rising { IsStrictlyIncreasing nodes.now }
+        requires marks { names marks.now ≡ names old.now }
+        ensures { IfOk result (λ labels. labels ≡ map (carry old.now marks.now) nodes.now) }
+    {
+        old.rising();
+        let mut items = Vec::new(alloc);
+        let mut at = 0;
+        for place in 0..nodes.len() {
+            let node = nodes[place];
+            at = next_place(old.items.as_slice(), at, node);
+            match items.push(carry(old, marks, at, node)) {
+                Ok(()) => {}
+                Err(_) => return Err(OutOfMemory),
+            }
+        }
+        Ok(Labels { items })
+    }
+
+    /// The same nodes without costs.
+    pub fn blank(&self, alloc: Global) -> Result<Labels, OutOfMemory>
+        ensures names { IfOk result (λ labels. names labels ≡ names self.now) }
+        ensures none { IfOk result (λ labels. (q : ℕ) → at labels q ≡ None) }
+    {
+        let mut nodes = Vec::new(alloc);
+        for label in self.items.as_slice() {
+            match nodes.push(label.node) {
+                Ok(()) => {}
+                Err(_) => return Err(OutOfMemory),
+            }
+        }
+        match unknown_labels(alloc, nodes.as_slice()) {
+            Ok(items) => Ok(Labels { items }),
+            Err(error) => Err(error),
+        }
+    }
+
+    /// A label without cost for each node, and for one more unless it is among them.
+    pub fn unlabelled(alloc: Global, nodes: &[u64], root: u64) -> Result<Labels, OutOfMemory>
+        requires { IsStrictlyIncreasing nodes.now }
+        ensures root { IfOk result (λ labels. Contains (names labels) root) }
+        ensures rest { IfOk result (λ labels. (node : ℕ) → Contains nodes.now node → Contains (names labels) node) }
+        ensures none { IfOk result (λ labels. (node : ℕ) → at labels node ≡ None) }
+    {
+        let all = match with_node(alloc, nodes, root) {
+            Ok(all) => all,
+            Err(error) => return Err(error),
+        };
+        match unknown_labels(alloc, all.as_slice()) {
+            Ok(items) => Ok(Labels { items }),
+            Err(error) => Err(error),
+        }
+    }
+
+    /// The labels are in order of node.
+    pub fn rising(&self)
+        ensures { IsRising self.now }
+    {
+        let _items = self.items.as_slice();
+    }
+
+    /// Equal labels.
+    pub fn copy(&self) -> Result<Labels, OutOfMemory>
+        ensures { IfOk result (λ copy. copy ≡ self.now) }
+    {
+        let items = self.items.clone()?;
+        Ok(Labels { items })
+    }
+
+    /// The cost of a node; `None` exactly where none is known.
+    pub fn get(&self, node: u64) -> Option<u64>
+        ensures { result ≡ at self.now node }
+    {
+        let place = place(self.items.as_slice(), node);
+        self.get_at(place, node)
+    }
+
+    /// The cost of a node whose place is known.
+    fn get_at(&self, place: usize, node: u64) -> Option<u64>
+        requires { IsPlace self.now place node }
+        ensures { result ≡ at self.now node }
+    {
+        let labels = self.items.as_slice();
+        if place >= labels.len() {
+            return None;
+        }
+        if labels[place].node != node {
+            return None;
+        }
+        labels[place].cost
+    }
+
+    /// Sets the cost of a node.
+    pub fn set(&mut self, node: u64, cost: u64)
+        requires { Contains (names self.old) node }
+        ensures names { names self.new ≡ names self.old }
+        ensures costs { (q : ℕ) → at self.new q ≡ (if q == node then Some cost else at self.old q) }
+    {
+        let place = place(self.items.as_slice(), node);
+        self.items[place] = Label {
+            node,
+            cost: Some(cost),
+        };
+    }
+}

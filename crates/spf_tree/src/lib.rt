@@ -1,0 +1,56 @@
+//! The graph of a level, least walks from its root, and the next hops that they begin with.
+//!
+//! Which rows may be walked is ISO 10589 7.2.8, least walks are those of ISO 10589 C.2, and a metric is one of 24 bits
+//! (RFC 5305 3), of which the greatest is walked by nobody. Costs are sums in 64 bits. Own: walks with circles of metric
+//! 0 count among the least, so all next hops over all of them are told; nothing here speaks of levels or of LSPs.
+//!
+//! - `row.rt`: the rows; `node.rt`, `nodes.rt`: nodes as numbers, in order
+//! - `choice.rt`: which rows may be walked; `graph.rt`: the graph of them
+//! - `label.rt`, `labels.rt`: costs known so far; `queue.rt`: offers that wait; `search.rt`: the search
+//! - `distances.rt`: what a search ends with; `scratch.rt`: distances from scratch
+//! - `reach.rt`: what least walks lead to; `next.rt`: next hops of one target; `table.rt`: of all targets at once
+//! - `hops.rt`: lists of systems
+//! - `laws.rt`: what follows for all rows
+#![tactic(auto)]
+
+mod choice;
+mod distances;
+mod graph;
+mod hops;
+mod label;
+mod labels;
+pub mod laws;
+mod next;
+mod node;
+mod nodes;
+mod queue;
+mod reach;
+mod row;
+mod scratch;
+mod search;
+mod table;
+
+/// Parts of the search, for the crate that repairs distances.
+pub mod parts {
+    pub use crate::choice::{by_start, whole};
+    pub use crate::graph::{nodes_in_order, rows_in_order, with_rows};
+    pub use crate::label::Label;
+    pub use crate::labels::Labels;
+    pub use crate::node::number;
+    pub use crate::nodes::with_node;
+    pub use crate::queue::Queue;
+    pub use crate::reach::is_step;
+    pub use crate::search::{first_row, offer, offer_rows};
+}
+
+pub use choice::usable;
+pub use distances::Distances;
+pub use graph::Graph;
+pub use hops::Hops;
+pub use next::next_hops;
+pub use row::Row;
+pub use scratch::from_scratch;
+pub use table::{HopTable, all_next_hops};
+
+#[cfg(test)]
+mod tests;
