@@ -330,7 +330,11 @@ fn each_fault_has_its_cause(rt: HostRuntime) -> Result<(), Fail> {
     for (key, pdu) in FOREIGN {
         let header = header_in(pdu).ok_or("a PDU")?;
         assert_eq!(rt; check_pdu(key, pdu, header), Ok(()), "at {pdu:?}");
-        assert_eq!(rt; check_pdu(b"OtherKey", pdu, header), Err(AuthFault::Wrong), "at {pdu:?}");
+        assert_eq!(rt;
+            check_pdu(b"OtherKey", pdu, header),
+            Err(AuthFault::Wrong),
+            "at {pdu:?}"
+        );
     }
     for (key, pdu, fault) in BAD {
         let header = header_in(pdu).ok_or("a PDU")?;

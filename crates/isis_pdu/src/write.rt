@@ -62,13 +62,7 @@ fn add_start(draft: &mut Draft, kind: PduKind)
 }
 
 /// Adds the fields that every hello begins with.
-fn add_hello(
-    draft: &mut Draft,
-    levels: LevelSet,
-    source: SystemId,
-    holding: u16,
-    count: [u8; 2],
-)
+fn add_hello(draft: &mut Draft, levels: LevelSet, source: SystemId, holding: u16, count: [u8; 2])
     requires { length draft.old + 11 ≤ 255 }
     ensures octets { draft.new ≡ draft.old ++ levels_octet levels ∷ [] ++ source.0 ++ u16_octets holding ++ count }
     ensures count { length draft.new ≡ length draft.old + 11 }

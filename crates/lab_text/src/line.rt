@@ -6,9 +6,14 @@ use isis_base::{Key, LspId};
 #[derive(Drop)]
 pub(crate) enum KeysLine<'a> {
     /// A router of this name.
-    Router { name: Name<'a> },
+    Router {
+        name: Name<'a>,
+    },
     /// A link between two routers.
-    Link { first: Name<'a>, second: Name<'a> },
+    Link {
+        first: Name<'a>,
+        second: Name<'a>,
+    },
     /// The next copy is made at a router.
     Issue {
         router: Name<'a>,

@@ -53,11 +53,7 @@ impl<'n, 't> Text for KeysReport<'n, 't> {
 }
 
 /// Adds the line of a key that a router holds.
-fn add_key_line(
-    page: &mut Octets,
-    name: &str,
-    entry: &(LspId, Key),
-) -> Result<(), OutOfMemory>
+fn add_key_line(page: &mut Octets, name: &str, entry: &(LspId, Key)) -> Result<(), OutOfMemory>
     ensures { OnOk result (page.new ≡ page.old ++ key_line name.now entry.now) }
 {
     let (id, key) = *entry;

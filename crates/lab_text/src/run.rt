@@ -8,8 +8,8 @@ ghost use Rattle.lab_text.specs.KeysRuns.{routers_only, with_links, laid_out, pl
 ghost use Rattle.lab_text.specs.KeysSound.{IsInNet, AreInNet, IsLaidOut};
 
 use crate::events::{EventLine, KeyEvent};
-use crate::reason::{Reason, RunFault, ScriptFault};
 use crate::left::KeysReport;
+use crate::reason::{Reason, RunFault, ScriptFault};
 use crate::script::Script;
 use isis_base::OutOfMemory;
 use isis_edge::{Sink, TextFailed, write_text};
@@ -17,11 +17,7 @@ use network_lab::{KeyNet, LabFault};
 use std::alloc::Global;
 
 /// Runs a script and writes its whole report. Nothing is written before the run has come to its end.
-pub fn run_script<O: Sink>(
-    alloc: Global,
-    script: &Script<'_>,
-    out: &mut O,
-) -> Result<(), RunFault>
+pub fn run_script<O: Sink>(alloc: Global, script: &Script<'_>, out: &mut O) -> Result<(), RunFault>
     ensures ends { RunEnds script.now (O.held out.old) (O.held out.new) result }
     ensures cause { result ≡ Err RunFault.Write → Rose (O.faults out.old) (O.faults out.new) }
     ensures later { O.faults out.old ≤ O.faults out.new }

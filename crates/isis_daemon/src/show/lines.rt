@@ -10,7 +10,8 @@ ghost use Rattle.isis_pdu.specs.Views.{pdu_view, tlvs_of_pdu, decoded_view};
 ghost use Rattle.isis_daemon.specs.ShowText as show;
 
 use isis_base::{
-    Level, LevelSet, Octets, OutOfMemory, SystemId, add_hex, add_levels, add_lsp_id, add_node_id, add_number, add_system_id,
+    Level, LevelSet, Octets, OutOfMemory, SystemId, add_hex, add_levels, add_lsp_id, add_node_id,
+    add_number, add_system_id,
 };
 use isis_pdu::{Pdu, PduFaultKind, decode};
 use isis_tlv::{Tlv, Tlvs};
