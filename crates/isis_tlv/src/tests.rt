@@ -251,8 +251,8 @@ fn tlvs_are_walked(rt: HostRuntime) -> Result<(), Fail> {
         " 1@27:4 129@33:1 132@36:4 22@42:11 135@55:6 6@63:0 the TLV at octet 65 has no length"
     );
     assert!(rt; !are_tlvs(&body));
-    assert!(rt; are_tlvs(&body[..38]));
-    assert!(rt; !are_tlvs(&body[..35]));
+    assert!(rt; are_tlvs(body.get(..38).ok_or("the TLVs")?));
+    assert!(rt; !are_tlvs(body.get(..35).ok_or("the TLVs")?));
     Ok(())
 }
 
