@@ -51,6 +51,6 @@ Ends command input left before now (status.LabLimit which) =
 abbrev pub IsTaken : Command → List ℕ → Type 0
 IsTaken command input = (length input ≤ input_limit) × IsOk (text_of command input)
 
--- done, or memory was wanted
+-- done, or there was no memory for it
 abbrev pub IsDoneUnlessMemory : Status → Type 0
 IsDoneUnlessMemory end = (end ≡ status.Done) ⊎ (end ≡ status.OutOfMemory)

@@ -25,7 +25,7 @@ pub enum Status {
     WriteFault,
     /// The input has more than 16,777,216 octets. Nothing was written.
     TooLong,
-    /// Memory wanted. A prefix of the output was written.
+    /// There is no memory for the run. A prefix of the output was written.
     OutOfMemory,
     /// The script asks for more than this limit allows. Nothing was written.
     LabLimit { which: LimitName },

@@ -119,6 +119,35 @@ fn failing_calls_are_told(rt: HostRuntime) -> Result<(), Fail> {
     Ok(())
 }
 
+/// A text of several pages is written page by page: where the second write fails, the first page stands.
+#[test]
+fn pages_are_written_in_order(rt: HostRuntime) -> Result<(), Fail> {
+    let mut input = String::new(rt.alloc());
+    let mut text = String::new(rt.alloc());
+    for number in 1..=600u32 {
+        write!(input, "8\n")?;
+        write!(text, "pdu {number} fault Hex 1\n")?;
+    }
+    let input = input.as_str().as_bytes();
+    let outside = Outside {
+        piece: 1 << 20,
+        ..WELL
+    };
+    let ended = run_words(&rt, rt.alloc(), &["show"], input, outside)?;
+    assert_eq!(rt; ended.status, Status::Done);
+    assert_eq!(rt; ended.output.octets(), text.as_str().as_bytes());
+    let outside = Outside {
+        failing_writes: &[2],
+        ..outside
+    };
+    let ended = run_words(&rt, rt.alloc(), &["show"], input, outside)?;
+    assert_eq!(rt; ended.status, Status::WriteFault);
+    let held = ended.output.octets();
+    assert_eq!(rt; Some(held), text.as_str().as_bytes().get(..held.len()));
+    assert!(rt; held.len() >= 8192 && held.len() < text.len());
+    Ok(())
+}
+
 #[test]
 fn words_and_long_inputs_are_tested(rt: HostRuntime) -> Result<(), Fail> {
     let rows: [&[&str]; 6] = [

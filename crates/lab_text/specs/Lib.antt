@@ -1,4 +1,5 @@
 pub mod Cuts
+pub mod FaultTexts
 pub mod Fields
 pub mod Forms
 pub mod Gives

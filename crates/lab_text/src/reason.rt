@@ -5,6 +5,7 @@ ghost use Rattle.lab_text.specs.Reasons.{reason_word};
 
 use network_lab::LimitName;
 use std::alloc::{AllocError, AllocFailed};
+use std::error::Error;
 use std::fmt;
 
 /// Why a line of a script is refused.
@@ -71,6 +72,39 @@ pub enum RunFault {
     /// There is no memory for the run. A prefix of the report was written.
     OutOfMemory,
 }
+
+impl fmt::Display for ScriptFault {
+    ghost use Rattle.lab_text.specs.FaultTexts.{script_fault_text};
+
+    ghost output = { λ fault. Some (script_fault_text fault) };
+
+    fn fmt<W: fmt::Write>(&self, f: &mut fmt::Formatter<W>) -> fmt::Result {
+        match self {
+            ScriptFault::Refused { line, reason } => write!(f, "line {line} {reason}"),
+            ScriptFault::Limit(which) => write!(f, "limit {which}"),
+            ScriptFault::OutOfMemory => write!(f, "out of memory"),
+        }
+    }
+}
+
+impl Error for ScriptFault {}
+
+impl fmt::Display for RunFault {
+    ghost use Rattle.lab_text.specs.FaultTexts.{run_fault_text};
+
+    ghost output = { λ fault. Some (run_fault_text fault) };
+
+    fn fmt<W: fmt::Write>(&self, f: &mut fmt::Formatter<W>) -> fmt::Result {
+        match self {
+            RunFault::Refused { line, reason } => write!(f, "line {line} {reason}"),
+            RunFault::Limit(which) => write!(f, "limit {which}"),
+            RunFault::Write => write!(f, "write fault"),
+            RunFault::OutOfMemory => write!(f, "out of memory"),
+        }
+    }
+}
+
+impl Error for RunFault {}
 
 impl From<AllocError> for ScriptFault {
     ghost from_gives = { λ _ fault. fault ≡ OutOfMemory };

@@ -35,7 +35,7 @@ pub enum LabFault {
     NotOn,
     /// A limit would be passed.
     Limit(LimitName),
-    /// Memory wanted.
+    /// There is no memory for it.
     OutOfMemory,
 }
 
