@@ -14,6 +14,8 @@ mod run;
 mod show;
 mod shown;
 mod status;
+#[cfg(test)]
+mod tests;
 
 use crate::run::run;
 use crate::status::Status;

@@ -1,3 +1,4 @@
+-- Counts of faults, and when they rose.
 use Rattle.std.specs.Prelude.{ℕ, ◌+◌, ◌-◌, ◌^◌, ◌≤◌, min}
 
 -- a count one higher, which stands still at its type's end (own)

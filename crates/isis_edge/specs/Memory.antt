@@ -1,3 +1,4 @@
+-- Sources and sinks in memory: what each call does to them.
 use Rattle.std.specs.Prelude.{ℕ, ◌+◌, List, ◌++◌, take, drop, Contains}
 use Rattle.isis_edge.specs.declared.source.Got.{Got}
 use Rattle.isis_edge.specs.declared.source.Got.TheVariants as got

@@ -1,3 +1,4 @@
+//! The calls of something in memory: their numbers, which of them are to fail, and the faults so far.
 ghost use Rattle.std.specs.Prelude.{◌≡◌, ◌↔◌, IsTrue};
 ghost use Rattle.isis_edge.specs.Faults.{counted};
 ghost use Rattle.isis_edge.specs.Memory.{IsToFail};

@@ -1,3 +1,4 @@
+//! A whole input, read to its end.
 ghost use Rattle.std.specs.Prelude.{◌≡◌, ℕ, ◌+◌, ◌<◌, ◌≤◌, List, [], length, Some, IfSome, IsSomeAnd, IfOk, IsOkUnless, vec_len};
 ghost use Rattle.isis_edge.specs.Faults.{Rose};
 ghost use Rattle.isis_edge.specs.Told.{Took};

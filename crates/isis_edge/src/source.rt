@@ -1,3 +1,4 @@
+//! Where octets are read from.
 ghost use Rattle.std.specs.Prelude.{◌≡◌, ℕ, List, Option, ◌<◌, ◌≤◌, length};
 ghost use Rattle.isis_edge.specs.Faults.{Rose};
 ghost use Rattle.isis_edge.specs.Sources.{Reads, OnFailed, UnlessFailed};

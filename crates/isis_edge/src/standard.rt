@@ -1,3 +1,4 @@
+//! The program's standard input and output.
 ghost use Rattle.std.specs.Prelude.{◌≡◌};
 
 use crate::sink::{Put, Sink};

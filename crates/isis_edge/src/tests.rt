@@ -1,3 +1,4 @@
+//! What no clause says: each call once, by pieces and with failing calls.
 use crate::{
     Got, MemorySink, MemorySource, Put, Sink, Source, StdSink, StdSource, WholeFault, WriteFailed,
     read_whole, write_all,

@@ -1,3 +1,4 @@
+//! Octets written to their end.
 ghost use Rattle.std.specs.Prelude.{◌≡◌, ℕ, ◌<◌, ◌≤◌, length, take, OnOk, OnErr, IsOk};
 ghost use Rattle.isis_edge.specs.Faults.{Rose};
 ghost use Rattle.isis_edge.specs.Told.{Wrote};

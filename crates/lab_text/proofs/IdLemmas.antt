@@ -1,3 +1,4 @@
+-- LSP IDs in words that may be no text.
 use Rattle.std.proofs.Common.{◌≡◌, ℕ, zero, suc, ◌<◌, Bool, true, false, cond, eqb, ltb, List, [], ◌∷◌, get_or, Option, Some, None, Ok, Err, refl, ap, arith, rules}
 use Rattle.isis_base.specs.Identifiers.{lsp_from}
 use Rattle.std.specs.Char.{digit_value}

@@ -1,3 +1,4 @@
+-- Keys of a number and a mark.
 use Rattle.std.proofs.Common.{◌≡◌, ◌∙◌, ℕ, zero, suc, ◌<◌, ◌^◌, Bool, cond, Some, None, refl, ap, arith}
 use Rattle.std.proofs.Math.Nat.{zero-lt-suc}
 use Rattle.std.proofs.lemmas.Bool.{lt-ltb}

@@ -1,3 +1,4 @@
+-- Lines heard one after another.
 use Rattle.std.proofs.Common.{◌≡◌, ℕ, ◌+◌, List, [], ◌∷◌, Result, Ok, Err, ap}
 use Rattle.lab_text.specs.declared.reason.ScriptFault.{ScriptFault}
 use Rattle.lab_text.specs.declared.reason.ScriptFault.TheVariants.{Refused, Limit, OutOfMemory}

@@ -1,3 +1,4 @@
+-- Entries in order, with one more or one exchanged.
 use Rattle.std.proofs.Common.{◌≡◌, ℕ, ◌+◌, ◌-◌, ◌<◌, ◌≤◌, List, length, get_or, set, ◌⊎◌, inl, inr, refl, length-set, sym, ap, ◌∙◌, subst, arith, get_or-set_same, get_or-set_other, Result, Ok, Err, MatchResult, Some, Contains}
 use Rattle.std.specs.List.{HoldsAt, insert}
 use Rattle.std.specs.List.Sorted.{IsNonDecreasingBy, IsPartitionPoint, IsBinarySearchResult, IsSearchInRange}

@@ -1,3 +1,4 @@
+-- When each fault of a plain network comes (own).
 use Rattle.std.specs.Prelude.{◌≡◌, ℕ, ◌≤◌, true, false, length}
 use Rattle.network_lab.specs.declared.faults.LabFault.{LabFault}
 use Rattle.network_lab.specs.declared.faults.LabFault.TheVariants.{NotSent, NotOn, Limit, OutOfMemory}

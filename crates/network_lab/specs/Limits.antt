@@ -1,3 +1,4 @@
+-- The limits of a network, and their words.
 use Rattle.std.specs.Prelude.{ℕ, List, ◌++◌, codes, decimal}
 use Rattle.network_lab.specs.declared.faults.LabFault.{LabFault}
 use Rattle.network_lab.specs.declared.faults.LabFault.TheVariants.{NotSent, Stale, NotOn, Limit, OutOfMemory}

@@ -1,3 +1,4 @@
+//! The keys that a router holds, by LSP ID.
 ghost use Rattle.std.specs.Prelude.{◌≡◌, ◌<◌, MatchResult, OnOk, vec_len, vec_capacity};
 ghost use Rattle.isis_base.specs.Identifiers.{lsp_number};
 ghost use Rattle.network_lab.specs.Held.{entry_number, IsRising, IsGap, IsPlaceOf, Joins};

@@ -1,3 +1,4 @@
+//! What no clause says: worked nets, and each call once.
 ghost use Rattle.std.specs.Prelude.{◌≡◌, ◌<◌, IfOk};
 
 use crate::{KeyNet, LabFault, LimitName};
