@@ -15,7 +15,7 @@ pub const INPUT_LIMIT: usize = 16_777_216;
 pub enum Status {
     /// The whole output was written.
     Done,
-    /// The words are none of the program's forms. Nothing was written.
+    /// The words are none of the program's commands. Nothing was written.
     Usage,
     /// This line of the script, counted from 1, is refused. Nothing was written.
     ScriptRefused { line: usize, reason: Reason },

@@ -54,7 +54,7 @@ impl fmt::Display for Reason {
 pub enum ScriptFault {
     /// This line is the first that is refused, and why.
     Refused { line: usize, reason: Reason },
-    /// The first line that isn't good passes this limit.
+    /// The first line that can't be taken has no reason against it, but passes this limit.
     Limit(LimitName),
     /// There is no memory for the script.
     OutOfMemory,

@@ -31,7 +31,7 @@ pub enum LabFault {
     NotSent { sent: usize },
     /// The sender restarted since, to this boot number.
     Stale { boot: u32 },
-    /// The router isn't on the link.
+    /// No link joins the routers, or the router isn't on the link.
     NotOn,
     /// A limit would be passed.
     Limit(LimitName),

@@ -4,7 +4,7 @@ ghost use Rattle.isis_base.specs.declared.identifiers.LspId.{LspId};
 ghost use Rattle.isis_base.specs.declared.key.Key.{Key};
 ghost use Rattle.network_lab.specs.declared.faults.LabFault.TheVariants.{NotSent, NotOn, Limit, OutOfMemory};
 ghost use Rattle.network_lab.specs.declared.faults.LimitName.TheVariants.{Routers, Links};
-ghost use Rattle.network_lab.specs.KeysNet.{ordered as ordered_pair, empty_net, with_router, with_link, with_copy, with_pass, has_pair, is_joined, is_at, IsHeldAt};
+ghost use Rattle.network_lab.specs.KeysNet.{ordered as ordered_pair, empty_net, with_router, with_link, with_copy, with_pass, has_pair, is_joined, is_at};
 ghost use Rattle.network_lab.specs.KeysHeld.{keys_at};
 ghost use Rattle.network_lab.specs.Causes.{RouterCause, LinkCause, PassCause};
 

@@ -2,7 +2,7 @@
 //! each router holds, of each LSP ID, the newest key that reached it (ISO 10589 7.3.16).
 //!
 //! - `faults.rt`: why a call is refused
-//! - `key_net.rt`: the plain network
+//! - `key_net.rt`: the plain network; `laws.rt`: its limits, pinned by laws
 //! - `held.rt`: the newest keys of one router, by LSP ID
 #![tactic(auto)]
 
