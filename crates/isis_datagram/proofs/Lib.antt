@@ -1,1 +1,4 @@
--- Lemmas.
+-- Lemmas, by topic.
+pub mod NumberLemmas
+pub mod ReadLemmas
+pub mod ItemLemmas

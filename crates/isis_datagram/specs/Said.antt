@@ -1,11 +1,18 @@
--- What is sent as its reader is to take it (own).
-use Rattle.std.specs.Prelude.{ℕ, false, Bool, ◌==◌, ◌||◌, List, [], ◌∷◌, Some, None, if◌then◌else◌}
+-- What is sent as its reader is to take it, and what of it and of its reader that needs (own).
+use Rattle.std.specs.Prelude.{◌≡◌, ◌≢◌, ℕ, ◌^◌, ◌<◌, ◌≤◌, true, false, Bool, ◌==◌, ◌||◌, List, [], ◌∷◌, length, Option, Some, None, IfSome, if◌then◌else◌}
+use Rattle.std.specs.List.{AllByRecursion}
+use Rattle.isis_base.specs.declared.pdu_kind.PduKind.{PduKind}
+use Rattle.isis_base.specs.declared.pdu_kind.PduKind.TheVariants as kind
+use Rattle.isis_tlv.specs.Fits.{IsArea}
+use Rattle.isis_tlv.specs.Spelling.{area_value}
 use Rattle.isis_model.specs.Ranks.{is_live}
 use Rattle.isis_model.specs.Configs.{Config}
 use Rattle.isis_model.specs.Routers.{Circuit}
 use Rattle.isis_model.specs.Datagrams.{Sent, PointHello, LanHello, Lsp, Csnp, Psnp}
 use Rattle.isis_model.specs.Events.{Message, PointHelloHeard, LanHelloHeard, LspHeard, SnpHeard}
+use Rattle.isis_model.specs.SnpTable.{SnpEntry}
 use Rattle.isis_datagram.specs.Datagrams.{pdu_octets}
+use Rattle.isis_datagram.specs.Tests.{goes_on, is_run, key_for}
 
 -- whether an SNPA stands in a list of the model's
 abbrev pub names : ℕ → List ℕ → Bool
@@ -46,3 +53,55 @@ said own config place c (Lsp level id cell) = LspHeard level config.system (reco
 })
 said own config place c (Csnp level start end entries) = SnpHeard level config.system config.system (Some (start, end)) entries
 said own config place c (Psnp level entries) = SnpHeard level config.system config.system None entries
+
+-- ---- who reads it
+
+-- the type of what is sent
+abbrev pub kind_sent : Sent → PduKind
+kind_sent (PointHello state extended named) = kind.PointHello
+kind_sent (LanHello level lan snpas) = kind.LanHello level
+kind_sent (Lsp level id cell) = kind.Lsp level
+kind_sent (Csnp level start end entries) = kind.Csnp level
+kind_sent (Psnp level entries) = kind.Psnp level
+
+-- a reader `by` on its circuit `on`, which is of a hello's kind, runs the level, and has the sender's key
+pub record Takes (by : Config) (on : Circuit) (config : Config) (c : Circuit) (kind : PduKind) : Type 0 where
+  pub goes : goes_on on kind ≡ true
+  pub runs : is_run by kind ≡ true
+  pub key : key_for by on kind ≡ key_for config c kind
+
+-- ---- what is sent
+
+-- a sender: a system ID of six octets, some level, and areas that fit one TLV
+pub record IsSender (config : Config) : Type 0 where
+  pub system : config.system < 2 ^ 48
+  pub some : (config.runs.one || config.runs.two) ≡ true
+  pub areas : AllByRecursion IsArea config.areas
+  pub fits : length (area_value config.areas) ≤ 255
+
+-- an entry: fields of the standard's sizes (ISO 10589 9.10), and lifetime 0 exactly where it names no live LSP
+pub record IsTellable (h : SnpEntry) : Type 0 where
+  pub id : h.id < 2 ^ 64
+  pub rank : h.rank < 2 ^ 33
+  pub lifetime : h.lifetime < 2 ^ 16
+  pub checksum : h.checksum < 2 ^ 16
+  pub number : h.rank ≢ 1
+  pub live : is_live h.rank ≡ true → 0 < h.lifetime
+  pub purge : is_live h.rank ≡ false → h.lifetime ≡ 0
+
+-- the entries of one SNP
+pub record AreTellable (entries : List SnpEntry) : Type 0 where
+  pub each : AllByRecursion IsTellable entries
+  pub count : length entries ≤ 75
+
+-- a hello's three-way TLV (RFC 5303 3.1)
+pub record IsHandshake (extended : ℕ) (named : Option (ℕ × ℕ)) : Type 0 where
+  pub own : extended < 2 ^ 32
+  pub other : IfSome named (λ name. (name.0 < 2 ^ 48) × (name.1 < 2 ^ 32))
+
+-- a LAN hello's priority, LAN ID and SNPAs (ISO 10589 9.5), at most 200 (own)
+pub record IsLanHello (priority lan : ℕ) (snpas : List ℕ) : Type 0 where
+  pub seven_bits : priority ≤ 127
+  pub seven_octets : lan < 2 ^ 56
+  pub each : AllByRecursion (λ snpa. snpa < 2 ^ 48) snpas
+  pub count : length snpas ≤ 200

@@ -23,9 +23,9 @@ abbrev pub own_address : Option ℕ → List ℕ
 own_address None = []
 own_address (Some address) = address_tlv (address ∷ [])
 
--- area addresses, IPv4, and the circuit's address
-abbrev pub hello_tlvs : List (List ℕ) → Option ℕ → List ℕ
-hello_tlvs areas address = area_tlv areas ++ protocol_tlv ++ own_address address
+-- area addresses, IPv4, and the circuit's address, before what else a hello has
+abbrev pub hello_tlvs : List (List ℕ) → Option ℕ → List ℕ → List ℕ
+hello_tlvs areas address others = area_tlv areas ++ protocol_tlv ++ own_address address ++ others
 
 -- the state, the extended circuit ID, and the neighbour where one is kept (RFC 5303 3.1)
 abbrev pub three_way_value : Adj → ℕ → Option (ℕ × ℕ) → ThreeWay
@@ -37,14 +37,14 @@ three_way_value state extended names = record {
 
 abbrev pub point_tlvs : List (List ℕ) → Option ℕ → Adj → ℕ → Option (ℕ × ℕ) → List ℕ
 point_tlvs areas address state extended names =
-    hello_tlvs areas address ++ three_way_tlv (three_way_value state extended names)
+    hello_tlvs areas address (three_way_tlv (three_way_value state extended names))
 
 -- the SNPAs heard, 42 to a TLV
 abbrev pub snpa_tlvs : List ℕ → List ℕ
 snpa_tlvs snpas = flat_map (λ (piece : List ℕ). snpa_tlv (map snpa_id piece)) (in_pieces (length snpas) 42 snpas)
 
 abbrev pub lan_tlvs : List (List ℕ) → Option ℕ → List ℕ → List ℕ
-lan_tlvs areas address snpas = hello_tlvs areas address ++ snpa_tlvs snpas
+lan_tlvs areas address snpas = hello_tlvs areas address (snpa_tlvs snpas)
 
 -- ---- SNPs
 

@@ -1,6 +1,10 @@
 //! The laws: functions without a body, whose contracts hold for everything that is sent.
-ghost use Rattle.std.specs.Prelude.{◌≡◌, ℕ, ◌^◌, ◌<◌, List, Some};
-ghost use Rattle.isis_datagram.specs.Numbers.{system_id, system_number};
+ghost use Rattle.std.specs.Prelude.{◌≡◌, ℕ, ◌^◌, ◌<◌, List, Ok, Some};
+ghost use Rattle.isis_base.specs.Identifiers.{lsp_number};
+ghost use Rattle.isis_pdu.specs.Views.{PduView};
+ghost use Rattle.isis_pdu.specs.Reading.{Begins};
+ghost use Rattle.isis_pdu.specs.Decoded.{decoded};
+ghost use Rattle.isis_datagram.specs.Numbers.{system_id, snpa_id, node_id, lsp_id, system_number, snpa_number, node_number};
 ghost use Rattle.isis_datagram.specs.Frames.{framed, unframed};
 ghost use Rattle.isis_datagram.specs.Datagrams.{datagram};
 ghost use Rattle.isis_datagram.specs.Said.{said};
@@ -9,9 +13,17 @@ ghost use Rattle.isis_datagram.specs.Reading.{read};
 /// Identifiers of numbers have those numbers.
 pub fn number_laws()
     ensures system { (n : ℕ) → n < 2 ^ 48 → system_number (system_id n) ≡ n }
+    ensures snpa { (n : ℕ) → n < 2 ^ 48 → snpa_number (snpa_id n) ≡ n }
+    ensures node { (n : ℕ) → n < 2 ^ 56 → node_number (node_id n) ≡ n }
+    ensures lsp { (n : ℕ) → n < 2 ^ 64 → lsp_number (lsp_id n) ≡ n }
 {}
 
 /// A datagram's frame reads back.
 pub fn frame_law()
     ensures { (snpa : ℕ) (pdu : List ℕ) → snpa < 2 ^ 48 → unframed (framed snpa pdu) ≡ Some (snpa, pdu) }
+{}
+
+/// Octets that begin with a PDU decode to it.
+pub fn decoded_law()
+    ensures { (octets : List ℕ) (pdu : PduView) (n : ℕ) → Begins octets pdu n → decoded octets ≡ Ok (pdu, n) }
 {}
