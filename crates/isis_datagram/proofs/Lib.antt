@@ -2,3 +2,5 @@
 pub mod NumberLemmas
 pub mod ReadLemmas
 pub mod ItemLemmas
+pub mod AuthLemmas
+pub mod SnpLemmas

@@ -1,7 +1,8 @@
 -- Octets that begin with a PDU are read as that PDU, by the tests.
 use Rattle.std.proofs.Common.{◌≡◌, ◌∙◌, ℕ, ◌+◌, ◌^◌, ◌<◌, ◌≤◌, List, [], ◌∷◌, ◌++◌, length, take, cond, Bool, true, leb, ◌&&◌, Option, Some, None, Result, Ok, Err, refl, sym, ap, arith, append-nil, subst, take_all}
-use Rattle.std.proofs.lemmas.Bool.{le-leb}
+use Rattle.std.proofs.lemmas.Bool.{le-leb, cond-true}
 use Rattle.isis_base.specs.declared.pdu_kind.PduKind.{PduKind}
+use Rattle.std.specs.List.{AllByRecursion}
 use Rattle.isis_base.specs.PduKinds.{kind_of_number, kind_at}
 use Rattle.isis_pdu.specs.declared.fault.PduFault.{PduFault}
 use Rattle.isis_pdu.specs.Views.{PduView}
@@ -15,17 +16,18 @@ use Rattle.isis_pdu.proofs.RoundLemmas.{begins-again, length-spelled}
 use Rattle.isis_model.specs.Configs.{Config}
 use Rattle.isis_model.specs.Routers.{Circuit}
 use Rattle.isis_datagram.specs.Numbers.{u48_octets, u48_of}
-use Rattle.isis_datagram.specs.Frames.{framed, unframed}
-use Rattle.isis_datagram.specs.Tests.{tests_of, first_failing}
+use Rattle.isis_datagram.specs.Frames.{magic, framed, unframed}
+use Rattle.isis_datagram.specs.Tests.{Test, tests_of, first_failing}
 use Rattle.isis_datagram.specs.Reading.{message, refused_or, read_pdu, read_frame, read}
 use Rattle.isis_datagram.proofs.NumberLemmas.{u48-again}
 
 -- ---- frames
 
 pub unframed-again : (snpa : ℕ) (pdu : List ℕ) → snpa < 2 ^ 48 → unframed (framed snpa pdu) ≡ Some (snpa, pdu)
-unfolding unframed
+unfolding framed unframed
 unframed-again snpa pdu h =
-    let long : leb 10 (length (framed snpa pdu)) ≡ true = le-leb 10 (length (framed snpa pdu)) (omega arith) in
+    let octets = magic ++ u48_octets snpa ++ pdu in
+    let long : leb 10 (length octets) ≡ true = le-leb 10 (length octets) (omega arith) in
     ap (λ (t : Bool). cond (t && true) (Some (u48_of (u48_octets snpa ++ pdu), pdu)) None) long
     ∙ ap (λ (n : ℕ). Some (n, pdu)) (u48-again snpa h)
 
@@ -63,3 +65,9 @@ pub spelled-begins : (pdu : PduView) → IsWritable pdu → Begins (spelled pdu)
 spelled-begins pdu is =
     subst (λ (n : ℕ). Begins (spelled pdu) pdu n) (sym (length-spelled pdu is))
     (subst (λ (octets : List ℕ). Begins octets pdu (encoded_len pdu)) (append-nil (spelled pdu)) (begins-again pdu [] is))
+
+-- ---- tests
+
+pub all-hold : (tests : List Test) → AllByRecursion (λ test. test.holds ≡ true) tests → first_failing tests ≡ None
+all-hold [] all = refl
+all-hold (test ∷ tests) all = cond-true test.holds (first_failing tests) (Some test.cause) all.0 ∙ all-hold tests all.1

@@ -3,7 +3,6 @@ use Rattle.std.specs.Prelude.{ℕ, ◌+◌, ◌*◌, Bool, ◌&&◌, List, Optio
 use Rattle.isis_base.specs.declared.level.LevelSet.{LevelSet}
 use Rattle.isis_base.specs.declared.level.LevelSet.TheVariants as levels
 use Rattle.isis_pdu.specs.Views as pdu
-use Rattle.isis_pdu.specs.Spelling.{spelled}
 use Rattle.isis_model.specs.Both.{Both, at}
 use Rattle.isis_model.specs.Configs.{Config}
 use Rattle.isis_model.specs.Routers.{Circuit}
@@ -22,17 +21,17 @@ levels_run runs = if runs.one && runs.two then levels.Both else (if runs.two the
 -- system), of an SNP with the system as its source, of an LSP as it is held.
 unfoldable pub pdu_octets : Config → ℕ → Circuit → Sent → List ℕ
 pdu_octets config place c (PointHello state extended names) =
-    spelled (signed c.key (pdu.PointHello (levels_run config.runs) (system_id config.system) 30 (place + 1))
-    (point_tlvs config.areas c.address state extended names))
+    signed c.key (pdu.PointHello (levels_run config.runs) (system_id config.system) 30 (place + 1))
+    (point_tlvs config.areas c.address state extended names)
 pdu_octets config place c (LanHello level lan snpas) =
-    spelled (signed c.key (pdu.LanHello level (levels_run config.runs) (system_id config.system) 30 c.priority (node_id lan))
-    (lan_tlvs config.areas c.address snpas))
+    signed c.key (pdu.LanHello level (levels_run config.runs) (system_id config.system) 30 c.priority (node_id lan))
+    (lan_tlvs config.areas c.address snpas)
 pdu_octets config place c (Lsp level id cell) = lsp_sent (at config.keys level) cell
 pdu_octets config place c (Csnp level start end entries) =
-    spelled (signed (at config.keys level) (pdu.Csnp level (node_id (256 * config.system)) (lsp_id start) (lsp_id end))
-    (entry_tlvs entries))
+    signed (at config.keys level) (pdu.Csnp level (node_id (256 * config.system)) (lsp_id start) (lsp_id end))
+    (entry_tlvs entries)
 pdu_octets config place c (Psnp level entries) =
-    spelled (signed (at config.keys level) (pdu.Psnp level (node_id (256 * config.system))) (entry_tlvs entries))
+    signed (at config.keys level) (pdu.Psnp level (node_id (256 * config.system))) (entry_tlvs entries)
 
 -- a router's SNPA is its system ID (own)
 abbrev pub datagram : Config → ℕ → Circuit → Sent → List ℕ

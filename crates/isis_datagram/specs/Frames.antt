@@ -7,7 +7,7 @@ abbrev pub magic : List ℕ
 magic = 73 ∷ 83 ∷ 85 ∷ 49 ∷ []
 
 -- the datagram of an SNPA and a PDU
-abbrev pub framed : ℕ → List ℕ → List ℕ
+unfoldable pub framed : ℕ → List ℕ → List ℕ
 framed snpa pdu = magic ++ u48_octets snpa ++ pdu
 
 -- the sender's SNPA and the PDU of a datagram, none where it has no frame

@@ -2,7 +2,7 @@
 use Rattle.std.specs.Prelude.{ℕ, ◌+◌, ◌-◌, Bool, List, [], ◌∷◌, ◌++◌, length, drop, replicate, Option, Some, None, if◌then◌else◌}
 use Rattle.isis_base.specs.declared.level.Level.{Level}
 use Rattle.isis_base.specs.Fields.{u16_octets}
-use Rattle.isis_pdu.specs.Views.{PduView, Lsp, tlvs_of_pdu}
+use Rattle.isis_pdu.specs.Views.{PduView, Lsp}
 use Rattle.isis_pdu.specs.Spelling.{spelled}
 use Rattle.hmac_auth.specs.Pdus.{with_piece}
 use Rattle.isis_model.specs.Both.{at}
@@ -11,7 +11,7 @@ use Rattle.isis_model.specs.Cells.{Cell}
 use Rattle.isis_model.specs.Routers.{Contents, Router}
 use Rattle.isis_model.specs.Givens.{Given}
 use Rattle.isis_datagram.specs.Numbers.{lsp_id}
-use Rattle.isis_datagram.specs.Signing.{auth_octets, digest_of, signed}
+use Rattle.isis_datagram.specs.Signing.{auth_octets, digest_of, signed_tlvs}
 use Rattle.isis_datagram.specs.CheckOctets.{checksum_with}
 
 -- ---- one's own, as it is issued, with MaxAge, 1,200 seconds (ISO 10589 7.3.16.3)
@@ -23,7 +23,7 @@ issued_with level id number flags checksum tlvs = Lsp level 1200 (lsp_id id) num
 -- its TLVs, of which authentication is the first where there is a key
 abbrev pub issued_tlvs : Option (List ℕ) → Level → ℕ → ℕ → Contents → List ℕ
 issued_tlvs key level id number contents =
-    tlvs_of_pdu (signed key (issued_with level id number contents.flags 0) contents.tlvs)
+    signed_tlvs key (issued_with level id number contents.flags 0) contents.tlvs
 
 -- its checksum: of the octets from the LSP ID on (ISO 10589 7.3.11)
 abbrev pub issued_checksum : Option (List ℕ) → Level → ℕ → ℕ → Contents → ℕ

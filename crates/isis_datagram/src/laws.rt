@@ -1,13 +1,19 @@
 //! The laws: functions without a body, whose contracts hold for everything that is sent.
 ghost use Rattle.std.specs.Prelude.{◌≡◌, ℕ, ◌^◌, ◌<◌, List, Ok, Some};
 ghost use Rattle.isis_base.specs.Identifiers.{lsp_number};
+ghost use Rattle.isis_base.specs.declared.level.Level.{Level};
+ghost use Rattle.isis_base.specs.declared.pdu_kind.PduKind.TheVariants as kind;
+ghost use Rattle.isis_model.specs.Configs.{Config};
+ghost use Rattle.isis_model.specs.Routers.{Circuit};
+ghost use Rattle.isis_model.specs.SnpTable.{SnpEntry};
+ghost use Rattle.isis_model.specs.Datagrams.{Csnp, Psnp};
 ghost use Rattle.isis_pdu.specs.Views.{PduView};
 ghost use Rattle.isis_pdu.specs.Reading.{Begins};
 ghost use Rattle.isis_pdu.specs.Decoded.{decoded};
 ghost use Rattle.isis_datagram.specs.Numbers.{system_id, snpa_id, node_id, lsp_id, system_number, snpa_number, node_number};
 ghost use Rattle.isis_datagram.specs.Frames.{framed, unframed};
 ghost use Rattle.isis_datagram.specs.Datagrams.{datagram};
-ghost use Rattle.isis_datagram.specs.Said.{said};
+ghost use Rattle.isis_datagram.specs.Said.{said, Takes, IsSender, AreTellable, IsHandshake, IsLanHello};
 ghost use Rattle.isis_datagram.specs.Reading.{read};
 
 /// Identifiers of numbers have those numbers.
@@ -26,4 +32,20 @@ pub fn frame_law()
 /// Octets that begin with a PDU decode to it.
 pub fn decoded_law()
     ensures { (octets : List ℕ) (pdu : PduView) (n : ℕ) → Begins octets pdu n → decoded octets ≡ Ok (pdu, n) }
+{}
+
+/// A PSNP reads back.
+pub fn psnp_law()
+    ensures { (by config : Config) (on c : Circuit) (place : ℕ) (level : Level) (entries : List SnpEntry)
+        → IsSender config → AreTellable entries → Takes by on config c (kind.Psnp level)
+        → read by on (datagram config place c (Psnp level entries)) ≡ said by.system config place c (Psnp level entries) }
+{}
+
+/// A CSNP reads back.
+pub fn csnp_law()
+    ensures { (by config : Config) (on c : Circuit) (place : ℕ) (level : Level) (start end : ℕ) (entries : List SnpEntry)
+        → IsSender config → start < 2 ^ 64 → end < 2 ^ 64 → AreTellable entries
+        → Takes by on config c (kind.Csnp level)
+        → read by on (datagram config place c (Csnp level start end entries))
+        ≡ said by.system config place c (Csnp level start end entries) }
 {}

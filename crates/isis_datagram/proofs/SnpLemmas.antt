@@ -1,0 +1,145 @@
+-- SNPs read back.
+use Rattle.std.proofs.Common.{◌≡◌, ◌∙◌, ℕ, ◌+◌, ◌*◌, ◌/◌, ◌%◌, ◌^◌, ◌<◌, ◌≤◌, ltb, List, [], ◌∷◌, ◌++◌, length, map, cond, eqb, leb, ◌&&◌, ◌||◌, Bool, true, false, is_none, Option, Some, None, refl, sym, ap, subst, arith, length-append}
+use Rattle.std.specs.List.{AllByRecursion}
+use Rattle.std.specs.Result.{ok_prefix}
+use Rattle.std.proofs.lemmas.Bool.{le-leb}
+use Rattle.isis_base.specs.declared.entry.LspEntry.{LspEntry}
+use Rattle.isis_base.specs.declared.level.Level.{Level}
+use Rattle.isis_base.specs.declared.level.Level.TheVariants as level
+use Rattle.isis_base.specs.declared.pdu_kind.PduKind.TheVariants as kind
+use Rattle.isis_base.specs.declared.identifiers.NodeId.{NodeId}
+use Rattle.isis_base.specs.declared.identifiers.LspId.{LspId}
+use Rattle.isis_base.specs.PduKinds.{header_length}
+use Rattle.isis_base.specs.Keys.{entry_rank}
+use Rattle.isis_tlv.specs.Walks.{fault_of}
+use Rattle.isis_tlv.specs.Tlvs.{AreTlvs}
+use Rattle.isis_tlv.specs.Fits.{IsEntry}
+use Rattle.isis_tlv.specs.Items.{entry_at, entries_of}
+use Rattle.isis_tlv.specs.Spelling.{entry_octets, entry_value}
+use Rattle.isis_tlv.specs.Takes.{entry-some}
+use Rattle.isis_tlv.proofs.RoundLemmas.{values-again, entry-again}
+use Rattle.isis_pdu.specs.Views.{PduView, Csnp, Psnp}
+use Rattle.isis_pdu.specs.Layout.{kind_of}
+use Rattle.isis_pdu.specs.Spelling.{start_octets, field_octets, spelled, encoded_len, IsWritable}
+use Rattle.isis_pdu.proofs.RoundLemmas.{length-spelled}
+use Rattle.hmac_auth.specs.Pdus.{is_purge}
+use Rattle.isis_model.specs.Both.{at}
+use Rattle.isis_model.specs.Configs.{Config}
+use Rattle.isis_model.specs.Routers.{Circuit}
+use Rattle.isis_model.specs.SnpTable.{SnpEntry}
+use Rattle.isis_model.specs.Datagrams as sent
+use Rattle.isis_model.specs.Events.{SnpHeard}
+use Rattle.isis_datagram.specs.Numbers.{system_id, node_id, lsp_id, u48_of}
+use Rattle.isis_datagram.specs.Values.{entries_in, snp_entry}
+use Rattle.isis_datagram.specs.Tests.{Test, first_failing, tests_of, passes, key_for}
+use Rattle.isis_datagram.specs.Reading.{message, refused_or, read}
+use Rattle.isis_datagram.specs.Signing.{signed_tlvs, signed}
+use Rattle.isis_datagram.specs.Tlvs.{lsp_entry, entry_tlvs}
+use Rattle.isis_datagram.specs.Datagrams.{datagram, pdu_octets}
+use Rattle.isis_datagram.specs.Said.{said, Takes, IsSender, IsTellable, AreTellable}
+use Rattle.isis_datagram.proofs.NumberLemmas.{u48-again, lsp-again}
+use Rattle.isis_datagram.proofs.ReadLemmas.{read-begins, spelled-begins, all-hold}
+use Rattle.isis_datagram.proofs.ItemLemmas.{fine, fine-fault, fine-items, pieces-items, pieces-tlvs, pieces-length}
+use Rattle.isis_datagram.proofs.AuthLemmas.{IsHead, signed-length, signed-are, signed-items, signed-passes, signed-writable}
+
+-- ---- entries
+
+is-entry : (h : SnpEntry) → IsTellable h → IsEntry (lsp_entry h)
+is-entry h is =
+    let rank = is.rank in
+    record { lifetime = is.lifetime; system = refl; number = omega arith; checksum = is.checksum }
+
+are-entries : (list : List SnpEntry) → AllByRecursion IsTellable list → AllByRecursion IsEntry (map lsp_entry list)
+are-entries [] all = tt
+are-entries (h ∷ list) all = (is-entry h all.0, are-entries list all.1)
+
+entries-again : (list : List SnpEntry) → AllByRecursion IsTellable list → entries_of (entry_value (map lsp_entry list)) ≡ fine (map lsp_entry list)
+entries-again list all = values-again entry_at entry-some entry_octets IsEntry entry-again 0 (map lsp_entry list) (are-entries list all)
+
+-- an entry of sixteen octets
+entries-length : (list : List SnpEntry) → length (entry_value (map lsp_entry list)) ≡ 16 * length list
+entries-length [] = omega arith
+entries-length (h ∷ list) =
+    let rest = entries-length list in
+    omega arith
+
+-- the rank of a number and a lifetime
+rank-of : (rank lifetime number : ℕ) → number ≡ rank / 2 → (rank ≡ 1 → ⊥) → ((ltb 0 rank && eqb (rank % 2) 0) ≡ true → 0 < lifetime) → ((ltb 0 rank && eqb (rank % 2) 0) ≡ false → lifetime ≡ 0) → cond (ltb 0 number) (2 * number + cond (ltb 0 lifetime) 0 1) 0 ≡ rank
+rank-of rank lifetime number half one live purge = ?
+
+entry-read : (h : SnpEntry) → IsTellable h → snp_entry (lsp_entry h) ≡ h
+entry-read h is =
+    let id = lsp-again h.id is.id in
+    let rank : entry_rank (lsp_entry h) ≡ h.rank = rank-of h.rank h.lifetime (h.rank / 2) refl is.number is.live is.purge in
+    (λ i. record { id = id i; rank = rank i; lifetime = h.lifetime; checksum = h.checksum })
+
+entries-read : (list : List SnpEntry) → AllByRecursion IsTellable list → map snp_entry (map lsp_entry list) ≡ list
+entries-read [] all = refl
+entries-read (h ∷ list) all =
+    let first = entry-read h all.0 in
+    let rest = entries-read list all.1 in
+    (λ i. first i ∷ rest i)
+
+module _ (entries : List SnpEntry) (tellable : AreTellable entries) where
+  entry-items : entries_in (entry_tlvs entries) ≡ fine (map lsp_entry entries)
+  entry-items = pieces-items 9 14 entries_of lsp_entry entry_value IsTellable entries-again (length entries) entries (omega arith) tellable.each
+
+  entry-tlvs : AreTlvs (entry_tlvs entries)
+  entry-tlvs = pieces-tlvs 9 14 entries_of lsp_entry entry_value IsTellable entries-again (length entries) entries
+
+  entry-size : length (entry_tlvs entries) ≤ 1350
+  entry-size =
+      let size = pieces-length 9 14 entries_of lsp_entry entry_value IsTellable entries-again 16 entries-length (length entries) entries in
+      let count = tellable.count in
+      omega arith
+
+-- ---- headers
+
+abbrev psnp : Level → NodeId → List ℕ → PduView
+psnp level source tlvs = Psnp level source tlvs
+
+psnp-lives : (level : Level) (n : ℕ) (tlvs : List ℕ) → is_purge (spelled (psnp level (node_id n) tlvs)) ≡ false
+psnp-lives level.One n tlvs = refl
+psnp-lives level.Two n tlvs = refl
+
+psnp-head : (level : Level) (n : ℕ) → IsHead (kind.Psnp level) (psnp level (node_id n))
+psnp-head level n = record {
+  front = λ size. start_octets (kind.Psnp level) ++ field_octets (psnp level (node_id n) []) (17 + size);
+  long = λ size. refl;
+  spells = λ tlvs. refl;
+  typed = λ tlvs. refl;
+  writable = λ tlvs fits are. record { fields = refl; fits = fits; tlvs = are };
+  lives = psnp-lives level n;
+}
+
+-- ---- SNPs
+
+same-source : (system : ℕ) → system < 2 ^ 48 → u48_of (node_id (256 * system)).system.0 ≡ system
+same-source system h =
+    let n : 256 * system / 256 ≡ system = omega arith in
+    u48-again (256 * system / 256) (omega arith) ∙ n
+
+pub psnp-reads : (by config : Config) (on c : Circuit) (place : ℕ) (level : Level) (entries : List SnpEntry) → IsSender config → AreTellable entries → Takes by on config c (kind.Psnp level) → read by on (datagram config place c (sent.Psnp level entries)) ≡ said by.system config place c (sent.Psnp level entries)
+unfolding pdu_octets signed
+psnp-reads by config on c place level entries sender tellable takes =
+    let key = at config.keys level in
+    let head = psnp-head level (256 * config.system) in
+    let pdu = psnp level (node_id (256 * config.system)) in
+    let tlvs = entry_tlvs entries in
+    let are = entry-tlvs entries tellable in
+    let size = entry-size entries tellable in
+    let whole = signed_tlvs key pdu tlvs in
+    let octets = spelled (pdu whole) in
+    let is = signed-writable (kind.Psnp level) pdu head tlvs are key (omega arith) in
+    let long = length-spelled (pdu whole) is in
+    let longer = signed-length (kind.Psnp level) pdu head tlvs are key in
+    let items : entries_in whole ≡ fine (map lsp_entry entries) =
+    signed-items (kind.Psnp level) pdu head tlvs are key 9 entries_of refl ∙ entry-items entries tellable in
+    let auth = ap (λ (k : Option (List ℕ)). passes k octets 17) takes.key ∙ signed-passes (kind.Psnp level) pdu head tlvs are key (omega arith) in
+    let values = ap (λ items. is_none (fault_of items)) items ∙ ap is_none (fine-fault (map lsp_entry entries)) in
+    let none = all-hold (tests_of by on (pdu whole) octets) (le-leb (length octets) 1492 (omega arith), (takes.goes, (takes.runs, (auth, (values, (refl, (refl, tt))))))) in
+    let source = same-source config.system sender.system in
+    let listed = ap (λ items. map snp_entry (ok_prefix items)) items ∙ ap (map snp_entry) (fine-items (map lsp_entry entries)) ∙ entries-read entries tellable.each in
+    read-begins by on config.system octets (pdu whole) sender.system (spelled-begins (pdu whole) is)
+    ∙ ap (λ cause. refused_or cause (message by.system config.system (pdu whole) octets)) none
+    ∙ (λ i. SnpHeard level config.system (source i) None (listed i))
