@@ -76,6 +76,7 @@ pub record IsHead (kind : PduKind) (pdu : List ℕ → PduView) : Type 0 where
   pub long : (n : ℕ) → length (front n) ≡ header_length kind
   pub spells : (tlvs : List ℕ) → spelled (pdu tlvs) ≡ front (length tlvs) ++ tlvs
   pub typed : (tlvs : List ℕ) → kind_of (pdu tlvs) ≡ kind
+  pub tlvs : (tlvs : List ℕ) → tlvs_of_pdu (pdu tlvs) ≡ tlvs
   pub writable : (tlvs : List ℕ) → header_length kind + length tlvs ≤ 65535 → AreTlvs tlvs → IsWritable (pdu tlvs)
   pub lives : (tlvs : List ℕ) → is_purge (spelled (pdu tlvs)) ≡ false
 

@@ -2,11 +2,13 @@
 use Rattle.std.proofs.Common.{◌≡◌, ◌∙◌, ℕ, ◌+◌, ◌*◌, ◌/◌, ◌%◌, ◌^◌, ◌<◌, ◌≤◌, ltb, List, [], ◌∷◌, ◌++◌, length, map, cond, eqb, leb, ◌&&◌, ◌||◌, Bool, true, false, is_none, Option, Some, None, refl, sym, ap, subst, arith, length-append}
 use Rattle.std.specs.List.{AllByRecursion}
 use Rattle.std.specs.Result.{ok_prefix}
-use Rattle.std.proofs.lemmas.Bool.{le-leb}
+use Rattle.std.proofs.lemmas.Bool.{le-leb, and_parts}
 use Rattle.isis_base.specs.declared.entry.LspEntry.{LspEntry}
 use Rattle.isis_base.specs.declared.level.Level.{Level}
 use Rattle.isis_base.specs.declared.level.Level.TheVariants as level
+use Rattle.isis_base.specs.declared.pdu_kind.PduKind.{PduKind}
 use Rattle.isis_base.specs.declared.pdu_kind.PduKind.TheVariants as kind
+use Rattle.std.proofs.lemmas.Bool.Decides.{nat_tests}
 use Rattle.isis_base.specs.declared.identifiers.NodeId.{NodeId}
 use Rattle.isis_base.specs.declared.identifiers.LspId.{LspId}
 use Rattle.isis_base.specs.PduKinds.{header_length}
@@ -18,7 +20,7 @@ use Rattle.isis_tlv.specs.Items.{entry_at, entries_of}
 use Rattle.isis_tlv.specs.Spelling.{entry_octets, entry_value}
 use Rattle.isis_tlv.specs.Takes.{entry-some}
 use Rattle.isis_tlv.proofs.RoundLemmas.{values-again, entry-again}
-use Rattle.isis_pdu.specs.Views.{PduView, Csnp, Psnp}
+use Rattle.isis_pdu.specs.Views.{PduView, Csnp, Psnp, tlvs_of_pdu}
 use Rattle.isis_pdu.specs.Layout.{kind_of}
 use Rattle.isis_pdu.specs.Spelling.{start_octets, field_octets, spelled, encoded_len, IsWritable}
 use Rattle.isis_pdu.proofs.RoundLemmas.{length-spelled}
@@ -65,7 +67,11 @@ entries-length (h ∷ list) =
 
 -- the rank of a number and a lifetime
 rank-of : (rank lifetime number : ℕ) → number ≡ rank / 2 → (rank ≡ 1 → ⊥) → ((ltb 0 rank && eqb (rank % 2) 0) ≡ true → 0 < lifetime) → ((ltb 0 rank && eqb (rank % 2) 0) ≡ false → lifetime ≡ 0) → cond (ltb 0 number) (2 * number + cond (ltb 0 lifetime) 0 1) 0 ≡ rank
-rank-of rank lifetime number half one live purge = ?
+rank-of rank lifetime number half one live purge =
+    elim (ltb 0 rank && eqb (rank % 2) 0) as (λ t. ltb 0 rank && eqb (rank % 2) 0 ≡ t → cond (ltb 0 number) (2 * number + cond (ltb 0 lifetime) 0 1) 0 ≡ rank) [
+      | true ↦ λ h. let some = live h in let parts = and_parts (ltb 0 rank) (eqb (rank % 2) 0) h in grind (arith, nat_tests, half, some, parts.0, parts.1)
+      | false ↦ λ h. let none = purge h in grind (arith, nat_tests, half, none, h, one)
+    ] refl
 
 entry-read : (h : SnpEntry) → IsTellable h → snp_entry (lsp_entry h) ≡ h
 entry-read h is =
@@ -93,7 +99,50 @@ module _ (entries : List SnpEntry) (tellable : AreTellable entries) where
       let count = tellable.count in
       omega arith
 
--- ---- headers
+-- ---- an SNP of a type
+
+module _ (kind : PduKind) (pdu : List ℕ → PduView) (head : IsHead kind pdu) (short : header_length kind ≤ 33) (entries : List SnpEntry) (tellable : AreTellable entries) (key : Option (List ℕ)) where
+  abbrev whole : List ℕ
+  whole = signed_tlvs key pdu (entry_tlvs entries)
+
+  writable : IsWritable (pdu whole)
+  writable =
+      let size = entry-size entries tellable in
+      signed-writable kind pdu head (entry_tlvs entries) (entry-tlvs entries tellable) key (omega arith)
+
+  is-short : leb (length (spelled (pdu whole))) 1492 ≡ true
+  is-short =
+      let size = entry-size entries tellable in
+      let octets = length-spelled (pdu whole) writable in
+      let header : header_length (kind_of (pdu whole)) ≡ header_length kind = ap header_length (head.typed whole) in
+      let tlvs : length (tlvs_of_pdu (pdu whole)) ≡ length whole = ap length (head.tlvs whole) in
+      let longer = signed-length kind pdu head (entry_tlvs entries) (entry-tlvs entries tellable) key in
+      le-leb (length (spelled (pdu whole))) 1492 (omega arith)
+
+  items : entries_in whole ≡ fine (map lsp_entry entries)
+  items = signed-items kind pdu head (entry_tlvs entries) (entry-tlvs entries tellable) key 9 entries_of refl ∙ entry-items entries tellable
+
+  are-read : is_none (fault_of (entries_in whole)) ≡ true
+  are-read = ap (λ found. is_none (fault_of found)) items ∙ ap is_none (fine-fault (map lsp_entry entries))
+
+  listed : map snp_entry (ok_prefix (entries_in whole)) ≡ entries
+  listed =
+      ap (λ found. map snp_entry (ok_prefix found)) items
+      ∙ ap (map snp_entry) (fine-items (map lsp_entry entries))
+      ∙ entries-read entries tellable.each
+
+  is-authentic : (other : Option (List ℕ)) → other ≡ key → passes other (spelled (pdu whole)) (header_length kind) ≡ true
+  is-authentic other same =
+      let size = entry-size entries tellable in
+      ap (λ (k : Option (List ℕ)). passes k (spelled (pdu whole)) (header_length kind)) same
+      ∙ signed-passes kind pdu head (entry_tlvs entries) (entry-tlvs entries tellable) key (omega arith)
+
+same-source : (system : ℕ) → system < 2 ^ 48 → u48_of (node_id (256 * system)).system.0 ≡ system
+same-source system h =
+    let n : 256 * system / 256 ≡ system = omega arith in
+    u48-again (256 * system / 256) (omega arith) ∙ n
+
+-- ---- PSNPs
 
 abbrev psnp : Level → NodeId → List ℕ → PduView
 psnp level source tlvs = Psnp level source tlvs
@@ -108,38 +157,63 @@ psnp-head level n = record {
   long = λ size. refl;
   spells = λ tlvs. refl;
   typed = λ tlvs. refl;
+  tlvs = λ tlvs. refl;
   writable = λ tlvs fits are. record { fields = refl; fits = fits; tlvs = are };
   lives = psnp-lives level n;
 }
 
--- ---- SNPs
-
-same-source : (system : ℕ) → system < 2 ^ 48 → u48_of (node_id (256 * system)).system.0 ≡ system
-same-source system h =
-    let n : 256 * system / 256 ≡ system = omega arith in
-    u48-again (256 * system / 256) (omega arith) ∙ n
-
 pub psnp-reads : (by config : Config) (on c : Circuit) (place : ℕ) (level : Level) (entries : List SnpEntry) → IsSender config → AreTellable entries → Takes by on config c (kind.Psnp level) → read by on (datagram config place c (sent.Psnp level entries)) ≡ said by.system config place c (sent.Psnp level entries)
 unfolding pdu_octets signed
 psnp-reads by config on c place level entries sender tellable takes =
+    let its = kind.Psnp level in
     let key = at config.keys level in
-    let head = psnp-head level (256 * config.system) in
     let pdu = psnp level (node_id (256 * config.system)) in
-    let tlvs = entry_tlvs entries in
-    let are = entry-tlvs entries tellable in
-    let size = entry-size entries tellable in
-    let whole = signed_tlvs key pdu tlvs in
-    let octets = spelled (pdu whole) in
-    let is = signed-writable (kind.Psnp level) pdu head tlvs are key (omega arith) in
-    let long = length-spelled (pdu whole) is in
-    let longer = signed-length (kind.Psnp level) pdu head tlvs are key in
-    let items : entries_in whole ≡ fine (map lsp_entry entries) =
-    signed-items (kind.Psnp level) pdu head tlvs are key 9 entries_of refl ∙ entry-items entries tellable in
-    let auth = ap (λ (k : Option (List ℕ)). passes k octets 17) takes.key ∙ signed-passes (kind.Psnp level) pdu head tlvs are key (omega arith) in
-    let values = ap (λ items. is_none (fault_of items)) items ∙ ap is_none (fine-fault (map lsp_entry entries)) in
-    let none = all-hold (tests_of by on (pdu whole) octets) (le-leb (length octets) 1492 (omega arith), (takes.goes, (takes.runs, (auth, (values, (refl, (refl, tt))))))) in
+    let head = psnp-head level (256 * config.system) in
+    let few : 17 ≤ 33 = omega arith in
+    let tlvs = signed_tlvs key pdu (entry_tlvs entries) in
+    let octets = spelled (pdu tlvs) in
+    let none = all-hold (tests_of by on (pdu tlvs) octets) (is-short its pdu head few entries tellable key, (takes.goes, (takes.runs, (is-authentic its pdu head few entries tellable key (at by.keys level) takes.key, (are-read its pdu head few entries tellable key, (refl, (refl, tt))))))) in
     let source = same-source config.system sender.system in
-    let listed = ap (λ items. map snp_entry (ok_prefix items)) items ∙ ap (map snp_entry) (fine-items (map lsp_entry entries)) ∙ entries-read entries tellable.each in
-    read-begins by on config.system octets (pdu whole) sender.system (spelled-begins (pdu whole) is)
-    ∙ ap (λ cause. refused_or cause (message by.system config.system (pdu whole) octets)) none
-    ∙ (λ i. SnpHeard level config.system (source i) None (listed i))
+    let entries_are = listed its pdu head few entries tellable key in
+    read-begins by on config.system octets (pdu tlvs) sender.system (spelled-begins (pdu tlvs) (writable its pdu head few entries tellable key))
+    ∙ ap (λ cause. refused_or cause (message by.system config.system (pdu tlvs) octets)) none
+    ∙ (λ i. SnpHeard level config.system (source i) None (entries_are i))
+
+-- ---- CSNPs
+
+abbrev csnp : Level → NodeId → LspId → LspId → List ℕ → PduView
+csnp level source start end tlvs = Csnp level source start end tlvs
+
+csnp-lives : (level : Level) (n a b : ℕ) (tlvs : List ℕ) → is_purge (spelled (csnp level (node_id n) (lsp_id a) (lsp_id b) tlvs)) ≡ false
+csnp-lives level.One n a b tlvs = refl
+csnp-lives level.Two n a b tlvs = refl
+
+csnp-head : (level : Level) (n a b : ℕ) → IsHead (kind.Csnp level) (csnp level (node_id n) (lsp_id a) (lsp_id b))
+csnp-head level n a b = record {
+  front = λ size. start_octets (kind.Csnp level) ++ field_octets (csnp level (node_id n) (lsp_id a) (lsp_id b) []) (33 + size);
+  long = λ size. refl;
+  spells = λ tlvs. refl;
+  typed = λ tlvs. refl;
+  tlvs = λ tlvs. refl;
+  writable = λ tlvs fits are. record { fields = (refl, refl, refl); fits = fits; tlvs = are };
+  lives = csnp-lives level n a b;
+}
+
+pub csnp-reads : (by config : Config) (on c : Circuit) (place : ℕ) (level : Level) (start end : ℕ) (entries : List SnpEntry) → IsSender config → start < 2 ^ 64 → end < 2 ^ 64 → AreTellable entries → Takes by on config c (kind.Csnp level) → read by on (datagram config place c (sent.Csnp level start end entries)) ≡ said by.system config place c (sent.Csnp level start end entries)
+unfolding pdu_octets signed
+csnp-reads by config on c place level start end entries sender low high tellable takes =
+    let its = kind.Csnp level in
+    let key = at config.keys level in
+    let pdu = csnp level (node_id (256 * config.system)) (lsp_id start) (lsp_id end) in
+    let head = csnp-head level (256 * config.system) start end in
+    let few : 33 ≤ 33 = omega arith in
+    let tlvs = signed_tlvs key pdu (entry_tlvs entries) in
+    let octets = spelled (pdu tlvs) in
+    let none = all-hold (tests_of by on (pdu tlvs) octets) (is-short its pdu head few entries tellable key, (takes.goes, (takes.runs, (is-authentic its pdu head few entries tellable key (at by.keys level) takes.key, (are-read its pdu head few entries tellable key, (refl, (refl, tt))))))) in
+    let source = same-source config.system sender.system in
+    let first = lsp-again start low in
+    let last = lsp-again end high in
+    let entries_are = listed its pdu head few entries tellable key in
+    read-begins by on config.system octets (pdu tlvs) sender.system (spelled-begins (pdu tlvs) (writable its pdu head few entries tellable key))
+    ∙ ap (λ cause. refused_or cause (message by.system config.system (pdu tlvs) octets)) none
+    ∙ (λ i. SnpHeard level config.system (source i) (Some (first i, last i)) (entries_are i))
