@@ -4,3 +4,4 @@ pub mod ReadLemmas
 pub mod ItemLemmas
 pub mod AuthLemmas
 pub mod SnpLemmas
+pub mod HelloLemmas

@@ -25,7 +25,7 @@ own_address (Some address) = address_tlv (address ∷ [])
 
 -- area addresses, IPv4, and the circuit's address, before what else a hello has
 abbrev pub hello_tlvs : List (List ℕ) → Option ℕ → List ℕ → List ℕ
-hello_tlvs areas address others = area_tlv areas ++ protocol_tlv ++ own_address address ++ others
+hello_tlvs areas address others = area_tlv areas ++ (protocol_tlv ++ (own_address address ++ others))
 
 -- the state, the extended circuit ID, and the neighbour where one is kept (RFC 5303 3.1)
 abbrev pub three_way_value : Adj → ℕ → Option (ℕ × ℕ) → ThreeWay

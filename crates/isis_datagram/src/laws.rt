@@ -1,12 +1,13 @@
 //! The laws: functions without a body, whose contracts hold for everything that is sent.
-ghost use Rattle.std.specs.Prelude.{◌≡◌, ℕ, ◌^◌, ◌<◌, List, Ok, Some};
+ghost use Rattle.std.specs.Prelude.{◌≡◌, ℕ, ◌^◌, ◌<◌, List, Option, Ok, Some};
 ghost use Rattle.isis_base.specs.Identifiers.{lsp_number};
 ghost use Rattle.isis_base.specs.declared.level.Level.{Level};
 ghost use Rattle.isis_base.specs.declared.pdu_kind.PduKind.TheVariants as kind;
+ghost use Rattle.isis_tlv.specs.declared.three_way.Adj.{Adj};
 ghost use Rattle.isis_model.specs.Configs.{Config};
 ghost use Rattle.isis_model.specs.Routers.{Circuit};
 ghost use Rattle.isis_model.specs.SnpTable.{SnpEntry};
-ghost use Rattle.isis_model.specs.Datagrams.{Csnp, Psnp};
+ghost use Rattle.isis_model.specs.Datagrams.{PointHello, LanHello, Csnp, Psnp};
 ghost use Rattle.isis_pdu.specs.Views.{PduView};
 ghost use Rattle.isis_pdu.specs.Reading.{Begins};
 ghost use Rattle.isis_pdu.specs.Decoded.{decoded};
@@ -32,6 +33,22 @@ pub fn frame_law()
 /// Octets that begin with a PDU decode to it.
 pub fn decoded_law()
     ensures { (octets : List ℕ) (pdu : PduView) (n : ℕ) → Begins octets pdu n → decoded octets ≡ Ok (pdu, n) }
+{}
+
+/// A point-to-point hello reads back.
+pub fn point_hello_law()
+    ensures { (by config : Config) (on c : Circuit) (place : ℕ) (state : Adj) (extended : ℕ) (named : Option (ℕ × ℕ))
+        → IsSender config → IsHandshake extended named → Takes by on config c kind.PointHello
+        → read by on (datagram config place c (PointHello state extended named))
+        ≡ said by.system config place c (PointHello state extended named) }
+{}
+
+/// A LAN hello reads back.
+pub fn lan_hello_law()
+    ensures { (by config : Config) (on c : Circuit) (place : ℕ) (level : Level) (lan : ℕ) (snpas : List ℕ)
+        → IsSender config → IsLanHello c.priority lan snpas → Takes by on config c (kind.LanHello level)
+        → read by on (datagram config place c (LanHello level lan snpas))
+        ≡ said by.system config place c (LanHello level lan snpas) }
 {}
 
 /// A PSNP reads back.
