@@ -5,3 +5,4 @@ pub mod ItemLemmas
 pub mod AuthLemmas
 pub mod SnpLemmas
 pub mod HelloLemmas
+pub mod LspLemmas

@@ -6,7 +6,7 @@ use Rattle.isis_datagram.specs.Numbers.{u48_octets, u48_of, system_id, node_id, 
 low-again : (n : ℕ) → 256 * (256 * (256 * (n / 16777216 % 256) + n / 65536 % 256) + n / 256 % 256) + n % 256 ≡ n % 4294967296
 low-again n = omega arith
 
-high-again : (n : ℕ) → n < 65536 → 256 * (n / 256 % 256) + n % 256 ≡ n
+pub high-again : (n : ℕ) → n < 65536 → 256 * (n / 256 % 256) + n % 256 ≡ n
 high-again n h = omega arith
 
 pub u48-again : (n : ℕ) → n < 2 ^ 48 → u48_of (u48_octets n) ≡ n

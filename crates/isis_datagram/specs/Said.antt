@@ -1,18 +1,24 @@
 -- What is sent as its reader is to take it, and what of it and of its reader that needs (own).
-use Rattle.std.specs.Prelude.{◌≡◌, ◌≢◌, ℕ, ◌^◌, ◌<◌, ◌≤◌, true, false, Bool, ◌==◌, ◌||◌, List, [], ◌∷◌, length, Option, Some, None, IfSome, if◌then◌else◌}
+use Rattle.std.specs.Prelude.{◌≡◌, ◌≢◌, ℕ, ◌^◌, ◌<◌, ◌≤◌, true, false, Bool, ◌==◌, ◌||◌, List, [], ◌∷◌, length, drop, Option, Some, None, IfSome, if◌then◌else◌}
 use Rattle.std.specs.List.{AllByRecursion}
+use Rattle.isis_base.specs.declared.level.Level.{Level}
 use Rattle.isis_base.specs.declared.pdu_kind.PduKind.{PduKind}
 use Rattle.isis_base.specs.declared.pdu_kind.PduKind.TheVariants as kind
 use Rattle.isis_tlv.specs.Fits.{IsArea}
 use Rattle.isis_tlv.specs.Spelling.{area_value}
-use Rattle.isis_model.specs.Ranks.{is_live}
+use Rattle.isis_model.specs.Ranks.{number_of, is_live, is_purge}
 use Rattle.isis_model.specs.Configs.{Config}
 use Rattle.isis_model.specs.Routers.{Circuit}
 use Rattle.isis_model.specs.Datagrams.{Sent, PointHello, LanHello, Lsp, Csnp, Psnp}
 use Rattle.isis_model.specs.Events.{Message, PointHelloHeard, LanHelloHeard, LspHeard, SnpHeard}
+use Rattle.iso_checksum.specs.Checksum.{checksum_holds}
+use Rattle.isis_pdu.specs.Views as pdu
+use Rattle.isis_pdu.specs.Reading.{Begins}
+use Rattle.isis_model.specs.Cells.{Cell}
+use Rattle.isis_datagram.specs.Numbers.{lsp_id}
 use Rattle.isis_model.specs.SnpTable.{SnpEntry}
 use Rattle.isis_datagram.specs.Datagrams.{pdu_octets}
-use Rattle.isis_datagram.specs.Tests.{goes_on, is_run, key_for}
+use Rattle.isis_datagram.specs.Tests.{goes_on, is_run, key_for, passes}
 
 -- whether an SNPA stands in a list of the model's
 abbrev pub names : ℕ → List ℕ → Bool
@@ -105,3 +111,34 @@ pub record IsLanHello (priority lan : ℕ) (snpas : List ℕ) : Type 0 where
   pub seven_octets : lan < 2 ^ 56
   pub each : AllByRecursion (λ snpa. snpa < 2 ^ 48) snpas
   pub count : length snpas ≤ 200
+
+-- ---- LSPs as they are held
+
+-- A live LSP's octets say what is held of it, have the standard's size and a checksum that holds, and are authentic where
+-- there is a key; their own lifetime is what it was when they came.
+pub record TellsLive (key : Option (List ℕ)) (level : Level) (id : ℕ) (cell : Cell) : Type 0 where
+  pub lifetime : ℕ
+  pub tlvs : List ℕ
+  pub begins : Begins cell.octets (pdu.Lsp level lifetime (lsp_id id) (number_of cell.rank) cell.checksum cell.flags tlvs) (length cell.octets)
+  pub lives : 0 < lifetime
+  pub short : length cell.octets ≤ 1492
+  pub some : 0 < cell.checksum
+  pub summed : checksum_holds (drop 12 cell.octets) ≡ true
+  pub authentic : passes key cell.octets 27 ≡ true
+
+-- a live LSP that may be sent
+pub record IsLiveLsp (key : Option (List ℕ)) (level : Level) (id : ℕ) (cell : Cell) : Type 0 where
+  pub eight : id < 2 ^ 64
+  pub live : is_live cell.rank ≡ true
+  pub left : 0 < cell.left
+  pub fits : cell.left < 2 ^ 16
+  pub tells : TellsLive key level id cell
+
+-- a purge that may be sent: its octets are a header alone, which says what is held of it
+pub record IsPurge (level : Level) (id : ℕ) (cell : Cell) : Type 0 where
+  pub eight : id < 2 ^ 64
+  pub purge : is_purge cell.rank ≡ true
+  pub some : 1 < cell.rank
+  pub summed : cell.checksum ≡ 0
+  pub begins : Begins cell.octets (pdu.Lsp level 0 (lsp_id id) (number_of cell.rank) 0 cell.flags []) 27
+  pub alone : length cell.octets ≡ 27

@@ -4,17 +4,19 @@ ghost use Rattle.isis_base.specs.Identifiers.{lsp_number};
 ghost use Rattle.isis_base.specs.declared.level.Level.{Level};
 ghost use Rattle.isis_base.specs.declared.pdu_kind.PduKind.TheVariants as kind;
 ghost use Rattle.isis_tlv.specs.declared.three_way.Adj.{Adj};
+ghost use Rattle.isis_model.specs.Both.{at};
+ghost use Rattle.isis_model.specs.Cells.{Cell};
 ghost use Rattle.isis_model.specs.Configs.{Config};
 ghost use Rattle.isis_model.specs.Routers.{Circuit};
 ghost use Rattle.isis_model.specs.SnpTable.{SnpEntry};
-ghost use Rattle.isis_model.specs.Datagrams.{PointHello, LanHello, Csnp, Psnp};
+ghost use Rattle.isis_model.specs.Datagrams.{PointHello, LanHello, Lsp, Csnp, Psnp};
 ghost use Rattle.isis_pdu.specs.Views.{PduView};
 ghost use Rattle.isis_pdu.specs.Reading.{Begins};
 ghost use Rattle.isis_pdu.specs.Decoded.{decoded};
 ghost use Rattle.isis_datagram.specs.Numbers.{system_id, snpa_id, node_id, lsp_id, system_number, snpa_number, node_number};
 ghost use Rattle.isis_datagram.specs.Frames.{framed, unframed};
 ghost use Rattle.isis_datagram.specs.Datagrams.{datagram};
-ghost use Rattle.isis_datagram.specs.Said.{said, Takes, IsSender, AreTellable, IsHandshake, IsLanHello};
+ghost use Rattle.isis_datagram.specs.Said.{said, Takes, IsSender, AreTellable, IsHandshake, IsLanHello, IsLiveLsp};
 ghost use Rattle.isis_datagram.specs.Reading.{read};
 
 /// Identifiers of numbers have those numbers.
@@ -65,4 +67,12 @@ pub fn csnp_law()
         → Takes by on config c (kind.Csnp level)
         → read by on (datagram config place c (Csnp level start end entries))
         ≡ said by.system config place c (Csnp level start end entries) }
+{}
+
+/// A live LSP that is held reads back, with the seconds that are left.
+pub fn lsp_law()
+    ensures { (by config : Config) (on c : Circuit) (place : ℕ) (level : Level) (id : ℕ) (cell : Cell)
+        → config.system < 2 ^ 48 → IsLiveLsp (at config.keys level) level id cell
+        → Takes by on config c (kind.Lsp level)
+        → read by on (datagram config place c (Lsp level id cell)) ≡ said by.system config place c (Lsp level id cell) }
 {}
