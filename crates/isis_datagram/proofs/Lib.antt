@@ -6,3 +6,5 @@ pub mod AuthLemmas
 pub mod SnpLemmas
 pub mod HelloLemmas
 pub mod LspLemmas
+pub mod CheckLemmas
+pub mod IssueLemmas

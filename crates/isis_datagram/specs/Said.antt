@@ -4,11 +4,12 @@ use Rattle.std.specs.List.{AllByRecursion}
 use Rattle.isis_base.specs.declared.level.Level.{Level}
 use Rattle.isis_base.specs.declared.pdu_kind.PduKind.{PduKind}
 use Rattle.isis_base.specs.declared.pdu_kind.PduKind.TheVariants as kind
+use Rattle.isis_tlv.specs.Tlvs.{AreTlvs}
 use Rattle.isis_tlv.specs.Fits.{IsArea}
 use Rattle.isis_tlv.specs.Spelling.{area_value}
 use Rattle.isis_model.specs.Ranks.{number_of, is_live, is_purge}
 use Rattle.isis_model.specs.Configs.{Config}
-use Rattle.isis_model.specs.Routers.{Circuit}
+use Rattle.isis_model.specs.Routers.{Circuit, Contents}
 use Rattle.isis_model.specs.Datagrams.{Sent, PointHello, LanHello, Lsp, Csnp, Psnp}
 use Rattle.isis_model.specs.Events.{Message, PointHelloHeard, LanHelloHeard, LspHeard, SnpHeard}
 use Rattle.iso_checksum.specs.Checksum.{checksum_holds}
@@ -133,6 +134,11 @@ pub record IsLiveLsp (key : Option (List ℕ)) (level : Level) (id : ℕ) (cell 
   pub left : 0 < cell.left
   pub fits : cell.left < 2 ^ 16
   pub tells : TellsLive key level id cell
+
+-- what an own LSP may say: TLVs that leave room for a header of 27 octets and an authentication of 19 in 1,492
+pub record IsIssuable (contents : Contents) : Type 0 where
+  pub tlvs : AreTlvs contents.tlvs
+  pub short : length contents.tlvs ≤ 1446
 
 -- a purge that may be sent: its octets are a header alone, which says what is held of it
 pub record IsPurge (level : Level) (id : ℕ) (cell : Cell) : Type 0 where

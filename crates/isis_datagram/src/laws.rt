@@ -1,5 +1,5 @@
 //! The laws: functions without a body, whose contracts hold for everything that is sent.
-ghost use Rattle.std.specs.Prelude.{◌≡◌, ℕ, ◌^◌, ◌<◌, List, Option, Ok, Some};
+ghost use Rattle.std.specs.Prelude.{◌≡◌, ℕ, ◌^◌, ◌<◌, ◌≤◌, ◌+◌, ◌/◌, ◌%◌, Bool, length, List, Option, Ok, Some};
 ghost use Rattle.isis_base.specs.Identifiers.{lsp_number};
 ghost use Rattle.isis_base.specs.declared.level.Level.{Level};
 ghost use Rattle.isis_base.specs.declared.pdu_kind.PduKind.TheVariants as kind;
@@ -7,8 +7,13 @@ ghost use Rattle.isis_tlv.specs.declared.three_way.Adj.{Adj};
 ghost use Rattle.isis_model.specs.Both.{at};
 ghost use Rattle.isis_model.specs.Cells.{Cell};
 ghost use Rattle.isis_model.specs.Configs.{Config};
-ghost use Rattle.isis_model.specs.Routers.{Circuit};
+ghost use Rattle.isis_model.specs.Routers.{Circuit, Contents, Router};
 ghost use Rattle.isis_model.specs.SnpTable.{SnpEntry};
+ghost use Rattle.isis_model.specs.OwnLsps.{issue_cell};
+ghost use Rattle.isis_model.specs.Good.{IsGoodGiven};
+ghost use Rattle.iso_checksum.specs.Checksum.{Holds, with_pair, IsCheckOctet};
+ghost use Rattle.isis_datagram.specs.CheckOctets.{checksum_with};
+ghost use Rattle.isis_datagram.specs.Lsps.{given_octets};
 ghost use Rattle.isis_model.specs.Datagrams.{PointHello, LanHello, Lsp, Csnp, Psnp};
 ghost use Rattle.isis_pdu.specs.Views.{PduView};
 ghost use Rattle.isis_pdu.specs.Reading.{Begins};
@@ -16,7 +21,7 @@ ghost use Rattle.isis_pdu.specs.Decoded.{decoded};
 ghost use Rattle.isis_datagram.specs.Numbers.{system_id, snpa_id, node_id, lsp_id, system_number, snpa_number, node_number};
 ghost use Rattle.isis_datagram.specs.Frames.{framed, unframed};
 ghost use Rattle.isis_datagram.specs.Datagrams.{datagram};
-ghost use Rattle.isis_datagram.specs.Said.{said, Takes, IsSender, AreTellable, IsHandshake, IsLanHello, IsLiveLsp};
+ghost use Rattle.isis_datagram.specs.Said.{said, Takes, IsSender, AreTellable, IsHandshake, IsLanHello, IsLiveLsp, IsIssuable, TellsLive};
 ghost use Rattle.isis_datagram.specs.Reading.{read};
 
 /// Identifiers of numbers have those numbers.
@@ -67,6 +72,26 @@ pub fn csnp_law()
         → Takes by on config c (kind.Csnp level)
         → read by on (datagram config place c (Csnp level start end entries))
         ≡ said by.system config place c (Csnp level start end entries) }
+{}
+
+/// The checksum of octets that have 0 in its place, where the second check octet has that weight, makes them hold; each
+/// check octet is 1 to 255, so it is the one that `fill` of iso_checksum writes.
+pub fn checksum_law()
+    ensures holds { (octets : List ℕ) (place weight : ℕ) → place + 2 ≤ length octets
+        → with_pair octets place 0 0 ≡ octets → weight + place + 1 ≡ length octets
+        → Holds (with_pair octets place (checksum_with octets weight / 256) (checksum_with octets weight % 256)) }
+    ensures first { (octets : List ℕ) (weight : ℕ) → IsCheckOctet (checksum_with octets weight / 256) }
+    ensures second { (octets : List ℕ) (weight : ℕ) → IsCheckOctet (checksum_with octets weight % 256) }
+{}
+
+/// What is issued says what is held of it, has a checksum that holds and is authentic. So it may be sent.
+pub fn issue_law()
+    ensures tells { (leaks : Router → Level → List (ℕ × ℕ)) (attached : Router → Bool) (r : Router)
+        (level : Level) (id number : ℕ) (contents : Contents) → number < 2 ^ 32 → IsIssuable contents
+        → TellsLive (at r.config.keys level) level id
+        (issue_cell (given_octets leaks attached) r level id number contents) }
+    ensures good { (leaks : Router → Level → List (ℕ × ℕ)) (attached : Router → Bool)
+        → IsGoodGiven (given_octets leaks attached) }
 {}
 
 /// A live LSP that is held reads back, with the seconds that are left.
