@@ -1,4 +1,5 @@
 -- Lemmas, by topic.
+pub mod ListLemmas
 pub mod NumberLemmas
 pub mod ReadLemmas
 pub mod ItemLemmas
@@ -8,3 +9,4 @@ pub mod HelloLemmas
 pub mod LspLemmas
 pub mod CheckLemmas
 pub mod IssueLemmas
+pub mod PurgeLemmas

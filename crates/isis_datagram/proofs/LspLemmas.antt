@@ -35,26 +35,11 @@ use Rattle.isis_datagram.specs.Reading.{rank_read, message, refused_or, read}
 use Rattle.isis_datagram.specs.Lsps.{with_lifetime, signed_purge, lsp_sent}
 use Rattle.isis_datagram.specs.Datagrams.{datagram, pdu_octets}
 use Rattle.isis_datagram.specs.Said.{said, Takes, TellsLive, IsLiveLsp}
+use Rattle.isis_datagram.proofs.ListLemmas.{of-leading}
 use Rattle.isis_datagram.proofs.NumberLemmas.{lsp-again, high-again}
 use Rattle.isis_datagram.proofs.ReadLemmas.{read-begins, all-hold}
 
 -- ---- octets with another lifetime
-
--- a fact of all lists of twelve octets and more
-pub of-twelve : (P : List ℕ → Type 0) → ((a b c d e f g h j k l m : ℕ) (rest : List ℕ) → P (a ∷ b ∷ c ∷ d ∷ e ∷ f ∷ g ∷ h ∷ j ∷ k ∷ l ∷ m ∷ rest)) → (xs : List ℕ) → 12 ≤ length xs → P xs
-of-twelve P p [] long = absurd (omega arith)
-of-twelve P p (a ∷ []) long = absurd (omega arith)
-of-twelve P p (a ∷ b ∷ []) long = absurd (omega arith)
-of-twelve P p (a ∷ b ∷ c ∷ []) long = absurd (omega arith)
-of-twelve P p (a ∷ b ∷ c ∷ d ∷ []) long = absurd (omega arith)
-of-twelve P p (a ∷ b ∷ c ∷ d ∷ e ∷ []) long = absurd (omega arith)
-of-twelve P p (a ∷ b ∷ c ∷ d ∷ e ∷ f ∷ []) long = absurd (omega arith)
-of-twelve P p (a ∷ b ∷ c ∷ d ∷ e ∷ f ∷ g ∷ []) long = absurd (omega arith)
-of-twelve P p (a ∷ b ∷ c ∷ d ∷ e ∷ f ∷ g ∷ h ∷ []) long = absurd (omega arith)
-of-twelve P p (a ∷ b ∷ c ∷ d ∷ e ∷ f ∷ g ∷ h ∷ j ∷ []) long = absurd (omega arith)
-of-twelve P p (a ∷ b ∷ c ∷ d ∷ e ∷ f ∷ g ∷ h ∷ j ∷ k ∷ []) long = absurd (omega arith)
-of-twelve P p (a ∷ b ∷ c ∷ d ∷ e ∷ f ∷ g ∷ h ∷ j ∷ k ∷ l ∷ []) long = absurd (omega arith)
-of-twelve P p (a ∷ b ∷ c ∷ d ∷ e ∷ f ∷ g ∷ h ∷ j ∷ k ∷ l ∷ m ∷ rest) long = p a b c d e f g h j k l m rest
 
 -- a PDU with another lifetime, where it is an LSP
 relived : ℕ → PduView → PduView
@@ -70,7 +55,7 @@ module _ (level : Level) (old new : ℕ) (id : LspId) (number checksum flags : �
 
   begins-with : (octets : List ℕ) (n : ℕ) → 12 ≤ length octets → Begins octets (lsp old) n → Begins (with_lifetime new octets) (lsp new) n
   unfolding relived
-  begins-with octets n = of-twelve (λ octets. Begins octets (lsp old) n → Begins (with_lifetime new octets) (lsp new) n)
+  begins-with octets n = of-leading 12 (λ octets. Begins octets (lsp old) n → Begins (with_lifetime new octets) (lsp new) n)
       (λ a b c d e f g h j k l m rest (reads, within). (record {
         discriminator = reads.discriminator;
         header = reads.header;
@@ -91,13 +76,13 @@ module _ (level : Level) (old new : ℕ) (id : LspId) (number checksum flags : �
       octets
 
 same-length : (octets : List ℕ) (new : ℕ) → 12 ≤ length octets → length (with_lifetime new octets) ≡ length octets
-same-length octets new = of-twelve (λ octets. length (with_lifetime new octets) ≡ length octets) (λ a b c d e f g h j k l m rest. refl) octets
+same-length octets new = of-leading 12 (λ octets. length (with_lifetime new octets) ≡ length octets) (λ a b c d e f g h j k l m rest. refl) octets
 
 same-body : (octets : List ℕ) (new : ℕ) → 12 ≤ length octets → drop 12 (with_lifetime new octets) ≡ drop 12 octets
-same-body octets new = of-twelve (λ octets. drop 12 (with_lifetime new octets) ≡ drop 12 octets) (λ a b c d e f g h j k l m rest. refl) octets
+same-body octets new = of-leading 12 (λ octets. drop 12 (with_lifetime new octets) ≡ drop 12 octets) (λ a b c d e f g h j k l m rest. refl) octets
 
 same-later : (octets : List ℕ) (new n : ℕ) → 12 ≤ length octets → 12 ≤ n → drop n (with_lifetime new octets) ≡ drop n octets
-same-later octets new n long after = of-twelve (λ octets. drop n (with_lifetime new octets) ≡ drop n octets)
+same-later octets new n long after = of-leading 12 (λ octets. drop n (with_lifetime new octets) ≡ drop n octets)
     (λ a b c d e f g h j k l m rest.
     let split : n ≡ 12 + (n - 12) = omega arith in
     let lifetime = u16_octets new in
@@ -108,10 +93,10 @@ same-later octets new n long after = of-twelve (λ octets. drop n (with_lifetime
     octets long
 
 same-lsp : (octets : List ℕ) (new : ℕ) → 12 ≤ length octets → is_lsp (with_lifetime new octets) ≡ is_lsp octets
-same-lsp octets new = of-twelve (λ octets. is_lsp (with_lifetime new octets) ≡ is_lsp octets) (λ a b c d e f g h j k l m rest. refl) octets
+same-lsp octets new = of-leading 12 (λ octets. is_lsp (with_lifetime new octets) ≡ is_lsp octets) (λ a b c d e f g h j k l m rest. refl) octets
 
 same-first : (octets : List ℕ) (new : ℕ) → 12 ≤ length octets → take 10 (with_lifetime new octets) ≡ take 10 octets
-same-first octets new = of-twelve (λ octets. take 10 (with_lifetime new octets) ≡ take 10 octets) (λ a b c d e f g h j k l m rest. refl) octets
+same-first octets new = of-leading 12 (λ octets. take 10 (with_lifetime new octets) ≡ take 10 octets) (λ a b c d e f g h j k l m rest. refl) octets
 
 -- ---- authentication doesn't look at the lifetime
 

@@ -21,7 +21,7 @@ ghost use Rattle.isis_pdu.specs.Decoded.{decoded};
 ghost use Rattle.isis_datagram.specs.Numbers.{system_id, snpa_id, node_id, lsp_id, system_number, snpa_number, node_number};
 ghost use Rattle.isis_datagram.specs.Frames.{framed, unframed};
 ghost use Rattle.isis_datagram.specs.Datagrams.{datagram};
-ghost use Rattle.isis_datagram.specs.Said.{said, Takes, IsSender, AreTellable, IsHandshake, IsLanHello, IsLiveLsp, IsIssuable, TellsLive};
+ghost use Rattle.isis_datagram.specs.Said.{said, Takes, IsSender, AreTellable, IsHandshake, IsLanHello, IsLiveLsp, IsIssuable, TellsLive, IsPurge};
 ghost use Rattle.isis_datagram.specs.Reading.{read};
 
 /// Identifiers of numbers have those numbers.
@@ -99,5 +99,12 @@ pub fn lsp_law()
     ensures { (by config : Config) (on c : Circuit) (place : ℕ) (level : Level) (id : ℕ) (cell : Cell)
         → config.system < 2 ^ 48 → IsLiveLsp (at config.keys level) level id cell
         → Takes by on config c (kind.Lsp level)
+        → read by on (datagram config place c (Lsp level id cell)) ≡ said by.system config place c (Lsp level id cell) }
+{}
+
+/// A purge that is held reads back: its header, with an authentication where there is a key.
+pub fn purge_law()
+    ensures { (by config : Config) (on c : Circuit) (place : ℕ) (level : Level) (id : ℕ) (cell : Cell)
+        → config.system < 2 ^ 48 → IsPurge level id cell → Takes by on config c (kind.Lsp level)
         → read by on (datagram config place c (Lsp level id cell)) ≡ said by.system config place c (Lsp level id cell) }
 {}
