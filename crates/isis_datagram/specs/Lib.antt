@@ -10,3 +10,4 @@ pub mod Lsps
 pub mod Tlvs
 pub mod Datagrams
 pub mod Said
+pub mod Rows

@@ -1,1 +1,37 @@
-//! PDUs that another router made (FRR isisd 8.4.4), read by computation.
+//! PDUs that another router made (FRR isisd 8.4.4), and PDUs that each test refuses, worked out by computation.
+ghost use Rattle.std.specs.Prelude.{◌≡◌, ◌-◌, ◌^◌, true, false, [], ◌∷◌, Some, None};
+ghost use Rattle.isis_base.specs.declared.level.Level.TheVariants as level;
+ghost use Rattle.isis_tlv.specs.Tlvs.{tlv_octets};
+ghost use Rattle.isis_model.specs.declared.drop_name.DropName.TheVariants as drop;
+ghost use Rattle.isis_model.specs.Events.{Refused, LspHeard, SnpHeard};
+ghost use Rattle.isis_model.specs.Rows.{config, circuit};
+ghost use Rattle.isis_datagram.specs.Reading.{read};
+ghost use Rattle.isis_datagram.specs.Rows.{frr_lsp, frr_purge, frr_csnp, frr_psnp, reader, no_keys, keys, read_by, entry, psnp, lsp, point_hello, lan_hello, padding};
+
+/// PDUs of FRR, by a reader without keys.
+pub fn frr_rows()
+    ensures lsp { read_by (reader no_keys) false frr_lsp
+        ≡ LspHeard level.One 2 (record { id = 131072; rank = 2; checksum = 42760; flags = 3; left = 1179; octets = frr_lsp }) }
+    ensures purge { read_by (reader no_keys) true frr_purge
+        ≡ LspHeard level.Two 2 (record { id = 262656; rank = 5; checksum = 48576; flags = 3; left = 0; octets = frr_purge }) }
+    ensures csnp { read_by (reader no_keys) false frr_csnp
+        ≡ SnpHeard level.One 2 2 (Some (0, 2 ^ 64 - 1)) (entry 1179 ∷ []) }
+    ensures psnp { read_by (reader no_keys) true frr_psnp ≡ SnpHeard level.One 2 2 None (entry 1178 ∷ []) }
+{}
+
+/// The causes of a drop, each by a datagram that fails its test and none before it.
+pub fn drop_rows()
+    ensures frame { read config (circuit false) (73 ∷ 83 ∷ 85 ∷ 49 ∷ 0 ∷ []) ≡ Refused drop.Frame }
+    ensures pdu { read_by (reader no_keys) false [] ≡ Refused drop.Pdu }
+    ensures too_long { read_by (reader no_keys) false (psnp (padding 189)) ≡ Refused drop.TooLong }
+    ensures long { read_by (reader no_keys) false (psnp (padding 188)) ≡ SnpHeard level.One 2 2 None [] }
+    ensures lan_hello { read_by (reader no_keys) false lan_hello ≡ Refused drop.WrongKind }
+    ensures point_hello { read_by (reader no_keys) true (point_hello []) ≡ Refused drop.WrongKind }
+    ensures wrong_level { read_by config false (psnp []) ≡ Refused drop.WrongLevel }
+    ensures auth { read_by (reader keys) false (psnp []) ≡ Refused drop.Auth }
+    ensures value { read_by (reader no_keys) false (psnp (tlv_octets 9 (0 ∷ []))) ≡ Refused drop.Value }
+    ensures hello_value { read_by (reader no_keys) false (point_hello (tlv_octets 240 (3 ∷ []))) ≡ Refused drop.Value }
+    ensures zero_number { read_by (reader no_keys) false (lsp 0 0 0) ≡ Refused drop.ZeroNumber }
+    ensures zero_checksum { read_by (reader no_keys) false (lsp 1200 1 0) ≡ Refused drop.BadChecksum }
+    ensures bad_checksum { read_by (reader no_keys) false (lsp 1200 1 1) ≡ Refused drop.BadChecksum }
+{}
