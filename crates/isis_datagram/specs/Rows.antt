@@ -32,7 +32,7 @@ frr_csnp =
 -- a PSNP of level 1, under the key "AreaKey1"
 abbrev pub frr_psnp : List ℕ
 frr_psnp =
-    131 ∷ 17 ∷ 1 ∷ 0 ∷ 26 ∷ 1 ∷ 0 ∷ 0 ∷ 0 ∷ 54 ∷ 0 ∷ 0 ∷ 0 ∷ 0 ∷ 0 ∷ 2 ∷ 0 ∷ 10 ∷ 17 ∷ 54 ∷ 199 ∷ 91 ∷ 73 ∷ 102 ∷ 102 ∷ 24 ∷ 66 ∷ 204 ∷ 250 ∷ 253 ∷ 46 ∷ 17 ∷ 221 ∷ 90 ∷ 69 ∷ 205 ∷ 9 ∷ 16 ∷ 4 ∷ 154 ∷ 0 ∷ 0 ∷ 0 ∷ 0 ∷ 0 ∷ 2 ∷ 0 ∷ 0 ∷ 0 ∷ 0 ∷ 0 ∷ 1 ∷ 167 ∷ 8 ∷ []
+    131 ∷ 17 ∷ 1 ∷ 0 ∷ 26 ∷ 1 ∷ 0 ∷ 0 ∷ 0 ∷ 54 ∷ 0 ∷ 0 ∷ 0 ∷ 0 ∷ 0 ∷ 1 ∷ 0 ∷ 10 ∷ 17 ∷ 54 ∷ 199 ∷ 91 ∷ 73 ∷ 102 ∷ 102 ∷ 24 ∷ 66 ∷ 204 ∷ 250 ∷ 253 ∷ 46 ∷ 17 ∷ 221 ∷ 90 ∷ 69 ∷ 205 ∷ 9 ∷ 16 ∷ 4 ∷ 154 ∷ 0 ∷ 0 ∷ 0 ∷ 0 ∷ 0 ∷ 2 ∷ 0 ∷ 0 ∷ 0 ∷ 0 ∷ 0 ∷ 1 ∷ 167 ∷ 8 ∷ []
 
 -- a reader of both levels, with these keys, on a point-to-point circuit or a LAN, from SNPA 2
 abbrev pub reader : Both (Option (List ℕ)) → Config
@@ -43,6 +43,9 @@ no_keys = record { one = None; two = None }
 
 abbrev pub keys : Both (Option (List ℕ))
 keys = record { one = Some (codes "AreaKey1"); two = Some (codes "DomainKey1") }
+
+abbrev pub other_keys : Both (Option (List ℕ))
+other_keys = record { one = Some (codes "AreaKey2"); two = None }
 
 abbrev pub read_by : Config → Bool → List ℕ → Message
 read_by by lan octets = read by (circuit lan) (framed 2 octets)

@@ -6,7 +6,7 @@ ghost use Rattle.isis_model.specs.declared.drop_name.DropName.TheVariants as dro
 ghost use Rattle.isis_model.specs.Events.{Refused, LspHeard, SnpHeard};
 ghost use Rattle.isis_model.specs.Rows.{config, circuit};
 ghost use Rattle.isis_datagram.specs.Reading.{read};
-ghost use Rattle.isis_datagram.specs.Rows.{frr_lsp, frr_purge, frr_csnp, frr_psnp, reader, no_keys, keys, read_by, entry, psnp, lsp, point_hello, lan_hello, padding};
+ghost use Rattle.isis_datagram.specs.Rows.{frr_lsp, frr_purge, frr_csnp, frr_psnp, reader, no_keys, keys, other_keys, read_by, entry, psnp, lsp, point_hello, lan_hello, padding};
 
 /// PDUs of FRR, by a reader without keys.
 pub fn frr_rows()
@@ -16,7 +16,16 @@ pub fn frr_rows()
         ≡ LspHeard level.Two 2 (record { id = 262656; rank = 5; checksum = 48576; flags = 3; left = 0; octets = frr_purge }) }
     ensures csnp { read_by (reader no_keys) false frr_csnp
         ≡ SnpHeard level.One 2 2 (Some (0, 2 ^ 64 - 1)) (entry 1179 ∷ []) }
-    ensures psnp { read_by (reader no_keys) true frr_psnp ≡ SnpHeard level.One 2 2 None (entry 1178 ∷ []) }
+    ensures psnp { read_by (reader no_keys) true frr_psnp ≡ SnpHeard level.One 2 1 None (entry 1178 ∷ []) }
+{}
+
+/// By a reader with the keys they say the same, and with another one nothing.
+pub fn key_rows()
+    ensures lsp { read_by (reader keys) false frr_lsp ≡ read_by (reader no_keys) false frr_lsp }
+    ensures purge { read_by (reader keys) true frr_purge ≡ read_by (reader no_keys) true frr_purge }
+    ensures csnp { read_by (reader keys) false frr_csnp ≡ read_by (reader no_keys) false frr_csnp }
+    ensures psnp { read_by (reader keys) true frr_psnp ≡ read_by (reader no_keys) true frr_psnp }
+    ensures other_key { read_by (reader other_keys) false frr_psnp ≡ Refused drop.Auth }
 {}
 
 /// The causes of a drop, each by a datagram that fails its test and none before it.
