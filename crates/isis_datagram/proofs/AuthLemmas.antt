@@ -1,25 +1,22 @@
 -- A PDU that is signed passes, and its authentication says nothing else.
-use Rattle.std.proofs.Common.{◌≡◌, ◌∙◌, ℕ, ◌+◌, ◌-◌, ◌^◌, ◌<◌, ◌≤◌, List, [], ◌∷◌, ◌++◌, length, take, drop, replicate, cond, eqb, Bool, true, false, is_none, Option, Some, None, Result, Ok, Err, refl, sym, ap, subst, arith, append-nil, append_assoc, length-append, suc, take_all, ◌&&◌}
+use Rattle.std.proofs.Common.{◌≡◌, ◌∙◌, ℕ, ◌+◌, ◌≤◌, List, [], ◌∷◌, ◌++◌, length, take, drop, replicate, cond, eqb, Bool, true, false, is_none, Option, Some, None, Result, Ok, refl, sym, ap, subst, arith, append_assoc, length-append, take_all, ◌&&◌}
 use Rattle.std.specs.Prelude.{find}
 use Rattle.std.specs.Result.{ok_prefix}
 use Rattle.std.proofs.Math.Seq.{drop-append-add, take-append-add}
-use Rattle.std.proofs.lemmas.List.{take_at, drop_at}
+use Rattle.std.proofs.lemmas.List.{drop_at}
 use Rattle.isis_tlv.specs.declared.tlv.TlvFault.{TlvFault}
 use Rattle.isis_tlv.specs.Framed.{IsPdu}
 use Rattle.isis_tlv.specs.declared.fault.ValueFault.{ValueFault}
-use Rattle.isis_tlv.specs.Tlvs.{TlvView, tlv_octets, tlvs_of, tlv_list, AreTlvs}
+use Rattle.isis_tlv.specs.Tlvs.{TlvView, tlv_list, AreTlvs}
 use Rattle.isis_tlv.proofs.TlvLemmas.{tlvs-tlv, tlvs-joined, tlvs-one}
 use Rattle.isis_base.specs.declared.pdu_kind.PduKind.{PduKind}
 use Rattle.isis_base.specs.PduKinds.{header_length}
 use Rattle.isis_pdu.specs.Views.{PduView, tlvs_of_pdu}
 use Rattle.isis_pdu.specs.Layout.{kind_of}
 use Rattle.isis_pdu.specs.Spelling.{spelled, IsWritable}
-use Rattle.isis_pdu.specs.Reading.{Begins}
 use Rattle.isis_pdu.proofs.FrameLemmas.{framed}
-use Rattle.hmac_auth.specs.Hmac.{hmac}
 use Rattle.hmac_auth.specs.Pdus.{is_purge, with_piece, blanked}
-use Rattle.hmac_auth.specs.Auth.{place_in, digest_place, IsDigestPlace, has_others, has_purge_body, auth_fault}
-use Rattle.hmac_auth.specs.declared.fault.AuthFault.{AuthFault}
+use Rattle.hmac_auth.specs.Auth.{place_in, digest_place, has_others, has_purge_body, auth_fault}
 use Rattle.hmac_auth.specs.declared.fault.AuthFault.TheVariants.{PurgeBody}
 use Rattle.hmac_auth.proofs.HmacLemmas.{length-hmac}
 use Rattle.hmac_auth.proofs.PlaceLemmas.{is_auth}

@@ -1,5 +1,5 @@
 -- The checksum that an LSP is written with holds.
-use Rattle.std.proofs.Common.{◌≡◌, ◌∙◌, ℕ, ◌+◌, ◌-◌, ◌*◌, ◌/◌, ◌%◌, ◌<◌, ◌≤◌, List, length, drop, refl, sym, ap, subst, arith, length-drop}
+use Rattle.std.proofs.Common.{◌≡◌, ℕ, ◌+◌, ◌-◌, ◌*◌, ◌/◌, ◌%◌, ◌<◌, ◌≤◌, List, length, refl, sym, ap, subst, arith, length-drop}
 use Rattle.iso_checksum.specs.Checksum.{octet_sum, weighted_sum, Holds, with_pair, IsCheckOctet}
 use Rattle.iso_checksum.proofs.FillLemmas.{Holds-with_pair}
 use Rattle.isis_datagram.specs.CheckOctets.{first_check, second_check, checksum_with}

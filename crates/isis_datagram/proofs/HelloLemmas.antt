@@ -1,20 +1,14 @@
 -- Hellos read back.
-use Rattle.std.proofs.Common.{◌≡◌, ◌∙◌, ℕ, ◌+◌, ◌*◌, ◌/◌, ◌%◌, ◌^◌, ◌<◌, ◌≤◌, List, [], ◌∷◌, ◌++◌, length, map, cond, eqb, ◌&&◌, ◌||◌, Bool, true, false, is_none, Option, Some, None, Result, Ok, refl, sym, ap, subst, arith, length-append, append-nil}
+use Rattle.std.proofs.Common.{◌≡◌, ◌∙◌, ℕ, ◌+◌, ◌*◌, ◌^◌, ◌<◌, ◌≤◌, List, [], ◌∷◌, ◌++◌, length, map, cond, eqb, ◌||◌, Bool, true, false, is_none, Option, Some, None, Result, refl, sym, ap, arith, length-append, append-nil}
 use Rattle.std.specs.List.{AllByRecursion}
-use Rattle.std.specs.Option.{IfSome, option_map}
 use Rattle.std.specs.Result.{ok_prefix}
 use Rattle.std.proofs.lemmas.Bool.{and_from}
-use Rattle.isis_base.specs.declared.identifiers.Snpa.{Snpa}
-use Rattle.isis_base.specs.declared.identifiers.NodeId.{NodeId}
 use Rattle.isis_base.specs.declared.level.Level.{Level}
 use Rattle.isis_base.specs.declared.level.Level.TheVariants as level
 use Rattle.isis_base.specs.declared.level.LevelSet.{LevelSet}
-use Rattle.isis_base.specs.declared.pdu_kind.PduKind.{PduKind}
 use Rattle.isis_base.specs.declared.pdu_kind.PduKind.TheVariants as kind
-use Rattle.isis_base.specs.PduKinds.{header_length}
 use Rattle.isis_tlv.specs.declared.fault.ValueFault.{ValueFault}
 use Rattle.isis_tlv.specs.declared.three_way.Adj.{Adj}
-use Rattle.isis_tlv.specs.declared.three_way.ThreeWay.{ThreeWay}
 use Rattle.isis_tlv.specs.Walks.{fault_of}
 use Rattle.isis_tlv.specs.Tlvs.{tlv_octets, AreTlvs}
 use Rattle.isis_tlv.specs.Fits.{IsArea, IsSnpa, IsThreeWay}
@@ -24,23 +18,22 @@ use Rattle.isis_tlv.specs.Takes.{area-some, snpa-some}
 use Rattle.isis_tlv.proofs.RoundLemmas.{values-again, area-again, snpa-again}
 use Rattle.isis_tlv.proofs.ThreeWayLemmas.{three_way-again}
 use Rattle.isis_tlv.proofs.TlvLemmas.{tlvs-joined, tlvs-one}
-use Rattle.isis_pdu.specs.Views.{PduView, PointHello, LanHello, tlvs_of_pdu}
-use Rattle.isis_pdu.specs.Spelling.{start_octets, field_octets, spelled, IsWritable}
+use Rattle.isis_pdu.specs.Views.{PduView, PointHello, LanHello}
+use Rattle.isis_pdu.specs.Spelling.{start_octets, field_octets, spelled}
 use Rattle.hmac_auth.specs.Pdus.{is_purge}
-use Rattle.isis_model.specs.Both.{Both, at}
+use Rattle.isis_model.specs.Both.{Both}
 use Rattle.isis_model.specs.Configs.{Config}
 use Rattle.isis_model.specs.Routers.{Circuit}
-use Rattle.isis_model.specs.Adjacencies.{Handshake}
 use Rattle.isis_model.specs.Datagrams as sent
 use Rattle.isis_model.specs.Events.{PointHelloHeard, LanHelloHeard}
-use Rattle.isis_datagram.specs.Numbers.{u48_of, u48_octets, system_id, snpa_id, node_id}
+use Rattle.isis_datagram.specs.Numbers.{system_id, snpa_id, node_id}
 use Rattle.isis_datagram.specs.Values.{items_in, areas_in, snpas_in, handshakes_in, lists, handshake, first_handshake}
 use Rattle.isis_datagram.specs.Tests.{tests_of, passes}
 use Rattle.isis_datagram.specs.Reading.{runs_of, message, refused_or, read}
 use Rattle.isis_datagram.specs.Signing.{signed_tlvs, signed}
 use Rattle.isis_datagram.specs.Tlvs.{own_address, hello_tlvs, three_way_value, point_tlvs, snpa_tlvs, lan_tlvs}
 use Rattle.isis_datagram.specs.Datagrams.{levels_run, datagram, pdu_octets}
-use Rattle.isis_datagram.specs.Said.{names, said, Takes, IsSender, IsHandshake, IsLanHello}
+use Rattle.isis_datagram.specs.Said.{names, said, CanRead, IsSender, IsHandshake, IsLanHello}
 use Rattle.isis_datagram.proofs.NumberLemmas.{u48-again, node-again}
 use Rattle.isis_datagram.proofs.ReadLemmas.{read-begins, spelled-begins, all-hold}
 use Rattle.isis_datagram.proofs.ItemLemmas.{said_by, items-end, items-tlv, fine, fine-fault, fine-items, tlvs-none, pieces-items, pieces-others, pieces-tlvs, pieces-length}
@@ -137,7 +130,7 @@ point-head set system circuit = record {
   lives = λ tlvs. refl;
 }
 
-pub point-reads : (by config : Config) (on c : Circuit) (place : ℕ) (state : Adj) (extended : ℕ) (named : Option (ℕ × ℕ)) → IsSender config → IsHandshake extended named → Takes by on config c kind.PointHello → read by on (datagram config place c (sent.PointHello state extended named)) ≡ said by.system config place c (sent.PointHello state extended named)
+pub point-reads : (by config : Config) (on c : Circuit) (place : ℕ) (state : Adj) (extended : ℕ) (named : Option (ℕ × ℕ)) → IsSender config → IsHandshake extended named → CanRead by on config c kind.PointHello → read by on (datagram config place c (sent.PointHello state extended named)) ≡ said by.system config place c (sent.PointHello state extended named)
 unfolding pdu_octets signed
 point-reads by config on c place state extended named sender shake takes =
     let value = three_way_value state extended named in
@@ -223,7 +216,7 @@ lan-head level set system priority id low = record {
   lives = lan-lives level set system priority id;
 }
 
-pub lan-reads : (by config : Config) (on c : Circuit) (place : ℕ) (level : Level) (id : ℕ) (snpas : List ℕ) → IsSender config → IsLanHello c.priority id snpas → Takes by on config c (kind.LanHello level) → read by on (datagram config place c (sent.LanHello level id snpas)) ≡ said by.system config place c (sent.LanHello level id snpas)
+pub lan-reads : (by config : Config) (on c : Circuit) (place : ℕ) (level : Level) (id : ℕ) (snpas : List ℕ) → IsSender config → IsLanHello c.priority id snpas → CanRead by on config c (kind.LanHello level) → read by on (datagram config place c (sent.LanHello level id snpas)) ≡ said by.system config place c (sent.LanHello level id snpas)
 unfolding pdu_octets signed
 lan-reads by config on c place level id snpas sender fits takes =
     let its = kind.LanHello level in

@@ -1,13 +1,11 @@
 -- What is issued tells itself.
-use Rattle.std.proofs.Common.{◌≡◌, ◌∙◌, ℕ, ◌+◌, ◌-◌, ◌*◌, ◌/◌, ◌%◌, ◌^◌, ◌<◌, ◌≤◌, List, [], ◌∷◌, ◌++◌, length, drop, replicate, Bool, true, false, Option, Some, None, refl, sym, ap, subst, arith}
+use Rattle.std.proofs.Common.{◌≡◌, ℕ, ◌+◌, ◌*◌, ◌/◌, ◌%◌, ◌^◌, ◌<◌, ◌≤◌, List, [], ◌++◌, length, drop, replicate, Bool, true, false, Option, Some, None, refl, ap, subst, arith}
 use Rattle.isis_base.specs.declared.level.Level.{Level}
 use Rattle.isis_base.specs.declared.level.Level.TheVariants as level
 use Rattle.isis_base.specs.declared.pdu_kind.PduKind.TheVariants as kind
-use Rattle.isis_tlv.specs.Tlvs.{AreTlvs}
-use Rattle.isis_pdu.specs.Views.{PduView, Lsp}
+use Rattle.isis_pdu.specs.Views.{Lsp}
 use Rattle.isis_pdu.specs.Reading.{Begins}
 use Rattle.isis_pdu.specs.Spelling.{start_octets, field_octets, spelled, IsWritable}
-use Rattle.isis_pdu.proofs.RoundLemmas.{length-spelled}
 use Rattle.iso_checksum.specs.Checksum.{checksum_holds, with_pair}
 use Rattle.hmac_auth.specs.Hmac.{hmac}
 use Rattle.hmac_auth.specs.Pdus.{is_purge, blanked}
@@ -18,7 +16,6 @@ use Rattle.isis_model.specs.Good.{IsGoodGiven}
 use Rattle.isis_datagram.specs.Numbers.{lsp_id}
 use Rattle.isis_datagram.specs.Tests.{passes}
 use Rattle.isis_datagram.specs.Signing.{auth_octets, signed_tlvs}
-use Rattle.isis_datagram.specs.CheckOctets.{checksum_with}
 use Rattle.isis_datagram.specs.Lsps.{issued_with, issued_tlvs, issued_checksum, issued_pdu, given_octets}
 use Rattle.isis_datagram.specs.Said.{TellsLive, IsIssuable}
 use Rattle.isis_datagram.proofs.ReadLemmas.{spelled-begins}

@@ -1,10 +1,10 @@
 -- What TLVs say, one TLV at a time.
-use Rattle.std.proofs.Common.{◌≡◌, ◌∙◌, ℕ, ◌+◌, ◌*◌, ◌≤◌, ◌<◌, zero, suc, true, false, eq-eqb, length-append, mul-add, add-mul, List, [], ◌∷◌, ◌++◌, length, take, drop, map, cond, eqb, Bool, Option, Some, None, Result, Ok, Err, refl, sym, ap, arith, append_assoc, length-drop, take-append-drop}
+use Rattle.std.proofs.Common.{◌≡◌, ◌∙◌, ℕ, ◌+◌, ◌*◌, ◌≤◌, ◌<◌, zero, suc, true, false, eq-eqb, length-append, mul-add, add-mul, List, [], ◌∷◌, ◌++◌, length, take, drop, map, cond, eqb, Bool, None, Result, Ok, refl, sym, ap, arith, length-drop, take-append-drop}
 use Rattle.std.specs.List.{flat_map, AllByRecursion}
 use Rattle.std.specs.Result.{ok_prefix}
 use Rattle.isis_tlv.specs.declared.fault.ValueFault.{ValueFault}
 use Rattle.isis_tlv.specs.Walks.{fault_of}
-use Rattle.isis_tlv.specs.Tlvs.{TlvView, tlv_octets, tlvs_of, tlv_list, AreTlvs}
+use Rattle.isis_tlv.specs.Tlvs.{TlvView, tlv_octets, tlv_list, AreTlvs}
 use Rattle.isis_tlv.proofs.TlvLemmas.{tlvs-end, tlvs-tlv, tlvs-header, tlvs-past, tlvs-joined, tlvs-one, by-tlvs}
 use Rattle.isis_datagram.specs.Values.{items_if, items_in}
 use Rattle.isis_datagram.specs.Tlvs.{in_pieces}

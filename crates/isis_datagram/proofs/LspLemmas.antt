@@ -1,5 +1,5 @@
 -- Live LSPs read back.
-use Rattle.std.proofs.Common.{◌≡◌, ◌∙◌, ℕ, ◌+◌, ◌-◌, ◌*◌, ◌/◌, ◌%◌, ◌^◌, ◌<◌, ◌≤◌, List, [], ◌∷◌, ◌++◌, length, take, drop, replicate, cond, eqb, ltb, leb, not, ◌&&◌, ◌||◌, Bool, true, false, is_none, bytes_eq, Option, Some, None, Result, Ok, Err, refl, sym, ap, subst, arith}
+use Rattle.std.proofs.Common.{◌≡◌, ◌∙◌, ℕ, ◌+◌, ◌-◌, ◌*◌, ◌/◌, ◌%◌, ◌^◌, ◌<◌, ◌≤◌, List, [], ◌∷◌, ◌++◌, length, take, drop, replicate, cond, eqb, ltb, not, ◌&&◌, ◌||◌, Bool, true, false, is_none, bytes_eq, Option, Some, None, Result, Ok, Err, refl, sym, ap, subst, arith}
 use Rattle.std.proofs.Math.Seq.{drop-append-add}
 use Rattle.std.proofs.lemmas.Bool.{le-leb, ltb-true, eqb-true, ne_eqb, and_parts, and_from, not_from_false, or_right}
 use Rattle.isis_base.specs.declared.level.Level.{Level}
@@ -13,10 +13,10 @@ use Rattle.isis_tlv.specs.Tlvs.{tlv_list}
 use Rattle.isis_datagram.specs.Frames.{framed}
 use Rattle.isis_pdu.specs.Views.{PduView, LanHello, PointHello, Lsp, Csnp, Psnp}
 use Rattle.isis_pdu.specs.Layout.{body_at, value_at}
-use Rattle.isis_pdu.specs.Reading.{Reads, Begins}
+use Rattle.isis_pdu.specs.Reading.{Begins}
 use Rattle.iso_checksum.specs.Checksum.{checksum_holds}
 use Rattle.hmac_auth.specs.Hmac.{hmac}
-use Rattle.hmac_auth.specs.Pdus.{is_lsp, is_purge, with_piece, blanked}
+use Rattle.hmac_auth.specs.Pdus.{is_lsp, is_purge, blanked}
 use Rattle.hmac_auth.specs.Auth.{place_in, digest_place, has_others, has_purge_body, has_digest, fault_at, auth_fault}
 use Rattle.hmac_auth.specs.declared.fault.AuthFault.{AuthFault}
 use Rattle.hmac_auth.specs.declared.fault.AuthFault.TheVariants.{PurgeBody, Wrong}
@@ -34,7 +34,7 @@ use Rattle.isis_datagram.specs.Tests.{tests_of, passes}
 use Rattle.isis_datagram.specs.Reading.{rank_read, message, refused_or, read}
 use Rattle.isis_datagram.specs.Lsps.{with_lifetime, signed_purge, lsp_sent}
 use Rattle.isis_datagram.specs.Datagrams.{datagram, pdu_octets}
-use Rattle.isis_datagram.specs.Said.{said, Takes, TellsLive, IsLiveLsp}
+use Rattle.isis_datagram.specs.Said.{said, CanRead, IsLiveLsp}
 use Rattle.isis_datagram.proofs.ListLemmas.{of-leading}
 use Rattle.isis_datagram.proofs.NumberLemmas.{lsp-again, high-again}
 use Rattle.isis_datagram.proofs.ReadLemmas.{read-begins, all-hold}
@@ -56,23 +56,26 @@ module _ (level : Level) (old new : ℕ) (id : LspId) (number checksum flags : �
   begins-with : (octets : List ℕ) (n : ℕ) → 12 ≤ length octets → Begins octets (lsp old) n → Begins (with_lifetime new octets) (lsp new) n
   unfolding relived
   begins-with octets n = of-leading 12 (λ octets. Begins octets (lsp old) n → Begins (with_lifetime new octets) (lsp new) n)
-      (λ a b c d e f g h j k l m rest (reads, within). (record {
-        discriminator = reads.discriminator;
-        header = reads.header;
-        version = reads.version;
-        id_length = reads.id_length;
-        kind = reads.kind;
-        other_version = reads.other_version;
-        areas = reads.areas;
-        circuit_type = reads.circuit_type;
-        size = reads.size;
-        least = reads.least;
-        value =
-            let xs : List ℕ = a ∷ b ∷ c ∷ d ∷ e ∷ f ∷ g ∷ h ∷ j ∷ k ∷ l ∷ m ∷ rest in
-            ap (λ (lifetime : ℕ). relived lifetime (value_at (kind.Lsp level) xs (body_at (kind.Lsp level) xs n))) (high-again new fits)
-            ∙ ap (relived new) reads.value;
-        tlvs = reads.tlvs;
-      }, within))
+      (λ a b c d e f g h j k l m rest (reads, within). (
+        record {
+          discriminator = reads.discriminator;
+          header = reads.header;
+          version = reads.version;
+          id_length = reads.id_length;
+          kind = reads.kind;
+          other_version = reads.other_version;
+          areas = reads.areas;
+          circuit_type = reads.circuit_type;
+          size = reads.size;
+          least = reads.least;
+          value =
+              let xs : List ℕ = a ∷ b ∷ c ∷ d ∷ e ∷ f ∷ g ∷ h ∷ j ∷ k ∷ l ∷ m ∷ rest in
+              ap (λ (lifetime : ℕ). relived lifetime (value_at (kind.Lsp level) xs (body_at (kind.Lsp level) xs n))) (high-again new fits)
+              ∙ ap (relived new) reads.value;
+          tlvs = reads.tlvs;
+        },
+        within,
+      ))
       octets
 
 same-length : (octets : List ℕ) (new : ℕ) → 12 ≤ length octets → length (with_lifetime new octets) ≡ length octets
@@ -178,7 +181,7 @@ live-rank rank live =
     let parts = and_parts (ltb 0 rank) (eqb (rank % 2) 0) live in
     (ltb-true 0 rank parts.0, eqb-true (rank % 2) 0 parts.1)
 
-pub lsp-reads : (by config : Config) (on c : Circuit) (place : ℕ) (level : Level) (id : ℕ) (cell : Cell) → config.system < 2 ^ 48 → IsLiveLsp (at config.keys level) level id cell → Takes by on config c (kind.Lsp level) → read by on (datagram config place c (sent.Lsp level id cell)) ≡ said by.system config place c (sent.Lsp level id cell)
+pub lsp-reads : (by config : Config) (on c : Circuit) (place : ℕ) (level : Level) (id : ℕ) (cell : Cell) → config.system < 2 ^ 48 → IsLiveLsp (at config.keys level) level id cell → CanRead by on config c (kind.Lsp level) → read by on (datagram config place c (sent.Lsp level id cell)) ≡ said by.system config place c (sent.Lsp level id cell)
 unfolding pdu_octets lsp_sent
 lsp-reads by config on c place level id cell small is takes =
     let key = at config.keys level in

@@ -1,5 +1,5 @@
 -- Purges read back.
-use Rattle.std.proofs.Common.{◌≡◌, ◌∙◌, ℕ, ◌+◌, ◌-◌, ◌*◌, ◌/◌, ◌%◌, ◌^◌, ◌<◌, ◌≤◌, List, [], ◌∷◌, ◌++◌, length, take, drop, replicate, cond, eqb, ltb, leb, not, ◌&&◌, ◌||◌, Bool, true, false, is_none, Option, Some, None, Result, refl, sym, ap, subst, arith, take_all, append-nil, length-append}
+use Rattle.std.proofs.Common.{◌≡◌, ◌∙◌, ℕ, ◌+◌, ◌*◌, ◌/◌, ◌%◌, ◌^◌, ◌<◌, ◌≤◌, List, [], ◌∷◌, ◌++◌, length, take, cond, eqb, ltb, not, ◌&&◌, Bool, true, false, is_none, Option, Some, None, Result, refl, sym, ap, subst, arith, take_all, append-nil, length-append}
 use Rattle.std.specs.List.{list_any}
 use Rattle.std.specs.Result.{ok_prefix}
 use Rattle.std.proofs.lemmas.Bool.{le-leb, eqb-true, ne_eqb, not_from_false}
@@ -10,13 +10,12 @@ use Rattle.isis_base.specs.declared.pdu_kind.PduKind.TheVariants as kind
 use Rattle.isis_base.specs.Fields.{u16_octets}
 use Rattle.isis_tlv.specs.declared.tlv.TlvFault.{TlvFault}
 use Rattle.isis_tlv.specs.Framed.{IsPdu}
-use Rattle.isis_tlv.specs.Tlvs.{TlvView, tlvs_of, tlv_list}
+use Rattle.isis_tlv.specs.Tlvs.{TlvView, tlv_list}
 use Rattle.isis_tlv.proofs.TlvLemmas.{tlvs-end, tlvs-tlv, tlvs-one}
 use Rattle.isis_pdu.specs.Views.{PduView, LanHello, PointHello, Lsp, Csnp, Psnp}
 use Rattle.isis_pdu.specs.Layout.{value_at, body_at}
 use Rattle.isis_pdu.specs.Reading.{Begins}
 use Rattle.isis_pdu.proofs.FrameLemmas as frames
-use Rattle.hmac_auth.specs.Hmac.{hmac}
 use Rattle.hmac_auth.specs.Pdus.{is_purge, with_piece, blanked}
 use Rattle.hmac_auth.specs.Auth.{has_others, has_purge_body, auth_fault}
 use Rattle.hmac_auth.specs.declared.fault.AuthFault.TheVariants.{PurgeBody}
@@ -31,11 +30,11 @@ use Rattle.isis_model.specs.Events.{LspHeard}
 use Rattle.isis_datagram.specs.Numbers.{lsp_id}
 use Rattle.isis_datagram.specs.Frames.{framed}
 use Rattle.isis_datagram.specs.Tests.{tests_of, passes}
-use Rattle.isis_datagram.specs.Reading.{rank_read, message, refused_or, read}
+use Rattle.isis_datagram.specs.Reading.{message, refused_or, read}
 use Rattle.isis_datagram.specs.Signing.{auth_octets, digest_of}
 use Rattle.isis_datagram.specs.Lsps.{with_lifetime, signed_purge, lsp_sent}
 use Rattle.isis_datagram.specs.Datagrams.{datagram, pdu_octets}
-use Rattle.isis_datagram.specs.Said.{said, Takes, IsPurge}
+use Rattle.isis_datagram.specs.Said.{said, CanRead, IsPurge}
 use Rattle.isis_datagram.proofs.ListLemmas.{of-exactly}
 use Rattle.isis_datagram.proofs.NumberLemmas.{lsp-again}
 use Rattle.isis_datagram.proofs.ReadLemmas.{read-begins, all-hold}
@@ -66,23 +65,25 @@ module _ (level : Level) (id : LspId) (number flags : ℕ) where
   begins-signed digest header sixteen long = of-exactly 27 (λ header. Begins header (purge []) 27 → Begins (sized header ++ auth_octets digest) (purge (auth_octets digest)) 46)
       (λ a b c d e f g h j k l m n o p q r s t u v w x y z aa bb (reads, within).
       let xs : List ℕ = a ∷ b ∷ c ∷ d ∷ e ∷ f ∷ g ∷ h ∷ j ∷ k ∷ l ∷ m ∷ n ∷ o ∷ p ∷ q ∷ r ∷ s ∷ t ∷ u ∷ v ∷ w ∷ x ∷ y ∷ z ∷ aa ∷ bb ∷ [] in
-      let body : take 19 (auth_octets digest) ≡ auth_octets digest = take_all 19 (auth_octets digest) (omega arith) in
-      (record {
-        discriminator = reads.discriminator;
-        header = reads.header;
-        version = reads.version;
-        id_length = reads.id_length;
-        kind = reads.kind;
-        other_version = reads.other_version;
-        areas = reads.areas;
-        circuit_type = λ hello. cc;
-        size = refl;
-        least = omega arith;
-        value =
-            ap (λ (tlvs : List ℕ). with_body tlvs (value_at (kind.Lsp level) xs (body_at (kind.Lsp level) xs 27))) body
-            ∙ ap (with_body (auth_octets digest)) reads.value;
-        tlvs = tlvs-one 10 (54 ∷ digest);
-      }, omega arith))
+      let body : take 19 (auth_octets digest) ≡ auth_octets digest = take_all 19 (auth_octets digest) (omega arith) in (
+        record {
+          discriminator = reads.discriminator;
+          header = reads.header;
+          version = reads.version;
+          id_length = reads.id_length;
+          kind = reads.kind;
+          other_version = reads.other_version;
+          areas = reads.areas;
+          circuit_type = λ hello. cc;
+          size = refl;
+          least = omega arith;
+          value =
+              ap (λ (tlvs : List ℕ). with_body tlvs (value_at (kind.Lsp level) xs (body_at (kind.Lsp level) xs 27))) body
+              ∙ ap (with_body (auth_octets digest)) reads.value;
+          tlvs = tlvs-one 10 (54 ∷ digest);
+        },
+        omega arith,
+      ))
       header long
 
 -- ---- authentication of a purge
@@ -146,7 +147,7 @@ sent-purge (Some key) level id number flags header long begins =
       passes = ap is_none (purge-passes key front size pdu);
     }
 
-pub purge-reads : (by config : Config) (on c : Circuit) (place : ℕ) (level : Level) (id : ℕ) (cell : Cell) → config.system < 2 ^ 48 → IsPurge level id cell → Takes by on config c (kind.Lsp level) → read by on (datagram config place c (sent.Lsp level id cell)) ≡ said by.system config place c (sent.Lsp level id cell)
+pub purge-reads : (by config : Config) (on c : Circuit) (place : ℕ) (level : Level) (id : ℕ) (cell : Cell) → config.system < 2 ^ 48 → IsPurge level id cell → CanRead by on config c (kind.Lsp level) → read by on (datagram config place c (sent.Lsp level id cell)) ≡ said by.system config place c (sent.Lsp level id cell)
 unfolding pdu_octets lsp_sent
 purge-reads by config on c place level id cell small is takes =
     let key = at config.keys level in

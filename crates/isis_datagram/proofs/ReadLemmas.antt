@@ -1,5 +1,5 @@
 -- Octets that begin with a PDU are read as that PDU, by the tests.
-use Rattle.std.proofs.Common.{◌≡◌, ◌∙◌, ℕ, ◌+◌, ◌^◌, ◌<◌, ◌≤◌, List, [], ◌∷◌, ◌++◌, length, take, cond, Bool, true, leb, ◌&&◌, Option, Some, None, Result, Ok, Err, refl, sym, ap, arith, append-nil, subst, take_all}
+use Rattle.std.proofs.Common.{◌≡◌, ◌∙◌, ℕ, ◌^◌, ◌<◌, List, [], ◌∷◌, ◌++◌, length, cond, Bool, true, leb, ◌&&◌, Option, Some, None, Ok, Err, refl, sym, ap, arith, append-nil, subst, take_all}
 use Rattle.std.proofs.lemmas.Bool.{le-leb, cond-true}
 use Rattle.isis_base.specs.declared.pdu_kind.PduKind.{PduKind}
 use Rattle.std.specs.List.{AllByRecursion}
@@ -8,7 +8,7 @@ use Rattle.isis_pdu.specs.declared.fault.PduFault.{PduFault}
 use Rattle.isis_pdu.specs.Views.{PduView}
 use Rattle.isis_pdu.specs.Layout.{kind_of, body_at, value_at}
 use Rattle.isis_pdu.specs.Table.{first_fault}
-use Rattle.isis_pdu.specs.Reading.{Reads, Begins}
+use Rattle.isis_pdu.specs.Reading.{Begins}
 use Rattle.isis_pdu.specs.Spelling.{encoded_len, spelled, IsWritable}
 use Rattle.isis_pdu.specs.Decoded.{decoded_by, decoded}
 use Rattle.isis_pdu.proofs.ReadLemmas.{kind-again, refused}

@@ -1,9 +1,8 @@
 -- SNPs read back.
-use Rattle.std.proofs.Common.{◌≡◌, ◌∙◌, ℕ, ◌+◌, ◌*◌, ◌/◌, ◌%◌, ◌^◌, ◌<◌, ◌≤◌, ltb, List, [], ◌∷◌, ◌++◌, length, map, cond, eqb, leb, ◌&&◌, ◌||◌, Bool, true, false, is_none, Option, Some, None, refl, sym, ap, subst, arith, length-append}
+use Rattle.std.proofs.Common.{◌≡◌, ◌∙◌, ℕ, ◌+◌, ◌*◌, ◌/◌, ◌%◌, ◌^◌, ◌<◌, ◌≤◌, ltb, List, [], ◌∷◌, ◌++◌, length, map, cond, eqb, leb, ◌&&◌, true, false, is_none, Option, Some, None, refl, ap, arith}
 use Rattle.std.specs.List.{AllByRecursion}
 use Rattle.std.specs.Result.{ok_prefix}
 use Rattle.std.proofs.lemmas.Bool.{le-leb, and_parts}
-use Rattle.isis_base.specs.declared.entry.LspEntry.{LspEntry}
 use Rattle.isis_base.specs.declared.level.Level.{Level}
 use Rattle.isis_base.specs.declared.level.Level.TheVariants as level
 use Rattle.isis_base.specs.declared.pdu_kind.PduKind.{PduKind}
@@ -22,7 +21,7 @@ use Rattle.isis_tlv.specs.Takes.{entry-some}
 use Rattle.isis_tlv.proofs.RoundLemmas.{values-again, entry-again}
 use Rattle.isis_pdu.specs.Views.{PduView, Csnp, Psnp, tlvs_of_pdu}
 use Rattle.isis_pdu.specs.Layout.{kind_of}
-use Rattle.isis_pdu.specs.Spelling.{start_octets, field_octets, spelled, encoded_len, IsWritable}
+use Rattle.isis_pdu.specs.Spelling.{start_octets, field_octets, spelled, IsWritable}
 use Rattle.isis_pdu.proofs.RoundLemmas.{length-spelled}
 use Rattle.hmac_auth.specs.Pdus.{is_purge}
 use Rattle.isis_model.specs.Both.{at}
@@ -31,18 +30,18 @@ use Rattle.isis_model.specs.Routers.{Circuit}
 use Rattle.isis_model.specs.SnpTable.{SnpEntry}
 use Rattle.isis_model.specs.Datagrams as sent
 use Rattle.isis_model.specs.Events.{SnpHeard}
-use Rattle.isis_datagram.specs.Numbers.{system_id, node_id, lsp_id, u48_of}
+use Rattle.isis_datagram.specs.Numbers.{node_id, lsp_id, u48_of}
 use Rattle.isis_datagram.specs.Values.{entries_in, snp_entry}
-use Rattle.isis_datagram.specs.Tests.{Test, first_failing, tests_of, passes, key_for}
+use Rattle.isis_datagram.specs.Tests.{tests_of, passes}
 use Rattle.isis_datagram.specs.Reading.{message, refused_or, read}
 use Rattle.isis_datagram.specs.Signing.{signed_tlvs, signed}
 use Rattle.isis_datagram.specs.Tlvs.{lsp_entry, entry_tlvs}
 use Rattle.isis_datagram.specs.Datagrams.{datagram, pdu_octets}
-use Rattle.isis_datagram.specs.Said.{said, Takes, IsSender, IsTellable, AreTellable}
+use Rattle.isis_datagram.specs.Said.{said, CanRead, IsSender, IsTellable, AreTellable}
 use Rattle.isis_datagram.proofs.NumberLemmas.{u48-again, lsp-again}
 use Rattle.isis_datagram.proofs.ReadLemmas.{read-begins, spelled-begins, all-hold}
 use Rattle.isis_datagram.proofs.ItemLemmas.{fine, fine-fault, fine-items, pieces-items, pieces-tlvs, pieces-length}
-use Rattle.isis_datagram.proofs.AuthLemmas.{IsHead, signed-length, signed-are, signed-items, signed-passes, signed-writable}
+use Rattle.isis_datagram.proofs.AuthLemmas.{IsHead, signed-length, signed-items, signed-passes, signed-writable}
 
 -- ---- entries
 
@@ -162,7 +161,7 @@ psnp-head level n = record {
   lives = psnp-lives level n;
 }
 
-pub psnp-reads : (by config : Config) (on c : Circuit) (place : ℕ) (level : Level) (entries : List SnpEntry) → IsSender config → AreTellable entries → Takes by on config c (kind.Psnp level) → read by on (datagram config place c (sent.Psnp level entries)) ≡ said by.system config place c (sent.Psnp level entries)
+pub psnp-reads : (by config : Config) (on c : Circuit) (place : ℕ) (level : Level) (entries : List SnpEntry) → IsSender config → AreTellable entries → CanRead by on config c (kind.Psnp level) → read by on (datagram config place c (sent.Psnp level entries)) ≡ said by.system config place c (sent.Psnp level entries)
 unfolding pdu_octets signed
 psnp-reads by config on c place level entries sender tellable takes =
     let its = kind.Psnp level in
@@ -199,7 +198,7 @@ csnp-head level n a b = record {
   lives = csnp-lives level n a b;
 }
 
-pub csnp-reads : (by config : Config) (on c : Circuit) (place : ℕ) (level : Level) (start end : ℕ) (entries : List SnpEntry) → IsSender config → start < 2 ^ 64 → end < 2 ^ 64 → AreTellable entries → Takes by on config c (kind.Csnp level) → read by on (datagram config place c (sent.Csnp level start end entries)) ≡ said by.system config place c (sent.Csnp level start end entries)
+pub csnp-reads : (by config : Config) (on c : Circuit) (place : ℕ) (level : Level) (start end : ℕ) (entries : List SnpEntry) → IsSender config → start < 2 ^ 64 → end < 2 ^ 64 → AreTellable entries → CanRead by on config c (kind.Csnp level) → read by on (datagram config place c (sent.Csnp level start end entries)) ≡ said by.system config place c (sent.Csnp level start end entries)
 unfolding pdu_octets signed
 csnp-reads by config on c place level start end entries sender low high tellable takes =
     let its = kind.Csnp level in

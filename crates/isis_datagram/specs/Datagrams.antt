@@ -1,5 +1,5 @@
 -- What is sent, as a datagram's octets (ISO 10589 9; the frame: own).
-use Rattle.std.specs.Prelude.{ℕ, ◌+◌, ◌*◌, Bool, ◌&&◌, List, Option, if◌then◌else◌}
+use Rattle.std.specs.Prelude.{ℕ, ◌+◌, ◌*◌, Bool, ◌&&◌, List, if◌then◌else◌}
 use Rattle.isis_base.specs.declared.level.LevelSet.{LevelSet}
 use Rattle.isis_base.specs.declared.level.LevelSet.TheVariants as levels
 use Rattle.isis_pdu.specs.Views as pdu

@@ -1,5 +1,5 @@
 -- LSPs as octets: one's own as they are issued, and what is held as it is sent (ISO 10589 9.8, 7.3.15.5, 7.3.16.4).
-use Rattle.std.specs.Prelude.{ℕ, ◌+◌, ◌-◌, Bool, List, [], ◌∷◌, ◌++◌, length, drop, replicate, Option, Some, None, if◌then◌else◌}
+use Rattle.std.specs.Prelude.{ℕ, ◌+◌, Bool, List, ◌++◌, length, drop, replicate, Option, Some, None, if◌then◌else◌}
 use Rattle.isis_base.specs.declared.level.Level.{Level}
 use Rattle.isis_base.specs.Fields.{u16_octets}
 use Rattle.isis_pdu.specs.Views.{PduView, Lsp}

@@ -1,12 +1,13 @@
 -- PDUs that another router made, FRR isisd 8.4.4, and PDUs that each test refuses, for rows that are worked out (own).
-use Rattle.std.specs.Prelude.{ℕ, Bool, true, false, List, [], ◌∷◌, ◌++◌, replicate, codes, Option, Some, None}
+use Rattle.std.specs.Prelude.{ℕ, Bool, true, List, [], ◌∷◌, ◌++◌, replicate, codes, Option, Some, None}
 use Rattle.isis_base.specs.declared.level.Level.TheVariants as level
 use Rattle.isis_base.specs.declared.level.LevelSet.TheVariants as levels
 use Rattle.isis_tlv.specs.Tlvs.{tlv_octets}
-use Rattle.isis_pdu.specs.Views.{PduView, PointHello, LanHello, Lsp, Psnp}
+use Rattle.isis_pdu.specs.Views.{PointHello, LanHello, Lsp, Psnp}
 use Rattle.isis_pdu.specs.Spelling.{spelled}
 use Rattle.isis_model.specs.Both.{Both}
 use Rattle.isis_model.specs.Configs.{Config}
+use Rattle.isis_model.specs.Cells.{Heard}
 use Rattle.isis_model.specs.SnpTable.{SnpEntry}
 use Rattle.isis_model.specs.Events.{Message}
 use Rattle.isis_model.specs.Rows.{config, circuit}
@@ -49,6 +50,17 @@ other_keys = record { one = Some (codes "AreaKey2"); two = None }
 
 abbrev pub read_by : Config → Bool → List ℕ → Message
 read_by by lan octets = read by (circuit lan) (framed 2 octets)
+
+-- an LSP of flags 3
+abbrev pub heard : ℕ → ℕ → ℕ → ℕ → List ℕ → Heard
+heard id rank checksum left octets = record {
+  id = id;
+  rank = rank;
+  checksum = checksum;
+  flags = 3;
+  left = left;
+  octets = octets;
+}
 
 -- what the SNPs' one entry says, with its lifetime
 abbrev pub entry : ℕ → SnpEntry

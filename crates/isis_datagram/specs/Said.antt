@@ -9,7 +9,10 @@ use Rattle.isis_tlv.specs.Fits.{IsArea}
 use Rattle.isis_tlv.specs.Spelling.{area_value}
 use Rattle.isis_model.specs.Ranks.{number_of, is_live, is_purge}
 use Rattle.isis_model.specs.Configs.{Config}
-use Rattle.isis_model.specs.Routers.{Circuit, Contents}
+use Rattle.isis_model.specs.Routers.{Circuit, Contents, Router}
+use Rattle.isis_model.specs.Both.{at}
+use Rattle.isis_model.specs.Givens.{Given}
+use Rattle.isis_model.specs.OwnLsps.{issue_cell}
 use Rattle.isis_model.specs.Datagrams.{Sent, PointHello, LanHello, Lsp, Csnp, Psnp}
 use Rattle.isis_model.specs.Events.{Message, PointHelloHeard, LanHelloHeard, LspHeard, SnpHeard}
 use Rattle.iso_checksum.specs.Checksum.{checksum_holds}
@@ -18,7 +21,8 @@ use Rattle.isis_pdu.specs.Reading.{Begins}
 use Rattle.isis_model.specs.Cells.{Cell}
 use Rattle.isis_datagram.specs.Numbers.{lsp_id}
 use Rattle.isis_model.specs.SnpTable.{SnpEntry}
-use Rattle.isis_datagram.specs.Datagrams.{pdu_octets}
+use Rattle.isis_datagram.specs.Datagrams.{pdu_octets, datagram}
+use Rattle.isis_datagram.specs.Reading.{read}
 use Rattle.isis_datagram.specs.Tests.{goes_on, is_run, key_for, passes}
 
 -- whether an SNPA stands in a list of the model's
@@ -61,6 +65,10 @@ said own config place c (Lsp level id cell) = LspHeard level config.system (reco
 said own config place c (Csnp level start end entries) = SnpHeard level config.system config.system (Some (start, end)) entries
 said own config place c (Psnp level entries) = SnpHeard level config.system config.system None entries
 
+-- what is sent is read as what it says
+abbrev pub ReadsBack : Config → Circuit → Config → ℕ → Circuit → Sent → Type 0
+ReadsBack by on config place c sent = read by on (datagram config place c sent) ≡ said by.system config place c sent
+
 -- ---- who reads it
 
 -- the type of what is sent
@@ -72,7 +80,7 @@ kind_sent (Csnp level start end entries) = kind.Csnp level
 kind_sent (Psnp level entries) = kind.Psnp level
 
 -- a reader `by` on its circuit `on`, which is of a hello's kind, runs the level, and has the sender's key
-pub record Takes (by : Config) (on : Circuit) (config : Config) (c : Circuit) (kind : PduKind) : Type 0 where
+pub record CanRead (by : Config) (on : Circuit) (config : Config) (c : Circuit) (kind : PduKind) : Type 0 where
   pub goes : goes_on on kind ≡ true
   pub runs : is_run by kind ≡ true
   pub key : key_for by on kind ≡ key_for config c kind
@@ -139,6 +147,11 @@ pub record IsLiveLsp (key : Option (List ℕ)) (level : Level) (id : ℕ) (cell 
 pub record IsIssuable (contents : Contents) : Type 0 where
   pub tlvs : AreTlvs contents.tlvs
   pub short : length contents.tlvs ≤ 1446
+
+-- What is issued, whatever routes say, tells itself; `given` is what a step is given.
+abbrev pub IssueTells : Given → Router → Level → ℕ → ℕ → Contents → Type 0
+IssueTells given r level id number contents =
+    TellsLive (at r.config.keys level) level id (issue_cell given r level id number contents)
 
 -- a purge that may be sent: its octets are a header alone, which says what is held of it
 pub record IsPurge (level : Level) (id : ℕ) (cell : Cell) : Type 0 where

@@ -1,6 +1,5 @@
 -- The tests of a PDU's octets that need no state, in their order, each with the cause of a drop where it fails (own: the order).
-use Rattle.std.specs.Prelude.{ℕ, ◌==◌, nat_le, Bool, true, false, ◌&&◌, ◌||◌, not, List, [], ◌∷◌, length, drop, Option, Some, None, is_none, if◌then◌else◌}
-use Rattle.isis_base.specs.declared.level.Level.{Level}
+use Rattle.std.specs.Prelude.{ℕ, ◌==◌, nat_le, Bool, true, ◌&&◌, ◌||◌, not, List, [], ◌∷◌, length, drop, Option, Some, None, is_none, if◌then◌else◌}
 use Rattle.isis_base.specs.declared.pdu_kind.PduKind.{PduKind}
 use Rattle.isis_base.specs.declared.pdu_kind.PduKind.TheVariants as kind
 use Rattle.isis_base.specs.PduKinds.{header_length, is_hello}

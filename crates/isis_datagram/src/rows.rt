@@ -6,17 +6,18 @@ ghost use Rattle.isis_model.specs.declared.drop_name.DropName.TheVariants as dro
 ghost use Rattle.isis_model.specs.Events.{Refused, LspHeard, SnpHeard};
 ghost use Rattle.isis_model.specs.Rows.{config, circuit};
 ghost use Rattle.isis_datagram.specs.Reading.{read};
-ghost use Rattle.isis_datagram.specs.Rows.{frr_lsp, frr_purge, frr_csnp, frr_psnp, reader, no_keys, keys, other_keys, read_by, entry, psnp, lsp, point_hello, lan_hello, padding};
+ghost use Rattle.isis_datagram.specs.Rows.{frr_lsp, frr_purge, frr_csnp, frr_psnp, reader, no_keys, keys, other_keys, read_by, heard, entry, psnp, lsp, point_hello, lan_hello, padding};
 
 /// PDUs of FRR, by a reader without keys.
 pub fn frr_rows()
     ensures lsp { read_by (reader no_keys) false frr_lsp
-        ≡ LspHeard level.One 2 (record { id = 131072; rank = 2; checksum = 42760; flags = 3; left = 1179; octets = frr_lsp }) }
+        ≡ LspHeard level.One 2 (heard 131072 2 42760 1179 frr_lsp) }
     ensures purge { read_by (reader no_keys) true frr_purge
-        ≡ LspHeard level.Two 2 (record { id = 262656; rank = 5; checksum = 48576; flags = 3; left = 0; octets = frr_purge }) }
+        ≡ LspHeard level.Two 2 (heard 262656 5 48576 0 frr_purge) }
     ensures csnp { read_by (reader no_keys) false frr_csnp
         ≡ SnpHeard level.One 2 2 (Some (0, 2 ^ 64 - 1)) (entry 1179 ∷ []) }
-    ensures psnp { read_by (reader no_keys) true frr_psnp ≡ SnpHeard level.One 2 1 None (entry 1178 ∷ []) }
+    ensures psnp { read_by (reader no_keys) true frr_psnp
+        ≡ SnpHeard level.One 2 1 None (entry 1178 ∷ []) }
 {}
 
 /// By a reader with the keys they say the same, and with another one nothing.
