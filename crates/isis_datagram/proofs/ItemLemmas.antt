@@ -70,12 +70,12 @@ map-append : {A B : Type 0} (f : A → B) (one two : List A) → map f one ++ ma
 map-append f [] two = refl
 map-append f (x ∷ one) two = ap (λ rest. f x ∷ rest) (map-append f one two)
 
-all-take : {A : Type 0} (P : A → Type 0) (n : ℕ) (list : List A) → AllByRecursion P list → AllByRecursion P (take n list)
+pub all-take : {A : Type 0} (P : A → Type 0) (n : ℕ) (list : List A) → AllByRecursion P list → AllByRecursion P (take n list)
 all-take P zero list all = tt
 all-take P (suc n) [] all = tt
 all-take P (suc n) (x ∷ list) all = (all.0, all-take P n list all.1)
 
-all-drop : {A : Type 0} (P : A → Type 0) (n : ℕ) (list : List A) → AllByRecursion P list → AllByRecursion P (drop n list)
+pub all-drop : {A : Type 0} (P : A → Type 0) (n : ℕ) (list : List A) → AllByRecursion P list → AllByRecursion P (drop n list)
 all-drop P zero list all = all
 all-drop P (suc n) [] all = tt
 all-drop P (suc n) (x ∷ list) all = all-drop P n list all.1

@@ -10,3 +10,4 @@ pub mod LspLemmas
 pub mod CheckLemmas
 pub mod IssueLemmas
 pub mod PurgeLemmas
+pub mod GoodLemmas

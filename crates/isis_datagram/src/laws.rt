@@ -1,5 +1,6 @@
 //! The laws: functions without a body, whose contracts hold for everything that is sent.
 ghost use Rattle.std.specs.Prelude.{◌≡◌, ℕ, ◌+◌, ◌/◌, ◌%◌, ◌^◌, ◌<◌, ◌≤◌, Bool, List, length, Option, Some, Ok};
+ghost use Rattle.std.specs.List.{AllByRecursion};
 ghost use Rattle.isis_base.specs.declared.level.Level.{Level};
 ghost use Rattle.isis_base.specs.declared.pdu_kind.PduKind.TheVariants as kind;
 ghost use Rattle.isis_base.specs.Identifiers.{lsp_number};
@@ -14,9 +15,10 @@ ghost use Rattle.isis_model.specs.Configs.{Config};
 ghost use Rattle.isis_model.specs.Routers.{Circuit, Contents, Router};
 ghost use Rattle.isis_model.specs.SnpTable.{SnpEntry};
 ghost use Rattle.isis_model.specs.Datagrams.{PointHello, LanHello, Lsp, Csnp, Psnp};
-ghost use Rattle.isis_model.specs.Good.{IsGoodGiven};
+ghost use Rattle.isis_model.specs.Good.{IsGoodGiven, IsGoodMessage};
 ghost use Rattle.isis_datagram.specs.Numbers.{system_id, snpa_id, node_id, lsp_id, system_number, snpa_number, node_number};
 ghost use Rattle.isis_datagram.specs.Frames.{framed, unframed};
+ghost use Rattle.isis_datagram.specs.Reading.{read};
 ghost use Rattle.isis_datagram.specs.CheckOctets.{checksum_with, with_checksum};
 ghost use Rattle.isis_datagram.specs.Lsps.{given_octets};
 ghost use Rattle.isis_datagram.specs.Said.{ReadsBack, CanRead, IsSender, AreTellable, IsHandshake, IsLanHello, IsLiveLsp, IsIssuable, IssueTells, IsPurge};
@@ -49,6 +51,12 @@ pub fn checksum_law()
         → Holds (with_checksum place (checksum_with octets weight) octets) }
     ensures first { (octets : List ℕ) (weight : ℕ) → IsCheckOctet (checksum_with octets weight / 256) }
     ensures second { (octets : List ℕ) (weight : ℕ) → IsCheckOctet (checksum_with octets weight % 256) }
+{}
+
+/// What is read of octets has the sizes that the model's laws ask of a message.
+pub fn good_law()
+    ensures { (by : Config) (on : Circuit) (octets : List ℕ)
+        → AllByRecursion (λ octet. octet < 256) octets → IsGoodMessage (read by on octets) }
 {}
 
 /// A point-to-point hello reads back, with its authentication where there is a key.
