@@ -28,6 +28,7 @@ use Rattle.isis_model.specs.Ranks.{is_live}
 use Rattle.isis_model.specs.Configs.{Config}
 use Rattle.isis_model.specs.Routers.{Circuit}
 use Rattle.isis_model.specs.SnpTable.{SnpEntry}
+use Rattle.isis_model.specs.Events.{Message, Refused}
 use Rattle.isis_model.specs.Good.{IsGoodLsp, IsGoodMessage}
 use Rattle.isis_datagram.specs.Frames.{unframed}
 use Rattle.isis_datagram.specs.Numbers.{u48_of}
@@ -38,10 +39,10 @@ use Rattle.isis_datagram.proofs.ItemLemmas.{all-take, all-drop}
 
 -- ---- octets below 256
 
-abbrev Small : List ℕ → Type 0
+abbrev pub Small : List ℕ → Type 0
 Small octets = AllByRecursion (λ octet. octet < 256) octets
 
-small-at : (octets : List ℕ) (i : ℕ) → Small octets → get_or octets i 0 < 256
+pub small-at : (octets : List ℕ) (i : ℕ) → Small octets → get_or octets i 0 < 256
 small-at [] i small = omega arith
 small-at (x ∷ octets) zero small = small.0
 small-at (x ∷ octets) (suc i) small = small-at octets i small.1
@@ -50,10 +51,10 @@ all-append : {A : Type 0} (P : A → Type 0) (one two : List A) → AllByRecursi
 all-append P [] two first second = second
 all-append P (x ∷ one) two first second = (first.0, all-append P one two first.1 second)
 
-small-take : (n : ℕ) (octets : List ℕ) → Small octets → Small (take n octets)
+pub small-take : (n : ℕ) (octets : List ℕ) → Small octets → Small (take n octets)
 small-take n octets small = all-take (λ (octet : ℕ). octet < 256) n octets small
 
-small-drop : (n : ℕ) (octets : List ℕ) → Small octets → Small (drop n octets)
+pub small-drop : (n : ℕ) (octets : List ℕ) → Small octets → Small (drop n octets)
 small-drop n octets small = all-drop (λ (octet : ℕ). octet < 256) n octets small
 
 eight-small : (octets : List ℕ) → Small octets → from_be_bytes w64 octets < 2 ^ 64
@@ -68,7 +69,7 @@ eight-small octets small =
     let h = small-at octets 7 small in
     omega arith
 
-lsp-small : (place : ℕ) (octets : List ℕ) → Small octets → lsp_number (lsp_at place octets) < 2 ^ 64
+pub lsp-small : (place : ℕ) (octets : List ℕ) → Small octets → lsp_number (lsp_at place octets) < 2 ^ 64
 unfolding lsp_number
 lsp-small place octets small =
     let system = small-take 6 (drop place octets) (small-drop place octets small) in
@@ -179,7 +180,7 @@ good-lsp id number lifetime checksum flags octets holds small fits some summed h
 
 -- ---- PDUs
 
-all-held : (tests : List Test) → first_failing tests ≡ None → AllByRecursion (λ test. test.holds ≡ true) tests
+pub all-held : (tests : List Test) → first_failing tests ≡ None → AllByRecursion (λ test. test.holds ≡ true) tests
 all-held [] none = tt
 all-held (test ∷ tests) none =
     elim (test.holds) as (λ t. test.holds ≡ t → cond t (first_failing tests) (Some test.cause) ≡ None → AllByRecursion (λ test. test.holds ≡ true) (test ∷ tests)) [
@@ -187,7 +188,7 @@ all-held (test ∷ tests) none =
       | false ↦ λ h e. cc
     ] refl none
 
-all-passed : (tests : List table.Test) → table.first_failing tests ≡ None → AllByRecursion (λ (test : table.Test). test.holds ≡ true) tests
+pub all-passed : (tests : List table.Test) → table.first_failing tests ≡ None → AllByRecursion (λ (test : table.Test). test.holds ≡ true) tests
 all-passed [] none = tt
 all-passed (test ∷ tests) none =
     elim (test.holds) as (λ t. test.holds ≡ t → cond t (table.first_failing tests) (Some test.fault) ≡ None → AllByRecursion (λ (test : table.Test). test.holds ≡ true) (test ∷ tests)) [
@@ -195,12 +196,12 @@ all-passed (test ∷ tests) none =
       | false ↦ λ h e. cc
     ] refl none
 
-start-passed : (octets : List ℕ) (found : Option PduFault) → table.first_failing (table.start_tests octets) ≡ found → table.first_fault octets ≡ None → None ≡ table.first_failing (table.start_tests octets)
+pub start-passed : (octets : List ℕ) (found : Option PduFault) → table.first_failing (table.start_tests octets) ≡ found → table.first_fault octets ≡ None → None ≡ table.first_failing (table.start_tests octets)
 start-passed octets None is none = sym is
 start-passed octets (Some fault) is none = let other = start-fault octets fault (sym is) in cc
 
 -- a PDU without a fault has its header and all its octets
-whole-length : (octets : List ℕ) (kind : PduKind) → table.first_fault octets ≡ None → kind_at octets ≡ Some kind → header_length kind ≤ length (take (length_at kind octets) octets)
+pub whole-length : (octets : List ℕ) (kind : PduKind) → table.first_fault octets ≡ None → kind_at octets ≡ Some kind → header_length kind ≤ length (take (length_at kind octets) octets)
 whole-length octets kind none known =
     let start = start-passed octets (table.first_failing (table.start_tests octets)) refl none in
     let tests = all-passed (table.kind_tests kind octets) (sym (later-fault octets kind known start) ∙ none) in
@@ -211,39 +212,45 @@ whole-length octets kind none known =
     let size = length-take-le n octets within in
     omega arith
 
-module _ (by : Config) (on : Circuit) (snpa : ℕ) (octets : List ℕ) (small : Small octets) where
-  good-value : (kind : PduKind) (n : ℕ) (whole : List ℕ) → header_length kind ≤ length whole → first_failing (tests_of by on (value_at kind octets (body_at kind octets n)) whole) ≡ None → IsGoodMessage (message by.system snpa (value_at kind octets (body_at kind octets n)) whole)
-  good-value (kind.LanHello level) n whole long none = tt
-  good-value kind.PointHello n whole long none = tt
-  good-value (kind.Lsp level) n whole long none =
-      let tests = all-held (tests_of by on (value_at (kind.Lsp level) octets (body_at (kind.Lsp level) octets n)) whole) none in
-      good-lsp (lsp_number (lsp_at 12 octets)) (u32_at 20 octets) (u16_at 10 octets) (u16_at 24 octets) (get_or octets 26 0) whole _ (lsp-small 12 octets small) (u32-small 20 octets small) tests.1.1.1.1.1.0 tests.1.1.1.1.1.1.0 long
-  good-value (kind.Csnp level) n whole long none =
-      listed-small (entries_in (body_at (kind.Csnp level) octets n)) (items-small (body_at (kind.Csnp level) octets n) (small-take (n - 33) (drop 33 octets) (small-drop 33 octets small)))
-  good-value (kind.Psnp level) n whole long none =
-      listed-small (entries_in (body_at (kind.Psnp level) octets n)) (items-small (body_at (kind.Psnp level) octets n) (small-take (n - 17) (drop 17 octets) (small-drop 17 octets small)))
+-- What holds of a refusal, and of what each PDU without a fault says where its tests hold, holds of all that is read.
+module _ (P : Message → Type 0) (refused : (cause : DropName) → P (Refused cause)) (by : Config) (on : Circuit) (value : (snpa : ℕ) (octets : List ℕ) (kind : PduKind) → Small octets → table.first_fault octets ≡ None → kind_at octets ≡ Some kind → first_failing (tests_of by on (value_at kind octets (body_at kind octets (length_at kind octets))) (take (length_at kind octets) octets)) ≡ None → P (message by.system snpa (value_at kind octets (body_at kind octets (length_at kind octets))) (take (length_at kind octets) octets))) where
+  of-tests : (found : Option DropName) (m : Message) → (found ≡ None → P m) → P (refused_or found m)
+  of-tests None m said = said refl
+  of-tests (Some cause) m said = refused cause
 
-  good-refused : (found : Option DropName) (pdu : PduView) (whole : List ℕ) → (found ≡ None → IsGoodMessage (message by.system snpa pdu whole)) → IsGoodMessage (refused_or found (message by.system snpa pdu whole))
-  good-refused None pdu whole good = good refl
-  good-refused (Some cause) pdu whole good = tt
+  of-decoded : (snpa : ℕ) (octets : List ℕ) → Small octets → (fault : Option PduFault) (found : Option PduKind) → table.first_fault octets ≡ fault → kind_at octets ≡ found → P (read_pdu by on snpa octets (decoded_by fault found octets))
+  of-decoded snpa octets small (Some fault) found none known = refused _
+  of-decoded snpa octets small None None none known = refused _
+  of-decoded snpa octets small None (Some kind) none known = of-tests _ _ (value snpa octets kind small none known)
 
-  good-by : (fault : Option PduFault) (found : Option PduKind) → table.first_fault octets ≡ fault → kind_at octets ≡ found → IsGoodMessage (read_pdu by on snpa octets (decoded_by fault found octets))
-  good-by (Some fault) found none known = tt
-  good-by None None none known = tt
-  good-by None (Some kind) none known =
-      let n = length_at kind octets in
-      let pdu = value_at kind octets (body_at kind octets n) in
-      let whole = take n octets in
-      good-refused (first_failing (tests_of by on pdu whole)) pdu whole (good-value kind n whole (whole-length octets kind none known))
-
-  good-pdu : IsGoodMessage (read_pdu by on snpa octets (decoded octets))
+  of-pdu : (snpa : ℕ) (octets : List ℕ) → Small octets → P (read_pdu by on snpa octets (decoded octets))
   unfolding decoded
-  good-pdu = good-by (table.first_fault octets) (kind_at octets) refl refl
+  of-pdu snpa octets small = of-decoded snpa octets small (table.first_fault octets) (kind_at octets) refl refl
 
-good-frame : (by : Config) (on : Circuit) (datagram : List ℕ) → Small datagram → (test : Bool) → IsGoodMessage (read_frame by on (cond test (Some (u48_of (drop 4 datagram), drop 10 datagram)) None))
-good-frame by on datagram small true = good-pdu by on (u48_of (drop 4 datagram)) (drop 10 datagram) (small-drop 10 datagram small)
-good-frame by on datagram small false = tt
+  of-frame : (datagram : List ℕ) → Small datagram → (test : Bool) → P (read_frame by on (cond test (Some (u48_of (drop 4 datagram), drop 10 datagram)) None))
+  of-frame datagram small true = of-pdu (u48_of (drop 4 datagram)) (drop 10 datagram) (small-drop 10 datagram small)
+  of-frame datagram small false = refused _
+
+  pub of-read : (datagram : List ℕ) → Small datagram → P (read by on datagram)
+  unfolding read unframed
+  of-read datagram small = of-frame datagram small _
+
+good-value : (by : Config) (on : Circuit) (snpa : ℕ) (octets : List ℕ) (kind : PduKind) → Small octets → table.first_fault octets ≡ None → kind_at octets ≡ Some kind → first_failing (tests_of by on (value_at kind octets (body_at kind octets (length_at kind octets))) (take (length_at kind octets) octets)) ≡ None → IsGoodMessage (message by.system snpa (value_at kind octets (body_at kind octets (length_at kind octets))) (take (length_at kind octets) octets))
+good-value by on snpa octets (kind.LanHello level) small faultless known none = tt
+good-value by on snpa octets kind.PointHello small faultless known none = tt
+good-value by on snpa octets (kind.Lsp level) small faultless known none =
+    let its = kind.Lsp level in
+    let n = length_at its octets in
+    let tests = all-held (tests_of by on (value_at its octets (body_at its octets n)) (take n octets)) none in
+    good-lsp (lsp_number (lsp_at 12 octets)) (u32_at 20 octets) (u16_at 10 octets) (u16_at 24 octets) (get_or octets 26 0) (take n octets) _ (lsp-small 12 octets small) (u32-small 20 octets small) tests.1.1.1.1.1.0 tests.1.1.1.1.1.1.0 (whole-length octets its faultless known)
+good-value by on snpa octets (kind.Csnp level) small faultless known none =
+    let its = kind.Csnp level in
+    let body = body_at its octets (length_at its octets) in
+    listed-small (entries_in body) (items-small body (small-take (length_at its octets - 33) (drop 33 octets) (small-drop 33 octets small)))
+good-value by on snpa octets (kind.Psnp level) small faultless known none =
+    let its = kind.Psnp level in
+    let body = body_at its octets (length_at its octets) in
+    listed-small (entries_in body) (items-small body (small-take (length_at its octets - 17) (drop 17 octets) (small-drop 17 octets small)))
 
 pub good-read : (by : Config) (on : Circuit) (datagram : List ℕ) → Small datagram → IsGoodMessage (read by on datagram)
-unfolding read unframed
-good-read by on datagram small = good-frame by on datagram small _
+good-read by on = of-read IsGoodMessage (λ cause. tt) by on (good-value by on)

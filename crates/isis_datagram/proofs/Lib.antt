@@ -11,3 +11,4 @@ pub mod CheckLemmas
 pub mod IssueLemmas
 pub mod PurgeLemmas
 pub mod GoodLemmas
+pub mod KeptLemmas

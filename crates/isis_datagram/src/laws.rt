@@ -10,7 +10,7 @@ ghost use Rattle.isis_pdu.specs.Views.{PduView};
 ghost use Rattle.isis_pdu.specs.Reading.{Begins};
 ghost use Rattle.isis_pdu.specs.Decoded.{decoded};
 ghost use Rattle.isis_model.specs.Both.{at};
-ghost use Rattle.isis_model.specs.Cells.{Cell};
+ghost use Rattle.isis_model.specs.Cells.{Cell, purged};
 ghost use Rattle.isis_model.specs.Configs.{Config};
 ghost use Rattle.isis_model.specs.Routers.{Circuit, Contents, Router};
 ghost use Rattle.isis_model.specs.SnpTable.{SnpEntry};
@@ -118,4 +118,10 @@ pub fn purge_law()
         (level : Level) (id : ℕ) (cell : Cell)
         → config.system < 2 ^ 48 → IsPurge level id cell → CanRead by on config c (kind.Lsp level)
         → ReadsBack by on config place c (Lsp level id cell) }
+{}
+
+/// The purge that is made of a live LSP that may be sent may be sent.
+pub fn purged_law()
+    ensures { (key : Option (List ℕ)) (level : Level) (id : ℕ) (cell : Cell)
+        → IsLiveLsp key level id cell → IsPurge level id (purged cell) }
 {}
