@@ -148,7 +148,7 @@ listed-small (Err fault ∷ items) all = tt
 
 -- ---- LSPs
 
-not-live : (number : ℕ) → is_live (2 * number + 1) ≡ true → ⊥
+pub not-live : (number : ℕ) → is_live (2 * number + 1) ≡ true → ⊥
 not-live number live =
     let even = eqb-true ((2 * number + 1) % 2) 0 (and_parts (ltb 0 (2 * number + 1)) (eqb ((2 * number + 1) % 2) 0) live).1 in
     omega arith

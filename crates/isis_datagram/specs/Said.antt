@@ -14,11 +14,11 @@ use Rattle.isis_model.specs.Both.{at}
 use Rattle.isis_model.specs.Givens.{Given}
 use Rattle.isis_model.specs.OwnLsps.{issue_cell}
 use Rattle.isis_model.specs.Datagrams.{Sent, PointHello, LanHello, Lsp, Csnp, Psnp}
-use Rattle.isis_model.specs.Events.{Message, PointHelloHeard, LanHelloHeard, LspHeard, SnpHeard}
+use Rattle.isis_model.specs.Events.{Message, Refused, PointHelloHeard, LanHelloHeard, LspHeard, SnpHeard}
 use Rattle.iso_checksum.specs.Checksum.{checksum_holds}
 use Rattle.isis_pdu.specs.Views as pdu
 use Rattle.isis_pdu.specs.Reading.{Begins}
-use Rattle.isis_model.specs.Cells.{Cell}
+use Rattle.isis_model.specs.Cells.{Cell, kept}
 use Rattle.isis_datagram.specs.Numbers.{lsp_id}
 use Rattle.isis_model.specs.SnpTable.{SnpEntry}
 use Rattle.isis_datagram.specs.Datagrams.{pdu_octets, datagram}
@@ -161,3 +161,13 @@ pub record IsPurge (level : Level) (id : ℕ) (cell : Cell) : Type 0 where
   pub summed : cell.checksum ≡ 0
   pub begins : Begins cell.octets (pdu.Lsp level 0 (lsp_id id) (number_of cell.rank) 0 cell.flags []) 27
   pub alone : length cell.octets ≡ 27
+
+-- what is kept of an LSP that is read may be sent, under the reader's key
+abbrev pub TellsKept : Config → Message → Type 0
+TellsKept by (Refused cause) = Unit {0}
+TellsKept by (PointHelloHeard h) = Unit {0}
+TellsKept by (LanHelloHeard level h) = Unit {0}
+TellsKept by (LspHeard level snpa h) =
+    (is_live h.rank ≡ true → TellsLive (at by.keys level) level h.id (kept h))
+    × (is_purge h.rank ≡ true → IsPurge level h.id (kept h))
+TellsKept by (SnpHeard level snpa source range entries) = Unit {0}

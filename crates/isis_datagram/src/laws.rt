@@ -21,7 +21,7 @@ ghost use Rattle.isis_datagram.specs.Frames.{framed, unframed};
 ghost use Rattle.isis_datagram.specs.Reading.{read};
 ghost use Rattle.isis_datagram.specs.CheckOctets.{checksum_with, with_checksum};
 ghost use Rattle.isis_datagram.specs.Lsps.{given_octets};
-ghost use Rattle.isis_datagram.specs.Said.{ReadsBack, CanRead, IsSender, AreTellable, IsHandshake, IsLanHello, IsLiveLsp, IsIssuable, IssueTells, IsPurge};
+ghost use Rattle.isis_datagram.specs.Said.{ReadsBack, CanRead, IsSender, AreTellable, IsHandshake, IsLanHello, IsLiveLsp, IsIssuable, IssueTells, IsPurge, TellsKept};
 
 /// Identifiers of numbers have those numbers.
 pub fn number_laws()
@@ -124,4 +124,10 @@ pub fn purge_law()
 pub fn purged_law()
     ensures { (key : Option (List ℕ)) (level : Level) (id : ℕ) (cell : Cell)
         → IsLiveLsp key level id cell → IsPurge level id (purged cell) }
+{}
+
+/// What is kept of an LSP that is read, live or as a purge, may be sent.
+pub fn kept_law()
+    ensures { (by : Config) (on : Circuit) (octets : List ℕ)
+        → AllByRecursion (λ octet. octet < 256) octets → TellsKept by (read by on octets) }
 {}
