@@ -62,6 +62,10 @@ heard id rank checksum left octets = record {
   octets = octets;
 }
 
+-- a reader of level 1 alone
+abbrev pub level_one : Config
+level_one = record config { runs = record { one = true; two = false } }
+
 -- what the SNPs' one entry says, with its lifetime
 abbrev pub entry : ℕ → SnpEntry
 entry lifetime = record { id = 131072; rank = 2; lifetime = lifetime; checksum = 42760 }

@@ -6,7 +6,7 @@ ghost use Rattle.isis_model.specs.declared.drop_name.DropName.TheVariants as dro
 ghost use Rattle.isis_model.specs.Events.{Refused, LspHeard, SnpHeard};
 ghost use Rattle.isis_model.specs.Rows.{config, circuit};
 ghost use Rattle.isis_datagram.specs.Reading.{read};
-ghost use Rattle.isis_datagram.specs.Rows.{frr_lsp, frr_purge, frr_csnp, frr_psnp, reader, no_keys, keys, other_keys, read_by, heard, entry, psnp, lsp, point_hello, lan_hello, padding};
+ghost use Rattle.isis_datagram.specs.Rows.{frr_lsp, frr_purge, frr_csnp, frr_psnp, reader, level_one, no_keys, keys, other_keys, read_by, heard, entry, psnp, lsp, point_hello, lan_hello, padding};
 
 /// PDUs of FRR, by a reader without keys.
 pub fn frr_rows()
@@ -44,4 +44,17 @@ pub fn drop_rows()
     ensures zero_number { read_by (reader no_keys) false (lsp 0 0 0) ≡ Refused drop.ZeroNumber }
     ensures zero_checksum { read_by (reader no_keys) false (lsp 1200 1 0) ≡ Refused drop.BadChecksum }
     ensures bad_checksum { read_by (reader no_keys) false (lsp 1200 1 1) ≡ Refused drop.BadChecksum }
+{}
+
+/// Where two tests fail the earlier one is the cause.
+pub fn order_rows()
+    ensures long_before_level { read_by config false (psnp (padding 189)) ≡ Refused drop.TooLong }
+    ensures kind_before_level { read_by level_one false lan_hello ≡ Refused drop.WrongKind }
+    ensures level_before_key { read_by (record config { keys = keys }) false (psnp [])
+        ≡ Refused drop.WrongLevel }
+    ensures key_before_value { read_by (reader keys) false (psnp (tlv_octets 9 (0 ∷ [])))
+        ≡ Refused drop.Auth }
+    ensures key_before_number { read_by (reader keys) false (lsp 0 0 0) ≡ Refused drop.Auth }
+    ensures number_before_checksum { read_by (reader no_keys) false (lsp 1200 0 1)
+        ≡ Refused drop.ZeroNumber }
 {}
