@@ -1,5 +1,5 @@
 -- What is read of octets is good: in the sizes that the model's laws ask for.
-use Rattle.std.proofs.Common.{◌≡◌, ◌∙◌, ℕ, zero, suc, ◌+◌, ◌-◌, ◌*◌, ◌/◌, ◌%◌, ◌^◌, ◌<◌, ◌≤◌, List, [], ◌∷◌, ◌++◌, length, take, drop, get_or, map, cond, eqb, ltb, leb, not, ◌&&◌, ◌||◌, Bool, true, false, Option, Some, None, Result, Ok, Err, refl, sym, ap, subst, arith, length-take-le}
+use Rattle.std.proofs.Common.{◌≡◌, ◌∙◌, ℕ, zero, suc, ◌+◌, ◌-◌, ◌*◌, ◌%◌, ◌^◌, ◌<◌, ◌≤◌, List, [], ◌∷◌, ◌++◌, length, take, drop, get_or, map, cond, eqb, ltb, leb, not, ◌&&◌, ◌||◌, Bool, true, false, Option, Some, None, Result, Ok, Err, refl, sym, subst, arith, length-take-le}
 use Rattle.std.specs.Prelude.{flat_map}
 use Rattle.std.specs.List.{AllByRecursion}
 use Rattle.std.specs.Option.{ok_or}
@@ -18,7 +18,6 @@ use Rattle.isis_tlv.specs.Tlvs.{TlvView, StandsIn, tlv_list}
 use Rattle.isis_tlv.specs.Items.{entry_at, entries_of}
 use Rattle.isis_tlv.proofs.TlvLemmas.{tlvs-stand}
 use Rattle.isis_pdu.specs.declared.fault.PduFault.{PduFault}
-use Rattle.isis_pdu.specs.Views.{PduView, tlvs_of_pdu}
 use Rattle.isis_pdu.specs.Layout.{length_at, body_at, value_at}
 use Rattle.isis_pdu.specs.Table as table
 use Rattle.isis_pdu.specs.Decoded.{decoded_by, decoded}
@@ -158,13 +157,13 @@ good-lsp id number lifetime checksum flags octets holds small fits some summed h
     let positive : number ≡ 0 → ⊥ = eqb-false number 0 (not-true (eqb number 0) some) in
     elim (eqb lifetime 0) as (λ t. eqb lifetime 0 ≡ t → (t || (not (eqb checksum 0) && holds)) ≡ true → IsGoodLsp (record { id = id; rank = cond t (2 * number + 1) (2 * number); checksum = checksum; flags = flags; left = lifetime; octets = octets })) [
       | true ↦ λ dead sums. record {
-          id = small;
-          some = omega arith;
-          bounded = omega arith;
-          left = λ live. absurd (not-live number live);
-          header = header;
-          summed = λ live. absurd (not-live number live);
-        }
+        id = small;
+        some = omega arith;
+        bounded = omega arith;
+        left = λ live. absurd (not-live number live);
+        header = header;
+        summed = λ live. absurd (not-live number live);
+      }
       | false ↦ λ lives sums.
           let left : lifetime ≡ 0 → ⊥ = eqb-false lifetime 0 lives in
           let sum : checksum ≡ 0 → ⊥ = eqb-false checksum 0 (not-true (eqb checksum 0) (and_parts (not (eqb checksum 0)) holds sums).0) in

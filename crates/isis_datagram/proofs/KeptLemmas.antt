@@ -1,5 +1,5 @@
 -- What is kept of an LSP that was read tells itself, and so does the purge that is made of it.
-use Rattle.std.proofs.Common.{◌≡◌, ◌∙◌, ℕ, ◌+◌, ◌-◌, ◌*◌, ◌/◌, ◌%◌, ◌^◌, ◌<◌, ◌≤◌, List, [], ◌∷◌, ◌++◌, length, take, drop, get_or, cond, eqb, ltb, leb, not, ◌&&◌, ◌||◌, Bool, true, false, Option, Some, None, Result, Ok, Err, refl, sym, ap, subst, arith, length-take-le, subst₂, take-take}
+use Rattle.std.proofs.Common.{◌≡◌, ◌∙◌, ℕ, ◌+◌, ◌-◌, ◌*◌, ◌/◌, ◌%◌, ◌^◌, ◌<◌, ◌≤◌, List, [], ◌∷◌, ◌++◌, length, take, drop, get_or, cond, eqb, ltb, leb, not, ◌&&◌, ◌||◌, true, false, Option, Some, None, refl, sym, ap, subst, arith, length-take-le, subst₂, take-take}
 use Rattle.std.proofs.Math.Seq.{take-append-add}
 use Rattle.std.proofs.lemmas.Bool.{eq-eqb, leb-true, eqb-true, eqb-false, ne_eqb, not-true, and_parts}
 use Rattle.isis_base.specs.declared.identifiers.LspId.{LspId}
@@ -8,7 +8,7 @@ use Rattle.isis_base.specs.declared.pdu_kind.PduKind.TheVariants as kind
 use Rattle.isis_pdu.specs.Views.{PduView, LanHello, PointHello, Lsp, Csnp, Psnp}
 use Rattle.isis_pdu.specs.Layout.{length_at, value_at, body_at}
 use Rattle.isis_pdu.specs.Reading.{Begins}
-use Rattle.isis_model.specs.Ranks.{number_of, is_live, is_purge}
+use Rattle.isis_model.specs.Ranks.{is_live, is_purge}
 use Rattle.isis_model.specs.Cells.{Cell, Heard, header_of, kept, purged}
 use Rattle.isis_base.specs.Fields.{u16_at, u32_at, lsp_at}
 use Rattle.isis_base.specs.Identifiers.{lsp_number}
@@ -48,21 +48,23 @@ module _ (level : Level) (lifetime : ℕ) (id : LspId) (number checksum flags : 
   begins-header : (octets : List ℕ) → 27 ≤ length octets → Begins octets lsp n → Begins (header_of octets) (Lsp level 0 id number 0 flags []) 27
   unfolding header_of emptied
   begins-header = of-leading 27 (λ octets. Begins octets lsp n → Begins (header_of octets) (Lsp level 0 id number 0 flags []) 27)
-      (λ a b c d e f g h j k l m o p q r s t u v w x y z aa bb cc' rest (reads, within).
-      (record {
-        discriminator = reads.discriminator;
-        header = reads.header;
-        version = reads.version;
-        id_length = reads.id_length;
-        kind = reads.kind;
-        other_version = reads.other_version;
-        areas = reads.areas;
-        circuit_type = λ hello. cc;
-        size = refl;
-        least = omega arith;
-        value = ap emptied reads.value;
-        tlvs = tlvs-none;
-      }, omega arith))
+      (λ a b c d e f g h j k l m o p q r s t u v w x y z aa bb cc' rest (reads, within). (
+        record {
+          discriminator = reads.discriminator;
+          header = reads.header;
+          version = reads.version;
+          id_length = reads.id_length;
+          kind = reads.kind;
+          other_version = reads.other_version;
+          areas = reads.areas;
+          circuit_type = λ hello. cc;
+          size = refl;
+          least = omega arith;
+          value = ap emptied reads.value;
+          tlvs = tlvs-none;
+        },
+        omega arith,
+      ))
 
 header-length : (octets : List ℕ) → 27 ≤ length octets → length (header_of octets) ≡ 27
 unfolding header_of
@@ -138,23 +140,25 @@ module _ (level : Level) (lifetime : ℕ) (id : LspId) (number checksum flags : 
       let split : n ≡ 27 + (n - 27) = omega arith in
       let size = length-take-le (n - 27) rest (omega arith) in
       let same : take n xs ≡ front ++ take (n - 27) rest = ap (λ (it : ℕ). take it xs) split ∙ take-append-add front rest (n - 27) in
-      subst (λ (ys : List ℕ). Begins ys (Lsp level lifetime id number checksum flags tlvs) n) (sym same)
-      (record {
-        discriminator = reads.discriminator;
-        header = reads.header;
-        version = reads.version;
-        id_length = reads.id_length;
-        kind = reads.kind;
-        other_version = reads.other_version;
-        areas = reads.areas;
-        circuit_type = reads.circuit_type;
-        size = reads.size;
-        least = reads.least;
-        value =
-            ap (λ (body : List ℕ). rebodied body (value_at (kind.Lsp level) xs (body_at (kind.Lsp level) xs n))) (take-take (n - 27) (n - 27) rest (omega arith))
-            ∙ reads.value;
-        tlvs = reads.tlvs;
-      }, omega arith))
+      subst (λ (ys : List ℕ). Begins ys (Lsp level lifetime id number checksum flags tlvs) n) (sym same) (
+        record {
+          discriminator = reads.discriminator;
+          header = reads.header;
+          version = reads.version;
+          id_length = reads.id_length;
+          kind = reads.kind;
+          other_version = reads.other_version;
+          areas = reads.areas;
+          circuit_type = reads.circuit_type;
+          size = reads.size;
+          least = reads.least;
+          value =
+              ap (λ (body : List ℕ). rebodied body (value_at (kind.Lsp level) xs (body_at (kind.Lsp level) xs n))) (take-take (n - 27) (n - 27) rest (omega arith))
+              ∙ reads.value;
+          tlvs = reads.tlvs;
+        },
+        omega arith,
+      ))
 
 -- octets without a fault begin with what their fields say
 begins-from : (octets : List ℕ) (level : Level) → table.first_fault octets ≡ None → kind_at octets ≡ Some (kind.Lsp level) → Begins octets (value_at (kind.Lsp level) octets (body_at (kind.Lsp level) octets (length_at (kind.Lsp level) octets))) (length_at (kind.Lsp level) octets)
