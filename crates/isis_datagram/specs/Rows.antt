@@ -2,6 +2,7 @@
 use Rattle.std.specs.Prelude.{ℕ, Bool, true, false, List, [], ◌∷◌, ◌++◌, replicate, codes, Option, Some, None}
 use Rattle.isis_base.specs.declared.level.Level.TheVariants as level
 use Rattle.isis_base.specs.declared.level.LevelSet.TheVariants as levels
+use Rattle.isis_tlv.specs.declared.three_way.Adj.TheVariants.{Down}
 use Rattle.isis_tlv.specs.Tlvs.{tlv_octets}
 use Rattle.isis_pdu.specs.Views.{PointHello, LanHello, Lsp, Psnp}
 use Rattle.isis_pdu.specs.Spelling.{spelled}
@@ -9,7 +10,7 @@ use Rattle.isis_model.specs.Both.{Both}
 use Rattle.isis_model.specs.Configs.{Config}
 use Rattle.isis_model.specs.Cells.{Heard}
 use Rattle.isis_model.specs.SnpTable.{SnpEntry}
-use Rattle.isis_model.specs.Events.{Message}
+use Rattle.isis_model.specs.Events.{Message, PointHelloHeard}
 use Rattle.isis_model.specs.Rows.{config, circuit}
 use Rattle.isis_datagram.specs.Numbers.{system_id, node_id, lsp_id}
 use Rattle.isis_datagram.specs.Frames.{framed}
@@ -82,6 +83,20 @@ point_hello tlvs = spelled (PointHello levels.Both (system_id 2) 30 1 tlvs)
 
 abbrev pub lan_hello : List ℕ
 lan_hello = spelled (LanHello level.Two levels.Two (system_id 2) 30 64 (node_id 513) [])
+
+-- what `point_hello` says with a three-way state Down and an extended circuit ID
+abbrev pub down_heard : ℕ → Message
+down_heard extended = PointHelloHeard (record {
+  source = 2;
+  snpa = 2;
+  runs = record { one = true; two = true };
+  holding = 30;
+  priority = 0;
+  lan = 0;
+  areas = [];
+  handshake = Some (record { state = Down; extended = extended; names = None });
+  names_me = false;
+})
 
 -- TLVs of padding: five of 255 octets, and one more
 abbrev pub padding : ℕ → List ℕ

@@ -1,12 +1,13 @@
 //! PDUs that another router made (FRR isisd 8.4.4), and PDUs that each test refuses, worked out by computation.
-ghost use Rattle.std.specs.Prelude.{◌≡◌, ◌-◌, ◌^◌, true, false, [], ◌∷◌, Some, None};
+ghost use Rattle.std.specs.Prelude.{◌≡◌, ◌+◌, ◌*◌, ◌++◌, length, replicate, ◌-◌, ◌^◌, true, false, [], ◌∷◌, Some, None};
 ghost use Rattle.isis_base.specs.declared.level.Level.TheVariants as level;
 ghost use Rattle.isis_tlv.specs.Tlvs.{tlv_octets};
 ghost use Rattle.isis_model.specs.declared.drop_name.DropName.TheVariants as drop;
 ghost use Rattle.isis_model.specs.Events.{Refused, LspHeard, SnpHeard};
 ghost use Rattle.isis_model.specs.Rows.{config, circuit};
 ghost use Rattle.isis_datagram.specs.Reading.{read};
-ghost use Rattle.isis_datagram.specs.Rows.{frr_lsp, frr_purge, frr_csnp, frr_psnp, reader, level_one, no_keys, keys, other_keys, read_by, heard, entry, psnp, lsp, point_hello, lan_hello, padding};
+ghost use Rattle.isis_datagram.specs.Rows.{frr_lsp, frr_purge, frr_csnp, frr_psnp, reader, level_one, no_keys, keys, other_keys, read_by, heard, entry, psnp, lsp, point_hello, lan_hello, down_heard, padding};
+ghost use Rattle.isis_datagram.specs.Tlvs.{snpa_tlvs, entry_tlvs};
 
 /// PDUs of FRR, by a reader without keys.
 pub fn frr_rows()
@@ -57,4 +58,20 @@ pub fn order_rows()
     ensures key_before_number { read_by (reader keys) false (lsp 0 0 0) ≡ Refused drop.Auth }
     ensures number_before_checksum { read_by (reader no_keys) false (lsp 1200 0 1)
         ≡ Refused drop.ZeroNumber }
+{}
+
+/// A three-way TLV that has a state alone counts as extended circuit ID 0, and of two such TLVs the first counts.
+pub fn hello_rows()
+    ensures bare { read_by (reader no_keys) false (point_hello (tlv_octets 240 (2 ∷ [])))
+        ≡ down_heard 0 }
+    ensures first { read_by (reader no_keys) false
+        (point_hello (tlv_octets 240 (2 ∷ 0 ∷ 0 ∷ 0 ∷ 7 ∷ []) ++ tlv_octets 240 (0 ∷ []))) ≡ down_heard 7 }
+{}
+
+/// A TLV holds 42 SNPAs and 15 entries.
+pub fn piece_rows()
+    ensures snpas { length (snpa_tlvs (replicate 42 7)) ≡ 2 + 42 * 6 }
+    ensures more_snpas { length (snpa_tlvs (replicate 43 7)) ≡ 2 + 2 + 43 * 6 }
+    ensures entries { length (entry_tlvs (replicate 15 (entry 7))) ≡ 2 + 15 * 16 }
+    ensures more_entries { length (entry_tlvs (replicate 16 (entry 7))) ≡ 2 + 2 + 16 * 16 }
 {}
