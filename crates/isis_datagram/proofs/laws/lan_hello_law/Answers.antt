@@ -1,0 +1,6 @@
+-- LAN hellos read back.
+use Rattle.isis_datagram.proofs.HelloLemmas.{lan-reads}
+use Rattle.isis_datagram.proofs.laws.lan_hello_law.Goals as goal
+
+pub returns : goal.returns
+returns c = lan-reads

@@ -1,0 +1,6 @@
+-- Live LSPs read back.
+use Rattle.isis_datagram.proofs.LspLemmas.{lsp-reads}
+use Rattle.isis_datagram.proofs.laws.lsp_law.Goals as goal
+
+pub returns : goal.returns
+returns c = lsp-reads

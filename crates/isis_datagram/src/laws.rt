@@ -1,0 +1,133 @@
+//! The laws: functions without a body, whose contracts hold for everything that is sent.
+ghost use Rattle.std.specs.Prelude.{◌≡◌, ℕ, ◌+◌, ◌/◌, ◌%◌, ◌^◌, ◌<◌, ◌≤◌, Bool, List, length, Option, Some, Ok};
+ghost use Rattle.std.specs.List.{AllByRecursion};
+ghost use Rattle.isis_base.specs.declared.level.Level.{Level};
+ghost use Rattle.isis_base.specs.declared.pdu_kind.PduKind.TheVariants as kind;
+ghost use Rattle.isis_base.specs.Identifiers.{lsp_number};
+ghost use Rattle.iso_checksum.specs.Checksum.{Holds, IsCheckOctet};
+ghost use Rattle.isis_tlv.specs.declared.three_way.Adj.{Adj};
+ghost use Rattle.isis_pdu.specs.Views.{PduView};
+ghost use Rattle.isis_pdu.specs.Reading.{Begins};
+ghost use Rattle.isis_pdu.specs.Decoded.{decoded};
+ghost use Rattle.isis_model.specs.Both.{at};
+ghost use Rattle.isis_model.specs.Cells.{Cell, purged};
+ghost use Rattle.isis_model.specs.Configs.{Config};
+ghost use Rattle.isis_model.specs.Routers.{Circuit, Contents, Router};
+ghost use Rattle.isis_model.specs.SnpTable.{SnpEntry};
+ghost use Rattle.isis_model.specs.Datagrams.{PointHello, LanHello, Lsp, Csnp, Psnp};
+ghost use Rattle.isis_model.specs.Good.{IsGoodGiven, IsGoodMessage};
+ghost use Rattle.isis_datagram.specs.Numbers.{system_id, snpa_id, node_id, lsp_id, system_number, snpa_number, node_number};
+ghost use Rattle.isis_datagram.specs.Frames.{framed, unframed};
+ghost use Rattle.isis_datagram.specs.Reading.{read};
+ghost use Rattle.isis_datagram.specs.CheckOctets.{checksum_with, with_checksum};
+ghost use Rattle.isis_datagram.specs.Lsps.{given_octets};
+ghost use Rattle.isis_datagram.specs.Said.{ReadsBack, CanRead, IsSender, AreTellable, IsHandshake, IsLanHello, IsLiveLsp, IsIssuable, IssueTells, IsPurge, TellsKept};
+
+/// Identifiers of numbers have those numbers.
+pub fn number_laws()
+    ensures system { (n : ℕ) → n < 2 ^ 48 → system_number (system_id n) ≡ n }
+    ensures snpa { (n : ℕ) → n < 2 ^ 48 → snpa_number (snpa_id n) ≡ n }
+    ensures node { (n : ℕ) → n < 2 ^ 56 → node_number (node_id n) ≡ n }
+    ensures lsp { (n : ℕ) → n < 2 ^ 64 → lsp_number (lsp_id n) ≡ n }
+{}
+
+/// A datagram's frame reads back.
+pub fn frame_law()
+    ensures { (snpa : ℕ) (pdu : List ℕ) → snpa < 2 ^ 48
+        → unframed (framed snpa pdu) ≡ Some (snpa, pdu) }
+{}
+
+/// Octets that begin with a PDU decode to it.
+pub fn decoded_law()
+    ensures { (octets : List ℕ) (pdu : PduView) (n : ℕ) → Begins octets pdu n
+        → decoded octets ≡ Ok (pdu, n) }
+{}
+
+/// The checksum of octets that have 0 in its place, where the second check octet has that weight, makes them hold; each
+/// check octet is 1 to 255, so it is the one that `fill` of iso_checksum writes.
+pub fn checksum_law()
+    ensures holds { (octets : List ℕ) (place weight : ℕ) → place + 2 ≤ length octets
+        → with_checksum place 0 octets ≡ octets → weight + place + 1 ≡ length octets
+        → Holds (with_checksum place (checksum_with octets weight) octets) }
+    ensures first { (octets : List ℕ) (weight : ℕ) → IsCheckOctet (checksum_with octets weight / 256) }
+    ensures second { (octets : List ℕ) (weight : ℕ) → IsCheckOctet (checksum_with octets weight % 256) }
+{}
+
+/// What is read of octets has the sizes that the model's laws ask of a message.
+pub fn good_law()
+    ensures { (by : Config) (on : Circuit) (octets : List ℕ)
+        → AllByRecursion (λ octet. octet < 256) octets → IsGoodMessage (read by on octets) }
+{}
+
+/// A point-to-point hello reads back, with its authentication where there is a key.
+pub fn point_hello_law()
+    ensures { (by config : Config) (on c : Circuit) (place : ℕ)
+        (state : Adj) (extended : ℕ) (named : Option (ℕ × ℕ))
+        → IsSender config → IsHandshake extended named → CanRead by on config c kind.PointHello
+        → ReadsBack by on config place c (PointHello state extended named) }
+{}
+
+/// A LAN hello reads back, with its authentication where there is a key.
+pub fn lan_hello_law()
+    ensures { (by config : Config) (on c : Circuit) (place : ℕ)
+        (level : Level) (lan : ℕ) (snpas : List ℕ)
+        → IsSender config → IsLanHello c.priority lan snpas
+        → CanRead by on config c (kind.LanHello level)
+        → ReadsBack by on config place c (LanHello level lan snpas) }
+{}
+
+/// A PSNP reads back, with its authentication where there is a key.
+pub fn psnp_law()
+    ensures { (by config : Config) (on c : Circuit) (place : ℕ)
+        (level : Level) (entries : List SnpEntry)
+        → IsSender config → AreTellable entries → CanRead by on config c (kind.Psnp level)
+        → ReadsBack by on config place c (Psnp level entries) }
+{}
+
+/// A CSNP reads back, with its authentication where there is a key.
+pub fn csnp_law()
+    ensures { (by config : Config) (on c : Circuit) (place : ℕ)
+        (level : Level) (start end : ℕ) (entries : List SnpEntry)
+        → IsSender config → start < 2 ^ 64 → end < 2 ^ 64 → AreTellable entries
+        → CanRead by on config c (kind.Csnp level)
+        → ReadsBack by on config place c (Csnp level start end entries) }
+{}
+
+/// What is issued says what is held of it, has a checksum that holds and is authentic. So it may be sent.
+pub fn issue_law()
+    ensures tells { (leaks : Router → Level → List (ℕ × ℕ)) (attached : Router → Bool)
+        (r : Router) (level : Level) (id number : ℕ) (contents : Contents)
+        → number < 2 ^ 32 → IsIssuable contents
+        → IssueTells (given_octets leaks attached) r level id number contents }
+    ensures good { (leaks : Router → Level → List (ℕ × ℕ)) (attached : Router → Bool)
+        → IsGoodGiven (given_octets leaks attached) }
+{}
+
+/// A live LSP that is held reads back, with the seconds that are left.
+pub fn lsp_law()
+    ensures { (by config : Config) (on c : Circuit) (place : ℕ)
+        (level : Level) (id : ℕ) (cell : Cell)
+        → config.system < 2 ^ 48 → IsLiveLsp (at config.keys level) level id cell
+        → CanRead by on config c (kind.Lsp level)
+        → ReadsBack by on config place c (Lsp level id cell) }
+{}
+
+/// A purge that is held reads back: its header, with its authentication where there is a key.
+pub fn purge_law()
+    ensures { (by config : Config) (on c : Circuit) (place : ℕ)
+        (level : Level) (id : ℕ) (cell : Cell)
+        → config.system < 2 ^ 48 → IsPurge level id cell → CanRead by on config c (kind.Lsp level)
+        → ReadsBack by on config place c (Lsp level id cell) }
+{}
+
+/// The purge that is made of a live LSP that may be sent may be sent.
+pub fn purged_law()
+    ensures { (key : Option (List ℕ)) (level : Level) (id : ℕ) (cell : Cell)
+        → IsLiveLsp key level id cell → IsPurge level id (purged cell) }
+{}
+
+/// What is kept of an LSP that is read, live or as a purge, may be sent.
+pub fn kept_law()
+    ensures { (by : Config) (on : Circuit) (octets : List ℕ)
+        → AllByRecursion (λ octet. octet < 256) octets → TellsKept by (read by on octets) }
+{}
