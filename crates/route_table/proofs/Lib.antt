@@ -1,0 +1,3 @@
+pub mod LookupLemmas
+pub mod OrderLemmas
+pub mod HopLemmas
