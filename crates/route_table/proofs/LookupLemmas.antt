@@ -24,7 +24,7 @@ size_pos n = pow_pos n
 div_up : (a b s : ℕ) → 0 < s → a ≤ b → a / s ≤ b / s
 div_up a b s pos le = let low = div-mul-le_self a s in le-div (a / s) b s pos (omega arith)
 
-begin_is : (p : Prefix) (a : ℕ) → Has p a → p.address ≡ size p * (a / size p)
+pub begin_is : (p : Prefix) (a : ℕ) → Has p a → p.address ≡ size p * (a / size p)
 begin_is p a h =
     let whole = div-add-mod p.address (size p) in
     let clear : p.address % size p ≡ 0 = p.clear in

@@ -13,6 +13,7 @@
 mod best;
 mod candidate;
 mod hops;
+pub mod laws;
 mod links;
 mod order;
 mod rank;
@@ -24,3 +25,6 @@ pub use candidate::Candidate;
 pub use rank::Rank;
 pub use route::Route;
 pub use table::Routes;
+
+#[cfg(test)]
+mod tests;

@@ -52,9 +52,10 @@ impl Routes {
     }
 
     /// An equal table.
-    pub fn copy(&self, alloc: Global) -> Result<Routes, OutOfMemory>
+    pub fn copy(&self) -> Result<Routes, OutOfMemory>
         ensures { IfOk result (λ copy. copy ≡ self.now) }
     {
+        let alloc = *self.routes.allocator();
         let mut routes = Vec::new(alloc);
         for route in self.routes.as_slice() {
             let route = match route.copy() {
@@ -66,7 +67,10 @@ impl Routes {
                 Err(_) => return Err(OutOfMemory),
             }
         }
-        of(alloc, routes)
+        match Vec::from_slice(alloc, self.links.as_slice()) {
+            Ok(links) => Ok(Routes { routes, links }),
+            Err(_) => Err(OutOfMemory),
+        }
     }
 }
 
