@@ -1,21 +1,19 @@
 -- Hops gathered from several candidates, and tables of hops as next hops.
 
-use Rattle.std.proofs.Common.{◌≡◌, ◌∙◌, ℕ, ◌+◌, ◌≤◌, ◌<◌, true, List, [], ◌∷◌, ◌++◌, ◌↔◌, length, get_or, take, append_assoc, Option, Some, None, refl, sym, ap, subst, arith, ◌⊎◌, inl, inr}
+use Rattle.std.proofs.Common.{◌≡◌, ◌∙◌, ℕ, ◌+◌, ◌≤◌, ◌<◌, List, [], ◌∷◌, ◌++◌, ◌↔◌, length, get_or, take, append_assoc, Option, Some, sym, ap, subst, arith, inl, inr}
 use Rattle.std.specs.List.{All, Contains, slice_get}
-use Rattle.std.specs.Option.{option_map}
 use Rattle.std.proofs.lemmas.Bool.{cases_lt}
 use Rattle.std.proofs.lemmas.Option.{slice_get-get_or}
-use Rattle.std.proofs.lemmas.List.{get_or_default, take_more, take_all}
+use Rattle.std.proofs.lemmas.List.{get_or_default, take_more}
 use Rattle.std.proofs.lemmas.List.Elements.{Contains-get_or, Contains-append_left, Contains-append_right, Contains-append_cases, Contains-push_cases}
-use Rattle.isis_base.specs.declared.identifiers.SystemId.{SystemId}
-use Rattle.spf_tree.specs.Nodes.{node_number, system_node, is_system}
+use Rattle.spf_tree.specs.Nodes.{node_number}
 use Rattle.spf_tree.specs.NextHops.{IsNextHop}
 use Rattle.spf_tree.specs.Graphs.{GraphOf}
 use Rattle.route_table.specs.declared.rank.Rank.{Rank}
 use Rattle.route_table.specs.declared.rank.Rank.TheVariants.{Own, One, Two, OneDown, Default}
 use Rattle.route_table.specs.declared.candidate.Candidate.{Candidate}
 use Rattle.route_table.specs.Routes.{IsHopBy, IsHopTo}
-use Rattle.route_table.specs.Order.{IsTabledBy, IsTabled, AreHopsIn}
+use Rattle.route_table.specs.Order.{IsListedBy, IsListedHop, AreHopsIn}
 
 -- ---- candidates from one place to another
 
@@ -69,7 +67,7 @@ push_take nodes hops place n is in' =
 -- ---- tables
 
 table_rank : (one two : GraphOf) (t u : List (ℕ × ℕ)) (rank : Rank) (origin : ℕ) → ((target hop : ℕ) → Contains t (target, hop) ↔ IsNextHop one.rows (node_number one.root) target hop) → ((target hop : ℕ) → Contains u (target, hop) ↔ IsNextHop two.rows (node_number two.root) target hop) → (hop : ℕ)
-    → IsTabledBy t u rank origin hop ↔ IsHopBy one two rank origin hop
+    → IsListedBy t u rank origin hop ↔ IsHopBy one two rank origin hop
 table_rank one two t u Own origin of_one of_two hop = ((λ h. h), (λ h. h))
 table_rank one two t u One origin of_one of_two hop = of_one origin hop
 table_rank one two t u Two origin of_one of_two hop = of_two origin hop
@@ -77,5 +75,5 @@ table_rank one two t u OneDown origin of_one of_two hop = of_one origin hop
 table_rank one two t u Default origin of_one of_two hop = of_one origin hop
 
 pub tabled_is : (one two : GraphOf) (t u : List (ℕ × ℕ)) → ((target hop : ℕ) → Contains t (target, hop) ↔ IsNextHop one.rows (node_number one.root) target hop) → ((target hop : ℕ) → Contains u (target, hop) ↔ IsNextHop two.rows (node_number two.root) target hop)
-    → (c : Candidate) (hop : ℕ) → IsTabled t u c hop ↔ IsHopTo one two c hop
+    → (c : Candidate) (hop : ℕ) → IsListedHop t u c hop ↔ IsHopTo one two c hop
 tabled_is one two t u of_one of_two c hop = table_rank one two t u c.rank (node_number c.origin) of_one of_two hop

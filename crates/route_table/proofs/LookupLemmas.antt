@@ -1,17 +1,16 @@
 -- How prefixes that have one address nest, and the climb from a route to the one that encloses it.
 
-use Rattle.std.proofs.Common.{◌≡◌, ◌∙◌, ℕ, ◌+◌, ◌*◌, ◌-◌, ◌/◌, ◌%◌, ◌^◌, ◌≤◌, ◌<◌, List, [], ◌∷◌, ◌++◌, length, get_or, Option, Some, None, refl, sym, ap, subst, arith, ◌⊎◌, inl, inr}
+use Rattle.std.proofs.Common.{◌≡◌, ◌∙◌, ℕ, ◌+◌, ◌*◌, ◌-◌, ◌/◌, ◌%◌, ◌^◌, ◌≤◌, ◌<◌, List, [], ◌∷◌, ◌++◌, length, get_or, Option, Some, None, sym, ap, subst, arith, inl, inr}
 use Rattle.std.proofs.Math.Nat.{div-add-mod, mul-div-le, div-mul-le_self, div-div-eq-div-mul, mul-le-mul_left, mul_assoc}
 use Rattle.std.proofs.lemmas.Nat.{pow-add, pow_pos, le-div}
-use Rattle.std.proofs.lemmas.Bool.{cases_eq, cases_lt}
+use Rattle.std.proofs.lemmas.Bool.{cases_lt}
 use Rattle.std.proofs.lemmas.List.{get_or_default, get_or_append_left, get_or_push, length_push}
 use Rattle.std.proofs.lemmas.List.Elements.{Contains-get_or}
-use Rattle.std.specs.List.{Contains}
 use Rattle.isis_base.specs.declared.prefix.Prefix.{Prefix}
 use Rattle.route_table.specs.declared.route.Route.{Route}
 use Rattle.route_table.specs.Ranks.{prefix_number}
 use Rattle.route_table.specs.Routes.{AreRising}
-use Rattle.route_table.specs.Lookups.{Has, IsLongest, HasNone, IsWithin, IsBefore, IsLeft, HasAt, IsLast, AreLinked, IsCut}
+use Rattle.route_table.specs.Lookups.{Has, IsLongest, HasNone, IsBefore, IsLeft, IsLast, AreLinked, IsCut}
 
 -- ---- prefixes and addresses
 

@@ -1,6 +1,6 @@
 -- That candidates have one list of routes, and an address one longest prefix.
 
-use Rattle.std.proofs.Common.{◌≡◌, ◌∙◌, ℕ, zero, suc, ◌+◌, ◌-◌, ◌*◌, ◌/◌, ◌^◌, ◌≤◌, ◌<◌, List, [], ◌∷◌, ◌↔◌, length, get_or, refl, sym, ap, subst, arith, ◌⊎◌, inl, inr}
+use Rattle.std.proofs.Common.{◌≡◌, ◌∙◌, ℕ, zero, suc, ◌+◌, ◌-◌, ◌*◌, ◌/◌, ◌^◌, ◌≤◌, ◌<◌, List, [], ◌∷◌, length, get_or, refl, sym, ap, subst, arith, inl, inr}
 use Rattle.std.specs.List.{Contains}
 use Rattle.std.specs.List.Sorted.{IsStrictlyIncreasing}
 use Rattle.std.proofs.lemmas.Bool.{cases_lt}
@@ -13,7 +13,7 @@ use Rattle.route_table.specs.declared.rank.Rank.TheVariants.{Own, One, Two, OneD
 use Rattle.route_table.specs.declared.candidate.Candidate.{Candidate}
 use Rattle.route_table.specs.declared.route.Route.{Route}
 use Rattle.route_table.specs.Ranks.{rank_number, prefix_number}
-use Rattle.route_table.specs.Routes.{IsLike, IsNoWorse, IsRoute, AreRising, AreRoutes}
+use Rattle.route_table.specs.Routes.{IsNoWorse, IsRoute, AreRising, AreRoutes}
 use Rattle.route_table.specs.Lookups.{IsLongest}
 use Rattle.route_table.proofs.LookupLemmas.{begin_is}
 

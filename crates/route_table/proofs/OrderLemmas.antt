@@ -1,17 +1,17 @@
 -- Candidates in order, and the routes made of the first so many.
 
-use Rattle.std.proofs.Common.{◌≡◌, ◌≢◌, ◌∙◌, ℕ, zero, suc, ◌+◌, ◌-◌, ◌≤◌, ◌<◌, false, List, [], ◌∷◌, ◌++◌, ◌↔◌, length, get_or, refl, sym, ap, subst, arith, ◌⊎◌, inl, inr}
+use Rattle.std.proofs.Common.{◌≡◌, ◌∙◌, ℕ, zero, suc, ◌+◌, ◌-◌, ◌≤◌, ◌<◌, false, List, [], ◌∷◌, ◌++◌, ◌↔◌, length, get_or, refl, sym, ap, subst, arith, inl, inr}
 use Rattle.std.specs.Ordering.{nat_cmp, ordering_then, is_lt}
 use Rattle.std.specs.List.{Contains}
 use Rattle.std.specs.List.Sorted.{IsSortedByKey, IsStrictlyIncreasing}
-use Rattle.std.proofs.lemmas.Bool.{cases_eq, cases_lt}
+use Rattle.std.proofs.lemmas.Bool.{cases_lt}
 use Rattle.std.proofs.lemmas.Bool.Decides.{nat_tests}
 use Rattle.std.proofs.lemmas.List.{get_or_default, get_or_append_left, get_or_push, length_push}
 use Rattle.std.proofs.lemmas.List.Elements.{Contains-get_or, Contains-append_left, Contains-push, Contains-push_cases}
 use Rattle.route_table.specs.declared.candidate.Candidate.{Candidate}
 use Rattle.route_table.specs.declared.route.Route.{Route}
 use Rattle.route_table.specs.Ranks.{rank_number, prefix_number}
-use Rattle.route_table.specs.Routes.{IsLike, IsNoWorse, IsRoute, AreRising, AreRoutes}
+use Rattle.route_table.specs.Routes.{IsNoWorse, IsRoute, AreRising, AreRoutes}
 use Rattle.route_table.specs.Order.{IsNoLater, AreInOrder, IsAsGood, IsRun, IsSamePrefix, AreHopsIn, HaveRoutes}
 
 -- ---- candidates in order
@@ -41,19 +41,25 @@ no_later x y h =
             | inl more ↦ absurd (falls_first a b y.cost d e x.cost h more)
             | inr not_more ↦
                 let p : a ≡ d = omega arith in
-                inr (sym p, (elim (cases_lt e b) [
-                  | inl less_rank ↦ inl less_rank
-                  | inr not_rank ↦
-                      elim (cases_lt b e) [
-                        | inl more_rank ↦ absurd (falls_second a b y.cost d e x.cost h p more_rank)
-                        | inr not_more_rank ↦
-                            let q : b ≡ e = omega arith in
-                            inr (sym q, (elim (cases_lt y.cost x.cost) [
-                              | inl cheaper ↦ absurd (falls_third a b y.cost d e x.cost h p q cheaper)
-                              | inr not_cheaper ↦ not_cheaper
-                            ]))
-                      ]
-                ]))
+                inr (
+                  sym p,
+                  (elim (cases_lt e b) [
+                    | inl less_rank ↦ inl less_rank
+                    | inr not_rank ↦
+                        elim (cases_lt b e) [
+                          | inl more_rank ↦ absurd (falls_second a b y.cost d e x.cost h p more_rank)
+                          | inr not_more_rank ↦
+                              let q : b ≡ e = omega arith in
+                              inr (
+                                sym q,
+                                (elim (cases_lt y.cost x.cost) [
+                                  | inl cheaper ↦ absurd (falls_third a b y.cost d e x.cost h p q cheaper)
+                                  | inr not_cheaper ↦ not_cheaper
+                                ]),
+                              )
+                        ]
+                  ]),
+                )
           ]
     ]
 

@@ -23,9 +23,9 @@ HasNone routes address = (route : Route) → Contains routes route → Has route
 -- ---- the links by which a look-up climbs from a route to the one that encloses it; from here on all of it own
 
 -- a place is at most this one
-abbrev pub IsWithin : ℕ → Option ℕ → Type 0
-IsWithin place None = ⊥
-IsWithin place (Some last) = place ≤ last
+abbrev pub IsUpTo : ℕ → Option ℕ → Type 0
+IsUpTo place None = ⊥
+IsUpTo place (Some last) = place ≤ last
 
 -- the place, if any, is before this one
 abbrev pub IsBefore : Option ℕ → ℕ → Type 0
@@ -35,7 +35,7 @@ IsBefore (Some place) many = place < many
 -- the place, if any, is before the first so many routes end, and none of those behind it has the address
 pub record IsLeft (routes : List Route) (many address : ℕ) (place : Option ℕ) : Type 0 where
   pub before : IsBefore place many
-  pub rest : (k : ℕ) (d : Route) → k < many → Has (slice_index_or routes k d).prefix address → IsWithin k place
+  pub rest : (k : ℕ) (d : Route) → k < many → Has (slice_index_or routes k d).prefix address → IsUpTo k place
 
 -- the route at the place, if any, has the address
 abbrev pub HasAt : List Route → ℕ → Option ℕ → Type 0
@@ -52,8 +52,8 @@ pub record AreLinked (routes : List Route) (many : ℕ) (links : List (Option �
   pub enough : many ≤ length links
   pub link : (k : ℕ) (d : Route) (e : Option ℕ) → k < many → IsLast routes k (slice_index_or routes k d).prefix.address (slice_index_or links k e)
 
--- routes with their links
-pub record IsTable (routes : List Route) (links : List (Option ℕ)) : Type 0 where
+-- routes in order, with links by which a look-up climbs
+pub record AreClimbable (routes : List Route) (links : List (Option ℕ)) : Type 0 where
   pub rising : AreRising routes
   pub linked : AreLinked routes (length routes) links
 

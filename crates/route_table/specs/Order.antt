@@ -10,22 +10,24 @@ use Rattle.route_table.specs.declared.route.Route.{Route}
 use Rattle.route_table.specs.Ranks.{rank_number, prefix_number}
 use Rattle.route_table.specs.Routes.{IsNoWorse, IsRoute, AreRising}
 
--- a next hop by rank, told by tables of targets beside hops
-abbrev pub IsTabledBy : List (ℕ × ℕ) → List (ℕ × ℕ) → Rank → ℕ → ℕ → Type 0
-IsTabledBy one two Own origin hop = ⊥
-IsTabledBy one two One origin hop = Contains one (origin, hop)
-IsTabledBy one two Two origin hop = Contains two (origin, hop)
-IsTabledBy one two OneDown origin hop = Contains one (origin, hop)
-IsTabledBy one two Default origin hop = Contains one (origin, hop)
+-- a next hop by rank, where lists of targets beside hops tell it
+abbrev pub IsListedBy : List (ℕ × ℕ) → List (ℕ × ℕ) → Rank → ℕ → ℕ → Type 0
+IsListedBy one two Own origin hop = ⊥
+IsListedBy one two One origin hop = Contains one (origin, hop)
+IsListedBy one two Two origin hop = Contains two (origin, hop)
+IsListedBy one two OneDown origin hop = Contains one (origin, hop)
+IsListedBy one two Default origin hop = Contains one (origin, hop)
 
-abbrev pub IsTabled : List (ℕ × ℕ) → List (ℕ × ℕ) → Candidate → ℕ → Type 0
-IsTabled one two candidate hop = IsTabledBy one two candidate.rank (node_number candidate.origin) hop
+-- a next hop to the origin of a candidate, where such lists tell it
+abbrev pub IsListedHop : List (ℕ × ℕ) → List (ℕ × ℕ) → Candidate → ℕ → Type 0
+IsListedHop one two candidate hop = IsListedBy one two candidate.rank (node_number candidate.origin) hop
 
 -- a candidate comes no later than another: by prefix, then by rank and cost
 abbrev pub IsNoLater : Candidate → Candidate → Type 0
 IsNoLater a b =
     (prefix_number a.prefix < prefix_number b.prefix) ⊎ ((prefix_number a.prefix ≡ prefix_number b.prefix) × IsNoWorse (rank_number a.rank) a.cost (rank_number b.rank) b.cost)
 
+-- each candidate comes no later than those behind it
 pub record AreInOrder (candidates : List Candidate) : Type 0 where
   pub order : (i j : ℕ) (d : Candidate) → i < j → j < length candidates → IsNoLater (slice_index_or candidates i d) (slice_index_or candidates j d)
 
@@ -40,6 +42,7 @@ pub record IsRun (Same : Candidate → Candidate → Type 0) (candidates : List 
   pub same : (k : ℕ) (d : Candidate) → first ≤ k → k < end → Same (slice_index_or candidates k d) (slice_index_or candidates first d)
   pub other : (d : Candidate) → end < length candidates → Same (slice_index_or candidates end d) (slice_index_or candidates first d) → ⊥
 
+-- two candidates are for one prefix
 abbrev pub IsSamePrefix : Candidate → Candidate → Type 0
 IsSamePrefix a b = prefix_number a.prefix ≡ prefix_number b.prefix
 

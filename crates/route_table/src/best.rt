@@ -6,7 +6,7 @@ ghost use Rattle.spf_tree.specs.Distances.{AreDistances};
 ghost use Rattle.route_table.specs.declared.candidate.Candidate.{Candidate};
 ghost use Rattle.route_table.specs.Ranks.{prefix_number};
 ghost use Rattle.route_table.specs.Routes.{IsHopTo, IsRoute, AreRoutes};
-ghost use Rattle.route_table.specs.Order.{IsTabled, AreInOrder, HaveRoutes};
+ghost use Rattle.route_table.specs.Order.{IsListedHop, AreInOrder, HaveRoutes};
 
 use crate::candidate::Candidate;
 use crate::hops::hops_of;
@@ -58,7 +58,7 @@ fn best_of(
     two: &HopTable,
 ) -> Result<Vec<Route>, OutOfMemory>
     requires { AreInOrder candidates.now }
-    ensures { IfOk result (λ routes. AreRoutes (IsTabled one.now two.now) candidates.now routes.items) }
+    ensures { IfOk result (λ routes. AreRoutes (IsListedHop one.now two.now) candidates.now routes.items) }
 {
     let mut routes = Vec::new(alloc);
     let mut first = 0;
@@ -87,7 +87,7 @@ fn route_at(
     requires order { AreInOrder candidates.now }
     requires within { first < length candidates.now }
     requires cut { (i : ℕ) (d : Candidate) → i < first → prefix_number (slice_index_or candidates.now i d).prefix < prefix_number (slice_index_or candidates.now first d).prefix }
-    ensures route { IfOk result (λ route. IsRoute (IsTabled one.now two.now) candidates.now route) }
+    ensures route { IfOk result (λ route. IsRoute (IsListedHop one.now two.now) candidates.now route) }
     ensures prefix { IfOk result (λ route. (d : Candidate) → route.prefix ≡ (slice_index_or candidates.now first d).prefix) }
 {
     let best = &candidates[first];

@@ -5,7 +5,7 @@ ghost use Rattle.std.specs.List.{All, Contains};
 ghost use Rattle.std.specs.List.Sorted.{IsStrictlyIncreasing};
 ghost use Rattle.spf_tree.specs.Nodes.{system_node, is_system};
 ghost use Rattle.route_table.specs.declared.candidate.Candidate.{Candidate};
-ghost use Rattle.route_table.specs.Order.{IsTabled, AreHopsIn};
+ghost use Rattle.route_table.specs.Order.{IsListedHop, AreHopsIn};
 
 use crate::candidate::Candidate;
 use crate::rank::Rank;
@@ -26,7 +26,7 @@ pub fn hops_of(
     requires order { first ≤ end }
     requires within { end ≤ length candidates.now }
     ensures rising { IfOk result (λ hops. IsStrictlyIncreasing hops) }
-    ensures hops { IfOk result (λ hops. AreHopsIn (IsTabled one.now two.now) candidates.now first end hops) }
+    ensures hops { IfOk result (λ hops. AreHopsIn (IsListedHop one.now two.now) candidates.now first end hops) }
 {
     let mut nodes = Vec::new(alloc);
     for place in first..end {
@@ -51,7 +51,7 @@ fn hops_to(
     two: &HopTable,
 ) -> Result<Hops, OutOfMemory>
     ensures rising { IfOk result (λ hops. IsStrictlyIncreasing hops) }
-    ensures hops { IfOk result (λ hops. (hop : ℕ) → Contains hops hop ↔ IsTabled one.now two.now candidate.now hop) }
+    ensures hops { IfOk result (λ hops. (hop : ℕ) → Contains hops hop ↔ IsListedHop one.now two.now candidate.now hop) }
 {
     match candidate.rank {
         Rank::Own => Ok(Hops::new(alloc)),

@@ -17,7 +17,7 @@ pub struct Route {
 
 impl Route {
     /// An equal route.
-    pub fn copy(&self) -> Result<Route, OutOfMemory>
+    pub(crate) fn copy(&self) -> Result<Route, OutOfMemory>
         ensures { IfOk result (λ copy. copy ≡ self.now) }
     {
         let hops = self.hops.copy()?;

@@ -21,13 +21,13 @@ pub struct Routes {
 impl Model for Routes {
     ghost use Rattle.std.specs.Prelude.{List};
     ghost use Rattle.route_table.specs.declared.route.Route.{Route};
-    ghost use Rattle.route_table.specs.Lookups.{IsTable};
+    ghost use Rattle.route_table.specs.Lookups.{AreClimbable};
 
     ghost Value = { List Route };
 
     ghost view = { λ t. t.routes.items };
 
-    ghost invariant = { λ t. IsTable t.routes.items t.links.items };
+    ghost invariant = { λ t. AreClimbable t.routes.items t.links.items };
 }
 
 impl Routes {

@@ -1,4 +1,4 @@
-//! Routes and look-ups in a table. A node below 100 is a system.
+//! What is offered, the routes that come of it and look-ups, in tables: no clause prints a route.
 
 use super::*;
 use isis_base::{NodeId, OutOfMemory, Prefix, SystemId};
@@ -17,6 +17,7 @@ const ONE: &[(u8, u8, u32)] = &[
     (3, 4, 5),
     (4, 3, 5),
 ];
+
 const TWO: &[(u8, u8, u32)] = &[(1, 5, 1), (5, 1, 1)];
 
 /// What is offered: address, length, rank, cost, origin.

@@ -7,7 +7,7 @@ use Rattle.spf_tree.specs.NextHops.{IsNextHop}
 use Rattle.route_table.specs.declared.candidate.Candidate.{Candidate}
 use Rattle.route_table.specs.declared.route.Route.{Route}
 use Rattle.route_table.specs.Routes.{IsHopTo, AreRoutes}
-use Rattle.route_table.specs.Order.{IsTabled}
+use Rattle.route_table.specs.Order.{IsListedHop}
 use Rattle.route_table.proofs.HopLemmas.{tabled_is}
 use Rattle.route_table.proofs.OrderLemmas.{routes_by}
 use Rattle.route_table.proofs.best.routes.Goals as goal
@@ -22,7 +22,7 @@ returns-in-Ok-best_of c =
     let of_two : (target hop : ℕ) → Contains u (target, hop) ↔ IsNextHop two.rows (node_number two.root) target hop =
     subst (λ (n : NodeId). (target hop : ℕ) → Contains u (target, hop) ↔ IsNextHop two.rows (node_number n) target hop) c.root-2.ensures c.in-Ok-all_next_hops.ensures in
     let list = c.in-Ok-best_of.routes.items in
-    let sorted : AreRoutes (IsTabled t u) c.in-Ok-in_order.sorted.items list = subst (λ (cs : List Candidate). AreRoutes (IsTabled t u) cs list) c.as_slice.ensures.value c.in-Ok-best_of.ensures in
+    let sorted : AreRoutes (IsListedHop t u) c.in-Ok-in_order.sorted.items list = subst (λ (cs : List Candidate). AreRoutes (IsListedHop t u) cs list) c.as_slice.ensures.value c.in-Ok-best_of.ensures in
     let all : AreRoutes (IsHopTo one two) c.args.candidates.now list =
-    routes_by (IsTabled t u) (IsHopTo one two) c.in-Ok-in_order.sorted.items c.args.candidates.now list c.in-Ok-in_order.ensures.all c.in-Ok-in_order.ensures.none (tabled_is one two t u of_one of_two) sorted in
+    routes_by (IsListedHop t u) (IsHopTo one two) c.in-Ok-in_order.sorted.items c.args.candidates.now list c.in-Ok-in_order.ensures.all c.in-Ok-in_order.ensures.none (tabled_is one two t u of_one of_two) sorted in
     IfOk-weaker c.of.result (λ (table : List Route). table ≡ list) (λ (table : List Route). AreRoutes (IsHopTo one two) c.args.candidates.now table) (λ table e. subst (λ (rs : List Route). AreRoutes (IsHopTo one two) c.args.candidates.now rs) (sym e) all) c.of.ensures

@@ -3,7 +3,7 @@ use Rattle.std.specs.List.{Contains}
 use Rattle.std.proofs.lemmas.Result.{IfOk-weaker}
 use Rattle.spf_tree.specs.Nodes.{is_system}
 use Rattle.route_table.specs.declared.candidate.Candidate.{Candidate}
-use Rattle.route_table.specs.Order.{IsTabled, AreHopsIn}
+use Rattle.route_table.specs.Order.{IsListedHop, AreHopsIn}
 use Rattle.route_table.proofs.HopLemmas.{all_of, gather_more, gathered}
 use Rattle.route_table.proofs.hops.hops_of.Goals as goal
 
@@ -12,8 +12,8 @@ loop-place-preserved c = record {
   systems = c.in-Ok-add_nodes.ensures.systems;
   hops =
       rw c.in-Ok-add_nodes.ensures.added
-      (gather_more (IsTabled c.args.one.now c.args.two.now) c.args.candidates.now c.args.first c.loop-place.place c.index-candidates-place.result c.loop-place.nodes.items c.in-Ok.hops (omega arith) (omega arith) c.loop-place.invariant.hops
-      (subst (λ (x : Candidate). (hop : ℕ) → Contains c.in-Ok.hops hop ↔ IsTabled c.args.one.now c.args.two.now x hop) c.index-candidates-place.is c.in-Ok.ensures.hops));
+      (gather_more (IsListedHop c.args.one.now c.args.two.now) c.args.candidates.now c.args.first c.loop-place.place c.index-candidates-place.result c.loop-place.nodes.items c.in-Ok.hops (omega arith) (omega arith) c.loop-place.invariant.hops
+      (subst (λ (x : Candidate). (hop : ℕ) → Contains c.in-Ok.hops hop ↔ IsListedHop c.args.one.now c.args.two.now x hop) c.index-candidates-place.is c.in-Ok.ensures.hops));
 }
 
 pub with_systems-requires : goal.with_systems-requires
@@ -21,7 +21,7 @@ with_systems-requires c = rw c.as_slice.ensures.value (all_of (λ node. is_syste
 
 pub returns-clause-hops : goal.returns-clause-hops
 returns-clause-hops c =
-    let H = IsTabled c.args.one.now c.args.two.now in
+    let H = IsListedHop c.args.one.now c.args.two.now in
     let cs = c.args.candidates.now in
     let end : c.loop-place.place ≡ c.args.end = omega arith in
     let so_far : AreHopsIn H cs c.args.first c.args.end c.loop-place.nodes.items = subst (λ (n : ℕ). AreHopsIn H cs c.args.first n c.loop-place.nodes.items) end c.loop-place.invariant.hops in

@@ -1,6 +1,5 @@
-use Rattle.std.proofs.Common.{◌≡◌, ◌<◌, ℕ, Option, None, get_or, sym, subst, arith}
-use Rattle.route_table.specs.Lookups.{IsLeft}
-use Rattle.route_table.proofs.LookupLemmas.{climb, height, height_falls}
+use Rattle.std.proofs.Common.{None, get_or, arith}
+use Rattle.route_table.proofs.LookupLemmas.{climb, height_falls}
 use Rattle.route_table.proofs.links.last_of.Goals as goal
 
 pub loop-left-smaller : goal.loop-left-smaller

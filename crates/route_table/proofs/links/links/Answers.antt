@@ -1,4 +1,4 @@
-use Rattle.std.proofs.Common.{◌≡◌, ◌∙◌, ℕ, length, ap, subst, arith}
+use Rattle.std.proofs.Common.{ℕ, length, ap, subst, arith}
 use Rattle.std.proofs.lemmas.List.{length_push}
 use Rattle.route_table.specs.Lookups.{IsLast}
 use Rattle.route_table.proofs.LookupLemmas.{addresses_rise, linked_more}

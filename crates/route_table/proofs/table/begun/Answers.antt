@@ -1,4 +1,4 @@
-use Rattle.std.proofs.Common.{◌+◌, ◌-◌, ◌/◌, ◌≤◌, ◌<◌, arith}
+use Rattle.std.proofs.Common.{◌+◌, ◌-◌, ◌/◌, arith}
 use Rattle.route_table.proofs.LookupLemmas.{cut_left, cut_right}
 use Rattle.route_table.proofs.table.begun.Goals as goal
 

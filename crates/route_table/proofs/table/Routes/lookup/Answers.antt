@@ -1,4 +1,4 @@
-use Rattle.std.proofs.Common.{◌≡◌, ◌∙◌, ◌≤◌, List, sym, subst, arith}
+use Rattle.std.proofs.Common.{◌∙◌, List, sym, subst}
 use Rattle.route_table.specs.declared.route.Route.{Route}
 use Rattle.route_table.specs.Routes.{AreRising}
 use Rattle.route_table.specs.Lookups.{IsLongest}
