@@ -17,9 +17,9 @@ use isis_base::OutOfMemory;
 use spf_tree::{Distances, Graph, HopTable, all_next_hops};
 use std::alloc::Global;
 
-/// One route for each prefix that a candidate is for: the least rank, then the least cost, with the next hops to the
-/// origins of all candidates of that rank and cost. Origins of rank `Two` are nodes of the second graph, all others of
-/// the first.
+/// One route for each prefix that a candidate is for: the least rank, then the least cost (RFC 5302 3.2), with the next
+/// hops to the origins of all candidates of that rank and cost. Origins of rank `Two` are looked for in the second graph,
+/// all others in the first. The distances are those of each graph from its root.
 pub fn routes(
     alloc: Global,
     candidates: &[Candidate],

@@ -6,7 +6,8 @@ use crate::rank::Rank;
 use isis_base::{OutOfMemory, Prefix};
 use spf_tree::Hops;
 
-/// The way to a prefix: its rank, its cost in all, in units of metrics, and the systems that a packet may be handed to.
+/// The best way to a prefix (RFC 5302 3.2): its rank, its cost in all, in units of metrics, and the systems that a packet
+/// may be handed to, in order. One's own prefix has none.
 #[derive(Drop, Debug)]
 pub struct Route {
     pub prefix: Prefix,
