@@ -1,0 +1,4 @@
+pub mod LookupLemmas
+pub mod OrderLemmas
+pub mod HopLemmas
+pub mod OneLemmas

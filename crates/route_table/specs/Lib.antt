@@ -1,0 +1,4 @@
+pub mod Ranks
+pub mod Routes
+pub mod Lookups
+pub mod Order

@@ -1,0 +1,30 @@
+//! The route table: for each prefix the best way, by rank and then by cost, with the next hops of all that are as good.
+//!
+//! The order of ranks is that of RFC 5302 3.2 (level 1 before level 2, and what came down last), with a router's own
+//! prefixes before all, and the way to a system that is attached to level 2 behind all (own). An address is looked up by
+//! its longest prefix (RFC 1812 5.2.4.3). Own: candidates of one rank and cost share a route, whatever their origins.
+//!
+//! - `rank.rt`: ranks; `candidate.rt`: what a prefix may be reached by; `route.rt`: a route
+//! - `order.rt`: candidates in order; `hops.rt`: next hops of several candidates; `best.rt`: the routes made of them
+//! - `table.rt`: the table; `links.rt`: from each route to the one that encloses it, by which an address is looked up
+//! - `laws.rt`: what follows for all candidates
+#![tactic(auto)]
+
+mod best;
+mod candidate;
+mod hops;
+pub mod laws;
+mod links;
+mod order;
+mod rank;
+mod route;
+mod table;
+
+pub use best::routes;
+pub use candidate::Candidate;
+pub use rank::Rank;
+pub use route::Route;
+pub use table::Routes;
+
+#[cfg(test)]
+mod tests;
