@@ -8,10 +8,10 @@ ghost use Rattle.adjacency.specs.Views.{runs_of, hello_of, neighbour_of, point_o
 ghost use Rattle.adjacency.specs.Changes.{change_of};
 
 use crate::common::{are_same_levels, are_same_systems};
+use crate::handshake::three_way;
 use crate::held::Held;
 use crate::hello::{AdjChange, HelloFields};
 use crate::neighbour::Neighbour;
-use crate::handshake::three_way;
 use isis_base::LevelSet;
 use isis_tlv::{Adj, ThreeWay};
 

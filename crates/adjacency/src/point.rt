@@ -52,18 +52,22 @@ impl P2pAdj {
     /// Takes a hello. The first test that fails refuses it, and the adjacency is as before. Else, where the system, the
     /// extended circuit ID or the levels in common aren't those of the neighbour that is kept, the adjacency first goes
     /// Down (own); then the table of the handshake says its state, and outside Down the hello's sender is kept.
-    pub fn hear_hello(&mut self, own: &Own<'_>, hello: &HelloFields<'_>) -> Result<AdjChange, HelloDrop>
+    pub fn hear_hello(
+        &mut self,
+        own: &Own<'_>,
+        hello: &HelloFields<'_>,
+    ) -> Result<AdjChange, HelloDrop>
         ensures tested { IsTested result (point_drop (config_of own.now) own.now.id (hello_of hello.now)) }
         ensures unchanged { OnErr result (self.new ≡ self.old) }
         ensures heard { IfOk result (λ change. IfSome hello.now.three_way (λ shake.
             point_of self.new.held ≡ model.hear_point (point_of self.old.held)
-                (model.common_of (config_of own.now) (hello_of hello.now))
-                (hello_of hello.now) (shake_of shake))) }
+            (model.common_of (config_of own.now) (hello_of hello.now))
+            (hello_of hello.now) (shake_of shake))) }
         ensures change { IfOk result (λ change. IfSome hello.now.three_way (λ shake.
             change ≡ change_of (point_of self.old.held) (point_of self.new.held)
-                (model.is_same (point_of self.old.held).neighbour
-                    (model.common_of (config_of own.now) (hello_of hello.now))
-                    (hello_of hello.now) (shake_of shake).extended))) }
+            (model.is_same (point_of self.old.held).neighbour
+            (model.common_of (config_of own.now) (hello_of hello.now))
+            (hello_of hello.now) (shake_of shake).extended))) }
     {
         let (levels, shake) = match test_point(own, hello) {
             Ok(passed) => passed,

@@ -47,7 +47,9 @@ fn comes_up_and_ends(rt: HostRuntime) {
     let mut adjacency = P2pAdj::new();
     assert!(rt; adjacency.hear_hello(&own, &hello(Adj::Down, &areas)) == Ok(AdjChange::Moved));
     assert!(rt; adjacency.state() == Adj::Initializing);
-    assert!(rt; adjacency.hear_hello(&own, &hello(Adj::Initializing, &areas)) == Ok(AdjChange::WentUp));
+    assert!(rt;
+        adjacency.hear_hello(&own, &hello(Adj::Initializing, &areas)) == Ok(AdjChange::WentUp)
+    );
     assert!(rt; adjacency.state() == three_way(Adj::Initializing, Adj::Initializing));
     assert!(rt; adjacency.names_boot() == Some(2));
     assert!(rt; adjacency.second() == AdjChange::None);
@@ -58,7 +60,10 @@ fn comes_up_and_ends(rt: HostRuntime) {
 
 #[test]
 fn refusals(rt: HostRuntime) {
-    let (Some(area), Some(another)) = (AreaAddress::new(&[0x49, 0, 1]), AreaAddress::new(&[0x49, 0, 2])) else {
+    let (Some(area), Some(another)) = (
+        AreaAddress::new(&[0x49, 0, 1]),
+        AreaAddress::new(&[0x49, 0, 2]),
+    ) else {
         return;
     };
     let areas = [area];
@@ -66,11 +71,26 @@ fn refusals(rt: HostRuntime) {
     let own = own(&areas);
     let good = hello(Adj::Down, &areas);
     let mut adjacency = P2pAdj::new();
-    let mine = HelloFields { source: MINE, ..good };
-    let elsewhere = HelloFields { snpa: Snpa(MINE.0), ..good };
-    let two = HelloFields { levels: LevelSet::Two, ..good };
-    let far = HelloFields { areas: &others, ..good };
-    let plain = HelloFields { three_way: None, ..good };
+    let mine = HelloFields {
+        source: MINE,
+        ..good
+    };
+    let elsewhere = HelloFields {
+        snpa: Snpa(MINE.0),
+        ..good
+    };
+    let two = HelloFields {
+        levels: LevelSet::Two,
+        ..good
+    };
+    let far = HelloFields {
+        areas: &others,
+        ..good
+    };
+    let plain = HelloFields {
+        three_way: None,
+        ..good
+    };
     let named = HelloFields {
         three_way: Some(ThreeWay {
             state: Adj::Down,

@@ -1,7 +1,6 @@
 -- The best of a list is on it, and no one on the list stands before it.
-use Rattle.std.proofs.Common.{◌≡◌, ◌⊎◌, inl, inr, ℕ, zero, suc, Bool, true, false, List, [], ◌∷◌, if◌then◌else◌, refl, sym, ap, subst, ◌∙◌, arith}
+use Rattle.std.proofs.Common.{◌≡◌, ◌⊎◌, inl, inr, zero, suc, Bool, true, false, List, [], ◌∷◌, if◌then◌else◌, refl, sym, ap, subst, ◌∙◌, arith}
 use Rattle.std.specs.Prelude.{Contains}
-use Rattle.std.specs.List.{AllByRecursion}
 use Rattle.std.proofs.lemmas.Bool.Decides.{nat_tests}
 use Rattle.isis_model.specs.Elections as model
 use Rattle.designated_is.specs.declared.candidate.Candidate.{Candidate}
@@ -40,9 +39,10 @@ others_unbeaten : (b : Candidate) (cs : List Candidate) → IsUnbeaten cs (best_
 unfolding best_of
 others_unbeaten b [] = tt
 others_unbeaten b (c ∷ cs) =
-    let next = if beats c b then c else b in
-    (model_trans (candidate_of c) (candidate_of next) (candidate_of (best_of next cs)) (next_second b c (beats c b) refl) (first_unbeaten next cs),
-    others_unbeaten next cs)
+    let next = if beats c b then c else b in (
+      model_trans (candidate_of c) (candidate_of next) (candidate_of (best_of next cs)) (next_second b c (beats c b) refl) (first_unbeaten next cs),
+      others_unbeaten next cs,
+    )
 
 one_of : (b c : Candidate) (t : Bool) → ((if t then c else b) ≡ b) ⊎ ((if t then c else b) ≡ c)
 one_of b c true = inr refl
