@@ -1,0 +1,1 @@
+-- What the check doesn't find alone.

@@ -1,0 +1,102 @@
+//! The levels in common (ISO 10589 8.2.4.2).
+ghost use Rattle.std.specs.Prelude.{◌≡◌, ◌==◌, ◌&&◌};
+ghost use Rattle.isis_model.specs.Adjacencies as model;
+ghost use Rattle.isis_model.specs.Both as both;
+ghost use Rattle.designated_is.specs.Numbers.{system_number};
+ghost use Rattle.adjacency.specs.Views.{runs_of, common_runs, config_of, hello_of};
+
+use crate::hello::{HelloFields, Own};
+use isis_base::{AreaAddress, LevelSet, LspId, NodeId, SystemId};
+
+/// The levels that both run, level 1 only where an area address is shared; `None` where there is none.
+pub fn common_levels(own: &Own<'_>, hello: &HelloFields<'_>) -> Option<LevelSet>
+    ensures { common_runs result ≡ model.common_of (config_of own.now) (hello_of hello.now) }
+{
+    let one = both_run_one(own.levels, hello.levels) && shares(own.areas, hello.areas);
+    let two = runs_two(own.levels) && runs_two(hello.levels);
+    match (one, two) {
+        (true, true) => Some(LevelSet::Both),
+        (true, false) => Some(LevelSet::One),
+        (false, true) => Some(LevelSet::Two),
+        (false, false) => None,
+    }
+}
+
+/// Whether both run level 1.
+pub fn both_run_one(own: LevelSet, heard: LevelSet) -> bool
+    ensures { result ≡ ((runs_of own).one && (runs_of heard).one) }
+{
+    runs_one(own) && runs_one(heard)
+}
+
+fn runs_one(levels: LevelSet) -> bool
+    ensures { result ≡ (runs_of levels).one }
+{
+    match levels {
+        LevelSet::One => true,
+        LevelSet::Two => false,
+        LevelSet::Both => true,
+    }
+}
+
+fn runs_two(levels: LevelSet) -> bool
+    ensures { result ≡ (runs_of levels).two }
+{
+    match levels {
+        LevelSet::One => false,
+        LevelSet::Two => true,
+        LevelSet::Both => true,
+    }
+}
+
+/// Whether two sets of levels are the same.
+pub fn are_same_levels(a: LevelSet, b: LevelSet) -> bool
+    ensures { result ≡ both.same_levels (runs_of a) (runs_of b) }
+{
+    match (a, b) {
+        (LevelSet::One, LevelSet::One) => true,
+        (LevelSet::Two, LevelSet::Two) => true,
+        (LevelSet::Both, LevelSet::Both) => true,
+        _ => false,
+    }
+}
+
+/// Whether an area address is on both lists.
+fn shares(own: &[AreaAddress], heard: &[AreaAddress]) -> bool
+    ensures { result ≡ model.shares own.now heard.now }
+{
+    for area in heard {
+        if has_area(own, area.octets()) {
+            return true;
+        }
+    }
+    false
+}
+
+fn has_area(areas: &[AreaAddress], octets: &[u8]) -> bool
+    ensures { result ≡ model.has_area areas.now octets.now }
+{
+    for area in areas {
+        if area.octets() == octets {
+            return true;
+        }
+    }
+    false
+}
+
+/// Whether two system IDs are one, compared as numbers.
+pub fn are_same_systems(a: SystemId, b: SystemId) -> bool
+    ensures { result ≡ (system_number a == system_number b) }
+{
+    number(a) == number(b)
+}
+
+fn number(system: SystemId) -> u64
+    ensures { result ≡ system_number system }
+{
+    let node = NodeId {
+        system,
+        pseudonode: 0,
+    };
+    LspId { node, number: 0 }.to_number() / 65536
+}

@@ -1,0 +1,32 @@
+//! Adjacencies: whom a circuit hears, and in which state.
+//!
+//! ISO 10589 8.2.4 (point-to-point circuits) with the three-way handshake of RFC 5303 3.2. A hello is tested, in one fixed
+//! order, and then taken: the neighbour is kept with the hello's holding time. Own: the order of the tests; a hello must
+//! come from the SNPA that is its source's system ID; where another neighbour, or other levels in common, are heard than are
+//! kept, the adjacency goes Down first; point-to-point neighbours without the handshake are refused. What a call does is what
+//! the router's model (isis_model) says. No call takes memory.
+//!
+//! - `handshake.rt`: the table of the handshake
+//! - `neighbour.rt`: a neighbour that is kept
+//! - `hello.rt`: what a hello says, what is one's own, and why a hello is refused
+//! - `common.rt`: the levels in common; `tests_of_hello.rt`: the tests of a hello, in their order
+//! - `held.rt`, `keeping.rt`: a state with the neighbour that is kept, and what becomes of it
+//! - `point.rt`: a point-to-point adjacency
+#![tactic(auto)]
+
+mod common;
+mod handshake;
+mod held;
+mod hello;
+mod keeping;
+mod neighbour;
+mod point;
+mod tests_of_hello;
+
+pub use handshake::three_way;
+pub use hello::{AdjChange, HelloDrop, HelloFields, Own};
+pub use neighbour::Neighbour;
+pub use point::P2pAdj;
+
+#[cfg(test)]
+mod tests;

@@ -1,0 +1,118 @@
+//! A point-to-point adjacency.
+ghost use Rattle.std.specs.Prelude.{◌≡◌, ◌↔◌, Bool, true, Option, IsNone, OnErr, IfOk, IfSome};
+ghost use Rattle.std.specs.Option.{option_map};
+ghost use Rattle.isis_tlv.specs.declared.three_way.Adj.TheVariants as adj;
+ghost use Rattle.isis_model.specs.Adjacencies as model;
+ghost use Rattle.isis_model.specs.HelloTests.{point_drop};
+ghost use Rattle.isis_model.specs.Seconds.{point_less};
+ghost use Rattle.adjacency.specs.Views.{runs_of, config_of, hello_of, neighbour_of, point_of, point_down, shake_of};
+ghost use Rattle.adjacency.specs.Changes.{IsTested, change_of, boot_of};
+
+use crate::held::Held;
+use crate::hello::{AdjChange, HelloDrop, HelloFields, Own};
+use crate::keeping::{change, held_after, held_less, keeps, state_of};
+use crate::neighbour::Neighbour;
+use crate::tests_of_hello::test_point;
+use isis_tlv::Adj;
+
+/// The adjacency of a point-to-point circuit (ISO 10589 8.2.4, RFC 5303 3.2): its state, and the neighbour that is kept
+/// outside Down.
+#[derive(Clone, Copy, Debug, PartialEq, Eq)]
+pub struct P2pAdj {
+    held: Held,
+}
+
+impl P2pAdj {
+    /// An adjacency in Down.
+    pub fn new() -> P2pAdj
+        ensures { point_of result.held ≡ point_down }
+    {
+        P2pAdj { held: Held::Down }
+    }
+
+    /// The state.
+    pub fn state(&self) -> Adj
+        ensures { result ≡ (point_of self.now.held).state }
+    {
+        state_of(self.held)
+    }
+
+    /// The neighbour that is kept. `None` exactly in Down.
+    pub fn neighbour(&self) -> Option<&Neighbour>
+        ensures value { option_map (λ n. neighbour_of n.now) result ≡ (point_of self.now.held).neighbour }
+        ensures none { IsNone result ↔ ((point_of self.now.held).state ≡ adj.Down) }
+    {
+        match &self.held {
+            Held::Down => None,
+            Held::Initializing(neighbour) => Some(neighbour),
+            Held::Up(neighbour) => Some(neighbour),
+        }
+    }
+
+    /// Takes a hello. The first test that fails refuses it, and the adjacency is as before. Else, where the system, the
+    /// extended circuit ID or the levels in common aren't those of the neighbour that is kept, the adjacency first goes
+    /// Down (own); then the table of the handshake says its state, and outside Down the hello's sender is kept.
+    pub fn hear_hello(
+        &mut self,
+        own: &Own<'_>,
+        hello: &HelloFields<'_>,
+    ) -> Result<AdjChange, HelloDrop>
+        ensures tested { IsTested result (point_drop (config_of own.now) own.now.id (hello_of hello.now)) }
+        ensures unchanged { OnErr result (self.new ≡ self.old) }
+        ensures heard { IfOk result (λ change. IfSome hello.now.three_way (λ shake.
+            point_of self.new.held ≡ model.hear_point (point_of self.old.held)
+            (model.common_of (config_of own.now) (hello_of hello.now))
+            (hello_of hello.now) (shake_of shake))) }
+        ensures change { IfOk result (λ change. IfSome hello.now.three_way (λ shake.
+            change ≡ change_of (point_of self.old.held) (point_of self.new.held)
+            (model.is_same (point_of self.old.held).neighbour
+            (model.common_of (config_of own.now) (hello_of hello.now))
+            (hello_of hello.now) (shake_of shake).extended))) }
+    {
+        let (levels, shake) = match test_point(own, hello) {
+            Ok(passed) => passed,
+            Err(refused) => return Err(refused),
+        };
+        let old = self.held;
+        let same = keeps(old, hello, levels, shake.own_id.unwrap_or(0));
+        let new = held_after(old, same, hello, levels, shake);
+        self.held = new;
+        Ok(change(old, new, same))
+    }
+
+    /// A second of the holding time: at 1 or 0 the adjacency ends, else it falls by one (ISO 10589 8.2.5).
+    pub fn second(&mut self) -> AdjChange
+        ensures held { point_of self.new.held ≡ point_less (point_of self.old.held) }
+        ensures change { result ≡ change_of (point_of self.old.held) (point_of self.new.held) true }
+    {
+        match self.held {
+            Held::Down => AdjChange::None,
+            Held::Initializing(neighbour) => {
+                if neighbour.left <= 1 {
+                    self.held = Held::Down;
+                    return AdjChange::Moved;
+                }
+                self.held = Held::Initializing(held_less(neighbour));
+                AdjChange::None
+            }
+            Held::Up(neighbour) => {
+                if neighbour.left <= 1 {
+                    self.held = Held::Down;
+                    return AdjChange::LeftUp;
+                }
+                self.held = Held::Up(held_less(neighbour));
+                AdjChange::None
+            }
+        }
+    }
+
+    /// The boot number in the neighbour's extended circuit ID, where the state is Up (own).
+    pub fn names_boot(&self) -> Option<u32>
+        ensures { result ≡ boot_of (point_of self.now.held) }
+    {
+        match self.held {
+            Held::Up(neighbour) => Some(neighbour.id / 256),
+            _ => None,
+        }
+    }
+}

@@ -1,0 +1,61 @@
+//! The tests of a hello, in their order (ISO 10589 8.2.4.2, RFC 5303 3.2; the order: own).
+ghost use Rattle.std.specs.Prelude.{◌≡◌, Bool, Some, IfOk};
+ghost use Rattle.isis_model.specs.Adjacencies as model;
+ghost use Rattle.isis_model.specs.HelloTests.{hello_drop, point_drop};
+ghost use Rattle.adjacency.specs.Views.{runs_of, common_runs, config_of, hello_of};
+ghost use Rattle.adjacency.specs.Changes.{IsTested};
+
+use crate::common::{are_same_systems, both_run_one, common_levels};
+use crate::hello::{HelloDrop, HelloFields, Own};
+use isis_base::{LevelSet, SystemId};
+use isis_tlv::ThreeWay;
+
+/// The tests of a point-to-point hello: the levels in common and the three-way value where all pass.
+pub fn test_point(own: &Own<'_>, hello: &HelloFields<'_>) -> Result<(LevelSet, ThreeWay), HelloDrop>
+    ensures tested { IsTested result (point_drop (config_of own.now) own.now.id (hello_of hello.now)) }
+    ensures levels { IfOk result (λ p.
+        runs_of p.0 ≡ model.common_of (config_of own.now) (hello_of hello.now)) }
+    ensures shake { IfOk result (λ p. hello.now.three_way ≡ Some p.1) }
+{
+    let both_one = both_run_one(own.levels, hello.levels);
+    let levels = match test_hello(own, hello, common_levels(own, hello), both_one) {
+        Ok(levels) => levels,
+        Err(refused) => return Err(refused),
+    };
+    let Some(shake) = hello.three_way else {
+        return Err(HelloDrop::NoThreeWay);
+    };
+    if let Some((system, id)) = shake.neighbour {
+        if !are_same_systems(system, own.system) || id != own.id {
+            return Err(HelloDrop::OtherNeighbour);
+        }
+    }
+    Ok((levels, shake))
+}
+
+/// The tests of hellos of both kinds: the levels in common where all pass. `both_one` where both run level 1.
+fn test_hello(
+    own: &Own<'_>,
+    hello: &HelloFields<'_>,
+    common: Option<LevelSet>,
+    both_one: bool,
+) -> Result<LevelSet, HelloDrop>
+    ensures tested { IsTested result
+        (hello_drop (config_of own.now) (common_runs common) both_one (hello_of hello.now)) }
+    ensures levels { IfOk result (λ levels. common ≡ Some levels) }
+{
+    if are_same_systems(hello.source, own.system) {
+        return Err(HelloDrop::OwnId);
+    }
+    if !are_same_systems(hello.source, SystemId(hello.snpa.0)) {
+        return Err(HelloDrop::OtherSnpa);
+    }
+    let Some(levels) = common else {
+        return Err(if both_one {
+            HelloDrop::NoArea
+        } else {
+            HelloDrop::NoLevel
+        });
+    };
+    Ok(levels)
+}

@@ -1,0 +1,2 @@
+-- What the check doesn't find alone.
+mod BestLemmas

@@ -1,0 +1,72 @@
+//! The greatest candidate, and the pseudonode of a circuit.
+ghost use Rattle.std.specs.Prelude.{◌≡◌, ◌↔◌, if◌then◌else◌, [], IsNone, IfSome};
+ghost use Rattle.designated_is.specs.Numbers.{system_number};
+ghost use Rattle.designated_is.specs.Greatest.{beats, best_of, IsElected};
+
+use crate::candidate::Candidate;
+use isis_base::{LspId, NodeId, SystemId};
+
+/// The system of the greatest candidate: by priority, then SNPA (ISO 10589 8.4.5), then system ID. `None` exactly where
+/// there is no candidate.
+pub fn elect(candidates: &[Candidate]) -> Option<SystemId>
+    ensures none { IsNone result ↔ (candidates.now ≡ []) }
+    ensures elected { IfSome result (λ system. IsElected candidates.now system) }
+{
+    let (first, others) = candidates.split_first()?;
+    Some(best(*first, others).system)
+}
+
+/// The number of a circuit's pseudonode: the circuit's number.
+pub fn pseudonode(circuit: u8) -> u8
+    ensures { result ≡ circuit }
+{
+    circuit
+}
+
+/// The greatest of a candidate and others.
+#[tactic(auto, unfolding(crate::specs::Greatest::best_of))]
+fn best(first: Candidate, others: &[Candidate]) -> Candidate
+    ensures { result ≡ best_of first others.now }
+{
+    let mut best = first;
+    for other in others {
+        best = better(best, *other);
+    }
+    best
+}
+
+/// The greater of two candidates, the first where they are equal.
+fn better(best: Candidate, other: Candidate) -> Candidate
+    ensures { result ≡ (if beats other best then other else best) }
+{
+    if stands_before(other, best) {
+        return other;
+    }
+    best
+}
+
+/// Whether a candidate stands before another.
+fn stands_before(a: Candidate, b: Candidate) -> bool
+    ensures { result ≡ beats a b }
+{
+    if a.priority != b.priority {
+        return a.priority > b.priority;
+    }
+    let a_snpa = number(SystemId(a.snpa.0));
+    let b_snpa = number(SystemId(b.snpa.0));
+    if a_snpa != b_snpa {
+        return a_snpa > b_snpa;
+    }
+    number(a.system) > number(b.system)
+}
+
+/// The six octets as a number.
+fn number(system: SystemId) -> u64
+    ensures { result ≡ system_number system }
+{
+    let node = NodeId {
+        system,
+        pseudonode: 0,
+    };
+    LspId { node, number: 0 }.to_number() / 65536
+}
