@@ -35,4 +35,6 @@ octets_of_length long = max ((2 * min long 32 + 4) / 5) 1
 
 -- the area address that a text spells; nothing where it spells none
 unfoldable pub area_of : List ℕ → Option (List ℕ)
-area_of text = let count = octets_of_length (length text) in text_octets (take (count + count / 2) AREA_TEXT) text
+area_of text =
+    let count = octets_of_length (length text) in
+    text_octets (take (count + count / 2) AREA_TEXT) text

@@ -10,8 +10,16 @@ pub record IsPadded (count : ℕ) (octets : List ℕ) : Type 0 where
   pub whole : length octets ≡ 13
   pub zeros : drop count octets ≡ replicate (13 - count) 0
 
-pub padded-again : (count : ℕ) (octets : List ℕ) → IsPadded count octets → (length (take count octets) ≡ count) × (take count octets ++ replicate (13 - length (take count octets)) 0 ≡ octets)
-padded-again count octets h =
+-- octets with zeros behind, 13 in all
+abbrev pub padded : List ℕ → List ℕ
+padded octets = octets ++ replicate (13 - length octets) 0
+
+-- the octets in front and the zeros are the 13 again
+pub padded-whole : (count : ℕ) (octets : List ℕ) → IsPadded count octets
+    → (length (take count octets) ≡ count) × (padded (take count octets) ≡ octets)
+padded-whole count octets h =
     let within : count ≤ length octets = omega (arith, h.whole, h.fits) in
     let taken = length-take-le count octets within in
-    (taken, ap (λ (n : ℕ). take count octets ++ replicate (13 - n) 0) taken ∙ ap (λ (zeros : List ℕ). take count octets ++ zeros) (sym h.zeros) ∙ take-append-drop count octets)
+    let first = ap (λ (n : ℕ). take count octets ++ replicate (13 - n) 0) taken in
+    let zeros = ap (λ (zeros : List ℕ). take count octets ++ zeros) (sym h.zeros) in
+    (taken, first ∙ zeros ∙ take-append-drop count octets)

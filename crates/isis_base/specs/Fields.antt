@@ -29,7 +29,9 @@ abbrev pub system_at : ℕ → List ℕ → SystemId
 system_at place octets = record { 0 = take 6 (drop place octets) }
 
 abbrev pub node_at : ℕ → List ℕ → NodeId
-node_at place octets = record { system = system_at place octets; pseudonode = slice_index octets (place + 6) }
+node_at place octets =
+    record { system = system_at place octets; pseudonode = slice_index octets (place + 6) }
 
 abbrev pub lsp_at : ℕ → List ℕ → LspId
-lsp_at place octets = record { node = node_at place octets; number = slice_index octets (place + 7) }
+lsp_at place octets =
+    record { node = node_at place octets; number = slice_index octets (place + 7) }

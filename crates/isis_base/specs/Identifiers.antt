@@ -25,7 +25,10 @@ lsp_number id = from_be_bytes w64 (lsp_octets id)
 
 -- the LSP ID of eight octets
 abbrev pub lsp_from : List ℕ → LspId
-lsp_from octets = record { node = record { system = record { 0 = take 6 octets }; pseudonode = slice_index octets 6 }; number = slice_index octets 7 }
+lsp_from octets =
+    let system : SystemId = record { 0 = take 6 octets } in
+    let node : NodeId = record { system = system; pseudonode = slice_index octets 6 } in
+    record { node = node; number = slice_index octets 7 }
 
 -- the system ID of six octets
 abbrev pub system_from : List ℕ → SystemId

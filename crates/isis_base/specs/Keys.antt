@@ -29,4 +29,6 @@ join_of a b = if nat_lt (rank a) (rank b) then b else a
 
 -- the rank of the key that an entry names: none at number 0, purged at lifetime 0 (ISO 10589 9.10)
 abbrev pub entry_rank : LspEntry → ℕ
-entry_rank entry = if nat_lt 0 entry.number then 2 * entry.number + (if nat_lt 0 entry.lifetime then 0 else 1) else 0
+entry_rank entry =
+    if nat_lt 0 entry.number then 2 * entry.number + (if nat_lt 0 entry.lifetime then 0 else 1)
+    else 0

@@ -12,8 +12,8 @@ later n (Some place) = Some (n + place)
 -- the octet of two hex digits, or how many of the two are digits before the first that is none
 abbrev pub pair_of : ℕ → ℕ → Result ℕ ℕ
 pair_of high low =
-    if nat_lt (digit_value high) 16
-    then (if nat_lt (digit_value low) 16 then Ok (16 * digit_value high + digit_value low) else Err 1)
+    if nat_lt (digit_value high) 16 then
+    (if nat_lt (digit_value low) 16 then Ok (16 * digit_value high + digit_value low) else Err 1)
     else Err 0
 
 -- where an octet's two digits don't fit, and where what follows them doesn't
@@ -31,7 +31,8 @@ unfoldable pub misfit_of : List Part → List ℕ → Option ℕ
 misfit_of [] [] = None
 misfit_of [] (byte ∷ text) = Some 0
 misfit_of (Mark mark ∷ parts) [] = Some 0
-misfit_of (Mark mark ∷ parts) (byte ∷ text) = if byte == mark then later 1 (misfit_of parts text) else Some 0
+misfit_of (Mark mark ∷ parts) (byte ∷ text) =
+    if byte == mark then later 1 (misfit_of parts text) else Some 0
 misfit_of (Octet ∷ parts) [] = Some 0
 misfit_of (Octet ∷ parts) (high ∷ []) = if nat_lt (digit_value high) 16 then Some 1 else Some 0
 misfit_of (Octet ∷ parts) (high ∷ low ∷ text) = after_pair (pair_of high low) (misfit_of parts text)
@@ -43,7 +44,8 @@ octets_of (Mark mark ∷ parts) [] = []
 octets_of (Mark mark ∷ parts) (byte ∷ text) = octets_of parts text
 octets_of (Octet ∷ parts) [] = []
 octets_of (Octet ∷ parts) (high ∷ []) = []
-octets_of (Octet ∷ parts) (high ∷ low ∷ text) = before_octets (pair_of high low) (octets_of parts text)
+octets_of (Octet ∷ parts) (high ∷ low ∷ text) =
+    before_octets (pair_of high low) (octets_of parts text)
 
 abbrev pub unless_misfit : Option ℕ → List ℕ → Option (List ℕ)
 unless_misfit None octets = Some octets

@@ -19,8 +19,9 @@ type_number (kind.Psnp level.Two) = 27
 -- the nine types
 abbrev pub kinds : List PduKind
 kinds =
-    kind.LanHello level.One ∷ kind.LanHello level.Two ∷ kind.PointHello ∷ kind.Lsp level.One ∷ kind.Lsp level.Two
-    ∷ kind.Csnp level.One ∷ kind.Csnp level.Two ∷ kind.Psnp level.One ∷ kind.Psnp level.Two ∷ []
+    kind.LanHello level.One ∷ kind.LanHello level.Two ∷ kind.PointHello
+    ∷ kind.Lsp level.One ∷ kind.Lsp level.Two ∷ kind.Csnp level.One ∷ kind.Csnp level.Two
+    ∷ kind.Psnp level.One ∷ kind.Psnp level.Two ∷ []
 
 -- the type of a number (ISO 10589 9)
 unfoldable pub kind_of_number : ℕ → Option PduKind
@@ -38,6 +39,7 @@ header_length (kind.Lsp level) = 27
 header_length (kind.Csnp level) = 33
 header_length (kind.Psnp level) = 17
 
+-- whether PDUs of a type are hellos (ISO 10589 9.5 to 9.7)
 abbrev pub is_hello : PduKind → Bool
 is_hello (kind.LanHello level) = true
 is_hello kind.PointHello = true

@@ -11,20 +11,21 @@ pub struct AreaAddress {
 }
 
 impl Model for AreaAddress {
-    ghost use Rattle.std.specs.Prelude.{ℕ, List, ◌++◌, ◌-◌, take, length, replicate};
+    ghost use Rattle.std.specs.Prelude.{ℕ, List, take, length};
     ghost use Rattle.std.specs.Coded.{coded_list, coded_ℕ};
 
     ghost Value = { List ℕ };
 
-    ghost use Rattle.isis_base.specs.Areas.{IsPadded, padded-again};
+    ghost use Rattle.isis_base.specs.Areas.{IsPadded, padded, padded-whole};
 
     ghost view = { λ a. take a.count a.octets };
 
     ghost invariant = { λ a. IsPadded a.count a.octets };
 
-    ghost inverse = { λ octets. record { count = length octets; octets = octets ++ replicate (13 - length octets) 0 } };
+    ghost inverse = { λ octets. record { count = length octets; octets = padded octets } };
 
-    ghost inverse_ok = { λ a h. λ i. record { count = (padded-again a.count a.octets h).0 i; octets = (padded-again a.count a.octets h).1 i } };
+    ghost inverse_ok = { λ a h. λ i.
+        let whole = padded-whole a.count a.octets h in record { count = whole.0 i; octets = whole.1 i } };
 }
 
 impl AreaAddress {

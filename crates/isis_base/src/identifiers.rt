@@ -1,3 +1,5 @@
+//! System IDs, SNPAs, node IDs and LSP IDs.
+
 /// The ID of a system (ISO 10589 7.1.4), in six octets.
 #[derive(Clone, Copy, Debug, PartialEq, Eq, PartialOrd, Ord, Hash)]
 pub struct SystemId(pub [u8; 6]);

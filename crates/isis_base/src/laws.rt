@@ -31,7 +31,8 @@ use crate::prefix::Prefix;
 pub fn system_text_laws(a: SystemId, b: SystemId)
     ensures written { Spells SYSTEM_TEXT (system_text a) a.0 }
     ensures read { option_map system_from (text_octets SYSTEM_TEXT (system_text a)) ≡ Some a }
-    ensures one { (text : List ℕ) → Spells SYSTEM_TEXT text a.0 → Spells SYSTEM_TEXT text b.0 → a ≡ b }
+    ensures one { (text : List ℕ) → Spells SYSTEM_TEXT text a.0 → Spells SYSTEM_TEXT text b.0
+        → a ≡ b }
 {
     let _octets = octets_of_system(a);
 }
@@ -39,7 +40,8 @@ pub fn system_text_laws(a: SystemId, b: SystemId)
 /// What Display writes of an SNPA spells it, and a text spells one SNPA.
 pub fn snpa_text_laws(a: Snpa, b: Snpa)
     ensures written { Spells SYSTEM_TEXT (snpa_text a) a.0 }
-    ensures one { (text : List ℕ) → Spells SYSTEM_TEXT text a.0 → Spells SYSTEM_TEXT text b.0 → a ≡ b }
+    ensures one { (text : List ℕ) → Spells SYSTEM_TEXT text a.0 → Spells SYSTEM_TEXT text b.0
+        → a ≡ b }
 {
     let _octets = octets_of_system(SystemId(a.0));
 }
@@ -47,7 +49,8 @@ pub fn snpa_text_laws(a: Snpa, b: Snpa)
 /// What Display writes of a node ID spells it, and a text spells one node ID.
 pub fn node_text_laws(a: NodeId, b: NodeId)
     ensures written { Spells NODE_TEXT (node_text a) (node_octets a) }
-    ensures one { (text : List ℕ) → Spells NODE_TEXT text (node_octets a) → Spells NODE_TEXT text (node_octets b) → a ≡ b }
+    ensures one { (text : List ℕ) → Spells NODE_TEXT text (node_octets a)
+        → Spells NODE_TEXT text (node_octets b) → a ≡ b }
 {
     let _octets = octets_of_lsp(LspId { node: a, number: 0 });
 }
@@ -56,7 +59,8 @@ pub fn node_text_laws(a: NodeId, b: NodeId)
 pub fn lsp_text_laws(a: LspId, b: LspId)
     ensures written { Spells LSP_TEXT (lsp_text a) (lsp_octets a) }
     ensures read { option_map lsp_from (text_octets LSP_TEXT (lsp_text a)) ≡ Some a }
-    ensures one { (text : List ℕ) → Spells LSP_TEXT text (lsp_octets a) → Spells LSP_TEXT text (lsp_octets b) → a ≡ b }
+    ensures one { (text : List ℕ) → Spells LSP_TEXT text (lsp_octets a)
+        → Spells LSP_TEXT text (lsp_octets b) → a ≡ b }
 {
     let _octets = octets_of_lsp(a);
 }
@@ -72,9 +76,12 @@ pub fn area_text_laws(area: AreaAddress)
 
 /// What Display writes of a prefix spells it and is read as it, and a text spells one prefix.
 pub fn prefix_text_laws(prefix: Prefix)
-    ensures written { SpellsPrefix (prefix_text prefix.address prefix.length) prefix.address prefix.length }
-    ensures read { prefix_parts (prefix_text prefix.address prefix.length) ≡ Some (prefix.address, prefix.length) }
-    ensures one { (text : List ℕ) (a b c d : ℕ) → SpellsPrefix text a b → SpellsPrefix text c d → (a ≡ c) × (b ≡ d) }
+    ensures written { let text = prefix_text prefix.address prefix.length in
+        SpellsPrefix text prefix.address prefix.length }
+    ensures read { prefix_parts (prefix_text prefix.address prefix.length)
+        ≡ Some (prefix.address, prefix.length) }
+    ensures one { (text : List ℕ) (a b c d : ℕ) → SpellsPrefix text a b → SpellsPrefix text c d
+        → (a ≡ c) × (b ≡ d) }
 {
     let _address = prefix.address();
 }
@@ -147,7 +154,8 @@ pub fn level_order_law()
 /// The marks of identifiers' texts: dots (46) between groups of two octets and before a pseudonode's octet, a hyphen (45)
 /// before an LSP's number.
 pub fn text_form_laws()
-    ensures system { SYSTEM_TEXT ≡ Octet ∷ Octet ∷ Mark 46 ∷ Octet ∷ Octet ∷ Mark 46 ∷ Octet ∷ Octet ∷ [] }
+    ensures system { SYSTEM_TEXT
+        ≡ Octet ∷ Octet ∷ Mark 46 ∷ Octet ∷ Octet ∷ Mark 46 ∷ Octet ∷ Octet ∷ [] }
     ensures node { NODE_TEXT ≡ SYSTEM_TEXT ++ Mark 46 ∷ Octet ∷ [] }
     ensures lsp { LSP_TEXT ≡ NODE_TEXT ++ Mark 45 ∷ Octet ∷ [] }
 {}

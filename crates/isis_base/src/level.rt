@@ -1,3 +1,5 @@
+//! Levels, sets of levels, and kinds of circuits.
+
 /// A level of routing (ISO 10589 6.2).
 #[derive(Clone, Copy, Debug, PartialEq, Eq, PartialOrd, Ord, Hash)]
 pub enum Level {

@@ -2,7 +2,7 @@
 //!
 //! Octet counts and layouts are those of ISO 10589 9; the order of keys is that of ISO 10589 7.3.16.
 //! Texts are the usual ones of the field, with lower-case hex digits; upper case is read too.
-//! Only the calls of `Octets` that grow or copy a list take memory.
+//! Only the calls of `Octets` that grow or copy a list take memory, and so do the writers, which put texts behind one.
 //!
 //! - `octets.rt`: a growing list of octets
 //! - `memory.rt`: the error for want of memory

@@ -40,7 +40,8 @@ fn pair_value(high: u8, low: u8) -> Result<u8, usize>
 pub fn read_parts(octets: &mut [u8], text: &[u8], parts: &[Part]) -> Option<usize>
     requires { octet_count parts.now ≤ length octets.old }
     ensures place { result ≡ misfit_of parts.now text.now }
-    ensures octets { IfNone result (take (octet_count parts.now) octets.new ≡ octets_of parts.now text.now) }
+    ensures octets { IfNone result
+        (take (octet_count parts.now) octets.new ≡ octets_of parts.now text.now) }
 {
     let (mut rest, mut left) = (text, parts);
     let (mut at, mut count) = (0usize, 0usize);

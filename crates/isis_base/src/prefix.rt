@@ -14,7 +14,8 @@ impl Prefix {
     /// `None` exactly where the length is above 32, or a bit of the address past it is set.
     pub fn new(address: u32, length: u8) -> Option<Prefix>
         ensures some { IsSome result ↔ ((length ≤ 32) × (address % 2 ^ (32 - length) ≡ 0)) }
-        ensures value { IfSome result (λ prefix. (prefix.address ≡ address) × (prefix.length ≡ length)) }
+        ensures value { IfSome result (λ prefix.
+            (prefix.address ≡ address) × (prefix.length ≡ length)) }
     {
         if length > 32 {
             return None;

@@ -113,7 +113,8 @@ impl Front {
     #[tactic(auto, unfolding(crate::specs::PrefixFronts::address_of))]
     fn prefix(self) -> Option<Prefix>
         ensures none { IsNone result → ends_prefix self ≡ false }
-        ensures some { IfSome result (λ prefix. (ends_prefix self ≡ true) × (prefix.address ≡ address_of self.octets) × (Some prefix.length ≡ self.number)) }
+        ensures some { IfSome result (λ prefix.
+            (ends_prefix self ≡ true) × (prefix.address ≡ address_of self.octets) × (Some prefix.length ≡ self.number)) }
     {
         let length = self.number?;
         if self.count < 4 {

@@ -78,7 +78,8 @@ pub const LSP_TEXT: [Part; 12] = [
 #[tactic(auto, unfolding(crate::specs::Misfit::text_octets))]
 pub fn read_system(text: &str) -> Result<SystemId, TextFault>
     ensures ok { IfOk result (λ system. Spells SYSTEM_TEXT text.now system.0) }
-    ensures read { (octets : List ℕ) → Spells SYSTEM_TEXT text.now octets → result ≡ Ok (system_from octets) }
+    ensures read { (octets : List ℕ) → Spells SYSTEM_TEXT text.now octets
+        → result ≡ Ok (system_from octets) }
     ensures value { result_ok result ≡ option_map system_from (text_octets SYSTEM_TEXT text.now) }
     ensures err { IfErr result (λ fault. IsFaultAt (HasForm SYSTEM_TEXT) text.now fault.place) }
 {
@@ -93,7 +94,8 @@ pub fn read_system(text: &str) -> Result<SystemId, TextFault>
 #[tactic(auto, unfolding(crate::specs::Misfit::text_octets))]
 pub fn read_lsp_id(text: &str) -> Result<LspId, TextFault>
     ensures ok { IfOk result (λ id. Spells LSP_TEXT text.now (lsp_octets id)) }
-    ensures read { (octets : List ℕ) → Spells LSP_TEXT text.now octets → result ≡ Ok (lsp_from octets) }
+    ensures read { (octets : List ℕ) → Spells LSP_TEXT text.now octets
+        → result ≡ Ok (lsp_from octets) }
     ensures value { result_ok result ≡ option_map lsp_from (text_octets LSP_TEXT text.now) }
     ensures err { IfErr result (λ fault. IsFaultAt (HasForm LSP_TEXT) text.now fault.place) }
 {
