@@ -32,15 +32,18 @@ HasPurgeBody pdu header = IsTrue (is_purge pdu) × Any (λ tlv. tlv.code ≢ 10)
 -- its first TLV of code 10 has the digest of the PDU under the key, and it is no purge with a body (RFC 5304 2)
 abbrev pub IsAuthentic : List ℕ → List ℕ → ℕ → Type 0
 IsAuthentic key pdu header =
-    IsSomeAnd (auth_tlv pdu header) (λ tlv. IsHmac tlv × HasDigest key pdu (tlv.place + 3)) × ¬ HasPurgeBody pdu header
+    IsSomeAnd (auth_tlv pdu header) (λ tlv. IsHmac tlv × HasDigest key pdu (tlv.place + 3))
+    × ¬ HasPurgeBody pdu header
 
 -- when each fault comes; no two come together (RFC 5304 2, and of the order: own)
 abbrev pub AuthCause : List ℕ → List ℕ → ℕ → AuthFault → Type 0
 AuthCause key pdu header Missing = auth_tlv pdu header ≡ None
 AuthCause key pdu header OtherType = IsSomeAnd (auth_tlv pdu header) (λ tlv. ¬ IsHmac tlv)
-AuthCause key pdu header PurgeBody = IsSomeAnd (auth_tlv pdu header) IsHmac × HasPurgeBody pdu header
+AuthCause key pdu header PurgeBody =
+    IsSomeAnd (auth_tlv pdu header) IsHmac × HasPurgeBody pdu header
 AuthCause key pdu header Wrong =
-    IsSomeAnd (auth_tlv pdu header) (λ tlv. IsHmac tlv × ¬ HasDigest key pdu (tlv.place + 3)) × ¬ HasPurgeBody pdu header
+    IsSomeAnd (auth_tlv pdu header) (λ tlv. IsHmac tlv × ¬ HasDigest key pdu (tlv.place + 3))
+    × ¬ HasPurgeBody pdu header
 
 -- ---- the same as functions
 
@@ -48,7 +51,8 @@ AuthCause key pdu header Wrong =
 abbrev pub place_in : Option TlvView → Result ℕ AuthFault
 place_in None = Err Missing
 place_in (Some tlv) =
-    if (length tlv.value == 17) && (slice_index tlv.value 0 == 54) then Ok (tlv.place + 3) else Err OtherType
+    if (length tlv.value == 17) && (slice_index tlv.value 0 == 54)
+    then Ok (tlv.place + 3) else Err OtherType
 
 unfoldable pub digest_place : List ℕ → ℕ → Result ℕ AuthFault
 digest_place pdu header = place_in (auth_tlv pdu header)

@@ -17,7 +17,8 @@ use crate::place::{digest_place, has_others};
 pub fn check_pdu(key: &[u8], pdu: &[u8], header: usize) -> Result<(), AuthFault>
     requires { IsPdu pdu.now header }
     ensures ok { IsOk result ↔ IsAuthentic key.now pdu.now header }
-    ensures err { (fault : AuthFault) → (result ≡ Err fault) ↔ AuthCause key.now pdu.now header fault }
+    ensures err { (fault : AuthFault) → (result ≡ Err fault)
+        ↔ AuthCause key.now pdu.now header fault }
     ensures value { result_err result ≡ auth_fault key.now pdu.now header }
 {
     let at = digest_place(pdu, header)?;

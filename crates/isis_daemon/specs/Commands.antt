@@ -7,5 +7,7 @@ use Rattle.isis_daemon.specs.declared.command.Command.TheVariants.{Lab, Show}
 -- one word, `lab` or `show`
 abbrev pub command_of : List (List ℕ) → Option Command
 command_of [] = None
-command_of (word ∷ []) = if bytes_eq word (codes "lab") then Some Lab else if bytes_eq word (codes "show") then Some Show else None
+command_of (word ∷ []) =
+    if bytes_eq word (codes "lab") then Some Lab else if bytes_eq word (codes "show")
+    then Some Show else None
 command_of (word ∷ next ∷ words) = None

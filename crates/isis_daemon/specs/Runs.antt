@@ -19,7 +19,8 @@ input_limit = 16777216
 -- the text that a command makes of an input, or what refuses it: of a script its report, and of other input the fields
 -- of its PDUs
 abbrev pub text_of : Command → List ℕ → Result (List ℕ) ScriptFault
-text_of Lab input = script_of input >>= λ script. end_of script >>= λ net. Ok (report_of_net script.routers net)
+text_of Lab input =
+    script_of input >>= λ script. end_of script >>= λ net. Ok (report_of_net script.routers net)
 text_of Show input = Ok (shown_text input)
 
 -- the text, where there is one
@@ -35,17 +36,25 @@ IsReadWhole input left = (length input ≤ input_limit) × (left ≡ Some [])
 -- whole text, a prefix of it, or no more than before
 abbrev pub Ends : Command → (input left before now : Option (List ℕ)) → Status → Type 0
 Ends command input left before now status.Done =
-    IfSome input (λ octets. IsReadWhole octets left × IsOkAnd (text_of command octets) (Wrote before now))
+    IfSome input (λ octets. IsReadWhole octets left
+    × IsOkAnd (text_of command octets) (Wrote before now))
 Ends command input left before now status.Usage = ⊥
 Ends command input left before now (status.ScriptRefused line reason) =
-    (command ≡ Lab) × IfSome input (λ octets. IsReadWhole octets left × (text_of command octets ≡ Err (Refused line reason))) × Stays before now
+    (command ≡ Lab)
+    × IfSome input (λ octets. IsReadWhole octets left
+    × (text_of command octets ≡ Err (Refused line reason))) × Stays before now
 Ends command input left before now status.ReadFault = Stays before now
 Ends command input left before now status.WriteFault =
-    IfSome input (λ octets. IsReadWhole octets left × IsOkAnd (text_of command octets) (WrotePrefix before now))
-Ends command input left before now status.TooLong = IfSome input (λ octets. input_limit < length octets) × Stays before now
-Ends command input left before now status.OutOfMemory = IfSome input (λ octets. WrotePrefix before now (told_text (text_of command octets)))
+    IfSome input (λ octets. IsReadWhole octets left
+    × IsOkAnd (text_of command octets) (WrotePrefix before now))
+Ends command input left before now status.TooLong =
+    IfSome input (λ octets. input_limit < length octets) × Stays before now
+Ends command input left before now status.OutOfMemory =
+    IfSome input (λ octets. WrotePrefix before now (told_text (text_of command octets)))
 Ends command input left before now (status.LabLimit which) =
-    (command ≡ Lab) × IfSome input (λ octets. IsReadWhole octets left × (text_of command octets ≡ Err (Limit which))) × Stays before now
+    (command ≡ Lab)
+    × IfSome input (λ octets. IsReadWhole octets left
+    × (text_of command octets ≡ Err (Limit which))) × Stays before now
 
 -- an input that a command takes to its end
 abbrev pub IsTaken : Command → List ℕ → Type 0

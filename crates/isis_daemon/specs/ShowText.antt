@@ -29,9 +29,11 @@ by_level level.Two one two = two
 
 -- the word of a PDU's type (own)
 abbrev pub type_word : PduView → List ℕ
-type_word (LanHello level circuit_type source holding priority lan tlvs) = by_level level (codes "l1-lan-hello") (codes "l2-lan-hello")
+type_word (LanHello level circuit_type source holding priority lan tlvs) =
+    by_level level (codes "l1-lan-hello") (codes "l2-lan-hello")
 type_word (PointHello circuit_type source holding circuit tlvs) = codes "p2p-hello"
-type_word (Lsp level lifetime id number checksum flags tlvs) = by_level level (codes "l1-lsp") (codes "l2-lsp")
+type_word (Lsp level lifetime id number checksum flags tlvs) =
+    by_level level (codes "l1-lsp") (codes "l2-lsp")
 type_word (Csnp level source start end tlvs) = by_level level (codes "l1-csnp") (codes "l2-csnp")
 type_word (Psnp level source tlvs) = by_level level (codes "l1-psnp") (codes "l2-psnp")
 
@@ -46,7 +48,8 @@ checksum_word lifetime checksum octets =
 -- the fields that both kinds of hellos have
 abbrev pub hello_text : LevelSet → SystemId → ℕ → List ℕ
 hello_text circuit_type source holding =
-    codes " circuit " ++ levels_text circuit_type ++ codes " source " ++ system_text source ++ codes " holding " ++ decimal holding
+    codes " circuit " ++ levels_text circuit_type ++ codes " source " ++ system_text source
+    ++ codes " holding " ++ decimal holding
 
 -- two octets in hex
 unfoldable pub hex_field : ℕ → List ℕ
@@ -55,19 +58,23 @@ hex_field number = flat_map hex_pair (u16_octets number)
 -- the last fields of an LSP
 abbrev pub checksum_text : ℕ → ℕ → ℕ → List ℕ → List ℕ
 checksum_text lifetime checksum flags octets =
-    codes " checksum " ++ hex_field checksum ++ codes " " ++ checksum_word lifetime checksum octets ++ codes " flags " ++ hex_pair flags
+    codes " checksum " ++ hex_field checksum ++ codes " " ++ checksum_word lifetime checksum octets
+    ++ codes " flags " ++ hex_pair flags
 
 -- the fields of a PDU whose octets these are, from the first to the PDU length (own)
 abbrev pub fields_text : PduView → List ℕ → List ℕ
 fields_text (LanHello level circuit_type source holding priority lan tlvs) octets =
-    hello_text circuit_type source holding ++ codes " priority " ++ decimal priority ++ codes " lan " ++ node_text lan
+    hello_text circuit_type source holding ++ codes " priority " ++ decimal priority
+    ++ codes " lan " ++ node_text lan
 fields_text (PointHello circuit_type source holding circuit tlvs) octets =
     hello_text circuit_type source holding ++ codes " id " ++ decimal circuit
 fields_text (Lsp level lifetime id number checksum flags tlvs) octets =
-    codes " lifetime " ++ decimal lifetime ++ codes " id " ++ lsp_text id ++ codes " number " ++ decimal number
+    codes " lifetime " ++ decimal lifetime ++ codes " id " ++ lsp_text id ++ codes " number "
+    ++ decimal number
     ++ checksum_text lifetime checksum flags octets
 fields_text (Csnp level source start end tlvs) octets =
-    codes " source " ++ node_text source ++ codes " start " ++ lsp_text start ++ codes " end " ++ lsp_text end
+    codes " source " ++ node_text source ++ codes " start " ++ lsp_text start ++ codes " end "
+    ++ lsp_text end
 fields_text (Psnp level source tlvs) octets = codes " source " ++ node_text source
 
 -- the first words of each line of a PDU, and of a fault
@@ -76,7 +83,9 @@ start_text number = codes "pdu " ++ decimal number ++ codes " "
 
 -- `tlv CODE at PLACE length L`, and LF; the place is that of the code, counted from the PDU's first octet (own)
 abbrev pub tlv_line : TlvView → List ℕ
-tlv_line tlv = codes "tlv " ++ decimal tlv.code ++ codes " at " ++ decimal tlv.place ++ codes " length " ++ decimal (length tlv.value) ++ 10 ∷ []
+tlv_line tlv =
+    codes "tlv " ++ decimal tlv.code ++ codes " at " ++ decimal tlv.place ++ codes " length "
+    ++ decimal (length tlv.value) ++ 10 ∷ []
 
 -- the TLVs of a PDU, with their places in it
 abbrev pub pdu_tlvs : PduView → List TlvView
@@ -84,12 +93,15 @@ pdu_tlvs pdu = tlv_list (header_length (kind_of pdu)) (tlvs_of_pdu pdu)
 
 -- the first line of a PDU up to the count of its TLVs
 unfoldable pub head_text : ℕ → PduView → List ℕ → List ℕ
-head_text number pdu octets = start_text number ++ type_word pdu ++ codes " length " ++ decimal (length octets) ++ fields_text pdu octets
+head_text number pdu octets =
+    start_text number ++ type_word pdu ++ codes " length " ++ decimal (length octets)
+    ++ fields_text pdu octets
 
 -- the lines of a PDU whose octets these are: its fields and the count of its TLVs, then a line for each TLV (own)
 abbrev pub pdu_lines : ℕ → PduView → List ℕ → List ℕ
 pdu_lines number pdu octets =
-    head_text number pdu octets ++ codes " tlvs " ++ decimal (length (pdu_tlvs pdu)) ++ 10 ∷ [] ++ flat_map tlv_line (pdu_tlvs pdu)
+    head_text number pdu octets ++ codes " tlvs " ++ decimal (length (pdu_tlvs pdu)) ++ 10 ∷ []
+    ++ flat_map tlv_line (pdu_tlvs pdu)
 
 -- the word of a fault of octets
 abbrev pub kind_word : PduFaultKind → List ℕ
@@ -106,7 +118,8 @@ kind_word Tlv = codes "Tlv"
 
 -- `pdu N fault KIND PLACE`, and LF (own)
 abbrev pub fault_line : ℕ → List ℕ → ℕ → List ℕ
-fault_line number kind place = start_text number ++ codes "fault " ++ kind ++ codes " " ++ decimal place ++ 10 ∷ []
+fault_line number kind place =
+    start_text number ++ codes "fault " ++ kind ++ codes " " ++ decimal place ++ 10 ∷ []
 
 -- what octets are shown as: the PDU they begin with, or its fault; octets past the PDU length aren't looked at
 abbrev pub octets_lines : ℕ → List ℕ → Result (PduView × ℕ) PduFault → List ℕ
@@ -123,7 +136,8 @@ misfit_place size OutOfMemory = size
 
 abbrev pub hex_lines : ℕ → List ℕ → Result (List ℕ) FromHexError → List ℕ
 hex_lines number line (Ok octets) = octets_lines number octets (decoded octets)
-hex_lines number line (Err error) = fault_line number (codes "Hex") (misfit_place (length line) error)
+hex_lines number line (Err error) =
+    fault_line number (codes "Hex") (misfit_place (length line) error)
 
 -- what a line of the input is shown as: nothing where it is empty, else the PDU of its hex text (own)
 unfoldable pub shown_line : ℕ → List ℕ → List ℕ

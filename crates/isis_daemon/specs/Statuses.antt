@@ -52,7 +52,8 @@ status_code (LabLimit which) = 10
 abbrev pub status_line : Status → List ℕ
 status_line Done = codes "isis: done"
 status_line Usage = codes "isis: usage"
-status_line (ScriptRefused line reason) = codes "isis: line " ++ decimal line ++ codes " " ++ reason_word reason
+status_line (ScriptRefused line reason) =
+    codes "isis: line " ++ decimal line ++ codes " " ++ reason_word reason
 status_line ReadFault = codes "isis: read fault"
 status_line WriteFault = codes "isis: write fault"
 status_line TooLong = codes "isis: input too long"

@@ -26,13 +26,16 @@ pub fn run<I: Source, O: Sink>(
         → (I.left input.new ≡ I.left input.old) × (I.faults input.new ≡ I.faults input.old) × (result.0 ≡ output) }
     ensures ends { IfSome (command_of (map string_bytes words.now))
         (λ command. Ends command (I.left input.old) (I.left input.new) (O.held output) (O.held result.0) result.1) }
-    ensures read_fault { result.1 ≡ Status.ReadFault → Rose (I.faults input.old) (I.faults input.new) }
-    ensures write_fault { result.1 ≡ Status.WriteFault → Rose (O.faults output) (O.faults result.0) }
+    ensures read_fault { result.1 ≡ Status.ReadFault
+        → Rose (I.faults input.old) (I.faults input.new) }
+    ensures write_fault { result.1 ≡ Status.WriteFault
+        → Rose (O.faults output) (O.faults result.0) }
     ensures complete { IfSome (command_of (map string_bytes words.now))
         (λ command. IsSomeAnd (I.left input.old) (IsTaken command)
         → ¬ Rose (I.faults input.old) (I.faults input.new) → ¬ Rose (O.faults output) (O.faults result.0)
         → IsDoneUnlessMemory result.1) }
-    ensures later { (I.faults input.old ≤ I.faults input.new) × (O.faults output ≤ O.faults result.0) }
+    ensures later { (I.faults input.old ≤ I.faults input.new)
+        × (O.faults output ≤ O.faults result.0) }
 {
     let Some(command) = command_of(words) else {
         return (output, Status::Usage);
@@ -49,13 +52,17 @@ pub(crate) fn execute<I: Source, O: Sink>(
     input: &mut I,
     output: &mut O,
 ) -> Status
-    ensures ends { Ends command (I.left input.old) (I.left input.new) (O.held output.old) (O.held output.new) result }
-    ensures read_fault { result ≡ Status.ReadFault → Rose (I.faults input.old) (I.faults input.new) }
-    ensures write_fault { result ≡ Status.WriteFault → Rose (O.faults output.old) (O.faults output.new) }
+    ensures ends { Ends command (I.left input.old) (I.left input.new) (O.held output.old)
+        (O.held output.new) result }
+    ensures read_fault { result ≡ Status.ReadFault
+        → Rose (I.faults input.old) (I.faults input.new) }
+    ensures write_fault { result ≡ Status.WriteFault
+        → Rose (O.faults output.old) (O.faults output.new) }
     ensures complete { IsSomeAnd (I.left input.old) (IsTaken command)
         → ¬ Rose (I.faults input.old) (I.faults input.new) → ¬ Rose (O.faults output.old) (O.faults output.new)
         → IsDoneUnlessMemory result }
-    ensures later { (I.faults input.old ≤ I.faults input.new) × (O.faults output.old ≤ O.faults output.new) }
+    ensures later { (I.faults input.old ≤ I.faults input.new)
+        × (O.faults output.old ≤ O.faults output.new) }
 {
     let octets = match read_whole(alloc, input, INPUT_LIMIT) {
         Ok(octets) => octets,
@@ -70,9 +77,11 @@ pub(crate) fn execute<I: Source, O: Sink>(
 /// Plays a script, and writes its report.
 fn lab<O: Sink>(alloc: Global, text: &[u8], output: &mut O) -> Status
     requires { length text.now ≤ input_limit }
-    ensures ends { Ends Command.Lab (Some text.now) (Some []) (O.held output.old) (O.held output.new) result }
+    ensures ends { Ends Command.Lab (Some text.now) (Some []) (O.held output.old)
+        (O.held output.new) result }
     ensures read { ¬ (result ≡ Status.ReadFault) }
-    ensures write_fault { result ≡ Status.WriteFault → Rose (O.faults output.old) (O.faults output.new) }
+    ensures write_fault { result ≡ Status.WriteFault
+        → Rose (O.faults output.old) (O.faults output.new) }
     ensures later { O.faults output.old ≤ O.faults output.new }
 {
     let script = match read_script(alloc, text) {
@@ -88,9 +97,11 @@ fn lab<O: Sink>(alloc: Global, text: &[u8], output: &mut O) -> Status
 /// Writes the fields of the PDUs of an input.
 fn put_shown<O: Sink>(alloc: Global, input: &[u8], output: &mut O) -> Status
     requires { length input.now ≤ input_limit }
-    ensures ends { Ends Command.Show (Some input.now) (Some []) (O.held output.old) (O.held output.new) result }
+    ensures ends { Ends Command.Show (Some input.now) (Some []) (O.held output.old)
+        (O.held output.new) result }
     ensures read { ¬ (result ≡ Status.ReadFault) }
-    ensures write_fault { result ≡ Status.WriteFault → Rose (O.faults output.old) (O.faults output.new) }
+    ensures write_fault { result ≡ Status.WriteFault
+        → Rose (O.faults output.old) (O.faults output.new) }
     ensures later { O.faults output.old ≤ O.faults output.new }
 {
     let mut shown = Shown::new(alloc, input);

@@ -20,13 +20,17 @@ use std::alloc::Global;
 
 /// Reads lines of hex text, each one PDU, and writes their fields. Empty lines are skipped, but counted.
 pub fn show<I: Source, O: Sink>(alloc: Global, input: &mut I, output: &mut O) -> Status
-    ensures ends { Ends Command.Show (I.left input.old) (I.left input.new) (O.held output.old) (O.held output.new) result }
-    ensures read_fault { result ≡ Status.ReadFault → Rose (I.faults input.old) (I.faults input.new) }
-    ensures write_fault { result ≡ Status.WriteFault → Rose (O.faults output.old) (O.faults output.new) }
+    ensures ends { Ends Command.Show (I.left input.old) (I.left input.new) (O.held output.old)
+        (O.held output.new) result }
+    ensures read_fault { result ≡ Status.ReadFault
+        → Rose (I.faults input.old) (I.faults input.new) }
+    ensures write_fault { result ≡ Status.WriteFault
+        → Rose (O.faults output.old) (O.faults output.new) }
     ensures complete { IsSomeAnd (I.left input.old) (IsTaken Command.Show)
         → ¬ Rose (I.faults input.old) (I.faults input.new) → ¬ Rose (O.faults output.old) (O.faults output.new)
         → IsDoneUnlessMemory result }
-    ensures later { (I.faults input.old ≤ I.faults input.new) × (O.faults output.old ≤ O.faults output.new) }
+    ensures later { (I.faults input.old ≤ I.faults input.new)
+        × (O.faults output.old ≤ O.faults output.new) }
 {
     execute(alloc, Command::Show, input, output)
 }

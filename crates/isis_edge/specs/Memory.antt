@@ -37,5 +37,6 @@ after_read s got.Failed = record s { calls = counted s.calls; faults = counted s
 
 -- the sink after a write of the piece that did this (own)
 abbrev pub after_write : MemoryOutput → List ℕ → Put → MemoryOutput
-after_write s piece (put.Some count) = record s { held = s.held ++ take count piece; calls = counted s.calls }
+after_write s piece (put.Some count) =
+    record s { held = s.held ++ take count piece; calls = counted s.calls }
 after_write s piece put.Failed = record s { calls = counted s.calls; faults = counted s.faults }

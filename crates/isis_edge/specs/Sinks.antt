@@ -6,7 +6,8 @@ use Rattle.isis_edge.specs.Told.{Wrote, Stays}
 
 -- what a write says of the octets held before and now (own)
 abbrev pub Writes : Option (List ℕ) → Option (List ℕ) → Put → List ℕ → Type 0
-Writes before now (put.Some count) piece = (0 < count) × (count ≤ length piece) × Wrote before now (take count piece)
+Writes before now (put.Some count) piece =
+    (0 < count) × (count ≤ length piece) × Wrote before now (take count piece)
 Writes before now put.Failed piece = Stays before now
 
 -- the fact, where the write failed

@@ -6,7 +6,8 @@ use Rattle.isis_edge.specs.Told.{Took, Stays}
 
 -- what a read says of the octets left before and now, with the buffer as it now is (own)
 abbrev pub Reads : Option (List ℕ) → Option (List ℕ) → Got → List ℕ → Type 0
-Reads before now (got.Some count) buffer = (0 < count) × (count ≤ length buffer) × Took before now (take count buffer)
+Reads before now (got.Some count) buffer =
+    (0 < count) × (count ≤ length buffer) × Took before now (take count buffer)
 Reads before now got.End buffer = IfSome before (λ all. (all ≡ []) × (now ≡ Some []))
 Reads before now got.Failed buffer = Stays before now
 

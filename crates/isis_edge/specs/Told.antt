@@ -15,4 +15,6 @@ Stays before now = IfSome before (λ octets. now ≡ Some octets)
 
 -- the octets written behind those that were held are the first of a text (own)
 abbrev pub WrotePrefix : Option (List ℕ) → Option (List ℕ) → List ℕ → Type 0
-WrotePrefix before now text = IfSome before (λ held. (written rest : List ℕ) × (now ≡ Some (held ++ written)) × (written ++ rest ≡ text))
+WrotePrefix before now text =
+    IfSome before (λ held. (written rest : List ℕ) × (now ≡ Some (held ++ written))
+    × (written ++ rest ≡ text))

@@ -35,7 +35,8 @@ impl Model for MemorySink {
       faults = s.calls.faults;
     } };
 
-    ghost invariant = { λ s. (vec_len s.held ≤ s.room) × (s.room ≤ vec_capacity s.held) × (0 < s.piece) };
+    ghost invariant = { λ s. (vec_len s.held ≤ s.room) × (s.room ≤ vec_capacity s.held)
+        × (0 < s.piece) };
 }
 
 impl MemorySink {

@@ -41,7 +41,8 @@ impl MemorySource {
     /// from 1.
     pub fn new(octets: Octets, piece: usize, failing: Vec<u64>) -> MemorySource
         requires { 0 < piece }
-        ensures { result ≡ record { left = octets; piece = piece; failing = failing.items; calls = 0; faults = 0 } }
+        ensures { result
+            ≡ record { left = octets; piece = piece; failing = failing.items; calls = 0; faults = 0 } }
     {
         let calls = Calls {
             failing,

@@ -79,8 +79,10 @@ pub fn read_whole<I: Source>(
     ensures ok { IfOk result (λ octets. IfSome (I.left source.old)
         (λ all. (octets ≡ all) × (I.left source.new ≡ Some []))) }
     ensures within { IfOk result (λ octets. length octets ≤ limit) }
-    ensures too_long { result ≡ Err WholeFault.TooLong → IfSome (I.left source.old) (λ all. limit < length all) }
-    ensures fault { result ≡ Err WholeFault.Fault → Rose (I.faults source.old) (I.faults source.new) }
+    ensures too_long { result ≡ Err WholeFault.TooLong
+        → IfSome (I.left source.old) (λ all. limit < length all) }
+    ensures fault { result ≡ Err WholeFault.Fault
+        → Rose (I.faults source.old) (I.faults source.new) }
     ensures later { I.faults source.old ≤ I.faults source.new }
 
     // Nothing but want of memory stands in the way of an input that fits and is read without a fault.

@@ -60,8 +60,10 @@ pub fn write_text<T: Text, O: Sink>(
     output: &mut O,
 ) -> Result<(), TextFailed>
     ensures ok { OnOk result (Wrote (O.held output.old) (O.held output.new) (T.rest text.old)) }
-    ensures begun { OnErr result (WrotePrefix (O.held output.old) (O.held output.new) (T.rest text.old)) }
-    ensures cause { result ≡ Err TextFailed.Write → Rose (O.faults output.old) (O.faults output.new) }
+    ensures begun { OnErr result
+        (WrotePrefix (O.held output.old) (O.held output.new) (T.rest text.old)) }
+    ensures cause { result ≡ Err TextFailed.Write
+        → Rose (O.faults output.old) (O.faults output.new) }
     ensures later { O.faults output.old ≤ O.faults output.new }
     ensures complete { ¬ Rose (O.faults output.old) (O.faults output.new)
         → IsOkUnless result TextFailed.OutOfMemory }
@@ -88,7 +90,8 @@ fn settle<O: Sink>(page: &mut Octets, output: &mut O) -> Result<(), TextFailed>
     ensures ok { OnOk result ((front : List ℕ) × (front ++ page.new ≡ page.old)
         × Wrote (O.held output.old) (O.held output.new) front) }
     ensures begun { OnErr result (WrotePrefix (O.held output.old) (O.held output.new) page.old) }
-    ensures cause { result ≡ Err TextFailed.Write → Rose (O.faults output.old) (O.faults output.new) }
+    ensures cause { result ≡ Err TextFailed.Write
+        → Rose (O.faults output.old) (O.faults output.new) }
     ensures write { OnErr result (result ≡ Err TextFailed.Write) }
     ensures later { O.faults output.old ≤ O.faults output.new }
 {

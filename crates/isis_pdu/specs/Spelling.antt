@@ -29,12 +29,15 @@ levels_octet levels.Both = 3
 -- the octets of a header behind those, with the PDU length (ISO 10589 9.5 to 9.13)
 abbrev pub field_octets : PduView → ℕ → List ℕ
 field_octets (LanHello level circuit_type source holding priority lan tlvs) n =
-    levels_octet circuit_type ∷ [] ++ source.0 ++ u16_octets holding ++ u16_octets n ++ priority ∷ [] ++ node_octets lan
+    levels_octet circuit_type ∷ [] ++ source.0 ++ u16_octets holding ++ u16_octets n
+    ++ priority ∷ [] ++ node_octets lan
 field_octets (PointHello circuit_type source holding circuit tlvs) n =
     levels_octet circuit_type ∷ [] ++ source.0 ++ u16_octets holding ++ u16_octets n ++ circuit ∷ []
 field_octets (Lsp level lifetime id number checksum flags tlvs) n =
-    u16_octets n ++ u16_octets lifetime ++ lsp_octets id ++ u32_octets number ++ u16_octets checksum ++ flags ∷ []
-field_octets (Csnp level source start end tlvs) n = u16_octets n ++ node_octets source ++ lsp_octets start ++ lsp_octets end
+    u16_octets n ++ u16_octets lifetime ++ lsp_octets id ++ u32_octets number ++ u16_octets checksum
+    ++ flags ∷ []
+field_octets (Csnp level source start end tlvs) n =
+    u16_octets n ++ node_octets source ++ lsp_octets start ++ lsp_octets end
 field_octets (Psnp level source tlvs) n = u16_octets n ++ node_octets source
 
 -- the header, and the octets that are written
@@ -57,7 +60,8 @@ IsLspId id = IsNode id.node
 abbrev pub FieldsFit : PduView → Type 0
 FieldsFit (LanHello level circuit_type source holding priority lan tlvs) =
     (length source.0 ≡ 6) × (holding < 2 ^ 16) × (priority ≤ 127) × IsNode lan
-FieldsFit (PointHello circuit_type source holding circuit tlvs) = (length source.0 ≡ 6) × (holding < 2 ^ 16)
+FieldsFit (PointHello circuit_type source holding circuit tlvs) =
+    (length source.0 ≡ 6) × (holding < 2 ^ 16)
 FieldsFit (Lsp level lifetime id number checksum flags tlvs) =
     (lifetime < 2 ^ 16) × IsLspId id × (number < 2 ^ 32) × (checksum < 2 ^ 16)
 FieldsFit (Csnp level source start end tlvs) = IsNode source × IsLspId start × IsLspId end

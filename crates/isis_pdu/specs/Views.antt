@@ -20,8 +20,10 @@ pub data PduView : Type 0 where
 abbrev pub pdu_view : Pdu → PduView
 pdu_view (pdu.LanHello level circuit_type source holding priority lan tlvs) =
     LanHello level circuit_type source holding priority lan tlvs.now
-pdu_view (pdu.PointHello circuit_type source holding circuit tlvs) = PointHello circuit_type source holding circuit tlvs.now
-pdu_view (pdu.Lsp level lifetime id number checksum flags tlvs) = Lsp level lifetime id number checksum flags tlvs.now
+pdu_view (pdu.PointHello circuit_type source holding circuit tlvs) =
+    PointHello circuit_type source holding circuit tlvs.now
+pdu_view (pdu.Lsp level lifetime id number checksum flags tlvs) =
+    Lsp level lifetime id number checksum flags tlvs.now
 pdu_view (pdu.Csnp level source start end tlvs) = Csnp level source start end tlvs.now
 pdu_view (pdu.Psnp level source tlvs) = Psnp level source tlvs.now
 

@@ -11,7 +11,8 @@ ghost use Rattle.isis_pdu.specs.Spelling.{IsWritable, encoded_len, spelled};
 /// length back.
 pub fn round_trip_law()
     ensures sized { (pdu : PduView) → IsWritable pdu → length (spelled pdu) ≡ encoded_len pdu }
-    ensures begins { (pdu : PduView) (more : List ℕ) → IsWritable pdu → Begins (spelled pdu ++ more) pdu (encoded_len pdu) }
+    ensures begins { (pdu : PduView) (more : List ℕ) → IsWritable pdu
+        → Begins (spelled pdu ++ more) pdu (encoded_len pdu) }
 {}
 
 /// The octets of a PDU that was read are a header of its type and TLVs. So they are what authentication asks for.

@@ -17,7 +17,8 @@ use crate::pdu::Pdu;
 /// type's, the header is there, a hello's circuit type has a level, the PDU length fits, and what it holds behind the
 /// header are TLVs.
 pub fn decode(octets: &[u8]) -> Result<(Pdu<'_>, usize), PduFault>
-    ensures ok { (pdu : PduView) (n : ℕ) → (decoded_view result ≡ Ok (pdu, n)) ↔ Begins octets.now pdu n }
+    ensures ok { (pdu : PduView) (n : ℕ) → (decoded_view result ≡ Ok (pdu, n))
+        ↔ Begins octets.now pdu n }
     ensures err { result_err result ≡ first_fault octets.now }
     ensures value { decoded_view result ≡ decoded octets.now }
 {

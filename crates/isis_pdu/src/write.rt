@@ -24,7 +24,8 @@ pub fn encode(alloc: Global, pdu: &Pdu<'_>) -> Result<Octets, OutOfMemory>
     ensures sized { IfOk result (λ octets. length octets ≡ encoded_len (pdu_view pdu.now)) }
 
     // So `decode` gives the PDU and its length back, whatever follows.
-    ensures begins { IfOk result (λ octets. (more : List ℕ) → Begins (octets ++ more) (pdu_view pdu.now) (encoded_len (pdu_view pdu.now))) }
+    ensures begins { IfOk result (λ octets. (more : List ℕ)
+        → Begins (octets ++ more) (pdu_view pdu.now) (encoded_len (pdu_view pdu.now))) }
 {
     round_trip_law();
     let header = header_of(pdu);
@@ -64,7 +65,8 @@ fn add_start(draft: &mut Draft, kind: PduKind)
 /// Adds the fields that every hello begins with.
 fn add_hello(draft: &mut Draft, levels: LevelSet, source: SystemId, holding: u16, count: [u8; 2])
     requires { length draft.old + 11 ≤ 255 }
-    ensures octets { draft.new ≡ draft.old ++ levels_octet levels ∷ [] ++ source.0 ++ u16_octets holding ++ count }
+    ensures octets { draft.new ≡ draft.old ++ levels_octet levels ∷ [] ++ source.0
+        ++ u16_octets holding ++ count }
     ensures count { length draft.new ≡ length draft.old + 11 }
     ensures fit { (length source.0 ≡ 6) × (holding < 2 ^ 16) }
 {

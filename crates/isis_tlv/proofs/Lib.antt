@@ -6,3 +6,4 @@ pub mod PrefixLemmas
 pub mod ThreeWayLemmas
 pub mod TlvLemmas
 pub mod LengthLemmas
+mod StepLemmas

@@ -1,7 +1,7 @@
 -- Prefixes, read off the front of octets.
-use Rattle.std.proofs.Common.{◌≡◌, ℕ, zero, suc, ◌+◌, ◌-◌, ◌*◌, ◌/◌, ◌%◌, ◌^◌, ◌<◌, ◌≤◌, List, ◌++◌, length, take, drop, get_or, Bool, true, false, cond, leb, eqb, Option, Some, None, option_and_then, refl, sym, ap, subst, ◌∙◌, arith, length-append}
-use Rattle.std.proofs.lemmas.Bool.{le-leb, lt-leb}
-use Rattle.std.proofs.lemmas.List.{take_at, length-take-le}
+use Rattle.std.proofs.Common.{◌≡◌, ℕ, zero, suc, ◌+◌, ◌-◌, ◌*◌, ◌/◌, ◌%◌, ◌^◌, ◌<◌, ◌≤◌, List, ◌∷◌, ◌++◌, length, take, drop, get_or, Bool, true, false, cond, eqb, Option, Some, None, option_and_then, refl, sym, ap, subst, ◌∙◌, arith, length-append, append_assoc}
+use Rattle.std.proofs.lemmas.Bool.{lt-leb}
+use Rattle.std.proofs.lemmas.List.{take_at, length-take-le, get_or-append_right}
 use Rattle.std.proofs.lemmas.Nat.{shr_split, mod-pow-add}
 use Rattle.std.specs.Int.{bit_at}
 use Rattle.isis_base.specs.Fields.{u32_at, u32_octets}
@@ -10,7 +10,7 @@ use Rattle.isis_base.specs.declared.prefix.Prefix.{Prefix}
 use Rattle.isis_base.specs.Prefixes.{prefix_from}
 use Rattle.isis_base.proofs.PrefixValues.{prefix_from-prefix, prefix_from-long}
 use Rattle.isis_tlv.specs.declared.prefix.PrefixItem.{PrefixItem}
-use Rattle.isis_tlv.specs.Spelling.{prefix_octets}
+use Rattle.isis_tlv.specs.Spelling.{prefix_octets, prefix_with_subs}
 use Rattle.isis_tlv.specs.Fits.{IsPrefix}
 use Rattle.isis_tlv.proofs.RoundLemmas.{Again, sized-fits, four-again}
 
@@ -76,6 +76,51 @@ prefix-again item rest is =
     (ap (λ (a : ℕ). prefix_from a bits) address ∙ prefix_from-prefix prefix prefix.address bits refl refl)
     ∙ sized-fits {X = PrefixItem} (5 + count + 0) octets (record { prefix = prefix; metric = u32_at 0 octets; down = item.down }) (let all = length-append held rest in omega arith)
     ∙ (λ i. Some (record { prefix = prefix; metric = metric i; down = item.down }, 5 + count + 0))
+    ∙ ap (λ (n : ℕ). Some (item, n)) (omega arith)
+
+subs-there : (down : Bool) (bits : ℕ) → bits ≤ 32 → eqb (bit_at (cond down 128 0 + 64 + bits) 6) 1 ≡ true
+subs-there true bits h = let one : (128 + 64 + bits) / 64 % 2 ≡ 1 = omega arith in ap (λ (n : ℕ). eqb n 1) one
+subs-there false bits h = let one : (0 + 64 + bits) / 64 % 2 ≡ 1 = omega arith in ap (λ (n : ℕ). eqb n 1) one
+
+length-there : (down : Bool) (bits : ℕ) → bits ≤ 32 → (cond down 128 0 + 64 + bits) % 64 ≡ bits
+length-there true bits h = omega arith
+length-there false bits h = omega arith
+
+down-there : (down : Bool) (bits : ℕ) → bits ≤ 32 → eqb (bit_at (cond down 128 0 + 64 + bits) 7) 1 ≡ down
+down-there true bits h = let one : (128 + 64 + bits) / 128 % 2 ≡ 1 = omega arith in ap (λ (n : ℕ). eqb n 1) one
+down-there false bits h = let none : (0 + 64 + bits) / 128 % 2 ≡ 0 = omega arith in ap (λ (n : ℕ). eqb n 1) none
+
+-- a prefix with sub-TLVs reads as the prefix, whatever they are
+pub prefix-subs : (item : PrefixItem) (subs rest : List ℕ) → IsPrefix item → prefix_at (prefix_with_subs item subs ++ rest) ≡ Some (item, 6 + octets_for item.prefix.length + length subs)
+prefix-subs item subs rest is =
+    let prefix = item.prefix in
+    let bits = prefix.length in
+    let count = octets_for bits in
+    let held = take count (u32_octets prefix.address) in
+    let behind = length subs ∷ (subs ++ rest) in
+    let octets = u32_octets item.metric ++ (cond item.down 128 0 + 64 + bits) ∷ (held ++ behind) in
+    let same : prefix_with_subs item subs ++ rest ≡ octets = ap (λ (xs : List ℕ). u32_octets item.metric ++ (cond item.down 128 0 + 64 + bits) ∷ xs) (append_assoc held (length subs ∷ subs) rest) in
+    let within = prefix.fits in
+    let control = cond item.down 128 0 + 64 + bits in
+    let few : count ≤ 4 = omega arith in
+    let many : length held ≡ count = length-take-le count (u32_octets prefix.address) few in
+    let address : address_of bits (held ++ behind) ≡ prefix.address = ap (λ (s : List ℕ). cleared bits (u32_at 0 s)) (take_at held behind count many) ∙ address-again bits prefix.address prefix.fits is.address prefix.clear in
+    let metric = four-again item.metric is.metric in
+    let front = u32_octets item.metric ++ control ∷ held in
+    let place : 5 + count - (5 + count) ≡ 0 = omega arith in
+    let long : get_or octets (5 + count) 0 ≡ length subs = get_or-append_right front behind (5 + count) (5 + count) 0 (omega (arith, many)) (omega arith) ∙ ap (λ (i : ℕ). get_or behind i 0) place in
+    let size = 5 + count + (1 + length subs) in
+    let all = length-append held behind in
+    let more = length-append subs rest in
+    ap prefix_at same
+    ∙ ap (λ (n : ℕ). read_by octets n (eqb (bit_at control 6) 1) (eqb (bit_at control 7) 1)) (length-there item.down bits prefix.fits)
+    ∙ ap (λ (t : Bool). read_by octets bits t (eqb (bit_at control 7) 1)) (subs-there item.down bits prefix.fits)
+    ∙ ap (λ (t : Bool). read_by octets bits true t) (down-there item.down bits prefix.fits)
+    ∙ ap (λ (n : ℕ). option_and_then (λ (p : Prefix). sized {X = PrefixItem} (5 + count + (1 + n)) octets (record { prefix = p; metric = u32_at 0 octets; down = item.down })) (prefix_from (address_of bits (held ++ behind)) bits)) long
+    ∙ ap (option_and_then (λ (p : Prefix). sized {X = PrefixItem} size octets (record { prefix = p; metric = u32_at 0 octets; down = item.down })))
+    (ap (λ (a : ℕ). prefix_from a bits) address ∙ prefix_from-prefix prefix prefix.address bits refl refl)
+    ∙ sized-fits {X = PrefixItem} size octets (record { prefix = prefix; metric = u32_at 0 octets; down = item.down }) (omega arith)
+    ∙ (λ i. Some (record { prefix = prefix; metric = metric i; down = item.down }, size))
     ∙ ap (λ (n : ℕ). Some (item, n)) (omega arith)
 
 -- what is read, by the control octet and the length

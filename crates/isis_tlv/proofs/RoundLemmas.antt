@@ -54,7 +54,7 @@ of-six P p (a ∷ b ∷ c ∷ d ∷ e ∷ f ∷ g ∷ xs) h = absurd (omega arit
 two-again : (n : ℕ) → n < 65536 → 256 * (n / 256 % 256) + n % 256 ≡ n
 two-again n h = omega arith
 
-three-again : (n : ℕ) → n < 16777216 → 256 * (256 * (n / 65536 % 256) + n / 256 % 256) + n % 256 ≡ n
+pub three-again : (n : ℕ) → n < 16777216 → 256 * (256 * (n / 65536 % 256) + n / 256 % 256) + n % 256 ≡ n
 three-again n h = omega arith
 
 pub four-again : (n : ℕ) → n < 4294967296 → 256 * (256 * (256 * (n / 16777216 % 256) + n / 65536 % 256) + n / 256 % 256) + n % 256 ≡ n

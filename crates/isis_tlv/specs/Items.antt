@@ -1,5 +1,5 @@
 -- What the values of codes 1, 6, 9, 22, 135 and 240 read as.
-use Rattle.std.specs.Prelude.{ℕ, suc, zero, ◌+◌, ◌-◌, ◌*◌, ◌/◌, ◌%◌, ◌^◌, ◌≤◌, ◌==◌, ◌&&◌, nat_le, Bool, List, length, take, drop, slice_index, Option, Some, None, Result, if◌then◌else◌, option_and_then}
+use Rattle.std.specs.Prelude.{ℕ, suc, zero, ◌+◌, ◌-◌, ◌*◌, ◌/◌, ◌%◌, ◌^◌, ◌≤◌, ◌==◌, ◌&&◌, nat_le, List, [], ◌∷◌, length, take, drop, slice_index, Option, Some, None, Result, Err, if◌then◌else◌, option_and_then}
 use Rattle.std.specs.Option.{ok_or, IfSome}
 use Rattle.std.specs.Int.{bit_at}
 use Rattle.isis_base.specs.declared.identifiers.Snpa.{Snpa}
@@ -26,7 +26,8 @@ sized count octets item = if nat_le count (length octets) then Some (item, count
 abbrev pub area_at : List ℕ → Option (List ℕ × ℕ)
 area_at octets =
     let count = slice_index octets 0 in
-    if nat_le 1 count && nat_le count 13 then sized (1 + count) octets (take count (drop 1 octets)) else None
+    if nat_le 1 count && nat_le count 13 then sized (1 + count) octets (take count (drop 1 octets))
+    else None
 
 -- six octets (ISO 10589 9.5)
 abbrev pub snpa_at : List ℕ → Option (Snpa × ℕ)
@@ -35,12 +36,19 @@ snpa_at octets = sized 6 octets (record { 0 = take 6 octets })
 -- lifetime, LSP ID, sequence number and checksum (ISO 10589 9.10)
 abbrev pub entry_at : List ℕ → Option (LspEntry × ℕ)
 entry_at octets =
-    sized 16 octets (record { lifetime = u16_at 0 octets; id = lsp_at 2 octets; number = u32_at 10 octets; checksum = u16_at 14 octets })
+    sized 16 octets
+    (record {
+      lifetime = u16_at 0 octets;
+      id = lsp_at 2 octets;
+      number = u32_at 10 octets;
+      checksum = u16_at 14 octets;
+    })
 
 -- a node, a metric, a length and as many octets of sub-TLVs (RFC 5305 3)
 abbrev pub neighbour_at : List ℕ → Option (NeighbourItem × ℕ)
 neighbour_at octets =
-    sized (11 + slice_index octets 10) octets (record { node = node_at 0 octets; metric = u24_at 7 octets })
+    sized (11 + slice_index octets 10) octets
+    (record { node = node_at 0 octets; metric = u24_at 7 octets })
 
 -- the number of octets that hold so many bits (RFC 5305 4)
 abbrev pub octets_for : ℕ → ℕ
@@ -74,24 +82,46 @@ abbrev pub TakesSome : {X : Type 0} → (List ℕ → Option (X × ℕ)) → Typ
 TakesSome {X} first = (octets : List ℕ) → IfSome {T = X × ℕ} (first octets) (λ item. 1 ≤ item.1)
 
 -- what a value reads as: its items, and the fault at the first octet of one that doesn't fit (own)
-abbrev pub values_of : {X : Type 0} → (List ℕ → Option (X × ℕ)) → ℕ → List ℕ → List (Result X ValueFault)
-values_of first place octets = items_of (λ at item. ok_or (first item) (record { place = at })) place octets
+abbrev pub values_of : {X : Type 0} → (List ℕ → Option (X × ℕ)) → ℕ → List ℕ
+    → List (Result X ValueFault)
+values_of first place octets =
+    items_of (λ at item. ok_or (first item) (record { place = at })) place octets
 
--- what the values of codes 1, 6, 9, 22 and 135 read as (own)
+-- a fault at the first octet of an item, and nothing after it (own)
+abbrev pub fault_at : {X : Type 0} → ℕ → List (Result X ValueFault)
+fault_at place = Err (record { place = place }) ∷ []
+
+-- what octets that begin at a place of a value of codes 1, 6, 9, 22 and 135 read as (own)
+abbrev pub areas_from : ℕ → List ℕ → List (Result (List ℕ) ValueFault)
+areas_from = values_of area_at
+
+abbrev pub snpas_from : ℕ → List ℕ → List (Result Snpa ValueFault)
+snpas_from = values_of snpa_at
+
+abbrev pub entries_from : ℕ → List ℕ → List (Result LspEntry ValueFault)
+entries_from = values_of entry_at
+
+abbrev pub neighbours_from : ℕ → List ℕ → List (Result NeighbourItem ValueFault)
+neighbours_from = values_of neighbour_at
+
+abbrev pub prefixes_from : ℕ → List ℕ → List (Result PrefixItem ValueFault)
+prefixes_from = values_of prefix_at
+
+-- what the values of these codes read as (own)
 abbrev pub areas_of : List ℕ → List (Result (List ℕ) ValueFault)
-areas_of value = values_of area_at 0 value
+areas_of value = areas_from 0 value
 
 abbrev pub snpas_of : List ℕ → List (Result Snpa ValueFault)
-snpas_of value = values_of snpa_at 0 value
+snpas_of value = snpas_from 0 value
 
 abbrev pub entries_of : List ℕ → List (Result LspEntry ValueFault)
-entries_of value = values_of entry_at 0 value
+entries_of value = entries_from 0 value
 
 abbrev pub neighbours_of : List ℕ → List (Result NeighbourItem ValueFault)
-neighbours_of value = values_of neighbour_at 0 value
+neighbours_of value = neighbours_from 0 value
 
 abbrev pub prefixes_of : List ℕ → List (Result PrefixItem ValueFault)
-prefixes_of value = values_of prefix_at 0 value
+prefixes_of value = prefixes_from 0 value
 
 -- the state of its octet (RFC 5303 3)
 abbrev pub state_of : ℕ → Option Adj
@@ -103,11 +133,17 @@ state_of (suc (suc (suc n))) = None
 -- a state alone, with the own extended circuit ID, or also with the neighbour and its ID (RFC 5303 3)
 abbrev pub parts_at : List ℕ → Adj → Option ThreeWay
 parts_at octets state =
+    let own_id = Some (u32_at 1 octets) in
+    let neighbour = Some (system_at 5 octets, u32_at 11 octets) in
     if length octets == 1 then Some (record { state = state; own_id = None; neighbour = None })
-    else (if length octets == 5 then Some (record { state = state; own_id = Some (u32_at 1 octets); neighbour = None })
-    else (if length octets == 15 then Some (record { state = state; own_id = Some (u32_at 1 octets); neighbour = Some (system_at 5 octets, u32_at 11 octets) })
-    else None))
+    else if length octets == 5
+    then Some (record { state = state; own_id = own_id; neighbour = None })
+    else if length octets == 15
+    then Some (record { state = state; own_id = own_id; neighbour = neighbour })
+    else None
 
 -- what a three-way value reads as; a fault is at 0 (own)
 abbrev pub three_way_of : List ℕ → Result ThreeWay ValueFault
-three_way_of octets = ok_or (option_and_then (parts_at octets) (state_of (slice_index octets 0))) (record { place = 0 })
+three_way_of octets =
+    ok_or (option_and_then (parts_at octets) (state_of (slice_index octets 0)))
+    (record { place = 0 })

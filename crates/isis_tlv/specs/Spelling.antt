@@ -1,5 +1,5 @@
 -- What is written of the values of codes 1, 6, 9, 22, 129, 132, 135 and 240.
-use Rattle.std.specs.Prelude.{ℕ, ◌+◌, List, [], ◌∷◌, ◌++◌, length, take, map, Option, Some, None, Result, Ok, Err, if◌then◌else◌}
+use Rattle.std.specs.Prelude.{ℕ, ◌+◌, List, [], ◌∷◌, ◌++◌, length, take, Option, Some, None, if◌then◌else◌}
 use Rattle.std.specs.List.{flat_map}
 use Rattle.isis_base.specs.declared.identifiers.Snpa.{Snpa}
 use Rattle.isis_base.specs.declared.identifiers.SystemId.{SystemId}
@@ -7,7 +7,6 @@ use Rattle.isis_base.specs.declared.entry.LspEntry.{LspEntry}
 use Rattle.isis_base.specs.Identifiers.{node_octets, lsp_octets}
 use Rattle.isis_tlv.specs.declared.neighbour.NeighbourItem.{NeighbourItem}
 use Rattle.isis_tlv.specs.declared.prefix.PrefixItem.{PrefixItem}
-use Rattle.isis_tlv.specs.declared.fault.ValueFault.{ValueFault}
 use Rattle.isis_tlv.specs.declared.three_way.ThreeWay.{ThreeWay}
 use Rattle.isis_tlv.specs.declared.three_way.Adj.{Adj}
 use Rattle.isis_tlv.specs.declared.three_way.Adj.TheVariants.{Down, Initializing, Up}
@@ -34,7 +33,9 @@ snpa_tlv list = tlv_octets 6 (snpa_value list)
 
 -- LSP entries (ISO 10589 9.10)
 abbrev pub entry_octets : LspEntry → List ℕ
-entry_octets entry = u16_octets entry.lifetime ++ lsp_octets entry.id ++ u32_octets entry.number ++ u16_octets entry.checksum
+entry_octets entry =
+    u16_octets entry.lifetime ++ lsp_octets entry.id ++ u32_octets entry.number
+    ++ u16_octets entry.checksum
 
 abbrev pub entry_value : List LspEntry → List ℕ
 entry_value list = flat_map entry_octets list
@@ -45,6 +46,11 @@ entry_tlv list = tlv_octets 9 (entry_value list)
 -- neighbours without sub-TLVs (RFC 5305 3)
 abbrev pub neighbour_octets : NeighbourItem → List ℕ
 neighbour_octets item = node_octets item.node ++ u24_octets item.metric ++ 0 ∷ []
+
+-- a neighbour with these octets of sub-TLVs behind their length (RFC 5305 3)
+abbrev pub neighbour_with_subs : NeighbourItem → List ℕ → List ℕ
+neighbour_with_subs item subs =
+    node_octets item.node ++ (u24_octets item.metric ++ length subs ∷ subs)
 
 abbrev pub neighbour_value : List NeighbourItem → List ℕ
 neighbour_value list = flat_map neighbour_octets list
@@ -57,6 +63,12 @@ abbrev pub prefix_octets : PrefixItem → List ℕ
 prefix_octets item =
     u32_octets item.metric ++ ((if item.down then 128 else 0) + item.prefix.length)
     ∷ take (octets_for item.prefix.length) (u32_octets item.prefix.address)
+
+-- a prefix with the mark for sub-TLVs, and their octets behind their length (RFC 5305 4)
+abbrev pub prefix_with_subs : PrefixItem → List ℕ → List ℕ
+prefix_with_subs item subs =
+    u32_octets item.metric ++ ((if item.down then 128 else 0) + 64 + item.prefix.length)
+    ∷ (take (octets_for item.prefix.length) (u32_octets item.prefix.address) ++ length subs ∷ subs)
 
 abbrev pub prefix_value : List PrefixItem → List ℕ
 prefix_value list = flat_map prefix_octets list
@@ -90,7 +102,8 @@ neighbour_part None = []
 neighbour_part (Some neighbour) = neighbour.0.0 ++ u32_octets neighbour.1
 
 abbrev pub three_way_octets : ThreeWay → List ℕ
-three_way_octets value = state_octet value.state ∷ own_octets value.own_id ++ neighbour_part value.neighbour
+three_way_octets value =
+    state_octet value.state ∷ own_octets value.own_id ++ neighbour_part value.neighbour
 
 abbrev pub three_way_tlv : ThreeWay → List ℕ
 three_way_tlv value = tlv_octets 240 (three_way_octets value)

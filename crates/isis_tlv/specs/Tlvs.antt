@@ -20,7 +20,8 @@ abbrev pub tlv_at : ℕ → List ℕ → Result (TlvView × ℕ) TlvFault
 tlv_at place [] = Err (Header place)
 tlv_at place (code ∷ []) = Err (Header place)
 tlv_at place (code ∷ count ∷ octets) =
-    if nat_le count (length octets) then Ok (record { code = code; place = place; value = take count octets }, 2 + count)
+    if nat_le count (length octets)
+    then Ok (record { code = code; place = place; value = take count octets }, 2 + count)
     else Err (Past place)
 
 -- the TLVs of octets that begin at a place, and the fault that ends them (own)
@@ -39,5 +40,6 @@ tlv_list place octets = ok_prefix (tlvs_of place octets)
 pub record StandsIn (place : ℕ) (octets : List ℕ) (tlv : TlvView) : Type 0 where
   pub from : place ≤ tlv.place
   pub within : tlv.place + 2 + length tlv.value ≤ place + length octets
-  pub whole : take (2 + length tlv.value) (drop (tlv.place - place) octets) ≡ tlv_octets tlv.code tlv.value
+  pub whole : take (2 + length tlv.value) (drop (tlv.place - place) octets)
+      ≡ tlv_octets tlv.code tlv.value
   pub value : take (length tlv.value) (drop (tlv.place + 2 - place) octets) ≡ tlv.value

@@ -13,7 +13,8 @@ module _ {X F : Type 0} where
   walk first zero place octets = []
   walk first (suc n) place [] = []
   walk first (suc n) place (octet ∷ octets) =
-      before (first place (octet ∷ octets)) (λ count. walk first n (place + count) (drop count (octet ∷ octets)))
+      before (first place (octet ∷ octets))
+      (λ count. walk first n (place + count) (drop count (octet ∷ octets)))
 
   -- what the octets read as: items up to the end, or up to a fault, which is the last (own)
   unfoldable pub items_of : (ℕ → List ℕ → Result (X × ℕ) F) → ℕ → List ℕ → List (Result X F)

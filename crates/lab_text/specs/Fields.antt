@@ -15,7 +15,8 @@ use Rattle.isis_base.specs.Misfit.{text_octets}
 -- a name: a letter, then up to 15 letters or digits (own)
 abbrev pub is_name : List ℕ → Bool
 is_name [] = false
-is_name (first ∷ rest) = is_ascii_alphabetic first && nat_le (length rest) 15 && list_all is_ascii_alphanumeric rest
+is_name (first ∷ rest) =
+    is_ascii_alphabetic first && nat_le (length rest) 15 && list_all is_ascii_alphanumeric rest
 
 -- the name that a word is (own)
 abbrev pub name_of : List ℕ → Option (List ℕ)
@@ -33,7 +34,10 @@ is_numeral word = has_plain_lead word && list_all is_ascii_digit word
 
 -- the number that a word writes, up to 128 bits (own)
 abbrev pub number_of : List ℕ → Option ℕ
-number_of word = if is_numeral word then (if nat_lt (digits_value 10 word) (2 ^ 128) then Some (digits_value 10 word) else None) else None
+number_of word =
+    if is_numeral word
+    then (if nat_lt (digits_value 10 word) (2 ^ 128) then Some (digits_value 10 word) else None)
+    else None
 
 -- the number of a copy: none has number 0, nor one above the numbers of this machine, so such a one counts as 0 (own)
 abbrev pub copy_of : List ℕ → Option ℕ
@@ -46,12 +50,18 @@ id_of text = option_map lsp_from (text_octets LSP_TEXT text)
 -- a key's number is 1 to 4294967295 (ISO 10589 7.3.16.1)
 abbrev pub key_from : ℕ → Bool → Option Key
 key_from zero purged = None
-key_from (suc n) purged = if nat_lt (suc n) (2 ^ 32) then Some (record { number = suc n; purged = purged; numbered = zero-lt-suc n }) else None
+key_from (suc n) purged =
+    if nat_lt (suc n) (2 ^ 32)
+    then Some (record { number = suc n; purged = purged; numbered = zero-lt-suc n }) else None
 
 -- whether a word says that a key is purged
 abbrev pub mark_of : List ℕ → Option Bool
-mark_of word = if bytes_eq word (codes "live") then Some false else (if bytes_eq word (codes "purged") then Some true else None)
+mark_of word =
+    if bytes_eq word (codes "live") then Some false
+    else (if bytes_eq word (codes "purged") then Some true else None)
 
 -- the key of a number and a mark
 abbrev pub key_of : List ℕ → List ℕ → Option Key
-key_of number mark = option_and_then (λ n. option_and_then (λ purged. key_from n purged) (mark_of mark)) (number_of number)
+key_of number mark =
+    option_and_then (λ n. option_and_then (λ purged. key_from n purged) (mark_of mark))
+    (number_of number)

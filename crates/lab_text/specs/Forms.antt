@@ -25,7 +25,8 @@ done y (word ∷ words) = None
 -- the form of a first word, in a table of first words and forms
 abbrev pub by_first : {Y : Type 0} → List (List ℕ × Form Y) → List ℕ → Form Y
 by_first [] first words = None
-by_first (form ∷ forms) first words = if bytes_eq first form.0 then form.1 words else by_first forms first words
+by_first (form ∷ forms) first words =
+    if bytes_eq first form.0 then form.1 words else by_first forms first words
 
 -- the words of a line, of which the first tells the form
 abbrev pub of_forms : {Y : Type 0} → List (List ℕ × Form Y) → Form Y

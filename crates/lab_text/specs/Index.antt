@@ -11,4 +11,5 @@ names_of a = map (λ name. name.now) a.list.items
 
 -- the index finds each name's number
 pub record IsIndexed (a : Inside) : Type 0 where
-  pub finds : (name : List ℕ) → get_by (λ (other : Bor (List ℕ)). bytes_eq name other.now) a.index ≡ number_of_name (names_of a) name
+  pub finds : (name : List ℕ) → get_by (λ (other : Bor (List ℕ)). bytes_eq name other.now) a.index
+      ≡ number_of_name (names_of a) name

@@ -75,8 +75,10 @@ first_reason so_far line =
 
 -- the limit that a line passes: 1,024 routers, 4,096 links
 abbrev pub limit_of : KeysScript → KeysLine → Option LimitName
-limit_of so_far (Router name) = if nat_le ROUTER_LIMIT (length so_far.routers) then Some Routers else None
-limit_of so_far (Link first second) = if nat_le LINK_LIMIT (length so_far.links) then Some Links else None
+limit_of so_far (Router name) =
+    if nat_le ROUTER_LIMIT (length so_far.routers) then Some Routers else None
+limit_of so_far (Link first second) =
+    if nat_le LINK_LIMIT (length so_far.links) then Some Links else None
 limit_of so_far (Issue router id key) = None
 limit_of so_far (Pass copy from to) = None
 
@@ -92,11 +94,19 @@ number_in names name = or_zero (number_of_name names name)
 abbrev pub with_line : KeysScript → ℕ → KeysLine → KeysScript
 with_line so_far number (Router name) = record so_far { routers = so_far.routers ++ name ∷ [] }
 with_line so_far number (Link first second) = record so_far {
-  links = so_far.links ++ ordered (number_in so_far.routers first) (number_in so_far.routers second) ∷ [];
+  links = so_far.links ++ ordered (number_in so_far.routers first) (number_in so_far.routers second)
+      ∷ [];
 }
 with_line so_far number (Issue router id key) = record so_far {
-  events = so_far.events ++ record { line = number; event = event.Issue (number_in so_far.routers router) id key } ∷ [];
+  events = so_far.events
+      ++ record { line = number; event = event.Issue (number_in so_far.routers router) id key }
+      ∷ [];
 }
 with_line so_far number (Pass copy from to) = record so_far {
-  events = so_far.events ++ record { line = number; event = event.Pass copy (number_in so_far.routers from) (number_in so_far.routers to) } ∷ [];
+  events = so_far.events
+      ++ record {
+        line = number;
+        event = event.Pass copy (number_in so_far.routers from)
+            (number_in so_far.routers to);
+      } ∷ [];
 }

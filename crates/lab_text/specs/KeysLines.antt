@@ -15,7 +15,8 @@ link_form = field name_of λ first. field name_of λ second. done (Link first se
 
 -- `issue NAME LSPID NUMBER live|purged` (own)
 abbrev pub issue_form : Form KeysLine
-issue_form = field name_of λ router. field id_of λ id. field_of_two key_of λ key. done (Issue router id key)
+issue_form =
+    field name_of λ router. field id_of λ id. field_of_two key_of λ key. done (Issue router id key)
 
 -- `pass COPY NAME NAME` (own)
 abbrev pub pass_form : Form KeysLine

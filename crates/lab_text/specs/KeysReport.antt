@@ -12,12 +12,15 @@ head_line = codes "isis-report 1\n"
 
 -- `key NAME LSPID NUMBER live|purged`, and LF (own)
 abbrev pub key_line : List ℕ → LspId × Key → List ℕ
-key_line name entry = codes "key " ++ name ++ codes " " ++ lsp_text entry.0 ++ codes " " ++ key_text entry.1 ++ codes "\n"
+key_line name entry =
+    codes "key " ++ name ++ codes " " ++ lsp_text entry.0 ++ codes " " ++ key_text entry.1
+    ++ codes "\n"
 
 -- the lines of the routers from this number on, whose names these are: each router's keys, by LSP ID (own)
 abbrev pub router_lines : Net → ℕ → List (List ℕ) → List ℕ
 router_lines net router [] = []
-router_lines net router (name ∷ names) = flat_map (key_line name) (keys_at net router) ++ router_lines net (router + 1) names
+router_lines net router (name ∷ names) =
+    flat_map (key_line name) (keys_at net router) ++ router_lines net (router + 1) names
 
 -- the report of a network whose routers have these names (own)
 abbrev pub report_of_net : List (List ℕ) → Net → List ℕ

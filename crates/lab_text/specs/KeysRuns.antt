@@ -29,7 +29,8 @@ laid_out script = with_links (routers_only (length script.routers)) script.links
 -- the network after an event; a copy that isn't where it is passed from is refused
 abbrev pub play_event : Net → ℕ → KeyEvent → Result Net ScriptFault
 play_event net line (Issue router id key) = Ok (with_copy net router id key)
-play_event net line (Pass copy from to) = if is_at net copy from then Ok (with_pass net copy to) else Err (Refused line NotSent)
+play_event net line (Pass copy from to) =
+    if is_at net copy from then Ok (with_pass net copy to) else Err (Refused line NotSent)
 
 abbrev pub play_line : Net → EventLine → Result Net ScriptFault
 play_line net line = play_event net line.line line.event
@@ -54,9 +55,13 @@ report_of script = report_at script.routers (end_of script)
 
 -- how the run of a script ends: the answer has its cause in the script, and the sink holds the report, a prefix of it, or
 -- no more than before
-abbrev pub RunEnds : KeysScript → Option (List ℕ) → Option (List ℕ) → Result (Unit {0}) RunFault → Type 0
+abbrev pub RunEnds : KeysScript → Option (List ℕ) → Option (List ℕ) → Result (Unit {0}) RunFault
+    → Type 0
 RunEnds script before now (Ok done) = IsOk (end_of script) × Wrote before now (report_of script)
-RunEnds script before now (Err (run.Refused line reason)) = (end_of script ≡ Err (Refused line reason)) × Stays before now
-RunEnds script before now (Err (run.Limit which)) = (end_of script ≡ Err (Limit which)) × Stays before now
-RunEnds script before now (Err run.Write) = IsOk (end_of script) × WrotePrefix before now (report_of script)
+RunEnds script before now (Err (run.Refused line reason)) =
+    (end_of script ≡ Err (Refused line reason)) × Stays before now
+RunEnds script before now (Err (run.Limit which)) =
+    (end_of script ≡ Err (Limit which)) × Stays before now
+RunEnds script before now (Err run.Write) =
+    IsOk (end_of script) × WrotePrefix before now (report_of script)
 RunEnds script before now (Err run.OutOfMemory) = WrotePrefix before now (report_of script)

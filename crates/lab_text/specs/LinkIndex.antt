@@ -6,4 +6,6 @@ use Rattle.lab_text.specs.Links.{has_link}
 
 -- the index finds each link
 pub record IsLinkIndex (a : Inside) : Type 0 where
-  pub finds : (ends : ℕ × ℕ) → is_some (get_by (λ (other : ℕ × ℕ). ends.0 == other.0 && ends.1 == other.1) a.index) ≡ has_link a.list.items ends
+  pub finds : (ends : ℕ × ℕ)
+      → is_some (get_by (λ (other : ℕ × ℕ). ends.0 == other.0 && ends.1 == other.1) a.index)
+      ≡ has_link a.list.items ends

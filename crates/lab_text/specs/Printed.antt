@@ -25,5 +25,6 @@ mark_text false = codes "live"
 abbrev pub words_in : KeysLine → List (List ℕ)
 words_in (Router name) = codes "router" ∷ name ∷ []
 words_in (Link first second) = codes "link" ∷ first ∷ second ∷ []
-words_in (Issue router id key) = codes "issue" ∷ router ∷ lsp_text id ∷ decimal key.number ∷ mark_text key.purged ∷ []
+words_in (Issue router id key) =
+    codes "issue" ∷ router ∷ lsp_text id ∷ decimal key.number ∷ mark_text key.purged ∷ []
 words_in (Pass copy from to) = codes "pass" ∷ decimal copy ∷ from ∷ to ∷ []

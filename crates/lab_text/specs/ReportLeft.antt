@@ -16,7 +16,9 @@ lines_left report =
 -- a call for each router, and one for each of its keys
 abbrev pub router_calls : Net → ℕ → List (List ℕ) → ℕ
 router_calls net router [] = 0
-router_calls net router (name ∷ names) = suc (length (keys_at net router) + router_calls net (router + 1) names)
+router_calls net router (name ∷ names) =
+    suc (length (keys_at net router) + router_calls net (router + 1) names)
 
 abbrev pub calls_left : KeysReport → ℕ
-calls_left report = length report.entries.now + router_calls report.net.now report.router (texts report.names.now)
+calls_left report =
+    length report.entries.now + router_calls report.net.now report.router (texts report.names.now)

@@ -7,7 +7,8 @@ use memchr::memchr;
 
 /// The octets before the first mark, and those behind it; all octets where there is no mark.
 pub fn cut(text: &[u8], mark: u8) -> (&[u8], Option<&[u8]>)
-    ensures parts { slice_split (λ byte. byte == mark) text.now ≡ result.0.now ∷ parts_behind mark result.1 }
+    ensures parts { slice_split (λ byte. byte == mark) text.now
+        ≡ result.0.now ∷ parts_behind mark result.1 }
     ensures less { IfSome result.1 (λ behind. length behind.now < length text.now) }
 {
     match memchr(mark, text) {

@@ -57,7 +57,8 @@ fn leads_plainly(word: &[u8]) -> bool
 
 /// The number of a word of digits, where it has up to 64 bits. This is how nearly all numbers are read.
 fn read_short(word: &[u8]) -> Option<u64>
-    ensures { IfSome result (λ number. (list_all is_ascii_digit word.now ≡ true) × (digits_value 10 word.now ≡ number)) }
+    ensures { IfSome result (λ number. (list_all is_ascii_digit word.now ≡ true)
+        × (digits_value 10 word.now ≡ number)) }
 {
     let mut left = word;
     let mut number = 0u64;

@@ -81,7 +81,8 @@ fn add_routers(net: &mut KeyNet, count: usize) -> Result<(), OutOfMemory>
 fn add_links(net: &mut KeyNet, links: &[(usize, usize)]) -> Result<(), OutOfMemory>
     requires first { net.old.links ≡ 0 }
     requires few { length links.now ≤ 4096 }
-    requires ends { AllByRecursion (λ link. (link.0 < net.old.routers) × (link.1 < net.old.routers)) links.now }
+    requires ends { AllByRecursion (λ link. (link.0 < net.old.routers)
+        × (link.1 < net.old.routers)) links.now }
     ensures { OnOk result (net.new ≡ with_links net.old links.now) }
 {
     for link in links {

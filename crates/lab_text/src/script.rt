@@ -41,7 +41,8 @@ impl<'a> Model for Script<'a> {
 
     ghost use Rattle.lab_text.specs.KeysSound.{IsSound};
 
-    ghost invariant = { λ a. IsSound (record { routers = a.routers; links = a.links; events = a.events.items }) };
+    ghost invariant = { λ a. IsSound
+        (record { routers = a.routers; links = a.links; events = a.events.items }) };
 }
 
 /// Reads a script. The first line that is refused, or passes a limit, is told with the first reason that applies.
@@ -175,7 +176,8 @@ impl<'a> Script<'a> {
     }
 
     fn hear_router(&mut self, number: usize, name: &'a str) -> Result<(), ScriptFault>
-        ensures { Gives result self.new (script.hear_line self.old number (Some (Router name.now))) }
+        ensures { Gives result self.new
+            (script.hear_line self.old number (Some (Router name.now))) }
     {
         if self.routers.find(name).is_some() {
             return refused(number, Reason::Again);
@@ -189,8 +191,11 @@ impl<'a> Script<'a> {
 
     /// The numbers of two routers.
     fn both(&self, a: &str, b: &str) -> Option<(usize, usize)>
-        ensures value { result ≡ judged.both (number_of_name self.now.routers a.now) (number_of_name self.now.routers b.now) }
-        ensures there { IfSome result (λ ends. (ends.0 < length self.now.routers) × (ends.1 < length self.now.routers)) }
+        ensures value { result
+            ≡ judged.both (number_of_name self.now.routers a.now)
+            (number_of_name self.now.routers b.now) }
+        ensures there { IfSome result (λ ends. (ends.0 < length self.now.routers)
+            × (ends.1 < length self.now.routers)) }
     {
         let a = self.routers.find(a)?;
         let b = self.routers.find(b)?;
@@ -198,7 +203,8 @@ impl<'a> Script<'a> {
     }
 
     fn hear_link(&mut self, number: usize, first: &str, second: &str) -> Result<(), ScriptFault>
-        ensures { Gives result self.new (script.hear_line self.old number (Some (Link first.now second.now))) }
+        ensures { Gives result self.new
+            (script.hear_line self.old number (Some (Link first.now second.now))) }
     {
         let Some((a, b)) = self.both(first, second) else {
             return refused(number, Reason::Name);
@@ -220,7 +226,8 @@ impl<'a> Script<'a> {
         id: LspId,
         key: Key,
     ) -> Result<(), ScriptFault>
-        ensures { Gives result self.new (script.hear_line self.old number (Some (Issue router.now id key))) }
+        ensures { Gives result self.new
+            (script.hear_line self.old number (Some (Issue router.now id key))) }
     {
         let Some(router) = self.routers.find(router) else {
             return refused(number, Reason::Name);
@@ -240,7 +247,8 @@ impl<'a> Script<'a> {
         from: &str,
         to: &str,
     ) -> Result<(), ScriptFault>
-        ensures { Gives result self.new (script.hear_line self.old number (Some (Pass copy from.now to.now))) }
+        ensures { Gives result self.new
+            (script.hear_line self.old number (Some (Pass copy from.now to.now))) }
     {
         let Some((from, to)) = self.both(from, to) else {
             return refused(number, Reason::Name);

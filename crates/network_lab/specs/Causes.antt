@@ -21,6 +21,7 @@ LinkCause net fault = ⊥
 -- when a copy isn't passed: no link joins the routers; else the copy isn't at the first
 abbrev pub PassCause : Net → ℕ → ℕ → ℕ → LabFault → Type 0
 PassCause net copy from to NotOn = is_joined net from to ≡ false
-PassCause net copy from to (NotSent sent) = (is_joined net from to ≡ true) × (is_at net copy from ≡ false) × (sent ≡ length net.copies)
+PassCause net copy from to (NotSent sent) =
+    (is_joined net from to ≡ true) × (is_at net copy from ≡ false) × (sent ≡ length net.copies)
 PassCause net copy from to OutOfMemory = Unit {0}
 PassCause net copy from to fault = ⊥

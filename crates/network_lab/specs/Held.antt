@@ -7,7 +7,8 @@ use Rattle.isis_base.specs.Keys.{rank}
 
 -- the elements rise by this number, so no two have one number
 pub record IsRising {X : Type 0} (number : X → ℕ) (xs : List X) : Type 0 where
-  pub below : (i j : ℕ) (d : X) → i < j → j < length xs → number (slice_index_or xs i d) < number (slice_index_or xs j d)
+  pub below : (i j : ℕ) (d : X) → i < j → j < length xs
+      → number (slice_index_or xs i d) < number (slice_index_or xs j d)
 
 abbrev pub entry_number : LspId × Key → ℕ
 entry_number entry = lsp_number entry.0
@@ -25,7 +26,9 @@ pub record IsGap {X : Type 0} (number : X → ℕ) (xs : List X) (n place : ℕ)
 
 -- some entry has the LSP ID of this copy, and a key that is as new or newer
 abbrev pub Covers : List (LspId × Key) → LspId × Key → Type 0
-Covers entries copy = (entry : LspId × Key) × Contains entries entry × (entry_number entry ≡ entry_number copy) × (rank (Some copy.1) ≤ rank (Some entry.1))
+Covers entries copy =
+    (entry : LspId × Key) × Contains entries entry × (entry_number entry ≡ entry_number copy)
+    × (rank (Some copy.1) ≤ rank (Some entry.1))
 
 -- the new entries are of the old ones and this copy, of each LSP ID the newest
 pub record Joins (old new : List (LspId × Key)) (copy : LspId × Key) : Type 0 where

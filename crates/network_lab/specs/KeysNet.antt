@@ -44,7 +44,8 @@ abbrev pub with_router : Net → Net
 with_router net = record net { routers = net.routers + 1 }
 
 abbrev pub with_link : Net → ℕ → ℕ → Net
-with_link net a b = record net { links = net.links + 1; linked = insert_key pair_cmp net.linked (ordered a b) }
+with_link net a b =
+    record net { links = net.links + 1; linked = insert_key pair_cmp net.linked (ordered a b) }
 
 -- the next copy, made at the router
 abbrev pub with_copy : Net → ℕ → LspId → Key → Net
@@ -58,14 +59,18 @@ abbrev pub with_pass : Net → ℕ → ℕ → Net
 with_pass net copy to = record net { places = insert_key pair_cmp net.places (copy, to) }
 
 -- the copy of this number is this one, and is at the router
-pub record IsCopyAt (copies : List (LspId × Key)) (places : List (ℕ × ℕ)) (router number : ℕ) (copy : LspId × Key) : Type 0 where
+pub record IsCopyAt (copies : List (LspId × Key)) (places : List (ℕ × ℕ)) (router number : ℕ)
+    (copy : LspId × Key) : Type 0 where
   pub some : 0 < number
   pub made : slice_get copies (number - 1) ≡ Some copy
   pub there : has_pair places number router ≡ true
 
 -- The keys that the router holds: by LSP ID, of each LSP ID the join of all its copies that were made at the
 -- router or passed to it, in whatever order and however often. For the join of keys is the newest one.
-pub record IsHeldAt (copies : List (LspId × Key)) (places : List (ℕ × ℕ)) (router : ℕ) (entries : List (LspId × Key)) : Type 0 where
+pub record IsHeldAt (copies : List (LspId × Key)) (places : List (ℕ × ℕ)) (router : ℕ)
+    (entries : List (LspId × Key)) : Type 0 where
   pub rising : IsRising entry_number entries
-  pub among : (entry : LspId × Key) → Contains entries entry → (number : ℕ) × IsCopyAt copies places router number entry
-  pub newest : (number : ℕ) (copy : LspId × Key) → IsCopyAt copies places router number copy → Covers entries copy
+  pub among : (entry : LspId × Key) → Contains entries entry
+      → (number : ℕ) × IsCopyAt copies places router number entry
+  pub newest : (number : ℕ) (copy : LspId × Key) → IsCopyAt copies places router number copy
+      → Covers entries copy

@@ -17,7 +17,8 @@ pub fn make_room(held: &mut Vec<(LspId, Key)>) -> Result<(), AllocError>
 /// Where the LSP ID's entry is, or where it would go.
 fn place_of(held: &[(LspId, Key)], id: LspId) -> Result<usize, usize>
     requires { IsRising entry_number held.now }
-    ensures { MatchResult result (IsPlaceOf held.now (lsp_number id)) (IsGap entry_number held.now (lsp_number id)) }
+    ensures { MatchResult result (IsPlaceOf held.now (lsp_number id))
+        (IsGap entry_number held.now (lsp_number id)) }
 {
     held.binary_search_by_key(&id.to_number(), |entry| entry.0.to_number())
 }

@@ -93,8 +93,10 @@ impl KeyNet {
 
     /// Adds a link between two routers, which may have one already. `Limit(Links)` exactly where 4,096 are there.
     pub fn add_link(&mut self, ends: [usize; 2]) -> Result<(), LabFault>
-        requires { (slice_index ends 0 < self.old.routers) × (slice_index ends 1 < self.old.routers) }
-        ensures ok { OnOk result (self.new ≡ with_link self.old (slice_index ends 0) (slice_index ends 1)) }
+        requires { (slice_index ends 0 < self.old.routers)
+            × (slice_index ends 1 < self.old.routers) }
+        ensures ok { OnOk result (self.new
+            ≡ with_link self.old (slice_index ends 0) (slice_index ends 1)) }
         ensures cause { IfErr result (LinkCause self.old) }
         ensures limit { LINK_LIMIT ≤ self.old.links → result ≡ Err (Limit Links) }
         ensures err { OnErr result (self.new ≡ self.old) }
@@ -139,7 +141,8 @@ impl KeyNet {
         requires { (from < self.old.routers) × (to < self.old.routers) }
         ensures ok { OnOk result (self.new ≡ with_pass self.old copy to) }
         ensures cause { IfErr result (PassCause self.old copy from to) }
-        ensures refused { IsOk result → (is_joined self.old from to ≡ true) × (is_at self.old copy from ≡ true) }
+        ensures refused { IsOk result → (is_joined self.old from to ≡ true)
+            × (is_at self.old copy from ≡ true) }
         ensures not_on { is_joined self.old from to ≡ false → result ≡ Err NotOn }
         ensures not_sent { is_joined self.old from to ≡ true → is_at self.old copy from ≡ false
             → result ≡ Err (NotSent (length self.old.copies)) }

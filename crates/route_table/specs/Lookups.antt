@@ -14,7 +14,8 @@ Has prefix address = address / 2 ^ (32 - prefix.length) ≡ prefix.address / 2 ^
 pub record IsLongest (routes : List Route) (address : ℕ) (route : Route) : Type 0 where
   pub listed : Contains routes route
   pub has : Has route.prefix address
-  pub longest : (other : Route) → Contains routes other → Has other.prefix address → other.prefix.length ≤ route.prefix.length
+  pub longest : (other : Route) → Contains routes other → Has other.prefix address
+      → other.prefix.length ≤ route.prefix.length
 
 -- no prefix of the table has the address (RFC 1812 5.2.4.3)
 abbrev pub HasNone : List Route → ℕ → Type 0
@@ -35,7 +36,8 @@ IsBefore (Some place) many = place < many
 -- the place, if any, is before the first so many routes end, and none of those behind it has the address
 pub record IsLeft (routes : List Route) (many address : ℕ) (place : Option ℕ) : Type 0 where
   pub before : IsBefore place many
-  pub rest : (k : ℕ) (d : Route) → k < many → Has (slice_index_or routes k d).prefix address → IsUpTo k place
+  pub rest : (k : ℕ) (d : Route) → k < many → Has (slice_index_or routes k d).prefix address
+      → IsUpTo k place
 
 -- the route at the place, if any, has the address
 abbrev pub HasAt : List Route → ℕ → Option ℕ → Type 0
@@ -50,7 +52,8 @@ pub record IsLast (routes : List Route) (many address : ℕ) (place : Option ℕ
 -- each of the first so many routes has a link to the last route before it that has its address
 pub record AreLinked (routes : List Route) (many : ℕ) (links : List (Option ℕ)) : Type 0 where
   pub enough : many ≤ length links
-  pub link : (k : ℕ) (d : Route) (e : Option ℕ) → k < many → IsLast routes k (slice_index_or routes k d).prefix.address (slice_index_or links k e)
+  pub link : (k : ℕ) (d : Route) (e : Option ℕ) → k < many
+      → IsLast routes k (slice_index_or routes k d).prefix.address (slice_index_or links k e)
 
 -- routes in order, with links by which a look-up climbs
 pub record AreClimbable (routes : List Route) (links : List (Option ℕ)) : Type 0 where
@@ -61,4 +64,5 @@ pub record AreClimbable (routes : List Route) (links : List (Option ℕ)) : Type
 pub record IsCut (routes : List Route) (many address : ℕ) : Type 0 where
   pub within : many ≤ length routes
   pub first : (k : ℕ) (d : Route) → k < many → (slice_index_or routes k d).prefix.address ≤ address
-  pub others : (k : ℕ) (d : Route) → many ≤ k → k < length routes → address < (slice_index_or routes k d).prefix.address
+  pub others : (k : ℕ) (d : Route) → many ≤ k → k < length routes
+      → address < (slice_index_or routes k d).prefix.address

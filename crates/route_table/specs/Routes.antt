@@ -27,26 +27,37 @@ IsHopTo one two candidate hop = IsHopBy one two candidate.rank (node_number cand
 -- the candidate is for the route's prefix, and of its rank and cost (own)
 abbrev pub IsLike : Route → Candidate → Type 0
 IsLike route candidate =
-    (prefix_number candidate.prefix ≡ prefix_number route.prefix) × (rank_number candidate.rank ≡ rank_number route.rank) × (candidate.cost ≡ route.cost)
+    (prefix_number candidate.prefix ≡ prefix_number route.prefix)
+    × (rank_number candidate.rank ≡ rank_number route.rank) × (candidate.cost ≡ route.cost)
 
 -- a rank and cost are no worse than others: the rank counts first (RFC 5302 3.2)
 abbrev pub IsNoWorse : ℕ → ℕ → ℕ → ℕ → Type 0
-IsNoWorse rank cost other_rank other_cost = (rank < other_rank) ⊎ ((rank ≡ other_rank) × (cost ≤ other_cost))
+IsNoWorse rank cost other_rank other_cost =
+    (rank < other_rank) ⊎ ((rank ≡ other_rank) × (cost ≤ other_cost))
 
 -- the best way to a prefix: some candidate for it has this rank and cost, none is better, and the hops are those to all
 -- candidates of that rank and cost, each once and in order (RFC 5302 3.2)
-pub record IsRoute (HopTo : Candidate → ℕ → Type 0) (candidates : List Candidate) (route : Route) : Type 0 where
+pub record IsRoute (HopTo : Candidate → ℕ
+    → Type 0) (candidates : List Candidate) (route : Route) : Type 0 where
   pub some : (c : Candidate) × Contains candidates c × IsLike route c
-  pub best : (c : Candidate) → Contains candidates c → prefix_number c.prefix ≡ prefix_number route.prefix → IsNoWorse (rank_number route.rank) route.cost (rank_number c.rank) c.cost
+  pub best : (c : Candidate) → Contains candidates c
+      → prefix_number c.prefix ≡ prefix_number route.prefix
+      → IsNoWorse (rank_number route.rank) route.cost (rank_number c.rank) c.cost
   pub rising : IsStrictlyIncreasing route.hops
-  pub hops : (hop : ℕ) → Contains route.hops hop ↔ ((c : Candidate) × Contains candidates c × IsLike route c × HopTo c hop)
+  pub hops : (hop : ℕ) → Contains route.hops hop
+      ↔ ((c : Candidate) × Contains candidates c × IsLike route c × HopTo c hop)
 
 -- the routes rise by prefix, so each prefix has at most one (own)
 pub record AreRising (routes : List Route) : Type 0 where
-  pub below : (i j : ℕ) (d : Route) → i < j → j < length routes → prefix_number (slice_index_or routes i d).prefix < prefix_number (slice_index_or routes j d).prefix
+  pub below : (i j : ℕ) (d : Route) → i < j → j < length routes
+      → prefix_number (slice_index_or routes i d).prefix < prefix_number
+      (slice_index_or routes j d).prefix
 
 -- the best way to each prefix that a candidate is for, in order of prefix, and nothing else (RFC 5302 3.2)
-pub record AreRoutes (HopTo : Candidate → ℕ → Type 0) (candidates : List Candidate) (routes : List Route) : Type 0 where
+pub record AreRoutes (HopTo : Candidate → ℕ
+    → Type 0) (candidates : List Candidate) (routes : List Route) : Type 0 where
   pub rising : AreRising routes
   pub each : (route : Route) → Contains routes route → IsRoute HopTo candidates route
-  pub all : (c : Candidate) → Contains candidates c → (route : Route) × Contains routes route × (prefix_number route.prefix ≡ prefix_number c.prefix)
+  pub all : (c : Candidate) → Contains candidates c
+      → (route : Route) × Contains routes route
+      × (prefix_number route.prefix ≡ prefix_number c.prefix)

@@ -58,7 +58,8 @@ fn best_of(
     two: &HopTable,
 ) -> Result<Vec<Route>, OutOfMemory>
     requires { AreInOrder candidates.now }
-    ensures { IfOk result (λ routes. AreRoutes (IsListedHop one.now two.now) candidates.now routes.items) }
+    ensures { IfOk result
+        (λ routes. AreRoutes (IsListedHop one.now two.now) candidates.now routes.items) }
 {
     let mut routes = Vec::new(alloc);
     let mut first = 0;
@@ -86,9 +87,13 @@ fn route_at(
 ) -> Result<Route, OutOfMemory>
     requires order { AreInOrder candidates.now }
     requires within { first < length candidates.now }
-    requires cut { (i : ℕ) (d : Candidate) → i < first → prefix_number (slice_index_or candidates.now i d).prefix < prefix_number (slice_index_or candidates.now first d).prefix }
-    ensures route { IfOk result (λ route. IsRoute (IsListedHop one.now two.now) candidates.now route) }
-    ensures prefix { IfOk result (λ route. (d : Candidate) → route.prefix ≡ (slice_index_or candidates.now first d).prefix) }
+    requires cut { (i : ℕ) (d : Candidate) → i < first
+        → prefix_number (slice_index_or candidates.now i d).prefix < prefix_number
+        (slice_index_or candidates.now first d).prefix }
+    ensures route { IfOk result
+        (λ route. IsRoute (IsListedHop one.now two.now) candidates.now route) }
+    ensures prefix { IfOk result (λ route. (d : Candidate)
+        → route.prefix ≡ (slice_index_or candidates.now first d).prefix) }
 {
     let best = &candidates[first];
     let end = run_end(candidates, first);

@@ -26,7 +26,8 @@ pub fn hops_of(
     requires order { first ≤ end }
     requires within { end ≤ length candidates.now }
     ensures rising { IfOk result (λ hops. IsStrictlyIncreasing hops) }
-    ensures hops { IfOk result (λ hops. AreHopsIn (IsListedHop one.now two.now) candidates.now first end hops) }
+    ensures hops { IfOk result
+        (λ hops. AreHopsIn (IsListedHop one.now two.now) candidates.now first end hops) }
 {
     let mut nodes = Vec::new(alloc);
     for place in first..end {
@@ -51,7 +52,8 @@ fn hops_to(
     two: &HopTable,
 ) -> Result<Hops, OutOfMemory>
     ensures rising { IfOk result (λ hops. IsStrictlyIncreasing hops) }
-    ensures hops { IfOk result (λ hops. (hop : ℕ) → Contains hops hop ↔ IsListedHop one.now two.now candidate.now hop) }
+    ensures hops { IfOk result (λ hops. (hop : ℕ)
+        → Contains hops hop ↔ IsListedHop one.now two.now candidate.now hop) }
 {
     match candidate.rank {
         Rank::Own => Ok(Hops::new(alloc)),

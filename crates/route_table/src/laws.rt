@@ -19,6 +19,9 @@ pub fn rank_order_law(a: Rank, b: Rank)
 /// Candidates have one list of routes, and the longest prefix of an address is one. So the contracts of `routes` and
 /// `lookup` leave no choice.
 pub fn routes_laws()
-    ensures routes { (one two : GraphOf) (candidates : List Candidate) (a b : List Route) → AreRoutes (IsHopTo one two) candidates a → AreRoutes (IsHopTo one two) candidates b → a ≡ b }
-    ensures longest { (routes : List Route) (address : ℕ) (a b : Route) → AreRising routes → IsLongest routes address a → IsLongest routes address b → a ≡ b }
+    ensures routes { (one two : GraphOf) (candidates : List Candidate) (a b : List Route)
+        → AreRoutes (IsHopTo one two) candidates a → AreRoutes (IsHopTo one two) candidates b
+        → a ≡ b }
+    ensures longest { (routes : List Route) (address : ℕ) (a b : Route) → AreRising routes
+        → IsLongest routes address a → IsLongest routes address b → a ≡ b }
 {}

@@ -38,7 +38,8 @@ pub fn last_of(
     requires within { many ≤ length routes.now }
     requires rising { AreRising routes.now }
     requires linked { AreLinked routes.now many links.now }
-    requires first { (k : ℕ) (d : Route) → k < many → (slice_index_or routes.now k d).prefix.address ≤ address }
+    requires first { (k : ℕ) (d : Route) → k < many
+        → (slice_index_or routes.now k d).prefix.address ≤ address }
     ensures { IsLast routes.now many address result }
 {
     let mut left = many.checked_sub(1);

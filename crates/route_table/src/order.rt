@@ -22,8 +22,10 @@ fn prefix_number(prefix: Prefix) -> u64
 /// The candidates in order.
 pub fn in_order(alloc: Global, candidates: &[Candidate]) -> Result<Vec<Candidate>, OutOfMemory>
     ensures order { IfOk result (λ sorted. AreInOrder sorted.items) }
-    ensures all { IfOk result (λ sorted. (c : Candidate) → Contains candidates.now c → Contains sorted.items c) }
-    ensures none { IfOk result (λ sorted. (c : Candidate) → Contains sorted.items c → Contains candidates.now c) }
+    ensures all { IfOk result (λ sorted. (c : Candidate) → Contains candidates.now c
+        → Contains sorted.items c) }
+    ensures none { IfOk result (λ sorted. (c : Candidate) → Contains sorted.items c
+        → Contains candidates.now c) }
 {
     let mut sorted = Vec::new(alloc);
     match sorted.extend_from_slice(candidates) {

@@ -42,7 +42,8 @@ impl Routes {
     /// The route of the longest prefix that has the address (RFC 1812 5.2.4.3); `None` exactly where none has it. It takes
     /// no memory: a binary search, and then steps from a prefix to the one that encloses it.
     pub fn lookup(&self, address: u32) -> Option<&Route>
-        ensures { MatchOption result (HasNone self.now address) (λ route. IsLongest self.now address route.now) }
+        ensures { MatchOption result (HasNone self.now address)
+            (λ route. IsLongest self.now address route.now) }
     {
         let routes = self.routes.as_slice();
         let many = begun(routes, address);

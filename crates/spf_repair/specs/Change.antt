@@ -7,7 +7,9 @@ use Rattle.spf_tree.specs.Walks.{start, end}
 
 -- a row with the same ends and metric is there
 abbrev pub IsAlike : List Row → Row → Type 0
-IsAlike rows row = (other : Row) × Contains rows other × (start other ≡ start row) × (end other ≡ end row) × (other.metric ≡ row.metric)
+IsAlike rows row =
+    (other : Row) × Contains rows other × (start other ≡ start row) × (end other ≡ end row)
+    × (other.metric ≡ row.metric)
 
 -- rows that went and rows that came between two lists of rows
 pub record AreChanged (before rows removed added : List Row) : Type 0 where
@@ -24,4 +26,6 @@ pub record IsBound (old new : ℕ → Option ℕ) (listed before after : ℕ) : 
 
 -- each removed row has an added one with the same ends and no greater metric
 abbrev pub OnlyFalls : List Row → List Row → Type 0
-OnlyFalls removed added = (row : Row) → Contains removed row → (other : Row) × Contains added other × (start other ≡ start row) × (end other ≡ end row) × (other.metric ≤ row.metric)
+OnlyFalls removed added =
+    (row : Row) → Contains removed row → (other : Row) × Contains added other
+    × (start other ≡ start row) × (end other ≡ end row) × (other.metric ≤ row.metric)

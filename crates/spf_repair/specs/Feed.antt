@@ -10,16 +10,26 @@ use Rattle.spf_tree.specs.Search.{IsCovered, IsOffered}
 
 -- the row has offered what it gives from its start's label
 abbrev pub IsGiven : List Label → ℕ → Row → List (ℕ × ℕ) → List (ℕ × ℕ) → Type 0
-IsGiven labels root row old new = ((at labels (start row) ≡ None) × (new ≡ old)) ⊎ ((c : ℕ) × (at labels (start row) ≡ Some c) × IsOffered labels root (end row) (c + row.metric) old new)
+IsGiven labels root row old new =
+    ((at labels (start row) ≡ None) × (new ≡ old))
+    ⊎ ((c : ℕ) × (at labels (start row) ≡ Some c)
+    × IsOffered labels root (end row) (c + row.metric) old new)
 
 -- it has where its end is marked
 abbrev pub IsGivenIf : List Label → ℕ → List Label → Row → List (ℕ × ℕ) → List (ℕ × ℕ) → Type 0
-IsGivenIf labels root marks row old new = ((is_some (at marks (end row)) ≡ true) × IsGiven labels root row old new) ⊎ ((is_some (at marks (end row)) ≡ false) × (new ≡ old))
+IsGivenIf labels root marks row old new =
+    ((is_some (at marks (end row)) ≡ true) × IsGiven labels root row old new)
+    ⊎ ((is_some (at marks (end row)) ≡ false) × (new ≡ old))
 
 -- each offer comes from a row whose start has a label
 abbrev pub IsFed : List Row → ℕ → List Label → List (ℕ × ℕ) → Type 0
-IsFed rows root labels queue = (offer : ℕ × ℕ) → Contains queue offer → (row : Row) × Contains rows row × ((c : ℕ) × (at labels (start row) ≡ Some c) × (end row ≢ root) × (end row ≡ offer.1) × (c + row.metric ≡ offer.0))
+IsFed rows root labels queue =
+    (offer : ℕ × ℕ) → Contains queue offer → (row : Row) × Contains rows row
+    × ((c : ℕ) × (at labels (start row) ≡ Some c) × (end row ≢ root) × (end row ≡ offer.1)
+    × (c + row.metric ≡ offer.0))
 
 -- what the row gives is covered
 abbrev pub Covers : List Label → ℕ → List (ℕ × ℕ) → Row → Type 0
-Covers labels root queue row = (c : ℕ) → at labels (start row) ≡ Some c → end row ≢ root → c + row.metric < 2 ^ 64 → IsCovered labels queue (end row) (c + row.metric)
+Covers labels root queue row =
+    (c : ℕ) → at labels (start row) ≡ Some c → end row ≢ root → c + row.metric < 2 ^ 64
+    → IsCovered labels queue (end row) (c + row.metric)

@@ -34,7 +34,11 @@ pub fn repair<L: Ledger>(
     requires least { AreLeast before.now root (at old.now) }
     requires differ { AreChanged before.now graph.now.rows removed.now added.now }
     ensures least { IfOk result (λ labels. AreLeast graph.now.rows root (at labels)) }
-    ensures bound { IfOk result (λ labels. ((row : Row) → Contains removed.now row → HasParallel graph.now.rows (start row) (end row) row.metric) → IsBound (at old.now) (at labels) (length removed.now + length added.now) steps.old steps.new) }
+    ensures bound { IfOk result
+        (λ labels. ((row : Row) → Contains removed.now row
+        → HasParallel graph.now.rows (start row) (end row) row.metric)
+        → IsBound (at old.now) (at labels) (length removed.now
+        + length added.now) steps.old steps.new) }
 {
     let rows = rows_in_order(graph);
     let mut marks = match old.blank(alloc) {
@@ -82,8 +86,10 @@ fn carried(
     requires ends { (row : Row) → Contains rows.now row → Contains nodes.now (end row) }
     requires marks { names marks.now ≡ names old.now }
     ensures named { IfOk result (λ labels. AreNamed rows.now root (names labels)) }
-    ensures from { IfOk result (λ labels. (n c : ℕ) → at labels n ≡ Some c → (at old.now n ≡ Some c) × (is_some (at marks.now n) ≡ false)) }
-    ensures into { IfOk result (λ labels. (n : ℕ) → Contains (names labels) n → is_some (at marks.now n) ≡ false → at labels n ≡ at old.now n) }
+    ensures from { IfOk result (λ labels. (n c : ℕ) → at labels n ≡ Some c
+        → (at old.now n ≡ Some c) × (is_some (at marks.now n) ≡ false)) }
+    ensures into { IfOk result (λ labels. (n : ℕ) → Contains (names labels) n
+        → is_some (at marks.now n) ≡ false → at labels n ≡ at old.now n) }
 {
     let all = match with_node(alloc, nodes, root) {
         Ok(all) => all,

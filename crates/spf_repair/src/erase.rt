@@ -20,7 +20,8 @@ use std::sync::ledger::Ledger;
 fn mark(root: u64, node: u64, marks: &mut Labels, nodes: &mut Vec<u64>) -> Result<(), OutOfMemory>
     requires named { Contains (names marks.old) node }
     requires not_root { node ≢ root }
-    ensures grown { OnOk result (HaveGrown root marks.old nodes.old.items marks.new nodes.new.items) }
+    ensures grown { OnOk result
+        (HaveGrown root marks.old nodes.old.items marks.new nodes.new.items) }
     ensures marked { OnOk result (IsMarked marks.new node) }
 {
     if marks.get(node).is_some() {
@@ -36,7 +37,8 @@ fn mark(root: u64, node: u64, marks: &mut Labels, nodes: &mut Vec<u64>) -> Resul
 
 /// Whether the end's label may hang on the start's.
 fn hangs(labels: &Labels, node: u64, to: u64, metric: u32) -> bool
-    ensures { MatchBool result (Hangs labels.now node to metric) (Hangs labels.now node to metric → ⊥) }
+    ensures { MatchBool result (Hangs labels.now node to metric) (Hangs labels.now node to metric
+        → ⊥) }
 {
     let Some(first) = labels.get(node) else {
         return false;
@@ -53,7 +55,8 @@ fn hangs(labels: &Labels, node: u64, to: u64, metric: u32) -> bool
 /// Whether a row with these ends and no greater metric is there.
 fn has_parallel(rows: &[Row], from: u64, to: u64, metric: u32) -> bool
     requires { IsNonDecreasingBy start rows.now }
-    ensures { MatchBool result (HasParallel rows.now from to metric) (HasParallel rows.now from to metric → ⊥) }
+    ensures { MatchBool result (HasParallel rows.now from to metric)
+        (HasParallel rows.now from to metric → ⊥) }
 {
     for place in first_row(rows, from)..rows.len() {
         let row = rows[place];
@@ -78,8 +81,10 @@ fn hang(
     nodes: &mut Vec<u64>,
 ) -> Result<(), OutOfMemory>
     requires { names marks.old ≡ names old.now }
-    ensures grown { OnOk result (HaveGrown root marks.old nodes.old.items marks.new nodes.new.items) }
-    ensures marked { OnOk result (to ≢ root → Hangs old.now node to metric → IsMarked marks.new to) }
+    ensures grown { OnOk result
+        (HaveGrown root marks.old nodes.old.items marks.new nodes.new.items) }
+    ensures marked { OnOk result (to ≢ root → Hangs old.now node to metric
+        → IsMarked marks.new to) }
 {
     if to == root {
         return Ok(());
@@ -104,7 +109,8 @@ fn spread_hang(
 ) -> Result<(), OutOfMemory>
     requires sorted { IsNonDecreasingBy start rows.now }
     requires named { names marks.old ≡ names old.now }
-    ensures grown { OnOk result (HaveGrown root marks.old nodes.old.items marks.new nodes.new.items) }
+    ensures grown { OnOk result
+        (HaveGrown root marks.old nodes.old.items marks.new nodes.new.items) }
     ensures here { OnOk result (HereHangs rows.now root old.now node marks.new (length rows.now)) }
 {
     for place in first_row(rows, node)..rows.len() {
@@ -135,7 +141,8 @@ pub fn erase(
     ensures names { OnOk result (names marks.new ≡ names marks.old) }
     ensures closed { OnOk result (IsClosed rows.now root old.now marks.new) }
     ensures kept { OnOk result ((node : ℕ) → IsMarked marks.old node → IsMarked marks.new node) }
-    ensures inside { OnOk result ((node : ℕ) → IsMarked marks.new node → Contains nodes.new.items node) }
+    ensures inside { OnOk result ((node : ℕ) → IsMarked marks.new node
+        → Contains nodes.new.items node) }
     ensures spared { OnOk result (nodes.old.items ≡ [] → marks.new ≡ marks.old) }
 {
     let mut many = 0;
@@ -161,9 +168,11 @@ fn strike(
 ) -> Result<(), OutOfMemory>
     requires sorted { IsNonDecreasingBy start rows.now }
     requires named { names marks.old ≡ names old.now }
-    ensures grown { OnOk result (HaveGrown root marks.old nodes.old.items marks.new nodes.new.items) }
+    ensures grown { OnOk result
+        (HaveGrown root marks.old nodes.old.items marks.new nodes.new.items) }
     ensures struck { OnOk result (IsStruck rows.now root old.now marks.new row.now) }
-    ensures spared { OnOk result (HasParallel rows.now (start row.now) (end row.now) row.now.metric → (marks.new ≡ marks.old) × (nodes.new.items ≡ nodes.old.items)) }
+    ensures spared { OnOk result (HasParallel rows.now (start row.now) (end row.now) row.now.metric
+        → (marks.new ≡ marks.old) × (nodes.new.items ≡ nodes.old.items)) }
 {
     let (from, to, metric) = (number(row.from), number(row.to), row.metric);
     if to == root {
@@ -193,9 +202,14 @@ pub fn strike_all<L: Ledger>(
 ) -> Result<(), OutOfMemory>
     requires sorted { IsNonDecreasingBy start rows.now }
     requires named { names marks.old ≡ names old.now }
-    ensures grown { OnOk result (HaveGrown root marks.old nodes.old.items marks.new nodes.new.items) }
-    ensures struck { OnOk result ((row : Row) → Contains removed.now row → IsStruck rows.now root old.now marks.new row) }
-    ensures spared { OnOk result (((row : Row) → Contains removed.now row → HasParallel rows.now (start row) (end row) row.metric) → (marks.new ≡ marks.old) × (nodes.new.items ≡ nodes.old.items)) }
+    ensures grown { OnOk result
+        (HaveGrown root marks.old nodes.old.items marks.new nodes.new.items) }
+    ensures struck { OnOk result ((row : Row) → Contains removed.now row
+        → IsStruck rows.now root old.now marks.new row) }
+    ensures spared { OnOk result
+        (((row : Row) → Contains removed.now row
+        → HasParallel rows.now (start row) (end row) row.metric)
+        → (marks.new ≡ marks.old) × (nodes.new.items ≡ nodes.old.items)) }
     ensures steps { OnOk result (steps.new ≡ steps.old + length removed.now) }
 {
     for place in 0..removed.len() {

@@ -56,7 +56,8 @@ pub fn feed_marked(
 ) -> Result<(), OutOfMemory>
     requires { IsFed rows.now root labels.now queue.old }
     ensures fed { OnOk result (IsFed rows.now root labels.now queue.new) }
-    ensures covers { OnOk result ((row : Row) → Contains rows.now row → IsMarked marks.now (end row) → Covers labels.now root queue.new row) }
+    ensures covers { OnOk result ((row : Row) → Contains rows.now row → IsMarked marks.now (end row)
+        → Covers labels.now root queue.new row) }
 {
     for place in 0..rows.len() {
         match give_marked(labels, root, marks, &rows[place], queue) {
@@ -79,8 +80,10 @@ pub fn feed_added<L: Ledger>(
     requires fed { IsFed rows.now root labels.now queue.old }
     requires there { (row : Row) → Contains added.now row → IsAlike rows.now row }
     ensures fed { OnOk result (IsFed rows.now root labels.now queue.new) }
-    ensures kept { OnOk result ((offer : ℕ × ℕ) → Contains queue.old offer → Contains queue.new offer) }
-    ensures covers { OnOk result ((row : Row) → Contains added.now row → Covers labels.now root queue.new row) }
+    ensures kept { OnOk result ((offer : ℕ × ℕ) → Contains queue.old offer
+        → Contains queue.new offer) }
+    ensures covers { OnOk result ((row : Row) → Contains added.now row
+        → Covers labels.now root queue.new row) }
     ensures steps { OnOk result (steps.new ≡ steps.old + length added.now) }
 {
     for place in 0..added.len() {
@@ -105,7 +108,8 @@ pub fn feed_if_marked(
     requires fed { IsFed rows.now root labels.now queue.old }
     requires inside { (node : ℕ) → IsMarked marks.now node → Contains nodes.now node }
     ensures fed { OnOk result (IsFed rows.now root labels.now queue.new) }
-    ensures covers { OnOk result ((row : Row) → Contains rows.now row → IsMarked marks.now (end row) → Covers labels.now root queue.new row) }
+    ensures covers { OnOk result ((row : Row) → Contains rows.now row → IsMarked marks.now (end row)
+        → Covers labels.now root queue.new row) }
 {
     if nodes.len() == 0 {
         return Ok(());

@@ -45,7 +45,8 @@ impl Repaired {
         ensures graph { IfOk result (λ r. r.graph ≡ graph.now) }
         ensures root { IfOk result (λ r. r.root ≡ root) }
         ensures changes { IfOk result (λ r. r.changes ≡ 0) }
-        ensures distances { IfOk result (λ r. AreDistances graph.now.rows (node_number root) r.distances) }
+        ensures distances { IfOk result
+            (λ r. AreDistances graph.now.rows (node_number root) r.distances) }
     {
         let distances = from_scratch(alloc, graph, root)?;
         let graph = graph.copy()?;
@@ -68,13 +69,19 @@ impl Repaired {
     ) -> Result<(), OutOfMemory>
         requires there { (x : Row) → times removed.now x ≤ times self.old.graph.rows x }
         requires few { length self.old.graph.rows + length added.now < 2 ^ 32 + length removed.now }
-        ensures rows { OnOk result ((x : Row) → times self.new.graph.rows x + times removed.now x ≡ times self.old.graph.rows x + times added.now x) }
+        ensures rows { OnOk result ((x : Row) → times self.new.graph.rows x + times removed.now x
+            ≡ times self.old.graph.rows x + times added.now x) }
         ensures graph_root { self.new.graph.root ≡ self.old.graph.root }
         ensures root { self.new.root ≡ self.old.root }
-        ensures distances { AreDistances self.new.graph.rows (node_number self.new.root) self.new.distances }
-        ensures changes { OnOk result (0 < length removed.now + length added.now → self.new.changes ≡ min (self.old.changes + 1) (2 ^ 64 - 1)) }
-        ensures none { length removed.now + length added.now ≡ 0 → IsOk result × (self.new ≡ self.old) × (steps.new ≡ steps.old) }
-        ensures bound { OnOk result (OnlyFalls removed.now added.now → IsBound (cost_at self.old.distances) (cost_at self.new.distances) (length removed.now + length added.now) steps.old steps.new) }
+        ensures distances { AreDistances self.new.graph.rows
+            (node_number self.new.root) self.new.distances }
+        ensures changes { OnOk result (0 < length removed.now + length added.now
+            → self.new.changes ≡ min (self.old.changes + 1) (2 ^ 64 - 1)) }
+        ensures none { length removed.now + length added.now ≡ 0
+            → IsOk result × (self.new ≡ self.old) × (steps.new ≡ steps.old) }
+        ensures bound { OnOk result (OnlyFalls removed.now added.now
+            → IsBound (cost_at self.old.distances) (cost_at self.new.distances) (length removed.now
+            + length added.now) steps.old steps.new) }
         ensures err { OnErr result (self.new ≡ self.old) }
     {
         let _graph = &self.graph;
@@ -106,7 +113,8 @@ impl Repaired {
     /// The distances.
     pub fn distances(&self) -> &Distances
         ensures same { result.now ≡ self.now.distances }
-        ensures distances { AreDistances self.now.graph.rows (node_number self.now.root) result.now }
+        ensures distances { AreDistances self.now.graph.rows
+            (node_number self.now.root) result.now }
     {
         &self.distances
     }

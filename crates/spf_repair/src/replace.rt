@@ -25,7 +25,8 @@ pub fn replaced(
     requires few { length rows.now + length added.now < 2 ^ 32 + length removed.now }
     requires bounded { IsBounded rows.now }
     requires sorted { IsNonDecreasingBy start rows.now }
-    ensures times { IfOk result (λ v. (x : Row) → times v.items x + times removed.now x ≡ times rows.now x + times added.now x) }
+    ensures times { IfOk result (λ v. (x : Row)
+        → times v.items x + times removed.now x ≡ times rows.now x + times added.now x) }
     ensures sorted { IfOk result (λ v. IsNonDecreasingBy start v.items) }
     ensures bounded { IfOk result (λ v. IsBounded v.items) }
 {
@@ -71,7 +72,9 @@ fn exchange(
     requires bounded { IsBounded rows.now }
     requires rows { IsNonDecreasingBy start rows.now }
     requires added { IsNonDecreasingBy start added.now }
-    ensures { IfOk result (λ found. IsExchanged rows.now removed.now added.now merged.new.items (length rows.now) found (length added.now)) }
+    ensures { IfOk result
+        (λ found. IsExchanged rows.now removed.now added.now merged.new.items
+        (length rows.now) found (length added.now)) }
 {
     let (mut found, mut from) = (0, 0);
     for place in 0..rows.len() {
@@ -99,7 +102,10 @@ fn put_below(
 ) -> Result<usize, OutOfMemory>
     requires sorted { IsNonDecreasingBy start added.now }
     requires within { from ≤ length added.now }
-    ensures put { IfOk result (λ now. (rows removed : List Row) (place found : ℕ) → AreFrom rows place node → IsExchanged rows removed added.now merged.old.items place found from → IsExchanged rows removed added.now merged.new.items place found now) }
+    ensures put { IfOk result (λ now. (rows removed : List Row) (place found : ℕ)
+        → AreFrom rows place node
+        → IsExchanged rows removed added.now merged.old.items place found from
+        → IsExchanged rows removed added.now merged.new.items place found now) }
     ensures all { IfOk result (λ now. AreFrom added.now now node) }
     ensures within { IfOk result (λ now. now ≤ length added.now) }
 {
@@ -122,7 +128,10 @@ fn put_below(
 fn put_rest(added: &[Row], from: usize, merged: &mut Vec<Row>) -> Result<(), OutOfMemory>
     requires sorted { IsNonDecreasingBy start added.now }
     requires within { from ≤ length added.now }
-    ensures { OnOk result ((rows removed : List Row) (found : ℕ) → IsExchanged rows removed added.now merged.old.items (length rows) found from → IsExchanged rows removed added.now merged.new.items (length rows) found (length added.now)) }
+    ensures { OnOk result ((rows removed : List Row) (found : ℕ)
+        → IsExchanged rows removed added.now merged.old.items (length rows) found from
+        → IsExchanged rows removed added.now merged.new.items (length rows) found
+        (length added.now)) }
 {
     for place in from..added.len() {
         match merged.push(whole(&added[place])) {
@@ -140,7 +149,8 @@ fn strip(
     found: usize,
     merged: &mut Vec<Row>,
 ) -> Result<usize, OutOfMemory>
-    ensures { IfOk result (λ now. IsStripped row.now removed.now found now merged.old.items merged.new.items) }
+    ensures { IfOk result
+        (λ now. IsStripped row.now removed.now found now merged.old.items merged.new.items) }
 {
     if found < removed.len() {
         if same(row, &removed[found]) {
@@ -156,11 +166,14 @@ fn strip(
 /// Takes each removed row out that wasn't found. There is none where the rows stood in the full order.
 fn without_rest(mut rows: Vec<Row>, removed: &[Row], found: usize) -> Vec<Row>
     requires within { found ≤ length removed.now }
-    requires there { (x : Row) → times removed.now x ≤ times rows.items x + times (take found removed.now) x }
+    requires there { (x : Row) → times removed.now x
+        ≤ times rows.items x + times (take found removed.now) x }
     requires sorted { IsNonDecreasingBy start rows.items }
-    ensures times { (x : Row) → times result.items x + times removed.now x ≡ times rows.items x + times (take found removed.now) x }
+    ensures times { (x : Row) → times result.items x + times removed.now x
+        ≡ times rows.items x + times (take found removed.now) x }
     ensures len { length result.items + length removed.now ≡ length rows.items + found }
-    ensures small { All (λ (r : Row). r.metric < 2 ^ 32) rows.items → All (λ (r : Row). r.metric < 2 ^ 32) result.items }
+    ensures small { All (λ (r : Row). r.metric < 2 ^ 32) rows.items
+        → All (λ (r : Row). r.metric < 2 ^ 32) result.items }
     ensures sorted { IsNonDecreasingBy start result.items }
 {
     if found >= removed.len() {
@@ -173,10 +186,13 @@ fn without_rest(mut rows: Vec<Row>, removed: &[Row], found: usize) -> Vec<Row>
 /// Takes each removed row from a place on out, as often as it is listed.
 fn take_each(rows: &mut Vec<Row>, removed: &[Row], found: usize)
     requires within { found ≤ length removed.now }
-    requires there { (x : Row) → times removed.now x ≤ times rows.old.items x + times (take found removed.now) x }
-    ensures times { (x : Row) → times rows.new.items x + times removed.now x ≡ times rows.old.items x + times (take found removed.now) x }
+    requires there { (x : Row) → times removed.now x
+        ≤ times rows.old.items x + times (take found removed.now) x }
+    ensures times { (x : Row) → times rows.new.items x + times removed.now x
+        ≡ times rows.old.items x + times (take found removed.now) x }
     ensures len { length rows.new.items + length removed.now ≡ length rows.old.items + found }
-    ensures small { All (λ (r : Row). r.metric < 2 ^ 32) rows.old.items → All (λ (r : Row). r.metric < 2 ^ 32) rows.new.items }
+    ensures small { All (λ (r : Row). r.metric < 2 ^ 32) rows.old.items
+        → All (λ (r : Row). r.metric < 2 ^ 32) rows.new.items }
 {
     for place in found..removed.len() {
         take_one(rows, &removed[place]);
@@ -186,9 +202,11 @@ fn take_each(rows: &mut Vec<Row>, removed: &[Row], found: usize)
 /// Takes one row out.
 fn take_one(rows: &mut Vec<Row>, row: &Row)
     requires { 1 ≤ times rows.old.items row.now }
-    ensures times { (x : Row) → times rows.new.items x + cond (same_row x row.now) 1 0 ≡ times rows.old.items x }
+    ensures times { (x : Row) → times rows.new.items x + cond (same_row x row.now) 1 0
+        ≡ times rows.old.items x }
     ensures len { length rows.new.items + 1 ≡ length rows.old.items }
-    ensures small { All (λ (r : Row). r.metric < 2 ^ 32) rows.old.items → All (λ (r : Row). r.metric < 2 ^ 32) rows.new.items }
+    ensures small { All (λ (r : Row). r.metric < 2 ^ 32) rows.old.items
+        → All (λ (r : Row). r.metric < 2 ^ 32) rows.new.items }
 {
     if let Some(place) = find(rows.as_slice(), row) {
         let _row = rows.remove(place);
@@ -197,7 +215,8 @@ fn take_one(rows: &mut Vec<Row>, row: &Row)
 
 /// The place of a row of the same ends and metric.
 fn find(rows: &[Row], row: &Row) -> Option<usize>
-    ensures { MatchOption result (times rows.now row.now ≡ 0) (λ i. (i < length rows.now) × ((d : Row) → same_row row.now (slice_index_or rows.now i d) ≡ true)) }
+    ensures { MatchOption result (times rows.now row.now ≡ 0) (λ i. (i < length rows.now)
+        × ((d : Row) → same_row row.now (slice_index_or rows.now i d) ≡ true)) }
 {
     for place in 0..rows.len() {
         if same(row, &rows[place]) {

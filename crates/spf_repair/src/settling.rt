@@ -19,7 +19,8 @@ use std::sync::ledger::Ledger;
 
 /// Whether the label is at most the cost.
 fn is_within(labels: &Labels, node: u64, cost: u64) -> bool
-    ensures within { MatchBool result (IsWithin (at labels.now node) cost) (IsWithin (at labels.now node) cost → ⊥) }
+    ensures within { MatchBool result (IsWithin (at labels.now node) cost)
+        (IsWithin (at labels.now node) cost → ⊥) }
     ensures fits { cost < 2 ^ 64 }
 {
     match labels.get(node) {
@@ -40,7 +41,8 @@ fn advance(
     requires loose { IsLoose rows.now root labels.old queue.old }
     ensures names { names labels.new ≡ names labels.old }
     ensures loose { OnOk result (IsLoose rows.now root labels.new queue.new) }
-    ensures moved { IfOk result (λ m. IsOutcome m rows.now labels.old labels.new queue.old queue.new) }
+    ensures moved { IfOk result
+        (λ m. IsOutcome m rows.now labels.old labels.new queue.old queue.new) }
 {
     let Some((cost, node)) = queue.pop() else {
         return Ok(Outcome::End);

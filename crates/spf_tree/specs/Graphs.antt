@@ -24,7 +24,8 @@ is_overloaded overloaded node = list_any (λ (o : NodeId). node_number o == node
 -- or at a node that isn't overloaded (ISO 10589 7.2.8)
 abbrev pub is_usable : List Row → List NodeId → ℕ → ℕ → ℕ → ℕ → Bool
 is_usable rows overloaded root from to metric =
-    not (metric == 16777215) && (leads rows to from && (from == root || not (is_overloaded overloaded from)))
+    not (metric == 16777215)
+    && (leads rows to from && (from == root || not (is_overloaded overloaded from)))
 
 -- whether two rows have the same ends and metric (own)
 abbrev pub same_row : Row → Row → Bool
@@ -35,6 +36,9 @@ abbrev pub times : List Row → Row → ℕ
 times rows row = count_by (same_row row) rows
 
 -- the graph has each row that may be walked as often as it is listed, no other row, and this root (ISO 10589 7.2.8)
-pub record AreUsable (rows : List Row) (overloaded : List NodeId) (root : NodeId) (graph : GraphOf) : Type 0 where
+pub record AreUsable (rows : List Row) (overloaded : List NodeId) (root : NodeId)
+    (graph : GraphOf) : Type 0 where
   pub from : graph.root ≡ root
-  pub rows_are : (row : Row) → times graph.rows row ≡ (if is_usable rows overloaded (node_number root) (start row) (end row) row.metric then times rows row else 0)
+  pub rows_are : (row : Row) → times graph.rows row
+      ≡ (if is_usable rows overloaded (node_number root) (start row) (end row) row.metric
+      then times rows row else 0)

@@ -13,8 +13,11 @@ pub record IsLeastWalk (rows : List Row) (root : ℕ) (walk : List Row) (node : 
 -- the first system after the root on a walk, whose last row stands first: pseudonodes are stepped over (ISO 10589 C.2)
 abbrev pub first_system : List Row → Option ℕ
 first_system [] = None
-first_system (row ∷ walk) = if is_some (first_system walk) then first_system walk else (if is_system (end row) then Some (end row) else None)
+first_system (row ∷ walk) =
+    if is_some (first_system walk) then first_system walk
+    else (if is_system (end row) then Some (end row) else None)
 
 -- a next hop: the first system after the root on some least walk to the target (ISO 10589 C.2)
 abbrev pub IsNextHop : List Row → ℕ → ℕ → ℕ → Type 0
-IsNextHop rows root target hop = (walk : List Row) × IsLeastWalk rows root walk target × (first_system walk ≡ Some hop)
+IsNextHop rows root target hop =
+    (walk : List Row) × IsLeastWalk rows root walk target × (first_system walk ≡ Some hop)

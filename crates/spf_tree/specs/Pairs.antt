@@ -14,7 +14,10 @@ abbrev pub is_pair : ℕ → ℕ → ℕ × ℕ → Bool
 is_pair a b pair = pair.0 == a && pair.1 == b
 
 abbrev pub passes : List (ℕ × ℕ) → List (ℕ × ℕ) → ℕ → ℕ → ℕ → ℕ → Bool
-passes pairs overloaded root from to metric = not (metric == 16777215) && (list_any (is_pair to from) pairs && (from == root || not (list_any (is_pair from 0) overloaded)))
+passes pairs overloaded root from to metric =
+    not (metric == 16777215)
+    && (list_any (is_pair to from) pairs
+    && (from == root || not (list_any (is_pair from 0) overloaded)))
 
 abbrev pub row_passes : List (ℕ × ℕ) → List (ℕ × ℕ) → ℕ → Row → Bool
 row_passes pairs overloaded root row = passes pairs overloaded root (start row) (end row) row.metric

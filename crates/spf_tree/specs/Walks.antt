@@ -16,7 +16,8 @@ end row = node_number row.to
 -- one before ends, and none ends at the root; the walk without rows is the one to the root (ISO 10589 C.2)
 abbrev pub IsWalk : List Row → ℕ → List Row → ℕ → Type 0
 IsWalk rows root [] node = node ≡ root
-IsWalk rows root (row ∷ walk) node = Contains rows row × (end row ≡ node) × (node ≢ root) × IsWalk rows root walk (start row)
+IsWalk rows root (row ∷ walk) node =
+    Contains rows row × (end row ≡ node) × (node ≢ root) × IsWalk rows root walk (start row)
 
 -- the sum of a walk's metrics (ISO 10589 C.2)
 abbrev pub cost : List Row → ℕ
@@ -31,5 +32,7 @@ IsWithin (Some c) most = c ≤ most
 -- the least costs of nodes: a node has one exactly where a walk from the root reaches it; some walk costs that, and no
 -- walk costs less (ISO 10589 C.2)
 pub record AreLeast (rows : List Row) (root : ℕ) (costs : ℕ → Option ℕ) : Type 0 where
-  pub walk : (node c : ℕ) → costs node ≡ Some c → (walk : List Row) × IsWalk rows root walk node × (cost walk ≡ c)
-  pub least : (walk : List Row) (node : ℕ) → IsWalk rows root walk node → IsWithin (costs node) (cost walk)
+  pub walk : (node c : ℕ) → costs node ≡ Some c
+      → (walk : List Row) × IsWalk rows root walk node × (cost walk ≡ c)
+  pub least : (walk : List Row) (node : ℕ) → IsWalk rows root walk node
+      → IsWithin (costs node) (cost walk)

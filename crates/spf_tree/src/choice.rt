@@ -109,7 +109,8 @@ fn kept(
 ) -> Result<Vec<Row>, OutOfMemory>
     requires pairs { IsSorted pair_cmp pairs.now }
     requires overloaded { IsSorted pair_cmp overloaded.now }
-    ensures rows { IfOk result (λ kept. kept.items ≡ filter (row_passes pairs.now overloaded.now root) rows.now) }
+    ensures rows { IfOk result (λ kept. kept.items
+        ≡ filter (row_passes pairs.now overloaded.now root) rows.now) }
     ensures small { IfOk result (λ kept. All (λ (row : Row). row.metric < 2 ^ 32) kept.items) }
 {
     let mut kept = Vec::new(alloc);

@@ -104,7 +104,9 @@ pub fn with_rows(
 ) -> Result<Graph, OutOfMemory>
     requires sorted { IsNonDecreasingBy start rows.items }
     requires bounded { IsBounded rows.items }
-    requires ends { (row : Row) → Contains rows.items row → (other : Row) × (Contains graph.now.rows other ⊎ Contains added.now other) × (end other ≡ end row) }
+    requires ends { (row : Row) → Contains rows.items row
+        → (other : Row) × (Contains graph.now.rows other ⊎ Contains added.now other)
+        × (end other ≡ end row) }
     ensures { IfOk result (λ g. (g.rows ≡ rows.items) × (g.root ≡ graph.now.root)) }
 {
     let root = graph.root;

@@ -37,7 +37,8 @@ fn place(labels: &[Label], node: u64) -> usize
     requires { IsRising labels.now }
     ensures within { result ≤ length labels.now }
     ensures below { (k : ℕ) (d : Label) → k < result → (slice_index_or labels.now k d).node < node }
-    ensures above { (k : ℕ) (d : Label) → result ≤ k → k < length labels.now → node ≤ (slice_index_or labels.now k d).node }
+    ensures above { (k : ℕ) (d : Label) → result ≤ k → k < length labels.now
+        → node ≤ (slice_index_or labels.now k d).node }
 {
     let (mut low, mut high) = (0, labels.len());
     while low < high {
@@ -125,7 +126,8 @@ impl Labels {
     pub fn unlabelled(alloc: Global, nodes: &[u64], root: u64) -> Result<Labels, OutOfMemory>
         requires { IsStrictlyIncreasing nodes.now }
         ensures root { IfOk result (λ labels. Contains (names labels) root) }
-        ensures rest { IfOk result (λ labels. (node : ℕ) → Contains nodes.now node → Contains (names labels) node) }
+        ensures rest { IfOk result (λ labels. (node : ℕ) → Contains nodes.now node
+            → Contains (names labels) node) }
         ensures none { IfOk result (λ labels. (node : ℕ) → at labels node ≡ None) }
     {
         let all = match with_node(alloc, nodes, root) {

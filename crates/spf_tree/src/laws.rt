@@ -6,5 +6,6 @@ ghost use Rattle.spf_tree.specs.Distances.{AreDistances};
 
 /// Rows have one list of distances from a root. So distances that were kept up equal those from scratch.
 pub fn distances_law()
-    ensures { (rows : List Row) (root : ℕ) (a b : List (ℕ × ℕ)) → AreDistances rows root a → AreDistances rows root b → a ≡ b }
+    ensures { (rows : List Row) (root : ℕ) (a b : List (ℕ × ℕ)) → AreDistances rows root a
+        → AreDistances rows root b → a ≡ b }
 {}

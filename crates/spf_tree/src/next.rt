@@ -32,7 +32,9 @@ fn leads_on(
     hop: u64,
 ) -> Result<bool, OutOfMemory>
     requires { IsNonDecreasingBy start rows.now }
-    ensures { IfOk result (λ leads. MatchBool leads (LeadsOn rows.now root labels.now target hop) (LeadsOn rows.now root labels.now target hop → ⊥)) }
+    ensures { IfOk result
+        (λ leads. MatchBool leads (LeadsOn rows.now root labels.now target hop)
+        (LeadsOn rows.now root labels.now target hop → ⊥)) }
 {
     if hop == root {
         return Ok(false);
@@ -66,7 +68,8 @@ fn choose(
     hops: &mut Vec<u64>,
 ) -> Result<(), OutOfMemory>
     requires { IsNonDecreasingBy start rows.now }
-    ensures { OnOk result (IsChosen rows.now root labels.now target hop hops.old.items hops.new.items) }
+    ensures { OnOk result
+        (IsChosen rows.now root labels.now target hop hops.old.items hops.new.items) }
 {
     let leads = match leads_on(alloc, rows, labels, root, target, hop) {
         Ok(leads) => leads,
@@ -115,8 +118,10 @@ fn first_systems(
     requires least { AreLeast rows.now root (at labels.now) }
     ensures rising { IfOk result (λ hops. IsStrictlyIncreasing hops.items) }
     ensures systems { IfOk result (λ hops. All (λ hop. is_system hop ≡ true) hops.items) }
-    ensures hops { IfOk result (λ hops. (hop : ℕ) → Contains hops.items hop ↔ IsNextHop rows.now root target hop) }
-    ensures empty { IfOk result (λ hops. is_system target ≡ true → (hops.items ≡ []) ↔ ((target ≡ root) ⊎ (at labels.now target ≡ None))) }
+    ensures hops { IfOk result (λ hops. (hop : ℕ)
+        → Contains hops.items hop ↔ IsNextHop rows.now root target hop) }
+    ensures empty { IfOk result (λ hops. is_system target ≡ true
+        → (hops.items ≡ []) ↔ ((target ≡ root) ⊎ (at labels.now target ≡ None))) }
 {
     let plain = match explore(alloc, rows, labels, root, false, root) {
         Ok(plain) => plain,
@@ -140,8 +145,12 @@ pub fn next_hops(
     requires distances { AreDistances graph.now.rows (node_number root) distances.now }
     requires target { target.pseudonode ≡ 0 }
     ensures rising { IfOk result (λ hops. IsStrictlyIncreasing hops) }
-    ensures hops { IfOk result (λ hops. (hop : ℕ) → Contains hops hop ↔ IsNextHop graph.now.rows (node_number root) (node_number target) hop) }
-    ensures empty { IfOk result (λ hops. (hops ≡ []) ↔ ((node_number target ≡ node_number root) ⊎ (cost_at distances.now (node_number target) ≡ None))) }
+    ensures hops { IfOk result (λ hops. (hop : ℕ)
+        → Contains hops hop
+        ↔ IsNextHop graph.now.rows (node_number root) (node_number target) hop) }
+    ensures empty { IfOk result (λ hops. (hops ≡ [])
+        ↔ ((node_number target ≡ node_number root)
+        ⊎ (cost_at distances.now (node_number target) ≡ None))) }
 {
     let rows = rows_in_order(graph);
     let labels = distances.labels();

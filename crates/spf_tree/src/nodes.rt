@@ -70,7 +70,8 @@ pub fn with_node(alloc: Global, nodes: &[u64], node: u64) -> Result<Vec<u64>, Ou
     requires { IsStrictlyIncreasing nodes.now }
     ensures rising { IfOk result (λ all. IsStrictlyIncreasing all.items) }
     ensures node { IfOk result (λ all. Contains all.items node) }
-    ensures rest { IfOk result (λ all. (other : ℕ) → Contains nodes.now other → Contains all.items other) }
+    ensures rest { IfOk result (λ all. (other : ℕ) → Contains nodes.now other
+        → Contains all.items other) }
 {
     let mut all = Vec::new(alloc);
     match all.extend_from_slice(nodes) {

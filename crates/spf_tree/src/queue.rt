@@ -26,7 +26,8 @@ impl Model for Queue {
 
     ghost view = { λ q. map (λ r. r.0) (heap_items q.heap) };
 
-    ghost invariant = { λ q. IsHeap (λ x y. ordering_then (nat_cmp y.0.0 x.0.0) (nat_cmp y.0.1 x.0.1)) (heap_items q.heap) };
+    ghost invariant = { λ q. IsHeap
+        (λ x y. ordering_then (nat_cmp y.0.0 x.0.0) (nat_cmp y.0.1 x.0.1)) (heap_items q.heap) };
 }
 
 impl Queue {
@@ -49,7 +50,8 @@ impl Queue {
 
     /// Takes an offer of the least cost out; `None` exactly where there is none.
     pub fn pop(&mut self) -> Option<(u64, u64)>
-        ensures left { MatchOption result ((self.old ≡ []) × (self.new ≡ [])) (λ e. IsPermutation self.old (e ∷ self.new)) }
+        ensures left { MatchOption result ((self.old ≡ [])
+            × (self.new ≡ [])) (λ e. IsPermutation self.old (e ∷ self.new)) }
         ensures least { IfSome result (λ e. All (λ o. e.0 ≤ o.0) self.new) }
     {
         let Some(Reverse(offer)) = self.heap.pop() else {

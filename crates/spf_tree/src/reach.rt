@@ -18,7 +18,8 @@ use std::alloc::Global;
 
 /// Whether the metric leads from the node's label to the other's.
 pub fn is_step(labels: &Labels, node: u64, to: u64, metric: u32) -> bool
-    ensures { MatchBool result (IsStep labels.now node to metric) (IsStep labels.now node to metric → ⊥) }
+    ensures { MatchBool result (IsStep labels.now node to metric) (IsStep labels.now node to metric
+        → ⊥) }
 {
     let Some(first) = labels.get(node) else {
         return false;
@@ -44,7 +45,8 @@ fn touch(
 ) -> Result<(), OutOfMemory>
     requires { names marks.old ≡ names labels.now }
     ensures names { OnOk result (names marks.new ≡ names marks.old) }
-    ensures touched { OnOk result (IsTouched labels.now root node to metric marks.old nodes.old.items marks.new nodes.new.items) }
+    ensures touched { OnOk result
+        (IsTouched labels.now root node to metric marks.old nodes.old.items marks.new nodes.new.items) }
 {
     if to == root {
         return Ok(());
@@ -88,9 +90,12 @@ fn spread(
     requires so_far { IsExploring rows.now root labels.now all from marks.old nodes.old.items many }
     requires at_node { Contains nodes.old.items node }
     ensures names { OnOk result (names marks.new ≡ names marks.old) }
-    ensures spread { OnOk result (IsSpreading rows.now root labels.now all from node marks.new nodes.new.items many (length rows.now)) }
+    ensures spread { OnOk result
+        (IsSpreading rows.now root labels.now all from node marks.new nodes.new.items many
+        (length rows.now)) }
     ensures front { OnOk result (IsFront nodes.old.items nodes.new.items) }
-    ensures few { OnOk result (unmarked marks.new + length nodes.new.items ≤ unmarked marks.old + length nodes.old.items) }
+    ensures few { OnOk result (unmarked marks.new + length nodes.new.items
+        ≤ unmarked marks.old + length nodes.old.items) }
 {
     for place in first_row(rows, node)..rows.len() {
         let row = rows[place];
@@ -121,8 +126,10 @@ fn visit(
     requires so_far { IsExploring rows.now root labels.now all from marks.old nodes.old.items many }
     requires in_list { many < length nodes.old.items }
     ensures names { OnOk result (names marks.new ≡ names marks.old) }
-    ensures visited { OnOk result (IsExploring rows.now root labels.now all from marks.new nodes.new.items (many + 1)) }
-    ensures few { OnOk result (unmarked marks.new + length nodes.new.items ≤ unmarked marks.old + length nodes.old.items) }
+    ensures visited { OnOk result
+        (IsExploring rows.now root labels.now all from marks.new nodes.new.items (many + 1)) }
+    ensures few { OnOk result (unmarked marks.new + length nodes.new.items
+        ≤ unmarked marks.old + length nodes.old.items) }
 {
     let node = nodes[many];
     if !goes_on(all, root, node) {

@@ -21,7 +21,8 @@ pub fn first_row(rows: &[Row], node: u64) -> usize
     requires { IsNonDecreasingBy start rows.now }
     ensures within { result ≤ length rows.now }
     ensures below { (k : ℕ) (d : Row) → k < result → start (slice_index_or rows.now k d) < node }
-    ensures above { (k : ℕ) (d : Row) → result ≤ k → k < length rows.now → node ≤ start (slice_index_or rows.now k d) }
+    ensures above { (k : ℕ) (d : Row) → result ≤ k → k < length rows.now
+        → node ≤ start (slice_index_or rows.now k d) }
 {
     let (mut low, mut high) = (0, rows.len());
     while low < high {
@@ -70,7 +71,8 @@ pub fn offer_rows(
     queue: &mut Queue,
 ) -> Result<(), OutOfMemory>
     requires { IsNonDecreasingBy start rows.now }
-    ensures { OnOk result (HaveOffered rows.now root labels.now node cost queue.old queue.new (length rows.now)) }
+    ensures { OnOk result
+        (HaveOffered rows.now root labels.now node cost queue.old queue.new (length rows.now)) }
 {
     for place in first_row(rows, node)..rows.len() {
         let row = rows[place];
@@ -97,7 +99,10 @@ fn step(
     requires search { IsSearch rows.now root labels.old queue.old }
     ensures names { names labels.new ≡ names labels.old }
     ensures search { OnOk result (IsSearch rows.now root labels.new queue.new) }
-    ensures less { IfOk result (λ more. MatchBool more (work rows.now labels.new queue.new < work rows.now labels.old queue.old) (queue.new ≡ [])) }
+    ensures less { IfOk result
+        (λ more. MatchBool more
+        (work rows.now labels.new queue.new < work rows.now labels.old queue.old) (queue.new
+        ≡ [])) }
 {
     let Some((cost, node)) = queue.pop() else {
         return Ok(false);

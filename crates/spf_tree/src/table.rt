@@ -100,7 +100,8 @@ fn first_pair(pairs: &[(u64, u64)], target: u64) -> usize
     requires { IsTable pairs.now }
     ensures within { result ≤ length pairs.now }
     ensures below { (k : ℕ) (d : ℕ × ℕ) → k < result → (slice_index_or pairs.now k d).0 < target }
-    ensures above { (k : ℕ) (d : ℕ × ℕ) → result ≤ k → k < length pairs.now → target ≤ (slice_index_or pairs.now k d).0 }
+    ensures above { (k : ℕ) (d : ℕ × ℕ) → result ≤ k → k < length pairs.now
+        → target ≤ (slice_index_or pairs.now k d).0 }
 {
     let (mut low, mut high) = (0, pairs.len());
     while low < high {
@@ -135,7 +136,8 @@ impl HopTable {
     /// The next hops of a target, in order, each once.
     pub fn hops(&self, alloc: Global, target: NodeId) -> Result<Hops, OutOfMemory>
         ensures rising { IfOk result (λ hops. IsStrictlyIncreasing hops) }
-        ensures hops { IfOk result (λ hops. (hop : ℕ) → Contains hops hop ↔ Contains self.now (node_number target, hop)) }
+        ensures hops { IfOk result (λ hops. (hop : ℕ)
+            → Contains hops hop ↔ Contains self.now (node_number target, hop)) }
     {
         hops_beside(alloc, self.pairs.as_slice(), number(target))
     }
@@ -145,7 +147,8 @@ impl HopTable {
 fn hops_beside(alloc: Global, pairs: &[(u64, u64)], target: u64) -> Result<Hops, OutOfMemory>
     requires { IsTable pairs.now }
     ensures rising { IfOk result (λ hops. IsStrictlyIncreasing hops) }
-    ensures hops { IfOk result (λ hops. (hop : ℕ) → Contains hops hop ↔ Contains pairs.now (target, hop)) }
+    ensures hops { IfOk result (λ hops. (hop : ℕ)
+        → Contains hops hop ↔ Contains pairs.now (target, hop)) }
 {
     let mut hops = Hops::new(alloc);
     for place in first_pair(pairs, target)..pairs.len() {
@@ -170,7 +173,8 @@ pub fn all_next_hops(
     root: NodeId,
 ) -> Result<HopTable, OutOfMemory>
     requires { AreDistances graph.now.rows (node_number root) distances.now }
-    ensures { IfOk result (λ table. (target hop : ℕ) → Contains table (target, hop) ↔ IsNextHop graph.now.rows (node_number root) target hop) }
+    ensures { IfOk result (λ table. (target hop : ℕ)
+        → Contains table (target, hop) ↔ IsNextHop graph.now.rows (node_number root) target hop) }
 {
     let rows = rows_in_order(graph);
     match pairs(alloc, rows, distances.labels(), number(root)) {
@@ -189,7 +193,8 @@ fn pairs(
     requires sorted { IsNonDecreasingBy start rows.now }
     requires least { AreLeast rows.now root (at labels.now) }
     ensures table { IfOk result (λ table. IsTable table.items) }
-    ensures hops { IfOk result (λ table. (target hop : ℕ) → Contains table.items (target, hop) ↔ IsNextHop rows.now root target hop) }
+    ensures hops { IfOk result (λ table. (target hop : ℕ)
+        → Contains table.items (target, hop) ↔ IsNextHop rows.now root target hop) }
 {
     let plain = match explore(alloc, rows, labels, root, false, root) {
         Ok(plain) => plain,

@@ -58,14 +58,16 @@ module _ {N B : Type 0} where
 
     -- of the two lists seen that were joined, the shorter is a beginning of the longer
     abbrev pub Compares : Step (Option T) → SeatState T N B → ℕ → SeatState T N B → Type 0
-    Compares st m n m' = (m' ≡ m) × IsPrefix m.0.shorter_seen m.0.seen × WholeSees m.0 × (m.0.left < 2 ^ 64)
+    Compares st m n m' = (m' ≡ m) × IsPrefix m.0.shorter_seen m.0.seen × WholeSees m.0
+        × (m.0.left < 2 ^ 64)
 
   module _ {T : Type 0} (notes : T → List N) (begins : T → B) where
     -- where the ticket is served, the seat takes the value, whose notes begin with what was seen
     abbrev pub Looks : Step (Option T) → SeatState T N B → ℕ → SeatState T N B → Type 0
     Looks st m n m' = (t : ℕ) → m.0.stage ≡ Waiting t
         → (n ≢ t → m' ≡ m)
-        × (n ≡ t → (x : T) × (m'.0 ≡ record m.0 { stage = Inside (notes x) }) × (m'.1 ≡ (0, Some x) ∷ m.1)
+        × (n ≡ t → (x : T) × (m'.0 ≡ record m.0 { stage = Inside (notes x) })
+        × (m'.1 ≡ (0, Some x) ∷ m.1)
         × IsPrefix m.0.seen (notes x)
         × ((g : Start B) → m.0.start ≡ Some g
         → (begins x ≡ g.beginning) × (length (notes x) < g.turns) × (g.turns < 2 ^ 64)))

@@ -106,7 +106,8 @@ fn add_checksum(
     octets: &[u8],
 ) -> Result<(), OutOfMemory>
     requires { 12 ≤ length octets.now }
-    ensures { OnOk result (text.new ≡ text.old ++ show.checksum_text lifetime checksum flags octets.now) }
+    ensures { OnOk result (text.new ≡ text.old
+        ++ show.checksum_text lifetime checksum flags octets.now) }
 {
     text.extend(b" checksum ")?;
     add_hex_field(text, checksum)?;
@@ -200,7 +201,8 @@ fn add_tlv(text: &mut Octets, tlv: &Tlv<'_>) -> Result<(), OutOfMemory>
 /// Adds a line for each TLV.
 fn add_tlvs(text: &mut Octets, tlvs: &[u8], first: usize) -> Result<(), OutOfMemory>
     requires { first + length tlvs.now < 2 ^ 64 }
-    ensures { OnOk result (text.new ≡ text.old ++ flat_map show.tlv_line (tlv_list first tlvs.now)) }
+    ensures { OnOk result (text.new ≡ text.old
+        ++ flat_map show.tlv_line (tlv_list first tlvs.now)) }
 {
     for item in Tlvs::new(tlvs, first) {
         let Ok(tlv) = item else {
@@ -223,7 +225,8 @@ fn add_head(
     octets: &[u8],
 ) -> Result<(), OutOfMemory>
     requires { header_length (kind_of (pdu_view pdu.now)) ≤ length octets.now }
-    ensures { OnOk result (text.new ≡ text.old ++ show.head_text number (pdu_view pdu.now) octets.now) }
+    ensures { OnOk result (text.new ≡ text.old
+        ++ show.head_text number (pdu_view pdu.now) octets.now) }
 {
     add_number(text, b"pdu ", number as u64)?;
     text.push(b' ')?;
@@ -240,7 +243,8 @@ fn add_pdu(
     octets: &[u8],
 ) -> Result<(), OutOfMemory>
     requires { header_length (kind_of (pdu_view pdu.now)) ≤ length octets.now }
-    ensures { OnOk result (text.new ≡ text.old ++ show.pdu_lines number (pdu_view pdu.now) octets.now) }
+    ensures { OnOk result (text.new ≡ text.old
+        ++ show.pdu_lines number (pdu_view pdu.now) octets.now) }
 {
     let tlvs = pdu.tlvs();
     let first = pdu.header_len();
@@ -268,7 +272,8 @@ pub fn add_fault(
 
 /// Adds the lines of the PDU that octets begin with, or of its fault.
 pub fn add_octets(text: &mut Octets, number: usize, octets: &[u8]) -> Result<(), OutOfMemory>
-    ensures { OnOk result (text.new ≡ text.old ++ show.octets_lines number octets.now (decoded octets.now)) }
+    ensures { OnOk result (text.new ≡ text.old
+        ++ show.octets_lines number octets.now (decoded octets.now)) }
 {
     match decode(octets) {
         Ok((pdu, end)) => add_pdu(text, number, &pdu, &octets[..end]),
