@@ -1,4 +1,5 @@
 pub mod Faults
+pub mod Frames
 pub mod Memory
 pub mod Sinks
 pub mod Sources

@@ -5,6 +5,7 @@
 //! own; no standard speaks of it.
 //!
 //! - `source.rt`, `sink.rt`: the traits
+//! - `frame.rt`: the datagrams that PDUs are sent in; `laws.rt`: that a wrapped PDU is unwrapped as it was
 //! - `reading.rt`, `writing.rt`: a whole input read, a whole piece written
 //! - `text.rt`: texts that are made as they are written, and the one writer of them all
 //! - `memory_source.rt`, `memory_sink.rt`: their forms in memory; `calls.rt`: which calls of these fail
@@ -12,6 +13,8 @@
 #![tactic(auto)]
 
 mod calls;
+mod frame;
+pub mod laws;
 mod memory_sink;
 mod memory_source;
 mod reading;
@@ -23,6 +26,7 @@ mod tests;
 mod text;
 mod writing;
 
+pub use frame::{FrameFault, unwrap, wrap};
 pub use memory_sink::MemorySink;
 pub use memory_source::MemorySource;
 pub use reading::{WholeFault, read_whole};

@@ -1,9 +1,9 @@
 //! What no clause says: each call once, by pieces and with failing calls.
 use crate::{
-    Got, MemorySink, MemorySource, Put, Sink, Source, StdSink, StdSource, WholeFault, WriteFailed,
-    read_whole, write_all,
+    FrameFault, Got, MemorySink, MemorySource, Put, Sink, Source, StdSink, StdSource, WholeFault,
+    WriteFailed, read_whole, unwrap, wrap, write_all,
 };
-use isis_base::{Octets, OutOfMemory};
+use isis_base::{Octets, OutOfMemory, Snpa};
 use std::alloc::Global;
 use std::collections::VecDeque;
 use std::io;
@@ -210,6 +210,32 @@ fn adapts_readers_and_writers(rt: HostRuntime) -> Result<(), Fail> {
         Err(WriteFailed)
     );
     assert_eq!(rt; write_all(&mut StdSink::new(Broken), b""), Ok(()));
+    Ok(())
+}
+
+#[test]
+fn wraps_and_unwraps(rt: HostRuntime) -> Result<(), Fail> {
+    let snpa = Snpa([0, 0, 0, 0, 0, 1]);
+    for (pdu, want) in [
+        (&b""[..], &b"ISU1\x00\x00\x00\x00\x00\x01"[..]),
+        (
+            &b"\x83\x1b"[..],
+            &b"ISU1\x00\x00\x00\x00\x00\x01\x83\x1b"[..],
+        ),
+    ] {
+        let datagram = wrap(rt.alloc(), snpa, pdu)?;
+        assert_eq!(rt; datagram.as_slice(), want);
+        assert_eq!(rt; unwrap(datagram.as_slice()), Ok((snpa, pdu)));
+    }
+    for (datagram, want) in [
+        (&b""[..], FrameFault::Short),
+        (&b"ISU1\x00\x00\x00\x00\x00"[..], FrameFault::Short),
+        (&b"ISU2\x00\x00\x00\x00\x00"[..], FrameFault::Short),
+        (&b"ISU2\x00\x00\x00\x00\x00\x01"[..], FrameFault::Magic),
+        (&b"isu1\x00\x00\x00\x00\x00\x01\x83"[..], FrameFault::Magic),
+    ] {
+        assert_eq!(rt; unwrap(datagram), Err(want));
+    }
     Ok(())
 }
 

@@ -1,4 +1,4 @@
-use Rattle.std.proofs.Common.{◌≡◌, ℕ, List, subst}
+use Rattle.std.proofs.Common.{ℕ, List, subst}
 use Rattle.isis_edge.specs.Told.{WrotePrefix}
 use Rattle.isis_edge.proofs.ToldLemmas.{WrotePrefix-from_count}
 use Rattle.isis_edge.proofs.text.flush.Goals as goal

@@ -1,5 +1,5 @@
-use Rattle.std.proofs.Common.{rules, ◌++◌, ◌≤◌, arith}
-use Rattle.isis_edge.proofs.ToldLemmas.{IsUnderway, WrotePrefix-later, underway_same, underway_front}
+use Rattle.std.proofs.Common.{arith}
+use Rattle.isis_edge.proofs.ToldLemmas.{WrotePrefix-later, underway_same, underway_front}
 use Rattle.isis_edge.proofs.text.write_text.Goals as goal
 
 pub returns-in-Err-flush-clause-begun : goal.returns-in-Err-flush-clause-begun
