@@ -2,8 +2,10 @@
 //! next hops, look-ups by a hash map of prefixes that is asked from the longest length down. Words: `routes` or `lookup`,
 //! and the number of candidates. Writes the nanoseconds of the fastest round and a count that shows its work.
 
-use std::cmp::Reverse;
-use std::collections::{BTreeSet, BinaryHeap, HashMap};
+mod plain;
+
+use plain::{all_next_hops, edges, from_scratch};
+use std::collections::HashMap;
 use std::time::Instant;
 
 const SYSTEMS: u64 = 1000;
@@ -11,55 +13,10 @@ const SYSTEMS: u64 = 1000;
 /// Adjacency lists; a system's place is its number.
 fn graph() -> Vec<Vec<(usize, u32)>> {
     let mut lists = vec![Vec::new(); SYSTEMS as usize];
-    for n in 0..SYSTEMS {
-        let next = (n + 1) % SYSTEMS;
-        let far = n.wrapping_mul(2654435761).wrapping_add(12345) % SYSTEMS;
-        let near = (n.wrapping_mul(7) % 13) as u32 + 1;
-        let wide = (n.wrapping_mul(11) % 53) as u32 + 1;
-        for (from, to, metric) in [(n, next, near), (next, n, near), (n, far, wide), (far, n, wide)] {
-            lists[from as usize].push((to as usize, metric));
-        }
+    for (from, to, metric) in edges(SYSTEMS) {
+        lists[from as usize].push((to as usize, metric));
     }
     lists
-}
-
-fn from_scratch(graph: &[Vec<(usize, u32)>], root: usize) -> Vec<Option<u64>> {
-    let mut costs = vec![None; graph.len()];
-    let mut offers = BinaryHeap::new();
-    offers.push(Reverse((0, root)));
-    while let Some(Reverse((cost, place))) = offers.pop() {
-        if costs[place].is_some() {
-            continue;
-        }
-        costs[place] = Some(cost);
-        for (to, metric) in &graph[place] {
-            if costs[*to].is_none() {
-                offers.push(Reverse((cost + u64::from(*metric), *to)));
-            }
-        }
-    }
-    costs
-}
-
-/// The next hops of all systems: sets carried along tight rows in order of cost. No metric is 0 here, and no pseudonode.
-fn all_next_hops(graph: &[Vec<(usize, u32)>], costs: &[Option<u64>], root: usize) -> Vec<BTreeSet<usize>> {
-    let mut order: Vec<usize> = (0..costs.len()).filter(|place| costs[*place].is_some()).collect();
-    order.sort_by_key(|place| costs[*place]);
-    let mut hops = vec![BTreeSet::new(); costs.len()];
-    for place in order {
-        let cost = costs[place].unwrap();
-        for (to, metric) in &graph[place] {
-            if *to != root && costs[*to] == Some(cost + u64::from(*metric)) {
-                if place == root {
-                    hops[*to].insert(*to);
-                } else {
-                    let more = hops[place].clone();
-                    hops[*to].extend(more);
-                }
-            }
-        }
-    }
-    hops
 }
 
 #[derive(Clone, Copy)]
