@@ -45,12 +45,12 @@ module _ (key pdu : List ℕ) (header : ℕ) where
   fault_of found = fault_at key pdu header (place_in found)
 
   -- the fault by the three tests
-  fault-some : (tlv : TlvView) (t b d : Bool) → hmac_test tlv ≡ t → has_purge_body pdu header ≡ b → has_digest key pdu (tlv.place + 3) ≡ d → fault_of (Some tlv) ≡ cond t (cond b (Some PurgeBody) (cond d None (Some Wrong))) (Some OtherType)
-  fault-some tlv true b d hmac body digest =
+  fault-is_some : (tlv : TlvView) (t b d : Bool) → hmac_test tlv ≡ t → has_purge_body pdu header ≡ b → has_digest key pdu (tlv.place + 3) ≡ d → fault_of (Some tlv) ≡ cond t (cond b (Some PurgeBody) (cond d None (Some Wrong))) (Some OtherType)
+  fault-is_some tlv true b d hmac body digest =
       ap (λ (u : Bool). fault_at key pdu header (cond u (Ok (tlv.place + 3)) (Err OtherType))) hmac
       ∙ ap (λ (u : Bool). cond u (Some PurgeBody) (cond (has_digest key pdu (tlv.place + 3)) None (Some Wrong))) body
       ∙ ap (λ (u : Bool). cond b (Some PurgeBody) (cond u None (Some Wrong))) digest
-  fault-some tlv false b d hmac body digest =
+  fault-is_some tlv false b d hmac body digest =
       ap (λ (u : Bool). fault_at key pdu header (cond u (Ok (tlv.place + 3)) (Err OtherType))) hmac
 
   abbrev is_not : {P : Type 0} (t : Bool) → Decides t P → ¬ P → t ≡ false
@@ -59,19 +59,19 @@ module _ (key pdu : List ℕ) (header : ℕ) where
   -- each case gives its fault
   other-fault : (found : Option TlvView) → IsSomeAnd found (λ tlv. ¬ IsHmac tlv) → fault_of found ≡ Some OtherType
   other-fault None h = absurd h
-  other-fault (Some tlv) h = fault-some tlv false _ _ (is_not _ (hmac-Decides tlv) h) refl refl
+  other-fault (Some tlv) h = fault-is_some tlv false _ _ (is_not _ (hmac-Decides tlv) h) refl refl
 
   body-fault : (found : Option TlvView) → IsSomeAnd found IsHmac → HasPurgeBody pdu header → fault_of found ≡ Some PurgeBody
   body-fault None h body = absurd h
-  body-fault (Some tlv) h body = fault-some tlv true true _ ((hmac-Decides tlv).1 h) ((body-Decides pdu header).1 body) refl
+  body-fault (Some tlv) h body = fault-is_some tlv true true _ ((hmac-Decides tlv).1 h) ((body-Decides pdu header).1 body) refl
 
   wrong-fault : (found : Option TlvView) → IsSomeAnd found (λ tlv. IsHmac tlv × ¬ HasDigest key pdu (tlv.place + 3)) → ¬ HasPurgeBody pdu header → fault_of found ≡ Some Wrong
   wrong-fault None h body = absurd h
-  wrong-fault (Some tlv) h body = fault-some tlv true false false ((hmac-Decides tlv).1 h.0) (is_not _ (body-Decides pdu header) body) (is_not _ (digest-Decides key pdu (tlv.place + 3)) h.1)
+  wrong-fault (Some tlv) h body = fault-is_some tlv true false false ((hmac-Decides tlv).1 h.0) (is_not _ (body-Decides pdu header) body) (is_not _ (digest-Decides key pdu (tlv.place + 3)) h.1)
 
   no-fault : (found : Option TlvView) → IsSomeAnd found (λ tlv. IsHmac tlv × HasDigest key pdu (tlv.place + 3)) → ¬ HasPurgeBody pdu header → fault_of found ≡ None
   no-fault None h body = absurd h
-  no-fault (Some tlv) h body = fault-some tlv true false true ((hmac-Decides tlv).1 h.0) (is_not _ (body-Decides pdu header) body) ((digest-Decides key pdu (tlv.place + 3)).1 h.1)
+  no-fault (Some tlv) h body = fault-is_some tlv true false true ((hmac-Decides tlv).1 h.0) (is_not _ (body-Decides pdu header) body) ((digest-Decides key pdu (tlv.place + 3)).1 h.1)
 
   fault-from_cause : (fault : AuthFault) → AuthCause key pdu header fault → auth_fault key pdu header ≡ Some fault
   unfolding auth_fault digest_place
@@ -96,12 +96,12 @@ module _ (key pdu : List ℕ) (header : ℕ) where
       let body = body-Decides pdu header in
       let digest = digest-Decides key pdu (tlv.place + 3) in
       elim (hmac_test tlv) as (λ t. hmac_test tlv ≡ t → Case (fault_of (Some tlv))) [
-        | false ↦ λ et. subst Case (sym (fault-some tlv false _ _ et refl refl)) (subst (λ (o : Option TlvView). IsSomeAnd o (λ it. ¬ IsHmac it)) (sym is) (λ h. cc))
+        | false ↦ λ et. subst Case (sym (fault-is_some tlv false _ _ et refl refl)) (subst (λ (o : Option TlvView). IsSomeAnd o (λ it. ¬ IsHmac it)) (sym is) (λ h. cc))
         | true ↦ λ et. elim (has_purge_body pdu header) as (λ b. has_purge_body pdu header ≡ b → Case (fault_of (Some tlv))) [
-          | true ↦ λ eb. subst Case (sym (fault-some tlv true true _ et eb refl)) (subst (λ (o : Option TlvView). IsSomeAnd o IsHmac) (sym is) (test.0 et), body.0 eb)
+          | true ↦ λ eb. subst Case (sym (fault-is_some tlv true true _ et eb refl)) (subst (λ (o : Option TlvView). IsSomeAnd o IsHmac) (sym is) (test.0 et), body.0 eb)
           | false ↦ λ eb. elim (has_digest key pdu (tlv.place + 3)) as (λ d. has_digest key pdu (tlv.place + 3) ≡ d → Case (fault_of (Some tlv))) [
-            | true ↦ λ ed. subst Case (sym (fault-some tlv true false true et eb ed)) (subst (λ (o : Option TlvView). IsSomeAnd o (λ it. IsHmac it × HasDigest key pdu (it.place + 3))) (sym is) (test.0 et, digest.0 ed), λ h. let yes_b = body.1 h in cc)
-            | false ↦ λ ed. subst Case (sym (fault-some tlv true false false et eb ed)) (subst (λ (o : Option TlvView). IsSomeAnd o (λ it. IsHmac it × ¬ HasDigest key pdu (it.place + 3))) (sym is) (test.0 et, λ h. let yes_d = digest.1 h in cc), λ h. let yes_b = body.1 h in cc)
+            | true ↦ λ ed. subst Case (sym (fault-is_some tlv true false true et eb ed)) (subst (λ (o : Option TlvView). IsSomeAnd o (λ it. IsHmac it × HasDigest key pdu (it.place + 3))) (sym is) (test.0 et, digest.0 ed), λ h. let yes_b = body.1 h in cc)
+            | false ↦ λ ed. subst Case (sym (fault-is_some tlv true false false et eb ed)) (subst (λ (o : Option TlvView). IsSomeAnd o (λ it. IsHmac it × ¬ HasDigest key pdu (it.place + 3))) (sym is) (test.0 et, λ h. let yes_d = digest.1 h in cc), λ h. let yes_b = body.1 h in cc)
           ] refl
         ] refl
       ] refl

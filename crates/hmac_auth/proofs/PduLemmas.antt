@@ -36,8 +36,8 @@ header-of_lsp number header either is =
     cc
 
 -- the digest of an LSP stands behind its checksum
-pub lsp-behind : (pdu : List ℕ) (header place : ℕ) → IsPdu pdu header → header + 3 ≤ place → is_lsp pdu ≡ true → 26 ≤ place
-lsp-behind pdu header place is behind lsp =
+pub lsp-past_header : (pdu : List ℕ) (header place : ℕ) → IsPdu pdu header → header + 3 ≤ place → is_lsp pdu ≡ true → 26 ≤ place
+lsp-past_header pdu header place is behind lsp =
     let kind = pdu_type pdu in
     let either : (kind ≡ 18) ⊎ (kind ≡ 20) = ⊎_elim (λ e. inl (eqb-true kind 18 e)) (λ e. inr (eqb-true kind 20 e)) (or_cases (eqb kind 18) (eqb kind 20) lsp) in
     let same = header-of_lsp kind header either is.kind in

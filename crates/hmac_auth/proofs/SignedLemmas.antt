@@ -15,13 +15,13 @@ use Rattle.isis_base.specs.PduKinds.{header_length, kind_of_number}
 use Rattle.hmac_auth.specs.Pdus.{pdu_type, is_lsp, is_purge, with_piece, zeroed, blanked}
 use Rattle.hmac_auth.specs.Auth.{HasDigest, place_in, digest_place, IsDigestPlace, has_purge_body, has_digest, fault_at, auth_fault}
 use Rattle.hmac_auth.proofs.HmacLemmas.{length-hmac}
-use Rattle.hmac_auth.proofs.PduLemmas.{header-least, lsp-behind}
+use Rattle.hmac_auth.proofs.PduLemmas.{header-least, lsp-past_header}
 use Rattle.hmac_auth.proofs.PlaceLemmas.{is_auth, digest-within}
 use Rattle.hmac_auth.proofs.CauseLemmas.{digest-Decides}
 use Rattle.hmac_auth.proofs.SignLemmas.{take-front, get-front, drop-back, piece-there, piece-length, piece-later, is_other, Kept, tlvs-kept}
 
-pub stands-behind : (pdu : List ℕ) (place : ℕ) → IsDigestPlace pdu place → is_lsp pdu ≡ true → 26 ≤ place
-stands-behind pdu place there = lsp-behind pdu there.0 place there.1 (digest-within pdu there.0 place there.1.within there.2).0
+pub digest_place-past_header : (pdu : List ℕ) (place : ℕ) → IsDigestPlace pdu place → is_lsp pdu ≡ true → 26 ≤ place
+digest_place-past_header pdu place there = lsp-past_header pdu there.0 place there.1 (digest-within pdu there.0 place there.1.within there.2).0
 
 stands-at : (pdu : List ℕ) (place header : ℕ) → IsDigestPlace pdu place → IsPdu pdu header → digest_place pdu header ≡ Ok place
 stands-at pdu place header there is =

@@ -17,9 +17,9 @@ pub enum AuthFault {
 
 impl fmt::Display for AuthFault {
     ghost use Rattle.std.specs.Prelude.{Some};
-    ghost use Rattle.hmac_auth.specs.Faults.{fault_text};
+    ghost use Rattle.hmac_auth.specs.Faults.{auth_fault_text};
 
-    ghost output = { λ fault. Some (fault_text fault) };
+    ghost output = { λ fault. Some (auth_fault_text fault) };
 
     fn fmt<W: fmt::Write>(&self, f: &mut fmt::Formatter<W>) -> fmt::Result {
         match self {

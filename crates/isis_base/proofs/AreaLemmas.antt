@@ -7,8 +7,8 @@ use Rattle.std.proofs.lemmas.Bool.{cases_lt, cases_order}
 use Rattle.isis_base.specs.declared.parts.Part.{Part}
 use Rattle.isis_base.specs.declared.parts.Part.TheVariants.{Octet, Mark}
 use Rattle.isis_base.specs.declared.area_text.TheConstants.{AREA_TEXT}
-use Rattle.isis_base.specs.Texts.{spelled, octet_count, Spells, IsFaultAt}
-use Rattle.isis_base.specs.AreaTexts.{groups_text, area_text, SpellsArea, IsArea, octets_of_length, area_of}
+use Rattle.isis_base.specs.Texts.{form_text, octet_count, Spells, IsFaultAt}
+use Rattle.isis_base.specs.AreaTexts.{groups_text, area_text, SpellsArea, IsAreaText, octets_of_length, area_of}
 use Rattle.isis_base.specs.Misfit.{later, pair_of, after_pair, misfit_of, octets_of, unless_misfit, text_octets}
 use Rattle.isis_base.proofs.MisfitLemmas.{later-none, misfit_of-longest, misfit_of-goes_on, misfit_of-within, blank, misfit_of-blank, never-none}
 use Rattle.isis_base.proofs.SpellingLemmas.{HasPlainMarks, Spells-from_misfit, Spells-fits, Spells-one, Spells-spelled, text_octets-spelled}
@@ -60,12 +60,12 @@ pub area_form-count : (n : ℕ) → octet_count (area_form n) ≡ n
 area_form-count zero = refl
 area_form-count (suc n) = omega (arith, group_form-count n)
 
-groups-spelled : (octets : List ℕ) → spelled (group_form (length octets)) octets ≡ groups_text octets
+groups-spelled : (octets : List ℕ) → form_text (group_form (length octets)) octets ≡ groups_text octets
 groups-spelled [] = refl
 groups-spelled (a ∷ []) = refl
 groups-spelled (a ∷ b ∷ octets) = let rest = groups-spelled octets in cc
 
-area-spelled : (octets : List ℕ) → spelled (area_form (length octets)) octets ≡ area_text octets
+area-spelled : (octets : List ℕ) → form_text (area_form (length octets)) octets ≡ area_text octets
 area-spelled [] = refl
 area-spelled (a ∷ octets) = let rest = groups-spelled octets in cc
 
@@ -80,7 +80,7 @@ SpellsArea-from_form n text octets some fits s =
       small = s.small;
       some = omega arith;
       fits = omega arith;
-      same = subst (λ (m : ℕ). str_to_ascii_lowercase text ≡ spelled (area_form m) octets) count s.same ∙ area-spelled octets;
+      same = subst (λ (m : ℕ). str_to_ascii_lowercase text ≡ form_text (area_form m) octets) count s.same ∙ area-spelled octets;
     }
 
 -- the length of the texts of a form
@@ -225,7 +225,7 @@ front-fits n m k text more count some fits within e =
     ]
 
 -- where a text doesn't fit the form of its length is its fault
-pub IsFaultAt-area : (n : ℕ) (text : List ℕ) (place : ℕ) → IsCount (length text) n → misfit_of (area_form n) text ≡ Some place → IsFaultAt IsArea text place
+pub IsFaultAt-area : (n : ℕ) (text : List ℕ) (place : ℕ) → IsCount (length text) n → misfit_of (area_form n) text ≡ Some place → IsFaultAt IsAreaText text place
 IsFaultAt-area n text place count e =
     let plain = area_form-plain n in
     let on = misfit_of-goes_on (area_form n) text place e in
@@ -258,7 +258,7 @@ pub SpellsArea-written : (octets : List ℕ) → 1 ≤ length octets → length 
 SpellsArea-written octets some fits small =
     let n = length octets in
     let s = Spells-spelled (area_form n) octets (area_form-plain n) small (sym (area_form-count n)) in
-    subst (λ (text : List ℕ). SpellsArea text octets) (area-spelled octets) (SpellsArea-from_form n (spelled (area_form n) octets) octets some fits s)
+    subst (λ (text : List ℕ). SpellsArea text octets) (area-spelled octets) (SpellsArea-from_form n (form_text (area_form n) octets) octets some fits s)
 
 -- the number of octets by the text's length
 pub octets_of_length-count : (long : ℕ) → IsCount long (octets_of_length long)

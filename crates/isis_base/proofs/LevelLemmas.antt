@@ -8,7 +8,7 @@ use Rattle.isis_base.specs.declared.level.LevelSet.{LevelSet}
 use Rattle.isis_base.specs.declared.level.LevelSet.TheVariants.{One, Two, Both}
 use Rattle.std.specs.Str.{bytes_eq}
 use Rattle.std.proofs.lemmas.Slice.Eq.{bytes_eq-Decides}
-use Rattle.isis_base.specs.Levels.{levels_text, levels_of, IsLevels}
+use Rattle.isis_base.specs.Levels.{levels_text, levels_of, IsLevelsText}
 use Rattle.isis_base.specs.Texts.{IsFaultAt}
 
 abbrev common : List ℕ → List ℕ → ℕ
@@ -57,10 +57,10 @@ goes_on : (word text : List ℕ) → take (common word text) text ++ drop (commo
 goes_on word text = ap (λ (front : List ℕ). front ++ drop (common word text) word) (sym (take-common word text)) ∙ take-append-drop (common word text) word
 
 abbrev GoesOn : List ℕ → ℕ → Type 0
-GoesOn text place = (more : List ℕ) × IsLevels (take place text ++ more)
+GoesOn text place = (more : List ℕ) × IsLevelsText (take place text ++ more)
 
 -- where a text agrees longest with that of some levels is its fault
-pub IsFaultAt-levels : (text : List ℕ) (place : ℕ) → place ≡ max (common (codes "L1L2") text) (common (codes "L2") text) → ((set : LevelSet) → text ≡ levels_text set → ⊥) → IsFaultAt IsLevels text place
+pub IsFaultAt-levels : (text : List ℕ) (place : ℕ) → place ≡ max (common (codes "L1L2") text) (common (codes "L2") text) → ((set : LevelSet) → text ≡ levels_text set → ⊥) → IsFaultAt IsLevelsText text place
 IsFaultAt-levels text place e none =
     let both = common (codes "L1L2") text in
     let two = common (codes "L2") text in

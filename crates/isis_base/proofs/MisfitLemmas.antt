@@ -6,9 +6,9 @@ use Rattle.isis_base.specs.declared.parts.Part.{Part}
 use Rattle.isis_base.specs.declared.parts.Part.TheVariants.{Octet, Mark}
 use Rattle.isis_base.specs.Misfit.{later, pair_of, after_pair, misfit_of}
 
-pub later-some : (n p : ℕ) (o : Option ℕ) → later n o ≡ Some p → (q : ℕ) × (o ≡ Some q) × (p ≡ n + q)
-later-some n p None e = cc
-later-some n p (Some q) e = (q, refl, cc)
+pub later-is_some : (n p : ℕ) (o : Option ℕ) → later n o ≡ Some p → (q : ℕ) × (o ≡ Some q) × (p ≡ n + q)
+later-is_some n p None e = cc
+later-is_some n p (Some q) e = (q, refl, cc)
 
 pub later-none : (n : ℕ) (o : Option ℕ) → later n o ≡ None → o ≡ None
 later-none n None e = refl
@@ -17,21 +17,21 @@ later-none n (Some q) e = cc
 -- what a longer front of the text fits, goes no further than the place that doesn't fit
 mark-longest : (one two : Option ℕ) (k p : ℕ) → ((q : ℕ) → one ≡ Some q → two ≡ None → k ≤ q) → (test : Bool) → cond test (later 1 one) (Some 0) ≡ Some p → cond test (later 1 two) (Some 0) ≡ None → k + 1 ≤ p
 mark-longest one two k p rec true e f =
-    let found = later-some 1 p one e in
+    let found = later-is_some 1 p one e in
     let here = rec found.0 found.1 (later-none 1 two f) in
     omega arith
 mark-longest one two k p rec false e f = cc
 
 pair-longest : (one two : Option ℕ) (k p : ℕ) → ((q : ℕ) → one ≡ Some q → two ≡ None → k ≤ q) → (pair : Result ℕ ℕ) → after_pair pair one ≡ Some p → after_pair pair two ≡ None → k + 2 ≤ p
 pair-longest one two k p rec (Ok o) e f =
-    let found = later-some 2 p one e in
+    let found = later-is_some 2 p one e in
     let here = rec found.0 found.1 (later-none 2 two f) in
     omega arith
 pair-longest one two k p rec (Err d) e f = cc
 
 -- the first digit of a pair that fits is one, so the misfit of another pair that begins with it is later
 digit-longest : (p : ℕ) (one two : Option ℕ) (t s u : Bool) (a b : ℕ) → after_pair (cond t (cond s (Ok a) (Err 1)) (Err 0)) one ≡ Some p → after_pair (cond t (cond u (Ok b) (Err 1)) (Err 0)) two ≡ None → 1 ≤ p
-digit-longest p one two true true u a b e f = let found = later-some 2 p one e in omega arith
+digit-longest p one two true true u a b e f = let found = later-is_some 2 p one e in omega arith
 digit-longest p one two true false u a b e f = let same : 1 ≡ p = cc in omega arith
 digit-longest p one two false s u a b e f = cc
 
@@ -87,7 +87,7 @@ GoesOn parts text p = (more : List ℕ) × (misfit_of parts (take p text ++ more
 mark-goes_on : (parts : List Part) (m b p : ℕ) (text : List ℕ) → ((q : ℕ) → misfit_of parts text ≡ Some q → GoesOn parts text q) → (test : Bool) → eqb b m ≡ test → cond test (later 1 (misfit_of parts text)) (Some 0) ≡ Some p → GoesOn (Mark m ∷ parts) (b ∷ text) p
 unfolding misfit_of
 mark-goes_on parts m b p text rec true t e =
-    let found = later-some 1 p (misfit_of parts text) e in
+    let found = later-is_some 1 p (misfit_of parts text) e in
     let rest = rec found.0 found.1 in
     let fits : misfit_of (Mark m ∷ parts) (b ∷ (take found.0 text ++ rest.0)) ≡ None = ap (λ (u : Bool). cond u (later 1 (misfit_of parts (take found.0 text ++ rest.0))) (Some 0)) t ∙ ap (later 1) rest.1 in
     (rest.0, subst (λ (x : ℕ). misfit_of (Mark m ∷ parts) (take x (b ∷ text) ++ rest.0) ≡ None) (sym (found.2 ∙ one-add found.0)) fits)
@@ -108,7 +108,7 @@ digit-goes_on parts h p text false t e =
 pair-goes_on : (parts : List Part) (h l p : ℕ) (text : List ℕ) → ((q : ℕ) → misfit_of parts text ≡ Some q → GoesOn parts text q) → (t u : Bool) → ltb (digit_value h) 16 ≡ t → ltb (digit_value l) 16 ≡ u → after_pair (cond t (cond u (Ok (16 * digit_value h + digit_value l)) (Err 1)) (Err 0)) (misfit_of parts text) ≡ Some p → GoesOn (Octet ∷ parts) (h ∷ l ∷ text) p
 unfolding misfit_of
 pair-goes_on parts h l p text rec true true t u e =
-    let found = later-some 2 p (misfit_of parts text) e in
+    let found = later-is_some 2 p (misfit_of parts text) e in
     let rest = rec found.0 found.1 in
     let pair : pair_of h l ≡ Ok (16 * digit_value h + digit_value l) = ap (λ (x : Bool). cond x (cond (ltb (digit_value l) 16) (Ok (16 * digit_value h + digit_value l)) (Err 1)) (Err 0)) t ∙ ap (λ (x : Bool). cond x (Ok (16 * digit_value h + digit_value l)) (Err 1)) u in
     let fits : misfit_of (Octet ∷ parts) (h ∷ l ∷ (take found.0 text ++ rest.0)) ≡ None = ap (λ (x : Result ℕ ℕ). after_pair x (misfit_of parts (take found.0 text ++ rest.0))) pair ∙ ap (later 2) rest.1 in
@@ -128,12 +128,12 @@ misfit_of-goes_on (Octet ∷ parts) (h ∷ []) p e = digit-goes_on parts h p [] 
 misfit_of-goes_on (Octet ∷ parts) (h ∷ l ∷ text) p e = pair-goes_on parts h l p text (misfit_of-goes_on parts text) (ltb (digit_value h) 16) (ltb (digit_value l) 16) refl refl e
 
 pair-within : (one : Option ℕ) (n p : ℕ) → ((q : ℕ) → one ≡ Some q → q ≤ n) → (t u : Bool) (a : ℕ) → after_pair (cond t (cond u (Ok a) (Err 1)) (Err 0)) one ≡ Some p → p ≤ n + 2
-pair-within one n p rec true true a e = let found = later-some 2 p one e in let here = rec found.0 found.1 in omega arith
+pair-within one n p rec true true a e = let found = later-is_some 2 p one e in let here = rec found.0 found.1 in omega arith
 pair-within one n p rec true false a e = let same : 1 ≡ p = cc in omega arith
 pair-within one n p rec false u a e = let same : 0 ≡ p = cc in omega arith
 
 mark-within : (one : Option ℕ) (n p : ℕ) → ((q : ℕ) → one ≡ Some q → q ≤ n) → (t : Bool) → cond t (later 1 one) (Some 0) ≡ Some p → p ≤ n + 1
-mark-within one n p rec true e = let found = later-some 1 p one e in let here = rec found.0 found.1 in omega arith
+mark-within one n p rec true e = let found = later-is_some 1 p one e in let here = rec found.0 found.1 in omega arith
 mark-within one n p rec false e = let same : 0 ≡ p = cc in omega arith
 
 digit-within : (t : Bool) (p : ℕ) → cond t (Some 1) (Some 0) ≡ Some p → p ≤ 1

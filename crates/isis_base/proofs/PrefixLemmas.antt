@@ -10,8 +10,8 @@ use Rattle.std.proofs.Math.Seq.{take-length}
 use Rattle.std.proofs.lemmas.Nat.{mod-pow-add, be_bytes_4, from_be_bytes-to_be_bytes_4}
 use Rattle.std.proofs.lemmas.Fmt.{decimal_digit, decimal_step}
 use Rattle.isis_base.specs.declared.prefix_text.Front.{Front}
-use Rattle.isis_base.specs.PrefixFronts.{address_of, is_clear, longest, with_digit, may_stand, mark_behind, after_digit, after_mark, after_byte, after_text, ends_text, ends_prefix, no_front, parts_of_front, prefix_parts}
-use Rattle.isis_base.specs.PrefixTexts.{SpellsPrefix, IsPrefix}
+use Rattle.isis_base.specs.PrefixFronts.{address_of_octets, is_clear, longest, with_digit, may_stand, mark_behind, after_digit, after_mark, after_byte, after_text, ends_text, ends_prefix, no_front, parts_of_front, prefix_parts}
+use Rattle.isis_base.specs.PrefixTexts.{SpellsPrefix, IsPrefixText}
 use Rattle.isis_base.specs.Texts.{IsFaultAt}
 
 abbrev pub front : List ℕ → ℕ → Option ℕ → Front
@@ -144,9 +144,9 @@ byte-follows octets count byte number next f e = by_test (is_ascii_digit byte) r
         subst (λ (b : ℕ). Follows octets count number b next) same (digit-follows octets count (byte - 48) number next (omega arith) f e)
     by_test false t e = mark-follows octets count byte number next f e
 
-then-some : {A : Type 0} (k : A → Option A) (o : Option A) (x : A) → option_and_then k o ≡ Some x → (y : A) × (o ≡ Some y) × (k y ≡ Some x)
-then-some k None x e = cc
-then-some k (Some y) x e = (y, refl, e)
+then-is_some : {A : Type 0} (k : A → Option A) (o : Option A) (x : A) → option_and_then k o ≡ Some x → (y : A) × (o ≡ Some y) × (k y ≡ Some x)
+then-is_some k None x e = cc
+then-is_some k (Some y) x e = (y, refl, e)
 
 -- what is read is the text
 pub record IsRead (text : List ℕ) (f g : Front) : Type 0 where
@@ -159,7 +159,7 @@ text-follows [] f g h e =
     let same : f ≡ g = some-same f g e in
     subst (IsRead [] f) same (record { holds = h; whole = sym (append-nil (said f)) })
 text-follows (byte ∷ text) f g h e =
-    let found = then-some (λ (next : Front). after_text next text) (after_byte f byte) g e in
+    let found = then-is_some (λ (next : Front). after_text next text) (after_byte f byte) g e in
     let step = byte-follows f.octets f.count byte f.number found.0 h found.1 in
     let rest = text-follows text found.0 g step.holds found.2 in
     record { holds = rest.holds; whole = rest.whole ∙ ap (λ (front : List ℕ). front ++ text) step.more ∙ append_assoc (said f) (byte ∷ []) text }
@@ -219,7 +219,7 @@ read-number octets text count number h s =
 
 any_octet : (octets : List ℕ) (count number : ℕ) → count < 4 → MayStand octets count number
 any_octet octets count number h =
-    let any : (n : ℕ) → may_stand octets count n ≡ true = λ n. or_left (ltb count 4) (is_clear (address_of octets) (longest n)) (lt-ltb count 4 h) in
+    let any : (n : ℕ) → may_stand octets count n ≡ true = λ n. or_left (ltb count 4) (is_clear (address_of_octets octets) (longest n)) (lt-ltb count 4 h) in
     record { one = any number; two = λ _. any (number / 10); three = λ _. any (number / 10 / 10) }
 
 mark_is_mark : (count : ℕ) → is_ascii_digit (mark_behind count) ≡ false
@@ -270,13 +270,13 @@ longest-more : (length : ℕ) → 10 ≤ length → length ≤ 32 → (length �
 longest-more long h k = (grind (arith, nat_tests), grind (arith, nat_tests))
 
 -- a length that the address has may stand, and so may its first digit
-a_length : (octets : List ℕ) (length : ℕ) → length ≤ 32 → address_of octets % 2 ^ (32 - length) ≡ 0 → MayStand octets 4 length
+a_length : (octets : List ℕ) (length : ℕ) → length ≤ 32 → address_of_octets octets % 2 ^ (32 - length) ≡ 0 → MayStand octets 4 length
 a_length octets long h e =
     let same = longest-same long h in
     record {
-      one = is_clear-from (address_of octets) (longest long) same.1 (clear-more (address_of octets) long (longest long) same.0 same.1 e);
+      one = is_clear-from (address_of_octets octets) (longest long) same.1 (clear-more (address_of_octets octets) long (longest long) same.0 same.1 e);
       two = λ above. let more = longest-more long above h in
-          is_clear-from (address_of octets) (longest (long / 10)) more.1 (clear-more (address_of octets) long (longest (long / 10)) more.0 more.1 e);
+          is_clear-from (address_of_octets octets) (longest (long / 10)) more.1 (clear-more (address_of_octets octets) long (longest (long / 10)) more.0 more.1 e);
       three = λ above. absurd (omega arith);
     }
 
@@ -288,9 +288,9 @@ prefix-parts a b c d long = simp append_assoc
 marked-parts : (a b c d long : List ℕ) → [] ++ a ++ 46 ∷ [] ++ b ++ 46 ∷ [] ++ c ++ 46 ∷ [] ++ d ++ 47 ∷ [] ++ long ≡ a ++ 46 ∷ (b ++ 46 ∷ (c ++ 46 ∷ (d ++ 47 ∷ long)))
 marked-parts a b c d long = simp append_assoc
 
-address_of-octets : (address : ℕ) → address < 2 ^ 32 → address_of (to_be_bytes w32 address) ≡ address
-unfolding address_of
-address_of-octets address h = from_be_bytes-to_be_bytes_4 address h
+address_of_octets-octets : (address : ℕ) → address < 2 ^ 32 → address_of_octets (to_be_bytes w32 address) ≡ address
+unfolding address_of_octets
+address_of_octets-octets address h = from_be_bytes-to_be_bytes_4 address h
 
 -- a prefix's text is read to its end
 pub reads_prefix : (text : List ℕ) (address length : ℕ) → SpellsPrefix text address length → after_text no_front text ≡ Some (front (to_be_bytes w32 address) 4 (Some length))
@@ -301,9 +301,9 @@ reads_prefix text address long s =
     let c : ℕ = address / 2 ^ 8 % 256 in
     let d : ℕ = address % 256 in
     let octets : List ℕ = to_be_bytes w32 address in
-    let same : address_of octets ≡ address = address_of-octets address s.small in
+    let same : address_of_octets octets ≡ address = address_of_octets-octets address s.small in
     let fits = s.fits in
-    let clear : address_of octets % 2 ^ (32 - long) ≡ 0 = ap (λ (n : ℕ). n % 2 ^ (32 - long)) same ∙ s.clear in
+    let clear : address_of_octets octets % 2 ^ (32 - long) ≡ 0 = ap (λ (n : ℕ). n % 2 ^ (32 - long)) same ∙ s.clear in
     ap (after_text no_front) (s.same ∙ prefix-parts (decimal a) (decimal b) (decimal c) (decimal d) (decimal long))
     ∙ read-octet (0 ∷ 0 ∷ 0 ∷ 0 ∷ []) (decimal b ++ 46 ∷ (decimal c ++ 46 ∷ (decimal d ++ 47 ∷ decimal long))) 0 a (lit< tt) (omega arith)
     ∙ read-octet (a ∷ 0 ∷ 0 ∷ 0 ∷ []) (decimal c ++ 46 ∷ (decimal d ++ 47 ∷ decimal long)) 1 b (lit< tt) (omega arith)
@@ -314,11 +314,11 @@ reads_prefix text address long s =
 
 pub ends_there : (address length : ℕ) → address < 2 ^ 32 → length ≤ 32 → address % 2 ^ (32 - length) ≡ 0 → ends_prefix (front (to_be_bytes w32 address) 4 (Some length)) ≡ true
 ends_there address long small fits clear =
-    is_clear-from (address_of (to_be_bytes w32 address)) long fits (ap (λ (n : ℕ). n % 2 ^ (32 - long)) (address_of-octets address small) ∙ clear)
+    is_clear-from (address_of_octets (to_be_bytes w32 address)) long fits (ap (λ (n : ℕ). n % 2 ^ (32 - long)) (address_of_octets-octets address small) ∙ clear)
 
 record IsAddress (octets : List ℕ) : Type 0 where
-  small : address_of octets < 2 ^ 32
-  bytes : to_be_bytes w32 (address_of octets) ≡ octets
+  small : address_of_octets octets < 2 ^ 32
+  bytes : to_be_bytes w32 (address_of_octets octets) ≡ octets
 
 small-at : (xs : List ℕ) → AllByRecursion (λ x. x < 256) xs → (i : ℕ) → get_or xs i 0 < 256
 small-at [] h i = lit< tt
@@ -326,14 +326,14 @@ small-at (x ∷ xs) h zero = h.0
 small-at (x ∷ xs) h (suc i) = small-at xs h.1 i
 
 IsAddress-from : (octets : List ℕ) → length octets ≡ 4 → AllByRecursion (λ octet. octet < 256) octets → IsAddress octets
-unfolding address_of
+unfolding address_of_octets
 IsAddress-from octets four small =
     let at = small-at octets small in
     let a = at 0 in
     let b = at 1 in
     let c = at 2 in
     let d = at 3 in
-    record { small = omega arith; bytes = be_bytes_4 octets (address_of octets) four at refl }
+    record { small = omega arith; bytes = be_bytes_4 octets (address_of_octets octets) four at refl }
 
 list_of_4 : (xs : List ℕ) → length xs ≡ 4 → get_or xs 0 0 ∷ get_or xs 1 0 ∷ get_or xs 2 0 ∷ get_or xs 3 0 ∷ [] ≡ xs
 list_of_4 [] h = absurd (omega arith)
@@ -344,13 +344,13 @@ list_of_4 (x0 ∷ x1 ∷ x2 ∷ x3 ∷ []) h = refl
 list_of_4 (x0 ∷ x1 ∷ x2 ∷ x3 ∷ x4 ∷ xs) h = absurd (omega arith)
 
 -- what is read to its end is a prefix's text
-pub prefix-said : (octets : List ℕ) (count length : ℕ) → IsFront octets count (Some length) → ends_prefix (front octets count (Some length)) ≡ true → SpellsPrefix (said (front octets count (Some length))) (address_of octets) length
+pub prefix-said : (octets : List ℕ) (count length : ℕ) → IsFront octets count (Some length) → ends_prefix (front octets count (Some length)) ≡ true → SpellsPrefix (said (front octets count (Some length))) (address_of_octets octets) length
 prefix-said octets count long f e =
     let counted = f.counted in
-    let both = and_parts (leb 4 count) (is_clear (address_of octets) long) e in
+    let both = and_parts (leb 4 count) (is_clear (address_of_octets octets) long) e in
     let high : 4 ≤ count = leb-true 4 count both.0 in
     let all : count ≡ 4 = omega arith in
-    let clear = IsClear-from (address_of octets) long both.1 in
+    let clear = IsClear-from (address_of_octets octets) long both.1 in
     let address = IsAddress-from octets f.four f.small in
     let a : ℕ = get_or octets 0 0 in
     let b : ℕ = get_or octets 1 0 in
@@ -383,8 +383,8 @@ unfolding after_text
 goes_on-length octets = record {
   more = decimal 32;
   end = front octets 4 (Some 32);
-  reads = ap (after_text (front octets 4 None)) (sym (append-nil (decimal 32))) ∙ read-number octets [] 4 32 (lit< tt) (a_length octets 32 (lit≤ tt) (all-clear (address_of octets)));
-  ends = is_clear-from (address_of octets) 32 (lit≤ tt) (all-clear (address_of octets));
+  reads = ap (after_text (front octets 4 None)) (sym (append-nil (decimal 32))) ∙ read-number octets [] 4 32 (lit< tt) (a_length octets 32 (lit≤ tt) (all-clear (address_of_octets octets)));
+  ends = is_clear-from (address_of_octets octets) 32 (lit≤ tt) (all-clear (address_of_octets octets));
 }
 
 -- before each number there may be 0
@@ -412,7 +412,7 @@ goes_on-mark octets count number h =
     }
 
 -- a digit more makes the first digit of a length a length
-goes_on-digit : (octets : List ℕ) (number digit long : ℕ) → digit < 10 → with_digit (Some number) digit ≡ Some long → is_clear (address_of octets) (longest long) ≡ true → is_clear (address_of octets) long ≡ true → GoesOn (front octets 4 (Some number))
+goes_on-digit : (octets : List ℕ) (number digit long : ℕ) → digit < 10 → with_digit (Some number) digit ≡ Some long → is_clear (address_of_octets octets) (longest long) ≡ true → is_clear (address_of_octets octets) long ≡ true → GoesOn (front octets 4 (Some number))
 unfolding after_text
 goes_on-digit octets number digit long h w s e = record {
   more = (48 + digit) ∷ [];
@@ -421,28 +421,28 @@ goes_on-digit octets number digit long h w s e = record {
   ends = e;
 }
 
-goes_on-end : (octets : List ℕ) (number : ℕ) → is_clear (address_of octets) number ≡ true → GoesOn (front octets 4 (Some number))
+goes_on-end : (octets : List ℕ) (number : ℕ) → is_clear (address_of_octets octets) number ≡ true → GoesOn (front octets 4 (Some number))
 unfolding after_text
 goes_on-end octets number e = record { more = []; end = front octets 4 (Some number); reads = refl; ends = e }
 
-goes_on-number : (octets : List ℕ) (number : ℕ) → is_clear (address_of octets) (longest number) ≡ true → GoesOn (front octets 4 (Some number))
+goes_on-number : (octets : List ℕ) (number : ℕ) → is_clear (address_of_octets octets) (longest number) ≡ true → GoesOn (front octets 4 (Some number))
 goes_on-number octets number e = by_one (eqb number 1) refl
   where
-    by_three : (t : Bool) → eqb number 3 ≡ t → is_clear (address_of octets) (cond t 32 number) ≡ true → GoesOn (front octets 4 (Some number))
+    by_three : (t : Bool) → eqb number 3 ≡ t → is_clear (address_of_octets octets) (cond t 32 number) ≡ true → GoesOn (front octets 4 (Some number))
     by_three true t e = let same : 3 ≡ number = sym (eqb-true number 3 t) in subst (λ (n : ℕ). GoesOn (front octets 4 (Some n))) same (goes_on-digit octets 3 2 32 (lit< tt) refl e e)
     by_three false t e = goes_on-end octets number e
 
-    by_two : (t : Bool) → eqb number 2 ≡ t → is_clear (address_of octets) (cond t 29 (cond (eqb number 3) 32 number)) ≡ true → GoesOn (front octets 4 (Some number))
+    by_two : (t : Bool) → eqb number 2 ≡ t → is_clear (address_of_octets octets) (cond t 29 (cond (eqb number 3) 32 number)) ≡ true → GoesOn (front octets 4 (Some number))
     by_two true t e = let same : 2 ≡ number = sym (eqb-true number 2 t) in subst (λ (n : ℕ). GoesOn (front octets 4 (Some n))) same (goes_on-digit octets 2 9 29 (lit< tt) refl e e)
     by_two false t e = by_three (eqb number 3) refl e
 
     by_one : (t : Bool) → eqb number 1 ≡ t → GoesOn (front octets 4 (Some number))
     by_one true t =
         let same : 1 ≡ number = sym (eqb-true number 1 t) in
-        let clear : is_clear (address_of octets) 19 ≡ true = ap (λ (u : Bool). is_clear (address_of octets) (cond u 19 (cond (eqb number 2) 29 (cond (eqb number 3) 32 number)))) (sym t) ∙ e in
+        let clear : is_clear (address_of_octets octets) 19 ≡ true = ap (λ (u : Bool). is_clear (address_of_octets octets) (cond u 19 (cond (eqb number 2) 29 (cond (eqb number 3) 32 number)))) (sym t) ∙ e in
         subst (λ (n : ℕ). GoesOn (front octets 4 (Some n))) same (goes_on-digit octets 1 9 19 (lit< tt) refl clear clear)
     by_one false t =
-        by_two (eqb number 2) refl (ap (λ (u : Bool). is_clear (address_of octets) (cond u 19 (cond (eqb number 2) 29 (cond (eqb number 3) 32 number)))) (sym t) ∙ e)
+        by_two (eqb number 2) refl (ap (λ (u : Bool). is_clear (address_of_octets octets) (cond u 19 (cond (eqb number 2) 29 (cond (eqb number 3) 32 number)))) (sym t) ∙ e)
 
 -- whatever is read goes on to a prefix
 pub goes_on : (octets : List ℕ) (count : ℕ) (number : Option ℕ) → IsFront octets count number → GoesOn (front octets count number)
@@ -453,7 +453,7 @@ goes_on octets count (Some number) f =
       | inr above ↦
           let counted = f.counted in
           let all : count ≡ 4 = omega arith in
-          let clear : is_clear (address_of octets) (longest number) ≡ true = ap (λ (n : ℕ). may_stand octets n number) (sym all) ∙ f.stands.1 in
+          let clear : is_clear (address_of_octets octets) (longest number) ≡ true = ap (λ (n : ℕ). may_stand octets n number) (sym all) ∙ f.stands.1 in
           subst (λ (n : ℕ). GoesOn (front octets n (Some number))) (sym all) (goes_on-number octets number clear)
     ]
 
@@ -479,34 +479,34 @@ no_front-holds : IsFront (0 ∷ 0 ∷ 0 ∷ 0 ∷ []) 0 None
 no_front-holds = record { four = refl; counted = omega arith; small = (lit< tt, (lit< tt, (lit< tt, (lit< tt, tt)))); stands = tt }
 
 -- what is read to its end is a prefix's text
-pub prefix-from : (text : List ℕ) (g : Front) (long : ℕ) → after_text no_front text ≡ Some g → g.number ≡ Some long → ends_prefix g ≡ true → SpellsPrefix text (address_of g.octets) long
+pub prefix-from : (text : List ℕ) (g : Front) (long : ℕ) → after_text no_front text ≡ Some g → g.number ≡ Some long → ends_prefix g ≡ true → SpellsPrefix text (address_of_octets g.octets) long
 prefix-from text g long e number ends =
     let read = text-follows text no_front g no_front-holds e in
     let at : Option ℕ → Type 0 = λ (o : Option ℕ). IsFront g.octets g.count o in
     let holds = subst at number read.holds in
     let ends_at : ends_prefix (front g.octets g.count (Some long)) ≡ true = ap (λ (o : Option ℕ). ends_text g.octets g.count o) (sym number) ∙ ends in
-    subst (λ (t : List ℕ). SpellsPrefix t (address_of g.octets) long) (ap (λ (o : Option ℕ). marked g.count g.octets ++ digits o) (sym number) ∙ read.whole) (prefix-said g.octets g.count long holds ends_at)
+    subst (λ (t : List ℕ). SpellsPrefix t (address_of_octets g.octets) long) (ap (λ (o : Option ℕ). marked g.count g.octets ++ digits o) (sym number) ∙ read.whole) (prefix-said g.octets g.count long holds ends_at)
 
 number-of : (octets : List ℕ) (count : ℕ) (number : Option ℕ) → ends_text octets count number ≡ true → (long : ℕ) × (number ≡ Some long)
 number-of octets count None e = cc
 number-of octets count (Some long) e = (long, refl)
 
-IsPrefix-from : (text : List ℕ) (g : Front) → after_text no_front text ≡ Some g → ends_prefix g ≡ true → IsPrefix text
-IsPrefix-from text g e ends =
+IsPrefixText-from : (text : List ℕ) (g : Front) → after_text no_front text ≡ Some g → ends_prefix g ≡ true → IsPrefixText text
+IsPrefixText-from text g e ends =
     let found = number-of g.octets g.count g.number ends in
-    (address_of g.octets, found.0, prefix-from text g found.0 e found.1 ends)
+    (address_of_octets g.octets, found.0, prefix-from text g found.0 e found.1 ends)
 
 -- what is read so far begins a prefix's text
-begins-prefix : (text : List ℕ) (f : Front) → after_text no_front text ≡ Some f → (more : List ℕ) × IsPrefix (text ++ more)
+begins-prefix : (text : List ℕ) (f : Front) → after_text no_front text ≡ Some f → (more : List ℕ) × IsPrefixText (text ++ more)
 begins-prefix text f e =
     let read = text-follows text no_front f no_front-holds e in
     let on = goes_on f.octets f.count f.number read.holds in
     let whole : after_text no_front (text ++ on.more) ≡ Some on.end =
     after_text-append text on.more no_front ∙ ap (option_and_then (λ (g : Front). after_text g on.more)) e ∙ on.reads in
-    (on.more, IsPrefix-from (text ++ on.more) on.end whole on.ends)
+    (on.more, IsPrefixText-from (text ++ on.more) on.end whole on.ends)
 
 -- the text has no end where it isn't that of a prefix
-pub IsFaultAt-end : (text : List ℕ) (f : Front) → after_text no_front text ≡ Some f → ends_prefix f ≡ false → IsFaultAt IsPrefix text (length text)
+pub IsFaultAt-end : (text : List ℕ) (f : Front) → after_text no_front text ≡ Some f → ends_prefix f ≡ false → IsFaultAt IsPrefixText text (length text)
 IsFaultAt-end text f e ends =
     let begins = begins-prefix text f e in
     record {
@@ -515,7 +515,7 @@ IsFaultAt-end text f e ends =
           let same : front (to_be_bytes w32 address) 4 (Some long) ≡ f = some-same (front (to_be_bytes w32 address) 4 (Some long)) f (sym whole ∙ e) in
           false≢true (sym ends ∙ ap ends_prefix (sym same) ∙ ends_there address long s.small s.fits s.clear);
       within = omega arith;
-      begins = (begins.0, subst (λ (t : List ℕ). IsPrefix (t ++ begins.0)) (sym (take-length text)) begins.1);
+      begins = (begins.0, subst (λ (t : List ℕ). IsPrefixText (t ++ begins.0)) (sym (take-length text)) begins.1);
       longest = λ n more h p. h;
     }
 
@@ -543,7 +543,7 @@ taken (x ∷ text) (suc place) (suc n) byte h at below =
     ∙ ap (λ (m : ℕ). x ∷ (take place text ++ byte ∷ take m (drop (place + 1) text))) less
     ∙ ap (λ (m : ℕ). x ∷ (take place text ++ byte ∷ take (suc n - m) (drop m (x ∷ text)))) (sym one)
 
-never-prefix : (text : List ℕ) → after_text no_front text ≡ None → IsPrefix text → ⊥
+never-prefix : (text : List ℕ) → after_text no_front text ≡ None → IsPrefixText text → ⊥
 never-prefix text e (address, long, s) = let whole = reads_prefix text address long s in cc
 
 -- such an octet of a text
@@ -556,7 +556,7 @@ after_text-stuck text place byte f within at e none =
     ap (after_text no_front) (sym (split-at text place byte within at)) ∙ stuck (take place text) byte (drop (place + 1) text) f e none
 
 -- where the first such octet stands is the fault
-pub IsFaultAt-byte : (text : List ℕ) (place byte : ℕ) (f : Front) → place < length text → get_or text place 0 ≡ byte → after_text no_front (take place text) ≡ Some f → after_byte f byte ≡ None → IsFaultAt IsPrefix text place
+pub IsFaultAt-byte : (text : List ℕ) (place byte : ℕ) (f : Front) → place < length text → get_or text place 0 ≡ byte → after_text no_front (take place text) ≡ Some f → after_byte f byte ≡ None → IsFaultAt IsPrefixText text place
 IsFaultAt-byte text place byte f within at e none =
     record {
       none = never-prefix text (after_text-stuck text place byte f within at e none);
@@ -581,7 +581,7 @@ SpellsPrefix-one text a b c d p q =
     let one : front (to_be_bytes w32 a) 4 (Some b) ≡ front (to_be_bytes w32 c) 4 (Some d) =
     some-same (front (to_be_bytes w32 a) 4 (Some b)) (front (to_be_bytes w32 c) 4 (Some d)) (sym (reads_prefix text a b p) ∙ reads_prefix text c d q) in
     let numbers : Some b ≡ Some d = ap (λ (f : Front). f.number) one in
-    (sym (address_of-octets a p.small) ∙ ap (λ (f : Front). address_of f.octets) one ∙ address_of-octets c q.small, some-same b d numbers)
+    (sym (address_of_octets-octets a p.small) ∙ ap (λ (f : Front). address_of_octets f.octets) one ∙ address_of_octets-octets c q.small, some-same b d numbers)
 
 -- at the end of the text all of it is read
 pub read-whole : (text : List ℕ) (place : ℕ) (f : Front) → place ≤ length text → length text ≤ place → after_text no_front (take place text) ≡ Some f → after_text no_front text ≡ Some f
@@ -594,5 +594,5 @@ pub prefix_parts-spelled : (text : List ℕ) (address long : ℕ) → SpellsPref
 prefix_parts-spelled text address long s =
     let octets = to_be_bytes w32 address in
     ap (option_and_then parts_of_front) (reads_prefix text address long s)
-    ∙ ap (λ (t : Bool). cond t (Some (address_of octets, long)) None) (ends_there address long s.small s.fits s.clear)
-    ∙ ap (λ (a : ℕ). Some (a, long)) (address_of-octets address s.small)
+    ∙ ap (λ (t : Bool). cond t (Some (address_of_octets octets, long)) None) (ends_there address long s.small s.fits s.clear)
+    ∙ ap (λ (a : ℕ). Some (a, long)) (address_of_octets-octets address s.small)

@@ -6,7 +6,7 @@ use Rattle.std.proofs.lemmas.Bool.{eq-eqb, eqb-true, ltb-true, lt-ltb}
 use Rattle.std.proofs.lemmas.Bool.Decides.{nat_tests}
 use Rattle.isis_base.specs.declared.parts.Part.{Part}
 use Rattle.isis_base.specs.declared.parts.Part.TheVariants.{Octet, Mark}
-use Rattle.isis_base.specs.Texts.{spelled, octet_count, Spells, HasForm, IsFaultAt}
+use Rattle.isis_base.specs.Texts.{form_text, octet_count, Spells, HasForm, IsFaultAt}
 use Rattle.std.specs.List.{AllByRecursion}
 use Rattle.isis_base.specs.Misfit.{later, pair_of, after_pair, misfit_of, octets_of, before_octets, unless_misfit, text_octets}
 use Rattle.isis_base.proofs.MisfitLemmas.{later-none, misfit_of-longest, misfit_of-goes_on, misfit_of-within}
@@ -151,10 +151,10 @@ digit_char-lower : (d : ℕ) → d < 16 → to_ascii_lowercase (digit_char d) �
 digit_char-lower d h = grind (arith, nat_tests)
 
 -- octets written into a form spell themselves
-pub Spells-spelled : (parts : List Part) (octets : List ℕ) → HasPlainMarks parts → AllByRecursion (λ octet. octet < 256) octets → length octets ≡ octet_count parts → Spells parts (spelled parts octets) octets
+pub Spells-spelled : (parts : List Part) (octets : List ℕ) → HasPlainMarks parts → AllByRecursion (λ octet. octet < 256) octets → length octets ≡ octet_count parts → Spells parts (form_text parts octets) octets
 Spells-spelled parts octets plain small count = record { small = small; count = count; same = lower-spelled parts octets plain small }
   where
-    lower-spelled : (parts : List Part) (octets : List ℕ) → HasPlainMarks parts → AllByRecursion (λ octet. octet < 256) octets → str_to_ascii_lowercase (spelled parts octets) ≡ spelled parts octets
+    lower-spelled : (parts : List Part) (octets : List ℕ) → HasPlainMarks parts → AllByRecursion (λ octet. octet < 256) octets → str_to_ascii_lowercase (form_text parts octets) ≡ form_text parts octets
     lower-spelled [] octets plain small = refl
     lower-spelled (Mark m ∷ parts) octets plain small = let a = plain-lower m plain.0 in let b = lower-spelled parts octets plain.1 small in cc
     lower-spelled (Octet ∷ parts) [] plain small = refl

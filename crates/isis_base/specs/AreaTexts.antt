@@ -25,8 +25,8 @@ pub record SpellsArea (text octets : List ℕ) : Type 0 where
   pub same : str_to_ascii_lowercase text ≡ area_text octets
 
 -- the text is that of an area address
-abbrev pub IsArea : List ℕ → Type 0
-IsArea text = (octets : List ℕ) × SpellsArea text octets
+abbrev pub IsAreaText : List ℕ → Type 0
+IsAreaText text = (octets : List ℕ) × SpellsArea text octets
 
 -- how many octets an area address has whose text has this length: the least number n from 1 to 13 whose texts, of
 -- 2 n + n / 2 characters, are no shorter

@@ -11,13 +11,13 @@ pub record IsPadded (count : ℕ) (octets : List ℕ) : Type 0 where
   pub zeros : drop count octets ≡ replicate (13 - count) 0
 
 -- octets with zeros behind, 13 in all
-abbrev pub padded : List ℕ → List ℕ
-padded octets = octets ++ replicate (13 - length octets) 0
+abbrev pub zero_padded : List ℕ → List ℕ
+zero_padded octets = octets ++ replicate (13 - length octets) 0
 
 -- the octets in front and the zeros are the 13 again
-pub padded-whole : (count : ℕ) (octets : List ℕ) → IsPadded count octets
-    → (length (take count octets) ≡ count) × (padded (take count octets) ≡ octets)
-padded-whole count octets h =
+pub zero_padded-whole : (count : ℕ) (octets : List ℕ) → IsPadded count octets
+    → (length (take count octets) ≡ count) × (zero_padded (take count octets) ≡ octets)
+zero_padded-whole count octets h =
     let within : count ≤ length octets = omega (arith, h.whole, h.fits) in
     let taken = length-take-le count octets within in
     let first = ap (λ (n : ℕ). take count octets ++ replicate (13 - n) 0) taken in

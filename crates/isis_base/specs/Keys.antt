@@ -12,10 +12,10 @@ rank None = 0
 rank (Some key) = 2 * key.number + (if key.purged then 1 else 0)
 
 -- how a key of rank a stands against one of rank b
-abbrev pub Stands : Order3 → ℕ → ℕ → Type 0
-Stands Older a b = a < b
-Stands Same a b = a ≡ b
-Stands Newer a b = b < a
+abbrev pub StandsAgainst : Order3 → ℕ → ℕ → Type 0
+StandsAgainst Older a b = a < b
+StandsAgainst Same a b = a ≡ b
+StandsAgainst Newer a b = b < a
 
 -- how one key stands against another, in a word (own)
 abbrev pub order_text : Order3 → List ℕ

@@ -18,8 +18,8 @@ levels_text levels.Two = codes "L2"
 levels_text levels.Both = codes "L1L2"
 
 -- the text is that of a set of levels
-abbrev pub IsLevels : List ℕ → Type 0
-IsLevels text = (set : LevelSet) × (text ≡ levels_text set)
+abbrev pub IsLevelsText : List ℕ → Type 0
+IsLevelsText text = (set : LevelSet) × (text ≡ levels_text set)
 
 -- the set of levels that a text is that of
 abbrev pub levels_of : List ℕ → Option LevelSet

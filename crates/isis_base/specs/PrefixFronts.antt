@@ -6,8 +6,8 @@ use Rattle.std.specs.Int.{from_be_bytes, w32}
 use Rattle.isis_base.specs.declared.prefix_text.Front.{Front}
 
 -- the address of four octets, the first one the greatest
-unfoldable pub address_of : List ℕ → ℕ
-address_of octets = from_be_bytes w32 octets
+unfoldable pub address_of_octets : List ℕ → ℕ
+address_of_octets octets = from_be_bytes w32 octets
 
 -- whether the bits of an address past a length of at most 32 are 0
 abbrev pub is_clear : ℕ → ℕ → Bool
@@ -26,7 +26,7 @@ with_digit (Some number) digit =
 
 -- whether a number may stand next: any octet, or the beginning of a length that the address has
 abbrev pub may_stand : List ℕ → ℕ → ℕ → Bool
-may_stand octets count number = nat_lt count 4 || is_clear (address_of octets) (longest number)
+may_stand octets count number = nat_lt count 4 || is_clear (address_of_octets octets) (longest number)
 
 -- the mark behind an octet
 abbrev pub mark_behind : ℕ → ℕ
@@ -70,7 +70,7 @@ after_text front (byte ∷ text) =
 -- whether a number is the length that ends a prefix's text
 abbrev pub ends_text : List ℕ → ℕ → Option ℕ → Bool
 ends_text octets count None = false
-ends_text octets count (Some length) = nat_le 4 count && is_clear (address_of octets) length
+ends_text octets count (Some length) = nat_le 4 count && is_clear (address_of_octets octets) length
 
 -- whether what is read is a prefix's whole text
 abbrev pub ends_prefix : Front → Bool
@@ -84,7 +84,7 @@ no_front = record { octets = 0 ∷ 0 ∷ 0 ∷ 0 ∷ []; count = 0; number = Non
 abbrev pub parts_of_front : Front → Option (ℕ × ℕ)
 parts_of_front front =
     if ends_prefix front
-    then option_map (λ (length : ℕ). (address_of front.octets, length)) front.number else None
+    then option_map (λ (length : ℕ). (address_of_octets front.octets, length)) front.number else None
 
 -- the address and the length of the prefix that a text spells; nothing where it spells none
 abbrev pub prefix_parts : List ℕ → Option (ℕ × ℕ)

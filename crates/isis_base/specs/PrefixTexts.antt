@@ -19,5 +19,5 @@ pub record SpellsPrefix (text : List ℕ) (address length : ℕ) : Type 0 where
   pub same : text ≡ prefix_text address length
 
 -- the text is that of a prefix
-abbrev pub IsPrefix : List ℕ → Type 0
-IsPrefix text = (address : ℕ) × (length : ℕ) × SpellsPrefix text address length
+abbrev pub IsPrefixText : List ℕ → Type 0
+IsPrefixText text = (address : ℕ) × (length : ℕ) × SpellsPrefix text address length

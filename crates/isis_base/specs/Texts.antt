@@ -18,11 +18,11 @@ abbrev pub hex_pair : ℕ → List ℕ
 hex_pair octet = digit_char (octet / 16) ∷ digit_char (octet % 16) ∷ []
 
 -- octets written into a form of octets and marks
-abbrev pub spelled : List Part → List ℕ → List ℕ
-spelled [] octets = []
-spelled (Mark mark ∷ parts) octets = mark ∷ spelled parts octets
-spelled (Octet ∷ parts) [] = []
-spelled (Octet ∷ parts) (octet ∷ octets) = hex_pair octet ++ spelled parts octets
+abbrev pub form_text : List Part → List ℕ → List ℕ
+form_text [] octets = []
+form_text (Mark mark ∷ parts) octets = mark ∷ form_text parts octets
+form_text (Octet ∷ parts) [] = []
+form_text (Octet ∷ parts) (octet ∷ octets) = hex_pair octet ++ form_text parts octets
 
 abbrev pub octet_count : List Part → ℕ
 octet_count [] = 0
@@ -33,7 +33,7 @@ octet_count (Octet ∷ parts) = octet_count parts + 1
 pub record Spells (parts : List Part) (text octets : List ℕ) : Type 0 where
   pub small : AllByRecursion (λ octet. octet < 256) octets
   pub count : length octets ≡ octet_count parts
-  pub same : str_to_ascii_lowercase text ≡ spelled parts octets
+  pub same : str_to_ascii_lowercase text ≡ form_text parts octets
 
 -- the text is none of these, and place is the length of its longest prefix that some such text begins with
 pub record IsFaultAt (IsText : List ℕ → Type 0) (text : List ℕ) (place : ℕ) : Type 0 where
@@ -48,19 +48,19 @@ HasForm parts text = (octets : List ℕ) × Spells parts text octets
 
 -- a system ID's text, as 0000.0000.0001 (own)
 abbrev pub system_text : SystemId → List ℕ
-system_text system = spelled SYSTEM_TEXT system.0
+system_text system = form_text SYSTEM_TEXT system.0
 
 -- an SNPA's text has the form of a system ID's (own)
 abbrev pub snpa_text : Snpa → List ℕ
-snpa_text snpa = spelled SYSTEM_TEXT snpa.0
+snpa_text snpa = form_text SYSTEM_TEXT snpa.0
 
 -- a node ID's text, as 0000.0000.0001.00 (own)
 abbrev pub node_text : NodeId → List ℕ
-node_text node = spelled NODE_TEXT (node_octets node)
+node_text node = form_text NODE_TEXT (node_octets node)
 
 -- an LSP ID's text, as 0000.0000.0001.00-00 (own)
 abbrev pub lsp_text : LspId → List ℕ
-lsp_text id = spelled LSP_TEXT (lsp_octets id)
+lsp_text id = form_text LSP_TEXT (lsp_octets id)
 
 -- a key's text: its number and its mark, as 5 live (own)
 abbrev pub key_text : Key → List ℕ

@@ -16,16 +16,16 @@ impl Model for AreaAddress {
 
     ghost Value = { List ℕ };
 
-    ghost use Rattle.isis_base.specs.Areas.{IsPadded, padded, padded-whole};
+    ghost use Rattle.isis_base.specs.Areas.{IsPadded, zero_padded, zero_padded-whole};
 
     ghost view = { λ a. take a.count a.octets };
 
     ghost invariant = { λ a. IsPadded a.count a.octets };
 
-    ghost inverse = { λ octets. record { count = length octets; octets = padded octets } };
+    ghost inverse = { λ octets. record { count = length octets; octets = zero_padded octets } };
 
     ghost inverse_ok = { λ a h. λ i.
-        let whole = padded-whole a.count a.octets h in record { count = whole.0 i; octets = whole.1 i } };
+        let whole = zero_padded-whole a.count a.octets h in record { count = whole.0 i; octets = whole.1 i } };
 }
 
 impl AreaAddress {
@@ -38,11 +38,11 @@ impl AreaAddress {
         if count == 0 || count > 13 {
             return None;
         }
-        let mut padded = [0u8; 13];
-        padded[..count].copy_from_slice(octets);
+        let mut zero_padded = [0u8; 13];
+        zero_padded[..count].copy_from_slice(octets);
         Some(AreaAddress {
             count,
-            octets: padded,
+            octets: zero_padded,
         })
     }
 

@@ -1,7 +1,7 @@
 //! Area addresses read from their texts.
 ghost use Rattle.std.specs.Prelude.{◌≡◌, ℕ, List, IfOk, IfErr, Ok};
 ghost use Rattle.std.specs.Result.{result_ok};
-ghost use Rattle.isis_base.specs.AreaTexts.{SpellsArea, IsArea, octets_of_length, area_of};
+ghost use Rattle.isis_base.specs.AreaTexts.{SpellsArea, IsAreaText, octets_of_length, area_of};
 ghost use Rattle.isis_base.specs.Texts.{IsFaultAt};
 
 use crate::area::AreaAddress;
@@ -37,7 +37,7 @@ pub fn read_area(text: &str) -> Result<AreaAddress, TextFault>
     ensures ok { IfOk result (λ area. SpellsArea text.now area) }
     ensures read { (octets : List ℕ) → SpellsArea text.now octets → result ≡ Ok octets }
     ensures value { result_ok result ≡ area_of text.now }
-    ensures err { IfErr result (λ fault. IsFaultAt IsArea text.now fault.place) }
+    ensures err { IfErr result (λ fault. IsFaultAt IsAreaText text.now fault.place) }
 {
     let mut octets = [0u8; 13];
     let count = octets_of_length(text.len());

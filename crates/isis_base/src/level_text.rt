@@ -2,7 +2,7 @@
 ghost use Rattle.std.specs.Prelude.{◌≡◌, ◌≤◌, length, nat_eq, IfOk, IfErr, Ok};
 ghost use Rattle.std.specs.List.{common_prefix_len};
 ghost use Rattle.std.specs.Result.{result_ok};
-ghost use Rattle.isis_base.specs.Levels.{levels_text, levels_of, IsLevels};
+ghost use Rattle.isis_base.specs.Levels.{levels_text, levels_of, IsLevelsText};
 ghost use Rattle.isis_base.specs.declared.level.LevelSet.{LevelSet};
 ghost use Rattle.isis_base.specs.Texts.{IsFaultAt};
 
@@ -14,7 +14,7 @@ pub fn read_levels(text: &str) -> Result<LevelSet, TextFault>
     ensures ok { IfOk result (λ set. text.now ≡ levels_text set) }
     ensures read { (set : LevelSet) → text.now ≡ levels_text set → result ≡ Ok set }
     ensures value { result_ok result ≡ levels_of text.now }
-    ensures err { IfErr result (λ fault. IsFaultAt IsLevels text.now fault.place) }
+    ensures err { IfErr result (λ fault. IsFaultAt IsLevelsText text.now fault.place) }
 {
     let bytes = text.as_bytes();
     match levels_of(bytes) {

@@ -1,6 +1,6 @@
 //! Which of two keys is newer, and the newer of two.
 ghost use Rattle.std.specs.Prelude.{◌≡◌, Some};
-ghost use Rattle.isis_base.specs.Keys.{rank, Stands, join_of};
+ghost use Rattle.isis_base.specs.Keys.{rank, StandsAgainst, join_of};
 
 use crate::key::Key;
 
@@ -15,7 +15,7 @@ pub enum Order3 {
 /// How `a` stands against `b` (ISO 10589 7.3.16): nothing is older than every key, a greater number is newer,
 /// and of one number the purge is newer.
 pub fn newer(a: Option<Key>, b: Option<Key>) -> Order3
-    ensures { Stands result (rank a) (rank b) }
+    ensures { StandsAgainst result (rank a) (rank b) }
 {
     match (a, b) {
         (None, None) => Order3::Same,
@@ -26,7 +26,7 @@ pub fn newer(a: Option<Key>, b: Option<Key>) -> Order3
 }
 
 fn newer_key(a: Key, b: Key) -> Order3
-    ensures { Stands result (rank (Some a)) (rank (Some b)) }
+    ensures { StandsAgainst result (rank (Some a)) (rank (Some b)) }
 {
     if a.number < b.number {
         return Order3::Older;

@@ -1,7 +1,7 @@
 //! Prefixes read from their texts.
 ghost use Rattle.std.specs.Prelude.{◌≡◌, ℕ, ◌-◌, ◌%◌, ◌^◌, ◌<◌, ◌≤◌, Option, Some, IfOk, IfErr, IfSome, IsNone, IsOkAnd, true, false};
 ghost use Rattle.isis_base.specs.PrefixFronts.{
-  address_of,
+  address_of_octets,
   is_clear,
   longest,
   with_digit,
@@ -17,7 +17,7 @@ ghost use Rattle.isis_base.specs.PrefixFronts.{
 };
 ghost use Rattle.std.specs.Option.{option_map};
 ghost use Rattle.std.specs.Result.{result_ok};
-ghost use Rattle.isis_base.specs.PrefixTexts.{SpellsPrefix, IsPrefix};
+ghost use Rattle.isis_base.specs.PrefixTexts.{SpellsPrefix, IsPrefixText};
 ghost use Rattle.isis_base.specs.Texts.{IsFaultAt};
 
 use crate::prefix::Prefix;
@@ -41,7 +41,7 @@ pub fn read_prefix(text: &str) -> Result<Prefix, TextFault>
         → IsOkAnd result (λ prefix. (prefix.address ≡ address) × (prefix.length ≡ length)) }
     ensures value { option_map (λ prefix. (prefix.address, prefix.length)) (result_ok result)
         ≡ prefix_parts text.now }
-    ensures err { IfErr result (λ fault. IsFaultAt IsPrefix text.now fault.place) }
+    ensures err { IfErr result (λ fault. IsFaultAt IsPrefixText text.now fault.place) }
 {
     let bytes = text.as_bytes();
     let mut front = Front::new();
@@ -110,11 +110,11 @@ impl Front {
     }
 
     /// The prefix whose text is read; none where the text has to go on.
-    #[tactic(auto, unfolding(crate::specs::PrefixFronts::address_of))]
+    #[tactic(auto, unfolding(crate::specs::PrefixFronts::address_of_octets))]
     fn prefix(self) -> Option<Prefix>
         ensures none { IsNone result → ends_prefix self ≡ false }
         ensures some { IfSome result (λ prefix.
-            (ends_prefix self ≡ true) × (prefix.address ≡ address_of self.octets) × (Some prefix.length ≡ self.number)) }
+            (ends_prefix self ≡ true) × (prefix.address ≡ address_of_octets self.octets) × (Some prefix.length ≡ self.number)) }
     {
         let length = self.number?;
         if self.count < 4 {
@@ -124,7 +124,7 @@ impl Front {
     }
 
     /// Whether a number may stand next: any octet, or the beginning of a length that the address has.
-    #[tactic(auto, unfolding(crate::specs::PrefixFronts::address_of))]
+    #[tactic(auto, unfolding(crate::specs::PrefixFronts::address_of_octets))]
     fn may_stand(self, number: u8) -> bool
         ensures { result ≡ may_stand self.octets self.count number }
     {

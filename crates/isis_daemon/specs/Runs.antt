@@ -1,6 +1,6 @@
 -- How a run of the program ends (own).
 use Rattle.std.specs.Prelude.{◌≡◌, ℕ, ◌<◌, ◌≤◌, List, [], length, Option, Some, IfSome, Result, Ok, Err, IsOk, IsOkAnd, ◌⊎◌}
-use Rattle.isis_edge.specs.Told.{Wrote, WrotePrefix, Stays}
+use Rattle.isis_edge.specs.Told.{Wrote, WrotePrefix, TellsSame}
 use Rattle.lab_text.specs.declared.reason.ScriptFault.{ScriptFault}
 use Rattle.lab_text.specs.declared.reason.ScriptFault.TheVariants.{Refused, Limit}
 use Rattle.lab_text.specs.KeysScripts.{◌>>=◌, script_of}
@@ -42,19 +42,19 @@ Ends command input left before now status.Usage = ⊥
 Ends command input left before now (status.ScriptRefused line reason) =
     (command ≡ Lab)
     × IfSome input (λ octets. IsReadWhole octets left
-    × (text_of command octets ≡ Err (Refused line reason))) × Stays before now
-Ends command input left before now status.ReadFault = Stays before now
+    × (text_of command octets ≡ Err (Refused line reason))) × TellsSame before now
+Ends command input left before now status.ReadFault = TellsSame before now
 Ends command input left before now status.WriteFault =
     IfSome input (λ octets. IsReadWhole octets left
     × IsOkAnd (text_of command octets) (WrotePrefix before now))
 Ends command input left before now status.TooLong =
-    IfSome input (λ octets. input_limit < length octets) × Stays before now
+    IfSome input (λ octets. input_limit < length octets) × TellsSame before now
 Ends command input left before now status.OutOfMemory =
     IfSome input (λ octets. WrotePrefix before now (told_text (text_of command octets)))
 Ends command input left before now (status.LabLimit which) =
     (command ≡ Lab)
     × IfSome input (λ octets. IsReadWhole octets left
-    × (text_of command octets ≡ Err (Limit which))) × Stays before now
+    × (text_of command octets ≡ Err (Limit which))) × TellsSame before now
 
 -- an input that a command takes to its end
 abbrev pub IsTaken : Command → List ℕ → Type 0

@@ -88,8 +88,8 @@ tlv_line tlv =
     ++ decimal (length tlv.value) ++ 10 ∷ []
 
 -- the TLVs of a PDU, with their places in it
-abbrev pub pdu_tlvs : PduView → List TlvView
-pdu_tlvs pdu = tlv_list (header_length (kind_of pdu)) (tlvs_of_pdu pdu)
+abbrev pub shown_tlvs : PduView → List TlvView
+shown_tlvs pdu = tlv_list (header_length (kind_of pdu)) (tlvs_of_pdu pdu)
 
 -- the first line of a PDU up to the count of its TLVs
 unfoldable pub head_text : ℕ → PduView → List ℕ → List ℕ
@@ -100,8 +100,8 @@ head_text number pdu octets =
 -- the lines of a PDU whose octets these are: its fields and the count of its TLVs, then a line for each TLV (own)
 abbrev pub pdu_lines : ℕ → PduView → List ℕ → List ℕ
 pdu_lines number pdu octets =
-    head_text number pdu octets ++ codes " tlvs " ++ decimal (length (pdu_tlvs pdu)) ++ 10 ∷ []
-    ++ flat_map tlv_line (pdu_tlvs pdu)
+    head_text number pdu octets ++ codes " tlvs " ++ decimal (length (shown_tlvs pdu)) ++ 10 ∷ []
+    ++ flat_map tlv_line (shown_tlvs pdu)
 
 -- the word of a fault of octets
 abbrev pub kind_word : PduFaultKind → List ℕ

@@ -8,5 +8,5 @@ abbrev pub shown_left : Shown → List ℕ
 shown_left shown = shown_lines shown.number (parts_behind 10 shown.left)
 
 -- a call for each line
-abbrev pub lines_left : Shown → ℕ
-lines_left shown = length (parts_behind 10 shown.left)
+abbrev pub count_of_lines_left : Shown → ℕ
+count_of_lines_left shown = length (parts_behind 10 shown.left)

@@ -1,7 +1,7 @@
 //! The call `run`, from the octets read to the octets written.
 ghost use Rattle.std.specs.Prelude.{◌≡◌, ◌≤◌, [], length, map, Some, None, string_bytes, IfSome, IsSomeAnd, ◌↔◌};
 ghost use Rattle.isis_edge.specs.Faults.{Rose};
-ghost use Rattle.isis_edge.specs.Told.{Stays};
+ghost use Rattle.isis_edge.specs.Told.{TellsSame};
 ghost use Rattle.isis_daemon.specs.Commands.{command_of};
 ghost use Rattle.isis_daemon.specs.Runs.{input_limit, Ends, IsTaken, IsDoneUnlessMemory};
 

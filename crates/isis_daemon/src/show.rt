@@ -3,7 +3,7 @@ ghost use Rattle.std.specs.Prelude.{◌≡◌, ◌≤◌, ◌++◌, [], length, 
 ghost use Rattle.isis_edge.specs.Faults.{Rose};
 ghost use Rattle.isis_daemon.specs.Runs.{input_limit, Ends, IsTaken, IsDoneUnlessMemory};
 ghost use Rattle.isis_daemon.specs.ShowText.{shown_line, shown_text};
-ghost use Rattle.isis_daemon.specs.ShownLeft.{shown_left, lines_left};
+ghost use Rattle.isis_daemon.specs.ShownLeft.{shown_left, count_of_lines_left};
 
 mod lines;
 
@@ -52,7 +52,7 @@ impl<'t> Shown<'t> {
 impl<'t> Text for Shown<'t> {
     ghost rest = { shown_left };
 
-    ghost calls = { lines_left };
+    ghost calls = { count_of_lines_left };
 
     fn add_next(&mut self, page: &mut Octets) -> Result<bool, OutOfMemory> {
         let Some(rest) = self.left else {

@@ -13,7 +13,7 @@ use Rattle.isis_base.specs.declared.pdu_kind.PduKind.{PduKind}
 use Rattle.isis_base.specs.PduKinds.{header_length}
 use Rattle.isis_pdu.specs.Views.{PduView, tlvs_of_pdu}
 use Rattle.isis_pdu.specs.Layout.{kind_of}
-use Rattle.isis_pdu.specs.Spelling.{spelled, IsWritable}
+use Rattle.isis_pdu.specs.Spelling.{octets_of_pdu, IsWritable}
 use Rattle.isis_pdu.proofs.FrameLemmas.{framed}
 use Rattle.hmac_auth.specs.Pdus.{is_purge, with_piece, blanked}
 use Rattle.hmac_auth.specs.Auth.{place_in, digest_place, has_others, has_purge_body, auth_fault}
@@ -24,7 +24,7 @@ use Rattle.hmac_auth.proofs.SignedLemmas.{new-fault}
 use Rattle.isis_datagram.specs.Tests.{passes}
 use Rattle.isis_datagram.specs.Signing.{auth_octets, digest_of, signed_tlvs}
 use Rattle.isis_datagram.specs.Values.{items_in}
-use Rattle.isis_datagram.proofs.ReadLemmas.{spelled-begins}
+use Rattle.isis_datagram.proofs.ReadLemmas.{octets_of_pdu-begins}
 use Rattle.isis_datagram.proofs.ItemLemmas.{items-tlv}
 
 abbrev pub blank : List ℕ
@@ -71,21 +71,21 @@ module _ (front tlvs : List ℕ) (header : ℕ) (long : length front ≡ header)
 pub record IsHead (kind : PduKind) (pdu : List ℕ → PduView) : Type 0 where
   pub front : ℕ → List ℕ
   pub long : (n : ℕ) → length (front n) ≡ header_length kind
-  pub spells : (tlvs : List ℕ) → spelled (pdu tlvs) ≡ front (length tlvs) ++ tlvs
+  pub spells : (tlvs : List ℕ) → octets_of_pdu (pdu tlvs) ≡ front (length tlvs) ++ tlvs
   pub typed : (tlvs : List ℕ) → kind_of (pdu tlvs) ≡ kind
   pub tlvs : (tlvs : List ℕ) → tlvs_of_pdu (pdu tlvs) ≡ tlvs
   pub writable : (tlvs : List ℕ) → header_length kind + length tlvs ≤ 65535 → AreTlvs tlvs → IsWritable (pdu tlvs)
-  pub lives : (tlvs : List ℕ) → is_purge (spelled (pdu tlvs)) ≡ false
+  pub lives : (tlvs : List ℕ) → is_purge (octets_of_pdu (pdu tlvs)) ≡ false
 
 module _ (kind : PduKind) (pdu : List ℕ → PduView) (head : IsHead kind pdu) (tlvs : List ℕ) (are : AreTlvs tlvs) where
   abbrev auth : List ℕ → List ℕ
   auth d = auth_octets d ++ tlvs
 
   abbrev digest : List ℕ → List ℕ
-  digest key = digest_of key (header_length (kind_of (pdu []))) (spelled (pdu (auth blank)))
+  digest key = digest_of key (header_length (kind_of (pdu []))) (octets_of_pdu (pdu (auth blank)))
 
   sixteen : (key : List ℕ) → length (digest key) ≡ 16
-  sixteen key = length-hmac key (blanked (spelled (pdu (auth blank))) (header_length (kind_of (pdu [])) + 3))
+  sixteen key = length-hmac key (blanked (octets_of_pdu (pdu (auth blank))) (header_length (kind_of (pdu [])) + 3))
 
   auth-tlvs : (d : List ℕ) → AreTlvs (auth d)
   auth-tlvs d = tlvs-joined (auth_octets d) tlvs (tlvs-one 10 (54 ∷ d)) are
@@ -94,24 +94,24 @@ module _ (kind : PduKind) (pdu : List ℕ → PduView) (head : IsHead kind pdu) 
   auth-length d size = let both = length-append d tlvs in omega arith
 
   module _ (fits : header_length kind + 19 + length tlvs ≤ 65535) where
-    blank-pdu : IsPdu (spelled (pdu (auth blank))) (header_length kind)
+    blank-pdu : IsPdu (octets_of_pdu (pdu (auth blank))) (header_length kind)
     blank-pdu =
         let size = auth-length blank refl in
-        let octets = spelled (pdu (auth blank)) in
-        let begins = spelled-begins (pdu (auth blank)) (head.writable (auth blank) (omega arith) (auth-tlvs blank)) in
+        let octets = octets_of_pdu (pdu (auth blank)) in
+        let begins = octets_of_pdu-begins (pdu (auth blank)) (head.writable (auth blank) (omega arith) (auth-tlvs blank)) in
         subst (λ (n : ℕ). IsPdu octets n) (ap header_length (head.typed (auth blank)))
         (subst (λ (whole : List ℕ). IsPdu whole (header_length (kind_of (pdu (auth blank))))) (take_all (length octets) octets (omega arith))
         (framed octets (pdu (auth blank)) (length octets) begins))
 
-    key-passes : (key : List ℕ) → auth_fault key (spelled (pdu (auth (digest key)))) (header_length kind) ≡ None
+    key-passes : (key : List ℕ) → auth_fault key (octets_of_pdu (pdu (auth (digest key)))) (header_length kind) ≡ None
     unfolding has_purge_body
     key-passes key =
         let n = length (auth blank) in
         let m = length (auth (digest key)) in
         let same : m ≡ n = auth-length (digest key) (sixteen key) ∙ sym (auth-length blank refl) in
         let front = head.front n in
-        let of_blank : spelled (pdu (auth blank)) ≡ front ++ auth blank = head.spells (auth blank) in
-        let of_new : spelled (pdu (auth (digest key))) ≡ front ++ auth (digest key) =
+        let of_blank : octets_of_pdu (pdu (auth blank)) ≡ front ++ auth blank = head.spells (auth blank) in
+        let of_new : octets_of_pdu (pdu (auth (digest key))) ≡ front ++ auth (digest key) =
         head.spells (auth (digest key)) ∙ ap (λ (k : ℕ). head.front k ++ auth (digest key)) same in
         let header : header_length (kind_of (pdu [])) ≡ header_length kind = ap header_length (head.typed []) in
         let its : digest key ≡ digest_of key (header_length kind) (front ++ auth blank) = λ i. digest_of key (header i) (of_blank i) in
@@ -136,7 +136,7 @@ module _ (kind : PduKind) (pdu : List ℕ → PduView) (head : IsHead kind pdu) 
       items-tlv code reader 10 (54 ∷ digest key) tlvs
       ∙ ap (λ (t : Bool). cond t (reader (54 ∷ digest key)) [] ++ items_in code reader tlvs) other
 
-  pub signed-passes : (key : Option (List ℕ)) → header_length kind + 19 + length tlvs ≤ 65535 → passes key (spelled (pdu (signed_tlvs key pdu tlvs))) (header_length kind) ≡ true
+  pub signed-passes : (key : Option (List ℕ)) → header_length kind + 19 + length tlvs ≤ 65535 → passes key (octets_of_pdu (pdu (signed_tlvs key pdu tlvs))) (header_length kind) ≡ true
   signed-passes None fits = refl
   signed-passes (Some key) fits = ap is_none (key-passes fits key)
 

@@ -30,9 +30,9 @@ module _ (octets : List ℕ) (weight : ℕ) where
       let fits = (low-check (octet_sum octets) high).1 in
       (omega arith, omega arith)
 
-  pub checksum-some : (0 < checksum_with octets weight) × (checksum_with octets weight < 65536)
+  pub checksum-in_range : (0 < checksum_with octets weight) × (checksum_with octets weight < 65536)
   unfolding checksum_with
-  checksum-some =
+  checksum-in_range =
       let fits = (low-check (octet_sum octets) high).1 in
       let some = (high-check (octet_sum octets) (weighted_sum octets) weight).0 in
       let top = (high-check (octet_sum octets) (weighted_sum octets) weight).1 in

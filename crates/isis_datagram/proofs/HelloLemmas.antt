@@ -14,12 +14,12 @@ use Rattle.isis_tlv.specs.Tlvs.{tlv_octets, AreTlvs}
 use Rattle.isis_tlv.specs.Fits.{IsArea, IsSnpa, IsThreeWay}
 use Rattle.isis_tlv.specs.Items.{area_at, snpa_at, areas_of, snpas_of, three_way_of}
 use Rattle.isis_tlv.specs.Spelling.{area_octets, area_value, snpa_value, address_value, protocol_tlv, three_way_octets, three_way_tlv}
-use Rattle.isis_tlv.specs.Takes.{area-some, snpa-some}
-use Rattle.isis_tlv.proofs.RoundLemmas.{values-again, area-again, snpa-again}
-use Rattle.isis_tlv.proofs.ThreeWayLemmas.{three_way-again}
+use Rattle.isis_tlv.specs.Takes.{area-takes_one, snpa-takes_one}
+use Rattle.isis_tlv.proofs.RoundLemmas.{values-reads_back, area-reads_back, snpa-reads_back}
+use Rattle.isis_tlv.proofs.ThreeWayLemmas.{three_way-reads_back}
 use Rattle.isis_tlv.proofs.TlvLemmas.{tlvs-joined, tlvs-one}
 use Rattle.isis_pdu.specs.Views.{PduView, PointHello, LanHello}
-use Rattle.isis_pdu.specs.Spelling.{start_octets, field_octets, spelled}
+use Rattle.isis_pdu.specs.Spelling.{start_octets, field_octets, octets_of_pdu}
 use Rattle.hmac_auth.specs.Pdus.{is_purge}
 use Rattle.isis_model.specs.Both.{Both}
 use Rattle.isis_model.specs.Configs.{Config}
@@ -34,26 +34,26 @@ use Rattle.isis_datagram.specs.Signing.{signed_tlvs, signed}
 use Rattle.isis_datagram.specs.Tlvs.{own_address, hello_tlvs, three_way_value, point_tlvs, snpa_tlvs, lan_tlvs}
 use Rattle.isis_datagram.specs.Datagrams.{levels_run, datagram, pdu_octets}
 use Rattle.isis_datagram.specs.Said.{names, said, CanRead, IsSender, IsHandshake, IsLanHello}
-use Rattle.isis_datagram.proofs.NumberLemmas.{u48-again, node-again}
-use Rattle.isis_datagram.proofs.ReadLemmas.{read-begins, spelled-begins, all-hold}
+use Rattle.isis_datagram.proofs.NumberLemmas.{u48-again, node-reads_back}
+use Rattle.isis_datagram.proofs.ReadLemmas.{read-begins, octets_of_pdu-begins, all-hold}
 use Rattle.isis_datagram.proofs.ItemLemmas.{said_by, items-end, items-tlv, fine, fine-fault, fine-items, tlvs-none, pieces-items, pieces-others, pieces-tlvs, pieces-length}
 use Rattle.isis_datagram.proofs.AuthLemmas.{IsHead, signed-items, signed-passes, signed-writable}
 
 -- ---- levels
 
-both-again : (one two : Bool) → (one || two) ≡ true → runs_of (levels_run (record { one = one; two = two })) ≡ record { one = one; two = two }
-both-again true true some = refl
-both-again true false some = refl
-both-again false true some = refl
-both-again false false some = cc
+both-reads_back : (one two : Bool) → (one || two) ≡ true → runs_of (levels_run (record { one = one; two = two })) ≡ record { one = one; two = two }
+both-reads_back true true some = refl
+both-reads_back true false some = refl
+both-reads_back false true some = refl
+both-reads_back false false some = cc
 
-runs-again : (runs : Both Bool) → (runs.one || runs.two) ≡ true → runs_of (levels_run runs) ≡ runs
-runs-again runs some = both-again runs.one runs.two some
+runs-reads_back : (runs : Both Bool) → (runs.one || runs.two) ≡ true → runs_of (levels_run runs) ≡ runs
+runs-reads_back runs some = both-reads_back runs.one runs.two some
 
 -- ---- TLVs of hellos
 
-areas-again : (areas : List (List ℕ)) → AllByRecursion IsArea areas → areas_of (area_value areas) ≡ fine areas
-areas-again areas all = values-again area_at area-some area_octets IsArea area-again 0 areas all
+areas-reads_back : (areas : List (List ℕ)) → AllByRecursion IsArea areas → areas_of (area_value areas) ≡ fine areas
+areas-reads_back areas all = values-reads_back area_at area-takes_one area_octets IsArea area-reads_back 0 areas all
 
 module _ {X : Type 0} (code : ℕ) (reader : List ℕ → List (Result X ValueFault)) where
   address-items : eqb 132 code ≡ false → (address : Option ℕ) (others : List ℕ) → items_in code reader (own_address address ++ others) ≡ items_in code reader others
@@ -104,9 +104,9 @@ is-three-way : (state : Adj) (extended : ℕ) (named : Option (ℕ × ℕ)) → 
 is-three-way state extended None is = record { own_id = is.own; neighbour = tt; both = λ some. refl }
 is-three-way state extended (Some name) is = record { own_id = is.own; neighbour = (refl, is.other.1); both = λ some. refl }
 
-handshake-again : (state : Adj) (extended : ℕ) (named : Option (ℕ × ℕ)) → IsHandshake extended named → handshake (three_way_value state extended named) ≡ record { state = state; extended = extended; names = named }
-handshake-again state extended None is = refl
-handshake-again state extended (Some name) is =
+handshake-reads_back : (state : Adj) (extended : ℕ) (named : Option (ℕ × ℕ)) → IsHandshake extended named → handshake (three_way_value state extended named) ≡ record { state = state; extended = extended; names = named }
+handshake-reads_back state extended None is = refl
+handshake-reads_back state extended (Some name) is =
     let system = u48-again name.0 is.other.0 in
     (λ i. record { state = state; extended = extended; names = Some (system i, name.1) })
 
@@ -142,14 +142,14 @@ point-reads by config on c place state extended named sender shake takes =
     let size = hello-length config.areas c.address last sender.fits in
     let three = three-way-length state extended named in
     let tlvs = signed_tlvs c.key pdu inside in
-    let octets = spelled (pdu tlvs) in
+    let octets = octets_of_pdu (pdu tlvs) in
     let writable = signed-writable kind.PointHello pdu head inside are c.key (omega arith) in
     let areas : areas_in tlvs ≡ fine config.areas =
     signed-items kind.PointHello pdu head inside are c.key 1 areas_of refl
     ∙ hello-items 1 areas_of refl refl config.areas c.address last
     ∙ ap (λ items. areas_of (area_value config.areas) ++ items) (last-items 1 areas_of 240 (three_way_octets value))
     ∙ append-nil (areas_of (area_value config.areas))
-    ∙ areas-again config.areas sender.areas in
+    ∙ areas-reads_back config.areas sender.areas in
     let snpas : snpas_in tlvs ≡ [] =
     signed-items kind.PointHello pdu head inside are c.key 6 snpas_of refl
     ∙ hello-items 6 snpas_of refl refl config.areas c.address last
@@ -158,7 +158,7 @@ point-reads by config on c place state extended named sender shake takes =
     signed-items kind.PointHello pdu head inside are c.key 240 (λ octets. three_way_of octets ∷ []) refl
     ∙ hello-items 240 (λ octets. three_way_of octets ∷ []) refl refl config.areas c.address last
     ∙ last-items 240 (λ octets. three_way_of octets ∷ []) 240 (three_way_octets value)
-    ∙ ap (λ read. read ∷ []) (three_way-again value (is-three-way state extended named shake)) in
+    ∙ ap (λ read. read ∷ []) (three_way-reads_back value (is-three-way state extended named shake)) in
     let auth = ap (λ (k : Option (List ℕ)). passes k octets 20) takes.key ∙ signed-passes kind.PointHello pdu head inside are c.key (omega arith) in
     let no_area = ap (λ items. is_none (fault_of items)) areas ∙ ap is_none (fine-fault config.areas) in
     let no_snpa = ap (λ items. is_none (fault_of items)) snpas in
@@ -166,10 +166,10 @@ point-reads by config on c place state extended named sender shake takes =
     let values = and_from _ _ (and_from _ _ no_area no_snpa) no_shake in
     let none = all-hold (tests_of by on (pdu tlvs) octets) (refl, (takes.goes, (takes.runs, (auth, (values, (refl, (refl, tt))))))) in
     let source = u48-again config.system sender.system in
-    let runs = runs-again config.runs sender.some in
+    let runs = runs-reads_back config.runs sender.some in
     let areas_are = ap ok_prefix areas ∙ fine-items config.areas in
-    let shake_is = ap (λ items. first_handshake (ok_prefix items)) shakes ∙ ap Some (handshake-again state extended named shake) in
-    read-begins by on config.system octets (pdu tlvs) sender.system (spelled-begins (pdu tlvs) writable)
+    let shake_is = ap (λ items. first_handshake (ok_prefix items)) shakes ∙ ap Some (handshake-reads_back state extended named shake) in
+    read-begins by on config.system octets (pdu tlvs) sender.system (octets_of_pdu-begins (pdu tlvs) writable)
     ∙ ap (λ cause. refused_or cause (message by.system config.system (pdu tlvs) octets)) none
     ∙ (λ i. PointHelloHeard (record { source = source i; snpa = config.system; runs = runs i; holding = 30; priority = 0; lan = 0; areas = areas_are i; handshake = shake_is i; names_me = false }))
 
@@ -182,8 +182,8 @@ are-snpas (snpa ∷ snpas) = (record { six = refl }, are-snpas snpas)
 abbrev Small : ℕ → Type 0
 Small snpa = snpa < 2 ^ 48
 
-snpas-again : (snpas : List ℕ) → AllByRecursion Small snpas → snpas_of (snpa_value (map snpa_id snpas)) ≡ fine (map snpa_id snpas)
-snpas-again snpas all = values-again snpa_at snpa-some (λ snpa. snpa.0) IsSnpa snpa-again 0 (map snpa_id snpas) (are-snpas snpas)
+snpas-reads_back : (snpas : List ℕ) → AllByRecursion Small snpas → snpas_of (snpa_value (map snpa_id snpas)) ≡ fine (map snpa_id snpas)
+snpas-reads_back snpas all = values-reads_back snpa_at snpa-takes_one (λ snpa. snpa.0) IsSnpa snpa-reads_back 0 (map snpa_id snpas) (are-snpas snpas)
 
 snpas-length : (snpas : List ℕ) → length (snpa_value (map snpa_id snpas)) ≡ 6 * length snpas
 snpas-length [] = omega arith
@@ -201,7 +201,7 @@ lists-names own (snpa ∷ snpas) all =
 abbrev lan : Level → LevelSet → ℕ → ℕ → ℕ → List ℕ → PduView
 lan level set system priority id tlvs = LanHello level set (system_id system) 30 priority (node_id id) tlvs
 
-lan-lives : (level : Level) (set : LevelSet) (system priority id : ℕ) (tlvs : List ℕ) → is_purge (spelled (lan level set system priority id tlvs)) ≡ false
+lan-lives : (level : Level) (set : LevelSet) (system priority id : ℕ) (tlvs : List ℕ) → is_purge (octets_of_pdu (lan level set system priority id tlvs)) ≡ false
 lan-lives level.One set system priority id tlvs = refl
 lan-lives level.Two set system priority id tlvs = refl
 
@@ -225,27 +225,27 @@ lan-reads by config on c place level id snpas sender fits takes =
     let pdu = lan level set config.system c.priority id in
     let head = lan-head level set config.system c.priority id fits.seven_bits in
     let inside = lan_tlvs config.areas c.address snpas in
-    let are = are-hello config.areas c.address heard (pieces-tlvs 6 41 snpas_of snpa_id snpa_value Small snpas-again (length snpas) snpas) in
+    let are = are-hello config.areas c.address heard (pieces-tlvs 6 41 snpas_of snpa_id snpa_value Small snpas-reads_back (length snpas) snpas) in
     let size = hello-length config.areas c.address heard sender.fits in
-    let six = pieces-length 6 41 snpas_of snpa_id snpa_value Small snpas-again 6 snpas-length (length snpas) snpas in
+    let six = pieces-length 6 41 snpas_of snpa_id snpa_value Small snpas-reads_back 6 snpas-length (length snpas) snpas in
     let count = fits.count in
     let tlvs = signed_tlvs c.key pdu inside in
-    let octets = spelled (pdu tlvs) in
+    let octets = octets_of_pdu (pdu tlvs) in
     let writable = signed-writable its pdu head inside are c.key (omega arith) in
     let areas : areas_in tlvs ≡ fine config.areas =
     signed-items its pdu head inside are c.key 1 areas_of refl
     ∙ hello-items 1 areas_of refl refl config.areas c.address heard
-    ∙ ap (λ items. areas_of (area_value config.areas) ++ items) (pieces-others 6 41 snpas_of snpa_id snpa_value Small snpas-again 1 areas_of refl (length snpas) snpas)
+    ∙ ap (λ items. areas_of (area_value config.areas) ++ items) (pieces-others 6 41 snpas_of snpa_id snpa_value Small snpas-reads_back 1 areas_of refl (length snpas) snpas)
     ∙ append-nil (areas_of (area_value config.areas))
-    ∙ areas-again config.areas sender.areas in
+    ∙ areas-reads_back config.areas sender.areas in
     let listed : snpas_in tlvs ≡ fine (map snpa_id snpas) =
     signed-items its pdu head inside are c.key 6 snpas_of refl
     ∙ hello-items 6 snpas_of refl refl config.areas c.address heard
-    ∙ pieces-items 6 41 snpas_of snpa_id snpa_value Small snpas-again (length snpas) snpas (omega arith) fits.each in
+    ∙ pieces-items 6 41 snpas_of snpa_id snpa_value Small snpas-reads_back (length snpas) snpas (omega arith) fits.each in
     let shakes : handshakes_in tlvs ≡ [] =
     signed-items its pdu head inside are c.key 240 (λ octets. three_way_of octets ∷ []) refl
     ∙ hello-items 240 (λ octets. three_way_of octets ∷ []) refl refl config.areas c.address heard
-    ∙ pieces-others 6 41 snpas_of snpa_id snpa_value Small snpas-again 240 (λ octets. three_way_of octets ∷ []) refl (length snpas) snpas in
+    ∙ pieces-others 6 41 snpas_of snpa_id snpa_value Small snpas-reads_back 240 (λ octets. three_way_of octets ∷ []) refl (length snpas) snpas in
     let auth = ap (λ (k : Option (List ℕ)). passes k octets 27) takes.key ∙ signed-passes its pdu head inside are c.key (omega arith) in
     let no_area = ap (λ items. is_none (fault_of items)) areas ∙ ap is_none (fine-fault config.areas) in
     let no_snpa = ap (λ items. is_none (fault_of items)) listed ∙ ap is_none (fine-fault (map snpa_id snpas)) in
@@ -253,10 +253,10 @@ lan-reads by config on c place level id snpas sender fits takes =
     let values = and_from _ _ (and_from _ _ no_area no_snpa) no_shake in
     let none = all-hold (tests_of by on (pdu tlvs) octets) (refl, (takes.goes, (takes.runs, (auth, (values, (refl, (refl, tt))))))) in
     let source = u48-again config.system sender.system in
-    let runs = runs-again config.runs sender.some in
-    let id_is = node-again id fits.seven_octets in
+    let runs = runs-reads_back config.runs sender.some in
+    let id_is = node-reads_back id fits.seven_octets in
     let areas_are = ap ok_prefix areas ∙ fine-items config.areas in
     let named = ap (λ items. lists by.system (ok_prefix items)) listed ∙ ap (lists by.system) (fine-items (map snpa_id snpas)) ∙ lists-names by.system snpas fits.each in
-    read-begins by on config.system octets (pdu tlvs) sender.system (spelled-begins (pdu tlvs) writable)
+    read-begins by on config.system octets (pdu tlvs) sender.system (octets_of_pdu-begins (pdu tlvs) writable)
     ∙ ap (λ cause. refused_or cause (message by.system config.system (pdu tlvs) octets)) none
     ∙ (λ i. LanHelloHeard level (record { source = source i; snpa = config.system; runs = runs i; holding = 30; priority = c.priority; lan = id_is i; areas = areas_are i; handshake = None; names_me = named i }))

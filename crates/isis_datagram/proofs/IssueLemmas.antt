@@ -5,7 +5,7 @@ use Rattle.isis_base.specs.declared.level.Level.TheVariants as level
 use Rattle.isis_base.specs.declared.pdu_kind.PduKind.TheVariants as kind
 use Rattle.isis_pdu.specs.Views.{Lsp}
 use Rattle.isis_pdu.specs.Reading.{Begins}
-use Rattle.isis_pdu.specs.Spelling.{start_octets, field_octets, spelled, IsWritable}
+use Rattle.isis_pdu.specs.Spelling.{start_octets, field_octets, octets_of_pdu, IsWritable}
 use Rattle.iso_checksum.specs.Checksum.{checksum_holds, with_pair}
 use Rattle.hmac_auth.specs.Hmac.{hmac}
 use Rattle.hmac_auth.specs.Pdus.{is_purge, blanked}
@@ -18,11 +18,11 @@ use Rattle.isis_datagram.specs.Tests.{passes}
 use Rattle.isis_datagram.specs.Signing.{auth_octets, signed_tlvs}
 use Rattle.isis_datagram.specs.Lsps.{issued_with, issued_tlvs, issued_checksum, issued_pdu, given_octets}
 use Rattle.isis_datagram.specs.Said.{TellsLive, IsIssuable}
-use Rattle.isis_datagram.proofs.ReadLemmas.{spelled-begins}
+use Rattle.isis_datagram.proofs.ReadLemmas.{octets_of_pdu-begins}
 use Rattle.isis_datagram.proofs.AuthLemmas.{IsHead, signed-length, signed-are, signed-passes}
-use Rattle.isis_datagram.proofs.CheckLemmas.{checksum-some, checksum-holds}
+use Rattle.isis_datagram.proofs.CheckLemmas.{checksum-in_range, checksum-holds}
 
-issued-lives : (level : Level) (id number flags checksum : ℕ) (tlvs : List ℕ) → is_purge (spelled (issued_with level id number flags checksum tlvs)) ≡ false
+issued-lives : (level : Level) (id number flags checksum : ℕ) (tlvs : List ℕ) → is_purge (octets_of_pdu (issued_with level id number flags checksum tlvs)) ≡ false
 issued-lives level.One id number flags checksum tlvs = refl
 issued-lives level.Two id number flags checksum tlvs = refl
 
@@ -38,7 +38,7 @@ issued-head level id number flags checksum small fits = record {
 }
 
 -- the digest doesn't look at the checksum
-same-blank : (level : Level) (id number flags checksum : ℕ) (tlvs : List ℕ) → blanked (spelled (issued_with level id number flags checksum (auth_octets (replicate 16 0) ++ tlvs))) 30 ≡ blanked (spelled (issued_with level id number flags 0 (auth_octets (replicate 16 0) ++ tlvs))) 30
+same-blank : (level : Level) (id number flags checksum : ℕ) (tlvs : List ℕ) → blanked (octets_of_pdu (issued_with level id number flags checksum (auth_octets (replicate 16 0) ++ tlvs))) 30 ≡ blanked (octets_of_pdu (issued_with level id number flags 0 (auth_octets (replicate 16 0) ++ tlvs))) 30
 unfolding blanked
 same-blank level.One id number flags checksum tlvs = refl
 same-blank level.Two id number flags checksum tlvs = refl
@@ -56,15 +56,15 @@ module _ (key : Option (List ℕ)) (level : Level) (id number : ℕ) (contents :
   sum = issued_checksum key level id number contents
 
   abbrev octets : List ℕ
-  octets = spelled (issued_pdu key level id number contents)
+  octets = octets_of_pdu (issued_pdu key level id number contents)
 
-  pub issued-some : (0 < sum) × (sum < 65536)
-  issued-some = checksum-some (drop 12 (spelled (issued_with level id number contents.flags 0 its))) (length its + 2)
+  pub issued-in_range : (0 < sum) × (sum < 65536)
+  issued-in_range = checksum-in_range (drop 12 (octets_of_pdu (issued_with level id number contents.flags 0 its))) (length its + 2)
 
   issued-holds : checksum_holds (drop 12 octets) ≡ true
   issued-holds =
-      let summed = drop 12 (spelled (issued_with level id number contents.flags 0 its)) in
-      let fits = issued-some.1 in
+      let summed = drop 12 (octets_of_pdu (issued_with level id number contents.flags 0 its)) in
+      let fits = issued-in_range.1 in
       let holds = checksum-holds summed 12 (omega arith) refl (length its + 2) (omega arith) in
       let high : sum / 256 ≡ sum / 256 % 256 = omega arith in
       subst (λ (n : ℕ). checksum_holds (with_pair summed 12 n (sum % 256)) ≡ true) high holds
@@ -72,15 +72,15 @@ module _ (key : Option (List ℕ)) (level : Level) (id number : ℕ) (contents :
   module _ (fits : number < 2 ^ 32) (is : IsIssuable contents) where
     issued-authentic : passes key octets 27 ≡ true
     issued-authentic =
-        let small = issued-some.1 in
+        let small = issued-in_range.1 in
         let short = is.short in
-        subst (λ (tlvs : List ℕ). passes key (spelled (issued_with level id number contents.flags sum tlvs)) 27 ≡ true)
+        subst (λ (tlvs : List ℕ). passes key (octets_of_pdu (issued_with level id number contents.flags sum tlvs)) 27 ≡ true)
         (same-signed key level id number contents.flags sum contents.tlvs)
         (signed-passes (kind.Lsp level) (issued_with level id number contents.flags sum) (issued-head level id number contents.flags sum fits (omega arith)) contents.tlvs is.tlvs key (omega arith))
 
     issued-writable : IsWritable (issued_pdu key level id number contents)
     issued-writable =
-        let small = issued-some.1 in
+        let small = issued-in_range.1 in
         let short = is.short in
         let head = issued-head level id number contents.flags 0 fits (omega arith) in
         let longer = signed-length (kind.Lsp level) (issued_with level id number contents.flags 0) head contents.tlvs is.tlvs key in
@@ -104,10 +104,10 @@ issue-tells leaks attached r level id number contents fits is =
       tlvs = issued_tlvs key level id number contents;
       begins =
           subst (λ (n : ℕ). Begins sent (Lsp level 1200 (lsp_id id) n (issued_checksum key level id number contents) contents.flags (issued_tlvs key level id number contents)) (length sent)) half
-          (spelled-begins (issued_pdu key level id number contents) (issued-writable key level id number contents fits is));
+          (octets_of_pdu-begins (issued_pdu key level id number contents) (issued-writable key level id number contents fits is));
       lives = omega arith;
       short = issued-short key level id number contents fits is;
-      some = (issued-some key level id number contents).0;
+      some = (issued-in_range key level id number contents).0;
       summed = issued-holds key level id number contents;
       authentic = issued-authentic key level id number contents fits is;
     }
@@ -115,5 +115,5 @@ issue-tells leaks attached r level id number contents fits is =
 pub given-good : (leaks : Router → Level → List (ℕ × ℕ)) (attached : Router → Bool) → IsGoodGiven (given_octets leaks attached)
 given-good leaks attached = record {
   header = λ r level id number contents. omega arith;
-  summed = λ r level id number contents. (issued-some (at r.config.keys level) level id number contents).0;
+  summed = λ r level id number contents. (issued-in_range (at r.config.keys level) level id number contents).0;
 }

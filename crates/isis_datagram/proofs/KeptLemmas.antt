@@ -92,9 +92,9 @@ purged-tells key level id cell is =
 
 -- ---- LSP IDs that are read
 
-id-again : (a b c d e f p t : ℕ) → a < 256 → b < 256 → c < 256 → d < 256 → e < 256 → f < 256 → p < 256 → t < 256 → lsp_id (lsp_number (record { node = record { system = record { 0 = a ∷ b ∷ c ∷ d ∷ e ∷ f ∷ [] }; pseudonode = p }; number = t })) ≡ record { node = record { system = record { 0 = a ∷ b ∷ c ∷ d ∷ e ∷ f ∷ [] }; pseudonode = p }; number = t }
+id-reads_back : (a b c d e f p t : ℕ) → a < 256 → b < 256 → c < 256 → d < 256 → e < 256 → f < 256 → p < 256 → t < 256 → lsp_id (lsp_number (record { node = record { system = record { 0 = a ∷ b ∷ c ∷ d ∷ e ∷ f ∷ [] }; pseudonode = p }; number = t })) ≡ record { node = record { system = record { 0 = a ∷ b ∷ c ∷ d ∷ e ∷ f ∷ [] }; pseudonode = p }; number = t }
 unfolding lsp_number
-id-again a b c d e f p t sa sb sc sd se sf sp st =
+id-reads_back a b c d e f p t sa sb sc sd se sf sp st =
     let id : LspId = record { node = record { system = record { 0 = a ∷ b ∷ c ∷ d ∷ e ∷ f ∷ [] }; pseudonode = p }; number = t } in
     let n = lsp_number id in
     let s = 4294967296 * (256 * a + b) + (256 * (256 * (256 * c + d) + e) + f) in
@@ -119,7 +119,7 @@ read-id : (octets : List ℕ) → 27 ≤ length octets → Small octets → lsp_
 read-id = of-leading 27 (λ octets. Small octets → lsp_id (lsp_number (lsp_at 12 octets)) ≡ lsp_at 12 octets)
     (λ a b c d e f g h j k l m o p q r s t u v w x y z aa bb cc' rest small.
     let xs : List ℕ = a ∷ b ∷ c ∷ d ∷ e ∷ f ∷ g ∷ h ∷ j ∷ k ∷ l ∷ m ∷ o ∷ p ∷ q ∷ r ∷ s ∷ t ∷ u ∷ v ∷ w ∷ x ∷ y ∷ z ∷ aa ∷ bb ∷ cc' ∷ rest in
-    id-again o p q r s t u v (small-at xs 12 small) (small-at xs 13 small) (small-at xs 14 small) (small-at xs 15 small) (small-at xs 16 small) (small-at xs 17 small) (small-at xs 18 small) (small-at xs 19 small))
+    id-reads_back o p q r s t u v (small-at xs 12 small) (small-at xs 13 small) (small-at xs 14 small) (small-at xs 15 small) (small-at xs 16 small) (small-at xs 17 small) (small-at xs 18 small) (small-at xs 19 small))
 
 -- ---- the octets of a PDU that was read, and no more
 

@@ -36,7 +36,7 @@ use Rattle.isis_datagram.specs.Lsps.{with_lifetime, signed_purge, lsp_sent}
 use Rattle.isis_datagram.specs.Datagrams.{datagram, pdu_octets}
 use Rattle.isis_datagram.specs.Said.{said, CanRead, IsLiveLsp}
 use Rattle.isis_datagram.proofs.ListLemmas.{of-leading}
-use Rattle.isis_datagram.proofs.NumberLemmas.{lsp-again, high-again}
+use Rattle.isis_datagram.proofs.NumberLemmas.{lsp-reads_back, high-reads_back}
 use Rattle.isis_datagram.proofs.ReadLemmas.{read-begins, all-hold}
 
 -- ---- octets with another lifetime
@@ -70,7 +70,7 @@ module _ (level : Level) (old new : ℕ) (id : LspId) (number checksum flags : �
           least = reads.least;
           value =
               let xs : List ℕ = a ∷ b ∷ c ∷ d ∷ e ∷ f ∷ g ∷ h ∷ j ∷ k ∷ l ∷ m ∷ rest in
-              ap (λ (lifetime : ℕ). relived lifetime (value_at (kind.Lsp level) xs (body_at (kind.Lsp level) xs n))) (high-again new fits)
+              ap (λ (lifetime : ℕ). relived lifetime (value_at (kind.Lsp level) xs (body_at (kind.Lsp level) xs n))) (high-reads_back new fits)
               ∙ ap (relived new) reads.value;
           tlvs = reads.tlvs;
         },
@@ -205,7 +205,7 @@ lsp-reads by config on c place level id cell small is takes =
     let sums : checksum_holds (drop 12 octets) ≡ true = ap checksum_holds (same-body old cell.left (omega arith)) ∙ tells.summed in
     let summed = or_right (eqb cell.left 0) (not (eqb cell.checksum 0) && checksum_holds (drop 12 octets)) (and_from _ _ some sums) in
     let none = all-hold (tests_of by on (pdu cell.left) octets) (le-leb (length octets) 1492 (omega arith), (takes.goes, (takes.runs, (auth, (refl, (number, (summed, tt))))))) in
-    let id_is = lsp-again id is.eight in
+    let id_is = lsp-reads_back id is.eight in
     let nonzero : eqb cell.left 0 ≡ false = ne_eqb cell.left 0 (λ e. omega arith) in
     let rank_is : rank_read (cell.rank / 2) cell.left ≡ cell.rank =
     ap (λ (t : Bool). cond t (2 * (cell.rank / 2) + 1) (2 * (cell.rank / 2))) nonzero ∙ (let twice : 2 * (cell.rank / 2) ≡ cell.rank = omega (arith, rank.1) in twice) in

@@ -3,25 +3,25 @@ use Rattle.std.proofs.Common.{◌≡◌, ℕ, ◌+◌, ◌*◌, ◌/◌, ◌%◌
 use Rattle.isis_base.specs.Identifiers.{lsp_number}
 use Rattle.isis_datagram.specs.Numbers.{u48_octets, u48_of, node_id, lsp_id, node_number}
 
-low-again : (n : ℕ) → 256 * (256 * (256 * (n / 16777216 % 256) + n / 65536 % 256) + n / 256 % 256) + n % 256 ≡ n % 4294967296
-low-again n = omega arith
+low-reads_back : (n : ℕ) → 256 * (256 * (256 * (n / 16777216 % 256) + n / 65536 % 256) + n / 256 % 256) + n % 256 ≡ n % 4294967296
+low-reads_back n = omega arith
 
-pub high-again : (n : ℕ) → n < 65536 → 256 * (n / 256 % 256) + n % 256 ≡ n
-high-again n h = omega arith
+pub high-reads_back : (n : ℕ) → n < 65536 → 256 * (n / 256 % 256) + n % 256 ≡ n
+high-reads_back n h = omega arith
 
 pub u48-again : (n : ℕ) → n < 2 ^ 48 → u48_of (u48_octets n) ≡ n
 u48-again n h =
-    let low = low-again n in
-    let high = high-again (n / 4294967296) (omega arith) in
+    let low = low-reads_back n in
+    let high = high-reads_back (n / 4294967296) (omega arith) in
     omega arith
 
-pub node-again : (n : ℕ) → n < 2 ^ 56 → node_number (node_id n) ≡ n
-node-again n h =
+pub node-reads_back : (n : ℕ) → n < 2 ^ 56 → node_number (node_id n) ≡ n
+node-reads_back n h =
     let system = u48-again (n / 256) (omega arith) in
     omega arith
 
-pub lsp-again : (n : ℕ) → n < 2 ^ 64 → lsp_number (lsp_id n) ≡ n
+pub lsp-reads_back : (n : ℕ) → n < 2 ^ 64 → lsp_number (lsp_id n) ≡ n
 unfolding lsp_number
-lsp-again n h =
-    let node = node-again (n / 256) (omega arith) in
+lsp-reads_back n h =
+    let node = node-reads_back (n / 256) (omega arith) in
     omega arith

@@ -36,7 +36,7 @@ use Rattle.isis_datagram.specs.Lsps.{with_lifetime, signed_purge, lsp_sent}
 use Rattle.isis_datagram.specs.Datagrams.{datagram, pdu_octets}
 use Rattle.isis_datagram.specs.Said.{said, CanRead, IsPurge}
 use Rattle.isis_datagram.proofs.ListLemmas.{of-exactly}
-use Rattle.isis_datagram.proofs.NumberLemmas.{lsp-again}
+use Rattle.isis_datagram.proofs.NumberLemmas.{lsp-reads_back}
 use Rattle.isis_datagram.proofs.ReadLemmas.{read-begins, all-hold}
 use Rattle.isis_datagram.proofs.AuthLemmas.{blank, signed-fault}
 
@@ -161,7 +161,7 @@ purge-reads by config on c place level id cell small is takes =
     let auth = ap (λ (k : Option (List ℕ)). passes k octets 27) takes.key ∙ sent.passes in
     let number : not (eqb (cell.rank / 2) 0) ≡ true = not_from_false (eqb (cell.rank / 2) 0) (ne_eqb (cell.rank / 2) 0 (λ e. omega arith)) in
     let none = all-hold (tests_of by on pdu octets) (le-leb (length octets) 1492 short, (takes.goes, (takes.runs, (auth, (refl, (number, (refl, tt))))))) in
-    let id_is = lsp-again id is.eight in
+    let id_is = lsp-reads_back id is.eight in
     let rank_is : 2 * (cell.rank / 2) + 1 ≡ cell.rank = omega arith in
     let left_is : 0 ≡ cond (is_live cell.rank) cell.left 0 = ap (λ (t : Bool). cond t cell.left 0) (sym dead) in
     let sent_is : octets ≡ cond (is_live cell.rank) (with_lifetime cell.left cell.octets) octets = ap (λ (t : Bool). cond t (with_lifetime cell.left cell.octets) octets) (sym dead) in

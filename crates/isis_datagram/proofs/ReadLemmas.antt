@@ -9,10 +9,10 @@ use Rattle.isis_pdu.specs.Views.{PduView}
 use Rattle.isis_pdu.specs.Layout.{kind_of, body_at, value_at}
 use Rattle.isis_pdu.specs.Table.{first_fault}
 use Rattle.isis_pdu.specs.Reading.{Begins}
-use Rattle.isis_pdu.specs.Spelling.{encoded_len, spelled, IsWritable}
+use Rattle.isis_pdu.specs.Spelling.{encoded_len, octets_of_pdu, IsWritable}
 use Rattle.isis_pdu.specs.Decoded.{decoded_by, decoded}
-use Rattle.isis_pdu.proofs.ReadLemmas.{kind-again, refused}
-use Rattle.isis_pdu.proofs.RoundLemmas.{begins-again, length-spelled}
+use Rattle.isis_pdu.proofs.ReadLemmas.{kind-reads_back, refused}
+use Rattle.isis_pdu.proofs.RoundLemmas.{begins-reads_back, length-spelled}
 use Rattle.isis_model.specs.Configs.{Config}
 use Rattle.isis_model.specs.Routers.{Circuit}
 use Rattle.isis_datagram.specs.Numbers.{u48_octets, u48_of}
@@ -23,9 +23,9 @@ use Rattle.isis_datagram.proofs.NumberLemmas.{u48-again}
 
 -- ---- frames
 
-pub unframed-again : (snpa : ℕ) (pdu : List ℕ) → snpa < 2 ^ 48 → unframed (framed snpa pdu) ≡ Some (snpa, pdu)
+pub unframed-reads_back : (snpa : ℕ) (pdu : List ℕ) → snpa < 2 ^ 48 → unframed (framed snpa pdu) ≡ Some (snpa, pdu)
 unfolding framed unframed
-unframed-again snpa pdu h =
+unframed-reads_back snpa pdu h =
     let octets = magic ++ u48_octets snpa ++ pdu in
     let long : leb 10 (length octets) ≡ true = le-leb 10 (length octets) (omega arith) in
     ap (λ (t : Bool). cond (t && true) (Some (u48_of (u48_octets snpa ++ pdu), pdu)) None) long
@@ -45,7 +45,7 @@ decoded-begins octets pdu n begins =
     let reads = begins.0 in
     let its = kind_of pdu in
     let none = faultless octets pdu n begins (first_fault octets) refl in
-    let known : kind_at octets ≡ Some its = ap kind_of_number reads.kind ∙ kind-again its in
+    let known : kind_at octets ≡ Some its = ap kind_of_number reads.kind ∙ kind-reads_back its in
     let size = reads.size in
     ap (λ (found : Option PduFault). decoded_by found (kind_at octets) octets) none
     ∙ ap (λ (kind : Option PduKind). decoded_by None kind octets) known
@@ -56,15 +56,15 @@ decoded-begins octets pdu n begins =
 pub read-begins : (by : Config) (on : Circuit) (snpa : ℕ) (octets : List ℕ) (pdu : PduView) → snpa < 2 ^ 48 → Begins octets pdu (length octets) → read by on (framed snpa octets) ≡ refused_or (first_failing (tests_of by on pdu octets)) (message by.system snpa pdu octets)
 unfolding read
 read-begins by on snpa octets pdu small begins =
-    ap (read_frame by on) (unframed-again snpa octets small)
+    ap (read_frame by on) (unframed-reads_back snpa octets small)
     ∙ ap (read_pdu by on snpa octets) (decoded-begins octets pdu (length octets) begins)
     ∙ ap (λ (whole : List ℕ). refused_or (first_failing (tests_of by on pdu whole)) (message by.system snpa pdu whole)) (take_all (length octets) octets (omega arith))
 
--- what a PDU that is spelled begins with
-pub spelled-begins : (pdu : PduView) → IsWritable pdu → Begins (spelled pdu) pdu (length (spelled pdu))
-spelled-begins pdu is =
-    subst (λ (n : ℕ). Begins (spelled pdu) pdu n) (sym (length-spelled pdu is))
-    (subst (λ (octets : List ℕ). Begins octets pdu (encoded_len pdu)) (append-nil (spelled pdu)) (begins-again pdu [] is))
+-- what a PDU that is octets_of_pdu begins with
+pub octets_of_pdu-begins : (pdu : PduView) → IsWritable pdu → Begins (octets_of_pdu pdu) pdu (length (octets_of_pdu pdu))
+octets_of_pdu-begins pdu is =
+    subst (λ (n : ℕ). Begins (octets_of_pdu pdu) pdu n) (sym (length-spelled pdu is))
+    (subst (λ (octets : List ℕ). Begins octets pdu (encoded_len pdu)) (append-nil (octets_of_pdu pdu)) (begins-reads_back pdu [] is))
 
 -- ---- tests
 

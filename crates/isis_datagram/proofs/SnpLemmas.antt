@@ -17,11 +17,11 @@ use Rattle.isis_tlv.specs.Tlvs.{AreTlvs}
 use Rattle.isis_tlv.specs.Fits.{IsEntry}
 use Rattle.isis_tlv.specs.Items.{entry_at, entries_of}
 use Rattle.isis_tlv.specs.Spelling.{entry_octets, entry_value}
-use Rattle.isis_tlv.specs.Takes.{entry-some}
-use Rattle.isis_tlv.proofs.RoundLemmas.{values-again, entry-again}
+use Rattle.isis_tlv.specs.Takes.{entry-takes_one}
+use Rattle.isis_tlv.proofs.RoundLemmas.{values-reads_back, entry-reads_back}
 use Rattle.isis_pdu.specs.Views.{PduView, Csnp, Psnp, tlvs_of_pdu}
 use Rattle.isis_pdu.specs.Layout.{kind_of}
-use Rattle.isis_pdu.specs.Spelling.{start_octets, field_octets, spelled, IsWritable}
+use Rattle.isis_pdu.specs.Spelling.{start_octets, field_octets, octets_of_pdu, IsWritable}
 use Rattle.isis_pdu.proofs.RoundLemmas.{length-spelled}
 use Rattle.hmac_auth.specs.Pdus.{is_purge}
 use Rattle.isis_model.specs.Both.{at}
@@ -38,8 +38,8 @@ use Rattle.isis_datagram.specs.Signing.{signed_tlvs, signed}
 use Rattle.isis_datagram.specs.Tlvs.{lsp_entry, entry_tlvs}
 use Rattle.isis_datagram.specs.Datagrams.{datagram, pdu_octets}
 use Rattle.isis_datagram.specs.Said.{said, CanRead, IsSender, IsTellable, AreTellable}
-use Rattle.isis_datagram.proofs.NumberLemmas.{u48-again, lsp-again}
-use Rattle.isis_datagram.proofs.ReadLemmas.{read-begins, spelled-begins, all-hold}
+use Rattle.isis_datagram.proofs.NumberLemmas.{u48-again, lsp-reads_back}
+use Rattle.isis_datagram.proofs.ReadLemmas.{read-begins, octets_of_pdu-begins, all-hold}
 use Rattle.isis_datagram.proofs.ItemLemmas.{fine, fine-fault, fine-items, pieces-items, pieces-tlvs, pieces-length}
 use Rattle.isis_datagram.proofs.AuthLemmas.{IsHead, signed-length, signed-items, signed-passes, signed-writable}
 
@@ -54,8 +54,8 @@ are-entries : (list : List SnpEntry) → AllByRecursion IsTellable list → AllB
 are-entries [] all = tt
 are-entries (h ∷ list) all = (is-entry h all.0, are-entries list all.1)
 
-entries-again : (list : List SnpEntry) → AllByRecursion IsTellable list → entries_of (entry_value (map lsp_entry list)) ≡ fine (map lsp_entry list)
-entries-again list all = values-again entry_at entry-some entry_octets IsEntry entry-again 0 (map lsp_entry list) (are-entries list all)
+entries-reads_back : (list : List SnpEntry) → AllByRecursion IsTellable list → entries_of (entry_value (map lsp_entry list)) ≡ fine (map lsp_entry list)
+entries-reads_back list all = values-reads_back entry_at entry-takes_one entry_octets IsEntry entry-reads_back 0 (map lsp_entry list) (are-entries list all)
 
 -- an entry of sixteen octets
 entries-length : (list : List SnpEntry) → length (entry_value (map lsp_entry list)) ≡ 16 * length list
@@ -74,7 +74,7 @@ rank-of rank lifetime number half one live purge =
 
 entry-read : (h : SnpEntry) → IsTellable h → snp_entry (lsp_entry h) ≡ h
 entry-read h is =
-    let id = lsp-again h.id is.id in
+    let id = lsp-reads_back h.id is.id in
     let rank : entry_rank (lsp_entry h) ≡ h.rank = rank-of h.rank h.lifetime (h.rank / 2) refl is.number is.live is.purge in
     (λ i. record { id = id i; rank = rank i; lifetime = h.lifetime; checksum = h.checksum })
 
@@ -87,14 +87,14 @@ entries-read (h ∷ list) all =
 
 module _ (entries : List SnpEntry) (tellable : AreTellable entries) where
   entry-items : entries_in (entry_tlvs entries) ≡ fine (map lsp_entry entries)
-  entry-items = pieces-items 9 14 entries_of lsp_entry entry_value IsTellable entries-again (length entries) entries (omega arith) tellable.each
+  entry-items = pieces-items 9 14 entries_of lsp_entry entry_value IsTellable entries-reads_back (length entries) entries (omega arith) tellable.each
 
   entry-tlvs : AreTlvs (entry_tlvs entries)
-  entry-tlvs = pieces-tlvs 9 14 entries_of lsp_entry entry_value IsTellable entries-again (length entries) entries
+  entry-tlvs = pieces-tlvs 9 14 entries_of lsp_entry entry_value IsTellable entries-reads_back (length entries) entries
 
   entry-size : length (entry_tlvs entries) ≤ 1350
   entry-size =
-      let size = pieces-length 9 14 entries_of lsp_entry entry_value IsTellable entries-again 16 entries-length (length entries) entries in
+      let size = pieces-length 9 14 entries_of lsp_entry entry_value IsTellable entries-reads_back 16 entries-length (length entries) entries in
       let count = tellable.count in
       omega arith
 
@@ -109,14 +109,14 @@ module _ (kind : PduKind) (pdu : List ℕ → PduView) (head : IsHead kind pdu) 
       let size = entry-size entries tellable in
       signed-writable kind pdu head (entry_tlvs entries) (entry-tlvs entries tellable) key (omega arith)
 
-  is-short : leb (length (spelled (pdu whole))) 1492 ≡ true
+  is-short : leb (length (octets_of_pdu (pdu whole))) 1492 ≡ true
   is-short =
       let size = entry-size entries tellable in
       let octets = length-spelled (pdu whole) writable in
       let header : header_length (kind_of (pdu whole)) ≡ header_length kind = ap header_length (head.typed whole) in
       let tlvs : length (tlvs_of_pdu (pdu whole)) ≡ length whole = ap length (head.tlvs whole) in
       let longer = signed-length kind pdu head (entry_tlvs entries) (entry-tlvs entries tellable) key in
-      le-leb (length (spelled (pdu whole))) 1492 (omega arith)
+      le-leb (length (octets_of_pdu (pdu whole))) 1492 (omega arith)
 
   items : entries_in whole ≡ fine (map lsp_entry entries)
   items = signed-items kind pdu head (entry_tlvs entries) (entry-tlvs entries tellable) key 9 entries_of refl ∙ entry-items entries tellable
@@ -130,10 +130,10 @@ module _ (kind : PduKind) (pdu : List ℕ → PduView) (head : IsHead kind pdu) 
       ∙ ap (map snp_entry) (fine-items (map lsp_entry entries))
       ∙ entries-read entries tellable.each
 
-  is-authentic : (other : Option (List ℕ)) → other ≡ key → passes other (spelled (pdu whole)) (header_length kind) ≡ true
+  is-authentic : (other : Option (List ℕ)) → other ≡ key → passes other (octets_of_pdu (pdu whole)) (header_length kind) ≡ true
   is-authentic other same =
       let size = entry-size entries tellable in
-      ap (λ (k : Option (List ℕ)). passes k (spelled (pdu whole)) (header_length kind)) same
+      ap (λ (k : Option (List ℕ)). passes k (octets_of_pdu (pdu whole)) (header_length kind)) same
       ∙ signed-passes kind pdu head (entry_tlvs entries) (entry-tlvs entries tellable) key (omega arith)
 
 same-source : (system : ℕ) → system < 2 ^ 48 → u48_of (node_id (256 * system)).system.0 ≡ system
@@ -146,7 +146,7 @@ same-source system h =
 abbrev psnp : Level → NodeId → List ℕ → PduView
 psnp level source tlvs = Psnp level source tlvs
 
-psnp-lives : (level : Level) (n : ℕ) (tlvs : List ℕ) → is_purge (spelled (psnp level (node_id n) tlvs)) ≡ false
+psnp-lives : (level : Level) (n : ℕ) (tlvs : List ℕ) → is_purge (octets_of_pdu (psnp level (node_id n) tlvs)) ≡ false
 psnp-lives level.One n tlvs = refl
 psnp-lives level.Two n tlvs = refl
 
@@ -170,11 +170,11 @@ psnp-reads by config on c place level entries sender tellable takes =
     let head = psnp-head level (256 * config.system) in
     let few : 17 ≤ 33 = omega arith in
     let tlvs = signed_tlvs key pdu (entry_tlvs entries) in
-    let octets = spelled (pdu tlvs) in
+    let octets = octets_of_pdu (pdu tlvs) in
     let none = all-hold (tests_of by on (pdu tlvs) octets) (is-short its pdu head few entries tellable key, (takes.goes, (takes.runs, (is-authentic its pdu head few entries tellable key (at by.keys level) takes.key, (are-read its pdu head few entries tellable key, (refl, (refl, tt))))))) in
     let source = same-source config.system sender.system in
     let entries_are = listed its pdu head few entries tellable key in
-    read-begins by on config.system octets (pdu tlvs) sender.system (spelled-begins (pdu tlvs) (writable its pdu head few entries tellable key))
+    read-begins by on config.system octets (pdu tlvs) sender.system (octets_of_pdu-begins (pdu tlvs) (writable its pdu head few entries tellable key))
     ∙ ap (λ cause. refused_or cause (message by.system config.system (pdu tlvs) octets)) none
     ∙ (λ i. SnpHeard level config.system (source i) None (entries_are i))
 
@@ -183,7 +183,7 @@ psnp-reads by config on c place level entries sender tellable takes =
 abbrev csnp : Level → NodeId → LspId → LspId → List ℕ → PduView
 csnp level source start end tlvs = Csnp level source start end tlvs
 
-csnp-lives : (level : Level) (n a b : ℕ) (tlvs : List ℕ) → is_purge (spelled (csnp level (node_id n) (lsp_id a) (lsp_id b) tlvs)) ≡ false
+csnp-lives : (level : Level) (n a b : ℕ) (tlvs : List ℕ) → is_purge (octets_of_pdu (csnp level (node_id n) (lsp_id a) (lsp_id b) tlvs)) ≡ false
 csnp-lives level.One n a b tlvs = refl
 csnp-lives level.Two n a b tlvs = refl
 
@@ -207,12 +207,12 @@ csnp-reads by config on c place level start end entries sender low high tellable
     let head = csnp-head level (256 * config.system) start end in
     let few : 33 ≤ 33 = omega arith in
     let tlvs = signed_tlvs key pdu (entry_tlvs entries) in
-    let octets = spelled (pdu tlvs) in
+    let octets = octets_of_pdu (pdu tlvs) in
     let none = all-hold (tests_of by on (pdu tlvs) octets) (is-short its pdu head few entries tellable key, (takes.goes, (takes.runs, (is-authentic its pdu head few entries tellable key (at by.keys level) takes.key, (are-read its pdu head few entries tellable key, (refl, (refl, tt))))))) in
     let source = same-source config.system sender.system in
-    let first = lsp-again start low in
-    let last = lsp-again end high in
+    let first = lsp-reads_back start low in
+    let last = lsp-reads_back end high in
     let entries_are = listed its pdu head few entries tellable key in
-    read-begins by on config.system octets (pdu tlvs) sender.system (spelled-begins (pdu tlvs) (writable its pdu head few entries tellable key))
+    read-begins by on config.system octets (pdu tlvs) sender.system (octets_of_pdu-begins (pdu tlvs) (writable its pdu head few entries tellable key))
     ∙ ap (λ cause. refused_or cause (message by.system config.system (pdu tlvs) octets)) none
     ∙ (λ i. SnpHeard level config.system (source i) (Some (first i, last i)) (entries_are i))

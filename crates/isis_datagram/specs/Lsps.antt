@@ -3,7 +3,7 @@ use Rattle.std.specs.Prelude.{ℕ, ◌+◌, Bool, List, ◌++◌, length, drop, 
 use Rattle.isis_base.specs.declared.level.Level.{Level}
 use Rattle.isis_base.specs.Fields.{u16_octets}
 use Rattle.isis_pdu.specs.Views.{PduView, Lsp}
-use Rattle.isis_pdu.specs.Spelling.{spelled}
+use Rattle.isis_pdu.specs.Spelling.{octets_of_pdu}
 use Rattle.hmac_auth.specs.Pdus.{with_piece}
 use Rattle.isis_model.specs.Both.{at}
 use Rattle.isis_model.specs.Ranks.{is_live}
@@ -29,7 +29,7 @@ issued_tlvs key level id number contents =
 abbrev pub issued_checksum : Option (List ℕ) → Level → ℕ → ℕ → Contents → ℕ
 issued_checksum key level id number contents =
     let tlvs = issued_tlvs key level id number contents in
-    checksum_with (drop 12 (spelled (issued_with level id number contents.flags 0 tlvs))) (length tlvs + 2)
+    checksum_with (drop 12 (octets_of_pdu (issued_with level id number contents.flags 0 tlvs))) (length tlvs + 2)
 
 abbrev pub issued_pdu : Option (List ℕ) → Level → ℕ → ℕ → Contents → PduView
 issued_pdu key level id number contents =
@@ -41,7 +41,7 @@ given_octets leaks attached = record {
   leaks = leaks;
   attached = attached;
   octets = λ (r : Router) (level : Level) (id number : ℕ) (contents : Contents).
-      spelled (issued_pdu (at r.config.keys level) level id number contents);
+      octets_of_pdu (issued_pdu (at r.config.keys level) level id number contents);
   checksum = λ (r : Router) (level : Level) (id number : ℕ) (contents : Contents).
       issued_checksum (at r.config.keys level) level id number contents;
 }

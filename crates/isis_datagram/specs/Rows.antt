@@ -5,7 +5,7 @@ use Rattle.isis_base.specs.declared.level.LevelSet.TheVariants as levels
 use Rattle.isis_tlv.specs.declared.three_way.Adj.TheVariants.{Down}
 use Rattle.isis_tlv.specs.Tlvs.{tlv_octets}
 use Rattle.isis_pdu.specs.Views.{PointHello, LanHello, Lsp, Psnp}
-use Rattle.isis_pdu.specs.Spelling.{spelled}
+use Rattle.isis_pdu.specs.Spelling.{octets_of_pdu}
 use Rattle.isis_model.specs.Both.{Both}
 use Rattle.isis_model.specs.Configs.{Config}
 use Rattle.isis_model.specs.Cells.{Heard}
@@ -73,16 +73,16 @@ entry lifetime = record { id = 131072; rank = 2; lifetime = lifetime; checksum =
 
 -- PDUs of system 2
 abbrev pub psnp : List ℕ → List ℕ
-psnp tlvs = spelled (Psnp level.One (node_id 512) tlvs)
+psnp tlvs = octets_of_pdu (Psnp level.One (node_id 512) tlvs)
 
 abbrev pub lsp : ℕ → ℕ → ℕ → List ℕ
-lsp lifetime number checksum = spelled (Lsp level.One lifetime (lsp_id 131072) number checksum 3 [])
+lsp lifetime number checksum = octets_of_pdu (Lsp level.One lifetime (lsp_id 131072) number checksum 3 [])
 
 abbrev pub point_hello : List ℕ → List ℕ
-point_hello tlvs = spelled (PointHello levels.Both (system_id 2) 30 1 tlvs)
+point_hello tlvs = octets_of_pdu (PointHello levels.Both (system_id 2) 30 1 tlvs)
 
 abbrev pub lan_hello : List ℕ
-lan_hello = spelled (LanHello level.Two levels.Two (system_id 2) 30 64 (node_id 513) [])
+lan_hello = octets_of_pdu (LanHello level.Two levels.Two (system_id 2) 30 64 (node_id 513) [])
 
 -- what `point_hello` says with a three-way state Down and an extended circuit ID
 abbrev pub down_heard : ℕ → Message

@@ -4,7 +4,7 @@ use Rattle.isis_base.specs.PduKinds.{header_length}
 use Rattle.isis_tlv.specs.Tlvs.{tlv_octets}
 use Rattle.isis_pdu.specs.Views.{PduView}
 use Rattle.isis_pdu.specs.Layout.{kind_of}
-use Rattle.isis_pdu.specs.Spelling.{spelled}
+use Rattle.isis_pdu.specs.Spelling.{octets_of_pdu}
 use Rattle.hmac_auth.specs.Hmac.{hmac}
 use Rattle.hmac_auth.specs.Pdus.{blanked}
 
@@ -20,9 +20,9 @@ digest_of key header octets = hmac key (blanked octets (header + 3))
 abbrev pub signed_tlvs : Option (List ℕ) → (List ℕ → PduView) → List ℕ → List ℕ
 signed_tlvs None pdu tlvs = tlvs
 signed_tlvs (Some key) pdu tlvs =
-    let blank = spelled (pdu (auth_octets (replicate 16 0) ++ tlvs)) in
+    let blank = octets_of_pdu (pdu (auth_octets (replicate 16 0) ++ tlvs)) in
     auth_octets (digest_of key (header_length (kind_of (pdu []))) blank) ++ tlvs
 
 -- the octets of a PDU with these TLVs
 unfoldable pub signed : Option (List ℕ) → (List ℕ → PduView) → List ℕ → List ℕ
-signed key pdu tlvs = spelled (pdu (signed_tlvs key pdu tlvs))
+signed key pdu tlvs = octets_of_pdu (pdu (signed_tlvs key pdu tlvs))

@@ -1,7 +1,7 @@
 -- What is taken, written and left over several calls.
 use Rattle.std.proofs.Common.{◌≡◌, ℕ, ◌+◌, ◌-◌, ◌<◌, ◌≤◌, List, [], ◌++◌, length, take, drop, Option, Some, None, refl, sym, ap, ◌∙◌, arith, append_assoc}
 use Rattle.std.proofs.lemmas.List.{take-append-drop, drop-drop, length-append, length-drop, length-take, length-take-le, take_at, take_rest, append-nil}
-use Rattle.isis_edge.specs.Told.{Took, Wrote, WrotePrefix, Stays}
+use Rattle.isis_edge.specs.Told.{Took, Wrote, WrotePrefix, TellsSame}
 
 -- nothing is taken
 pub Took-none : (a : Option (List ℕ)) → Took a a []
@@ -53,13 +53,13 @@ underway_rest piece rest before mid now count u w =
     rw (take_rest rest count) (underway_more piece rest before mid now count u w)
 
 -- nothing more is written by a call that fails
-pub Wrote-stays : (a b c : Option (List ℕ)) (xs : List ℕ) → Wrote a b xs → Stays b c → Wrote a c xs
+pub Wrote-stays : (a b c : Option (List ℕ)) (xs : List ℕ) → Wrote a b xs → TellsSame b c → Wrote a c xs
 Wrote-stays None b c xs p q = tt
 Wrote-stays (Some held) None c xs p q = absurd (grind arith)
 Wrote-stays (Some held) (Some mid) c xs p q = q ∙ p
 
 -- where something is left, a prefix was written, and not all
-pub underway_prefix : (piece rest : List ℕ) (before mid now : Option (List ℕ)) → IsUnderway piece rest before mid → 0 < length rest → Stays mid now → (count : ℕ) × (count < length piece) × Wrote before now (take count piece)
+pub underway_prefix : (piece rest : List ℕ) (before mid now : Option (List ℕ)) → IsUnderway piece rest before mid → 0 < length rest → TellsSame mid now → (count : ℕ) × (count < length piece) × Wrote before now (take count piece)
 underway_prefix piece rest before mid now u left s =
     let whole = ap length u.joined in
     let parts = length-append u.front rest in

@@ -2,9 +2,9 @@
 use Rattle.std.specs.Prelude.{ℕ, ◌+◌, ◌-◌, ◌^◌, ◌≤◌, min}
 
 -- a count one higher, which stands still at its type's end (own)
-abbrev pub counted : ℕ → ℕ
-counted count = min (count + 1) (2 ^ 64 - 1)
+abbrev pub one_more : ℕ → ℕ
+one_more count = min (count + 1) (2 ^ 64 - 1)
 
 -- a count of faults rose; one that stands at its last value counts as risen in every call (own)
 abbrev pub Rose : ℕ → ℕ → Type 0
-Rose before now = counted before ≤ now
+Rose before now = one_more before ≤ now

@@ -4,7 +4,7 @@ use Rattle.isis_edge.specs.declared.source.Got.{Got}
 use Rattle.isis_edge.specs.declared.source.Got.TheVariants as got
 use Rattle.isis_edge.specs.declared.sink.Put.{Put}
 use Rattle.isis_edge.specs.declared.sink.Put.TheVariants as put
-use Rattle.isis_edge.specs.Faults.{counted}
+use Rattle.isis_edge.specs.Faults.{one_more}
 
 -- a source in memory: the octets left, how many a call gives at most, the numbers of the calls that are to fail,
 -- and the calls and the faults so far (own)
@@ -31,12 +31,12 @@ IsToFail failing calls = Contains failing (calls + 1)
 
 -- the source after a read that gave this (own)
 abbrev pub after_read : MemoryInput → Got → MemoryInput
-after_read s (got.Some count) = record s { left = drop count s.left; calls = counted s.calls }
-after_read s got.End = record s { calls = counted s.calls }
-after_read s got.Failed = record s { calls = counted s.calls; faults = counted s.faults }
+after_read s (got.Some count) = record s { left = drop count s.left; calls = one_more s.calls }
+after_read s got.End = record s { calls = one_more s.calls }
+after_read s got.Failed = record s { calls = one_more s.calls; faults = one_more s.faults }
 
 -- the sink after a write of the piece that did this (own)
 abbrev pub after_write : MemoryOutput → List ℕ → Put → MemoryOutput
 after_write s piece (put.Some count) =
-    record s { held = s.held ++ take count piece; calls = counted s.calls }
-after_write s piece put.Failed = record s { calls = counted s.calls; faults = counted s.faults }
+    record s { held = s.held ++ take count piece; calls = one_more s.calls }
+after_write s piece put.Failed = record s { calls = one_more s.calls; faults = one_more s.faults }

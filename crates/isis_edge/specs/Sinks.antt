@@ -2,13 +2,13 @@
 use Rattle.std.specs.Prelude.{ℕ, ◌<◌, ◌≤◌, List, length, take, Option}
 use Rattle.isis_edge.specs.declared.sink.Put.{Put}
 use Rattle.isis_edge.specs.declared.sink.Put.TheVariants as put
-use Rattle.isis_edge.specs.Told.{Wrote, Stays}
+use Rattle.isis_edge.specs.Told.{Wrote, TellsSame}
 
 -- what a write says of the octets held before and now (own)
 abbrev pub Writes : Option (List ℕ) → Option (List ℕ) → Put → List ℕ → Type 0
 Writes before now (put.Some count) piece =
     (0 < count) × (count ≤ length piece) × Wrote before now (take count piece)
-Writes before now put.Failed piece = Stays before now
+Writes before now put.Failed piece = TellsSame before now
 
 -- the fact, where the write failed
 abbrev pub OnFailed : Put → Type 0 → Type 0

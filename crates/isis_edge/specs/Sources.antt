@@ -2,14 +2,14 @@
 use Rattle.std.specs.Prelude.{◌≡◌, ℕ, ◌<◌, ◌≤◌, List, [], length, take, Option, Some, IfSome}
 use Rattle.isis_edge.specs.declared.source.Got.{Got}
 use Rattle.isis_edge.specs.declared.source.Got.TheVariants as got
-use Rattle.isis_edge.specs.Told.{Took, Stays}
+use Rattle.isis_edge.specs.Told.{Took, TellsSame}
 
 -- what a read says of the octets left before and now, with the buffer as it now is (own)
 abbrev pub Reads : Option (List ℕ) → Option (List ℕ) → Got → List ℕ → Type 0
 Reads before now (got.Some count) buffer =
     (0 < count) × (count ≤ length buffer) × Took before now (take count buffer)
 Reads before now got.End buffer = IfSome before (λ all. (all ≡ []) × (now ≡ Some []))
-Reads before now got.Failed buffer = Stays before now
+Reads before now got.Failed buffer = TellsSame before now
 
 -- the fact, where the read failed
 abbrev pub OnFailed : Got → Type 0 → Type 0

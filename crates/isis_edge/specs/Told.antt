@@ -10,8 +10,8 @@ abbrev pub Wrote : Option (List ℕ) → Option (List ℕ) → List ℕ → Type
 Wrote before now written = IfSome before (λ held. now ≡ Some (held ++ written))
 
 -- the octets stay as they were, where they were told (own)
-abbrev pub Stays : Option (List ℕ) → Option (List ℕ) → Type 0
-Stays before now = IfSome before (λ octets. now ≡ Some octets)
+abbrev pub TellsSame : Option (List ℕ) → Option (List ℕ) → Type 0
+TellsSame before now = IfSome before (λ octets. now ≡ Some octets)
 
 -- the octets written behind those that were held are the first of a text (own)
 abbrev pub WrotePrefix : Option (List ℕ) → Option (List ℕ) → List ℕ → Type 0

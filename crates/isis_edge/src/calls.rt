@@ -1,6 +1,6 @@
 //! The calls of something in memory: their numbers, which of them are to fail, and the faults so far.
 ghost use Rattle.std.specs.Prelude.{◌≡◌, ◌↔◌, IsTrue};
-ghost use Rattle.isis_edge.specs.Faults.{counted};
+ghost use Rattle.isis_edge.specs.Faults.{one_more};
 ghost use Rattle.isis_edge.specs.Memory.{IsToFail};
 
 /// The calls and the faults of an object in memory, and the numbers of the calls that are to fail, from 1. Both
@@ -16,7 +16,7 @@ impl Calls {
     /// Counts a call, and says whether it is to fail.
     pub fn next_fails(&mut self) -> bool
         ensures fails { IsTrue result ↔ IsToFail self.old.failing.items self.old.made }
-        ensures counted { self.new ≡ record self.old { made = counted self.old.made } }
+        ensures counted { self.new ≡ record self.old { made = one_more self.old.made } }
     {
         let failing = self.failing.as_slice();
         let Some(number) = self.made.checked_add(1) else {
@@ -29,7 +29,7 @@ impl Calls {
 
     /// Counts a fault.
     pub fn count_fault(&mut self)
-        ensures { self.new ≡ record self.old { faults = counted self.old.faults } }
+        ensures { self.new ≡ record self.old { faults = one_more self.old.faults } }
     {
         self.faults = self.faults.saturating_add(1);
     }

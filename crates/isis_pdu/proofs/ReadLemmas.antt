@@ -17,7 +17,7 @@ use Rattle.isis_pdu.specs.Views.{PduView, pdu_view, tlvs_of_pdu, decoded_view}
 use Rattle.isis_base.specs.PduKinds.{type_number, kinds, kind_of_number, kind_at, header_length, is_hello}
 use Rattle.isis_pdu.specs.Layout.{kind_of, length_at, body_at, value_at}
 use Rattle.isis_pdu.specs.Table.{Test, first_failing, place_of_fault, tlv_fault, start_tests, kind_tests, tests_of, first_fault}
-use Rattle.isis_pdu.specs.Reading.{Reads, Begins}
+use Rattle.isis_pdu.specs.Reading.{ReadsAs, Begins}
 use Rattle.isis_pdu.specs.Decoded.{decoded_by, decoded}
 
 -- ---- the table
@@ -82,17 +82,17 @@ number-of : (number : ℕ) (kind : PduKind) → kind_of_number number ≡ Some k
 unfolding kind_of_number
 number-of number kind e = eqb-true (type_number kind) number (found-passes (λ (k : PduKind). eqb (type_number k) number) kinds kind e)
 
-pub kind-again : (kind : PduKind) → kind_of_number (type_number kind) ≡ Some kind
+pub kind-reads_back : (kind : PduKind) → kind_of_number (type_number kind) ≡ Some kind
 unfolding kind_of_number
-kind-again (kind.LanHello level.One) = refl
-kind-again (kind.LanHello level.Two) = refl
-kind-again kind.PointHello = refl
-kind-again (kind.Lsp level.One) = refl
-kind-again (kind.Lsp level.Two) = refl
-kind-again (kind.Csnp level.One) = refl
-kind-again (kind.Csnp level.Two) = refl
-kind-again (kind.Psnp level.One) = refl
-kind-again (kind.Psnp level.Two) = refl
+kind-reads_back (kind.LanHello level.One) = refl
+kind-reads_back (kind.LanHello level.Two) = refl
+kind-reads_back kind.PointHello = refl
+kind-reads_back (kind.Lsp level.One) = refl
+kind-reads_back (kind.Lsp level.Two) = refl
+kind-reads_back (kind.Csnp level.One) = refl
+kind-reads_back (kind.Csnp level.Two) = refl
+kind-reads_back (kind.Psnp level.One) = refl
+kind-reads_back (kind.Psnp level.Two) = refl
 
 kind-of_value : (kind : PduKind) (octets tlvs : List ℕ) → kind_of (value_at kind octets tlvs) ≡ kind
 kind-of_value (kind.LanHello level) octets tlvs = refl
@@ -145,7 +145,7 @@ holds-circuit false levels h is zero = cc
 
 module _ (octets : List ℕ) where
   -- where each test holds, the octets read as what the fields say
-  reads-as : (kind : PduKind) (pdu : PduView) (n : ℕ) → length_at kind octets ≡ n → value_at kind octets (body_at kind octets n) ≡ pdu → kind_of pdu ≡ kind → kind_at octets ≡ Some kind → AllByRecursion Holds (start_tests octets) → AllByRecursion Holds (kind_tests kind octets) → Reads octets pdu n
+  reads-as : (kind : PduKind) (pdu : PduView) (n : ℕ) → length_at kind octets ≡ n → value_at kind octets (body_at kind octets n) ≡ pdu → kind_of pdu ≡ kind → kind_at octets ≡ Some kind → AllByRecursion Holds (start_tests octets) → AllByRecursion Holds (kind_tests kind octets) → ReadsAs octets pdu n
   reads-as kind pdu n size value same is start rest =
       let m = length_at kind octets in
       let body = subst (λ (m : ℕ). is_none (tlv_fault (header_length kind) (body_at kind octets m)) ≡ true) size rest.1.1.1.1.0 in
@@ -166,12 +166,12 @@ module _ (octets : List ℕ) where
         tlvs = subst AreTlvs (sym whose) (tlvs-hold (header_length kind) (body_at kind octets n) body);
       }
 
-  module _ (pdu : PduView) (n : ℕ) (reads : Reads octets pdu n) (within : n ≤ length octets) where
+  module _ (pdu : PduView) (n : ℕ) (reads : ReadsAs octets pdu n) (within : n ≤ length octets) where
     abbrev its : PduKind
     its = kind_of pdu
 
     kind-read : kind_at octets ≡ Some its
-    kind-read = ap kind_of_number reads.kind ∙ kind-again its
+    kind-read = ap kind_of_number reads.kind ∙ kind-reads_back its
 
     all-octets : 8 ≤ length octets
     all-octets =
@@ -229,19 +229,19 @@ module _ (octets : List ℕ) where
     no-fault = later-fault octets its kind-read (sym start-none) ∙ rest-none
 
   -- with a fault there is nothing to read
-  pub refused : (r : Result (Pdu × ℕ) PduFault) (fault : PduFault) → r ≡ Err fault → Some fault ≡ first_fault octets → (pdu : PduView) (n : ℕ) → (decoded_view r ≡ Ok (pdu, n)) ↔ (Reads octets pdu n × (n ≤ length octets))
+  pub refused : (r : Result (Pdu × ℕ) PduFault) (fault : PduFault) → r ≡ Err fault → Some fault ≡ first_fault octets → (pdu : PduView) (n : ℕ) → (decoded_view r ≡ Ok (pdu, n)) ↔ (ReadsAs octets pdu n × (n ≤ length octets))
   refused r fault is e pdu n = (
     (λ read. let none : decoded_view r ≡ Err fault = ap decoded_view is in cc),
     (λ (reads, within). let none = no-fault pdu n reads within in cc),
   )
 
   -- without one there is one value to read
-  pub accepted : (kind : PduKind) (p : Pdu) (m : ℕ) → kind_at octets ≡ Some kind → None ≡ first_failing (start_tests octets) → None ≡ first_failing (kind_tests kind octets) → m ≡ length_at kind octets → m ≤ length octets → pdu_view p ≡ value_at kind octets (body_at kind octets m) → (pdu : PduView) (n : ℕ) → (decoded_view (Ok (p, m)) ≡ Ok (pdu, n)) ↔ (Reads octets pdu n × (n ≤ length octets))
+  pub accepted : (kind : PduKind) (p : Pdu) (m : ℕ) → kind_at octets ≡ Some kind → None ≡ first_failing (start_tests octets) → None ≡ first_failing (kind_tests kind octets) → m ≡ length_at kind octets → m ≤ length octets → pdu_view p ≡ value_at kind octets (body_at kind octets m) → (pdu : PduView) (n : ℕ) → (decoded_view (Ok (p, m)) ≡ Ok (pdu, n)) ↔ (ReadsAs octets pdu n × (n ≤ length octets))
   accepted kind p m is start rest size fits value pdu n =
       let base = reads-as kind (pdu_view p) m (sym size) (sym value) (ap kind_of value ∙ kind-of_value kind octets (body_at kind octets m)) is (all-hold (start_tests octets) (sym start)) (all-hold (kind_tests kind octets) (sym rest)) in (
         (λ read.
             let pair : ◌≡◌ {A = PduView × ℕ} (pdu_view p, m) (pdu, n) = cc in
-            subst (λ (it : PduView × ℕ). Reads octets it.0 it.1 × (it.1 ≤ length octets)) pair (base, fits)),
+            subst (λ (it : PduView × ℕ). ReadsAs octets it.0 it.1 × (it.1 ≤ length octets)) pair (base, fits)),
         (λ (reads, within).
             let its = kind-read pdu n reads within in
             let same : kind ≡ kind_of pdu = cc in
@@ -260,7 +260,7 @@ decoded-from octets (Ok found) ok err =
     let reads = ((ok pdu found.1).0 refl).0 in
     let size = sym reads.size in
     let value = sym reads.value ∙ ap (λ (n : ℕ). value_at its octets (body_at its octets n)) size in
-    let known : kind_at octets ≡ Some its = ap kind_of_number reads.kind ∙ kind-again its in
+    let known : kind_at octets ≡ Some its = ap kind_of_number reads.kind ∙ kind-reads_back its in
     (λ i. Ok (value i, size i))
     ∙ ap (λ (kind : Option PduKind). decoded_by None kind octets) (sym known)
     ∙ ap (λ (found : Option PduFault). decoded_by found (kind_at octets) octets) err

@@ -18,5 +18,5 @@ kind_text PduLength = codes "the PDU length doesn't fit"
 kind_text Tlv = codes "the TLV doesn't fit"
 
 -- what is printed of a fault (own)
-abbrev pub fault_text : PduFault → List ℕ
-fault_text fault = codes "at octet " ++ decimal fault.place ++ codes ": " ++ kind_text fault.kind
+abbrev pub pdu_fault_text : PduFault → List ℕ
+pdu_fault_text fault = codes "at octet " ++ decimal fault.place ++ codes ": " ++ kind_text fault.kind

@@ -26,17 +26,17 @@ abbrev pub body_at : PduKind → List ℕ → ℕ → List ℕ
 body_at kind octets n = take (n - header_length kind) (drop (header_length kind) octets)
 
 -- the levels of a circuit type: its low two bits are 1, 2, or 3 for both (ISO 10589 9.5)
-abbrev pub levels_of : ℕ → LevelSet
-levels_of octet =
+abbrev pub circuit_levels : ℕ → LevelSet
+circuit_levels octet =
     if octet % 4 == 1 then levels.One else (if octet % 4 == 2 then levels.Two else levels.Both)
 
 -- the value that a type's fields have at their offsets, with these TLVs (ISO 10589 9.5 to 9.13)
 abbrev pub value_at : PduKind → List ℕ → List ℕ → PduView
 value_at (kind.LanHello level) octets tlvs =
-    LanHello level (levels_of (slice_index octets 8)) (system_at 9 octets) (u16_at 15 octets)
+    LanHello level (circuit_levels (slice_index octets 8)) (system_at 9 octets) (u16_at 15 octets)
     (slice_index octets 19 % 128) (node_at 20 octets) tlvs
 value_at kind.PointHello octets tlvs =
-    PointHello (levels_of (slice_index octets 8)) (system_at 9 octets) (u16_at 15 octets)
+    PointHello (circuit_levels (slice_index octets 8)) (system_at 9 octets) (u16_at 15 octets)
     (slice_index octets 19) tlvs
 value_at (kind.Lsp level) octets tlvs =
     Lsp level (u16_at 10 octets) (lsp_at 12 octets) (u32_at 20 octets) (u16_at 24 octets)

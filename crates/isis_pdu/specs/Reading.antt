@@ -7,7 +7,7 @@ use Rattle.isis_pdu.specs.Layout.{kind_of, length_at, body_at, value_at}
 
 -- The octets read as this value, with n as their PDU length (ISO 10589 9). Reserved bits and octets aren't looked at, and
 -- an octet past the end counts as 0.
-pub record Reads (octets : List ℕ) (pdu : PduView) (n : ℕ) : Type 0 where
+pub record ReadsAs (octets : List ℕ) (pdu : PduView) (n : ℕ) : Type 0 where
   pub discriminator : slice_index octets 0 ≡ 131
   pub header : slice_index octets 1 ≡ header_length (kind_of pdu)
   pub version : slice_index octets 2 ≡ 1
@@ -23,4 +23,4 @@ pub record Reads (octets : List ℕ) (pdu : PduView) (n : ℕ) : Type 0 where
 
 -- the octets begin with a PDU of n octets, all of them there, that says this value (ISO 10589 9)
 abbrev pub Begins : List ℕ → PduView → ℕ → Type 0
-Begins octets pdu n = Reads octets pdu n × (n ≤ length octets)
+Begins octets pdu n = ReadsAs octets pdu n × (n ≤ length octets)

@@ -44,8 +44,8 @@ field_octets (Psnp level source tlvs) n = u16_octets n ++ node_octets source
 abbrev pub header_octets : PduView → List ℕ
 header_octets pdu = start_octets (kind_of pdu) ++ field_octets pdu (encoded_len pdu)
 
-abbrev pub spelled : PduView → List ℕ
-spelled pdu = header_octets pdu ++ tlvs_of_pdu pdu
+abbrev pub octets_of_pdu : PduView → List ℕ
+octets_of_pdu pdu = header_octets pdu ++ tlvs_of_pdu pdu
 
 -- What a field of the standard's size holds. A clause's numbers and lists have no size of their own.
 

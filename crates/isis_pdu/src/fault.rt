@@ -58,9 +58,9 @@ impl fmt::Display for PduFaultKind {
 
 impl fmt::Display for PduFault {
     ghost use Rattle.std.specs.Prelude.{Some};
-    ghost use Rattle.isis_pdu.specs.Faults.{fault_text};
+    ghost use Rattle.isis_pdu.specs.Faults.{pdu_fault_text};
 
-    ghost output = { λ fault. Some (fault_text fault) };
+    ghost output = { λ fault. Some (pdu_fault_text fault) };
 
     fn fmt<W: fmt::Write>(&self, f: &mut fmt::Formatter<W>) -> fmt::Result {
         let place = self.place;

@@ -3,7 +3,7 @@ ghost use Rattle.std.specs.Prelude.{◌≡◌, ◌≤◌, length};
 ghost use Rattle.isis_base.specs.declared.pdu_kind.PduKind.TheVariants as kind;
 ghost use Rattle.isis_pdu.specs.Views.{pdu_view};
 ghost use Rattle.isis_base.specs.PduKinds.{header_length};
-ghost use Rattle.isis_pdu.specs.Layout.{levels_of, value_at};
+ghost use Rattle.isis_pdu.specs.Layout.{circuit_levels, value_at};
 
 use crate::pdu::Pdu;
 use isis_base::fields::{lsp_at, node_at, system_at, u16_at, u32_at};
@@ -16,8 +16,8 @@ pub(crate) const LEVELS: u8 = 0x03;
 const PRIORITY: u8 = 0x7f;
 
 /// The levels of a circuit type.
-fn levels_of(octet: u8) -> LevelSet
-    ensures { result ≡ levels_of octet }
+fn circuit_levels(octet: u8) -> LevelSet
+    ensures { result ≡ circuit_levels octet }
 {
     match octet & LEVELS {
         1 => LevelSet::One,
@@ -34,7 +34,7 @@ pub(crate) fn value_at<'a>(kind: PduKind, octets: &[u8], tlvs: &'a [u8]) -> Pdu<
     match kind {
         PduKind::LanHello(level) => lan_hello(level, octets, tlvs),
         PduKind::PointHello => Pdu::PointHello {
-            circuit_type: levels_of(octets[8]),
+            circuit_type: circuit_levels(octets[8]),
             source: system_at(octets, 9),
             holding: u16_at(octets, 15),
             circuit: octets[19],
@@ -63,7 +63,7 @@ fn lan_hello<'a>(level: Level, octets: &[u8], tlvs: &'a [u8]) -> Pdu<'a>
 {
     Pdu::LanHello {
         level,
-        circuit_type: levels_of(octets[8]),
+        circuit_type: circuit_levels(octets[8]),
         source: system_at(octets, 9),
         holding: u16_at(octets, 15),
         priority: octets[19] & PRIORITY,

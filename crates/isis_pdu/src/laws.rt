@@ -5,14 +5,14 @@ ghost use Rattle.isis_tlv.specs.Framed.{IsPdu};
 ghost use Rattle.isis_pdu.specs.Layout.{kind_of};
 ghost use Rattle.isis_pdu.specs.Views.{PduView};
 ghost use Rattle.isis_pdu.specs.Reading.{Begins};
-ghost use Rattle.isis_pdu.specs.Spelling.{IsWritable, encoded_len, spelled};
+ghost use Rattle.isis_pdu.specs.Spelling.{IsWritable, encoded_len, octets_of_pdu};
 
 /// What is written of a PDU has its length and reads as the PDU, whatever follows. So `decode` gives the PDU and its
 /// length back.
 pub fn round_trip_law()
-    ensures sized { (pdu : PduView) → IsWritable pdu → length (spelled pdu) ≡ encoded_len pdu }
+    ensures sized { (pdu : PduView) → IsWritable pdu → length (octets_of_pdu pdu) ≡ encoded_len pdu }
     ensures begins { (pdu : PduView) (more : List ℕ) → IsWritable pdu
-        → Begins (spelled pdu ++ more) pdu (encoded_len pdu) }
+        → Begins (octets_of_pdu pdu ++ more) pdu (encoded_len pdu) }
 {}
 
 /// The octets of a PDU that was read are a header of its type and TLVs. So they are what authentication asks for.

@@ -6,7 +6,7 @@ ghost use Rattle.isis_pdu.specs.Views.{pdu_view, tlvs_of_pdu};
 ghost use Rattle.isis_base.specs.PduKinds.{header_length};
 ghost use Rattle.isis_pdu.specs.Layout.{kind_of};
 ghost use Rattle.isis_pdu.specs.Reading.{Begins};
-ghost use Rattle.isis_pdu.specs.Spelling.{encoded_len, priority_of, start_octets, field_octets, header_octets, spelled, levels_octet, FieldsFit};
+ghost use Rattle.isis_pdu.specs.Spelling.{encoded_len, priority_of, start_octets, field_octets, header_octets, octets_of_pdu, levels_octet, FieldsFit};
 
 use crate::check::{DISCRIMINATOR, VERSION};
 use crate::laws::round_trip_law;
@@ -20,7 +20,7 @@ pub fn encode(alloc: Global, pdu: &Pdu<'_>) -> Result<Octets, OutOfMemory>
     requires fits { encoded_len (pdu_view pdu.now) ≤ 65535 }
     requires priority { priority_of (pdu_view pdu.now) ≤ 127 }
     requires tlvs { AreTlvs (tlvs_of_pdu (pdu_view pdu.now)) }
-    ensures spelled { IfOk result (λ octets. octets ≡ spelled (pdu_view pdu.now)) }
+    ensures octets { IfOk result (λ octets. octets ≡ octets_of_pdu (pdu_view pdu.now)) }
     ensures sized { IfOk result (λ octets. length octets ≡ encoded_len (pdu_view pdu.now)) }
 
     // So `decode` gives the PDU and its length back, whatever follows.

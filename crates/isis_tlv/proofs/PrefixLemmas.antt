@@ -5,14 +5,14 @@ use Rattle.std.proofs.lemmas.List.{take_at, length-take-le, get_or-append_right}
 use Rattle.std.proofs.lemmas.Nat.{shr_split, mod-pow-add}
 use Rattle.std.specs.Int.{bit_at}
 use Rattle.isis_base.specs.Fields.{u32_at, u32_octets}
-use Rattle.isis_tlv.specs.Items.{sized, prefix_at, octets_for, cleared, address_of, subs_at}
+use Rattle.isis_tlv.specs.Items.{item_of_size, prefix_at, octets_for, clear_past, address_of, subs_at}
 use Rattle.isis_base.specs.declared.prefix.Prefix.{Prefix}
 use Rattle.isis_base.specs.Prefixes.{prefix_from}
 use Rattle.isis_base.proofs.PrefixValues.{prefix_from-prefix, prefix_from-long}
 use Rattle.isis_tlv.specs.declared.prefix.PrefixItem.{PrefixItem}
 use Rattle.isis_tlv.specs.Spelling.{prefix_octets, prefix_with_subs}
 use Rattle.isis_tlv.specs.Fits.{IsPrefix}
-use Rattle.isis_tlv.proofs.RoundLemmas.{Again, sized-fits, four-again}
+use Rattle.isis_tlv.proofs.RoundLemmas.{IsReadBack, item_of_size-fits, four-reads_back}
 
 -- no bits in the last k, so none in the last j of them
 low-clear : (n j k : ℕ) → j ≤ k → n % 2 ^ k ≡ 0 → n % 2 ^ j ≡ 0
@@ -23,25 +23,25 @@ low-clear n j k h e =
     omega arith
 
 -- the first octets of an address whose other octets are 0 give the address
-held-again : (count address : ℕ) → count ≤ 4 → address < 4294967296 → address % 2 ^ (32 - 8 * count) ≡ 0 → u32_at 0 (take count (u32_octets address)) ≡ address
-held-again zero a h small e = omega arith
-held-again (suc zero) a h small e = omega arith
-held-again (suc (suc zero)) a h small e = omega arith
-held-again (suc (suc (suc zero))) a h small e = omega arith
-held-again (suc (suc (suc (suc zero)))) a h small e = four-again a small
-held-again (suc (suc (suc (suc (suc n))))) a h small e = absurd (omega arith)
+held-reads_back : (count address : ℕ) → count ≤ 4 → address < 4294967296 → address % 2 ^ (32 - 8 * count) ≡ 0 → u32_at 0 (take count (u32_octets address)) ≡ address
+held-reads_back zero a h small e = omega arith
+held-reads_back (suc zero) a h small e = omega arith
+held-reads_back (suc (suc zero)) a h small e = omega arith
+held-reads_back (suc (suc (suc zero))) a h small e = omega arith
+held-reads_back (suc (suc (suc (suc zero)))) a h small e = four-reads_back a small
+held-reads_back (suc (suc (suc (suc (suc n))))) a h small e = absurd (omega arith)
 
-address-again : (bits address : ℕ) → bits ≤ 32 → address < 4294967296 → address % 2 ^ (32 - bits) ≡ 0 → cleared bits (u32_at 0 (take (octets_for bits) (u32_octets address))) ≡ address
-address-again bits address h small clear =
-    let held = held-again (octets_for bits) address (omega arith) small (low-clear address (32 - 8 * octets_for bits) (32 - bits) (omega arith) clear) in
-    let same : cleared bits address ≡ address = omega (arith, shr_split address (32 - bits)) in
-    ap (cleared bits) held ∙ same
+address-reads_back : (bits address : ℕ) → bits ≤ 32 → address < 4294967296 → address % 2 ^ (32 - bits) ≡ 0 → clear_past bits (u32_at 0 (take (octets_for bits) (u32_octets address))) ≡ address
+address-reads_back bits address h small clear =
+    let held = held-reads_back (octets_for bits) address (omega arith) small (low-clear address (32 - 8 * octets_for bits) (32 - bits) (omega arith) clear) in
+    let same : clear_past bits address ≡ address = omega (arith, shr_split address (32 - bits)) in
+    ap (clear_past bits) held ∙ same
 
 -- what is read of a prefix, by its length, its mark for sub-TLVs and its other mark
 abbrev read_by : List ℕ → ℕ → Bool → Bool → Option (PrefixItem × ℕ)
 read_by octets bits subs down =
     option_and_then
-    (λ (prefix : Prefix). sized (5 + octets_for bits + cond subs (1 + get_or octets (5 + octets_for bits) 0) 0) octets (record { prefix = prefix; metric = u32_at 0 octets; down = down }))
+    (λ (prefix : Prefix). item_of_size (5 + octets_for bits + cond subs (1 + get_or octets (5 + octets_for bits) 0) 0) octets (record { prefix = prefix; metric = u32_at 0 octets; down = down }))
     (prefix_from (address_of bits (drop 5 octets)) bits)
 
 length-mark : (down : Bool) (bits : ℕ) → bits ≤ 32 → (cond down 128 0 + bits) % 64 ≡ bits
@@ -56,8 +56,8 @@ down-mark : (down : Bool) (bits : ℕ) → bits ≤ 32 → eqb (bit_at (cond dow
 down-mark true bits h = let one : (128 + bits) / 128 % 2 ≡ 1 = omega arith in ap (λ (n : ℕ). eqb n 1) one
 down-mark false bits h = let none : (0 + bits) / 128 % 2 ≡ 0 = omega arith in ap (λ (n : ℕ). eqb n 1) none
 
-pub prefix-again : Again prefix_at prefix_octets IsPrefix
-prefix-again item rest is =
+pub prefix-reads_back : IsReadBack prefix_at prefix_octets IsPrefix
+prefix-reads_back item rest is =
     let prefix = item.prefix in
     let bits = prefix.length in
     let count = octets_for bits in
@@ -67,14 +67,14 @@ prefix-again item rest is =
     let control = cond item.down 128 0 + bits in
     let few : count ≤ 4 = omega arith in
     let many : length held ≡ count = length-take-le count (u32_octets prefix.address) few in
-    let address : address_of bits (held ++ rest) ≡ prefix.address = ap (λ (s : List ℕ). cleared bits (u32_at 0 s)) (take_at held rest count many) ∙ address-again bits prefix.address prefix.fits is.address prefix.clear in
-    let metric = four-again item.metric is.metric in
+    let address : address_of bits (held ++ rest) ≡ prefix.address = ap (λ (s : List ℕ). clear_past bits (u32_at 0 s)) (take_at held rest count many) ∙ address-reads_back bits prefix.address prefix.fits is.address prefix.clear in
+    let metric = four-reads_back item.metric is.metric in
     ap (λ (n : ℕ). read_by octets n (eqb (bit_at control 6) 1) (eqb (bit_at control 7) 1)) (length-mark item.down bits prefix.fits)
     ∙ ap (λ (t : Bool). read_by octets bits t (eqb (bit_at control 7) 1)) (subs-mark item.down bits prefix.fits)
     ∙ ap (λ (t : Bool). read_by octets bits false t) (down-mark item.down bits prefix.fits)
-    ∙ ap (option_and_then (λ (p : Prefix). sized {X = PrefixItem} (5 + count + 0) octets (record { prefix = p; metric = u32_at 0 octets; down = item.down })))
+    ∙ ap (option_and_then (λ (p : Prefix). item_of_size {X = PrefixItem} (5 + count + 0) octets (record { prefix = p; metric = u32_at 0 octets; down = item.down })))
     (ap (λ (a : ℕ). prefix_from a bits) address ∙ prefix_from-prefix prefix prefix.address bits refl refl)
-    ∙ sized-fits {X = PrefixItem} (5 + count + 0) octets (record { prefix = prefix; metric = u32_at 0 octets; down = item.down }) (let all = length-append held rest in omega arith)
+    ∙ item_of_size-fits {X = PrefixItem} (5 + count + 0) octets (record { prefix = prefix; metric = u32_at 0 octets; down = item.down }) (let all = length-append held rest in omega arith)
     ∙ (λ i. Some (record { prefix = prefix; metric = metric i; down = item.down }, 5 + count + 0))
     ∙ ap (λ (n : ℕ). Some (item, n)) (omega arith)
 
@@ -104,8 +104,8 @@ prefix-subs item subs rest is =
     let control = cond item.down 128 0 + 64 + bits in
     let few : count ≤ 4 = omega arith in
     let many : length held ≡ count = length-take-le count (u32_octets prefix.address) few in
-    let address : address_of bits (held ++ behind) ≡ prefix.address = ap (λ (s : List ℕ). cleared bits (u32_at 0 s)) (take_at held behind count many) ∙ address-again bits prefix.address prefix.fits is.address prefix.clear in
-    let metric = four-again item.metric is.metric in
+    let address : address_of bits (held ++ behind) ≡ prefix.address = ap (λ (s : List ℕ). clear_past bits (u32_at 0 s)) (take_at held behind count many) ∙ address-reads_back bits prefix.address prefix.fits is.address prefix.clear in
+    let metric = four-reads_back item.metric is.metric in
     let front = u32_octets item.metric ++ control ∷ held in
     let place : 5 + count - (5 + count) ≡ 0 = omega arith in
     let long : get_or octets (5 + count) 0 ≡ length subs = get_or-append_right front behind (5 + count) (5 + count) 0 (omega (arith, many)) (omega arith) ∙ ap (λ (i : ℕ). get_or behind i 0) place in
@@ -116,10 +116,10 @@ prefix-subs item subs rest is =
     ∙ ap (λ (n : ℕ). read_by octets n (eqb (bit_at control 6) 1) (eqb (bit_at control 7) 1)) (length-there item.down bits prefix.fits)
     ∙ ap (λ (t : Bool). read_by octets bits t (eqb (bit_at control 7) 1)) (subs-there item.down bits prefix.fits)
     ∙ ap (λ (t : Bool). read_by octets bits true t) (down-there item.down bits prefix.fits)
-    ∙ ap (λ (n : ℕ). option_and_then (λ (p : Prefix). sized {X = PrefixItem} (5 + count + (1 + n)) octets (record { prefix = p; metric = u32_at 0 octets; down = item.down })) (prefix_from (address_of bits (held ++ behind)) bits)) long
-    ∙ ap (option_and_then (λ (p : Prefix). sized {X = PrefixItem} size octets (record { prefix = p; metric = u32_at 0 octets; down = item.down })))
+    ∙ ap (λ (n : ℕ). option_and_then (λ (p : Prefix). item_of_size {X = PrefixItem} (5 + count + (1 + n)) octets (record { prefix = p; metric = u32_at 0 octets; down = item.down })) (prefix_from (address_of bits (held ++ behind)) bits)) long
+    ∙ ap (option_and_then (λ (p : Prefix). item_of_size {X = PrefixItem} size octets (record { prefix = p; metric = u32_at 0 octets; down = item.down })))
     (ap (λ (a : ℕ). prefix_from a bits) address ∙ prefix_from-prefix prefix prefix.address bits refl refl)
-    ∙ sized-fits {X = PrefixItem} size octets (record { prefix = prefix; metric = u32_at 0 octets; down = item.down }) (omega arith)
+    ∙ item_of_size-fits {X = PrefixItem} size octets (record { prefix = prefix; metric = u32_at 0 octets; down = item.down }) (omega arith)
     ∙ (λ i. Some (record { prefix = prefix; metric = metric i; down = item.down }, size))
     ∙ ap (λ (n : ℕ). Some (item, n)) (omega arith)
 
@@ -127,7 +127,7 @@ prefix-subs item subs rest is =
 abbrev pub read_from : List ℕ → ℕ → ℕ → Option (PrefixItem × ℕ)
 read_from octets control bits =
     option_and_then
-    (λ (prefix : Prefix). sized (5 + octets_for bits + subs_at control (5 + octets_for bits) octets) octets (record { prefix = prefix; metric = u32_at 0 octets; down = eqb (bit_at control 7) 1 }))
+    (λ (prefix : Prefix). item_of_size (5 + octets_for bits + subs_at control (5 + octets_for bits) octets) octets (record { prefix = prefix; metric = u32_at 0 octets; down = eqb (bit_at control 7) 1 }))
     (prefix_from (address_of bits (drop 5 octets)) bits)
 
 read_from-all : (octets : List ℕ) (control bits : ℕ) → control ≡ get_or octets 4 0 → bits ≡ control % 64 → read_from octets control bits ≡ prefix_at octets
@@ -137,10 +137,10 @@ read_from-all octets control bits is low =
 -- none is longer than 32 bits
 pub prefix_at-long : (octets : List ℕ) (control bits : ℕ) → control ≡ get_or octets 4 0 → bits ≡ control % 64 → 32 < bits → None ≡ prefix_at octets
 prefix_at-long octets control bits is low h =
-    sym (ap (option_and_then (λ (p : Prefix). sized {X = PrefixItem} (5 + octets_for bits + subs_at control (5 + octets_for bits) octets) octets (record { prefix = p; metric = u32_at 0 octets; down = eqb (bit_at control 7) 1 }))) (prefix_from-long (address_of bits (drop 5 octets)) bits h))
+    sym (ap (option_and_then (λ (p : Prefix). item_of_size {X = PrefixItem} (5 + octets_for bits + subs_at control (5 + octets_for bits) octets) octets (record { prefix = p; metric = u32_at 0 octets; down = eqb (bit_at control 7) 1 }))) (prefix_from-long (address_of bits (drop 5 octets)) bits h))
     ∙ read_from-all octets control bits is low
 
-then-none : {P X : Type 0} (o : Option P) (size : ℕ) (octets : List ℕ) (item : P → X) → length octets < size → option_and_then (λ (p : P). sized size octets (item p)) o ≡ None
+then-none : {P X : Type 0} (o : Option P) (size : ℕ) (octets : List ℕ) (item : P → X) → length octets < size → option_and_then (λ (p : P). item_of_size size octets (item p)) o ≡ None
 then-none None size octets item h = refl
 then-none (Some p) size octets item h = ap (λ (t : Bool). cond t (Some (item p, size)) None) (lt-leb size (length octets) h)
 
@@ -155,7 +155,7 @@ pub prefix_at-item : (octets : List ℕ) (control bits size : ℕ) (item : Prefi
 prefix_at-item octets control bits size item is low counted h address long metric down =
     let whole = 5 + octets_for bits + subs_at control (5 + octets_for bits) octets in
     let read : Prefix → PrefixItem = λ p. record { prefix = p; metric = u32_at 0 octets; down = eqb (bit_at control 7) 1 } in
-    let found : read_from octets control bits ≡ sized whole octets (read item.prefix) = ap (option_and_then (λ (p : Prefix). sized whole octets (read p))) (prefix_from-prefix item.prefix (address_of bits (drop 5 octets)) bits address long) in
-    let fits : sized whole octets (read item.prefix) ≡ Some (read item.prefix, whole) = sized-fits whole octets (read item.prefix) (subst (λ (n : ℕ). n ≤ length octets) counted h) in
+    let found : read_from octets control bits ≡ item_of_size whole octets (read item.prefix) = ap (option_and_then (λ (p : Prefix). item_of_size whole octets (read p))) (prefix_from-prefix item.prefix (address_of bits (drop 5 octets)) bits address long) in
+    let fits : item_of_size whole octets (read item.prefix) ≡ Some (read item.prefix, whole) = item_of_size-fits whole octets (read item.prefix) (subst (λ (n : ℕ). n ≤ length octets) counted h) in
     let same : read item.prefix ≡ item = λ i. record { prefix = item.prefix; metric = sym metric i; down = sym down i } in
     ap (λ (n : ℕ). Some (item, n)) counted ∙ ap (λ (x : PrefixItem). Some (x, whole)) (sym same) ∙ sym fits ∙ sym found ∙ read_from-all octets control bits is low

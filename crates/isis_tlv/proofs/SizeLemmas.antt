@@ -5,8 +5,8 @@ use Rattle.isis_tlv.specs.declared.tlv.TlvFault.{TlvFault}
 use Rattle.isis_tlv.specs.declared.tlv.TlvFault.TheVariants.{Past}
 use Rattle.isis_tlv.specs.Tlvs.{TlvView, tlv_at}
 
-pub tlv-some : (place : ℕ) (octets : List ℕ) → Takes (tlv_at place octets)
-tlv-some place [] = tt
-tlv-some place (code ∷ []) = tt
-tlv-some place (code ∷ count ∷ octets) =
+pub tlv-takes_one : (place : ℕ) (octets : List ℕ) → Takes (tlv_at place octets)
+tlv-takes_one place [] = tt
+tlv-takes_one place (code ∷ []) = tt
+tlv-takes_one place (code ∷ count ∷ octets) =
     elim (leb count (length octets)) as (λ fits. Takes {X = TlvView} {F = TlvFault} (cond fits (Ok (record { code = code; place = place; value = take count octets }, 2 + count)) (Err (Past place)))) [ true ↦ omega arith | false ↦ tt ]

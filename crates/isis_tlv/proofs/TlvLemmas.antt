@@ -10,16 +10,16 @@ use Rattle.isis_tlv.specs.declared.tlv.TlvFault.TheVariants.{Header, Past}
 use Rattle.isis_tlv.specs.Walks.{fault_of}
 use Rattle.isis_tlv.specs.Tlvs.{TlvView, tlv_octets, tlv_at, tlvs_of, tlv_list, AreTlvs, StandsIn}
 use Rattle.isis_tlv.proofs.WalkLemmas.{items-none, items-item, items-err}
-use Rattle.isis_tlv.proofs.SizeLemmas.{tlv-some}
+use Rattle.isis_tlv.proofs.SizeLemmas.{tlv-takes_one}
 
 abbrev tlv : ℕ → ℕ → List ℕ → TlvView
 tlv place code value = record { code = code; place = place; value = value }
 
 pub tlvs-end : (place : ℕ) → tlvs_of place [] ≡ []
-tlvs-end place = items-none tlv_at tlv-some place
+tlvs-end place = items-none tlv_at tlv-takes_one place
 
-tlv_at-again : (place code : ℕ) (value rest : List ℕ) → tlv_at place (tlv_octets code value ++ rest) ≡ Ok (tlv place code value, 2 + length value)
-tlv_at-again place code value rest =
+tlv_at-reads_back : (place code : ℕ) (value rest : List ℕ) → tlv_at place (tlv_octets code value ++ rest) ≡ Ok (tlv place code value, 2 + length value)
+tlv_at-reads_back place code value rest =
     let all = length-append value rest in
     ap (λ (fits : Bool). cond fits (Ok (tlv place code (take (length value) (value ++ rest)), 2 + length value)) (Err (Past place))) (le-leb (length value) (length (value ++ rest)) (omega arith))
     ∙ ap (λ (read : List ℕ). Ok (tlv place code read, 2 + length value)) (take_at value rest (length value) refl)
@@ -31,18 +31,18 @@ drop-tlv code value rest =
 
 pub tlvs-tlv : (place code : ℕ) (value rest : List ℕ) → tlvs_of place (tlv_octets code value ++ rest) ≡ Ok (tlv place code value) ∷ tlvs_of (place + 2 + length value) rest
 tlvs-tlv place code value rest =
-    items-item tlv_at tlv-some place (tlv_octets code value ++ rest) (tlvs_of place (tlv_octets code value ++ rest)) (tlv place code value) (2 + length value) (place + 2 + length value) rest refl
+    items-item tlv_at tlv-takes_one place (tlv_octets code value ++ rest) (tlvs_of place (tlv_octets code value ++ rest)) (tlv place code value) (2 + length value) (place + 2 + length value) rest refl
     (sym (ne_eqb (length (tlv_octets code value ++ rest)) 0 (λ e. omega arith)))
-    (sym (tlv_at-again place code value rest))
+    (sym (tlv_at-reads_back place code value rest))
     (sym (drop-tlv code value rest))
     (omega arith)
 
 pub tlvs-header : (place code : ℕ) → tlvs_of place (code ∷ []) ≡ Err (Header place) ∷ []
-tlvs-header place code = items-err tlv_at tlv-some place (code ∷ []) (Header place) (omega arith) refl
+tlvs-header place code = items-err tlv_at tlv-takes_one place (code ∷ []) (Header place) (omega arith) refl
 
 pub tlvs-past : (place code count : ℕ) (octets : List ℕ) → length octets < count → tlvs_of place (code ∷ count ∷ octets) ≡ Err (Past place) ∷ []
 tlvs-past place code count octets h =
-    items-err tlv_at tlv-some place (code ∷ count ∷ octets) (Past place) (omega arith)
+    items-err tlv_at tlv-takes_one place (code ∷ count ∷ octets) (Past place) (omega arith)
     (ap (λ (fits : Bool). cond fits (Ok (tlv place code (take count octets), 2 + count)) (Err (Past place))) (lt-leb count (length octets) h))
 
 -- what holds of no octets, of each fault, and of a TLV before octets of which it holds, holds of all octets
@@ -91,8 +91,8 @@ list-all (Err fault ∷ items) h = cc
 abbrev spelled : TlvView → List ℕ
 spelled item = tlv_octets item.code item.value
 
-pub tlvs-again : (octets : List ℕ) (place : ℕ) → HasNone (tlvs_of place octets) → flat_map spelled (tlv_list place octets) ≡ octets
-tlvs-again = by-tlvs (λ octets. (place : ℕ) → HasNone (tlvs_of place octets) → flat_map spelled (tlv_list place octets) ≡ octets)
+pub tlvs-reads_back : (octets : List ℕ) (place : ℕ) → HasNone (tlvs_of place octets) → flat_map spelled (tlv_list place octets) ≡ octets
+tlvs-reads_back = by-tlvs (λ octets. (place : ℕ) → HasNone (tlvs_of place octets) → flat_map spelled (tlv_list place octets) ≡ octets)
     (λ place h. ap (λ (items : List (Result TlvView TlvFault)). flat_map spelled (ok_prefix items)) (tlvs-end place))
     (λ code place h. let no_fault = same-none _ _ (tlvs-header place code) h in cc)
     (λ code count octets long place h. let no_fault = same-none _ _ (tlvs-past place code count octets long) h in cc)

@@ -19,24 +19,24 @@ use Rattle.isis_tlv.specs.Walks.{items_of}
 -- Past the end an octet counts as 0; the item then has more octets than there are.
 
 -- an item of so many octets, where they are there (own)
-abbrev pub sized : {X : Type 0} → ℕ → List ℕ → X → Option (X × ℕ)
-sized count octets item = if nat_le count (length octets) then Some (item, count) else None
+abbrev pub item_of_size : {X : Type 0} → ℕ → List ℕ → X → Option (X × ℕ)
+item_of_size count octets item = if nat_le count (length octets) then Some (item, count) else None
 
 -- a length of 1 to 13, and as many octets (ISO 10589 9.5)
 abbrev pub area_at : List ℕ → Option (List ℕ × ℕ)
 area_at octets =
     let count = slice_index octets 0 in
-    if nat_le 1 count && nat_le count 13 then sized (1 + count) octets (take count (drop 1 octets))
+    if nat_le 1 count && nat_le count 13 then item_of_size (1 + count) octets (take count (drop 1 octets))
     else None
 
 -- six octets (ISO 10589 9.5)
 abbrev pub snpa_at : List ℕ → Option (Snpa × ℕ)
-snpa_at octets = sized 6 octets (record { 0 = take 6 octets })
+snpa_at octets = item_of_size 6 octets (record { 0 = take 6 octets })
 
 -- lifetime, LSP ID, sequence number and checksum (ISO 10589 9.10)
 abbrev pub entry_at : List ℕ → Option (LspEntry × ℕ)
 entry_at octets =
-    sized 16 octets
+    item_of_size 16 octets
     (record {
       lifetime = u16_at 0 octets;
       id = lsp_at 2 octets;
@@ -47,7 +47,7 @@ entry_at octets =
 -- a node, a metric, a length and as many octets of sub-TLVs (RFC 5305 3)
 abbrev pub neighbour_at : List ℕ → Option (NeighbourItem × ℕ)
 neighbour_at octets =
-    sized (11 + slice_index octets 10) octets
+    item_of_size (11 + slice_index octets 10) octets
     (record { node = node_at 0 octets; metric = u24_at 7 octets })
 
 -- the number of octets that hold so many bits (RFC 5305 4)
@@ -55,12 +55,12 @@ abbrev pub octets_for : ℕ → ℕ
 octets_for bits = (bits + 7) / 8
 
 -- the address with its bits past the length 0 (own)
-abbrev pub cleared : ℕ → ℕ → ℕ
-cleared bits address = address / 2 ^ (32 - bits) * 2 ^ (32 - bits)
+abbrev pub clear_past : ℕ → ℕ → ℕ
+clear_past bits address = address / 2 ^ (32 - bits) * 2 ^ (32 - bits)
 
 -- the address of the octets that hold a prefix of so many bits (RFC 5305 4)
 abbrev pub address_of : ℕ → List ℕ → ℕ
-address_of bits octets = cleared bits (u32_at 0 (take (octets_for bits) octets))
+address_of bits octets = clear_past bits (u32_at 0 (take (octets_for bits) octets))
 
 -- after a prefix: nothing without the mark for sub-TLVs, else a length and as many octets (RFC 5305 4)
 abbrev pub subs_at : ℕ → ℕ → List ℕ → ℕ
@@ -73,7 +73,7 @@ prefix_at octets =
     let bits = control % 64 in
     let end = 5 + octets_for bits in
     option_and_then
-    (λ (prefix : Prefix). sized (end + subs_at control end octets) octets
+    (λ (prefix : Prefix). item_of_size (end + subs_at control end octets) octets
     (record { prefix = prefix; metric = u32_at 0 octets; down = bit_at control 7 == 1 }))
     (prefix_from (address_of bits (drop 5 octets)) bits)
 
@@ -88,8 +88,8 @@ values_of first place octets =
     items_of (λ at item. ok_or (first item) (record { place = at })) place octets
 
 -- a fault at the first octet of an item, and nothing after it (own)
-abbrev pub fault_at : {X : Type 0} → ℕ → List (Result X ValueFault)
-fault_at place = Err (record { place = place }) ∷ []
+abbrev pub fault_alone : {X : Type 0} → ℕ → List (Result X ValueFault)
+fault_alone place = Err (record { place = place }) ∷ []
 
 -- what octets that begin at a place of a value of codes 1, 6, 9, 22 and 135 read as (own)
 abbrev pub areas_from : ℕ → List ℕ → List (Result (List ℕ) ValueFault)

@@ -21,11 +21,11 @@ pub fn areas(value: &[u8]) -> AreaItems<'_>
 
 impl Item for AreaAddress {
     ghost use Rattle.isis_tlv.specs.Items.{area_at};
-    ghost use Rattle.isis_tlv.specs.Takes.{area-some};
+    ghost use Rattle.isis_tlv.specs.Takes.{area-takes_one};
 
     ghost first = { area_at };
 
-    ghost takes = { area-some };
+    ghost takes = { area-takes_one };
 
     fn read_first(octets: &[u8]) -> Option<(AreaAddress, usize)> {
         let [count, octets @ ..] = octets else {

@@ -22,11 +22,11 @@ pub fn entries(value: &[u8]) -> EntryItems<'_>
 
 impl Item for LspEntry {
     ghost use Rattle.isis_tlv.specs.Items.{entry_at};
-    ghost use Rattle.isis_tlv.specs.Takes.{entry-some};
+    ghost use Rattle.isis_tlv.specs.Takes.{entry-takes_one};
 
     ghost first = { entry_at };
 
-    ghost takes = { entry-some };
+    ghost takes = { entry-takes_one };
 
     fn read_first(octets: &[u8]) -> Option<(LspEntry, usize)> {
         if octets.len() < 16 {

@@ -17,7 +17,7 @@ ghost use Rattle.isis_tlv.specs.Items.{
   entries_from,
   neighbours_from,
   prefixes_from,
-  fault_at,
+  fault_alone,
   areas_of,
   snpas_of,
   entries_of,
@@ -81,24 +81,24 @@ pub fn item_steps()
         → areas_from place (length area ∷ area ++ rest)
         ≡ Ok area ∷ areas_from (place + (1 + length area)) rest }
     ensures area_length { (place count : ℕ) (octets : List ℕ) → (count ≡ 0) ⊎ (14 ≤ count)
-        → areas_from place (count ∷ octets) ≡ fault_at place }
+        → areas_from place (count ∷ octets) ≡ fault_alone place }
     ensures area_past { (place count : ℕ) (octets : List ℕ) → length octets < count
-        → areas_from place (count ∷ octets) ≡ fault_at place }
+        → areas_from place (count ∷ octets) ≡ fault_alone place }
     ensures snpa { (place : ℕ) (snpa : Snpa) (rest : List ℕ) → IsSnpa snpa
         → snpas_from place (snpa.0 ++ rest) ≡ Ok snpa ∷ snpas_from (place + 6) rest }
     ensures snpa_past { (place : ℕ) (octets : List ℕ) → 0 < length octets → length octets < 6
-        → snpas_from place octets ≡ fault_at place }
+        → snpas_from place octets ≡ fault_alone place }
     ensures entry { (place : ℕ) (entry : LspEntry) (rest : List ℕ) → IsEntry entry
         → entries_from place (entry_octets entry ++ rest)
         ≡ Ok entry ∷ entries_from (place + 16) rest }
     ensures entry_past { (place : ℕ) (octets : List ℕ) → 0 < length octets → length octets < 16
-        → entries_from place octets ≡ fault_at place }
+        → entries_from place octets ≡ fault_alone place }
     ensures neighbour { (place : ℕ) (item : NeighbourItem) (subs rest : List ℕ) → IsNeighbour item
         → neighbours_from place (neighbour_with_subs item subs ++ rest)
         ≡ Ok item ∷ neighbours_from (place + (11 + length subs)) rest }
     ensures neighbour_past { (place : ℕ) (octets : List ℕ) → 0 < length octets
         → length octets < 11 + slice_index octets 10
-        → neighbours_from place octets ≡ fault_at place }
+        → neighbours_from place octets ≡ fault_alone place }
     ensures prefix { (place : ℕ) (item : PrefixItem) (rest : List ℕ) → IsPrefix item
         → prefixes_from place (prefix_octets item ++ rest)
         ≡ Ok item ∷ prefixes_from (place + (5 + octets_for item.prefix.length)) rest }
@@ -107,14 +107,14 @@ pub fn item_steps()
         ≡ Ok item
         ∷ prefixes_from (place + (6 + octets_for item.prefix.length + length subs)) rest }
     ensures prefix_length { (place : ℕ) (octets : List ℕ) → 32 < slice_index octets 4 % 64
-        → prefixes_from place octets ≡ fault_at place }
+        → prefixes_from place octets ≡ fault_alone place }
     ensures prefix_past { (place : ℕ) (octets : List ℕ) → 0 < length octets
         → length octets < 5 + octets_for (slice_index octets 4 % 64)
-        → prefixes_from place octets ≡ fault_at place }
+        → prefixes_from place octets ≡ fault_alone place }
     ensures subs_past { (place : ℕ) (octets : List ℕ) → bit_at (slice_index octets 4) 6 ≡ 1
         → (let end = 5 + octets_for (slice_index octets 4 % 64) in
         length octets < end + (1 + slice_index octets end))
-        → prefixes_from place octets ≡ fault_at place }
+        → prefixes_from place octets ≡ fault_alone place }
 {}
 
 /// What the `put_` calls spell reads back as the same items, without a fault.

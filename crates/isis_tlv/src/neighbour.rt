@@ -31,11 +31,11 @@ pub fn neighbours(value: &[u8]) -> NeighbourItems<'_>
 
 impl Item for NeighbourItem {
     ghost use Rattle.isis_tlv.specs.Items.{neighbour_at};
-    ghost use Rattle.isis_tlv.specs.Takes.{neighbour-some};
+    ghost use Rattle.isis_tlv.specs.Takes.{neighbour-takes_one};
 
     ghost first = { neighbour_at };
 
-    ghost takes = { neighbour-some };
+    ghost takes = { neighbour-takes_one };
 
     fn read_first(octets: &[u8]) -> Option<(NeighbourItem, usize)> {
         let Some(subs) = octets.get(10) else {

@@ -3,7 +3,7 @@ ghost use Rattle.std.specs.Prelude.{◌≡◌, ◌≤◌, ◌+◌, ◌%◌, ◌+
 ghost use Rattle.std.specs.Option.{option_map};
 ghost use Rattle.std.specs.Int.{bit_at};
 ghost use Rattle.isis_base.specs.Fields.{u32_at};
-ghost use Rattle.isis_tlv.specs.Items.{prefix_at, prefixes_of, cleared, octets_for, subs_at};
+ghost use Rattle.isis_tlv.specs.Items.{prefix_at, prefixes_of, clear_past, octets_for, subs_at};
 ghost use Rattle.isis_tlv.specs.Fits.{IsPrefix};
 ghost use Rattle.isis_tlv.specs.Spelling.{prefix_octets, prefix_value, prefix_tlv};
 
@@ -34,11 +34,11 @@ pub fn prefixes(value: &[u8]) -> PrefixItems<'_>
 
 impl Item for PrefixItem {
     ghost use Rattle.isis_tlv.specs.Items.{prefix_at};
-    ghost use Rattle.isis_tlv.specs.Takes.{prefix-some};
+    ghost use Rattle.isis_tlv.specs.Takes.{prefix-takes_one};
 
     ghost first = { prefix_at };
 
-    ghost takes = { prefix-some };
+    ghost takes = { prefix-takes_one };
 
     fn read_first(octets: &[u8]) -> Option<(PrefixItem, usize)> {
         let Some(control) = octets.get(4) else {
@@ -113,7 +113,7 @@ fn subs_at(control: u8, place: usize, octets: &[u8]) -> usize
 fn prefix_of(held: &[u8], bits: u8) -> Prefix
     requires bits { bits ≤ 32 }
     requires held { length held.now ≤ 4 }
-    ensures address { result.address ≡ cleared bits (u32_at 0 held.now) }
+    ensures address { result.address ≡ clear_past bits (u32_at 0 held.now) }
     ensures length { result.length ≡ bits }
 {
     let past = 32 - bits;

@@ -21,11 +21,11 @@ pub fn snpas(value: &[u8]) -> SnpaItems<'_>
 
 impl Item for Snpa {
     ghost use Rattle.isis_tlv.specs.Items.{snpa_at};
-    ghost use Rattle.isis_tlv.specs.Takes.{snpa-some};
+    ghost use Rattle.isis_tlv.specs.Takes.{snpa-takes_one};
 
     ghost first = { snpa_at };
 
-    ghost takes = { snpa-some };
+    ghost takes = { snpa-takes_one };
 
     fn read_first(octets: &[u8]) -> Option<(Snpa, usize)> {
         let (snpa, _) = octets.split_first_chunk::<6>()?;

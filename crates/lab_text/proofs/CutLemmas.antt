@@ -38,9 +38,9 @@ size_left None = 0
 size_left (Some behind) = suc (length behind.now)
 
 -- less is left behind a mark
-pub size-behind : (behind : Option (Bor (List ℕ))) (n : ℕ) → IfSome behind (λ rest. length rest.now < n) → size_left behind ≤ n
-size-behind None n h = omega arith
-size-behind (Some rest) n h = omega (arith, h)
+pub size_left-of_behind : (behind : Option (Bor (List ℕ))) (n : ℕ) → IfSome behind (λ rest. length rest.now < n) → size_left behind ≤ n
+size_left-of_behind None n h = omega arith
+size_left-of_behind (Some rest) n h = omega (arith, h)
 
 -- a text has a part, if only an empty one
 pub never-empty : (text : List ℕ) → slice_split (λ byte. byte == 32) text ≡ [] → ⊥

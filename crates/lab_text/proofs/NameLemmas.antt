@@ -13,9 +13,9 @@ passed : (t : List ℕ → Bool) (i : ℕ) (xs : List (List ℕ)) (x : List ℕ)
 passed t i [] x e = ap (λ (b : Bool). cond b (Some i) None) e
 passed t i (y ∷ xs) x e = ap (λ (o : Option ℕ). cond (t y) (Some i) o) (passed t (i + 1) xs x e)
 
-none-behind : (b : Bool) (i : ℕ) (o : Option ℕ) → cond b (Some i) o ≡ None → (b ≡ false) × (o ≡ None)
-none-behind true i o e = cc
-none-behind false i o e = (refl, e)
+cond-is_none : (b : Bool) (i : ℕ) (o : Option ℕ) → cond b (Some i) o ≡ None → (b ≡ false) × (o ≡ None)
+cond-is_none true i o e = cc
+cond-is_none false i o e = (refl, e)
 
 some-same : (i j : ℕ) → i ≡ j → ◌≡◌ {A = Option ℕ} (Some i) (Some j)
 some-same i j e = cc
@@ -23,7 +23,7 @@ some-same i j e = cc
 taken : (t : List ℕ → Bool) (i : ℕ) (xs : List (List ℕ)) (x : List ℕ) → position_from t i xs ≡ None → t x ≡ true → position_from t i (xs ++ x ∷ []) ≡ Some (i + length xs)
 taken t i [] x none e = ap (λ (b : Bool). cond b (Some i) None) e ∙ some-same i (i + 0) (omega arith)
 taken t i (y ∷ xs) x none e =
-    let before = none-behind (t y) i (position_from t (i + 1) xs) none in
+    let before = cond-is_none (t y) i (position_from t (i + 1) xs) none in
     ap (λ (b : Bool). cond b (Some i) (position_from t (i + 1) (xs ++ x ∷ []))) before.0 ∙ taken t (i + 1) xs x before.1 e ∙ some-same _ _ (omega arith)
 
 -- one name more, which was none before

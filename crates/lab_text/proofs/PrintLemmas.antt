@@ -15,20 +15,20 @@ use Rattle.isis_base.proofs.ArrayLemmas.{lsp_from-octets}
 use Rattle.isis_base.proofs.SpellingLemmas.{Spells-spelled, text_octets-spelled}
 use Rattle.lab_text.specs.declared.line.KeysLine.{KeysLine}
 use Rattle.lab_text.specs.declared.line.KeysLine.TheVariants.{Router, Link, Issue, Pass}
-use Rattle.lab_text.specs.Fields.{has_plain_lead, name_of, number_of, copy_of, id_of, mark_of, key_from, key_of}
+use Rattle.lab_text.specs.Fields.{has_plain_lead, name_of, numeral_of, copy_of, id_of, mark_of, key_from, key_of}
 use Rattle.lab_text.specs.Forms.{field, field_of_two, done}
 use Rattle.lab_text.specs.KeysLines.{line_of}
 use Rattle.lab_text.specs.Printed.{IsLine, mark_text, words_in}
 use Rattle.lab_text.proofs.FieldLemmas.{own, numbered}
 use Rattle.lab_text.proofs.KeyLemmas.{key_from-known}
 
-first-behind : (ds : List ℕ) (d : ℕ) → 0 < length ds → get_or (ds ++ d ∷ []) 0 0 ≡ get_or ds 0 0
-first-behind [] d h = absurd (omega arith)
-first-behind (c ∷ ds) d h = refl
+first-of_append : (ds : List ℕ) (d : ℕ) → 0 < length ds → get_or (ds ++ d ∷ []) 0 0 ≡ get_or ds 0 0
+first-of_append [] d h = absurd (omega arith)
+first-of_append (c ∷ ds) d h = refl
 
 led : (n : ℕ) → n < 10 ^ 64 → (0 < length (decimal n)) × (0 < n → 48 < get_or (decimal n) 0 0) × (n < 10 → length (decimal n) ≡ 1)
 led = decimal_by_steps_wide (λ m ds. (0 < length ds) × (0 < m → 48 < get_or ds 0 0) × (m < 10 → length ds ≡ 1)) (λ m l. (omega arith, λ a. omega arith, λ a. omega arith))
-    (λ m ds l h. (omega (arith, length-append ds ((48 + m % 10) ∷ [])), λ a. omega (arith, first-behind ds (48 + m % 10) h.0, h.1 (omega arith)), λ a. omega arith))
+    (λ m ds l h. (omega (arith, length-append ds ((48 + m % 10) ∷ [])), λ a. omega (arith, first-of_append ds (48 + m % 10) h.0, h.1 (omega arith)), λ a. omega arith))
 
 plain : (ds : List ℕ) → 0 < length ds → 48 < get_or ds 0 0 → has_plain_lead ds ≡ true
 plain [] s f = absurd (omega arith)
@@ -45,8 +45,8 @@ lead zero h = plain-one (decimal 0) ((led 0 h).2 (omega arith))
 lead (suc n) h = plain (decimal (suc n)) (led (suc n) h).0 ((led (suc n) h).1 (omega arith))
 
 -- a number is read from what is written of it
-pub number_of-decimal : (n : ℕ) → n < 2 ^ 128 → number_of (decimal n) ≡ Some n
-number_of-decimal n h =
+pub numeral_of-decimal : (n : ℕ) → n < 2 ^ 128 → numeral_of (decimal n) ≡ Some n
+numeral_of-decimal n h =
     let wide : n < 10 ^ 64 = omega arith in
     let d = decimal_is_IsNumeral_wide n wide in
     numbered (decimal n) (lead n wide) (own.from (decimal n) d.0.1)
@@ -55,7 +55,7 @@ number_of-decimal n h =
 
 copy-read : (copy : ℕ) → copy < 2 ^ 64 → copy_of (decimal copy) ≡ Some copy
 copy-read copy h =
-    ap (option_map (λ n. cond (ltb n (2 ^ 64)) n 0)) (number_of-decimal copy (omega (arith, h)))
+    ap (option_map (λ n. cond (ltb n (2 ^ 64)) n 0)) (numeral_of-decimal copy (omega (arith, h)))
     ∙ ap (λ (t : Bool). Some (cond t copy 0)) (lt-ltb copy (2 ^ 64) h)
 
 id-read : (id : LspId) → IsId id → id_of (lsp_text id) ≡ Some id
@@ -71,7 +71,7 @@ mark-read false = refl
 
 key-read : (key : Key) → key.number < 2 ^ 32 → key_of (decimal key.number) (mark_text key.purged) ≡ Some key
 key-read key h =
-    ap (option_and_then (λ n. option_and_then (λ purged. key_from n purged) (mark_of (mark_text key.purged)))) (number_of-decimal key.number (omega (arith, h)))
+    ap (option_and_then (λ n. option_and_then (λ purged. key_from n purged) (mark_of (mark_text key.purged)))) (numeral_of-decimal key.number (omega (arith, h)))
     ∙ ap (option_and_then (λ purged. key_from key.number purged)) (mark-read key.purged)
     ∙ key_from-known key.number key refl h
 

@@ -33,15 +33,15 @@ abbrev pub is_numeral : List ℕ → Bool
 is_numeral word = has_plain_lead word && list_all is_ascii_digit word
 
 -- the number that a word writes, up to 128 bits (own)
-abbrev pub number_of : List ℕ → Option ℕ
-number_of word =
+abbrev pub numeral_of : List ℕ → Option ℕ
+numeral_of word =
     if is_numeral word
     then (if nat_lt (digits_value 10 word) (2 ^ 128) then Some (digits_value 10 word) else None)
     else None
 
 -- the number of a copy: none has number 0, nor one above the numbers of this machine, so such a one counts as 0 (own)
 abbrev pub copy_of : List ℕ → Option ℕ
-copy_of word = option_map (λ n. if nat_lt n (2 ^ 64) then n else 0) (number_of word)
+copy_of word = option_map (λ n. if nat_lt n (2 ^ 64) then n else 0) (numeral_of word)
 
 -- the LSP ID of a text
 abbrev pub id_of : List ℕ → Option LspId
@@ -64,4 +64,4 @@ mark_of word =
 abbrev pub key_of : List ℕ → List ℕ → Option Key
 key_of number mark =
     option_and_then (λ n. option_and_then (λ purged. key_from n purged) (mark_of mark))
-    (number_of number)
+    (numeral_of number)

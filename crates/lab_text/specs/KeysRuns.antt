@@ -1,6 +1,6 @@
 -- The run of a keys script: its network, its events one after another, and its report (own).
 use Rattle.std.specs.Prelude.{◌≡◌, ℕ, List, [], ◌∷◌, length, Option, Result, Ok, Err, IsOk, if◌then◌else◌}
-use Rattle.isis_edge.specs.Told.{Wrote, WrotePrefix, Stays}
+use Rattle.isis_edge.specs.Told.{Wrote, WrotePrefix, TellsSame}
 use Rattle.network_lab.specs.KeysNet.{Net, empty_net, with_link, with_copy, with_pass, is_at}
 use Rattle.lab_text.specs.declared.events.EventLine.{EventLine}
 use Rattle.lab_text.specs.declared.events.KeyEvent.{KeyEvent}
@@ -59,9 +59,9 @@ abbrev pub RunEnds : KeysScript → Option (List ℕ) → Option (List ℕ) → 
     → Type 0
 RunEnds script before now (Ok done) = IsOk (end_of script) × Wrote before now (report_of script)
 RunEnds script before now (Err (run.Refused line reason)) =
-    (end_of script ≡ Err (Refused line reason)) × Stays before now
+    (end_of script ≡ Err (Refused line reason)) × TellsSame before now
 RunEnds script before now (Err (run.Limit which)) =
-    (end_of script ≡ Err (Limit which)) × Stays before now
+    (end_of script ≡ Err (Limit which)) × TellsSame before now
 RunEnds script before now (Err run.Write) =
     IsOk (end_of script) × WrotePrefix before now (report_of script)
 RunEnds script before now (Err run.OutOfMemory) = WrotePrefix before now (report_of script)

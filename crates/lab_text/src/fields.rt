@@ -3,7 +3,7 @@ ghost use Rattle.std.specs.Prelude.{◌≡◌, true, IfSome};
 ghost use Rattle.std.specs.Char.{is_ascii_alphanumeric, is_ascii_digit};
 ghost use Rattle.std.specs.List.{list_all};
 ghost use Rattle.std.specs.Str.Parse.{digits_value};
-ghost use Rattle.lab_text.specs.Fields.{is_name, name_of, has_plain_lead, number_of, id_of, mark_of, key_from, key_of, copy_of};
+ghost use Rattle.lab_text.specs.Fields.{is_name, name_of, has_plain_lead, numeral_of, id_of, mark_of, key_from, key_of, copy_of};
 
 use crate::name::Name;
 use isis_base::{Key, LspId, read_lsp_id};
@@ -80,7 +80,7 @@ fn read_short(word: &[u8]) -> Option<u64>
 
 /// The number of a word: decimal digits without sign or leading zero, up to 128 bits.
 fn read_number(word: &[u8]) -> Option<u128>
-    ensures { result ≡ number_of word.now }
+    ensures { result ≡ numeral_of word.now }
 {
     if !leads_plainly(word) {
         return None;

@@ -12,7 +12,7 @@ use Rattle.std.proofs.lemmas.List.Elements.{Contains-get_or}
 use Rattle.isis_base.specs.declared.identifiers.LspId.{LspId}
 use Rattle.isis_base.specs.declared.key.Key.{Key}
 use Rattle.isis_base.specs.Keys.{rank}
-use Rattle.network_lab.specs.Held.{IsRising, IsGap, IsPlaceOf, entry_number, Covers, Joins}
+use Rattle.network_lab.specs.Held.{IsRising, IsGap, IsPlaceOf, entry_number, HoldsAsNew, Joins}
 
 cmp-equal : (a b : ℕ) → nat_cmp a b ≡ Equal → a ≡ b
 cmp-equal a b e = grind (arith, nat_tests)
@@ -94,8 +94,8 @@ IsRising-insert number xs i x up le g = record {
       insert-below number xs i x up le g a b d ab (omega arith);
 }
 
-Covers-itself : (xs : List (LspId × Key)) (e : LspId × Key) → Contains xs e → Covers xs e
-Covers-itself xs e h = (e, h, refl, omega arith)
+HoldsAsNew-itself : (xs : List (LspId × Key)) (e : LspId × Key) → Contains xs e → HoldsAsNew xs e
+HoldsAsNew-itself xs e h = (e, h, refl, omega arith)
 
 at-each : (xs : List (LspId × Key)) (i : ℕ) (entry : LspId × Key) → i < length xs → entry ≡ get_or xs i entry → (d : LspId × Key) → entry ≡ get_or xs i d
 at-each xs i entry lt e d = e ∙ get_or_default xs i entry d lt
@@ -115,9 +115,9 @@ Joins-newer xs i copy entry up place read older =
         | inl here ↦
             (let same : get_or xs i e ≡ e = ap (λ (k : ℕ). get_or xs k e) (sym here) ∙ h.2 in
             (copy, there, sym (ap entry_number (sym same) ∙ place.here e), subst (λ (x : LspId × Key). rank (Some x.1) ≤ rank (Some copy.1)) (at-each xs i entry lt read e ∙ same) older))
-        | inr other ↦ Covers-itself (set xs i copy) e (h.0, omega (arith, length-set xs i copy, h.1), get_or-set_other xs i h.0 copy e other ∙ h.2)
+        | inr other ↦ HoldsAsNew-itself (set xs i copy) e (h.0, omega (arith, length-set xs i copy, h.1), get_or-set_other xs i h.0 copy e other ∙ h.2)
       ];
-      copy_covered = Covers-itself (set xs i copy) copy there;
+      copy_covered = HoldsAsNew-itself (set xs i copy) copy there;
     }
 
 -- the key is as new as the one that is there, or older
@@ -125,7 +125,7 @@ pub Joins-older : (xs : List (LspId × Key)) (i : ℕ) (copy entry : LspId × Ke
 Joins-older xs i copy entry up place read newer = record {
   rising = up;
   among = λ e h. inl h;
-  old_covered = λ e h. Covers-itself xs e h;
+  old_covered = λ e h. HoldsAsNew-itself xs e h;
   copy_covered = (
     get_or xs i copy,
     Contains-get_or xs i copy place.inside,
@@ -154,11 +154,11 @@ Joins-first xs i copy up g =
     record {
       rising = IsRising-insert entry_number xs i copy up le g;
       among = λ e h. insert-among xs i copy e le h;
-      old_covered = λ e h. Covers-itself (insert xs i copy) e (elim (cases_lt h.0 i) [
+      old_covered = λ e h. HoldsAsNew-itself (insert xs i copy) e (elim (cases_lt h.0 i) [
         | inl low ↦ (h.0, omega (arith, more, h.1), get_or-insert_below xs i copy e h.0 low le ∙ h.2)
         | inr high ↦ (h.0 + 1, omega (arith, more, h.1), get_or-insert_above xs i copy e h.0 high le ∙ h.2)
       ]);
-      copy_covered = Covers-itself (insert xs i copy) copy there;
+      copy_covered = HoldsAsNew-itself (insert xs i copy) copy there;
     }
 
 -- what a binary search by LSP ID answers

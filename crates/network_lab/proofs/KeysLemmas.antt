@@ -9,7 +9,7 @@ use Rattle.isis_base.specs.Identifiers.{IsId}
 use Rattle.isis_base.specs.Keys.{rank}
 use Rattle.isis_base.proofs.ArrayLemmas.{lsp_number-one}
 use Rattle.isis_base.proofs.KeyLemmas.{rank-same}
-use Rattle.network_lab.specs.Held.{IsRising, entry_number, Covers}
+use Rattle.network_lab.specs.Held.{IsRising, entry_number, HoldsAsNew}
 use Rattle.network_lab.specs.KeysHeld.{join_of_two, joined, join_of_copies}
 use Rattle.network_lab.specs.KeysNet.{has_pair, IsCopyAt, IsHeldAt}
 
@@ -187,8 +187,8 @@ has-new copy (x ∷ xs) = by (ltb (entry_number copy) (entry_number x)) (eqb (en
     }
     by false false q rest = has-more x (joined copy xs) copy rest
 
-has-again : (copy : Entry) (xs : List Entry) (e : Entry) → Has xs e → Has (joined copy xs) e
-has-again copy xs e h =
+has-joined : (copy : Entry) (xs : List Entry) (e : Entry) → Has xs e → Has (joined copy xs) e
+has-joined copy xs e h =
     let found = has-old copy xs h.entry h.there in
     record { entry = found.entry; there = found.there; number = found.number ∙ h.number; newest = let a = found.newest in let b = h.newest in omega arith }
 
@@ -239,7 +239,7 @@ module _ (places : List (ℕ × ℕ)) (router : ℕ) where
   has-all number (copy ∷ copies) (suc place) e made there = by (has_pair places number router) (has-all (number + 1) copies place e made (ap (λ (k : ℕ). has_pair places k router) (let same : number + 1 + place ≡ number + suc place = omega arith in same) ∙ there))
     where
       by : (t : Bool) → Has (all (number + 1) copies) e → Has (cond t (joined copy (all (number + 1) copies)) (all (number + 1) copies)) e
-      by true rest = has-again copy (all (number + 1) copies) e rest
+      by true rest = has-joined copy (all (number + 1) copies) e rest
       by false rest = rest
 
 -- each copy that was made has an LSP ID of the program
@@ -262,7 +262,7 @@ held-joined copies places router entries held ids =
     numbered : (n : ℕ) → 0 < n → has_pair places n router ≡ true → has_pair places (1 + (n - 1)) router ≡ true
     numbered n some there = ap (λ (k : ℕ). has_pair places k router) (let same : 1 + (n - 1) ≡ n = omega arith in same) ∙ there
 
-    covers : (e : Entry) → In e (join_of_copies places router 1 copies) → Covers entries e
+    covers : (e : Entry) → In e (join_of_copies places router 1 copies) → HoldsAsNew entries e
     covers e h =
         let made = in-all places router 1 copies e h in
         held.newest (1 + made.place) e (record { some = omega arith; made = ap (slice_get copies) (let p = made.place in let same : 1 + p - 1 ≡ p = omega arith in same) ∙ made.made; there = made.there })

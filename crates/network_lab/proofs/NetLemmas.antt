@@ -9,7 +9,7 @@ use Rattle.std.proofs.lemmas.List.{length-set, get_or_append_left}
 use Rattle.std.proofs.lemmas.Option.{slice_get_within}
 use Rattle.isis_base.specs.declared.identifiers.LspId.{LspId}
 use Rattle.isis_base.specs.declared.key.Key.{Key}
-use Rattle.network_lab.specs.Held.{Covers, Joins}
+use Rattle.network_lab.specs.Held.{HoldsAsNew, Joins}
 use Rattle.network_lab.specs.KeysNet.{pair_cmp, has_pair, IsCopyAt, IsHeldAt}
 use Rattle.network_lab.specs.Inside.{AreHeld}
 use Rattle.network_lab.proofs.PairLemmas.{has_pair-new, has_pair-kept, has_pair-only}
@@ -48,7 +48,7 @@ IsHeldAt-join copies copies' places places' r xs ys copy held joins kept only n 
         (let by = held.newest m x old in
         let over = joins.old_covered by.0 by.1 in
         (over.0, over.1, over.2 ∙ by.2, let p = over.3 in let q = by.3 in omega arith))
-    | inr same ↦ subst (λ (y : LspId × Key). Covers ys y) (sym same) joins.copy_covered
+    | inr same ↦ subst (λ (y : LspId × Key). HoldsAsNew ys y) (sym same) joins.copy_covered
   ];
 }
 

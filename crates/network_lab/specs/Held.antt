@@ -25,8 +25,8 @@ pub record IsGap {X : Type 0} (number : X → ℕ) (xs : List X) (n place : ℕ)
   pub high : (k : ℕ) (d : X) → place ≤ k → k < length xs → n < number (slice_index_or xs k d)
 
 -- some entry has the LSP ID of this copy, and a key that is as new or newer
-abbrev pub Covers : List (LspId × Key) → LspId × Key → Type 0
-Covers entries copy =
+abbrev pub HoldsAsNew : List (LspId × Key) → LspId × Key → Type 0
+HoldsAsNew entries copy =
     (entry : LspId × Key) × Contains entries entry × (entry_number entry ≡ entry_number copy)
     × (rank (Some copy.1) ≤ rank (Some entry.1))
 
@@ -34,5 +34,5 @@ Covers entries copy =
 pub record Joins (old new : List (LspId × Key)) (copy : LspId × Key) : Type 0 where
   pub rising : IsRising entry_number new
   pub among : (entry : LspId × Key) → Contains new entry → Contains old entry ⊎ (entry ≡ copy)
-  pub old_covered : (entry : LspId × Key) → Contains old entry → Covers new entry
-  pub copy_covered : Covers new copy
+  pub old_covered : (entry : LspId × Key) → Contains old entry → HoldsAsNew new entry
+  pub copy_covered : HoldsAsNew new copy

@@ -23,5 +23,5 @@ pub record AreHeld {V : Type 0} (entries : V
       → (0 < number) × (number ≤ length copies) × (router < length held)
   pub ids : AllByRecursion (λ copy. IsId copy.0) copies
 
-abbrev pub IsKept : Inside → Type 0
-IsKept a = AreHeld (λ v. v.items) a.copies.items a.places.keys a.held.items
+abbrev pub IsSoundNet : Inside → Type 0
+IsSoundNet a = AreHeld (λ v. v.items) a.copies.items a.places.keys a.held.items

@@ -6,7 +6,7 @@ use Rattle.std.specs.BTreeSet.{insert_key}
 use Rattle.std.specs.declared.cmp.Ordering.{Ordering}
 use Rattle.isis_base.specs.declared.identifiers.LspId.{LspId}
 use Rattle.isis_base.specs.declared.key.Key.{Key}
-use Rattle.network_lab.specs.Held.{IsRising, entry_number, Covers}
+use Rattle.network_lab.specs.Held.{IsRising, entry_number, HoldsAsNew}
 
 -- A plain network of routers, numbered from 0, that pass numbered copies of keys along links (own). The copies
 -- are numbered from 1, as they are made. `linked` has the pairs of routers that some link joins, the lesser
@@ -73,4 +73,4 @@ pub record IsHeldAt (copies : List (LspId × Key)) (places : List (ℕ × ℕ)) 
   pub among : (entry : LspId × Key) → Contains entries entry
       → (number : ℕ) × IsCopyAt copies places router number entry
   pub newest : (number : ℕ) (copy : LspId × Key) → IsCopyAt copies places router number copy
-      → Covers entries copy
+      → HoldsAsNew entries copy

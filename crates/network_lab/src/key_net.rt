@@ -39,11 +39,11 @@ impl Model for KeyNet {
 
     ghost Value = { Net };
 
-    ghost use Rattle.network_lab.specs.Inside.{net_of, IsKept};
+    ghost use Rattle.network_lab.specs.Inside.{net_of, IsSoundNet};
 
     ghost view = { net_of };
 
-    ghost invariant = { IsKept };
+    ghost invariant = { IsSoundNet };
 }
 
 /// Two routers, the lesser first.

@@ -12,7 +12,7 @@ use Rattle.spf_tree.specs.Labels.{names}
 use Rattle.spf_tree.specs.Search.{IsCovered, AreNamed}
 use Rattle.spf_tree.specs.Exploring.{IsTight, Leads}
 use Rattle.spf_repair.specs.Erase.{IsMarked, RowHangs, HasParallel, IsStruck, IsClosed}
-use Rattle.spf_repair.specs.Feed.{IsFed, Covers}
+use Rattle.spf_repair.specs.Feed.{IsFed, IsOfferedOn}
 use Rattle.spf_repair.specs.Repair.{IsLoose, IsCounted}
 use Rattle.spf_repair.specs.Change.{AreChanged, IsBound, OnlyFalls}
 use Rattle.spf_tree.proofs.WalkLemmas.{within_more}
@@ -89,8 +89,8 @@ pub loose_start : (before rows removed added : List Row) (root : ℕ) (old marks
     → ((n c : ℕ) → at labels n ≡ Some c → (at old n ≡ Some c) × (is_some (at marks n) ≡ false))
     → ((n : ℕ) → Contains (names labels) n → is_some (at marks n) ≡ false → at labels n ≡ at old n)
     → IsFed rows root labels queue
-    → ((row : Row) → Contains rows row → IsMarked marks (end row) → Covers labels root queue row)
-    → ((row : Row) → Contains added row → Covers labels root queue row)
+    → ((row : Row) → Contains rows row → IsMarked marks (end row) → IsOfferedOn labels root queue row)
+    → ((row : Row) → Contains added row → IsOfferedOn labels root queue row)
     → IsLoose rows root labels queue
 loose_start before rows removed added root old marks labels first queue least differ struck closed named from into fed of_marked of_added =
     let upper : (n c : ℕ) → at labels n ≡ Some c → (walk : List Row) × IsWalk rows root walk n × (cost walk ≤ c) = λ n c e.

@@ -11,7 +11,7 @@ use Rattle.spf_tree.specs.Labels.{at}
 use Rattle.spf_tree.specs.Search.{IsCovered}
 use Rattle.spf_repair.specs.Erase.{IsMarked}
 use Rattle.spf_repair.specs.Change.{IsAlike}
-use Rattle.spf_repair.specs.Feed.{IsGiven, IsGivenIf, IsFed, Covers}
+use Rattle.spf_repair.specs.Feed.{IsGiven, IsGivenIf, IsFed, IsOfferedOn}
 use Rattle.spf_tree.proofs.SearchLemmas.{news, cover_kept, some_same, contains_first, contains_rest, contains_cases}
 
 -- ---- rows alike
@@ -51,7 +51,7 @@ given_fed rows root labels row old new in_rows fed h o there =
           ]
     ]
 
-pub given_covers : (root : ℕ) (labels : List Label) (row : Row) (old new : List (ℕ × ℕ)) → IsGiven labels root row old new → Covers labels root new row
+pub given_covers : (root : ℕ) (labels : List Label) (row : Row) (old new : List (ℕ × ℕ)) → IsGiven labels root row old new → IsOfferedOn labels root new row
 given_covers root labels row old new h c e ne small =
     elim h [
       | inl none ↦ let f = none.0 in cc
@@ -64,7 +64,7 @@ given_covers root labels row old new h c e ne small =
           ])
     ]
 
-pub covers_kept : (root : ℕ) (labels : List Label) (row : Row) (old new : List (ℕ × ℕ)) → ((o : ℕ × ℕ) → Contains old o → Contains new o) → Covers labels root old row → Covers labels root new row
+pub covers_kept : (root : ℕ) (labels : List Label) (row : Row) (old new : List (ℕ × ℕ)) → ((o : ℕ × ℕ) → Contains old o → Contains new o) → IsOfferedOn labels root old row → IsOfferedOn labels root new row
 covers_kept root labels row old new kept h c e ne small = cover_kept labels old new (end row) (c + row.metric) kept (h c e ne small)
 
 -- ---- where its end is marked
@@ -77,6 +77,6 @@ pub if_fed : (rows : List Row) (root : ℕ) (labels marks : List Label) (row : R
 if_fed rows root labels marks row old new in_rows fed h =
     elim h [ inl on ↦ given_fed rows root labels row old new in_rows fed on.1 | inr off ↦ (λ o there. fed o (subst (λ (q : List (ℕ × ℕ)). Contains q o) off.1 there)) ]
 
-pub if_covers : (root : ℕ) (labels marks : List Label) (row : Row) (old new : List (ℕ × ℕ)) → IsGivenIf labels root marks row old new → IsMarked marks (end row) → Covers labels root new row
+pub if_covers : (root : ℕ) (labels marks : List Label) (row : Row) (old new : List (ℕ × ℕ)) → IsGivenIf labels root marks row old new → IsMarked marks (end row) → IsOfferedOn labels root new row
 if_covers root labels marks row old new h m =
     elim h [ inl on ↦ given_covers root labels row old new on.1 | inr off ↦ absurd (false≢true (sym off.0 ∙ m)) ]

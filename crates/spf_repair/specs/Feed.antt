@@ -29,7 +29,7 @@ IsFed rows root labels queue =
     × (c + row.metric ≡ offer.0))
 
 -- what the row gives is covered
-abbrev pub Covers : List Label → ℕ → List (ℕ × ℕ) → Row → Type 0
-Covers labels root queue row =
+abbrev pub IsOfferedOn : List Label → ℕ → List (ℕ × ℕ) → Row → Type 0
+IsOfferedOn labels root queue row =
     (c : ℕ) → at labels (start row) ≡ Some c → end row ≢ root → c + row.metric < 2 ^ 64
     → IsCovered labels queue (end row) (c + row.metric)

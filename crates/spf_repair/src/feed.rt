@@ -6,7 +6,7 @@ ghost use Rattle.spf_tree.specs.declared.row.Row.{Row};
 ghost use Rattle.spf_tree.specs.Walks.{start, end};
 ghost use Rattle.spf_repair.specs.Erase.{IsMarked};
 ghost use Rattle.spf_repair.specs.Change.{IsAlike};
-ghost use Rattle.spf_repair.specs.Feed.{IsGiven, IsGivenIf, IsFed, Covers};
+ghost use Rattle.spf_repair.specs.Feed.{IsGiven, IsGivenIf, IsFed, IsOfferedOn};
 
 use crate::steps::Steps;
 use isis_base::OutOfMemory;
@@ -57,7 +57,7 @@ pub fn feed_marked(
     requires { IsFed rows.now root labels.now queue.old }
     ensures fed { OnOk result (IsFed rows.now root labels.now queue.new) }
     ensures covers { OnOk result ((row : Row) → Contains rows.now row → IsMarked marks.now (end row)
-        → Covers labels.now root queue.new row) }
+        → IsOfferedOn labels.now root queue.new row) }
 {
     for place in 0..rows.len() {
         match give_marked(labels, root, marks, &rows[place], queue) {
@@ -83,7 +83,7 @@ pub fn feed_added<L: Ledger>(
     ensures kept { OnOk result ((offer : ℕ × ℕ) → Contains queue.old offer
         → Contains queue.new offer) }
     ensures covers { OnOk result ((row : Row) → Contains added.now row
-        → Covers labels.now root queue.new row) }
+        → IsOfferedOn labels.now root queue.new row) }
     ensures steps { OnOk result (steps.new ≡ steps.old + length added.now) }
 {
     for place in 0..added.len() {
@@ -109,7 +109,7 @@ pub fn feed_if_marked(
     requires inside { (node : ℕ) → IsMarked marks.now node → Contains nodes.now node }
     ensures fed { OnOk result (IsFed rows.now root labels.now queue.new) }
     ensures covers { OnOk result ((row : Row) → Contains rows.now row → IsMarked marks.now (end row)
-        → Covers labels.now root queue.new row) }
+        → IsOfferedOn labels.now root queue.new row) }
 {
     if nodes.len() == 0 {
         return Ok(());

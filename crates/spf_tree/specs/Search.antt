@@ -14,7 +14,7 @@ pub record IsBounded (rows : List Row) : Type 0 where
   pub small : (row : Row) → Contains rows row → row.metric < 2 ^ 32
 
 -- rows and nodes as a graph keeps them: both in order, and each row ends at one of the nodes
-pub record IsKept (rows : List Row) (nodes : List ℕ) : Type 0 where
+pub record IsSearchKept (rows : List Row) (nodes : List ℕ) : Type 0 where
   pub sorted : IsNonDecreasingBy start rows
   pub bounded : IsBounded rows
   pub rising : IsStrictlyIncreasing nodes

@@ -23,14 +23,14 @@ pub struct Graph {
 }
 
 impl Model for Graph {
-    ghost use Rattle.spf_tree.specs.Search.{IsKept};
+    ghost use Rattle.spf_tree.specs.Search.{IsSearchKept};
     ghost use Rattle.spf_tree.specs.Graphs.{GraphOf};
 
     ghost Value = { GraphOf };
 
     ghost view = { λ g. record { rows = g.rows.items; root = g.root } };
 
-    ghost invariant = { λ g. IsKept g.rows.items g.nodes.items };
+    ghost invariant = { λ g. IsSearchKept g.rows.items g.nodes.items };
 }
 
 impl Graph {

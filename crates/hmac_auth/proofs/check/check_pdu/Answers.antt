@@ -1,12 +1,12 @@
 use Rattle.std.proofs.Common.{Ok, Err, rules}
 use Rattle.hmac_auth.specs.declared.fault.AuthFault.TheVariants.{PurgeBody, Wrong}
 use Rattle.hmac_auth.specs.Auth.{auth_fault}
-use Rattle.hmac_auth.proofs.PduLemmas.{lsp-behind}
+use Rattle.hmac_auth.proofs.PduLemmas.{lsp-past_header}
 use Rattle.hmac_auth.proofs.CauseLemmas.{cause-iff, ok-iff}
 use Rattle.hmac_auth.proofs.check.check_pdu.Goals as goal
 
 pub has_digest-requires-clause-behind : goal.has_digest-requires-clause-behind
-has_digest-requires-clause-behind c = lsp-behind c.args.pdu.now c.args.header c.in_ok-at.at c.requires c.in_ok-at.ensures.behind
+has_digest-requires-clause-behind c = lsp-past_header c.args.pdu.now c.args.header c.in_ok-at.at c.requires c.in_ok-at.ensures.behind
 
 pub returns-in_err-at-clause-ok : goal.returns-in_err-at-clause-ok
 unfolding auth_fault

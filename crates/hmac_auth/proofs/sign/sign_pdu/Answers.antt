@@ -1,10 +1,10 @@
 use Rattle.std.proofs.Common.{◌∙◌}
 use Rattle.hmac_auth.proofs.HmacLemmas.{length-hmac}
-use Rattle.hmac_auth.proofs.SignedLemmas.{copied-is, stands-behind, new-digest, new-pdu, new-fault}
+use Rattle.hmac_auth.proofs.SignedLemmas.{copied-is, digest_place-past_header, new-digest, new-pdu, new-fault}
 use Rattle.hmac_auth.proofs.sign.sign_pdu.Goals as goal
 
 pub digest_of_pdu-digest-requires-clause-behind : goal.digest_of_pdu-digest-requires-clause-behind
-digest_of_pdu-digest-requires-clause-behind c = stands-behind c.args.pdu.now c.args.at c.requires.place
+digest_of_pdu-digest-requires-clause-behind c = digest_place-past_header c.args.pdu.now c.args.at c.requires.place
 
 pub returns-clause-digest : goal.returns-clause-digest
 returns-clause-digest c =

@@ -3,7 +3,7 @@ use Rattle.isis_base.specs.declared.parts.Part.{Part}
 use Rattle.isis_base.specs.declared.area_text.TheConstants.{AREA_TEXT}
 use Rattle.isis_base.specs.Texts.{octet_count, IsFaultAt}
 use Rattle.isis_base.specs.Misfit.{misfit_of, octets_of}
-use Rattle.isis_base.specs.AreaTexts.{IsArea, octets_of_length}
+use Rattle.isis_base.specs.AreaTexts.{IsAreaText, octets_of_length}
 use Rattle.isis_base.proofs.AreaLemmas.{form-front, area_form, area_form-count, SpellsArea-from_misfit, SpellsArea-one, IsFaultAt-area, IsCount, octets_of_length-count, area_of-misfit, area_of-octets}
 use Rattle.isis_base.proofs.area_text.read_area.Goals as goal
 
@@ -18,7 +18,7 @@ read_parts-requires c =
     let form = form-front n count.some count.fits in
     subst (λ (k : ℕ). k ≤ 13) (sym (ap octet_count form ∙ area_form-count n)) count.fits
 
-fault : (n place : ℕ) (parts : List Part) (text : List ℕ) → parts ≡ area_form n → IsCount (length text) n → Some place ≡ misfit_of parts text → IsFaultAt IsArea text place
+fault : (n place : ℕ) (parts : List Part) (text : List ℕ) → parts ≡ area_form n → IsCount (length text) n → Some place ≡ misfit_of parts text → IsFaultAt IsAreaText text place
 fault n place parts text form count e = IsFaultAt-area n text place count (sym (e ∙ ap (λ (p : List Part). misfit_of p text) form))
 
 pub returns-in-Some-clause-err : goal.returns-in-Some-clause-err

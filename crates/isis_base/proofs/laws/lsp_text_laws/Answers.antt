@@ -2,14 +2,14 @@ use Rattle.std.proofs.Common.{◌≡◌, ◌<◌, ◌∙◌, ℕ, List, Some, le
 use Rattle.std.specs.List.{AllByRecursion}
 use Rattle.std.specs.Option.{option_map}
 use Rattle.isis_base.specs.Identifiers.{lsp_octets, lsp_from}
-use Rattle.isis_base.specs.Texts.{Spells, spelled, lsp_text}
+use Rattle.isis_base.specs.Texts.{Spells, form_text, lsp_text}
 use Rattle.isis_base.specs.declared.texts.TheConstants.{LSP_TEXT}
 use Rattle.isis_base.proofs.ArrayLemmas.{lsp-same, lsp_from-octets}
 use Rattle.isis_base.proofs.SpellingLemmas.{Spells-spelled, Spells-one, text_octets-spelled}
 use Rattle.isis_base.proofs.laws.lsp_text_laws.Goals as goal
 
 -- the text that is written spells the octets
-written : (octets result : List ℕ) → AllByRecursion (λ octet. octet < 256) result → result ≡ octets → length octets ≡ 8 → Spells LSP_TEXT (spelled LSP_TEXT octets) octets
+written : (octets result : List ℕ) → AllByRecursion (λ octet. octet < 256) result → result ≡ octets → length octets ≡ 8 → Spells LSP_TEXT (form_text LSP_TEXT octets) octets
 written octets result small same eight =
     Spells-spelled LSP_TEXT octets (search rules) (subst (λ (xs : List ℕ). AllByRecursion (λ octet. octet < 256) xs) same small) eight
 

@@ -2,13 +2,13 @@ use Rattle.std.proofs.Common.{◌≡◌, ◌<◌, ℕ, List, length, ap, subst, 
 use Rattle.std.specs.List.{AllByRecursion}
 use Rattle.std.specs.Option.{option_map}
 use Rattle.isis_base.specs.Identifiers.{system_from}
-use Rattle.isis_base.specs.Texts.{Spells, spelled, system_text}
+use Rattle.isis_base.specs.Texts.{Spells, form_text, system_text}
 use Rattle.isis_base.specs.declared.texts.TheConstants.{SYSTEM_TEXT}
 use Rattle.isis_base.proofs.SpellingLemmas.{Spells-spelled, Spells-one, text_octets-spelled}
 use Rattle.isis_base.proofs.laws.system_text_laws.Goals as goal
 
 -- the text that is written spells the octets
-written : (octets result : List ℕ) → AllByRecursion (λ octet. octet < 256) result → result ≡ octets → length octets ≡ 6 → Spells SYSTEM_TEXT (spelled SYSTEM_TEXT octets) octets
+written : (octets result : List ℕ) → AllByRecursion (λ octet. octet < 256) result → result ≡ octets → length octets ≡ 6 → Spells SYSTEM_TEXT (form_text SYSTEM_TEXT octets) octets
 written octets result small same eight =
     Spells-spelled SYSTEM_TEXT octets (search rules) (subst (λ (xs : List ℕ). AllByRecursion (λ octet. octet < 256) xs) same small) eight
 

@@ -2,7 +2,7 @@ use Rattle.std.proofs.Common.{◌≡◌, ◌∙◌, ℕ, List, Some, None, optio
 use Rattle.std.proofs.lemmas.List.{take_more}
 use Rattle.isis_base.specs.Texts.{IsFaultAt}
 use Rattle.isis_base.specs.PrefixFronts.{after_text, no_front, parts_of_front}
-use Rattle.isis_base.specs.PrefixTexts.{SpellsPrefix, IsPrefix}
+use Rattle.isis_base.specs.PrefixTexts.{SpellsPrefix, IsPrefixText}
 use Rattle.isis_base.proofs.PrefixLemmas.{after_text-stuck, IsFaultAt-byte, IsFaultAt-end, prefix-from, after_text-push, SpellsPrefix-one, read-whole}
 use Rattle.isis_base.proofs.prefix_text.read_prefix.Goals as goal
 
@@ -14,7 +14,7 @@ pub returns-in-None-clause-err : goal.returns-in-None-clause-err
 returns-in-None-clause-err c =
     let bytes = c.as_bytes-bytes.result.now in
     let place = c.loop-place.place in
-    subst (λ (text : List ℕ). IsFaultAt IsPrefix text place) c.as_bytes-bytes.ensures.value
+    subst (λ (text : List ℕ). IsFaultAt IsPrefixText text place) c.as_bytes-bytes.ensures.value
     (IsFaultAt-byte bytes place (get_or bytes place 0) c.loop-place.front c.loop-place-test.true refl c.loop-place.invariant (sym c.in-None.ensures))
 
 pub returns-in-None-clause-read : goal.returns-in-None-clause-read
@@ -32,7 +32,7 @@ returns-in-None-prefix-clause-err c =
     let bytes = c.as_bytes-bytes.result.now in
     let f = c.loop-place.front in
     let whole = read-whole bytes c.loop-place.place f c.loop-place.auto.place-end c.loop-place-test.false c.loop-place.invariant in
-    subst (λ (text : List ℕ). IsFaultAt IsPrefix text (length bytes)) c.as_bytes-bytes.ensures.value
+    subst (λ (text : List ℕ). IsFaultAt IsPrefixText text (length bytes)) c.as_bytes-bytes.ensures.value
     (IsFaultAt-end bytes f whole (c.in-None-prefix.ensures.none refl))
 
 pub returns-in-None-prefix-clause-read : goal.returns-in-None-prefix-clause-read

@@ -1,5 +1,5 @@
 -- Identifiers of numbers have those numbers.
-use Rattle.isis_datagram.proofs.NumberLemmas.{u48-again, node-again, lsp-again}
+use Rattle.isis_datagram.proofs.NumberLemmas.{u48-again, node-reads_back, lsp-reads_back}
 use Rattle.isis_datagram.proofs.laws.number_laws.Goals as goal
 
 pub returns-clause-system : goal.returns-clause-system
@@ -9,7 +9,7 @@ pub returns-clause-snpa : goal.returns-clause-snpa
 returns-clause-snpa c = u48-again
 
 pub returns-clause-node : goal.returns-clause-node
-returns-clause-node c = node-again
+returns-clause-node c = node-reads_back
 
 pub returns-clause-lsp : goal.returns-clause-lsp
-returns-clause-lsp c = lsp-again
+returns-clause-lsp c = lsp-reads_back

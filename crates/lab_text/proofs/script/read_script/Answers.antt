@@ -2,7 +2,7 @@ use Rattle.std.proofs.Common.{◌≡◌, ◌∙◌, ◌+◌, ◌∷◌, length, 
 use Rattle.lab_text.specs.Cuts.{parts_behind}
 use Rattle.lab_text.specs.KeysScripts.{hear_lines}
 use Rattle.lab_text.specs.KeysJudged.{KeysScript}
-use Rattle.lab_text.proofs.CutLemmas.{size_left, size-behind}
+use Rattle.lab_text.proofs.CutLemmas.{size_left, size_left-of_behind}
 use Rattle.lab_text.proofs.ReadLemmas.{hear_lines-next, hear_lines-end, hear_lines-ok, hear_lines-err, Answers-from_line}
 use Rattle.lab_text.proofs.script.read_script.Goals as goal
 
@@ -14,7 +14,7 @@ loop-left-preserved c =
     let parts : parts_behind 10 c.loop-left.left ≡ line ∷ parts_behind 10 behind = ap (parts_behind 10) c.in-Some.is ∙ c.cut-in-Some.ensures.parts in
     let size : size_left c.loop-left.left ≡ suc (length c.in-Some.rest.now) = ap size_left c.in-Some.is in
     record {
-      counted = omega (arith, c.loop-left.invariant.counted, size, size-behind behind (length c.in-Some.rest.now) c.cut-in-Some.ensures.less);
+      counted = omega (arith, c.loop-left.invariant.counted, size, size_left-of_behind behind (length c.in-Some.rest.now) c.cut-in-Some.ensures.less);
       read =
           sym (hear_lines-ok c.loop-left.script c.hear_text.new.self number line (λ (x : KeysScript). hear_lines x (number + 1) (parts_behind 10 behind)) c.in-Ok.ensures)
           ∙ sym (hear_lines-next c.loop-left.script number line (parts_behind 10 behind) (parts_behind 10 c.loop-left.left) parts)

@@ -1,7 +1,7 @@
 use Rattle.std.proofs.Common.{get_or, arith}
 use Rattle.std.proofs.lemmas.List.Elements.{Contains-get_or}
 use Rattle.spf_tree.specs.declared.row.Row.{Row}
-use Rattle.spf_repair.specs.Feed.{Covers}
+use Rattle.spf_repair.specs.Feed.{IsOfferedOn}
 use Rattle.spf_tree.proofs.SearchLemmas.{no_row}
 use Rattle.spf_tree.proofs.SearchLemmas.{upto_more}
 use Rattle.spf_repair.proofs.FeedLemmas.{given_fed, given_kept, given_covers, covers_kept}
@@ -23,6 +23,6 @@ loop-place-preserved g c =
     record {
       fed = given_fed c.args.rows.now root labels row old new (c.requires.there row (Contains-get_or added m no_row c.loop-place-test.true)) inv.fed c.in-Ok.ensures;
       kept = λ o h. kept o (inv.kept o h);
-      covers = upto_more added (λ (r : Row). Covers labels root new r) m no_row c.loop-place-test.true (λ k d h. covers_kept root labels (get_or added k d) old new kept (inv.covers k d h)) (given_covers root labels row old new c.in-Ok.ensures);
+      covers = upto_more added (λ (r : Row). IsOfferedOn labels root new r) m no_row c.loop-place-test.true (λ k d h. covers_kept root labels (get_or added k d) old new kept (inv.covers k d h)) (given_covers root labels row old new c.in-Ok.ensures);
       steps = omega arith;
     }

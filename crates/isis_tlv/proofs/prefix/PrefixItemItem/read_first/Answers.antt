@@ -1,6 +1,6 @@
 use Rattle.std.proofs.Common.{◌≡◌, ℕ, List, ◌+◌, ◌-◌, take, drop, ap, ◌∙◌, arith}
 use Rattle.isis_base.specs.Fields.{u32_at}
-use Rattle.isis_tlv.specs.Items.{cleared, octets_for, subs_at}
+use Rattle.isis_tlv.specs.Items.{clear_past, octets_for, subs_at}
 use Rattle.isis_tlv.proofs.PrefixLemmas.{prefix_at-long, prefix_at-short, prefix_at-item}
 use Rattle.isis_tlv.proofs.prefix.PrefixItemItem.read_first.Goals as goal
 
@@ -9,8 +9,8 @@ counted : (octets : List ℕ) (control bits count subs : ℕ) → count ≡ octe
 counted octets control bits count subs e k = ap (λ (n : ℕ). 5 + count + n) k ∙ ap (λ (n : ℕ). 5 + n + subs_at control (5 + n) octets) e
 
 -- the octets that hold the address
-held : (octets : List ℕ) (bits count : ℕ) → count ≡ octets_for bits → cleared bits (u32_at 0 (take (5 + count - 5) (drop 5 octets))) ≡ cleared bits (u32_at 0 (take (octets_for bits) (drop 5 octets)))
-held octets bits count e = ap (λ (n : ℕ). cleared bits (u32_at 0 (take n (drop 5 octets)))) (let all : 5 + count - 5 ≡ count = omega arith in all ∙ e)
+held : (octets : List ℕ) (bits count : ℕ) → count ≡ octets_for bits → clear_past bits (u32_at 0 (take (5 + count - 5) (drop 5 octets))) ≡ clear_past bits (u32_at 0 (take (octets_for bits) (drop 5 octets)))
+held octets bits count e = ap (λ (n : ℕ). clear_past bits (u32_at 0 (take n (drop 5 octets)))) (let all : 5 + count - 5 ≡ count = omega arith in all ∙ e)
 
 pub returns-then-bits-gt32-clause-first : goal.returns-then-bits-gt32-clause-first
 returns-then-bits-gt32-clause-first c =
