@@ -64,7 +64,7 @@ pub fn held_after(
 }
 
 /// The neighbour that a hello makes, with its holding time.
-fn neighbour_in(hello: &HelloFields<'_>, levels: LevelSet, id: u32) -> Neighbour
+pub fn neighbour_in(hello: &HelloFields<'_>, levels: LevelSet, id: u32) -> Neighbour
     ensures { neighbour_of result ≡ model.neighbour_of (hello_of hello.now) (runs_of levels) id }
 {
     Neighbour {

@@ -14,16 +14,20 @@
 //! - `point.rt`: a point-to-point adjacency
 #![tactic(auto)]
 
+mod by_snpa;
 mod common;
 mod handshake;
 mod held;
 mod hello;
 mod keeping;
+mod lan;
+mod lan_lists;
 mod neighbour;
 mod point;
 mod tests_of_hello;
 
 pub use handshake::three_way;
+pub use lan::LanAdj;
 pub use hello::{AdjChange, HelloDrop, HelloFields, Own};
 pub use neighbour::Neighbour;
 pub use point::P2pAdj;
