@@ -1,5 +1,8 @@
 //! The greatest candidate, and the pseudonode of a circuit.
-ghost use Rattle.std.specs.Prelude.{◌≡◌, ◌↔◌, if◌then◌else◌, [], IsNone, IfSome};
+ghost use Rattle.std.specs.Prelude.{◌≡◌, ◌↔◌, ℕ, ◌+◌, ◌*◌, if◌then◌else◌, [], IsNone, IfSome};
+ghost use Rattle.isis_model.specs.Configs.{Config};
+ghost use Rattle.isis_model.specs.Routers.{Circuit};
+ghost use Rattle.isis_model.specs.Elections as model;
 ghost use Rattle.designated_is.specs.Numbers.{system_number};
 ghost use Rattle.designated_is.specs.Greatest.{beats, best_of, IsElected};
 
@@ -18,7 +21,9 @@ pub fn elect(candidates: &[Candidate]) -> Option<SystemId>
 
 /// The number of a circuit's pseudonode: the circuit's number.
 pub fn pseudonode(circuit: u8) -> u8
-    ensures { result ≡ circuit }
+    ensures circuit { result ≡ circuit }
+    ensures lan { (config : Config) (place : ℕ) (c : Circuit) → place + 1 ≡ circuit
+        → (model.oneself config place c).lan ≡ 256 * config.system + result }
 {
     circuit
 }

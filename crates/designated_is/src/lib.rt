@@ -6,13 +6,16 @@
 //!
 //! - `candidate.rt`: who may be elected
 //! - `election.rt`: the greatest candidate; the pseudonode
+//! - `laws.rt`: who is elected is whom the router's model elects
 #![tactic(auto)]
 
 mod candidate;
 mod election;
+mod laws;
 
 pub use candidate::Candidate;
 pub use election::{elect, pseudonode};
+pub use laws::election_laws;
 
 #[cfg(test)]
 mod tests;
