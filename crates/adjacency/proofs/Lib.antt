@@ -4,3 +4,4 @@ mod SearchLemmas
 mod TagLemmas
 mod PressLemmas
 mod LanLemmas
+mod ElectLemmas

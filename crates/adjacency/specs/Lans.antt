@@ -7,6 +7,8 @@ use Rattle.isis_model.specs.Both.{Both}
 use Rattle.isis_model.specs.Adjacencies.{Neighbour, Hello, neighbour_of}
 use Rattle.isis_model.specs.Routers.{LanNeighbour}
 use Rattle.isis_model.specs.Seconds.{is_over, some_over}
+use Rattle.designated_is.specs.declared.candidate.Candidate.{Candidate}
+use Rattle.adjacency.specs.declared.neighbour.Neighbour as code
 use Rattle.adjacency.specs.declared.hello.AdjChange.{AdjChange}
 use Rattle.adjacency.specs.declared.hello.AdjChange.TheVariants as change
 
@@ -53,3 +55,7 @@ some_up_over (pair ∷ heard) = (pair.1.up && is_over pair.1.neighbour) || some_
 abbrev pub lan_less_change : List (ℕ × LanNeighbour) → AdjChange
 lan_less_change heard =
     if some_up_over heard then change.LeftUp else (if some_over heard then change.Moved else change.None)
+
+-- a neighbour as a candidate for the designated system (ISO 10589 8.4.5)
+abbrev pub candidate_from : code.Neighbour → Candidate
+candidate_from n = record { priority = n.priority; snpa = n.snpa; system = n.system }

@@ -22,6 +22,7 @@ mod hello;
 mod keeping;
 mod lan;
 mod lan_lists;
+mod laws;
 mod neighbour;
 mod point;
 mod tests_of_hello;
@@ -29,6 +30,7 @@ mod tests_of_hello;
 pub use handshake::three_way;
 pub use lan::LanAdj;
 pub use hello::{AdjChange, HelloDrop, HelloFields, Own};
+pub use laws::{designated_laws, lan_laws, point_laws};
 pub use neighbour::Neighbour;
 pub use point::P2pAdj;
 
