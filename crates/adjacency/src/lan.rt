@@ -26,7 +26,7 @@ const MOST: usize = 200;
 
 /// The adjacencies of a LAN circuit and level (ISO 10589 8.4.2): the neighbours that are heard, by SNPA, each in state Up or
 /// Initializing. Contracts see it as the router's model has it.
-#[derive(Drop)]
+#[derive(Drop, Debug)]
 pub struct LanAdj {
     heard: Vec<Neighbour>,
     up: Vec<Neighbour>,
