@@ -1,11 +1,9 @@
 -- Who is designated among LAN neighbours.
-use Rattle.std.proofs.Common.{◌≡◌, ◌≢◌, ℕ, zero, suc, ◌+◌, ◌<◌, ◌≤◌, ◌⊎◌, inl, inr, true, false, Bool, ◌&&◌, ◌||◌, nat_lt, List, [], ◌∷◌, length, map, Option, Some, None, if◌then◌else◌, refl, sym, ap, ◌∙◌, subst, arith}
+use Rattle.std.proofs.Common.{◌≡◌, ◌≢◌, ℕ, zero, suc, ◌+◌, ◌<◌, ◌≤◌, ◌⊎◌, inl, inr, true, false, Bool, ◌&&◌, nat_lt, List, [], ◌∷◌, length, map, Some, None, if◌then◌else◌, refl, sym, ap, ◌∙◌, subst, arith}
 use Rattle.std.specs.Prelude.{Contains}
-use Rattle.std.specs.Option.{option_map}
 use Rattle.std.specs.List.{AllByRecursion}
 use Rattle.std.proofs.lemmas.List.{length-map}
 use Rattle.std.proofs.lemmas.Bool.Decides.{nat_tests}
-use Rattle.isis_base.specs.declared.identifiers.SystemId.{SystemId}
 use Rattle.isis_base.specs.declared.level.Level.{Level}
 use Rattle.isis_model.specs.Adjacencies as model
 use Rattle.isis_model.specs.Both.{at}
@@ -13,15 +11,13 @@ use Rattle.isis_model.specs.Configs.{Config}
 use Rattle.isis_model.specs.Sorted.{RisesFrom}
 use Rattle.isis_model.specs.Routers.{LanNeighbour, Circuit, some_up}
 use Rattle.isis_model.specs.Elections as elections
-use Rattle.designated_is.specs.declared.candidate.Candidate.{Candidate}
-use Rattle.designated_is.specs.Numbers.{system_number, candidate_of}
-use Rattle.designated_is.specs.Greatest.{IsElected, plain, up_candidates}
+use Rattle.designated_is.specs.Numbers.{candidate_of}
+use Rattle.designated_is.specs.Greatest.{plain, up_candidates}
 use Rattle.adjacency.specs.declared.neighbour.Neighbour.{Neighbour}
 use Rattle.adjacency.specs.Views.{neighbour_of}
 use Rattle.adjacency.specs.Lans.{AreHeard, ups, candidate_from, some_up_over, lan_less_change}
 use Rattle.adjacency.specs.declared.hello.AdjChange.TheVariants as change
 use Rattle.isis_model.specs.Seconds.{some_over}
-use Rattle.adjacency.proofs.MapLemmas.{choose}
 
 -- ---- candidates
 
@@ -70,7 +66,7 @@ elect-on : (best : elections.Candidate) (heard : List (ℕ × LanNeighbour)) →
 unfolding IsOn
 elect-on best [] = inl refl
 elect-on best (p ∷ heard) = elim (elect-on (elections.better best p.1) heard) [
-  inl e ↦ first (p.1.up && elections.beats (elections.candidate p.1.neighbour) best) refl e
+  | inl e ↦ first (p.1.up && elections.beats (elections.candidate p.1.neighbour) best) refl e
   | inr on ↦ inr (on-longer _ p heard on)
 ] where
   first : (t : Bool) → (p.1.up && elections.beats (elections.candidate p.1.neighbour) best) ≡ t → elections.elect (elections.better best p.1) heard ≡ (if t then elections.candidate p.1.neighbour else best) → (elections.elect best (p ∷ heard) ≡ best) ⊎ IsOn (elections.elect best (p ∷ heard)) (p ∷ heard)
@@ -102,6 +98,7 @@ ups-on [] n (i, lt, e) = absurd (omega (arith, lt))
 ups-on (p ∷ heard) n on = by p.1.up on (ups-on heard n) where
   longer : IsKept heard n → IsKept (p ∷ heard) n
   longer (pair, (i, lt, same), e) = (pair, (suc i, omega (arith, lt), same), e)
+
   by : (t : Bool) → Contains (if t then p.1.neighbour ∷ ups heard else ups heard) n → (Contains (ups heard) n → IsKept heard n) → IsKept (p ∷ heard) n
   by true (zero, lt, e) rest = (p, (0, omega arith, refl), e)
   by true (suc i, lt, e) rest = longer (rest (i, omega (arith, lt), e))
@@ -110,20 +107,20 @@ ups-on (p ∷ heard) n on = by p.1.up on (ups-on heard n) where
 pub elect-neighbour : (best : elections.Candidate) (heard : List (ℕ × LanNeighbour)) (n : model.Neighbour) → AreHeard heard → Contains (ups heard) n → n.system ≡ (elections.elect best heard).system → n.system ≢ best.system → elections.elect best heard ≡ elections.candidate n
 unfolding IsOn
 elect-neighbour best heard n are on same other = elim (elect-on best heard) [
-  inl e ↦ absurd (other (same ∙ ap (λ (c : elections.Candidate). c.system) e))
+  | inl e ↦ absurd (other (same ∙ ap (λ (c : elections.Candidate). c.system) e))
   | inr found ↦
-    let mine = ups-on heard n on in
-    let of_found = all-at (λ pair. pair.1.neighbour.system ≡ pair.0) heard found.0 are.systems found.1 in
-    let of_mine = all-at (λ pair. pair.1.neighbour.system ≡ pair.0) heard mine.0 are.systems mine.1 in
-    let keys : found.0.0 ≡ mine.0.0 = sym of_found ∙ sym (ap (λ (c : elections.Candidate). c.system) found.2) ∙ sym same ∙ sym (ap (λ (m : model.Neighbour). m.system) mine.2) ∙ of_mine in
-    let one = one-on heard 0 found.0 mine.0 are.rises found.1 mine.1 keys in
-    found.2 ∙ ap (λ (p : ℕ × LanNeighbour). elections.candidate p.1.neighbour) one ∙ ap elections.candidate mine.2
+      let mine = ups-on heard n on in
+      let of_found = all-at (λ pair. pair.1.neighbour.system ≡ pair.0) heard found.0 are.systems found.1 in
+      let of_mine = all-at (λ pair. pair.1.neighbour.system ≡ pair.0) heard mine.0 are.systems mine.1 in
+      let keys : found.0.0 ≡ mine.0.0 = sym of_found ∙ sym (ap (λ (c : elections.Candidate). c.system) found.2) ∙ sym same ∙ sym (ap (λ (m : model.Neighbour). m.system) mine.2) ∙ of_mine in
+      let one = one-on heard 0 found.0 mine.0 are.rises found.1 mine.1 keys in
+      found.2 ∙ ap (λ (p : ℕ × LanNeighbour). elections.candidate p.1.neighbour) one ∙ ap elections.candidate mine.2
 ]
 
 pub elect-oneself : (best : elections.Candidate) (heard : List (ℕ × LanNeighbour)) → AllByRecursion (λ pair. pair.1.neighbour.system ≢ best.system) heard → (elections.elect best heard).system ≡ best.system → elections.elect best heard ≡ best
 unfolding IsOn
 elect-oneself best heard others same = elim (elect-on best heard) [
-  inl e ↦ e
+  | inl e ↦ e
   | inr found ↦ absurd (all-at (λ pair. pair.1.neighbour.system ≢ best.system) heard found.0 others found.1 (sym (ap (λ (c : elections.Candidate). c.system) found.2) ∙ same))
 ]
 

@@ -1,5 +1,5 @@
 -- The two lists of a LAN after a neighbour is kept, and after a second.
-use Rattle.std.proofs.Common.{◌≡◌, ℕ, zero, suc, ◌+◌, ◌-◌, ◌<◌, ◌≤◌, ◌⊎◌, inl, inr, true, false, Bool, not, ◌&&◌, ◌||◌, nat_le, eqb, nat_lt, List, [], ◌∷◌, length, map, Option, Some, None, IsSome, is_some, is_none, if◌then◌else◌, refl, sym, ap, ◌∙◌, subst, arith}
+use Rattle.std.proofs.Common.{◌≡◌, ℕ, suc, ◌+◌, ◌<◌, ◌≤◌, ◌⊎◌, inl, inr, true, false, Bool, not, ◌&&◌, ◌||◌, nat_le, eqb, nat_lt, List, [], ◌∷◌, length, map, Option, Some, None, IsSome, is_some, is_none, if◌then◌else◌, refl, sym, ap, ◌∙◌, subst, arith}
 use Rattle.std.specs.Result.{is_ok, is_err}
 use Rattle.std.proofs.Common.{Result, Ok, Err, MatchResult}
 use Rattle.std.specs.List.{AllByRecursion}
@@ -7,13 +7,12 @@ use Rattle.std.proofs.lemmas.Bool.Decides.{nat_tests}
 use Rattle.isis_model.specs.Maps.{find, put, erase}
 use Rattle.isis_model.specs.Sorted.{RisesFrom}
 use Rattle.isis_model.specs.Adjacencies as model
-use Rattle.isis_model.specs.Routers.{LanNeighbour}
 use Rattle.isis_model.specs.Seconds as seconds
 use Rattle.designated_is.specs.Numbers.{system_number}
 use Rattle.adjacency.specs.declared.neighbour.Neighbour.{Neighbour}
 use Rattle.adjacency.specs.Views.{neighbour_of}
 use Rattle.adjacency.specs.Lans.{AreHeard, neighbours, ups, was_up, some_up_over}
-use Rattle.adjacency.specs.Inside.{keyed, by_snpa, snpa_of, tagged, untagged, chosen, shown, tags_of, lan_of, IsLan, IsPlace, IsGap, all_less, some_ended, is_ended, less_by_one}
+use Rattle.adjacency.specs.Inside.{by_snpa, snpa_of, tagged, untagged, chosen, shown, tags_of, lan_of, IsLan, IsPlace, IsGap, all_less, some_ended, is_ended, less_by_one}
 use Rattle.adjacency.proofs.MapLemmas.{choose, rises-less, length-keyed, length-put, put-rises, find-place, find-gap}
 use Rattle.adjacency.proofs.TagLemmas.{has_tag, untagged-tagged, length-untagged, chosen-few, untagged-rises, chosen-rises, untagged-put, chosen-put, chosen-erase, find-chosen, find-untagged, tagged-again}
 

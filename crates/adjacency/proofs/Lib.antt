@@ -5,3 +5,4 @@ mod TagLemmas
 mod PressLemmas
 mod LanLemmas
 mod ElectLemmas
+mod NodeLemmas

@@ -1,11 +1,11 @@
 -- What is found, put and erased at a place of a list in order.
-use Rattle.std.proofs.Common.{◌≡◌, ℕ, zero, suc, ◌+◌, ◌<◌, ◌≤◌, true, false, Bool, eqb, nat_lt, List, [], ◌∷◌, ◌++◌, length, take, drop, get_or, set, Option, Some, None, is_some, if◌then◌else◌, refl, sym, ap, ◌∙◌, subst, arith}
+use Rattle.std.proofs.Common.{◌≡◌, ℕ, zero, suc, ◌+◌, ◌<◌, ◌≤◌, true, false, Bool, eqb, nat_lt, List, [], ◌∷◌, length, get_or, set, Some, None, is_some, if◌then◌else◌, refl, ap, subst, arith}
 use Rattle.std.specs.List.{insert, remove}
 use Rattle.std.proofs.lemmas.List.Edits.{length-insert}
 use Rattle.std.proofs.lemmas.Bool.Decides.{nat_tests}
 use Rattle.isis_model.specs.Maps.{find, put, erase}
 use Rattle.isis_model.specs.Sorted.{RisesFrom}
-use Rattle.adjacency.specs.Inside.{keyed, AllBelow, AllAbove, IsPlace, IsGap}
+use Rattle.adjacency.specs.Inside.{keyed, AllAbove, IsPlace, IsGap}
 
 -- by a test's two answers
 pub choose : (P : Bool → Type 0) (t : Bool) → P true → P false → P t

@@ -1,5 +1,6 @@
--- How the neighbours that are heard on a LAN lie in two lists, all of them and those in state Up (own).
-use Rattle.std.specs.Prelude.{◌≡◌, ℕ, ◌+◌, ◌-◌, ◌<◌, ◌≤◌, nat_le, suc, Bool, true, ◌||◌, false, List, [], ◌∷◌, length, take, drop, slice_index_or, is_some, if◌then◌else◌}
+-- How the neighbours that are heard on a LAN lie in two lists, all of them and those in state Up
+-- (own).
+use Rattle.std.specs.Prelude.{◌≡◌, ℕ, ◌-◌, ◌<◌, ◌≤◌, nat_le, suc, Bool, ◌||◌, false, List, [], ◌∷◌, length, take, drop, slice_index_or, Result, MatchResult, is_some, if◌then◌else◌}
 use Rattle.std.specs.List.{AllByRecursion}
 use Rattle.isis_model.specs.Maps.{find}
 use Rattle.isis_model.specs.Sorted.{RisesFrom}
@@ -41,6 +42,10 @@ pub record IsGap {X : Type 0} (key : X → ℕ) (xs : List X) (n place : ℕ) : 
   pub low : AllBelow key n (take place xs)
   pub high : AllAbove key n (drop place xs)
 
+-- a place of the neighbour of an SNPA, where it is one of the list, and else where it would go
+abbrev pub IsAt : List Neighbour → ℕ → Result ℕ ℕ → Type 0
+IsAt ns snpa place = MatchResult place (IsPlace snpa_of ns snpa) (IsGap snpa_of ns snpa)
+
 -- ---- a second
 
 abbrev pub is_ended : Neighbour → Bool
@@ -76,7 +81,8 @@ chosen (pair ∷ rest) = if pair.1.0 then (pair.0, pair.1.1) ∷ chosen rest els
 
 abbrev pub shown : List (ℕ × (Bool × Neighbour)) → List (ℕ × LanNeighbour)
 shown [] = []
-shown (pair ∷ rest) = (pair.0, record { up = pair.1.0; neighbour = neighbour_of pair.1.1 }) ∷ shown rest
+shown (pair ∷ rest) =
+    (pair.0, record { up = pair.1.0; neighbour = neighbour_of pair.1.1 }) ∷ shown rest
 
 abbrev pub tags_of : List Neighbour → List Neighbour → List (ℕ × (Bool × Neighbour))
 tags_of heard up = tagged (by_snpa up) (by_snpa heard)
@@ -85,7 +91,8 @@ tags_of heard up = tagged (by_snpa up) (by_snpa heard)
 abbrev pub lan_of : List Neighbour → List Neighbour → List (ℕ × LanNeighbour)
 lan_of heard up = shown (tags_of heard up)
 
--- at most 200 are heard, by SNPA and each once; those in the other list are some of them; each has the room for 200
+-- at most 200 are heard, by SNPA and each once; those in the other list are some of them; each has
+-- the room for 200
 pub record IsLan (heard up : List Neighbour) (space up_space : ℕ) : Type 0 where
   pub rises : RisesFrom 0 (tags_of heard up)
   pub systems : AllByRecursion (λ n. system_number n.system ≡ snpa_of n) heard

@@ -1,4 +1,5 @@
--- The neighbours that are heard on a LAN, as the model of the router has them, and what becomes of them (ISO 10589 8.4.2).
+-- The neighbours that are heard on a LAN, as the model of the router has them, and what becomes of
+-- them (ISO 10589 8.4.2).
 use Rattle.std.specs.Prelude.{◌≡◌, ℕ, ◌≤◌, length, Bool, false, ◌&&◌, ◌||◌, not, List, [], ◌∷◌, Option, Some, None, is_none, if◌then◌else◌}
 use Rattle.std.specs.List.{AllByRecursion}
 use Rattle.isis_model.specs.Maps.{put}
@@ -12,8 +13,8 @@ use Rattle.adjacency.specs.declared.neighbour.Neighbour as code
 use Rattle.adjacency.specs.declared.hello.AdjChange.{AdjChange}
 use Rattle.adjacency.specs.declared.hello.AdjChange.TheVariants as change
 
--- What is always so of those heard (the bound: own): they are by SNPA, each once, and at most 200; a neighbour's SNPA is its
--- system ID.
+-- What is always so of those heard (the bound: own): they are by SNPA, each once, and at most 200;
+-- a neighbour's SNPA is its system ID.
 pub record AreHeard (heard : List (ℕ × LanNeighbour)) : Type 0 where
   pub rises : RisesFrom 0 heard
   pub few : length heard ≤ 200
@@ -30,16 +31,18 @@ abbrev pub ups : List (ℕ × LanNeighbour) → List Neighbour
 ups [] = []
 ups (pair ∷ heard) = if pair.1.up then pair.1.neighbour ∷ ups heard else ups heard
 
--- those heard after a hello with these levels in common: its sender is kept, Up where the hello lists one's own SNPA
+-- those heard after a hello with these levels in common: its sender is kept, Up where the hello
+-- lists one's own SNPA
 abbrev pub hear_lan : List (ℕ × LanNeighbour) → Both Bool → Hello → List (ℕ × LanNeighbour)
-hear_lan heard common h = put heard h.snpa (record { up = h.names_me; neighbour = neighbour_of h common 0 })
+hear_lan heard common h =
+    put heard h.snpa (record { up = h.names_me; neighbour = neighbour_of h common 0 })
 
 abbrev pub was_up : Option LanNeighbour → Bool
 was_up None = false
 was_up (Some n) = n.up
 
--- What became of a LAN neighbour, from what was kept of it before a hello and whether it is Up: its state became Up, or
--- ceased to be Up, or it is new (own).
+-- What became of a LAN neighbour, from what was kept of it before a hello and whether it is Up: its
+-- state became Up, or ceased to be Up, or it is new (own).
 abbrev pub lan_change_of : Option LanNeighbour → Bool → AdjChange
 lan_change_of before up =
     if up && not (was_up before) then change.WentUp
@@ -54,7 +57,8 @@ some_up_over (pair ∷ heard) = (pair.1.up && is_over pair.1.neighbour) || some_
 -- what becomes of those heard in a second: one that was Up goes, or one that wasn't (own)
 abbrev pub lan_less_change : List (ℕ × LanNeighbour) → AdjChange
 lan_less_change heard =
-    if some_up_over heard then change.LeftUp else (if some_over heard then change.Moved else change.None)
+    if some_up_over heard then change.LeftUp
+    else (if some_over heard then change.Moved else change.None)
 
 -- a neighbour as a candidate for the designated system (ISO 10589 8.4.5)
 abbrev pub candidate_from : code.Neighbour → Candidate

@@ -1,9 +1,9 @@
 //! Neighbours in a list by SNPA: where one is, and how one is put, taken out and aged.
-ghost use Rattle.std.specs.Prelude.{◌≡◌, ◌≤◌, ◌<◌, length, take, drop, is_some, MatchResult, vec_capacity};
-ghost use Rattle.isis_model.specs.Maps.{find, put, erase};
+ghost use Rattle.std.specs.Prelude.{◌≡◌, ◌≤◌, ◌<◌, length, take, vec_capacity};
+ghost use Rattle.isis_model.specs.Maps.{put, erase};
 ghost use Rattle.isis_model.specs.Sorted.{RisesFrom};
 ghost use Rattle.designated_is.specs.Numbers.{snpa_number};
-ghost use Rattle.adjacency.specs.Inside.{by_snpa, snpa_of, IsPlace, IsGap, all_less, some_ended, less_by_one};
+ghost use Rattle.adjacency.specs.Inside.{by_snpa, snpa_of, IsAt, all_less, some_ended, less_by_one};
 
 use crate::common::number;
 use crate::neighbour::Neighbour;
@@ -19,7 +19,7 @@ fn number_of(snpa: Snpa) -> u64
 /// Where the neighbour of an SNPA is, or where it would go.
 pub fn place_of(list: &[Neighbour], snpa: Snpa) -> Result<usize, usize>
     requires { RisesFrom 0 (by_snpa list.now) }
-    ensures { MatchResult result (IsPlace snpa_of list.now (snpa_number snpa)) (IsGap snpa_of list.now (snpa_number snpa)) }
+    ensures { IsAt list.now (snpa_number snpa) result }
 {
     let number = number_of(snpa);
     list.binary_search_by_key(&number, |neighbour| number_of(neighbour.snpa))
@@ -27,9 +27,11 @@ pub fn place_of(list: &[Neighbour], snpa: Snpa) -> Result<usize, usize>
 
 /// Puts a neighbour in at its place.
 pub fn put_at(list: &mut Vec<Neighbour>, place: Result<usize, usize>, neighbour: Neighbour)
-    requires place { MatchResult place (IsPlace snpa_of list.old.items (snpa_of neighbour)) (IsGap snpa_of list.old.items (snpa_of neighbour)) }
-    requires room { length (put (by_snpa list.old.items) (snpa_of neighbour) neighbour) ≤ vec_capacity list.old }
-    ensures items { by_snpa list.new.items ≡ put (by_snpa list.old.items) (snpa_of neighbour) neighbour }
+    requires place { IsAt list.old.items (snpa_of neighbour) place }
+    requires room { length (put (by_snpa list.old.items) (snpa_of neighbour) neighbour)
+        ≤ vec_capacity list.old }
+    ensures items { by_snpa list.new.items
+        ≡ put (by_snpa list.old.items) (snpa_of neighbour) neighbour }
     ensures room { vec_capacity list.new ≡ vec_capacity list.old }
 {
     match place {
@@ -40,7 +42,7 @@ pub fn put_at(list: &mut Vec<Neighbour>, place: Result<usize, usize>, neighbour:
 
 /// Takes the neighbour of an SNPA out, where there is one.
 pub fn take_out(list: &mut Vec<Neighbour>, place: Result<usize, usize>, snpa: Snpa)
-    requires { MatchResult place (IsPlace snpa_of list.old.items (snpa_number snpa)) (IsGap snpa_of list.old.items (snpa_number snpa)) }
+    requires { IsAt list.old.items (snpa_number snpa) place }
     ensures items { by_snpa list.new.items ≡ erase (by_snpa list.old.items) (snpa_number snpa) }
     ensures room { vec_capacity list.new ≡ vec_capacity list.old }
 {

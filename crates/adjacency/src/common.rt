@@ -8,11 +8,15 @@ ghost use Rattle.adjacency.specs.Views.{runs_of, common_runs, config_of, hello_o
 use crate::hello::{HelloFields, Own};
 use isis_base::{AreaAddress, Level, LevelSet, LspId, NodeId, SystemId};
 
-/// The levels that both run, level 1 only where an area address is shared; `None` where there is none.
+/// The levels that both run, level 1 only where an area address is shared; `None` where there is
+/// none.
 pub fn common_levels(own: &Own<'_>, hello: &HelloFields<'_>) -> Option<LevelSet>
     ensures { common_runs result ≡ model.common_of (config_of own.now) (hello_of hello.now) }
 {
-    match (shares_one(own, hello), both_run_two(own.levels, hello.levels)) {
+    match (
+        shares_one(own, hello),
+        both_run_two(own.levels, hello.levels),
+    ) {
         (true, true) => Some(LevelSet::Both),
         (true, false) => Some(LevelSet::One),
         (false, true) => Some(LevelSet::Two),

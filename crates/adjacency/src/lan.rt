@@ -24,8 +24,8 @@ use std::marker::Model;
 /// The most neighbours that are heard on a LAN and level (own).
 const MOST: usize = 200;
 
-/// The adjacencies of a LAN circuit and level (ISO 10589 8.4.2): the neighbours that are heard, by SNPA, each in state Up or
-/// Initializing. Contracts see it as the router's model has it.
+/// The adjacencies of a LAN circuit and level (ISO 10589 8.4.2): the neighbours that are heard, by
+/// SNPA, each in state Up or Initializing. Contracts see it as the router's model has it.
 #[derive(Drop, Debug)]
 pub struct LanAdj {
     heard: Vec<Neighbour>,
@@ -70,8 +70,9 @@ impl LanAdj {
         &self.heard
     }
 
-    /// Takes a hello of this level. The first test that fails refuses it, and all is as before. Else its sender is kept with
-    /// its holding time, in state Up where the hello lists one's own SNPA. It takes no memory.
+    /// Takes a hello of this level. The first test that fails refuses it, and all is as before.
+    /// Else its sender is kept with its holding time, in state Up where the hello lists one's own
+    /// SNPA. It takes no memory.
     pub fn hear_hello(
         &mut self,
         own: &Own<'_>,
@@ -93,10 +94,17 @@ impl LanAdj {
             Err(refused) => return Err(refused),
         };
         let neighbour = neighbour_in(hello, levels, 0);
-        Ok(keep(&mut self.heard, &mut self.up, place, neighbour, hello.names_me))
+        Ok(keep(
+            &mut self.heard,
+            &mut self.up,
+            place,
+            neighbour,
+            hello.names_me,
+        ))
     }
 
-    /// A second of each holding time: at 1 or 0 the neighbour goes, else it falls by one (ISO 10589 8.4.2).
+    /// A second of each holding time: at 1 or 0 the neighbour goes, else it falls by one (ISO 10589
+    /// 8.4.2).
     pub fn second(&mut self) -> AdjChange
         ensures less { self.new ≡ heard_less self.old }
         ensures change { result ≡ lan_less_change self.old }

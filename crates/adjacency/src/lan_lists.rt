@@ -1,10 +1,10 @@
 //! The two lists of a LAN, all neighbours and those in state Up, changed together.
-ghost use Rattle.std.specs.Prelude.{◌≡◌, ℕ, List, ◌<◌, ◌≤◌, true, ◌⊎◌, length, vec_capacity, MatchResult, Option, IsSome, is_none, if◌then◌else◌};
+ghost use Rattle.std.specs.Prelude.{◌≡◌, ℕ, List, ◌<◌, ◌≤◌, true, ◌⊎◌, length, vec_capacity, Option, IsSome, is_none, if◌then◌else◌};
 ghost use Rattle.isis_model.specs.Maps.{find, put, erase};
 ghost use Rattle.isis_model.specs.Routers.{LanNeighbour};
 ghost use Rattle.isis_model.specs.Seconds as seconds;
 ghost use Rattle.designated_is.specs.Numbers.{system_number};
-ghost use Rattle.adjacency.specs.Inside.{by_snpa, snpa_of, lan_of, IsLan, IsPlace, IsGap};
+ghost use Rattle.adjacency.specs.Inside.{by_snpa, snpa_of, lan_of, IsLan, IsAt};
 ghost use Rattle.adjacency.specs.Views.{neighbour_of};
 ghost use Rattle.adjacency.specs.Lans as lan;
 
@@ -20,13 +20,14 @@ pub fn keep(
     neighbour: Neighbour,
     is_up: bool,
 ) -> AdjChange
-    requires lan { IsLan heard.old.items up.old.items (vec_capacity heard.old) (vec_capacity up.old) }
-    requires place { MatchResult place (IsPlace snpa_of heard.old.items (snpa_of neighbour))
-        (IsGap snpa_of heard.old.items (snpa_of neighbour)) }
+    requires lan { IsLan heard.old.items up.old.items
+        (vec_capacity heard.old) (vec_capacity up.old) }
+    requires place { IsAt heard.old.items (snpa_of neighbour) place }
     requires room { (length heard.old.items < 200)
         ⊎ IsSome (find (by_snpa heard.old.items) (snpa_of neighbour)) }
     requires system { system_number neighbour.system ≡ snpa_of neighbour }
-    ensures lan { IsLan heard.new.items up.new.items (vec_capacity heard.new) (vec_capacity up.new) }
+    ensures lan { IsLan heard.new.items up.new.items
+        (vec_capacity heard.new) (vec_capacity up.new) }
     ensures kept { lan_of heard.new.items up.new.items ≡ put (lan_of heard.old.items up.old.items)
         (snpa_of neighbour) (record { up = is_up; neighbour = neighbour_of neighbour }) }
     ensures change { result ≡ lan.lan_change_of
@@ -45,9 +46,9 @@ fn put_or_take_out(
     neighbour: Neighbour,
     is_up: bool,
 )
-    requires place { MatchResult place (IsPlace snpa_of up.old.items (snpa_of neighbour))
-        (IsGap snpa_of up.old.items (snpa_of neighbour)) }
-    requires room { length (put (by_snpa up.old.items) (snpa_of neighbour) neighbour) ≤ vec_capacity up.old }
+    requires place { IsAt up.old.items (snpa_of neighbour) place }
+    requires room { length (put (by_snpa up.old.items) (snpa_of neighbour) neighbour)
+        ≤ vec_capacity up.old }
     ensures items { by_snpa up.new.items ≡ (if is_up
         then put (by_snpa up.old.items) (snpa_of neighbour) neighbour
         else erase (by_snpa up.old.items) (snpa_of neighbour)) }
@@ -79,9 +80,12 @@ fn change(is_new: bool, was_up: bool, is_up: bool) -> AdjChange
 
 /// A second of all holding times.
 pub fn age_both(heard: &mut Vec<Neighbour>, up: &mut Vec<Neighbour>) -> AdjChange
-    requires { IsLan heard.old.items up.old.items (vec_capacity heard.old) (vec_capacity up.old) }
-    ensures lan { IsLan heard.new.items up.new.items (vec_capacity heard.new) (vec_capacity up.new) }
-    ensures less { lan_of heard.new.items up.new.items ≡ seconds.heard_less (lan_of heard.old.items up.old.items) }
+    requires { IsLan heard.old.items up.old.items
+        (vec_capacity heard.old) (vec_capacity up.old) }
+    ensures lan { IsLan heard.new.items up.new.items
+        (vec_capacity heard.new) (vec_capacity up.new) }
+    ensures less { lan_of heard.new.items up.new.items
+        ≡ seconds.heard_less (lan_of heard.old.items up.old.items) }
     ensures change { result ≡ lan.lan_less_change (lan_of heard.old.items up.old.items) }
 {
     let some_over = age(heard);

@@ -1,8 +1,10 @@
-//! Laws: what becomes of adjacencies as the router's model has it in its circuits, and who is designated among LAN neighbours.
-ghost use Rattle.std.specs.Prelude.{◌≡◌, ◌≢◌, ◌↔◌, ℕ, ◌<◌, nat_lt, Bool, true, false, List, [], ◌∷◌, length, map, Option, Some, None, Contains};
+//! Laws: what becomes of adjacencies as the router's model has it in its circuits, and who is
+//! designated among LAN neighbours.
+ghost use Rattle.std.specs.Prelude.{◌≡◌, ◌≢◌, ◌↔◌, ℕ, ◌+◌, ◌*◌, ◌<◌, nat_lt, Bool, true, false, List, [], ◌∷◌, length, map, Option, Some, None, Contains};
 ghost use Rattle.std.specs.Option.{option_map};
 ghost use Rattle.std.specs.List.{AllByRecursion};
 ghost use Rattle.isis_base.specs.declared.identifiers.SystemId.{SystemId};
+ghost use Rattle.isis_base.specs.declared.identifiers.NodeId.{NodeId};
 ghost use Rattle.isis_base.specs.declared.level.Level.{Level};
 ghost use Rattle.isis_model.specs.Adjacencies as model;
 ghost use Rattle.isis_model.specs.Both.{Both, at};
@@ -17,7 +19,7 @@ ghost use Rattle.designated_is.specs.Greatest.{IsElected, plain};
 ghost use Rattle.adjacency.specs.declared.neighbour.Neighbour.{Neighbour};
 ghost use Rattle.adjacency.specs.declared.held.Held.{Held};
 ghost use Rattle.adjacency.specs.declared.hello.AdjChange.TheVariants as change;
-ghost use Rattle.adjacency.specs.Views.{neighbour_of, point_of};
+ghost use Rattle.adjacency.specs.Views.{neighbour_of, node_number, point_of};
 ghost use Rattle.adjacency.specs.Changes.{change_of};
 ghost use Rattle.adjacency.specs.Lans.{AreHeard, ups, hear_lan, lan_change_of, lan_less_change, candidate_from};
 
@@ -33,8 +35,9 @@ pub fn point_laws()
         ↔ (point_over (point_of old).neighbour ≡ false) }
 {}
 
-/// The neighbours of a LAN after a hello are those of the model's circuit. Something becomes of them exactly where the model
-/// has a hello due, and some are Up exactly where the model has the circuit open.
+/// The neighbours of a LAN after a hello are those of the model's circuit. Something becomes of
+/// them exactly where the model has a hello due, and some are Up exactly where the model has the
+/// circuit open.
 pub fn lan_laws()
     ensures heard { (c : Circuit) (level : Level) (common : Both Bool) (h : model.Hello)
         → (at (lan_circuit c level common h).levels level).heard
@@ -43,11 +46,15 @@ pub fn lan_laws()
         → (lan_change_of before up ≡ change.None) ↔ (seen_so before up ≡ true) }
     ensures second { (heard : List (ℕ × LanNeighbour))
         → (lan_less_change heard ≡ change.None) ↔ (some_over heard ≡ false) }
-    ensures opened { (heard : List (ℕ × LanNeighbour)) → some_up heard ≡ nat_lt 0 (length (ups heard)) }
+    ensures lan_id { (node : NodeId) → length node.system.0 ≡ 6 → node.pseudonode < 256
+        → node_number node ≡ 256 * system_number node.system + node.pseudonode }
+    ensures opened { (heard : List (ℕ × LanNeighbour))
+        → some_up heard ≡ nat_lt 0 (length (ups heard)) }
 {}
 
-/// Who is elected over oneself and the neighbours in state Up is whom the model has designated, which is nobody where none is
-/// Up. Its candidate, with the LAN ID, is that of the neighbour with its system, or else oneself.
+/// Who is elected over oneself and the neighbours in state Up is whom the model has designated,
+/// which is nobody where none is Up. Its candidate, with the LAN ID, is that of the neighbour with
+/// its system, or else oneself.
 pub fn designated_laws()
     ensures elected { (config : Config) (place : ℕ) (c : Circuit) (level : Level)
         (mine : Candidate) (up : List Neighbour) (system : SystemId)
@@ -58,7 +65,8 @@ pub fn designated_laws()
         ≡ Some (system_number system) }
     ensures nobody { (config : Config) (place : ℕ) (c : Circuit) (level : Level)
         → ups (at c.levels level).heard ≡ [] → elections.designated config place c level ≡ None }
-    ensures neighbour { (best : elections.Candidate) (heard : List (ℕ × LanNeighbour)) (n : model.Neighbour)
+    ensures neighbour { (best : elections.Candidate) (heard : List (ℕ × LanNeighbour))
+        (n : model.Neighbour)
         → AreHeard heard → Contains (ups heard) n
         → n.system ≡ (elections.elect best heard).system → n.system ≢ best.system
         → elections.elect best heard ≡ elections.candidate n }

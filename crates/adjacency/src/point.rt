@@ -16,8 +16,9 @@ use crate::tests_of_hello::test_point;
 use isis_tlv::Adj;
 use std::marker::Model;
 
-/// The adjacency of a point-to-point circuit (ISO 10589 8.2.4, RFC 5303 3.2): its state, and the neighbour that is kept
-/// outside Down. Contracts see it as these, and `point_of` says what the router's model has of them.
+/// The adjacency of a point-to-point circuit (ISO 10589 8.2.4, RFC 5303 3.2): its state, and the
+/// neighbour that is kept outside Down. Contracts see it as these, and `point_of` says what the
+/// router's model has of them.
 #[derive(Clone, Copy, Debug, PartialEq, Eq)]
 pub struct P2pAdj {
     held: Held,
@@ -50,7 +51,8 @@ impl P2pAdj {
 
     /// The neighbour that is kept. `None` exactly in Down.
     pub fn neighbour(&self) -> Option<&Neighbour>
-        ensures value { option_map (λ n. neighbour_of n.now) result ≡ (point_of self.now).neighbour }
+        ensures value { option_map (λ n. neighbour_of n.now) result
+            ≡ (point_of self.now).neighbour }
         ensures none { IsNone result ↔ ((point_of self.now).state ≡ adj.Down) }
     {
         match &self.held {
@@ -60,15 +62,17 @@ impl P2pAdj {
         }
     }
 
-    /// Takes a hello. The first test that fails refuses it, and the adjacency is as before. Else, where the system, the
-    /// extended circuit ID or the levels in common aren't those of the neighbour that is kept, the adjacency first goes
-    /// Down (own); then the table of the handshake says its state, and outside Down the hello's sender is kept.
+    /// Takes a hello. The first test that fails refuses it, and the adjacency is as before. Else,
+    /// where the system, the extended circuit ID or the levels in common aren't those of the
+    /// neighbour that is kept, the adjacency first goes Down (own); then the table of the handshake
+    /// says its state, and outside Down the hello's sender is kept.
     pub fn hear_hello(
         &mut self,
         own: &Own<'_>,
         hello: &HelloFields<'_>,
     ) -> Result<AdjChange, HelloDrop>
-        ensures tested { IsTested result (point_drop (config_of own.now) own.now.id (hello_of hello.now)) }
+        ensures tested { IsTested result
+            (point_drop (config_of own.now) own.now.id (hello_of hello.now)) }
         ensures unchanged { OnErr result (self.new ≡ self.old) }
         ensures heard { IfOk result (λ change. IfSome hello.now.three_way (λ shake.
             point_of self.new ≡ model.hear_point (point_of self.old)
@@ -91,7 +95,8 @@ impl P2pAdj {
         Ok(change(old, new, same))
     }
 
-    /// A second of the holding time: at 1 or 0 the adjacency ends, else it falls by one (ISO 10589 8.2.5).
+    /// A second of the holding time: at 1 or 0 the adjacency ends, else it falls by one (ISO 10589
+    /// 8.2.5).
     pub fn second(&mut self) -> AdjChange
         ensures held { point_of self.new ≡ point_less (point_of self.old) }
         ensures change { result ≡ change_of (point_of self.old) (point_of self.new) true }

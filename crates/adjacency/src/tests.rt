@@ -1,4 +1,5 @@
-//! Rows of point-to-point adjacencies and of LANs: each call once, each refusal for both kinds, and 200 neighbours.
+//! Rows of point-to-point adjacencies and of LANs: each call once, each refusal for both kinds, and
+//! 200 neighbours.
 use super::*;
 use isis_base::{AreaAddress, Level, LevelSet, NodeId, Snpa, SystemId};
 use isis_tlv::{Adj, ThreeWay};

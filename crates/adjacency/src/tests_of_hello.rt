@@ -15,9 +15,11 @@ use crate::hello::{HelloDrop, HelloFields, Own};
 use isis_base::{Level, LevelSet, SystemId};
 use isis_tlv::ThreeWay;
 
-/// The tests of a point-to-point hello: the levels in common and the three-way value where all pass.
+/// The tests of a point-to-point hello: the levels in common and the three-way value where all
+/// pass.
 pub fn test_point(own: &Own<'_>, hello: &HelloFields<'_>) -> Result<(LevelSet, ThreeWay), HelloDrop>
-    ensures tested { IsTested result (point_drop (config_of own.now) own.now.id (hello_of hello.now)) }
+    ensures tested { IsTested result
+        (point_drop (config_of own.now) own.now.id (hello_of hello.now)) }
     ensures levels { IfOk result (λ p.
         runs_of p.0 ≡ model.common_of (config_of own.now) (hello_of hello.now)) }
     ensures shake { IfOk result (λ p. hello.now.three_way ≡ Some p.1) }
@@ -38,8 +40,8 @@ pub fn test_point(own: &Own<'_>, hello: &HelloFields<'_>) -> Result<(LevelSet, T
     Ok((levels, shake))
 }
 
-/// The tests of a LAN hello, of which its own level alone is looked at: that level where all pass. `is_full` where its
-/// sender is new and 200 are heard.
+/// The tests of a LAN hello, of which its own level alone is looked at: that level where all pass.
+/// `is_full` where its sender is new and 200 are heard.
 pub fn test_lan(
     own: &Own<'_>,
     level: Level,
@@ -50,7 +52,8 @@ pub fn test_lan(
         → is_full ≡ (nat_le 200 (length heard) && is_none (find heard (snpa_number hello.now.snpa)))
         → IsTested result (lan_drop (config_of own.now) level heard (hello_of hello.now)) }
     ensures levels { IfOk result (λ levels.
-        runs_of levels ≡ both.alone level (model.common_of (config_of own.now) (hello_of hello.now))) }
+        runs_of levels
+        ≡ both.alone level (model.common_of (config_of own.now) (hello_of hello.now))) }
     ensures system { IfOk result (λ _.
         system_number hello.now.source ≡ snpa_number hello.now.snpa) }
     ensures room { IfOk result (λ _. is_full ≡ false) }
@@ -75,7 +78,8 @@ fn is_one(level: Level) -> bool
     }
 }
 
-/// The tests of hellos of both kinds: the levels in common where all pass. `both_one` where both run level 1.
+/// The tests of hellos of both kinds: the levels in common where all pass. `both_one` where both
+/// run level 1.
 fn test_hello(
     own: &Own<'_>,
     hello: &HelloFields<'_>,

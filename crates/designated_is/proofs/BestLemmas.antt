@@ -107,5 +107,5 @@ elect_among best (p ∷ heard) = grind (arith, nat_tests, elect_among (model.bet
 pub elected_model : (mine : Candidate) (others : List Candidate) (system : SystemId) (best : model.Candidate) (heard : List (ℕ × LanNeighbour)) → candidate_of mine ≡ plain best → map candidate_of others ≡ up_candidates heard → IsElected (mine ∷ others) system → (model.elect best heard).system ≡ system_number system
 elected_model mine others system best heard e f elected =
     ap (λ (c : model.Candidate). c.system)
-      (elect_among best heard ∙ sym (ap (λ (m : model.Candidate). among m (up_candidates heard)) e) ∙ sym (ap (λ (m : List model.Candidate). among (candidate_of mine) m) f) ∙ sym (best_among mine others))
+    (elect_among best heard ∙ sym (ap (λ (m : model.Candidate). among m (up_candidates heard)) e) ∙ sym (ap (λ (m : List model.Candidate). among (candidate_of mine) m) f) ∙ sym (best_among mine others))
     ∙ elected_one (mine ∷ others) (best_of mine others).system system (best_elected (mine ∷ others) mine (best_of mine others) others refl refl) elected

@@ -9,8 +9,8 @@ ghost use Rattle.designated_is.specs.Greatest.{beats, best_of, IsElected};
 use crate::candidate::Candidate;
 use isis_base::{LspId, NodeId, SystemId};
 
-/// The system of the greatest candidate: by priority, then SNPA (ISO 10589 8.4.5), then system ID. `None` exactly where
-/// there is no candidate.
+/// The system of the greatest candidate: by priority, then SNPA (ISO 10589 8.4.5), then system ID.
+/// `None` exactly where there is no candidate.
 pub fn elect(candidates: &[Candidate]) -> Option<SystemId>
     ensures none { IsNone result ↔ (candidates.now ≡ []) }
     ensures elected { IfSome result (λ system. IsElected candidates.now system) }

@@ -7,7 +7,8 @@ ghost use Rattle.designated_is.specs.declared.candidate.Candidate.{Candidate};
 ghost use Rattle.designated_is.specs.Numbers.{system_number, candidate_of};
 ghost use Rattle.designated_is.specs.Greatest.{IsElected, plain, up_candidates};
 
-/// One system alone is elected. Over oneself and the LAN neighbours in state Up it is whom the router's model elects.
+/// One system alone is elected. Over oneself and the LAN neighbours in state Up it is whom the
+/// router's model elects.
 pub fn election_laws()
     ensures one { (candidates : List Candidate) (a b : SystemId)
         → IsElected candidates a → IsElected candidates b → system_number a ≡ system_number b }

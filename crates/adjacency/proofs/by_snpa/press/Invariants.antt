@@ -1,4 +1,4 @@
-use Rattle.std.proofs.Common.{◌≡◌, ◌≤◌, ◌<◌, length, take, drop, ◌++◌}
+use Rattle.std.proofs.Common.{◌≡◌, ◌≤◌, length, take, drop, ◌++◌}
 use Rattle.adjacency.specs.Inside.{all_less}
 use Rattle.adjacency.proofs.by_snpa.press.Given as goal
 

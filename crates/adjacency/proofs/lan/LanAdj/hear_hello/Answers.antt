@@ -1,5 +1,4 @@
 use Rattle.std.proofs.Common.{◌∙◌, sym, ap}
-use Rattle.adjacency.specs.Inside.{snpa_of}
 use Rattle.adjacency.proofs.LanLemmas.{heard-rises, full-shown, has-room}
 use Rattle.adjacency.proofs.lan.LanAdj.hear_hello.Goals as goal
 
