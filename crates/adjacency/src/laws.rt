@@ -1,6 +1,6 @@
 //! Laws: what becomes of adjacencies as the router's model has it in its circuits, and who is
 //! designated among LAN neighbours.
-ghost use Rattle.std.specs.Prelude.{◌≡◌, ◌≢◌, ◌↔◌, ℕ, ◌+◌, ◌*◌, ◌<◌, nat_lt, Bool, true, false, List, [], ◌∷◌, length, map, Option, Some, None, Contains};
+ghost use Rattle.std.specs.Prelude.{◌≡◌, ◌≢◌, ◌↔◌, ℕ, ◌+◌, ◌*◌, ◌<◌, nat_lt, Bool, true, false, ◌&&◌, not, List, [], ◌∷◌, length, map, Option, Some, None, Contains};
 ghost use Rattle.std.specs.Option.{option_map};
 ghost use Rattle.std.specs.List.{AllByRecursion};
 ghost use Rattle.isis_base.specs.declared.identifiers.SystemId.{SystemId};
@@ -10,7 +10,7 @@ ghost use Rattle.isis_model.specs.Adjacencies as model;
 ghost use Rattle.isis_model.specs.Both.{Both, at};
 ghost use Rattle.isis_model.specs.Configs.{Config};
 ghost use Rattle.isis_model.specs.Routers.{LanNeighbour, Circuit, some_up};
-ghost use Rattle.isis_model.specs.Hellos.{is_moved, lan_circuit, seen_so};
+ghost use Rattle.isis_model.specs.Hellos.{comes_up, is_moved, lan_circuit, seen_so};
 ghost use Rattle.isis_model.specs.Seconds.{point_less, point_over, some_over};
 ghost use Rattle.isis_model.specs.Elections as elections;
 ghost use Rattle.designated_is.specs.declared.candidate.Candidate.{Candidate};
@@ -25,11 +25,21 @@ ghost use Rattle.adjacency.specs.Lans.{AreHeard, ups, hear_lan, lan_change_of, l
 
 use designated_is::election_laws;
 
-/// Something becomes of a point-to-point adjacency exactly where the model has a hello due.
+/// Something becomes of a point-to-point adjacency exactly where the model has a hello due. It goes
+/// up exactly where the model has it come up; one that was Up and is Up without that has kept its
+/// neighbour.
 pub fn point_laws()
     ensures hello { (old new : Held) (same : Bool)
         → (change_of (point_of old) (point_of new) same ≡ change.None)
         ↔ (is_moved (point_of old) (point_of new) same ≡ false) }
+    ensures went_up { (old new : model.PointAdj) (same : Bool)
+        → (change_of old new same ≡ change.WentUp) ↔ (comes_up old new same ≡ true) }
+    ensures left_up { (old new : model.PointAdj) (same : Bool)
+        → (change_of old new same ≡ change.LeftUp)
+        ↔ ((model.is_up old.state && not (model.is_up new.state)) ≡ true) }
+    ensures kept { (old new : model.PointAdj) (same : Bool)
+        → model.is_up old.state ≡ true → model.is_up new.state ≡ true
+        → change_of old new same ≢ change.WentUp → same ≡ true }
     ensures second { (old : Held)
         → (change_of (point_of old) (point_less (point_of old)) true ≡ change.None)
         ↔ (point_over (point_of old).neighbour ≡ false) }
