@@ -11,6 +11,7 @@ use Rattle.adjacency.specs.Views.{neighbour_of}
 
 -- ---- a list as a map
 
+-- a list's items by a key of each
 abbrev pub keyed : {X : Type 0} → (X → ℕ) → List X → List (ℕ × X)
 keyed key [] = []
 keyed key (x ∷ xs) = (key x, x) ∷ keyed key xs
@@ -18,9 +19,11 @@ keyed key (x ∷ xs) = (key x, x) ∷ keyed key xs
 abbrev pub snpa_of : Neighbour → ℕ
 snpa_of n = snpa_number n.snpa
 
+-- neighbours by SNPA
 abbrev pub by_snpa : List Neighbour → List (ℕ × Neighbour)
 by_snpa ns = keyed snpa_of ns
 
+-- each key is below n, and each is above it
 abbrev pub AllBelow : {X : Type 0} → (X → ℕ) → ℕ → List X → Type 0
 AllBelow key n [] = Unit {0}
 AllBelow key n (x ∷ xs) = (key x < n) × AllBelow key n xs
@@ -65,6 +68,7 @@ some_ended (n ∷ ns) = is_ended n || some_ended ns
 
 -- ---- both lists as one: each neighbour with whether it is Up
 
+-- those heard, each with whether it is on the other list too
 abbrev pub tagged : {V : Type 0} → List (ℕ × V) → List (ℕ × V) → List (ℕ × (Bool × V))
 tagged up [] = []
 tagged up (pair ∷ heard) = (pair.0, (is_some (find up pair.0), pair.1)) ∷ tagged up heard
@@ -79,6 +83,7 @@ abbrev pub chosen : {V : Type 0} → List (ℕ × (Bool × V)) → List (ℕ × 
 chosen [] = []
 chosen (pair ∷ rest) = if pair.1.0 then (pair.0, pair.1.1) ∷ chosen rest else chosen rest
 
+-- each as the model has it
 abbrev pub shown : List (ℕ × (Bool × Neighbour)) → List (ℕ × LanNeighbour)
 shown [] = []
 shown (pair ∷ rest) =

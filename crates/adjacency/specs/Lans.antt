@@ -21,22 +21,23 @@ pub record AreHeard (heard : List (ℕ × LanNeighbour)) : Type 0 where
   pub snpas : AllByRecursion (λ pair. pair.1.neighbour.snpa ≡ pair.0) heard
   pub systems : AllByRecursion (λ pair. pair.1.neighbour.system ≡ pair.0) heard
 
--- all neighbours, by SNPA
+-- all neighbours, by SNPA (own)
 abbrev pub neighbours : List (ℕ × LanNeighbour) → List Neighbour
 neighbours [] = []
 neighbours (pair ∷ heard) = pair.1.neighbour ∷ neighbours heard
 
--- the neighbours in state Up, by SNPA
+-- the neighbours in state Up, by SNPA (own)
 abbrev pub ups : List (ℕ × LanNeighbour) → List Neighbour
 ups [] = []
 ups (pair ∷ heard) = if pair.1.up then pair.1.neighbour ∷ ups heard else ups heard
 
 -- those heard after a hello with these levels in common: its sender is kept, Up where the hello
--- lists one's own SNPA
+-- lists one's own SNPA (ISO 10589 8.4.2.4)
 abbrev pub hear_lan : List (ℕ × LanNeighbour) → Both Bool → Hello → List (ℕ × LanNeighbour)
 hear_lan heard common h =
     put heard h.snpa (record { up = h.names_me; neighbour = neighbour_of h common 0 })
 
+-- whether a neighbour was heard and was Up (own)
 abbrev pub was_up : Option LanNeighbour → Bool
 was_up None = false
 was_up (Some n) = n.up
@@ -49,7 +50,7 @@ lan_change_of before up =
     else (if was_up before && not up then change.LeftUp
     else (if is_none before then change.Moved else change.None))
 
--- whether the time of a neighbour in state Up is over
+-- whether the time of a neighbour in state Up is over (ISO 10589 8.4.2)
 abbrev pub some_up_over : List (ℕ × LanNeighbour) → Bool
 some_up_over [] = false
 some_up_over (pair ∷ heard) = (pair.1.up && is_over pair.1.neighbour) || some_up_over heard

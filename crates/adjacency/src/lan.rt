@@ -57,7 +57,8 @@ impl LanAdj {
 
     /// The neighbours in state Up, by SNPA.
     pub fn up(&self) -> &[Neighbour]
-        ensures { map neighbour_of result.now ≡ ups self.now }
+        ensures up { map neighbour_of result.now ≡ ups self.now }
+        ensures heard { AreHeard self.now }
     {
         &self.up
     }

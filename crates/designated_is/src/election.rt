@@ -19,7 +19,8 @@ pub fn elect(candidates: &[Candidate]) -> Option<SystemId>
     Some(best(*first, others).system)
 }
 
-/// The number of a circuit's pseudonode: the circuit's number.
+/// The number of a circuit's pseudonode: the circuit's number (own). With it the router's model makes
+/// one's own LAN ID.
 pub fn pseudonode(circuit: u8) -> u8
     ensures circuit { result ≡ circuit }
     ensures lan { (config : Config) (place : ℕ) (c : Circuit) → place + 1 ≡ circuit
