@@ -1,1 +1,8 @@
--- What the check doesn't find alone.
+-- What the check doesn't find alone: maps, binary searches, and the two lists of a LAN.
+mod MapLemmas
+mod SearchLemmas
+mod TagLemmas
+mod PressLemmas
+mod LanLemmas
+mod ElectLemmas
+mod NodeLemmas

@@ -24,9 +24,9 @@ abbrev pub IsTested : {A : Type 0} → Result A HelloDrop → Option DropName �
 IsTested (Ok a) first = first ≡ None
 IsTested (Err refused) first = first ≡ Some (drop_name refused)
 
--- What became of a point-to-point adjacency; `same` where it still keeps the neighbour that it kept. It went up where it is
--- up and wasn't with this neighbour; it left Up where it was up and isn't; it moved where neither is so and its state
--- changed or it first went Down (own).
+-- What became of a point-to-point adjacency; `same` where it still keeps the neighbour that it
+-- kept. It went up where it is up and wasn't with this neighbour; it left Up where it was up and
+-- isn't; it moved where neither is so and its state changed or it first went Down (own).
 abbrev pub change_of : PointAdj → PointAdj → Bool → AdjChange
 change_of old new same =
     if comes_up old new same then change.WentUp
@@ -35,4 +35,5 @@ change_of old new same =
 
 -- the boot in the extended circuit ID of the neighbour, where the adjacency is up (own)
 abbrev pub boot_of : PointAdj → Option ℕ
-boot_of point = if is_up point.state then option_map (λ n. n.extended / 256) point.neighbour else None
+boot_of point =
+    if is_up point.state then option_map (λ n. n.extended / 256) point.neighbour else None

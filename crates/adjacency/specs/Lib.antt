@@ -1,3 +1,6 @@
--- The definitions: the crate's values as the model of the router has them, and what comes of a hello.
+-- The definitions: the crate's values as the model of the router has them, what comes of a hello,
+-- and how LAN neighbours lie in lists.
 pub mod Views
 pub mod Changes
+pub mod Lans
+pub mod Inside

@@ -6,15 +6,17 @@ ghost use Rattle.designated_is.specs.Numbers.{system_number};
 ghost use Rattle.adjacency.specs.Views.{runs_of, common_runs, config_of, hello_of};
 
 use crate::hello::{HelloFields, Own};
-use isis_base::{AreaAddress, LevelSet, LspId, NodeId, SystemId};
+use isis_base::{AreaAddress, Level, LevelSet, LspId, NodeId, SystemId};
 
-/// The levels that both run, level 1 only where an area address is shared; `None` where there is none.
+/// The levels that both run, level 1 only where an area address is shared; `None` where there is
+/// none.
 pub fn common_levels(own: &Own<'_>, hello: &HelloFields<'_>) -> Option<LevelSet>
     ensures { common_runs result ≡ model.common_of (config_of own.now) (hello_of hello.now) }
 {
-    let one = both_run_one(own.levels, hello.levels) && shares(own.areas, hello.areas);
-    let two = runs_two(own.levels) && runs_two(hello.levels);
-    match (one, two) {
+    match (
+        shares_one(own, hello),
+        both_run_two(own.levels, hello.levels),
+    ) {
         (true, true) => Some(LevelSet::Both),
         (true, false) => Some(LevelSet::One),
         (false, true) => Some(LevelSet::Two),
@@ -22,11 +24,37 @@ pub fn common_levels(own: &Own<'_>, hello: &HelloFields<'_>) -> Option<LevelSet>
     }
 }
 
+/// The level of a LAN hello, where it is in common (ISO 10589 8.4.2.1).
+pub fn common_level(own: &Own<'_>, level: Level, hello: &HelloFields<'_>) -> Option<LevelSet>
+    ensures { common_runs result
+        ≡ both.alone level (model.common_of (config_of own.now) (hello_of hello.now)) }
+{
+    let (common, set) = match level {
+        Level::One => (shares_one(own, hello), LevelSet::One),
+        Level::Two => (both_run_two(own.levels, hello.levels), LevelSet::Two),
+    };
+    if common { Some(set) } else { None }
+}
+
 /// Whether both run level 1.
 pub fn both_run_one(own: LevelSet, heard: LevelSet) -> bool
     ensures { result ≡ ((runs_of own).one && (runs_of heard).one) }
 {
     runs_one(own) && runs_one(heard)
+}
+
+/// Whether both run level 1 and an area address is shared.
+fn shares_one(own: &Own<'_>, hello: &HelloFields<'_>) -> bool
+    ensures { result ≡ (model.common_of (config_of own.now) (hello_of hello.now)).one }
+{
+    both_run_one(own.levels, hello.levels) && shares(own.areas, hello.areas)
+}
+
+/// Whether both run level 2.
+fn both_run_two(own: LevelSet, heard: LevelSet) -> bool
+    ensures { result ≡ ((runs_of own).two && (runs_of heard).two) }
+{
+    runs_two(own) && runs_two(heard)
 }
 
 fn runs_one(levels: LevelSet) -> bool
@@ -91,7 +119,8 @@ pub fn are_same_systems(a: SystemId, b: SystemId) -> bool
     number(a) == number(b)
 }
 
-fn number(system: SystemId) -> u64
+/// A system ID as a number.
+pub fn number(system: SystemId) -> u64
     ensures { result ≡ system_number system }
 {
     let node = NodeId {

@@ -4,7 +4,8 @@ ghost use Rattle.isis_model.specs.Adjacencies as model;
 
 use isis_tlv::Adj;
 
-/// The state after a hello, by one's own state and the state that the neighbour tells (RFC 5303 3.2).
+/// The state after a hello, by one's own state and the state that the neighbour tells (RFC 5303
+/// 3.2).
 pub fn three_way(state: Adj, heard: Adj) -> Adj
     ensures { result ≡ model.three_way state heard }
 {

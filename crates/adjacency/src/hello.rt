@@ -2,8 +2,8 @@
 use isis_base::{AreaAddress, LevelSet, NodeId, Snpa, SystemId};
 use isis_tlv::ThreeWay;
 
-/// One's own part: the system, the extended circuit ID of the circuit (RFC 5303 3.1), the levels that are run, and the
-/// area addresses.
+/// One's own part: the system, the extended circuit ID of the circuit (RFC 5303 3.1), the levels
+/// that are run, and the area addresses.
 #[derive(Clone, Copy)]
 pub struct Own<'a> {
     pub system: SystemId,
@@ -12,9 +12,10 @@ pub struct Own<'a> {
     pub areas: &'a [AreaAddress],
 }
 
-/// What a hello says (ISO 10589 9.5 to 9.7): its source and the SNPA that it came from, the levels of its circuit type, the
-/// holding time in seconds, the priority and the LAN ID of a LAN hello, the area addresses, the three-way value
-/// (RFC 5303 3.1), and whether it lists one's own SNPA among those that its sender hears.
+/// What a hello says (ISO 10589 9.5 to 9.7): its source and the SNPA that it came from, the levels
+/// of its circuit type, the holding time in seconds, the priority and the LAN ID of a LAN hello,
+/// the area addresses, the three-way value (RFC 5303 3.1), and whether it lists one's own SNPA
+/// among those that its sender hears.
 #[derive(Clone, Copy)]
 pub struct HelloFields<'a> {
     pub source: SystemId,
@@ -28,7 +29,8 @@ pub struct HelloFields<'a> {
     pub names_me: bool,
 }
 
-/// Why a hello is refused, in the order of the tests (ISO 10589 8.2.4.2, RFC 5303 3.2; the order: own).
+/// Why a hello is refused, in the order of the tests (ISO 10589 8.2.4.2, RFC 5303 3.2; the order:
+/// own).
 #[derive(Clone, Copy, Debug, PartialEq, Eq)]
 pub enum HelloDrop {
     /// The source is one's own system.

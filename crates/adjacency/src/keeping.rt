@@ -1,4 +1,5 @@
-//! The neighbour that is kept: whether a hello is from it, the state and neighbour after a hello, and what became of them.
+//! The neighbour that is kept: whether a hello is from it, the state and neighbour after a hello,
+//! and what became of them.
 ghost use Rattle.std.specs.Prelude.{◌≡◌, ◌<◌, ◌-◌, Bool, true, false};
 ghost use Rattle.isis_tlv.specs.declared.three_way.Adj.TheVariants as adj;
 ghost use Rattle.isis_model.specs.Adjacencies as model;
@@ -26,9 +27,11 @@ pub fn state_of(held: Held) -> Adj
     }
 }
 
-/// Whether a hello with this extended circuit ID and these levels in common is from the neighbour that is kept.
+/// Whether a hello with this extended circuit ID and these levels in common is from the neighbour
+/// that is kept.
 pub fn keeps(held: Held, hello: &HelloFields<'_>, levels: LevelSet, id: u32) -> bool
-    ensures { result ≡ model.is_same (point_of held).neighbour (runs_of levels) (hello_of hello.now) id }
+    ensures { result
+        ≡ model.is_same (point_of held).neighbour (runs_of levels) (hello_of hello.now) id }
 {
     match held {
         Held::Down => false,
@@ -38,14 +41,16 @@ pub fn keeps(held: Held, hello: &HelloFields<'_>, levels: LevelSet, id: u32) -> 
 }
 
 fn is_from(neighbour: Neighbour, hello: &HelloFields<'_>, levels: LevelSet, id: u32) -> bool
-    ensures { result ≡ model.is_same (Some (neighbour_of neighbour)) (runs_of levels) (hello_of hello.now) id }
+    ensures { result
+        ≡ model.is_same (Some (neighbour_of neighbour)) (runs_of levels) (hello_of hello.now) id }
 {
     are_same_systems(neighbour.system, hello.source)
         && neighbour.id == id
         && are_same_levels(neighbour.levels, levels)
 }
 
-/// The state and the neighbour after a hello: from Down where another neighbour is kept than its sender.
+/// The state and the neighbour after a hello: from Down where another neighbour is kept than its
+/// sender.
 pub fn held_after(
     held: Held,
     same: bool,
@@ -64,7 +69,7 @@ pub fn held_after(
 }
 
 /// The neighbour that a hello makes, with its holding time.
-fn neighbour_in(hello: &HelloFields<'_>, levels: LevelSet, id: u32) -> Neighbour
+pub fn neighbour_in(hello: &HelloFields<'_>, levels: LevelSet, id: u32) -> Neighbour
     ensures { neighbour_of result ≡ model.neighbour_of (hello_of hello.now) (runs_of levels) id }
 {
     Neighbour {

@@ -1,10 +1,17 @@
 //! Adjacencies: whom a circuit hears, and in which state.
 //!
-//! ISO 10589 8.2.4 (point-to-point circuits) with the three-way handshake of RFC 5303 3.2. A hello is tested, in one fixed
-//! order, and then taken: the neighbour is kept with the hello's holding time. Own: the order of the tests; a hello must
-//! come from the SNPA that is its source's system ID; where another neighbour, or other levels in common, are heard than are
-//! kept, the adjacency goes Down first; point-to-point neighbours without the handshake are refused. What a call does is what
-//! the router's model (isis_model) says. No call takes memory.
+//! ISO 10589 8.2.4 (point-to-point circuits) with the three-way handshake of RFC 5303 3.2, and
+//! 8.4.2 (LANs). A hello is tested, in one fixed order, and then taken: the neighbour is kept with
+//! the hello's holding time. Own: the order of the tests; a hello must come from the SNPA that is
+//! its source's system ID; where another neighbour, or other levels in common, are heard than are
+//! kept, the adjacency goes Down first; point-to-point neighbours without the handshake are
+//! refused; at most 200 neighbours are heard on a LAN and level. What a call does is what the
+//! router's model (isis_model) says.
+//!
+//! A LAN keeps its neighbours in two lists by SNPA: all that are heard, and once more those in
+//! state Up, so that both are lent as they lie. A hello finds its place in each by a binary
+//! search. Both lists have the room for 200 from the start, so no call but `LanAdj::new` and
+//! `LanAdj::copy` takes memory.
 //!
 //! - `handshake.rt`: the table of the handshake
 //! - `neighbour.rt`: a neighbour that is kept
@@ -12,19 +19,28 @@
 //! - `common.rt`: the levels in common; `tests_of_hello.rt`: the tests of a hello, in their order
 //! - `held.rt`, `keeping.rt`: a state with the neighbour that is kept, and what becomes of it
 //! - `point.rt`: a point-to-point adjacency
+//! - `by_snpa.rt`, `lan_lists.rt`: neighbours in a list by SNPA, and the two lists of a LAN
+//! - `lan.rt`: the adjacencies of a LAN circuit and level
+//! - `laws.rt`: when a hello is due, and who is designated among LAN neighbours
 #![tactic(auto)]
 
+mod by_snpa;
 mod common;
 mod handshake;
 mod held;
 mod hello;
 mod keeping;
+mod lan;
+mod lan_lists;
+mod laws;
 mod neighbour;
 mod point;
 mod tests_of_hello;
 
 pub use handshake::three_way;
 pub use hello::{AdjChange, HelloDrop, HelloFields, Own};
+pub use lan::LanAdj;
+pub use laws::{designated_laws, lan_laws, point_laws};
 pub use neighbour::Neighbour;
 pub use point::P2pAdj;
 

@@ -1,8 +1,9 @@
 //! A neighbour that is kept.
 use isis_base::{LevelSet, NodeId, Snpa, SystemId};
 
-/// A neighbour (ISO 10589 8.2.4, 8.4.2): its system, SNPA and extended circuit ID (RFC 5303 3.1), the levels in common, the
-/// priority and LAN ID of its last hello, and the seconds of its holding time that are left.
+/// A neighbour (ISO 10589 8.2.4, 8.4.2): its system, SNPA and extended circuit ID (RFC 5303 3.1),
+/// the levels in common, the priority and LAN ID of its last hello, and the seconds of its holding
+/// time that are left.
 #[derive(Clone, Copy, Debug, PartialEq, Eq)]
 pub struct Neighbour {
     pub system: SystemId,

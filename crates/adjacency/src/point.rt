@@ -14,33 +14,46 @@ use crate::keeping::{change, held_after, held_less, keeps, state_of};
 use crate::neighbour::Neighbour;
 use crate::tests_of_hello::test_point;
 use isis_tlv::Adj;
+use std::marker::Model;
 
-/// The adjacency of a point-to-point circuit (ISO 10589 8.2.4, RFC 5303 3.2): its state, and the neighbour that is kept
-/// outside Down.
+/// The adjacency of a point-to-point circuit (ISO 10589 8.2.4, RFC 5303 3.2): its state, and the
+/// neighbour that is kept outside Down. Contracts see it as these, and `point_of` says what the
+/// router's model has of them.
 #[derive(Clone, Copy, Debug, PartialEq, Eq)]
 pub struct P2pAdj {
     held: Held,
 }
 
+impl Model for P2pAdj {
+    ghost use Rattle.adjacency.specs.declared.held.Held.{Held};
+
+    ghost Value = { Held };
+
+    ghost view = { λ a. a.held };
+
+    ghost inverse = { λ held. record { held = held } };
+}
+
 impl P2pAdj {
     /// An adjacency in Down.
     pub fn new() -> P2pAdj
-        ensures { point_of result.held ≡ point_down }
+        ensures { point_of result ≡ point_down }
     {
         P2pAdj { held: Held::Down }
     }
 
     /// The state.
     pub fn state(&self) -> Adj
-        ensures { result ≡ (point_of self.now.held).state }
+        ensures { result ≡ (point_of self.now).state }
     {
         state_of(self.held)
     }
 
     /// The neighbour that is kept. `None` exactly in Down.
     pub fn neighbour(&self) -> Option<&Neighbour>
-        ensures value { option_map (λ n. neighbour_of n.now) result ≡ (point_of self.now.held).neighbour }
-        ensures none { IsNone result ↔ ((point_of self.now.held).state ≡ adj.Down) }
+        ensures value { option_map (λ n. neighbour_of n.now) result
+            ≡ (point_of self.now).neighbour }
+        ensures none { IsNone result ↔ ((point_of self.now).state ≡ adj.Down) }
     {
         match &self.held {
             Held::Down => None,
@@ -49,23 +62,25 @@ impl P2pAdj {
         }
     }
 
-    /// Takes a hello. The first test that fails refuses it, and the adjacency is as before. Else, where the system, the
-    /// extended circuit ID or the levels in common aren't those of the neighbour that is kept, the adjacency first goes
-    /// Down (own); then the table of the handshake says its state, and outside Down the hello's sender is kept.
+    /// Takes a hello. The first test that fails refuses it, and the adjacency is as before. Else,
+    /// where the system, the extended circuit ID or the levels in common aren't those of the
+    /// neighbour that is kept, the adjacency first goes Down (own); then the table of the handshake
+    /// says its state, and outside Down the hello's sender is kept.
     pub fn hear_hello(
         &mut self,
         own: &Own<'_>,
         hello: &HelloFields<'_>,
     ) -> Result<AdjChange, HelloDrop>
-        ensures tested { IsTested result (point_drop (config_of own.now) own.now.id (hello_of hello.now)) }
+        ensures tested { IsTested result
+            (point_drop (config_of own.now) own.now.id (hello_of hello.now)) }
         ensures unchanged { OnErr result (self.new ≡ self.old) }
         ensures heard { IfOk result (λ change. IfSome hello.now.three_way (λ shake.
-            point_of self.new.held ≡ model.hear_point (point_of self.old.held)
+            point_of self.new ≡ model.hear_point (point_of self.old)
             (model.common_of (config_of own.now) (hello_of hello.now))
             (hello_of hello.now) (shake_of shake))) }
         ensures change { IfOk result (λ change. IfSome hello.now.three_way (λ shake.
-            change ≡ change_of (point_of self.old.held) (point_of self.new.held)
-            (model.is_same (point_of self.old.held).neighbour
+            change ≡ change_of (point_of self.old) (point_of self.new)
+            (model.is_same (point_of self.old).neighbour
             (model.common_of (config_of own.now) (hello_of hello.now))
             (hello_of hello.now) (shake_of shake).extended))) }
     {
@@ -80,10 +95,11 @@ impl P2pAdj {
         Ok(change(old, new, same))
     }
 
-    /// A second of the holding time: at 1 or 0 the adjacency ends, else it falls by one (ISO 10589 8.2.5).
+    /// A second of the holding time: at 1 or 0 the adjacency ends, else it falls by one (ISO 10589
+    /// 8.2.5).
     pub fn second(&mut self) -> AdjChange
-        ensures held { point_of self.new.held ≡ point_less (point_of self.old.held) }
-        ensures change { result ≡ change_of (point_of self.old.held) (point_of self.new.held) true }
+        ensures held { point_of self.new ≡ point_less (point_of self.old) }
+        ensures change { result ≡ change_of (point_of self.old) (point_of self.new) true }
     {
         match self.held {
             Held::Down => AdjChange::None,
@@ -108,7 +124,7 @@ impl P2pAdj {
 
     /// The boot number in the neighbour's extended circuit ID, where the state is Up (own).
     pub fn names_boot(&self) -> Option<u32>
-        ensures { result ≡ boot_of (point_of self.now.held) }
+        ensures { result ≡ boot_of (point_of self.now) }
     {
         match self.held {
             Held::Up(neighbour) => Some(neighbour.id / 256),

@@ -1,18 +1,25 @@
 //! The tests of a hello, in their order (ISO 10589 8.2.4.2, RFC 5303 3.2; the order: own).
-ghost use Rattle.std.specs.Prelude.{◌≡◌, Bool, Some, IfOk};
+ghost use Rattle.std.specs.Prelude.{◌≡◌, false, ℕ, List, length, nat_le, ◌&&◌, is_none, Bool, Some, IfOk};
+ghost use Rattle.isis_base.specs.declared.level.Level.TheVariants as one;
 ghost use Rattle.isis_model.specs.Adjacencies as model;
-ghost use Rattle.isis_model.specs.HelloTests.{hello_drop, point_drop};
+ghost use Rattle.isis_model.specs.Both as both;
+ghost use Rattle.isis_model.specs.Maps.{find};
+ghost use Rattle.isis_model.specs.Routers.{LanNeighbour};
+ghost use Rattle.isis_model.specs.HelloTests.{hello_drop, point_drop, lan_drop};
+ghost use Rattle.designated_is.specs.Numbers.{system_number, snpa_number};
 ghost use Rattle.adjacency.specs.Views.{runs_of, common_runs, config_of, hello_of};
 ghost use Rattle.adjacency.specs.Changes.{IsTested};
 
-use crate::common::{are_same_systems, both_run_one, common_levels};
+use crate::common::{are_same_systems, both_run_one, common_level, common_levels};
 use crate::hello::{HelloDrop, HelloFields, Own};
-use isis_base::{LevelSet, SystemId};
+use isis_base::{Level, LevelSet, SystemId};
 use isis_tlv::ThreeWay;
 
-/// The tests of a point-to-point hello: the levels in common and the three-way value where all pass.
+/// The tests of a point-to-point hello: the levels in common and the three-way value where all
+/// pass.
 pub fn test_point(own: &Own<'_>, hello: &HelloFields<'_>) -> Result<(LevelSet, ThreeWay), HelloDrop>
-    ensures tested { IsTested result (point_drop (config_of own.now) own.now.id (hello_of hello.now)) }
+    ensures tested { IsTested result
+        (point_drop (config_of own.now) own.now.id (hello_of hello.now)) }
     ensures levels { IfOk result (λ p.
         runs_of p.0 ≡ model.common_of (config_of own.now) (hello_of hello.now)) }
     ensures shake { IfOk result (λ p. hello.now.three_way ≡ Some p.1) }
@@ -33,7 +40,46 @@ pub fn test_point(own: &Own<'_>, hello: &HelloFields<'_>) -> Result<(LevelSet, T
     Ok((levels, shake))
 }
 
-/// The tests of hellos of both kinds: the levels in common where all pass. `both_one` where both run level 1.
+/// The tests of a LAN hello, of which its own level alone is looked at: that level where all pass.
+/// `is_full` where its sender is new and 200 are heard.
+pub fn test_lan(
+    own: &Own<'_>,
+    level: Level,
+    hello: &HelloFields<'_>,
+    is_full: bool,
+) -> Result<LevelSet, HelloDrop>
+    ensures tested { (heard : List (ℕ × LanNeighbour))
+        → is_full ≡ (nat_le 200 (length heard) && is_none (find heard (snpa_number hello.now.snpa)))
+        → IsTested result (lan_drop (config_of own.now) level heard (hello_of hello.now)) }
+    ensures levels { IfOk result (λ levels.
+        runs_of levels
+        ≡ both.alone level (model.common_of (config_of own.now) (hello_of hello.now))) }
+    ensures system { IfOk result (λ _.
+        system_number hello.now.source ≡ snpa_number hello.now.snpa) }
+    ensures room { IfOk result (λ _. is_full ≡ false) }
+{
+    let both_one = is_one(level) && both_run_one(own.levels, hello.levels);
+    let levels = match test_hello(own, hello, common_level(own, level, hello), both_one) {
+        Ok(levels) => levels,
+        Err(refused) => return Err(refused),
+    };
+    if is_full {
+        return Err(HelloDrop::TooMany);
+    }
+    Ok(levels)
+}
+
+fn is_one(level: Level) -> bool
+    ensures { result ≡ both.is_level level one.One }
+{
+    match level {
+        Level::One => true,
+        Level::Two => false,
+    }
+}
+
+/// The tests of hellos of both kinds: the levels in common where all pass. `both_one` where both
+/// run level 1.
 fn test_hello(
     own: &Own<'_>,
     hello: &HelloFields<'_>,
@@ -43,6 +89,8 @@ fn test_hello(
     ensures tested { IsTested result
         (hello_drop (config_of own.now) (common_runs common) both_one (hello_of hello.now)) }
     ensures levels { IfOk result (λ levels. common ≡ Some levels) }
+    ensures system { IfOk result (λ _.
+        system_number hello.now.source ≡ snpa_number hello.now.snpa) }
 {
     if are_same_systems(hello.source, own.system) {
         return Err(HelloDrop::OwnId);

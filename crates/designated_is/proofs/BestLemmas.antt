@@ -1,11 +1,13 @@
 -- The best of a list is on it, and no one on the list stands before it.
-use Rattle.std.proofs.Common.{◌≡◌, ◌⊎◌, inl, inr, zero, suc, Bool, true, false, List, [], ◌∷◌, if◌then◌else◌, refl, sym, ap, subst, ◌∙◌, arith}
+use Rattle.std.proofs.Common.{◌≡◌, ℕ, map, ◌⊎◌, inl, inr, zero, suc, Bool, true, false, List, [], ◌∷◌, if◌then◌else◌, refl, sym, ap, subst, ◌∙◌, arith}
 use Rattle.std.specs.Prelude.{Contains}
 use Rattle.std.proofs.lemmas.Bool.Decides.{nat_tests}
+use Rattle.isis_base.specs.declared.identifiers.SystemId.{SystemId}
+use Rattle.isis_model.specs.Routers.{LanNeighbour}
 use Rattle.isis_model.specs.Elections as model
 use Rattle.designated_is.specs.declared.candidate.Candidate.{Candidate}
-use Rattle.designated_is.specs.Numbers.{candidate_of}
-use Rattle.designated_is.specs.Greatest.{beats, best_of, IsUnbeaten, IsElected}
+use Rattle.designated_is.specs.Numbers.{system_number, candidate_of}
+use Rattle.designated_is.specs.Greatest.{beats, best_of, IsUnbeaten, IsElected, plain, up_candidates}
 
 -- ---- the order of candidates
 
@@ -65,3 +67,45 @@ pub best_elected : (list : List Candidate) (b r : Candidate) (cs : List Candidat
 best_elected list b r cs e f =
     subst (λ (xs : List Candidate). IsElected xs r.system) (sym e)
     (best_of b cs, best_on b cs, sym (ap (λ (c : Candidate). c.system) f), (first_unbeaten b cs, others_unbeaten b cs))
+
+-- ---- one system alone is elected
+
+model_same : (a b : model.Candidate) → model.beats a b ≡ false → model.beats b a ≡ false → a.system ≡ b.system
+model_same a b e f = grind (arith, nat_tests, e, f)
+
+unbeaten_at : (list : List Candidate) (a b : Candidate) → IsUnbeaten list a → Contains list b → beats b a ≡ false
+unbeaten_at [] a b u (i, lt, e) = absurd (omega (arith, lt))
+unbeaten_at (c ∷ list) a b u (zero, lt, e) = subst (λ (x : Candidate). beats x a ≡ false) e u.0
+unbeaten_at (c ∷ list) a b u (suc i, lt, e) = unbeaten_at list a b u.1 (i, omega (arith, lt), e)
+
+pub elected_one : (list : List Candidate) (s t : SystemId) → IsElected list s → IsElected list t → system_number s ≡ system_number t
+elected_one list s t p q =
+    let same = model_same (candidate_of p.0) (candidate_of q.0) (unbeaten_at list q.0 p.0 q.3 p.1) (unbeaten_at list p.0 q.0 p.3 q.1) in
+    sym (ap system_number p.2) ∙ same ∙ ap system_number q.2
+
+-- ---- whom the model elects
+
+abbrev among : model.Candidate → List model.Candidate → model.Candidate
+among best [] = best
+among best (c ∷ cs) = among (if model.beats c best then c else best) cs
+
+best_among : (b : Candidate) (cs : List Candidate) → candidate_of (best_of b cs) ≡ among (candidate_of b) (map candidate_of cs)
+unfolding best_of
+best_among b [] = refl
+best_among b (c ∷ cs) =
+    best_among (if beats c b then c else b) cs
+    ∙ ap (λ (m : model.Candidate). among m (map candidate_of cs)) (next_of (beats c b))
+  where
+    next_of : (t : Bool) → candidate_of (if t then c else b) ≡ (if t then candidate_of c else candidate_of b)
+    next_of true = refl
+    next_of false = refl
+
+elect_among : (best : model.Candidate) (heard : List (ℕ × LanNeighbour)) → plain (model.elect best heard) ≡ among (plain best) (up_candidates heard)
+elect_among best [] = refl
+elect_among best (p ∷ heard) = grind (arith, nat_tests, elect_among (model.better best p.1) heard)
+
+pub elected_model : (mine : Candidate) (others : List Candidate) (system : SystemId) (best : model.Candidate) (heard : List (ℕ × LanNeighbour)) → candidate_of mine ≡ plain best → map candidate_of others ≡ up_candidates heard → IsElected (mine ∷ others) system → (model.elect best heard).system ≡ system_number system
+elected_model mine others system best heard e f elected =
+    ap (λ (c : model.Candidate). c.system)
+    (elect_among best heard ∙ sym (ap (λ (m : model.Candidate). among m (up_candidates heard)) e) ∙ sym (ap (λ (m : List model.Candidate). among (candidate_of mine) m) f) ∙ sym (best_among mine others))
+    ∙ elected_one (mine ∷ others) (best_of mine others).system system (best_elected (mine ∷ others) mine (best_of mine others) others refl refl) elected

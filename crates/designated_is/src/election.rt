@@ -1,13 +1,16 @@
 //! The greatest candidate, and the pseudonode of a circuit.
-ghost use Rattle.std.specs.Prelude.{◌≡◌, ◌↔◌, if◌then◌else◌, [], IsNone, IfSome};
+ghost use Rattle.std.specs.Prelude.{◌≡◌, ◌↔◌, ℕ, ◌+◌, ◌*◌, if◌then◌else◌, [], IsNone, IfSome};
+ghost use Rattle.isis_model.specs.Configs.{Config};
+ghost use Rattle.isis_model.specs.Routers.{Circuit};
+ghost use Rattle.isis_model.specs.Elections as model;
 ghost use Rattle.designated_is.specs.Numbers.{system_number};
 ghost use Rattle.designated_is.specs.Greatest.{beats, best_of, IsElected};
 
 use crate::candidate::Candidate;
 use isis_base::{LspId, NodeId, SystemId};
 
-/// The system of the greatest candidate: by priority, then SNPA (ISO 10589 8.4.5), then system ID. `None` exactly where
-/// there is no candidate.
+/// The system of the greatest candidate: by priority, then SNPA (ISO 10589 8.4.5), then system ID.
+/// `None` exactly where there is no candidate.
 pub fn elect(candidates: &[Candidate]) -> Option<SystemId>
     ensures none { IsNone result ↔ (candidates.now ≡ []) }
     ensures elected { IfSome result (λ system. IsElected candidates.now system) }
@@ -16,9 +19,12 @@ pub fn elect(candidates: &[Candidate]) -> Option<SystemId>
     Some(best(*first, others).system)
 }
 
-/// The number of a circuit's pseudonode: the circuit's number.
+/// The number of a circuit's pseudonode: the circuit's number (own). With it the router's model makes
+/// one's own LAN ID.
 pub fn pseudonode(circuit: u8) -> u8
-    ensures { result ≡ circuit }
+    ensures circuit { result ≡ circuit }
+    ensures lan { (config : Config) (place : ℕ) (c : Circuit) → place + 1 ≡ circuit
+        → (model.oneself config place c).lan ≡ 256 * config.system + result }
 {
     circuit
 }

@@ -1,0 +1,107 @@
+-- How the neighbours that are heard on a LAN lie in two lists, all of them and those in state Up
+-- (own).
+use Rattle.std.specs.Prelude.{◌≡◌, ℕ, ◌-◌, ◌<◌, ◌≤◌, nat_le, suc, Bool, ◌||◌, false, List, [], ◌∷◌, length, take, drop, slice_index_or, Result, MatchResult, is_some, if◌then◌else◌}
+use Rattle.std.specs.List.{AllByRecursion}
+use Rattle.isis_model.specs.Maps.{find}
+use Rattle.isis_model.specs.Sorted.{RisesFrom}
+use Rattle.isis_model.specs.Routers.{LanNeighbour}
+use Rattle.designated_is.specs.Numbers.{system_number, snpa_number}
+use Rattle.adjacency.specs.declared.neighbour.Neighbour.{Neighbour}
+use Rattle.adjacency.specs.Views.{neighbour_of}
+
+-- ---- a list as a map
+
+-- a list's items by a key of each
+abbrev pub keyed : {X : Type 0} → (X → ℕ) → List X → List (ℕ × X)
+keyed key [] = []
+keyed key (x ∷ xs) = (key x, x) ∷ keyed key xs
+
+abbrev pub snpa_of : Neighbour → ℕ
+snpa_of n = snpa_number n.snpa
+
+-- neighbours by SNPA
+abbrev pub by_snpa : List Neighbour → List (ℕ × Neighbour)
+by_snpa ns = keyed snpa_of ns
+
+-- each key is below n, and each is above it
+abbrev pub AllBelow : {X : Type 0} → (X → ℕ) → ℕ → List X → Type 0
+AllBelow key n [] = Unit {0}
+AllBelow key n (x ∷ xs) = (key x < n) × AllBelow key n xs
+
+abbrev pub AllAbove : {X : Type 0} → (X → ℕ) → ℕ → List X → Type 0
+AllAbove key n [] = Unit {0}
+AllAbove key n (x ∷ xs) = (n < key x) × AllAbove key n xs
+
+-- the place has the item of this key, with lesser ones before it and greater ones behind it
+pub record IsPlace {X : Type 0} (key : X → ℕ) (xs : List X) (n place : ℕ) : Type 0 where
+  pub inside : place < length xs
+  pub low : AllBelow key n (take place xs)
+  pub here : (d : X) → key (slice_index_or xs place d) ≡ n
+  pub high : AllAbove key n (drop (suc place) xs)
+
+-- no item has this key: lesser ones are before the place, and greater ones from it on
+pub record IsGap {X : Type 0} (key : X → ℕ) (xs : List X) (n place : ℕ) : Type 0 where
+  pub inside : place ≤ length xs
+  pub low : AllBelow key n (take place xs)
+  pub high : AllAbove key n (drop place xs)
+
+-- a place of the neighbour of an SNPA, where it is one of the list, and else where it would go
+abbrev pub IsAt : List Neighbour → ℕ → Result ℕ ℕ → Type 0
+IsAt ns snpa place = MatchResult place (IsPlace snpa_of ns snpa) (IsGap snpa_of ns snpa)
+
+-- ---- a second
+
+abbrev pub is_ended : Neighbour → Bool
+is_ended n = nat_le n.left 1
+
+abbrev pub less_by_one : Neighbour → Neighbour
+less_by_one n = record n { left = n.left - 1 }
+
+-- those whose time isn't over, a second later
+abbrev pub all_less : List Neighbour → List Neighbour
+all_less [] = []
+all_less (n ∷ ns) = if is_ended n then all_less ns else less_by_one n ∷ all_less ns
+
+abbrev pub some_ended : List Neighbour → Bool
+some_ended [] = false
+some_ended (n ∷ ns) = is_ended n || some_ended ns
+
+-- ---- both lists as one: each neighbour with whether it is Up
+
+-- those heard, each with whether it is on the other list too
+abbrev pub tagged : {V : Type 0} → List (ℕ × V) → List (ℕ × V) → List (ℕ × (Bool × V))
+tagged up [] = []
+tagged up (pair ∷ heard) = (pair.0, (is_some (find up pair.0), pair.1)) ∷ tagged up heard
+
+-- all of them, without the tag
+abbrev pub untagged : {V : Type 0} → List (ℕ × (Bool × V)) → List (ℕ × V)
+untagged [] = []
+untagged (pair ∷ rest) = (pair.0, pair.1.1) ∷ untagged rest
+
+-- those that are Up
+abbrev pub chosen : {V : Type 0} → List (ℕ × (Bool × V)) → List (ℕ × V)
+chosen [] = []
+chosen (pair ∷ rest) = if pair.1.0 then (pair.0, pair.1.1) ∷ chosen rest else chosen rest
+
+-- each as the model has it
+abbrev pub shown : List (ℕ × (Bool × Neighbour)) → List (ℕ × LanNeighbour)
+shown [] = []
+shown (pair ∷ rest) =
+    (pair.0, record { up = pair.1.0; neighbour = neighbour_of pair.1.1 }) ∷ shown rest
+
+abbrev pub tags_of : List Neighbour → List Neighbour → List (ℕ × (Bool × Neighbour))
+tags_of heard up = tagged (by_snpa up) (by_snpa heard)
+
+-- the lists as the model has them
+abbrev pub lan_of : List Neighbour → List Neighbour → List (ℕ × LanNeighbour)
+lan_of heard up = shown (tags_of heard up)
+
+-- at most 200 are heard, by SNPA and each once; those in the other list are some of them; each has
+-- the room for 200
+pub record IsLan (heard up : List Neighbour) (space up_space : ℕ) : Type 0 where
+  pub rises : RisesFrom 0 (tags_of heard up)
+  pub systems : AllByRecursion (λ n. system_number n.system ≡ snpa_of n) heard
+  pub part : by_snpa up ≡ chosen (tags_of heard up)
+  pub few : length heard ≤ 200
+  pub room : 200 ≤ space
+  pub up_room : 200 ≤ up_space

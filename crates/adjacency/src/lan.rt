@@ -1,0 +1,142 @@
+//! The adjacencies of a LAN circuit and level.
+ghost use Rattle.std.specs.Result.{is_err};
+ghost use Rattle.std.specs.Prelude.{◌≡◌, ◌≤◌, nat_le, ◌&&◌, ℕ, [], length, map, List, IfOk, OnErr, vec_capacity};
+ghost use Rattle.isis_model.specs.Adjacencies as model;
+ghost use Rattle.isis_model.specs.Both as both;
+ghost use Rattle.isis_model.specs.Maps.{find};
+ghost use Rattle.isis_model.specs.HelloTests.{lan_drop};
+ghost use Rattle.isis_model.specs.Seconds.{heard_less};
+ghost use Rattle.adjacency.specs.Views.{config_of, hello_of, neighbour_of};
+ghost use Rattle.adjacency.specs.Changes.{IsTested};
+ghost use Rattle.adjacency.specs.Lans.{AreHeard, neighbours, ups, hear_lan, lan_change_of, lan_less_change};
+ghost use Rattle.designated_is.specs.Numbers.{snpa_number};
+
+use crate::by_snpa::place_of;
+use crate::hello::{AdjChange, HelloDrop, HelloFields, Own};
+use crate::keeping::neighbour_in;
+use crate::lan_lists::{age_both, keep};
+use crate::neighbour::Neighbour;
+use crate::tests_of_hello::test_lan;
+use isis_base::{Level, OutOfMemory};
+use std::alloc::Global;
+use std::marker::Model;
+
+/// The most neighbours that are heard on a LAN and level (own).
+const MOST: usize = 200;
+
+/// The adjacencies of a LAN circuit and level (ISO 10589 8.4.2): the neighbours that are heard, by
+/// SNPA, each in state Up or Initializing. Contracts see it as the router's model has it.
+#[derive(Drop, Debug)]
+pub struct LanAdj {
+    heard: Vec<Neighbour>,
+    up: Vec<Neighbour>,
+}
+
+impl Model for LanAdj {
+    ghost use Rattle.std.specs.Prelude.{ℕ, List, vec_capacity};
+    ghost use Rattle.isis_model.specs.Routers.{LanNeighbour};
+
+    ghost Value = { List (ℕ × LanNeighbour) };
+
+    ghost use Rattle.adjacency.specs.Inside.{lan_of, IsLan};
+
+    ghost view = { λ a. lan_of a.heard.items a.up.items };
+
+    ghost invariant = { λ a. IsLan a.heard.items a.up.items (vec_capacity a.heard) (vec_capacity a.up) };
+}
+
+impl LanAdj {
+    /// The adjacencies of nobody, with the room for 200 neighbours.
+    pub fn new(alloc: Global) -> Result<LanAdj, OutOfMemory>
+        ensures { IfOk result (λ lan. lan ≡ []) }
+    {
+        let heard = Vec::with_capacity(alloc, MOST)?;
+        let up = Vec::with_capacity(alloc, MOST)?;
+        Ok(LanAdj { heard, up })
+    }
+
+    /// The neighbours in state Up, by SNPA.
+    pub fn up(&self) -> &[Neighbour]
+        ensures up { map neighbour_of result.now ≡ ups self.now }
+        ensures heard { AreHeard self.now }
+    {
+        &self.up
+    }
+
+    /// All neighbours that are heard, by SNPA.
+    pub fn heard(&self) -> &[Neighbour]
+        ensures all { map neighbour_of result.now ≡ neighbours self.now }
+        ensures heard { AreHeard self.now }
+    {
+        &self.heard
+    }
+
+    /// Takes a hello of this level. The first test that fails refuses it, and all is as before.
+    /// Else its sender is kept with its holding time, in state Up where the hello lists one's own
+    /// SNPA. It takes no memory.
+    pub fn hear_hello(
+        &mut self,
+        own: &Own<'_>,
+        level: Level,
+        hello: &HelloFields<'_>,
+    ) -> Result<AdjChange, HelloDrop>
+        ensures tested { IsTested result
+            (lan_drop (config_of own.now) level self.old (hello_of hello.now)) }
+        ensures unchanged { OnErr result (self.new ≡ self.old) }
+        ensures heard { IfOk result (λ change. self.new ≡ hear_lan self.old
+            (both.alone level (model.common_of (config_of own.now) (hello_of hello.now)))
+            (hello_of hello.now)) }
+        ensures change { IfOk result (λ change. change ≡ lan_change_of
+            (find self.old (snpa_number hello.now.snpa)) hello.now.names_me) }
+    {
+        let place = place_of(&self.heard, hello.snpa);
+        let levels = match test_lan(own, level, hello, is_full(&self.heard, place)) {
+            Ok(levels) => levels,
+            Err(refused) => return Err(refused),
+        };
+        let neighbour = neighbour_in(hello, levels, 0);
+        Ok(keep(
+            &mut self.heard,
+            &mut self.up,
+            place,
+            neighbour,
+            hello.names_me,
+        ))
+    }
+
+    /// A second of each holding time: at 1 or 0 the neighbour goes, else it falls by one (ISO 10589
+    /// 8.4.2).
+    pub fn second(&mut self) -> AdjChange
+        ensures less { self.new ≡ heard_less self.old }
+        ensures change { result ≡ lan_less_change self.old }
+    {
+        age_both(&mut self.heard, &mut self.up)
+    }
+
+    /// Equal adjacencies, with the room for 200 neighbours.
+    pub fn copy(&self) -> Result<LanAdj, OutOfMemory>
+        ensures { IfOk result (λ copy. copy ≡ self.now) }
+    {
+        let alloc = *self.heard.allocator();
+        let heard = copy_of(alloc, &self.heard)?;
+        let up = copy_of(alloc, &self.up)?;
+        Ok(LanAdj { heard, up })
+    }
+}
+
+/// Whether 200 are heard, and no place was found among them.
+fn is_full(heard: &[Neighbour], place: Result<usize, usize>) -> bool
+    ensures { result ≡ (nat_le 200 (length heard.now) && is_err place) }
+{
+    heard.len() >= MOST && place.is_err()
+}
+
+/// A copy of a list, with the room for 200 neighbours.
+fn copy_of(alloc: Global, list: &[Neighbour]) -> Result<Vec<Neighbour>, OutOfMemory>
+    ensures items { IfOk result (λ copy. copy.items ≡ list.now) }
+    ensures room { IfOk result (λ copy. 200 ≤ vec_capacity copy) }
+{
+    let mut copy = Vec::with_capacity(alloc, MOST)?;
+    copy.extend_from_slice(list)?;
+    Ok(copy)
+}
