@@ -14,7 +14,7 @@ use Rattle.adjacency.specs.Views.{neighbour_of}
 use Rattle.adjacency.specs.Lans.{AreHeard, neighbours, ups, was_up, some_up_over}
 use Rattle.adjacency.specs.Inside.{by_snpa, snpa_of, tagged, untagged, chosen, shown, tags_of, lan_of, IsLan, IsPlace, IsGap, all_less, some_ended, is_ended, less_by_one}
 use Rattle.adjacency.proofs.MapLemmas.{choose, rises-less, length-keyed, length-put, put-rises, find-place, find-gap}
-use Rattle.adjacency.proofs.TagLemmas.{has_tag, untagged-tagged, length-untagged, chosen-few, untagged-rises, chosen-rises, untagged-put, chosen-put, chosen-erase, find-chosen, find-untagged, tagged-again}
+use Rattle.adjacency.proofs.TagLemmas.{has_tag, untagged-tagged, length-untagged, chosen-few, untagged-rises, chosen-rises, untagged-put, chosen-put, chosen-erase, find-chosen, find-untagged, tagged-reads_back}
 
 abbrev Tags : Type 0
 Tags = List (ℕ × (Bool × Neighbour))
@@ -251,7 +251,7 @@ module _ (heard up : List Neighbour) (s u : ℕ) (lan : IsLan heard up s u) wher
     module _ (heard2 up2 : List Neighbour) (e : by_snpa heard2 ≡ put (by_snpa heard) (snpa_of n) n) (f : by_snpa up2 ≡ (if t then put (by_snpa up) (snpa_of n) n else erase (by_snpa up) (snpa_of n))) where
       tags-kept : tags_of heard2 up2 ≡ put (tags_of heard up) (snpa_of n) (t, n)
       tags-kept =
-          rw (e ∙ sym all-put, f ∙ sym (chosen-kept t)) (tagged-again (put (tags_of heard up) (snpa_of n) (t, n)) put-rising)
+          rw (e ∙ sym all-put, f ∙ sym (chosen-kept t)) (tagged-reads_back (put (tags_of heard up) (snpa_of n) (t, n)) put-rising)
 
       pub lan-kept : lan_of heard2 up2 ≡ put (lan_of heard up) (snpa_of n) (record { up = t; neighbour = neighbour_of n })
       lan-kept = ap shown tags-kept ∙ shown-put (tags_of heard up) (snpa_of n) t n
@@ -276,7 +276,7 @@ module _ (heard up : List Neighbour) (s u : ℕ) (lan : IsLan heard up s u) wher
     part-less = chosen-less (tags_of heard up) ∙ ap keyed_less (sym lan.part) ∙ sym (less-keyed up) ∙ ap by_snpa (sym f)
 
     tags-aged : tags_of heard2 up2 ≡ tags_less (tags_of heard up)
-    tags-aged = rw (sym all-less, sym part-less) (tagged-again (tags_less (tags_of heard up)) (less-rises (tags_of heard up) 0 lan.rises))
+    tags-aged = rw (sym all-less, sym part-less) (tagged-reads_back (tags_less (tags_of heard up)) (less-rises (tags_of heard up) 0 lan.rises))
 
     pub lan-aged : lan_of heard2 up2 ≡ seconds.heard_less (lan_of heard up)
     lan-aged = ap shown tags-aged ∙ shown-less (tags_of heard up)

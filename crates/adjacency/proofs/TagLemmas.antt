@@ -84,5 +84,5 @@ tagged-by {V} (p ∷ q) least up r same =
     let first = ap (λ (o : Option V). is_some o) (same p.0 r.0) ∙ same-head p q r.1 in
     ap (λ (t : Bool). (p.0, (t, p.1.1)) ∷ tagged up (untagged q)) first ∙ ap (λ (m : List (ℕ × (Bool × V))). p ∷ m) rest
 
-pub tagged-again : {V : Type 0} (q : List (ℕ × (Bool × V))) → RisesFrom 0 q → tagged (chosen q) (untagged q) ≡ q
-tagged-again q r = tagged-by q 0 (chosen q) r (λ n le. refl)
+pub tagged-reads_back : {V : Type 0} (q : List (ℕ × (Bool × V))) → RisesFrom 0 q → tagged (chosen q) (untagged q) ≡ q
+tagged-reads_back q r = tagged-by q 0 (chosen q) r (λ n le. refl)

@@ -42,7 +42,8 @@ impl Model for LanAdj {
 
     ghost view = { λ a. lan_of a.heard.items a.up.items };
 
-    ghost invariant = { λ a. IsLan a.heard.items a.up.items (vec_capacity a.heard) (vec_capacity a.up) };
+    ghost invariant = { λ a. IsLan a.heard.items a.up.items (vec_capacity a.heard)
+        (vec_capacity a.up) };
 }
 
 impl LanAdj {

@@ -321,25 +321,48 @@ fn place_in(pdu: &[u8]) -> Option<usize>
     digest_place(pdu, header).ok()
 }
 
+/// What is said of a PDU under a key; nothing where the octets are no PDU.
+fn judged(key: &[u8], pdu: &[u8]) -> Option<Result<(), AuthFault>> {
+    let header = header_in(pdu)?;
+    Some(check_pdu(key, pdu, header))
+}
+
+/// The row of the first PDU that isn't authentic under its key.
+fn first_refused(rows: &[(&[u8], &[u8])]) -> Option<usize> {
+    for (row, (key, pdu)) in rows.iter().enumerate() {
+        if judged(key, pdu) != Some(Ok(())) {
+            return Some(row);
+        }
+    }
+    None
+}
+
+/// The row of the first PDU that has another fault than it says.
+fn first_misjudged(rows: &[(&[u8], &[u8], AuthFault)]) -> Option<usize> {
+    for (row, (key, pdu, fault)) in rows.iter().enumerate() {
+        if judged(key, pdu) != Some(Err(*fault)) {
+            return Some(row);
+        }
+    }
+    None
+}
+
+/// The row of the first PDU that another key doesn't find wrong.
+fn first_taken_by_another(rows: &[(&[u8], &[u8])]) -> Option<usize> {
+    for (row, (_, pdu)) in rows.iter().enumerate() {
+        if judged(b"OtherKey", pdu) != Some(Err(AuthFault::Wrong)) {
+            return Some(row);
+        }
+    }
+    None
+}
+
 #[test]
 fn each_fault_has_its_cause(rt: HostRuntime) -> Result<(), Fail> {
-    for (key, pdu) in GOOD {
-        let header = header_in(pdu).ok_or("a PDU")?;
-        assert_eq!(rt; check_pdu(key, pdu, header), Ok(()), "at {pdu:?}");
-    }
-    for (key, pdu) in FOREIGN {
-        let header = header_in(pdu).ok_or("a PDU")?;
-        assert_eq!(rt; check_pdu(key, pdu, header), Ok(()), "at {pdu:?}");
-        assert_eq!(rt;
-            check_pdu(b"OtherKey", pdu, header),
-            Err(AuthFault::Wrong),
-            "at {pdu:?}"
-        );
-    }
-    for (key, pdu, fault) in BAD {
-        let header = header_in(pdu).ok_or("a PDU")?;
-        assert_eq!(rt; check_pdu(key, pdu, header), Err(fault), "at {pdu:?}");
-    }
+    assert_eq!(rt; first_refused(&GOOD), None);
+    assert_eq!(rt; first_refused(&FOREIGN), None);
+    assert_eq!(rt; first_taken_by_another(&FOREIGN), None);
+    assert_eq!(rt; first_misjudged(&BAD), None);
     Ok(())
 }
 
