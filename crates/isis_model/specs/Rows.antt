@@ -1,4 +1,5 @@
--- Small books, and a router of two circuits with its neighbour on the first, for rows that are worked out (own).
+-- Small books, and a router of two circuits with its neighbour on the first, for rows that are
+-- worked out (own).
 use Rattle.std.specs.Prelude.{ℕ, zero, suc, Bool, true, false, List, [], ◌∷◌, replicate, Option, Some, None}
 use Rattle.isis_base.specs.declared.level.Level.{Level}
 use Rattle.isis_base.specs.declared.level.Level.TheVariants.{Two}
@@ -21,7 +22,7 @@ use Rattle.isis_model.specs.Starts.{quiet, start}
 
 -- ---- a cell on three open circuits, of which the third is a LAN
 
--- number 2 is held live, with SRM on circuit 2 and SSN on circuits 2 and 3
+-- number 2 is held live, with SRM on circuit 2 and SSN on circuits 2 and 3 (own)
 abbrev pub held : Cell
 held =
     record {
@@ -35,7 +36,7 @@ held =
       waits = no_waits;
     }
 
--- the cell with another key, other seconds, octets and flags
+-- the cell with another key, other seconds, octets and flags (own)
 abbrev pub cell_of : ℕ → ℕ → ℕ → List ℕ → ℕ → ℕ → Cell
 cell_of rank checksum left octets srm ssn = record {
   rank = rank;
@@ -48,29 +49,53 @@ cell_of rank checksum left octets srm ssn = record {
   waits = no_waits;
 }
 
--- a purge's header: octets 8 to 11 and 24 and 25 are written anew
+-- a purge's header: octets 8 to 11 and 24 and 25 are written anew (own)
 abbrev pub header : List ℕ
-header = 1 ∷ 1 ∷ 1 ∷ 1 ∷ 1 ∷ 1 ∷ 1 ∷ 1 ∷ 0 ∷ 27 ∷ 0 ∷ 0 ∷ 1 ∷ 1 ∷ 1 ∷ 1 ∷ 1 ∷ 1 ∷ 1 ∷ 1 ∷ 1 ∷ 1 ∷ 1 ∷ 1 ∷ 0 ∷ 0 ∷ 1 ∷ []
+header =
+    1 ∷ 1 ∷ 1 ∷ 1 ∷ 1 ∷ 1 ∷ 1 ∷ 1 ∷ 0 ∷ 27 ∷ 0 ∷ 0 ∷ 1 ∷ 1 ∷ 1 ∷ 1 ∷ 1 ∷ 1 ∷ 1 ∷ 1 ∷ 1 ∷ 1 ∷ 1 ∷ 1
+    ∷ 0 ∷ 0 ∷ 1 ∷ []
 
--- an LSP that is heard, and an entry, of LSP ID 7
+-- an LSP that is heard, and an entry, of LSP ID 7 (own)
 abbrev pub lsp : ℕ → ℕ → Heard
-lsp rank checksum = record { id = 7; rank = rank; checksum = checksum; flags = 3; left = 1100; octets = replicate 30 1 }
+lsp rank checksum =
+    record {
+      id = 7;
+      rank = rank;
+      checksum = checksum;
+      flags = 3;
+      left = 1100;
+      octets = replicate 30 1;
+    }
 
+-- own
 abbrev pub entry : ℕ → ℕ → SnpEntry
 entry rank checksum = record { id = 7; rank = rank; lifetime = 600; checksum = checksum }
 
--- an empty entry that is asked for on circuit 1
+-- an empty entry that is asked for on circuit 1 (own)
 abbrev pub asked_for : Cell
-asked_for = record { rank = 0; checksum = 0; flags = 0; left = 60; octets = []; srm = 0; ssn = 1; waits = no_waits }
+asked_for =
+    record {
+      rank = 0;
+      checksum = 0;
+      flags = 0;
+      left = 60;
+      octets = [];
+      srm = 0;
+      ssn = 1;
+      waits = no_waits;
+    }
 
+-- own
 abbrev pub book_with : List (ℕ × Cell) → ℕ → Book
 book_with cells changes = record { cells = cells; opened = 7; p2p = 3; changes = changes }
 
+-- own
 abbrev pub before : Book
 before = book_with ((7, held) ∷ []) 4
 
 -- ---- a router of L2 with a point-to-point circuit and a LAN
 
+-- own
 abbrev pub config : Config
 config = record {
   system = 1;
@@ -82,6 +107,7 @@ config = record {
   keys = record { one = None; two = None };
 }
 
+-- own
 abbrev pub circuit : Bool → Circuit
 circuit lan = record {
   lan = lan;
@@ -94,7 +120,7 @@ circuit lan = record {
   hello = 0;
 }
 
--- octets are what they say, and each checksum is the sequence number
+-- octets are what they say, and each checksum is the sequence number (own)
 abbrev pub given : Given
 given = record {
   leaks = λ (r : Router) (level : Level). [];
@@ -103,10 +129,11 @@ given = record {
   checksum = λ (r : Router) (level : Level) (id number : ℕ) (contents : Contents). number;
 }
 
+-- own
 abbrev pub router : Router
 router = start config 1 (circuit false ∷ circuit true ∷ [])
 
--- a hello of system 2 with holding time 30, in a state, naming a system and a circuit
+-- a hello of system 2 with holding time 30, in a state, naming a system and a circuit (own)
 abbrev pub hello : Adj → Option (ℕ × ℕ) → Event
 hello state names = Take 0 (PointHelloHeard (record {
   source = 2;
@@ -120,7 +147,7 @@ hello state names = Take 0 (PointHelloHeard (record {
   names_me = false;
 }))
 
--- a LAN hello of system 2, which lists the router and has its priority, with LAN ID 513
+-- a LAN hello of system 2, which lists the router and has its priority, with LAN ID 513 (own)
 abbrev pub lan_hello : Event
 lan_hello = Take 1 (LanHelloHeard Two (record {
   source = 2;
@@ -134,7 +161,8 @@ lan_hello = Take 1 (LanHelloHeard Two (record {
   names_me = true;
 }))
 
--- a point-to-point hello's tests: of a source from an SNPA, of these levels and areas, with a handshake
+-- a point-to-point hello's tests: of a source from an SNPA, of these levels and areas, with a
+-- handshake (own)
 abbrev pub tested : Config → ℕ → ℕ → Both Bool → List (List ℕ) → Option Handshake → Option DropName
 tested by source snpa runs areas shake = point_drop by 257 (record {
   source = source;
@@ -148,50 +176,55 @@ tested by source snpa runs areas shake = point_drop by 257 (record {
   names_me = false;
 })
 
+-- own
 abbrev pub shake : Option (ℕ × ℕ) → Option Handshake
 shake names = Some (record { state = Down; extended = 513; names = names })
 
+-- own
 abbrev pub level_one : Both Bool
 level_one = record { one = true; two = false }
 
+-- own
 abbrev pub level_two : Both Bool
 level_two = record { one = false; two = true }
 
--- contents that were issued so many seconds ago, beside the same and other ones
+-- contents that were issued so many seconds ago, beside the same and other ones (own)
 abbrev pub contents_of : ℕ → Contents
 contents_of flags = record { flags = flags; tlvs = 1 ∷ 2 ∷ [] }
 
+-- own
 abbrev pub issued_at : ℕ → Option Issued
 issued_at age = Some (record { contents = contents_of 1; age = age })
 
--- the handshake with system 2, the last event first
+-- the handshake with system 2, the last event first (own)
 abbrev pub events_up : List Event
 events_up = hello Up (Some (1, 257)) ∷ hello Down None ∷ []
 
--- seconds more
+-- seconds more (own)
 abbrev pub seconds : ℕ → List Event → List Event
 seconds zero events = events
 seconds (suc count) events = Second ∷ seconds count events
 
--- its own LSP with these seconds left and SRM on these circuits: an area address, IPv4, a node of system 2 at metric 10,
--- and 10.0.1.0/24 at metric 5
+-- its own LSP with these seconds left and SRM on these circuits: an area address, IPv4, a node of
+-- system 2 at metric 10, and 10.0.1.0/24 at metric 5 (own)
 abbrev pub own_lsp : ℕ → ℕ → ℕ → Cell
 own_lsp left pseudonode srm = record {
   rank = 2;
   checksum = 1;
   flags = 3;
   left = left;
-  octets = 1 ∷ 4 ∷ 3 ∷ 73 ∷ 0 ∷ 1 ∷ 129 ∷ 1 ∷ 204 ∷ 22 ∷ 11 ∷ 0 ∷ 0 ∷ 0 ∷ 0 ∷ 0 ∷ 2 ∷ pseudonode ∷ 0 ∷ 0 ∷ 10 ∷ 0 ∷ 135 ∷ 8 ∷ 0 ∷ 0 ∷ 0 ∷ 5 ∷ 24 ∷ 10 ∷ 0 ∷ 1 ∷ [];
+  octets = 1 ∷ 4 ∷ 3 ∷ 73 ∷ 0 ∷ 1 ∷ 129 ∷ 1 ∷ 204 ∷ 22 ∷ 11 ∷ 0 ∷ 0 ∷ 0 ∷ 0 ∷ 0 ∷ 2 ∷ pseudonode ∷ 0
+      ∷ 0 ∷ 10 ∷ 0 ∷ 135 ∷ 8 ∷ 0 ∷ 0 ∷ 0 ∷ 5 ∷ 24 ∷ 10 ∷ 0 ∷ 1 ∷ [];
   srm = srm;
   ssn = 0;
   waits = no_waits;
 }
 
--- the router after some events, the last one first
+-- the router after some events, the last one first (own)
 abbrev pub run : List Event → Router
 run [] = router
 run (event ∷ events) = (step given (run events) event).router
 
--- what it answers to a further one
+-- what it answers to a further one (own)
 abbrev pub answer_to : Event → List Event → Outcome
 answer_to event events = step given (run events) event

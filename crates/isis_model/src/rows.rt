@@ -21,7 +21,8 @@ pub fn wait_rows()
     ensures others { wait (fallen (five_at no_waits 1)) 2 ≡ 0 }
 {}
 
-/// Rows of the table for LSPs, where number 2 is held: circuits 1 and 2 are point-to-point, circuit 3 is a LAN.
+/// Rows of the table for LSPs, where number 2 is held: circuits 1 and 2 are point-to-point, circuit
+/// 3 is a LAN.
 pub fn lsp_rows()
     ensures stored { hear_lsp before 0 Other (lsp 6 9)
         ≡ book_with ((7, cell_of 6 9 1100 (replicate 30 1) 6 1) ∷ []) 5 }
@@ -56,7 +57,8 @@ pub fn snp_rows()
     ensures unasked { hear_entry (book_with [] 4) 0 Other (entry 6 0) ≡ book_with [] 4 }
 {}
 
-/// A fragment with the same contents is issued anew after 900 seconds, one with other contents after 5.
+/// A fragment with the same contents is issued anew after 900 seconds, one with other contents
+/// after 5.
 pub fn issue_rows()
     ensures first { is_due None (contents_of 1) ≡ true }
     ensures same { is_due (issued_at 899) (contents_of 1) ≡ false }
@@ -65,7 +67,8 @@ pub fn issue_rows()
     ensures changed { is_due (issued_at 5) (contents_of 3) ≡ true }
 {}
 
-/// The tests of a point-to-point hello, by a router of L2 in area 49.0001 with extended circuit ID 257.
+/// The tests of a point-to-point hello, by a router of L2 in area 49.0001 with extended circuit ID
+/// 257.
 pub fn hello_rows()
     ensures good { tested config 2 2 level_two [] (shake (Some (1, 257))) ≡ None }
     ensures own_id { tested config 1 1 level_two [] (shake None) ≡ Some OwnId }
@@ -80,8 +83,8 @@ pub fn hello_rows()
         ≡ Some OtherNeighbour }
 {}
 
-/// A router's first hellos, the handshake, its first CSNP set, and its first LSP, which is sent again after five
-/// seconds; and its hellos every ten seconds.
+/// A router's first hellos, the handshake, its first CSNP set, and its first LSP, which is sent
+/// again after five seconds; and its hellos every ten seconds.
 pub fn first_steps()
     ensures hello_sent { (answer_to (Pull 0) []).reply ≡ Send (PointHello Down 257 None ∷ []) }
     ensures lan_hello { (answer_to (Pull 1) []).reply ≡ Send (LanHello Two 258 [] ∷ []) }
@@ -100,7 +103,8 @@ pub fn first_steps()
         ≡ Send (Lsp Two 65536 (own_lsp 1195 0 1) ∷ []) }
 {}
 
-/// On a LAN the neighbour of the greater SNPA is designated; an LSP is sent once, and PSNPs are left to the neighbour.
+/// On a LAN the neighbour of the greater SNPA is designated; an LSP is sent once, and PSNPs are
+/// left to the neighbour.
 pub fn lan_steps()
     ensures issued { (answer_to (Pull 1) (Second ∷ lan_hello ∷ [])).reply
         ≡ Send (LanHello Two 513 (2 ∷ []) ∷ Lsp Two 65536 (own_lsp 1200 1 2) ∷ []) }
@@ -108,8 +112,8 @@ pub fn lan_steps()
         ≡ Send [] }
     ensures partial { (answer_to (Take 1 (SnpHeard Two 2 2 None [])) (lan_hello ∷ [])).reply
         ≡ Dropped NotDesignated }
-    ensures complete { (answer_to (Take 1 (SnpHeard Two 2 2 (Some (0, 9)) [])) (lan_hello ∷ [])).reply
-        ≡ Done }
-    ensures other_source { (answer_to (Take 1 (SnpHeard Two 2 3 (Some (0, 9)) [])) (lan_hello ∷ [])).reply
-        ≡ Dropped NoAdjacency }
+    ensures complete { (answer_to (Take 1 (SnpHeard Two 2 2 (Some (0, 9)) []))
+        (lan_hello ∷ [])).reply ≡ Done }
+    ensures other_source { (answer_to (Take 1 (SnpHeard Two 2 3 (Some (0, 9)) []))
+        (lan_hello ∷ [])).reply ≡ Dropped NoAdjacency }
 {}

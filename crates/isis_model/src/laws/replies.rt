@@ -11,7 +11,8 @@ ghost use Rattle.isis_model.specs.Good.{IsGoodEvent, IsGoodRouter};
 ghost use Rattle.isis_model.specs.CsnpLaws.{CoversFrom, HasShortIds};
 ghost use Rattle.isis_model.specs.ReplyLaws.{IsReplyHeld, IsReplyExact, IsReplyTold, IsReplyFine};
 
-/// What a reply says of LSPs is held after the step, with that rank or a newer one, unless the LSP ID was let go.
+/// What a reply says of LSPs is held after the step, with that rank or a newer one, unless the LSP
+/// ID was let go.
 pub fn step_reply()
     ensures { (given : Given) (r : Router) (event : Event) → IsSorted r
         → IsReplyHeld (step given r event).router (step given r event).reply }

@@ -1,4 +1,5 @@
-//! Laws of states: what holds at the start and is kept by every step, where new LSPs come from, own LSPs, and drops.
+//! Laws of states: what holds at the start and is kept by every step, where new LSPs come from, own
+//! LSPs, and drops.
 ghost use Rattle.std.specs.Prelude.{◌≡◌, ◌≢◌, ℕ, ◌/◌, ◌^◌, ◌<◌, ◌≤◌, List, length, Some};
 ghost use Rattle.std.specs.List.{AllByRecursion};
 ghost use Rattle.isis_base.specs.declared.level.Level.{Level};
@@ -50,8 +51,8 @@ pub fn step_sorted()
         → IsSorted r → IsSorted (step given r event).router }
 {}
 
-/// Where the event and what is given are good, a step keeps a good router good: both levels' cells, its system ID and
-/// its circuits' number.
+/// Where the event and what is given are good, a step keeps a good router good: both levels' cells,
+/// its system ID and its circuits' number.
 pub fn step_good()
     ensures { (given : Given) (r : Router) (event : Event)
         → IsGoodGiven given → IsGoodEvent event
@@ -64,8 +65,8 @@ pub fn step_idle()
         → AreIdle r → AreIdle (step given r event).router }
 {}
 
-/// What a step tells of keys and contents: a new live LSP was taken or issued in it, and while the count of changes
-/// stands below its end, keys and contents stand.
+/// What a step tells of keys and contents: a new live LSP was taken or issued in it, and while the
+/// count of changes stands below its end, keys and contents stand.
 pub fn step_tells()
     ensures { (given : Given) (r : Router) (event : Event)
         → TellsBoth given event r (step given r event).router }
@@ -77,8 +78,9 @@ pub fn wanted_own()
         → AllByRecursion (λ w. w.0 / 65536 ≡ r.config.system) (wanted given before r level) }
 {}
 
-/// A split has at most 256 fragments. Where each entry fits a TLV and a fragment alone, each fragment fits the room, and
-/// the fragments say the entries in order, each once, up to the first that doesn't fit.
+/// A split has at most 256 fragments. Where each entry fits a TLV and a fragment alone, each
+/// fragment fits the room, and the fragments say the entries in order, each once, up to the first
+/// that doesn't fit.
 pub fn split_laws()
     ensures count { (first : List ℕ) (items : List Item) (room : ℕ)
         → length (split first items room).fragments ≤ 256 }
