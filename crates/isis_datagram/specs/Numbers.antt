@@ -1,4 +1,5 @@
--- System IDs, SNPAs, node IDs and LSP IDs as the model's numbers: their octets, the first one the greatest (ISO 10589 7.1).
+-- System IDs, SNPAs, node IDs and LSP IDs as the model's numbers: their octets, the first one the
+-- greatest (ISO 10589 7.1).
 use Rattle.std.specs.Prelude.{ℕ, ◌+◌, ◌*◌, ◌/◌, ◌%◌, List, ◌++◌}
 use Rattle.isis_base.specs.declared.identifiers.SystemId.{SystemId}
 use Rattle.isis_base.specs.declared.identifiers.Snpa.{Snpa}

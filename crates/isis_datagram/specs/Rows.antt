@@ -1,4 +1,5 @@
--- PDUs that another router made, FRR isisd 8.4.4, and PDUs that each test refuses, for rows that are worked out (own).
+-- PDUs that another router made, FRR isisd 8.4.4, and PDUs that each test refuses, for rows that
+-- are worked out (own).
 use Rattle.std.specs.Prelude.{ℕ, Bool, true, false, List, [], ◌∷◌, ◌++◌, replicate, codes, Option, Some, None}
 use Rattle.isis_base.specs.declared.level.Level.TheVariants as level
 use Rattle.isis_base.specs.declared.level.LevelSet.TheVariants as levels
@@ -19,22 +20,31 @@ use Rattle.isis_datagram.specs.Reading.{read}
 -- an LSP of level 1, under the key "AreaKey1"
 abbrev pub frr_lsp : List ℕ
 frr_lsp =
-    131 ∷ 27 ∷ 1 ∷ 0 ∷ 18 ∷ 1 ∷ 0 ∷ 0 ∷ 0 ∷ 56 ∷ 4 ∷ 155 ∷ 0 ∷ 0 ∷ 0 ∷ 0 ∷ 0 ∷ 2 ∷ 0 ∷ 0 ∷ 0 ∷ 0 ∷ 0 ∷ 1 ∷ 167 ∷ 8 ∷ 3 ∷ 10 ∷ 17 ∷ 54 ∷ 115 ∷ 183 ∷ 18 ∷ 56 ∷ 5 ∷ 55 ∷ 24 ∷ 27 ∷ 130 ∷ 184 ∷ 189 ∷ 34 ∷ 97 ∷ 20 ∷ 233 ∷ 55 ∷ 1 ∷ 4 ∷ 3 ∷ 73 ∷ 0 ∷ 1 ∷ 137 ∷ 2 ∷ 82 ∷ 50 ∷ []
+    131 ∷ 27 ∷ 1 ∷ 0 ∷ 18 ∷ 1 ∷ 0 ∷ 0 ∷ 0 ∷ 56 ∷ 4 ∷ 155 ∷ 0 ∷ 0 ∷ 0 ∷ 0 ∷ 0 ∷ 2 ∷ 0 ∷ 0 ∷ 0 ∷ 0 ∷ 0
+    ∷ 1 ∷ 167 ∷ 8 ∷ 3 ∷ 10 ∷ 17 ∷ 54 ∷ 115 ∷ 183 ∷ 18 ∷ 56 ∷ 5 ∷ 55 ∷ 24 ∷ 27 ∷ 130 ∷ 184 ∷ 189 ∷ 34
+    ∷ 97 ∷ 20 ∷ 233 ∷ 55 ∷ 1 ∷ 4 ∷ 3 ∷ 73 ∷ 0 ∷ 1 ∷ 137 ∷ 2 ∷ 82 ∷ 50 ∷ []
 
 -- a purge of level 2, under the key "DomainKey1"
 abbrev pub frr_purge : List ℕ
 frr_purge =
-    131 ∷ 27 ∷ 1 ∷ 0 ∷ 20 ∷ 1 ∷ 0 ∷ 0 ∷ 0 ∷ 46 ∷ 0 ∷ 0 ∷ 0 ∷ 0 ∷ 0 ∷ 0 ∷ 0 ∷ 4 ∷ 2 ∷ 0 ∷ 0 ∷ 0 ∷ 0 ∷ 2 ∷ 189 ∷ 192 ∷ 3 ∷ 10 ∷ 17 ∷ 54 ∷ 93 ∷ 94 ∷ 147 ∷ 187 ∷ 112 ∷ 173 ∷ 80 ∷ 180 ∷ 91 ∷ 235 ∷ 174 ∷ 81 ∷ 75 ∷ 237 ∷ 163 ∷ 210 ∷ []
+    131 ∷ 27 ∷ 1 ∷ 0 ∷ 20 ∷ 1 ∷ 0 ∷ 0 ∷ 0 ∷ 46 ∷ 0 ∷ 0 ∷ 0 ∷ 0 ∷ 0 ∷ 0 ∷ 0 ∷ 4 ∷ 2 ∷ 0 ∷ 0 ∷ 0 ∷ 0
+    ∷ 2 ∷ 189 ∷ 192 ∷ 3 ∷ 10 ∷ 17 ∷ 54 ∷ 93 ∷ 94 ∷ 147 ∷ 187 ∷ 112 ∷ 173 ∷ 80 ∷ 180 ∷ 91 ∷ 235 ∷ 174
+    ∷ 81 ∷ 75 ∷ 237 ∷ 163 ∷ 210 ∷ []
 
 -- a CSNP of level 1, under the key "AreaKey1"
 abbrev pub frr_csnp : List ℕ
 frr_csnp =
-    131 ∷ 33 ∷ 1 ∷ 0 ∷ 24 ∷ 1 ∷ 0 ∷ 0 ∷ 0 ∷ 70 ∷ 0 ∷ 0 ∷ 0 ∷ 0 ∷ 0 ∷ 2 ∷ 0 ∷ 0 ∷ 0 ∷ 0 ∷ 0 ∷ 0 ∷ 0 ∷ 0 ∷ 0 ∷ 255 ∷ 255 ∷ 255 ∷ 255 ∷ 255 ∷ 255 ∷ 255 ∷ 255 ∷ 10 ∷ 17 ∷ 54 ∷ 105 ∷ 227 ∷ 241 ∷ 91 ∷ 70 ∷ 93 ∷ 138 ∷ 132 ∷ 53 ∷ 105 ∷ 24 ∷ 188 ∷ 165 ∷ 223 ∷ 175 ∷ 135 ∷ 9 ∷ 16 ∷ 4 ∷ 155 ∷ 0 ∷ 0 ∷ 0 ∷ 0 ∷ 0 ∷ 2 ∷ 0 ∷ 0 ∷ 0 ∷ 0 ∷ 0 ∷ 1 ∷ 167 ∷ 8 ∷ []
+    131 ∷ 33 ∷ 1 ∷ 0 ∷ 24 ∷ 1 ∷ 0 ∷ 0 ∷ 0 ∷ 70 ∷ 0 ∷ 0 ∷ 0 ∷ 0 ∷ 0 ∷ 2 ∷ 0 ∷ 0 ∷ 0 ∷ 0 ∷ 0 ∷ 0 ∷ 0
+    ∷ 0 ∷ 0 ∷ 255 ∷ 255 ∷ 255 ∷ 255 ∷ 255 ∷ 255 ∷ 255 ∷ 255 ∷ 10 ∷ 17 ∷ 54 ∷ 105 ∷ 227 ∷ 241 ∷ 91
+    ∷ 70 ∷ 93 ∷ 138 ∷ 132 ∷ 53 ∷ 105 ∷ 24 ∷ 188 ∷ 165 ∷ 223 ∷ 175 ∷ 135 ∷ 9 ∷ 16 ∷ 4 ∷ 155 ∷ 0 ∷ 0
+    ∷ 0 ∷ 0 ∷ 0 ∷ 2 ∷ 0 ∷ 0 ∷ 0 ∷ 0 ∷ 0 ∷ 1 ∷ 167 ∷ 8 ∷ []
 
 -- a PSNP of level 1, under the key "AreaKey1"
 abbrev pub frr_psnp : List ℕ
 frr_psnp =
-    131 ∷ 17 ∷ 1 ∷ 0 ∷ 26 ∷ 1 ∷ 0 ∷ 0 ∷ 0 ∷ 54 ∷ 0 ∷ 0 ∷ 0 ∷ 0 ∷ 0 ∷ 1 ∷ 0 ∷ 10 ∷ 17 ∷ 54 ∷ 199 ∷ 91 ∷ 73 ∷ 102 ∷ 102 ∷ 24 ∷ 66 ∷ 204 ∷ 250 ∷ 253 ∷ 46 ∷ 17 ∷ 221 ∷ 90 ∷ 69 ∷ 205 ∷ 9 ∷ 16 ∷ 4 ∷ 154 ∷ 0 ∷ 0 ∷ 0 ∷ 0 ∷ 0 ∷ 2 ∷ 0 ∷ 0 ∷ 0 ∷ 0 ∷ 0 ∷ 1 ∷ 167 ∷ 8 ∷ []
+    131 ∷ 17 ∷ 1 ∷ 0 ∷ 26 ∷ 1 ∷ 0 ∷ 0 ∷ 0 ∷ 54 ∷ 0 ∷ 0 ∷ 0 ∷ 0 ∷ 0 ∷ 1 ∷ 0 ∷ 10 ∷ 17 ∷ 54 ∷ 199 ∷ 91
+    ∷ 73 ∷ 102 ∷ 102 ∷ 24 ∷ 66 ∷ 204 ∷ 250 ∷ 253 ∷ 46 ∷ 17 ∷ 221 ∷ 90 ∷ 69 ∷ 205 ∷ 9 ∷ 16 ∷ 4 ∷ 154
+    ∷ 0 ∷ 0 ∷ 0 ∷ 0 ∷ 0 ∷ 2 ∷ 0 ∷ 0 ∷ 0 ∷ 0 ∷ 0 ∷ 1 ∷ 167 ∷ 8 ∷ []
 
 -- a reader of both levels, with these keys, on a point-to-point circuit or a LAN, from SNPA 2
 abbrev pub reader : Both (Option (List ℕ)) → Config
@@ -101,5 +111,7 @@ down_heard extended = PointHelloHeard (record {
 -- TLVs of padding: five of 255 octets, and one more
 abbrev pub padding : ℕ → List ℕ
 padding count =
-    tlv_octets 8 (replicate 255 0) ++ tlv_octets 8 (replicate 255 0) ++ tlv_octets 8 (replicate 255 0)
-    ++ tlv_octets 8 (replicate 255 0) ++ tlv_octets 8 (replicate 255 0) ++ tlv_octets 8 (replicate count 0)
+    tlv_octets 8 (replicate 255 0) ++ tlv_octets 8 (replicate 255 0)
+    ++ tlv_octets 8 (replicate 255 0)
+    ++ tlv_octets 8 (replicate 255 0) ++ tlv_octets 8 (replicate 255 0)
+    ++ tlv_octets 8 (replicate count 0)

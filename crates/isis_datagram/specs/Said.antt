@@ -30,7 +30,8 @@ abbrev pub names : ℕ → List ℕ → Bool
 names snpa [] = false
 names snpa (first ∷ snpas) = (first == snpa) || names snpa snpas
 
--- The message that what is sent on a circuit says to a reader, whose SNPA is `own`. An LSP that is a purge has 0 seconds left.
+-- The message that what is sent on a circuit says to a reader, whose SNPA is `own`. An LSP that is
+-- a purge has 0 seconds left.
 abbrev pub said : ℕ → Config → ℕ → Circuit → Sent → Message
 said own config place c (PointHello state extended named) = PointHelloHeard (record {
   source = config.system;
@@ -62,12 +63,15 @@ said own config place c (Lsp level id cell) = LspHeard level config.system (reco
   left = if is_live cell.rank then cell.left else 0;
   octets = pdu_octets config place c (Lsp level id cell);
 })
-said own config place c (Csnp level start end entries) = SnpHeard level config.system config.system (Some (start, end)) entries
-said own config place c (Psnp level entries) = SnpHeard level config.system config.system None entries
+said own config place c (Csnp level start end entries) =
+    SnpHeard level config.system config.system (Some (start, end)) entries
+said own config place c (Psnp level entries) =
+    SnpHeard level config.system config.system None entries
 
 -- what is sent is read as what it says
 abbrev pub ReadsBack : Config → Circuit → Config → ℕ → Circuit → Sent → Type 0
-ReadsBack by on config place c sent = read by on (datagram config place c sent) ≡ said by.system config place c sent
+ReadsBack by on config place c sent =
+    read by on (datagram config place c sent) ≡ said by.system config place c sent
 
 -- ---- who reads it
 
@@ -79,8 +83,10 @@ kind_sent (Lsp level id cell) = kind.Lsp level
 kind_sent (Csnp level start end entries) = kind.Csnp level
 kind_sent (Psnp level entries) = kind.Psnp level
 
--- a reader `by` on its circuit `on`, which is of a hello's kind, runs the level, and has the sender's key
-pub record CanRead (by : Config) (on : Circuit) (config : Config) (c : Circuit) (kind : PduKind) : Type 0 where
+-- a reader `by` on its circuit `on`, which is of a hello's kind, runs the level, and has the
+-- sender's key
+pub record CanRead (by : Config) (on : Circuit) (config : Config) (c : Circuit)
+    (kind : PduKind) : Type 0 where
   pub goes : goes_on on kind ≡ true
   pub runs : is_run by kind ≡ true
   pub key : key_for by on kind ≡ key_for config c kind
@@ -94,7 +100,8 @@ pub record IsSender (config : Config) : Type 0 where
   pub areas : AllByRecursion IsArea config.areas
   pub fits : length (area_value config.areas) ≤ 255
 
--- an entry: fields of the standard's sizes (ISO 10589 9.10), and lifetime 0 exactly where it names no live LSP
+-- an entry: fields of the standard's sizes (ISO 10589 9.10), and lifetime 0 exactly where it names
+-- no live LSP
 pub record IsTellable (h : SnpEntry) : Type 0 where
   pub id : h.id < 2 ^ 64
   pub rank : h.rank < 2 ^ 33
@@ -123,12 +130,14 @@ pub record IsLanHello (priority lan : ℕ) (snpas : List ℕ) : Type 0 where
 
 -- ---- LSPs as they are held
 
--- A live LSP's octets say what is held of it, have the standard's size and a checksum that holds, and are authentic where
--- there is a key; their own lifetime is what it was when they came.
+-- A live LSP's octets say what is held of it, have the standard's size and a checksum that holds,
+-- and are authentic where there is a key; their own lifetime is what it was when they came.
 pub record TellsLive (key : Option (List ℕ)) (level : Level) (id : ℕ) (cell : Cell) : Type 0 where
   pub lifetime : ℕ
   pub tlvs : List ℕ
-  pub begins : Begins cell.octets (pdu.Lsp level lifetime (lsp_id id) (number_of cell.rank) cell.checksum cell.flags tlvs) (length cell.octets)
+  pub begins : Begins cell.octets
+      (pdu.Lsp level lifetime (lsp_id id) (number_of cell.rank) cell.checksum cell.flags tlvs)
+      (length cell.octets)
   pub lives : 0 < lifetime
   pub short : length cell.octets ≤ 1492
   pub some : 0 < cell.checksum
@@ -143,7 +152,8 @@ pub record IsLiveLsp (key : Option (List ℕ)) (level : Level) (id : ℕ) (cell 
   pub fits : cell.left < 2 ^ 16
   pub tells : TellsLive key level id cell
 
--- what an own LSP may say: TLVs that leave room for a header of 27 octets and an authentication of 19 in 1,492
+-- what an own LSP may say: TLVs that leave room for a header of 27 octets and an authentication of
+-- 19 in 1,492
 pub record IsIssuable (contents : Contents) : Type 0 where
   pub tlvs : AreTlvs contents.tlvs
   pub short : length contents.tlvs ≤ 1446
@@ -159,7 +169,8 @@ pub record IsPurge (level : Level) (id : ℕ) (cell : Cell) : Type 0 where
   pub purge : is_purge cell.rank ≡ true
   pub some : 1 < cell.rank
   pub summed : cell.checksum ≡ 0
-  pub begins : Begins cell.octets (pdu.Lsp level 0 (lsp_id id) (number_of cell.rank) 0 cell.flags []) 27
+  pub begins : Begins cell.octets
+      (pdu.Lsp level 0 (lsp_id id) (number_of cell.rank) 0 cell.flags []) 27
   pub alone : length cell.octets ≡ 27
 
 -- what is kept of an LSP that is read may be sent, under the reader's key

@@ -12,7 +12,8 @@ use Rattle.hmac_auth.specs.Pdus.{blanked}
 abbrev pub auth_octets : List ℕ → List ℕ
 auth_octets digest = tlv_octets 10 (54 ∷ digest)
 
--- the digest of octets whose authentication TLV stands first behind a header of so many octets (RFC 5304 2)
+-- the digest of octets whose authentication TLV stands first behind a header of so many octets (RFC
+-- 5304 2)
 abbrev pub digest_of : List ℕ → ℕ → List ℕ → List ℕ
 digest_of key header octets = hmac key (blanked octets (header + 3))
 

@@ -1,4 +1,5 @@
--- The TLVs of hellos and SNPs, in their order (ISO 10589 9.5 to 9.13, RFC 1195 5.3, RFC 5303 3.1; the order: own).
+-- The TLVs of hellos and SNPs, in their order (ISO 10589 9.5 to 9.13, RFC 1195 5.3, RFC 5303 3.1;
+-- the order: own).
 use Rattle.std.specs.Prelude.{ℕ, zero, suc, List, [], ◌∷◌, ◌++◌, length, take, drop, map, Option, Some, None}
 use Rattle.std.specs.List.{flat_map}
 use Rattle.std.specs.Option.{option_map}
@@ -14,7 +15,8 @@ use Rattle.isis_datagram.specs.Numbers.{system_id, snpa_id, lsp_id}
 abbrev pub in_pieces : {X : Type 0} → ℕ → ℕ → List X → List (List X)
 in_pieces zero size list = []
 in_pieces (suc count) size [] = []
-in_pieces (suc count) size (x ∷ list) = take size (x ∷ list) ∷ in_pieces count size (drop size (x ∷ list))
+in_pieces (suc count) size (x ∷ list) =
+    take size (x ∷ list) ∷ in_pieces count size (drop size (x ∷ list))
 
 -- ---- hellos
 
@@ -25,7 +27,8 @@ own_address (Some address) = address_tlv (address ∷ [])
 
 -- area addresses, IPv4, and the circuit's address, before what else a hello has
 abbrev pub hello_tlvs : List (List ℕ) → Option ℕ → List ℕ → List ℕ
-hello_tlvs areas address others = area_tlv areas ++ (protocol_tlv ++ (own_address address ++ others))
+hello_tlvs areas address others =
+    area_tlv areas ++ (protocol_tlv ++ (own_address address ++ others))
 
 -- the state, the extended circuit ID, and the neighbour where one is kept (RFC 5303 3.1)
 abbrev pub three_way_value : Adj → ℕ → Option (ℕ × ℕ) → ThreeWay
@@ -41,7 +44,8 @@ point_tlvs areas address state extended names =
 
 -- the SNPAs heard, 42 to a TLV
 abbrev pub snpa_tlvs : List ℕ → List ℕ
-snpa_tlvs snpas = flat_map (λ (piece : List ℕ). snpa_tlv (map snpa_id piece)) (in_pieces (length snpas) 42 snpas)
+snpa_tlvs snpas =
+    flat_map (λ (piece : List ℕ). snpa_tlv (map snpa_id piece)) (in_pieces (length snpas) 42 snpas)
 
 abbrev pub lan_tlvs : List (List ℕ) → Option ℕ → List ℕ → List ℕ
 lan_tlvs areas address snpas = hello_tlvs areas address (snpa_tlvs snpas)
@@ -50,9 +54,16 @@ lan_tlvs areas address snpas = hello_tlvs areas address (snpa_tlvs snpas)
 
 -- an LSP entry of the model's
 abbrev pub lsp_entry : SnpEntry → LspEntry
-lsp_entry h = record { lifetime = h.lifetime; id = lsp_id h.id; number = number_of h.rank; checksum = h.checksum }
+lsp_entry h =
+    record {
+      lifetime = h.lifetime;
+      id = lsp_id h.id;
+      number = number_of h.rank;
+      checksum = h.checksum;
+    }
 
 -- the entries, 15 to a TLV
 abbrev pub entry_tlvs : List SnpEntry → List ℕ
 entry_tlvs entries =
-    flat_map (λ (piece : List SnpEntry). entry_tlv (map lsp_entry piece)) (in_pieces (length entries) 15 entries)
+    flat_map (λ (piece : List SnpEntry). entry_tlv (map lsp_entry piece))
+    (in_pieces (length entries) 15 entries)

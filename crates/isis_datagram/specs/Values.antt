@@ -1,4 +1,5 @@
--- What the values of TLVs say, of all TLVs of a code in their order (ISO 10589 9.5, 9.10, RFC 5303 3.1).
+-- What the values of TLVs say, of all TLVs of a code in their order (ISO 10589 9.5, 9.10, RFC 5303
+-- 3.1).
 use Rattle.std.specs.Prelude.{ℕ, ◌==◌, Bool, false, ◌||◌, List, [], ◌∷◌, Option, Some, None, Result, unwrap_or, if◌then◌else◌}
 use Rattle.std.specs.List.{flat_map}
 use Rattle.std.specs.Option.{option_map}
@@ -16,11 +17,13 @@ use Rattle.isis_model.specs.Adjacencies.{Handshake}
 use Rattle.isis_datagram.specs.Numbers.{system_number, snpa_number}
 
 -- what one TLV says where it has the code, by a reader of values
-abbrev pub items_if : {X : Type 0} → ℕ → (List ℕ → List (Result X ValueFault)) → TlvView → List (Result X ValueFault)
+abbrev pub items_if : {X : Type 0} → ℕ → (List ℕ → List (Result X ValueFault)) → TlvView
+    → List (Result X ValueFault)
 items_if code reader tlv = if tlv.code == code then reader tlv.value else []
 
 -- what all TLVs of a code say, each with its fault
-unfoldable pub items_in : {X : Type 0} → ℕ → (List ℕ → List (Result X ValueFault)) → List ℕ → List (Result X ValueFault)
+unfoldable pub items_in : {X : Type 0} → ℕ → (List ℕ → List (Result X ValueFault)) → List ℕ
+    → List (Result X ValueFault)
 items_in code reader octets = flat_map (items_if code reader) (tlv_list 0 octets)
 
 abbrev pub areas_in : List ℕ → List (Result (List ℕ) ValueFault)

@@ -43,8 +43,9 @@ pub fn decoded_law()
         → decoded octets ≡ Ok (pdu, n) }
 {}
 
-/// The checksum of octets that have 0 in its place, where the second check octet has that weight, makes them hold; each
-/// check octet is 1 to 255, so it is the one that `fill` of iso_checksum writes.
+/// The checksum of octets that have 0 in its place, where the second check octet has that weight,
+/// makes them hold; each check octet is 1 to 255, so it is the one that `fill` of iso_checksum
+/// writes.
 pub fn checksum_law()
     ensures holds { (octets : List ℕ) (place weight : ℕ) → place + 2 ≤ length octets
         → with_checksum place 0 octets ≡ octets → weight + place + 1 ≡ length octets
@@ -93,7 +94,8 @@ pub fn csnp_law()
         → ReadsBack by on config place c (Csnp level start end entries) }
 {}
 
-/// What is issued says what is held of it, has a checksum that holds and is authentic. So it may be sent.
+/// What is issued says what is held of it, has a checksum that holds and is authentic. So it may be
+/// sent.
 pub fn issue_law()
     ensures tells { (leaks : Router → Level → List (ℕ × ℕ)) (attached : Router → Bool)
         (r : Router) (level : Level) (id number : ℕ) (contents : Contents)

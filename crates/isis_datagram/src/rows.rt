@@ -1,4 +1,5 @@
-//! PDUs that another router made (FRR isisd 8.4.4), and PDUs that each test refuses, worked out by computation.
+//! PDUs that another router made (FRR isisd 8.4.4), and PDUs that each test refuses, worked out by
+//! computation.
 ghost use Rattle.std.specs.Prelude.{◌≡◌, ◌+◌, ◌*◌, ◌++◌, length, replicate, ◌-◌, ◌^◌, true, false, [], ◌∷◌, Some, None};
 ghost use Rattle.isis_base.specs.declared.level.Level.TheVariants as level;
 ghost use Rattle.isis_tlv.specs.Tlvs.{tlv_octets};
@@ -60,7 +61,8 @@ pub fn order_rows()
         ≡ Refused drop.ZeroNumber }
 {}
 
-/// A three-way TLV that has a state alone counts as extended circuit ID 0, and of two such TLVs the first counts.
+/// A three-way TLV that has a state alone counts as extended circuit ID 0, and of two such TLVs the
+/// first counts.
 pub fn hello_rows()
     ensures bare { read_by (reader no_keys) false (point_hello (tlv_octets 240 (2 ∷ [])))
         ≡ down_heard 0 }

@@ -9,7 +9,7 @@ use Rattle.isis_model.specs.Books.{cell_at, rank_of, rank_at, checksum_of}
 use Rattle.isis_model.specs.SnpTable.{SnpEntry}
 use Rattle.isis_model.specs.LetGos.{lets_go}
 use Rattle.isis_model.specs.Routers.{Router, level_of, book_of}
-use Rattle.isis_model.specs.Good.{IsGoodCell}
+use Rattle.isis_model.specs.Good.{IsGoodCell, AreTellable}
 use Rattle.isis_model.specs.Deeds.{content_of}
 use Rattle.isis_model.specs.Datagrams.{Sent, PointHello, LanHello, Lsp, Csnp, Psnp}
 use Rattle.isis_model.specs.Events.{Reply, Done, Dropped, Send}
@@ -104,8 +104,8 @@ abbrev pub IsFine : Sent → Type 0
 IsFine (PointHello state extended names) = Unit {0}
 IsFine (LanHello level lan snpas) = Unit {0}
 IsFine (Lsp level id cell) = (id < 2 ^ 64) × IsGoodCell cell × (0 < cell.rank)
-IsFine (Csnp level start end entries) = AllByRecursion (λ (h : SnpEntry). h.id < 2 ^ 64) entries
-IsFine (Psnp level entries) = AllByRecursion (λ (h : SnpEntry). h.id < 2 ^ 64) entries
+IsFine (Csnp level start end entries) = (start < 2 ^ 64) × (end < 2 ^ 64) × AreTellable entries
+IsFine (Psnp level entries) = AreTellable entries
 
 -- own
 abbrev pub IsReplyFine : Reply → Type 0
