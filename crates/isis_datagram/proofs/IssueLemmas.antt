@@ -17,7 +17,7 @@ use Rattle.isis_datagram.specs.Numbers.{lsp_id}
 use Rattle.isis_datagram.specs.Tests.{passes}
 use Rattle.isis_datagram.specs.Signing.{auth_octets, signed_tlvs}
 use Rattle.isis_datagram.specs.Lsps.{issued_with, issued_tlvs, issued_checksum, issued_pdu, given_octets}
-use Rattle.isis_datagram.specs.Said.{TellsLive, IsIssuable}
+use Rattle.isis_datagram.specs.LspLaws.{TellsLive, IsIssuable}
 use Rattle.isis_datagram.proofs.ReadLemmas.{spelled-begins}
 use Rattle.isis_datagram.proofs.AuthLemmas.{IsHead, signed-length, signed-are, signed-passes}
 use Rattle.isis_datagram.proofs.CheckLemmas.{checksum-some, checksum-holds}
@@ -116,4 +116,5 @@ pub given-good : (leaks : Router → Level → List (ℕ × ℕ)) (attached : Ro
 given-good leaks attached = record {
   header = λ r level id number contents. omega arith;
   summed = λ r level id number contents. (issued-some (at r.config.keys level) level id number contents).0;
+  word = λ r level id number contents. (issued-some (at r.config.keys level) level id number contents).1;
 }

@@ -21,7 +21,10 @@ ghost use Rattle.isis_datagram.specs.Frames.{framed, unframed};
 ghost use Rattle.isis_datagram.specs.Reading.{read};
 ghost use Rattle.isis_datagram.specs.CheckOctets.{checksum_with, with_checksum};
 ghost use Rattle.isis_datagram.specs.Lsps.{given_octets};
-ghost use Rattle.isis_datagram.specs.Said.{ReadsBack, CanRead, IsSender, AreTellable, IsHandshake, IsLanHello, IsLiveLsp, IsIssuable, IssueTells, IsPurge, TellsKept};
+ghost use Rattle.isis_datagram.specs.Said.{ReadsBack, CanRead};
+ghost use Rattle.isis_datagram.specs.Senders.{IsSender, IsHandshake, IsLanHello};
+ghost use Rattle.isis_model.specs.Good.{AreTellable};
+ghost use Rattle.isis_datagram.specs.LspLaws.{IsLiveLsp, IsIssuable, IssueTells, IsPurge, TellsKept};
 
 /// Identifiers of numbers have those numbers.
 pub fn number_laws()
@@ -50,8 +53,10 @@ pub fn checksum_law()
     ensures holds { (octets : List ℕ) (place weight : ℕ) → place + 2 ≤ length octets
         → with_checksum place 0 octets ≡ octets → weight + place + 1 ≡ length octets
         → Holds (with_checksum place (checksum_with octets weight) octets) }
-    ensures first { (octets : List ℕ) (weight : ℕ) → IsCheckOctet (checksum_with octets weight / 256) }
-    ensures second { (octets : List ℕ) (weight : ℕ) → IsCheckOctet (checksum_with octets weight % 256) }
+    ensures first { (octets : List ℕ) (weight : ℕ)
+        → IsCheckOctet (checksum_with octets weight / 256) }
+    ensures second { (octets : List ℕ) (weight : ℕ)
+        → IsCheckOctet (checksum_with octets weight % 256) }
 {}
 
 /// What is read of octets has the sizes that the model's laws ask of a message.

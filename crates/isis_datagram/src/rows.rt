@@ -36,16 +36,21 @@ pub fn drop_rows()
     ensures frame { read config (circuit false) (73 ∷ 83 ∷ 85 ∷ 49 ∷ 0 ∷ []) ≡ Refused drop.Frame }
     ensures pdu { read_by (reader no_keys) false [] ≡ Refused drop.Pdu }
     ensures too_long { read_by (reader no_keys) false (psnp (padding 189)) ≡ Refused drop.TooLong }
-    ensures long { read_by (reader no_keys) false (psnp (padding 188)) ≡ SnpHeard level.One 2 2 None [] }
+    ensures long { read_by (reader no_keys) false (psnp (padding 188))
+        ≡ SnpHeard level.One 2 2 None [] }
     ensures lan_hello { read_by (reader no_keys) false lan_hello ≡ Refused drop.WrongKind }
     ensures point_hello { read_by (reader no_keys) true (point_hello []) ≡ Refused drop.WrongKind }
     ensures wrong_level { read_by config false (psnp []) ≡ Refused drop.WrongLevel }
     ensures auth { read_by (reader keys) false (psnp []) ≡ Refused drop.Auth }
-    ensures value { read_by (reader no_keys) false (psnp (tlv_octets 9 (0 ∷ []))) ≡ Refused drop.Value }
-    ensures hello_value { read_by (reader no_keys) false (point_hello (tlv_octets 240 (3 ∷ []))) ≡ Refused drop.Value }
+    ensures value { read_by (reader no_keys) false (psnp (tlv_octets 9 (0 ∷ [])))
+        ≡ Refused drop.Value }
+    ensures hello_value { read_by (reader no_keys) false (point_hello (tlv_octets 240 (3 ∷ [])))
+        ≡ Refused drop.Value }
     ensures zero_number { read_by (reader no_keys) false (lsp 0 0 0) ≡ Refused drop.ZeroNumber }
-    ensures zero_checksum { read_by (reader no_keys) false (lsp 1200 1 0) ≡ Refused drop.BadChecksum }
-    ensures bad_checksum { read_by (reader no_keys) false (lsp 1200 1 1) ≡ Refused drop.BadChecksum }
+    ensures zero_checksum { read_by (reader no_keys) false (lsp 1200 1 0)
+        ≡ Refused drop.BadChecksum }
+    ensures bad_checksum { read_by (reader no_keys) false (lsp 1200 1 1)
+        ≡ Refused drop.BadChecksum }
 {}
 
 /// Where two tests fail the earlier one is the cause.
@@ -67,7 +72,8 @@ pub fn hello_rows()
     ensures bare { read_by (reader no_keys) false (point_hello (tlv_octets 240 (2 ∷ [])))
         ≡ down_heard 0 }
     ensures first { read_by (reader no_keys) false
-        (point_hello (tlv_octets 240 (2 ∷ 0 ∷ 0 ∷ 0 ∷ 7 ∷ []) ++ tlv_octets 240 (0 ∷ []))) ≡ down_heard 7 }
+        (point_hello (tlv_octets 240 (2 ∷ 0 ∷ 0 ∷ 0 ∷ 7 ∷ []) ++ tlv_octets 240 (0 ∷ [])))
+        ≡ down_heard 7 }
 {}
 
 /// A TLV holds 42 SNPAs and 15 entries.

@@ -1,0 +1,79 @@
+-- LSPs that may be sent: what is held says itself, as it came, as it was issued, or as a purge (own).
+use Rattle.std.specs.Prelude.{◌≡◌, ◌≢◌, ℕ, ◌^◌, ◌<◌, ◌≤◌, true, false, Bool, ◌==◌, ◌||◌, List, [], ◌∷◌, length, drop, Option, Some, None, IfSome, if◌then◌else◌}
+use Rattle.std.specs.List.{AllByRecursion}
+use Rattle.isis_base.specs.declared.level.Level.{Level}
+use Rattle.isis_base.specs.declared.pdu_kind.PduKind.{PduKind}
+use Rattle.isis_base.specs.declared.pdu_kind.PduKind.TheVariants as kind
+use Rattle.isis_tlv.specs.Tlvs.{AreTlvs}
+use Rattle.isis_tlv.specs.Fits.{IsArea}
+use Rattle.isis_tlv.specs.Spelling.{area_value}
+use Rattle.isis_model.specs.Ranks.{number_of, is_live, is_purge}
+use Rattle.isis_model.specs.Configs.{Config}
+use Rattle.isis_model.specs.Routers.{Circuit, Contents, Router}
+use Rattle.isis_model.specs.Both.{at}
+use Rattle.isis_model.specs.Givens.{Given}
+use Rattle.isis_model.specs.OwnLsps.{issue_cell}
+use Rattle.isis_model.specs.Datagrams.{Sent, PointHello, LanHello, Lsp, Csnp, Psnp}
+use Rattle.isis_model.specs.Events.{Message, Refused, PointHelloHeard, LanHelloHeard, LspHeard, SnpHeard}
+use Rattle.iso_checksum.specs.Checksum.{checksum_holds}
+use Rattle.isis_pdu.specs.Views as pdu
+use Rattle.isis_pdu.specs.Reading.{Begins}
+use Rattle.isis_model.specs.Cells.{Cell, kept}
+use Rattle.isis_datagram.specs.Numbers.{lsp_id}
+use Rattle.isis_model.specs.SnpTable.{SnpEntry}
+use Rattle.isis_datagram.specs.Datagrams.{pdu_octets, datagram}
+use Rattle.isis_datagram.specs.Reading.{read}
+use Rattle.isis_datagram.specs.Tests.{goes_on, is_run, key_for, passes}
+
+-- A live LSP's octets say what is held of it, have the standard's size and a checksum that holds,
+-- and are authentic where there is a key; their own lifetime is what it was when they came.
+pub record TellsLive (key : Option (List ℕ)) (level : Level) (id : ℕ) (cell : Cell) : Type 0 where
+  pub lifetime : ℕ
+  pub tlvs : List ℕ
+  pub begins : Begins cell.octets
+      (pdu.Lsp level lifetime (lsp_id id) (number_of cell.rank) cell.checksum cell.flags tlvs)
+      (length cell.octets)
+  pub lives : 0 < lifetime
+  pub short : length cell.octets ≤ 1492
+  pub some : 0 < cell.checksum
+  pub summed : checksum_holds (drop 12 cell.octets) ≡ true
+  pub authentic : passes key cell.octets 27 ≡ true
+
+-- a live LSP that may be sent
+pub record IsLiveLsp (key : Option (List ℕ)) (level : Level) (id : ℕ) (cell : Cell) : Type 0 where
+  pub eight : id < 2 ^ 64
+  pub live : is_live cell.rank ≡ true
+  pub left : 0 < cell.left
+  pub fits : cell.left < 2 ^ 16
+  pub tells : TellsLive key level id cell
+
+-- what an own LSP may say: TLVs that leave room for a header of 27 octets and an authentication of
+-- 19 in 1,492
+pub record IsIssuable (contents : Contents) : Type 0 where
+  pub tlvs : AreTlvs contents.tlvs
+  pub short : length contents.tlvs ≤ 1446
+
+-- What is issued, whatever routes say, tells itself; `given` is what a step is given.
+abbrev pub IssueTells : Given → Router → Level → ℕ → ℕ → Contents → Type 0
+IssueTells given r level id number contents =
+    TellsLive (at r.config.keys level) level id (issue_cell given r level id number contents)
+
+-- a purge that may be sent: its octets are a header alone, which says what is held of it
+pub record IsPurge (level : Level) (id : ℕ) (cell : Cell) : Type 0 where
+  pub eight : id < 2 ^ 64
+  pub purge : is_purge cell.rank ≡ true
+  pub some : 1 < cell.rank
+  pub summed : cell.checksum ≡ 0
+  pub begins : Begins cell.octets
+      (pdu.Lsp level 0 (lsp_id id) (number_of cell.rank) 0 cell.flags []) 27
+  pub alone : length cell.octets ≡ 27
+
+-- what is kept of an LSP that is read may be sent, under the reader's key
+abbrev pub TellsKept : Config → Message → Type 0
+TellsKept by (Refused cause) = Unit {0}
+TellsKept by (PointHelloHeard h) = Unit {0}
+TellsKept by (LanHelloHeard level h) = Unit {0}
+TellsKept by (LspHeard level snpa h) =
+    (is_live h.rank ≡ true → TellsLive (at by.keys level) level h.id (kept h))
+    × (is_purge h.rank ≡ true → IsPurge level h.id (kept h))
+TellsKept by (SnpHeard level snpa source range entries) = Unit {0}
