@@ -32,13 +32,17 @@ abbrev pub content_of : Cell → Content
 content_of cell = record { checksum = cell.checksum; flags = cell.flags; octets = cell.octets }
 
 -- What a step hears on one level: `rank place id` is the greatest rank of an LSP ID on a circuit,
--- `source id rank content` holds of what a new LSP may be, `sane` of good events, configurations
--- and what is given, and `mine` of one's own LSP IDs (own).
+-- `source id rank content` holds of what a new LSP may be, `sane` of good events, configurations and
+-- what is given, `mine` of one's own LSP IDs, `names place id` of what a datagram that is taken on a
+-- circuit names, and `stirs` of the circuits
+-- whose flags the step may clear as a whole, by a pull or a closing (own).
 pub record Hearing : Type 1 where
   pub rank : ℕ → ℕ → ℕ
   pub source : ℕ → ℕ → Content → Type 0
   pub sane : Type 0
   pub mine : ℕ → Type 0
+  pub names : ℕ → ℕ → Type 0
+  pub stirs : ℕ → Type 0
 
 -- what is issued under an LSP ID of one's own may be a new LSP, and is good where the step is sane
 -- (own)
@@ -59,31 +63,35 @@ pub data Way (heard : Hearing) : LevelState → LevelState → Type 0 where
   Still : (s : LevelState) → Way heard s s
   Then : (a b c : LevelState) → Way heard a b → Way heard b c → Way heard a c
   Hear : (s : LevelState) (place : ℕ) (w : Whose) (h : Heard) → h.rank ≤ heard.rank place h.id
+      → heard.names place h.id
       → heard.source h.id h.rank (content_of (kept h)) → (heard.sane → IsGoodLsp h)
       → Way heard s (with_this s (hear_lsp s.book place w h))
   Let : (s : LevelState) (id : ℕ) → Way heard s (record s { gone = let_go s.gone id })
   Entry : (s : LevelState) (place : ℕ) (w : Whose) (h : SnpEntry) → h.rank ≤ heard.rank place h.id
-      → (heard.sane → h.id < 2 ^ 64) → Way heard s (with_this s (hear_entry s.book place w h))
+      → heard.names place h.id → (heard.sane → h.id < 2 ^ 64)
+      → Way heard s (with_this s (hear_entry s.book place w h))
   Range : (s : LevelState) (place start end : ℕ) (entries : List SnpEntry)
       → Way heard s (with_this s (hear_range s.book place start end entries))
   Install : (s : LevelState) (id : ℕ) (contents : Contents) (cell : Cell)
       → rank_at s.book id < cell.rank
       → heard.source id cell.rank (content_of cell) → Fits heard s id cell
       → Way heard s (install s id contents cell)
-  Retire : (s : LevelState) (id : ℕ) (cell : Cell) → rank_at s.book id ≤ cell.rank
+  Retire : (s : LevelState) (id : ℕ) (cell : Cell) → rank_at s.book id < cell.rank
       → is_live cell.rank ≡ false
       → Fits heard s id cell → Way heard s (retire s id cell)
   Age : (s : LevelState) (id : ℕ) → Way heard s (age_one s id)
   Own : (s : LevelState) (own : List (ℕ × Issued)) → Way heard s (record s { own = own })
   Wait : (s : LevelState) → Way heard s (with_this s (wait_less s.book))
   Sends : (s : LevelState) (place : ℕ) → Way heard s (with_this s (sent s.book place))
-  Answers : (s : LevelState) (place : ℕ) → Way heard s (with_this s (answered s.book place))
+  Answers : (s : LevelState) (place : ℕ) → heard.stirs place
+      → Way heard s (with_this s (answered s.book place))
 
 -- ways with openings and closings of circuits between them (own)
 pub data Course (heard : Hearing) : LevelState → LevelState → Type 0 where
   Goes : (a b : LevelState) → Way heard a b → Course heard a b
   Next : (a b c : LevelState) → Course heard a b → Course heard b c → Course heard a c
-  Closes : (s : LevelState) (place : ℕ) → Course heard s (with_this s (close s.book place))
+  Closes : (s : LevelState) (place : ℕ) → heard.stirs place
+      → Course heard s (with_this s (close s.book place))
   Opens : (s : LevelState) (place : ℕ) → Course heard s (with_this s (open_up s.book place))
 
 -- both levels' courses (own)

@@ -3,7 +3,7 @@
 use Rattle.std.specs.Prelude.{ℕ, ◌+◌, ◌==◌, nat_le, Bool, true, false, ◌&&◌, ◌||◌, not, bytes_eq, List, [], ◌∷◌, Option, Some, None, if◌then◌else◌, nat_lt}
 use Rattle.isis_base.specs.declared.level.Level.{Level}
 use Rattle.isis_model.specs.Maps.{find, put, erase}
-use Rattle.isis_model.specs.Ranks.{number_of, is_purge, live_rank}
+use Rattle.isis_model.specs.Ranks.{number_of, is_live, live_rank}
 use Rattle.isis_model.specs.Waits.{no_waits}
 use Rattle.isis_model.specs.Cells.{Cell, flagged, purged}
 use Rattle.isis_model.specs.Books.{cell_at, rank_of, is_full, set_cell}
@@ -75,19 +75,13 @@ retire state id purge = record state {
   own = erase state.own id;
 }
 
--- the LSP that is held is purged and counts as not issued (7.3.16.4)
+-- what is held live is purged, and a purge is left as it is; either then counts as not issued
+-- (7.3.16.4; at the last number 7.3.16.1; that the router goes on: own)
 abbrev pub retire_held : LevelState → ℕ → Option Cell → LevelState
+retire_held state id None = record state { own = erase state.own id }
 retire_held state id (Some cell) =
-    if nat_lt 0 cell.rank then retire state id (purged cell) else state
-retire_held state id None = state
-
--- at the last number a live LSP is purged, and a purge is left as it is; either then counts as not
--- issued (7.3.16.1;
--- that the router goes on: own)
-abbrev pub exhaust : LevelState → ℕ → Option Cell → LevelState
-exhaust state id held =
-    if is_purge (rank_of held) then record state { own = erase state.own id }
-    else retire_held state id held
+    if is_live cell.rank then retire state id (purged cell)
+    else record state { own = erase state.own id }
 
 -- ---- a level's own LSPs are followed
 
@@ -96,7 +90,7 @@ abbrev pub do_next : Given → Router → Level → ℕ → Contents → LevelSt
 do_next given r level id contents state Wait = state
 do_next given r level id contents state (Number n) =
     install state id contents (issue_cell given r level id n contents)
-do_next given r level id contents state Exhaust = exhaust state id (cell_at state.book id)
+do_next given r level id contents state Exhaust = retire_held state id (cell_at state.book id)
 
 -- one wanted fragment is looked at (7.3.6)
 unfoldable pub look : Given → Router → Level → LevelState → (ℕ × Contents) → LevelState

@@ -18,7 +18,7 @@ ghost use Rattle.isis_model.specs.Events.{Event};
 ghost use Rattle.isis_model.specs.Steps.{step};
 ghost use Rattle.isis_model.specs.Good.{IsGoodBook};
 ghost use Rattle.isis_model.specs.Flooding.{Floods, Keeps, KeepsBoth, Stands, IsKept};
-ghost use Rattle.isis_model.specs.StepLaws.{heard_in, RankStays, FlagStays, RiseIsFlagged, OpeningIsFlagged};
+ghost use Rattle.isis_model.specs.StepLaws.{heard_in, RankStays, FlagStays, RiseIsFlagged, OpeningIsFlagged, SsnRises, SsnStays};
 ghost use Rattle.isis_model.specs.SweepLaws.{ListsOnce, Frees, AreClean, IsRangeClean, IsListed, AreHeldLive};
 
 /// A set of circuits has a circuit exactly as the words that made it say.
@@ -87,6 +87,16 @@ pub fn step_flags()
         → OpeningIsFlagged r (step given r event).router }
     ensures rise { (given : Given) (r : Router) (event : Event)
         → RiseIsFlagged event r (step given r event).router }
+{}
+
+/// What a step does to SSN: it rises only for what a datagram names that is taken on that circuit
+/// (ISO 10589 7.3.15.1, 7.3.15.2). It stays, on a circuit that stays open, until the key changes or
+/// is let go, such a datagram names it, or the circuit is pulled (7.3.15.4) or takes a hello.
+pub fn step_ssn()
+    ensures rises { (given : Given) (r : Router) (event : Event)
+        → SsnRises event r (step given r event).router }
+    ensures stays { (given : Given) (r : Router) (event : Event)
+        → SsnStays event r (step given r event).router }
 {}
 
 /// What stands between two routers at an end of a link still stands after a step of that end, where
