@@ -50,11 +50,11 @@ ssn-rises given r event level place id k = (course-owes (hearing given r event l
 -- ---- a second
 
 abbrev none : Hearing
-none = record { rank = λ place id. 0; source = λ id rank content. Unit {0}; sane = ⊥; mine = λ id. Unit {0}; names = λ place id. ⊥; stirs = λ place. ⊥ }
+none = record { rank = λ place id. 0; source = λ id rank content. Unit {0}; sane = ⊥; mine = λ id contents. Unit {0}; names = λ place id. ⊥; stirs = λ place. ⊥ }
 
 -- a step that may close any circuit
 abbrev any : Hearing
-any = record { rank = λ place id. 0; source = λ id rank content. Unit {0}; sane = ⊥; mine = λ id. Unit {0}; names = λ place id. Unit {0}; stirs = λ place. Unit {0} }
+any = record { rank = λ place id. 0; source = λ id rank content. Unit {0}; sane = ⊥; mine = λ id contents. Unit {0}; names = λ place id. Unit {0}; stirs = λ place. Unit {0} }
 
 -- what a part of a second does to a level that opens and closes nothing
 record Part (a b : LevelState) : Type 0 where

@@ -1,10 +1,10 @@
 -- What the parts of a step do to a level, as a chain of deeds: one description from which each law
 -- of a step is proved (own).
-use Rattle.std.specs.Prelude.{Some, ◌≡◌, ℕ, ◌^◌, ◌<◌, ◌≤◌, false, List}
+use Rattle.std.specs.Prelude.{Some, ◌≡◌, ℕ, ◌^◌, ◌<◌, ◌≤◌, true, false, List}
 use Rattle.isis_base.specs.declared.level.Level.{Level}
 use Rattle.isis_model.specs.declared.whose.Whose.{Whose}
-use Rattle.isis_model.specs.Cells.{Cell, Heard, flagged, kept}
-use Rattle.isis_model.specs.Books.{Book, rank_at}
+use Rattle.isis_model.specs.Cells.{Cell, Heard, flagged, kept, purged}
+use Rattle.isis_model.specs.Books.{Book, cell_at, rank_at}
 use Rattle.isis_model.specs.LspTable.{hear_lsp}
 use Rattle.isis_model.specs.SnpTable.{SnpEntry, hear_entry, hear_range}
 use Rattle.isis_model.specs.LetGos.{let_go}
@@ -33,21 +33,21 @@ content_of cell = record { checksum = cell.checksum; flags = cell.flags; octets 
 
 -- What a step hears on one level: `rank place id` is the greatest rank of an LSP ID on a circuit,
 -- `source id rank content` holds of what a new LSP may be, `sane` of good events, configurations and
--- what is given, `mine` of one's own LSP IDs, `names place id` of what a datagram that is taken on a
+-- what is given, `mine` of one's own LSP IDs and what they may say, `names place id` of what a datagram that is taken on a
 -- circuit names, and `stirs` of the circuits
 -- whose flags the step may clear as a whole, by a pull or a closing (own).
 pub record Hearing : Type 1 where
   pub rank : ℕ → ℕ → ℕ
   pub source : ℕ → ℕ → Content → Type 0
   pub sane : Type 0
-  pub mine : ℕ → Type 0
+  pub mine : ℕ → Contents → Type 0
   pub names : ℕ → ℕ → Type 0
   pub stirs : ℕ → Type 0
 
 -- what is issued under an LSP ID of one's own may be a new LSP, and is good where the step is sane
 -- (own)
 pub record Issues (heard : Hearing) (given : Given) (r : Router) (level : Level) : Type 0 where
-  pub source : (id number : ℕ) (contents : Contents) → heard.mine id
+  pub source : (id number : ℕ) (contents : Contents) → heard.mine id contents
       → heard.source id (live_rank number)
       (content_of (issue_cell given r level id number contents))
   pub good : heard.sane → IsGoodGiven given
@@ -57,6 +57,14 @@ pub record Issues (heard : Hearing) (given : Given) (r : Router) (level : Level)
 abbrev pub Fits : Hearing → LevelState → ℕ → Cell → Type 0
 Fits heard s id cell =
     heard.sane → IsGoodBook s.book → IsGood id (Some (flagged cell s.book.opened 0))
+
+-- a purge that is made: of a live LSP that is held or new, or it is itself new (own)
+pub data IsMadeOf (heard : Hearing) (s : LevelState) (id : ℕ) (cell : Cell) : Type 0 where
+  OfHeld : (c : Cell) → cell_at s.book id ≡ Some c → is_live c.rank ≡ true → cell ≡ purged c
+      → IsMadeOf heard s id cell
+  OfNew : (c : Cell) → heard.source id c.rank (content_of c) → is_live c.rank ≡ true
+      → cell ≡ purged c → IsMadeOf heard s id cell
+  IsNew : heard.source id cell.rank (content_of cell) → IsMadeOf heard s id cell
 
 -- a chain of deeds on a level, each with what is known where it is done (own)
 pub data Way (heard : Hearing) : LevelState → LevelState → Type 0 where
@@ -78,6 +86,7 @@ pub data Way (heard : Hearing) : LevelState → LevelState → Type 0 where
       → Way heard s (install s id contents cell)
   Retire : (s : LevelState) (id : ℕ) (cell : Cell) → rank_at s.book id < cell.rank
       → is_live cell.rank ≡ false
+      → (heard.sane → IsMadeOf heard s id cell)
       → Fits heard s id cell → Way heard s (retire s id cell)
   Age : (s : LevelState) (id : ℕ) → Way heard s (age_one s id)
   Own : (s : LevelState) (own : List (ℕ × Issued)) → Way heard s (record s { own = own })

@@ -8,7 +8,7 @@ use Rattle.isis_model.proofs.LevelWays.{take_snp-way}
 use Rattle.isis_model.proofs.laws.flooding.take_snp_keeps.Goals as goal
 
 any : (ℕ → ℕ → ℕ) → Hearing
-any heard = record { rank = heard; source = λ id rank content. Unit {0}; sane = ⊥; mine = λ id. Unit {0}; names = λ place id. Unit {0}; stirs = λ place. Unit {0} }
+any heard = record { rank = heard; source = λ id rank content. Unit {0}; sane = ⊥; mine = λ id contents. Unit {0}; names = λ place id. Unit {0}; stirs = λ place. Unit {0} }
 
 all-named : (entries : List SnpEntry) → AllByRecursion (λ (h : SnpEntry). Unit {0}) entries
 all-named [] = tt
