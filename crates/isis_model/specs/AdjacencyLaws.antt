@@ -68,10 +68,12 @@ pub record IsBond (b : Bond) : Type 0 where
 pub record AreBonds (r : Router) : Type 0 where
   pub on : (place : ℕ) → IsBond (bond_at r place)
 
--- a router's boot, its system ID and the number of its circuits stay (own)
+-- a router's boot, its system ID, area addresses and keys, and the number of its circuits stay (own)
 pub record Stays (r t : Router) : Type 0 where
   pub boot : t.boot ≡ r.boot
   pub system : t.config.system ≡ r.config.system
+  pub areas : t.config.areas ≡ r.config.areas
+  pub keys : t.config.keys ≡ r.config.keys
   pub circuits : length t.circuits ≡ length r.circuits
 
 -- what a handshake names, if it names somebody, is this router in its present boot, on this circuit

@@ -17,8 +17,8 @@ pub fn step_follows()
         → FollowsAdjacencies r → FollowsAdjacencies (step given r event).router }
 {}
 
-/// A step leaves a router's system ID, its boot and the number of its circuits, and changes
-/// adjacencies only by hellos and by their end. A circuit that keeps another neighbour than before
+/// A step leaves a router's system ID, area addresses, keys, boot and the number of its circuits,
+/// and changes adjacencies only by hellos and by their end. A circuit that keeps another neighbour than before
 /// has the flag of every key, and somebody is kept exactly outside Down. Each hello that is sent
 /// tells the adjacency as it is.
 pub fn step_bonds()
