@@ -9,12 +9,13 @@ use Rattle.isis_tlv.specs.Fits.{IsArea}
 use Rattle.isis_tlv.specs.Spelling.{area_value}
 use Rattle.isis_model.specs.Ranks.{number_of, is_live, is_purge}
 use Rattle.isis_model.specs.Configs.{Config}
-use Rattle.isis_model.specs.Routers.{Circuit, Contents, Router}
+use Rattle.isis_model.specs.Routers.{Contents, Router, book_of}
+use Rattle.isis_model.specs.Books.{cell_at}
 use Rattle.isis_model.specs.Both.{at}
 use Rattle.isis_model.specs.Givens.{Given}
 use Rattle.isis_model.specs.OwnLsps.{issue_cell}
 use Rattle.isis_model.specs.Datagrams.{Sent, PointHello, LanHello, Lsp, Csnp, Psnp}
-use Rattle.isis_model.specs.Events.{Message, Refused, PointHelloHeard, LanHelloHeard, LspHeard, SnpHeard}
+use Rattle.isis_model.specs.Events.{Message, Refused, PointHelloHeard, LanHelloHeard, LspHeard, SnpHeard, Event, Second, Take, Pull, Metric, Overload, Prefix}
 use Rattle.iso_checksum.specs.Checksum.{checksum_holds}
 use Rattle.isis_pdu.specs.Views as pdu
 use Rattle.isis_pdu.specs.Reading.{Begins}
@@ -47,12 +48,6 @@ pub record IsLiveLsp (key : Option (List ℕ)) (level : Level) (id : ℕ) (cell 
   pub fits : cell.left < 2 ^ 16
   pub tells : TellsLive key level id cell
 
--- what an own LSP may say: TLVs that leave room for a header of 27 octets and an authentication of
--- 19 in 1,492
-pub record IsIssuable (contents : Contents) : Type 0 where
-  pub tlvs : AreTlvs contents.tlvs
-  pub short : length contents.tlvs ≤ 1446
-
 -- What is issued, whatever routes say, tells itself; `given` is what a step is given.
 abbrev pub IssueTells : Given → Router → Level → ℕ → ℕ → Contents → Type 0
 IssueTells given r level id number contents =
@@ -77,3 +72,25 @@ TellsKept by (LspHeard level snpa h) =
     (is_live h.rank ≡ true → TellsLive (at by.keys level) level h.id (kept h))
     × (is_purge h.rank ≡ true → IsPurge level h.id (kept h))
 TellsKept by (SnpHeard level snpa source range entries) = Unit {0}
+
+-- ---- what a router holds
+
+-- what an event says may be kept under the router's keys, where it says an LSP (own)
+abbrev pub TellsEvent : Config → Event → Type 0
+TellsEvent by Second = Unit {0}
+TellsEvent by (Take place message) = TellsKept by message
+TellsEvent by (Pull place) = Unit {0}
+TellsEvent by (Metric place metric) = Unit {0}
+TellsEvent by (Overload on) = Unit {0}
+TellsEvent by (Prefix prefix metric) = Unit {0}
+
+-- an entry with a key may be sent (own)
+pub record IsSendable (key : Option (List ℕ)) (level : Level) (id : ℕ) (cell : Cell) : Type 0 where
+  pub live : is_live cell.rank ≡ true → IsLiveLsp key level id cell
+  pub purge : is_purge cell.rank ≡ true → IsPurge level id cell
+
+-- each entry of a router may be sent (own)
+abbrev pub AreSendable : Router → Type 0
+AreSendable r =
+    (level : Level) (id : ℕ) (cell : Cell) → cell_at (book_of r level) id ≡ Some cell
+    → IsSendable (at r.config.keys level) level id cell

@@ -14,8 +14,11 @@ ghost use Rattle.isis_model.specs.Cells.{Cell, purged};
 ghost use Rattle.isis_model.specs.Configs.{Config};
 ghost use Rattle.isis_model.specs.Routers.{Circuit, Contents, Router};
 ghost use Rattle.isis_model.specs.SnpTable.{SnpEntry};
+ghost use Rattle.isis_model.specs.Events.{Event};
+ghost use Rattle.isis_model.specs.Steps.{step};
+ghost use Rattle.isis_model.specs.Starts.{start};
 ghost use Rattle.isis_model.specs.Datagrams.{PointHello, LanHello, Lsp, Csnp, Psnp};
-ghost use Rattle.isis_model.specs.Good.{IsGoodGiven, IsGoodMessage};
+ghost use Rattle.isis_model.specs.Good.{IsGoodGiven, IsGoodMessage, IsGoodEvent, IsGoodRouter, IsTelling, IsIssuable};
 ghost use Rattle.isis_datagram.specs.Numbers.{system_id, snpa_id, node_id, lsp_id, system_number, snpa_number, node_number};
 ghost use Rattle.isis_datagram.specs.Frames.{framed, unframed};
 ghost use Rattle.isis_datagram.specs.Reading.{read};
@@ -24,7 +27,7 @@ ghost use Rattle.isis_datagram.specs.Lsps.{given_octets};
 ghost use Rattle.isis_datagram.specs.Said.{ReadsBack, CanRead};
 ghost use Rattle.isis_datagram.specs.Senders.{IsSender, IsHandshake, IsLanHello};
 ghost use Rattle.isis_model.specs.Good.{AreTellable};
-ghost use Rattle.isis_datagram.specs.LspLaws.{IsLiveLsp, IsIssuable, IssueTells, IsPurge, TellsKept};
+ghost use Rattle.isis_datagram.specs.LspLaws.{IsLiveLsp, IssueTells, IsPurge, TellsKept, TellsEvent, AreSendable};
 
 /// Identifiers of numbers have those numbers.
 pub fn number_laws()
@@ -104,7 +107,7 @@ pub fn csnp_law()
 pub fn issue_law()
     ensures tells { (leaks : Router → Level → List (ℕ × ℕ)) (attached : Router → Bool)
         (r : Router) (level : Level) (id number : ℕ) (contents : Contents)
-        → number < 2 ^ 32 → IsIssuable contents
+        → number < 2 ^ 32 → IsIssuable (at r.config.keys level) contents
         → IssueTells (given_octets leaks attached) r level id number contents }
     ensures good { (leaks : Router → Level → List (ℕ × ℕ)) (attached : Router → Bool)
         → IsGoodGiven (given_octets leaks attached) }
@@ -137,4 +140,15 @@ pub fn purged_law()
 pub fn kept_law()
     ensures { (by : Config) (on : Circuit) (octets : List ℕ)
         → AllByRecursion (λ octet. octet < 256) octets → TellsKept by (read by on octets) }
+{}
+
+/// Each entry with a key of a router may be sent, and so reads back: from its start on, after each
+/// step of a good event whose LSP, if it says one, was read of octets.
+pub fn sendable_laws()
+    ensures start { (config : Config) (boot : ℕ) (circuits : List Circuit)
+        → AreSendable (start config boot circuits) }
+    ensures step { (leaks : Router → Level → List (ℕ × ℕ)) (attached : Router → Bool)
+        (r : Router) (event : Event)
+        → IsGoodRouter r → IsTelling r → IsGoodEvent event → TellsEvent r.config event
+        → AreSendable r → AreSendable (step (given_octets leaks attached) r event).router }
 {}

@@ -4,6 +4,7 @@ ghost use Rattle.std.specs.Prelude.{◌≡◌, ◌≢◌, ℕ, ◌/◌, ◌^◌,
 ghost use Rattle.std.specs.List.{AllByRecursion};
 ghost use Rattle.isis_base.specs.declared.level.Level.{Level};
 ghost use Rattle.isis_model.specs.declared.drop_name.DropName.{DropName};
+ghost use Rattle.isis_model.specs.Both.{at};
 ghost use Rattle.isis_model.specs.Places.{nth};
 ghost use Rattle.isis_model.specs.Books.{risen};
 ghost use Rattle.isis_model.specs.Configs.{Config};
@@ -18,7 +19,7 @@ ghost use Rattle.isis_model.specs.Receiving.{drop_of};
 ghost use Rattle.isis_model.specs.Steps.{step};
 ghost use Rattle.isis_model.specs.Starts.{start};
 ghost use Rattle.isis_model.specs.Sorted.{IsSorted};
-ghost use Rattle.isis_model.specs.Good.{IsGoodGiven, IsGoodEvent, IsGoodRouter};
+ghost use Rattle.isis_model.specs.Good.{IsGoodGiven, IsGoodEvent, IsGoodRouter, IsTelling, IsIssuable};
 ghost use Rattle.isis_model.specs.Deeds.{Courses};
 ghost use Rattle.isis_model.specs.StepLaws.{hearing};
 ghost use Rattle.isis_model.specs.AdjacencyLaws.{FollowsAdjacencies, AreBonds, AreIdle};
@@ -52,11 +53,13 @@ pub fn step_sorted()
 {}
 
 /// Where the event and what is given are good, a step keeps a good router good: both levels' cells,
-/// its system ID and its circuits' number.
+/// its system ID and its circuits' number. Its area addresses still fit one TLV.
 pub fn step_good()
-    ensures { (given : Given) (r : Router) (event : Event)
+    ensures good { (given : Given) (r : Router) (event : Event)
         → IsGoodGiven given → IsGoodEvent event
         → IsGoodRouter r → IsGoodRouter (step given r event).router }
+    ensures telling { (given : Given) (r : Router) (event : Event)
+        → IsTelling r → IsTelling (step given r event).router }
 {}
 
 /// The CSNP counter stands at 0 where the router isn't designated, before and after a step.
@@ -72,10 +75,13 @@ pub fn step_tells()
         → TellsBoth given event r (step given r event).router }
 {}
 
-/// The LSPs that are wanted are of one's own system.
+/// The LSPs that are wanted are of one's own system, and each of them has TLVs that fit the room.
 pub fn wanted_own()
-    ensures { (given : Given) (before r : Router) (level : Level) → length r.circuits ≤ 255
+    ensures own { (given : Given) (before r : Router) (level : Level) → length r.circuits ≤ 255
         → AllByRecursion (λ w. w.0 / 65536 ≡ r.config.system) (wanted given before r level) }
+    ensures issuable { (given : Given) (before r : Router) (level : Level) → IsTelling r
+        → AllByRecursion (λ w. IsIssuable (at r.config.keys level) w.1)
+            (wanted given before r level) }
 {}
 
 /// A split has at most 256 fragments. Where each entry fits a TLV and a fragment alone, each
