@@ -1,6 +1,6 @@
 -- Small books, and a router of two circuits with its neighbour on the first, for rows that are
 -- worked out (own).
-use Rattle.std.specs.Prelude.{ℕ, zero, suc, Bool, true, false, List, [], ◌∷◌, replicate, Option, Some, None}
+use Rattle.std.specs.Prelude.{ℕ, ◌*◌, zero, suc, Bool, true, false, List, [], ◌∷◌, replicate, Option, Some, None}
 use Rattle.isis_base.specs.declared.level.Level.{Level}
 use Rattle.isis_base.specs.declared.level.Level.TheVariants.{Two}
 use Rattle.isis_model.specs.declared.drop_name.DropName.{DropName}
@@ -9,12 +9,13 @@ use Rattle.isis_tlv.specs.declared.three_way.Adj.TheVariants.{Up, Down}
 use Rattle.isis_model.specs.Waits.{no_waits}
 use Rattle.isis_model.specs.Configs.{Config}
 use Rattle.isis_model.specs.Cells.{Cell, Heard}
-use Rattle.isis_model.specs.Books.{Book}
+use Rattle.isis_model.specs.Books.{Book, cell_at}
 use Rattle.isis_model.specs.SnpTable.{SnpEntry}
 use Rattle.isis_model.specs.Adjacencies.{Handshake}
-use Rattle.isis_model.specs.Routers.{Circuit, Contents, Issued, Router}
+use Rattle.isis_model.specs.Routers.{LanNeighbour, Circuit, Contents, Issued, Router, book_of}
+use Rattle.isis_model.specs.Elections.{Candidate}
 use Rattle.isis_model.specs.Givens.{Given}
-use Rattle.isis_model.specs.Events.{Event, Second, Take, PointHelloHeard, LanHelloHeard, Outcome}
+use Rattle.isis_model.specs.Events.{Event, Second, Take, PointHelloHeard, LanHelloHeard, LspHeard, Outcome}
 use Rattle.isis_model.specs.Both.{Both}
 use Rattle.isis_model.specs.HelloTests.{point_drop}
 use Rattle.isis_model.specs.Steps.{step}
@@ -147,19 +148,28 @@ hello state names = Take 0 (PointHelloHeard (record {
   names_me = false;
 }))
 
--- a LAN hello of system 2, which lists the router and has its priority, with LAN ID 513 (own)
-abbrev pub lan_hello : Event
-lan_hello = Take 1 (LanHelloHeard Two (record {
+-- a LAN hello of system 2 with LAN ID 513, which lists the router, of a priority and holding time
+-- (own)
+abbrev pub lan_hello_of : ℕ → ℕ → Event
+lan_hello_of priority holding = Take 1 (LanHelloHeard Two (record {
   source = 2;
   snpa = 2;
   runs = record { one = false; two = true };
-  holding = 30;
-  priority = 64;
+  holding = holding;
+  priority = priority;
   lan = 513;
   areas = [];
   handshake = None;
   names_me = true;
 }))
+
+-- one of the router's priority, and one of a lower one (own)
+abbrev pub lan_hello : Event
+lan_hello = lan_hello_of 64 30
+
+-- own
+abbrev pub low_hello : Event
+low_hello = lan_hello_of 1 30
 
 -- a point-to-point hello's tests: of a source from an SNPA, of these levels and areas, with a
 -- handshake (own)
@@ -228,3 +238,78 @@ run (event ∷ events) = (step given (run events) event).router
 -- what it answers to a further one (own)
 abbrev pub answer_to : Event → List Event → Outcome
 answer_to event events = step given (run events) event
+
+-- ---- own LSPs
+
+-- a router of these levels, in overload or not, whose routes are attached (own)
+abbrev pub running : Both Bool → Bool → Router
+running runs overload = record router { config = record config { runs = runs; overload = overload } }
+
+-- own
+abbrev pub attached : Given
+attached = record given { attached = λ (r : Router). true }
+
+-- both levels (own)
+abbrev pub both_levels : Both Bool
+both_levels = record { one = true; two = true }
+
+-- a designated system with its LAN ID (own)
+abbrev pub elected : ℕ → ℕ → Option Candidate
+elected system lan = Some (record { priority = 64; snpa = system; system = system; lan = lan })
+
+-- what the router and its pseudonode say where it is designated on the LAN with system 2: an area
+-- address, IPv4, the pseudonode at metric 10 and 10.0.1.0/24 at metric 5; both systems at metric 0
+-- (own)
+abbrev pub lan_lsps : List (ℕ × Contents)
+lan_lsps = (
+  65536,
+  record {
+    flags = 3;
+    tlvs = 1 ∷ 4 ∷ 3 ∷ 73 ∷ 0 ∷ 1 ∷ 129 ∷ 1 ∷ 204 ∷ 22 ∷ 11 ∷ 0 ∷ 0 ∷ 0 ∷ 0 ∷ 0 ∷ 1 ∷ 2 ∷ 0 ∷ 0
+        ∷ 10 ∷ 0 ∷ 135 ∷ 8 ∷ 0 ∷ 0 ∷ 0 ∷ 5 ∷ 24 ∷ 10 ∷ 0 ∷ 1 ∷ [];
+  },
+)
+    ∷ (
+      66048,
+      record {
+        flags = 3;
+        tlvs = 22 ∷ 22 ∷ 0 ∷ 0 ∷ 0 ∷ 0 ∷ 0 ∷ 1 ∷ 0 ∷ 0 ∷ 0 ∷ 0 ∷ 0 ∷ 0 ∷ 0 ∷ 0 ∷ 0 ∷ 0 ∷ 2 ∷ 0 ∷ 0
+            ∷ 0 ∷ 0 ∷ 0 ∷ [];
+      },
+    )
+    ∷ []
+
+-- a live LSP of an LSP ID that is heard from system 2, of a sequence number (own)
+abbrev pub heard_of : ℕ → ℕ → Event
+heard_of id number = Take 0 (LspHeard Two 2 (record {
+  id = id;
+  rank = 2 * number;
+  checksum = 7;
+  flags = 3;
+  left = 1100;
+  octets = replicate 30 1;
+}))
+
+-- what is held of the router's own LSP after some events (own)
+abbrev pub own_after : List Event → Option Cell
+own_after events = cell_at (book_of (run events) Two) 65536
+
+-- a neighbour that is Up (own)
+abbrev pub up_from : ℕ → LanNeighbour
+up_from snpa = record {
+  up = true;
+  neighbour = record {
+    system = snpa;
+    snpa = snpa;
+    extended = 0;
+    levels = level_two;
+    priority = 1;
+    lan = 0;
+    left = 30;
+  };
+}
+
+-- so many neighbours heard, from an SNPA on (own)
+abbrev pub heard_from : ℕ → ℕ → List (ℕ × LanNeighbour)
+heard_from snpa zero = []
+heard_from snpa (suc count) = (snpa, up_from snpa) ∷ heard_from (suc snpa) count

@@ -1,17 +1,25 @@
 //! Rows of the tables and the first steps of a router, worked out by computation.
-ghost use Rattle.std.specs.Prelude.{◌≡◌, ◌-◌, ◌^◌, true, false, [], ◌∷◌, replicate, Some, None};
-ghost use Rattle.isis_base.specs.declared.level.Level.TheVariants.{Two};
+ghost use Rattle.std.specs.Prelude.{◌≡◌, ◌-◌, ◌^◌, true, false, [], ◌∷◌, replicate, Some, None, is_some};
+ghost use Rattle.isis_base.specs.declared.level.Level.TheVariants.{One, Two};
 ghost use Rattle.isis_tlv.specs.declared.three_way.Adj.TheVariants.{Up, Initializing, Down};
 ghost use Rattle.isis_model.specs.declared.whose.Whose.TheVariants.{Other, Unissued};
-ghost use Rattle.isis_model.specs.declared.drop_name.DropName.TheVariants.{OwnId, OtherSnpa, NoLevel, NoArea, NoThreeWay, OtherNeighbour, NoAdjacency, NotDesignated};
+ghost use Rattle.isis_model.specs.declared.drop_name.DropName.TheVariants.{OwnId, OtherSnpa, NoLevel, NoArea, NoThreeWay, OtherNeighbour, TooMany, NoAdjacency, NotDesignated};
 ghost use Rattle.isis_model.specs.Waits.{no_waits, wait, five_at, fallen};
-ghost use Rattle.isis_model.specs.Books.{cell_at};
+ghost use Rattle.isis_model.specs.Books.{cell_at, rank_of};
+ghost use Rattle.isis_model.specs.Adjacencies.{three_way};
+ghost use Rattle.isis_model.specs.Starts.{quiet};
+ghost use Rattle.isis_model.specs.LetGos.{let_go};
+ghost use Rattle.isis_model.specs.HelloTests.{many_drop};
+ghost use Rattle.isis_model.specs.LspNeighbours.{lan_node};
+ghost use Rattle.isis_model.specs.LspPrefixes.{with_leaks};
+ghost use Rattle.isis_model.specs.Wanted.{first_flags, wanted};
+ghost use Rattle.isis_model.specs.Pulls.{csnp_sent};
 ghost use Rattle.isis_model.specs.LspTable.{hear_lsp};
 ghost use Rattle.isis_model.specs.SnpTable.{hear_entry};
 ghost use Rattle.isis_model.specs.OwnLsps.{is_due};
-ghost use Rattle.isis_model.specs.Datagrams.{PointHello, LanHello, Csnp, Lsp};
-ghost use Rattle.isis_model.specs.Events.{Second, Take, Pull, SnpHeard, Done, Dropped, Send};
-ghost use Rattle.isis_model.specs.Rows.{cell_of, header, lsp, entry, asked_for, book_with, before, config, level_one, level_two, shake, tested, contents_of, issued_at, hello, lan_hello, events_up, seconds, own_lsp, answer_to};
+ghost use Rattle.isis_model.specs.Datagrams.{PointHello, LanHello, Csnp, Lsp, Psnp};
+ghost use Rattle.isis_model.specs.Events.{Second, Take, Pull, Prefix, SnpHeard, Done, Dropped, Send};
+ghost use Rattle.isis_model.specs.Rows.{cell_of, header, lsp, entry, asked_for, book_with, before, config, level_one, level_two, shake, tested, contents_of, issued_at, hello, lan_hello_of, lan_hello, low_hello, events_up, seconds, own_lsp, run, answer_to, given, router, running, attached, both_levels, elected, lan_lsps, heard_of, own_after, heard_from};
 
 /// A flag that was sent waits five seconds, and each second one less.
 pub fn wait_rows()
@@ -38,6 +46,8 @@ pub fn lsp_rows()
         ≡ book_with ((7, cell_of 4 5 900 (replicate 27 1) 0 6) ∷ []) 4 }
     ensures same_lan { hear_lsp before 2 Other (lsp 4 5)
         ≡ book_with ((7, cell_of 4 5 900 (replicate 27 1) 2 6) ∷ []) 4 }
+    ensures same_lan_clear { hear_lsp (book_with ((7, cell_of 4 5 900 (replicate 27 1) 4 0) ∷ []) 4)
+        2 Other (lsp 4 5) ≡ book_with ((7, cell_of 4 5 900 (replicate 27 1) 0 0) ∷ []) 4 }
     ensures older { hear_lsp before 2 Other (lsp 2 5)
         ≡ book_with ((7, cell_of 4 5 900 (replicate 27 1) 6 2) ∷ []) 4 }
     ensures unheld { hear_lsp (book_with [] 4) 0 Other (lsp 5 0) ≡ book_with [] 4 }
@@ -116,4 +126,69 @@ pub fn lan_steps()
         (lan_hello ∷ [])).reply ≡ Done }
     ensures other_source { (answer_to (Take 1 (SnpHeard Two 2 3 (Some (0, 9)) []))
         (lan_hello ∷ [])).reply ≡ Dropped NoAdjacency }
+{}
+
+/// The three-way handshake (RFC 5303 3.2): one's own state, the state that is heard, and the new one.
+pub fn handshake_rows()
+    ensures down_down { three_way Down Down ≡ Initializing }
+    ensures down_initializing { three_way Down Initializing ≡ Up }
+    ensures down_up { three_way Down Up ≡ Down }
+    ensures initializing_down { three_way Initializing Down ≡ Initializing }
+    ensures initializing_initializing { three_way Initializing Initializing ≡ Up }
+    ensures initializing_up { three_way Initializing Up ≡ Up }
+    ensures up_down { three_way Up Down ≡ Initializing }
+    ensures up_initializing { three_way Up Initializing ≡ Up }
+    ensures up_up { three_way Up Up ≡ Up }
+{}
+
+/// A hello is due on a LAN where a neighbour is new and where one goes, and not where one is heard
+/// again. A CSNP set is due again after 10 seconds, PSNPs after 2.
+pub fn due_rows()
+    ensures new { (answer_to (Pull 1) (lan_hello ∷ Pull 1 ∷ [])).reply
+        ≡ Send (LanHello Two 513 (2 ∷ []) ∷ []) }
+    ensures heard { (answer_to (Pull 1) (lan_hello ∷ Pull 1 ∷ lan_hello ∷ [])).reply ≡ Send [] }
+    ensures gone { (answer_to (Pull 1) (Second ∷ Pull 1 ∷ lan_hello_of 64 1 ∷ [])).reply
+        ≡ Send (LanHello Two 258 [] ∷ []) }
+    ensures csnp { (csnp_sent true quiet).csnp ≡ 10 }
+    ensures owed { (answer_to (Pull 0) (seconds 1 (heard_of 131072 1 ∷ Pull 0
+        ∷ heard_of 131072 1 ∷ Second ∷ events_up))).reply ≡ Send [] }
+    ensures sent { (answer_to (Pull 0) (seconds 2 (heard_of 131072 1 ∷ Pull 0
+        ∷ heard_of 131072 1 ∷ Second ∷ events_up))).reply
+        ≡ Send (Psnp Two (record { id = 131072; rank = 2; lifetime = 1098; checksum = 7 } ∷ []) ∷ []) }
+{}
+
+/// What own LSPs say: the flags octet, prefixes that are leaked, the pseudonode of a LAN, and all of
+/// them where the router is designated.
+pub fn own_rows()
+    ensures level_one { first_flags attached router (running level_one false) One true ≡ 1 }
+    ensures level_two { first_flags attached router (running level_two false) Two true ≡ 3 }
+    ensures attached { first_flags attached router (running both_levels false) One true ≡ 11 }
+    ensures unattached { first_flags attached router (running both_levels false) Two true ≡ 3 }
+    ensures overload { first_flags given router (running both_levels true) Two true ≡ 7 }
+    ensures cut { first_flags given router (running both_levels false) Two false ≡ 7 }
+    ensures leaks { with_leaks true ((64, record { metric = 5; down = false }) ∷ [])
+        ((64, 7) ∷ (96, 8) ∷ [])
+        ≡ (64, record { metric = 5; down = false }) ∷ (96, record { metric = 8; down = true }) ∷ [] }
+    ensures pseudonode { lan_node 10 (elected 2 513) ≡ (513, 10) ∷ [] }
+    ensures no_pseudonode { lan_node 10 (elected 2 512) ≡ [] }
+    ensures other_system { lan_node 10 (elected 2 769) ≡ [] }
+    ensures designated { wanted given router (run (low_hello ∷ [])) Two ≡ lan_lsps }
+{}
+
+/// An own LSP that is outbid is issued above with what is wanted; one whose contents changed is
+/// issued anew when its last issue is 5 seconds ago.
+pub fn outbid_rows()
+    ensures issued { own_after (heard_of 65536 10 ∷ Second ∷ events_up)
+        ≡ Some (record (own_lsp 1200 0 1) { rank = 22; checksum = 11 }) }
+    ensures early { rank_of (own_after (seconds 4 (Prefix 10737434648 (Some 6) ∷ Second ∷ []))) ≡ 2 }
+    ensures changed { rank_of (own_after (seconds 5 (Prefix 10737434648 (Some 6) ∷ Second ∷ []))) ≡ 4 }
+{}
+
+/// The limits of this router: 200 neighbours on a LAN, and 4,096 LSP IDs that were let go.
+pub fn limit_rows()
+    ensures neighbours { many_drop (heard_from 1 199) 500 ≡ None }
+    ensures too_many { many_drop (heard_from 1 200) 500 ≡ Some TooMany }
+    ensures known { many_drop (heard_from 1 200) 7 ≡ None }
+    ensures let_go { is_some (let_go (Some (replicate 4095 1)) 5) ≡ true }
+    ensures all { let_go (Some (replicate 4096 1)) 5 ≡ None }
 {}

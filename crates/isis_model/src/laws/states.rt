@@ -81,7 +81,7 @@ pub fn wanted_own()
         → AllByRecursion (λ w. w.0 / 65536 ≡ r.config.system) (wanted given before r level) }
     ensures issuable { (given : Given) (before r : Router) (level : Level) → IsTelling r
         → AllByRecursion (λ w. IsIssuable (at r.config.keys level) w.1)
-            (wanted given before r level) }
+        (wanted given before r level) }
 {}
 
 /// A split has at most 256 fragments. Where each entry fits a TLV and a fragment alone, each
