@@ -1,4 +1,5 @@
--- LSPs that may be sent: what is held says itself, as it came, as it was issued, or as a purge (own).
+-- LSPs that may be sent: what is held says itself, as it came, as it was issued, or as a purge
+-- (own).
 use Rattle.std.specs.Prelude.{◌≡◌, ◌≢◌, ℕ, ◌^◌, ◌<◌, ◌≤◌, true, false, Bool, ◌==◌, ◌||◌, List, [], ◌∷◌, length, drop, Option, Some, None, IfSome, if◌then◌else◌}
 use Rattle.std.specs.List.{AllByRecursion}
 use Rattle.isis_base.specs.declared.level.Level.{Level}
@@ -27,7 +28,7 @@ use Rattle.isis_datagram.specs.Reading.{read}
 use Rattle.isis_datagram.specs.Tests.{goes_on, is_run, key_for, passes}
 
 -- A live LSP's octets say what is held of it, have the standard's size and a checksum that holds,
--- and are authentic where there is a key; their own lifetime is what it was when they came.
+-- and are authentic where there is a key; their own lifetime is what it was when they came (own).
 pub record TellsLive (key : Option (List ℕ)) (level : Level) (id : ℕ) (cell : Cell) : Type 0 where
   pub lifetime : ℕ
   pub tlvs : List ℕ
@@ -40,7 +41,7 @@ pub record TellsLive (key : Option (List ℕ)) (level : Level) (id : ℕ) (cell 
   pub summed : checksum_holds (drop 12 cell.octets) ≡ true
   pub authentic : passes key cell.octets 27 ≡ true
 
--- a live LSP that may be sent
+-- a live LSP that may be sent (own)
 pub record IsLiveLsp (key : Option (List ℕ)) (level : Level) (id : ℕ) (cell : Cell) : Type 0 where
   pub eight : id < 2 ^ 64
   pub live : is_live cell.rank ≡ true
@@ -48,12 +49,12 @@ pub record IsLiveLsp (key : Option (List ℕ)) (level : Level) (id : ℕ) (cell 
   pub fits : cell.left < 2 ^ 16
   pub tells : TellsLive key level id cell
 
--- What is issued, whatever routes say, tells itself; `given` is what a step is given.
+-- What is issued, whatever routes say, tells itself; `given` is what a step is given (own).
 abbrev pub IssueTells : Given → Router → Level → ℕ → ℕ → Contents → Type 0
 IssueTells given r level id number contents =
     TellsLive (at r.config.keys level) level id (issue_cell given r level id number contents)
 
--- a purge that may be sent: its octets are a header alone, which says what is held of it
+-- a purge that may be sent: its octets are a header alone, which says what is held of it (own)
 pub record IsPurge (level : Level) (id : ℕ) (cell : Cell) : Type 0 where
   pub eight : id < 2 ^ 64
   pub purge : is_purge cell.rank ≡ true
@@ -63,7 +64,7 @@ pub record IsPurge (level : Level) (id : ℕ) (cell : Cell) : Type 0 where
       (pdu.Lsp level 0 (lsp_id id) (number_of cell.rank) 0 cell.flags []) 27
   pub alone : length cell.octets ≡ 27
 
--- what is kept of an LSP that is read may be sent, under the reader's key
+-- what is kept of an LSP that is read may be sent, under the reader's key (own)
 abbrev pub TellsKept : Config → Message → Type 0
 TellsKept by (Refused cause) = Unit {0}
 TellsKept by (PointHelloHeard h) = Unit {0}

@@ -30,7 +30,7 @@ runs_of levels.Both = record { one = true; two = true }
 abbrev pub rank_read : ℕ → ℕ → ℕ
 rank_read number lifetime = if lifetime == 0 then purge_rank number else live_rank number
 
--- What a PDU from an SNPA says, whose octets are these: `own` is the reader's own SNPA.
+-- What a PDU from an SNPA says, whose octets are these: `own` is the reader's own SNPA (9).
 abbrev pub message : ℕ → ℕ → PduView → List ℕ → Message
 message own snpa (LanHello level circuit_type source holding priority lan tlvs) octets =
     LanHelloHeard level (record {
@@ -72,11 +72,12 @@ message own snpa (Psnp level source tlvs) octets =
     SnpHeard level snpa (system_number source.system) None
     (map snp_entry (ok_prefix (entries_in tlvs)))
 
+-- own
 abbrev pub refused_or : Option DropName → Message → Message
 refused_or None message = message
 refused_or (Some cause) message = Refused cause
 
--- a PDU of so many octets from an SNPA
+-- a PDU of so many octets from an SNPA (own)
 abbrev pub read_pdu : Config → Circuit → ℕ → List ℕ → Result (PduView × ℕ) PduFault → Message
 read_pdu config c snpa octets (Err fault) = Refused drop.Pdu
 read_pdu config c snpa octets (Ok found) =
@@ -84,10 +85,11 @@ read_pdu config c snpa octets (Ok found) =
     refused_or (first_failing (tests_of config c found.0 whole))
     (message config.system snpa found.0 whole)
 
+-- own
 abbrev pub read_frame : Config → Circuit → Option (ℕ × List ℕ) → Message
 read_frame config c None = Refused drop.Frame
 read_frame config c (Some parts) = read_pdu config c parts.0 parts.1 (decoded parts.1)
 
--- what a router reads of a datagram on a circuit
+-- what a router reads of a datagram on a circuit (own)
 unfoldable pub read : Config → Circuit → List ℕ → Message
 read config c datagram = read_frame config c (unframed datagram)

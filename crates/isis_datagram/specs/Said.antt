@@ -25,13 +25,13 @@ use Rattle.isis_datagram.specs.Datagrams.{pdu_octets, datagram}
 use Rattle.isis_datagram.specs.Reading.{read}
 use Rattle.isis_datagram.specs.Tests.{goes_on, is_run, key_for, passes}
 
--- whether an SNPA stands in a list of the model's
+-- whether an SNPA stands in a list of the model's (own)
 abbrev pub names : ℕ → List ℕ → Bool
 names snpa [] = false
 names snpa (first ∷ snpas) = (first == snpa) || names snpa snpas
 
 -- The message that what is sent on a circuit says to a reader, whose SNPA is `own`. An LSP that is
--- a purge has 0 seconds left.
+-- a purge has 0 seconds left (own).
 abbrev pub said : ℕ → Config → ℕ → Circuit → Sent → Message
 said own config place c (PointHello state extended named) = PointHelloHeard (record {
   source = config.system;
@@ -68,14 +68,14 @@ said own config place c (Csnp level start end entries) =
 said own config place c (Psnp level entries) =
     SnpHeard level config.system config.system None entries
 
--- what is sent is read as what it says
+-- what is sent is read as what it says (own)
 abbrev pub ReadsBack : Config → Circuit → Config → ℕ → Circuit → Sent → Type 0
 ReadsBack by on config place c sent =
     read by on (datagram config place c sent) ≡ said by.system config place c sent
 
 -- ---- who reads it
 
--- the type of what is sent
+-- the type of what is sent (9)
 abbrev pub kind_sent : Sent → PduKind
 kind_sent (PointHello state extended named) = kind.PointHello
 kind_sent (LanHello level lan snpas) = kind.LanHello level
@@ -84,7 +84,7 @@ kind_sent (Csnp level start end entries) = kind.Csnp level
 kind_sent (Psnp level entries) = kind.Psnp level
 
 -- a reader `by` on its circuit `on`, which is of a hello's kind, runs the level, and has the
--- sender's key
+-- sender's key (own)
 pub record CanRead (by : Config) (on : Circuit) (config : Config) (c : Circuit)
     (kind : PduKind) : Type 0 where
   pub goes : goes_on on kind ≡ true

@@ -25,7 +25,7 @@ use Rattle.isis_datagram.specs.Datagrams.{pdu_octets, datagram}
 use Rattle.isis_datagram.specs.Reading.{read}
 use Rattle.isis_datagram.specs.Tests.{goes_on, is_run, key_for, passes}
 
--- a sender: a system ID of six octets, some level, and areas that fit one TLV
+-- a sender: a system ID of six octets, some level, and areas that fit one TLV (own)
 pub record IsSender (config : Config) : Type 0 where
   pub system : config.system < 2 ^ 48
   pub some : (config.runs.one || config.runs.two) ≡ true

@@ -21,10 +21,11 @@ pub record Test : Type 0 where
   pub holds : Bool
   pub cause : DropName
 
+-- own
 abbrev pub row : Bool → DropName → Test
 row holds cause = record { holds = holds; cause = cause }
 
--- the cause of the first test that fails
+-- the cause of the first test that fails (own)
 abbrev pub first_failing : List Test → Option DropName
 first_failing [] = None
 first_failing (test ∷ tests) = if test.holds then first_failing tests else Some test.cause
@@ -39,7 +40,7 @@ goes_on c (kind.Lsp level) = true
 goes_on c (kind.Csnp level) = true
 goes_on c (kind.Psnp level) = true
 
--- a level that is run; a point-to-point hello is of no level
+-- a level that is run; a point-to-point hello is of no level (own)
 abbrev pub is_run : Config → PduKind → Bool
 is_run config (kind.LanHello level) = at config.runs level
 is_run config kind.PointHello = true
@@ -61,7 +62,7 @@ passes None octets header = true
 passes (Some key) octets header = is_none (auth_fault key octets header)
 
 -- no value that must be read has a fault: areas, SNPAs and three-way values of a hello, entries of
--- an SNP
+-- an SNP (own)
 abbrev pub are_read : PduKind → List ℕ → Bool
 are_read (kind.LanHello level) tlvs =
     is_none (fault_of (areas_in tlvs)) && is_none (fault_of (snpas_in tlvs))
@@ -91,7 +92,7 @@ is_summed (Lsp level lifetime id number checksum flags tlvs) octets =
 is_summed (Csnp level source start end tlvs) octets = true
 is_summed (Psnp level source tlvs) octets = true
 
--- the tests of a PDU whose octets are these
+-- the tests of a PDU whose octets are these (own)
 abbrev pub tests_of : Config → Circuit → PduView → List ℕ → List Test
 tests_of config c pdu octets =
     let kind = kind_of pdu in

@@ -20,12 +20,12 @@ in_pieces (suc count) size (x ∷ list) =
 
 -- ---- hellos
 
--- an address where one is configured
+-- an address where one is configured (RFC 1195 5.3)
 abbrev pub own_address : Option ℕ → List ℕ
 own_address None = []
 own_address (Some address) = address_tlv (address ∷ [])
 
--- area addresses, IPv4, and the circuit's address, before what else a hello has
+-- area addresses, IPv4, and the circuit's address, before what else a hello has (9.5 to 9.7)
 abbrev pub hello_tlvs : List (List ℕ) → Option ℕ → List ℕ → List ℕ
 hello_tlvs areas address others =
     area_tlv areas ++ (protocol_tlv ++ (own_address address ++ others))
@@ -38,21 +38,23 @@ three_way_value state extended names = record {
   neighbour = option_map (λ (name : ℕ × ℕ). (system_id name.0, name.1)) names;
 }
 
+-- RFC 5303 3.1
 abbrev pub point_tlvs : List (List ℕ) → Option ℕ → Adj → ℕ → Option (ℕ × ℕ) → List ℕ
 point_tlvs areas address state extended names =
     hello_tlvs areas address (three_way_tlv (three_way_value state extended names))
 
--- the SNPAs heard, 42 to a TLV
+-- the SNPAs heard, 42 to a TLV (9.5)
 abbrev pub snpa_tlvs : List ℕ → List ℕ
 snpa_tlvs snpas =
     flat_map (λ (piece : List ℕ). snpa_tlv (map snpa_id piece)) (in_pieces (length snpas) 42 snpas)
 
+-- 9.5
 abbrev pub lan_tlvs : List (List ℕ) → Option ℕ → List ℕ → List ℕ
 lan_tlvs areas address snpas = hello_tlvs areas address (snpa_tlvs snpas)
 
 -- ---- SNPs
 
--- an LSP entry of the model's
+-- an LSP entry of the model's (9.10)
 abbrev pub lsp_entry : SnpEntry → LspEntry
 lsp_entry h =
     record {
@@ -62,7 +64,7 @@ lsp_entry h =
       checksum = h.checksum;
     }
 
--- the entries, 15 to a TLV
+-- the entries, 15 to a TLV (9.10)
 abbrev pub entry_tlvs : List SnpEntry → List ℕ
 entry_tlvs entries =
     flat_map (λ (piece : List SnpEntry). entry_tlv (map lsp_entry piece))

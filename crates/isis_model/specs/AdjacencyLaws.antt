@@ -68,7 +68,8 @@ pub record IsBond (b : Bond) : Type 0 where
 pub record AreBonds (r : Router) : Type 0 where
   pub on : (place : ℕ) → IsBond (bond_at r place)
 
--- a router's boot, its system ID, area addresses and keys, and the number of its circuits stay (own)
+-- a router's boot, its system ID, area addresses and keys, and the number of its circuits stay
+-- (own)
 pub record Stays (r t : Router) : Type 0 where
   pub boot : t.boot ≡ r.boot
   pub system : t.config.system ≡ r.config.system

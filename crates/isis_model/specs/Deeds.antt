@@ -32,10 +32,10 @@ abbrev pub content_of : Cell → Content
 content_of cell = record { checksum = cell.checksum; flags = cell.flags; octets = cell.octets }
 
 -- What a step hears on one level: `rank place id` is the greatest rank of an LSP ID on a circuit,
--- `source id rank content` holds of what a new LSP may be, `sane` of good events, configurations and
--- what is given, `mine` of one's own LSP IDs and what they may say, `names place id` of what a datagram that is taken on a
--- circuit names, and `stirs` of the circuits
--- whose flags the step may clear as a whole, by a pull or a closing (own).
+-- `source id rank content` holds of what a new LSP may be, `sane` of good events, configurations
+-- and what is given, `mine` of one's own LSP IDs and what they may say, `names place id` of what a
+-- datagram that is taken on a circuit names, and `stirs` of the circuits whose flags the step may
+-- clear as a whole, by a pull or a closing (own).
 pub record Hearing : Type 1 where
   pub rank : ℕ → ℕ → ℕ
   pub source : ℕ → ℕ → Content → Type 0

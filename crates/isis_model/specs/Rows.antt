@@ -15,7 +15,7 @@ use Rattle.isis_model.specs.Adjacencies.{Handshake}
 use Rattle.isis_model.specs.Routers.{LanNeighbour, Circuit, Contents, Issued, Router, book_of}
 use Rattle.isis_model.specs.Elections.{Candidate}
 use Rattle.isis_model.specs.Givens.{Given}
-use Rattle.isis_model.specs.Events.{Event, Second, Take, PointHelloHeard, LanHelloHeard, LspHeard, Outcome}
+use Rattle.isis_model.specs.Events.{Event, Second, Take, Prefix, PointHelloHeard, LanHelloHeard, LspHeard, Outcome}
 use Rattle.isis_model.specs.Both.{Both}
 use Rattle.isis_model.specs.HelloTests.{point_drop}
 use Rattle.isis_model.specs.Steps.{step}
@@ -243,7 +243,8 @@ answer_to event events = step given (run events) event
 
 -- a router of these levels, in overload or not, whose routes are attached (own)
 abbrev pub running : Both Bool → Bool → Router
-running runs overload = record router { config = record config { runs = runs; overload = overload } }
+running runs overload =
+    record router { config = record config { runs = runs; overload = overload } }
 
 -- own
 abbrev pub attached : Given
@@ -289,6 +290,14 @@ heard_of id number = Take 0 (LspHeard Two 2 (record {
   left = 1100;
   octets = replicate 30 1;
 }))
+
+-- its entry with so many seconds left, where its number is 1 (own)
+abbrev pub entry_heard : ℕ → SnpEntry
+entry_heard left = record { id = 131072; rank = 2; lifetime = left; checksum = 7 }
+
+-- the router's prefix with another metric (own)
+abbrev pub changed_prefix : Event
+changed_prefix = Prefix 10737434648 (Some 6)
 
 -- what is held of the router's own LSP after some events (own)
 abbrev pub own_after : List Event → Option Cell

@@ -18,8 +18,8 @@ ghost use Rattle.isis_model.specs.LspTable.{hear_lsp};
 ghost use Rattle.isis_model.specs.SnpTable.{hear_entry};
 ghost use Rattle.isis_model.specs.OwnLsps.{is_due};
 ghost use Rattle.isis_model.specs.Datagrams.{PointHello, LanHello, Csnp, Lsp, Psnp};
-ghost use Rattle.isis_model.specs.Events.{Second, Take, Pull, Prefix, SnpHeard, Done, Dropped, Send};
-ghost use Rattle.isis_model.specs.Rows.{cell_of, header, lsp, entry, asked_for, book_with, before, config, level_one, level_two, shake, tested, contents_of, issued_at, hello, lan_hello_of, lan_hello, low_hello, events_up, seconds, own_lsp, run, answer_to, given, router, running, attached, both_levels, elected, lan_lsps, heard_of, own_after, heard_from};
+ghost use Rattle.isis_model.specs.Events.{Second, Take, Pull, SnpHeard, Done, Dropped, Send};
+ghost use Rattle.isis_model.specs.Rows.{cell_of, header, lsp, entry, asked_for, book_with, before, config, level_one, level_two, shake, tested, contents_of, issued_at, hello, lan_hello_of, lan_hello, low_hello, events_up, seconds, own_lsp, run, answer_to, given, router, running, attached, both_levels, elected, lan_lsps, heard_of, entry_heard, changed_prefix, own_after, heard_from};
 
 /// A flag that was sent waits five seconds, and each second one less.
 pub fn wait_rows()
@@ -128,7 +128,8 @@ pub fn lan_steps()
         (lan_hello ∷ [])).reply ≡ Dropped NoAdjacency }
 {}
 
-/// The three-way handshake (RFC 5303 3.2): one's own state, the state that is heard, and the new one.
+/// The three-way handshake (RFC 5303 3.2): one's own state, the state that is heard, and the new
+/// one.
 pub fn handshake_rows()
     ensures down_down { three_way Down Down ≡ Initializing }
     ensures down_initializing { three_way Down Initializing ≡ Up }
@@ -154,11 +155,11 @@ pub fn due_rows()
         ∷ heard_of 131072 1 ∷ Second ∷ events_up))).reply ≡ Send [] }
     ensures sent { (answer_to (Pull 0) (seconds 2 (heard_of 131072 1 ∷ Pull 0
         ∷ heard_of 131072 1 ∷ Second ∷ events_up))).reply
-        ≡ Send (Psnp Two (record { id = 131072; rank = 2; lifetime = 1098; checksum = 7 } ∷ []) ∷ []) }
+        ≡ Send (Psnp Two (entry_heard 1098 ∷ []) ∷ []) }
 {}
 
-/// What own LSPs say: the flags octet, prefixes that are leaked, the pseudonode of a LAN, and all of
-/// them where the router is designated.
+/// What own LSPs say: the flags octet, prefixes that are leaked, the pseudonode of a LAN, and all
+/// of them where the router is designated.
 pub fn own_rows()
     ensures level_one { first_flags attached router (running level_one false) One true ≡ 1 }
     ensures level_two { first_flags attached router (running level_two false) Two true ≡ 3 }
@@ -168,7 +169,8 @@ pub fn own_rows()
     ensures cut { first_flags given router (running both_levels false) Two false ≡ 7 }
     ensures leaks { with_leaks true ((64, record { metric = 5; down = false }) ∷ [])
         ((64, 7) ∷ (96, 8) ∷ [])
-        ≡ (64, record { metric = 5; down = false }) ∷ (96, record { metric = 8; down = true }) ∷ [] }
+        ≡ (64, record { metric = 5; down = false })
+        ∷ (96, record { metric = 8; down = true }) ∷ [] }
     ensures pseudonode { lan_node 10 (elected 2 513) ≡ (513, 10) ∷ [] }
     ensures no_pseudonode { lan_node 10 (elected 2 512) ≡ [] }
     ensures other_system { lan_node 10 (elected 2 769) ≡ [] }
@@ -180,8 +182,8 @@ pub fn own_rows()
 pub fn outbid_rows()
     ensures issued { own_after (heard_of 65536 10 ∷ Second ∷ events_up)
         ≡ Some (record (own_lsp 1200 0 1) { rank = 22; checksum = 11 }) }
-    ensures early { rank_of (own_after (seconds 4 (Prefix 10737434648 (Some 6) ∷ Second ∷ []))) ≡ 2 }
-    ensures changed { rank_of (own_after (seconds 5 (Prefix 10737434648 (Some 6) ∷ Second ∷ []))) ≡ 4 }
+    ensures early { rank_of (own_after (seconds 4 (changed_prefix ∷ Second ∷ []))) ≡ 2 }
+    ensures changed { rank_of (own_after (seconds 5 (changed_prefix ∷ Second ∷ []))) ≡ 4 }
 {}
 
 /// The limits of this router: 200 neighbours on a LAN, and 4,096 LSP IDs that were let go.

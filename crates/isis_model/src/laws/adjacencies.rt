@@ -18,9 +18,9 @@ pub fn step_follows()
 {}
 
 /// A step leaves a router's system ID, area addresses, keys, boot and the number of its circuits,
-/// and changes adjacencies only by hellos and by their end. A circuit that keeps another neighbour than before
-/// has the flag of every key, and somebody is kept exactly outside Down. Each hello that is sent
-/// tells the adjacency as it is.
+/// and changes adjacencies only by hellos and by their end. A circuit that keeps another neighbour
+/// than before has the flag of every key, and somebody is kept exactly outside Down. Each hello
+/// that is sent tells the adjacency as it is.
 pub fn step_bonds()
     ensures stays { (given : Given) (r : Router) (event : Event)
         → Stays r (step given r event).router }
