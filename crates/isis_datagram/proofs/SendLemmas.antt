@@ -24,6 +24,24 @@ use Rattle.isis_model.proofs.BondLemmas.{step-stays}
 use Rattle.isis_model.proofs.ContentLemmas.{Fact, course-facts}
 use Rattle.isis_datagram.proofs.IssueLemmas.{issue-tells, given-good}
 use Rattle.isis_datagram.proofs.KeptLemmas.{purged-tells}
+use Rattle.isis_base.specs.declared.pdu_kind.PduKind.TheVariants as kind
+use Rattle.std.proofs.Common.{[], ◌∷◌}
+use Rattle.std.specs.List.{AllByRecursion}
+use Rattle.isis_model.specs.Routers.{Circuit}
+use Rattle.isis_model.specs.Datagrams.{Sent, PointHello, LanHello, Lsp, Csnp, Psnp}
+use Rattle.isis_model.specs.Events.{Reply, Done, Dropped, Send}
+use Rattle.isis_model.specs.Sorted.{IsSorted}
+use Rattle.isis_model.specs.Good.{IsGoodCell}
+use Rattle.isis_model.specs.ReplyLaws.{AllSent, WasHeld, IsExact, IsReplyExact, IsFine, IsReplyFine}
+use Rattle.isis_model.proofs.BookLemmas.{test}
+use Rattle.isis_model.proofs.ExactLemmas.{step-exact}
+use Rattle.isis_model.proofs.FineLemmas.{step-fine}
+use Rattle.isis_datagram.specs.Said.{ReadsBack, CanRead}
+use Rattle.isis_datagram.specs.Senders.{IsSender}
+use Rattle.isis_datagram.specs.LspLaws.{ReadsUpdate}
+use Rattle.isis_datagram.proofs.LspLemmas.{lsp-reads}
+use Rattle.isis_datagram.proofs.PurgeLemmas.{purge-reads}
+use Rattle.isis_datagram.proofs.SnpLemmas.{csnp-reads, psnp-reads}
 
 -- an entry of a key and content, with a second left and no flag
 abbrev plain : ℕ → Content → Cell
@@ -158,3 +176,46 @@ step-sendable leaks attached r event good telling sound told s level id cell e =
     let stays = step-stays given r event in
     subst (λ (keys : Both (Option (List ℕ))). IsSendable (at keys level) level id cell) (sym stays.keys)
     (whole key level id cell (subst (IsGood id) e ((after.on level).at id)) (subst (Fact (Kept key level) (buries key level) id) e (facts id)))
+
+-- ---- what a step sends
+
+-- what is held with the rank and content of an LSP that is sent tells of it
+alike : (key : Option (List ℕ)) (level : Level) (id : ℕ) (held sent : Cell) → held.rank ≡ sent.rank → content_of held ≡ content_of sent → id < 2 ^ 64 → IsGoodCell sent → IsSendable key level id held → IsSendable key level id sent
+alike key level id held sent r k eight good s = whole key level id sent (eight, good)
+    (λ some. subst (λ (content : Content). Kept key level id sent.rank content) k (subst (λ (rank : ℕ). Kept key level id rank (content_of held)) r (parts key level id held s)))
+
+live-or-purge : (rank : ℕ) → 0 < rank → is_purge rank ≡ false → is_live rank ≡ true
+live-or-purge rank some e = grind (arith, nat_tests, some, e)
+
+lsp-back : (by config : Config) (on c : Circuit) (place : ℕ) (level : Level) (id : ℕ) (cell : Cell) → IsSender config → 0 < cell.rank → IsSendable (at config.keys level) level id cell → CanRead by on config c (kind.Lsp level) → ReadsBack by on config place c (Lsp level id cell)
+lsp-back by config on c place level id cell sender some s can = test (λ (purge : Bool). is_purge cell.rank ≡ purge → ReadsBack by on config place c (Lsp level id cell)) (is_purge cell.rank)
+    (λ _ p. purge-reads by config on c place level id cell sender.system (s.purge p) can)
+    (λ _ l. lsp-reads by config on c place level id cell sender.system (s.live (live-or-purge cell.rank some l)) can) refl
+
+held-back : (t : Router) (by : Config) (on c : Circuit) (place : ℕ) (level : Level) (id : ℕ) (cell : Cell) → IsSender t.config → AreSendable t → WasHeld (cell_at (book_of t level) id) cell → (id < 2 ^ 64) × IsGoodCell cell × (0 < cell.rank) → CanRead by on t.config c (kind.Lsp level) → ReadsBack by on t.config place c (Lsp level id cell)
+held-back t by on c place level id cell sender all held fine can = by-held (cell_at (book_of t level) id) refl held
+  where
+    by-held : (o : Option Cell) → cell_at (book_of t level) id ≡ o → WasHeld o cell → ReadsBack by on t.config place c (Lsp level id cell)
+    by-held None e h = absurd h
+    by-held (Some old) e h = lsp-back by t.config on c place level id cell sender fine.2 (alike (at t.config.keys level) level id old cell h.0 h.1 fine.0 fine.1 (all level id old e)) can
+
+sent-back : (t : Router) (by : Config) (on c : Circuit) (place : ℕ) → IsSender t.config → AreSendable t → (s : Sent) → IsExact t s → IsFine s → ReadsUpdate by on t.config place c s
+sent-back t by on c place sender all (PointHello state extended names) held fine e can = absurd (cc)
+sent-back t by on c place sender all (LanHello level lan snpas) held fine e can = absurd (cc)
+sent-back t by on c place sender all (Lsp level id cell) held fine e can = held-back t by on c place level id cell sender all held fine can
+sent-back t by on c place sender all (Csnp level start end entries) held fine e can = csnp-reads by t.config on c place level start end entries sender fine.0 fine.1 fine.2 can
+sent-back t by on c place sender all (Psnp level entries) held fine e can = psnp-reads by t.config on c place level entries sender fine can
+
+out-back : (t : Router) (by : Config) (on c : Circuit) (place : ℕ) → IsSender t.config → AreSendable t → (out : List Sent) → AllByRecursion (IsExact t) out → AllByRecursion IsFine out → AllByRecursion (ReadsUpdate by on t.config place c) out
+out-back t by on c place sender all [] held fine = tt
+out-back t by on c place sender all (s ∷ out) held fine = (sent-back t by on c place sender all s held.0 fine.0, out-back t by on c place sender all out held.1 fine.1)
+
+reply-back : (t : Router) (by : Config) (on c : Circuit) (place : ℕ) → IsSender t.config → AreSendable t → (reply : Reply) → IsReplyExact t reply → IsReplyFine reply → AllSent (ReadsUpdate by on t.config place c) reply
+reply-back t by on c place sender all Done held fine = tt
+reply-back t by on c place sender all (Dropped cause) held fine = tt
+reply-back t by on c place sender all (Send out) held fine = out-back t by on c place sender all out held fine
+
+pub step-reads : (leaks : Router → Level → List (ℕ × ℕ)) (attached : Router → Bool) (r : Router) (event : Event) (by : Config) (on c : Circuit) (place : ℕ) → IsSorted r → IsGoodRouter r → IsTelling r → IsGoodEvent event → TellsEvent r.config event → AreSendable r → IsSender (step (given_octets leaks attached) r event).router.config → AllSent (ReadsUpdate by on (step (given_octets leaks attached) r event).router.config place c) (step (given_octets leaks attached) r event).reply
+step-reads leaks attached r event by on c place sorted good telling sound told all sender =
+    let given = given_octets leaks attached in
+    reply-back (step given r event).router by on c place sender (step-sendable leaks attached r event good telling sound told all) (step given r event).reply (step-exact given r event sorted) (step-fine given r event sorted good sound)

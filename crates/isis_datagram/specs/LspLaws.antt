@@ -10,7 +10,7 @@ use Rattle.isis_tlv.specs.Fits.{IsArea}
 use Rattle.isis_tlv.specs.Spelling.{area_value}
 use Rattle.isis_model.specs.Ranks.{number_of, is_live, is_purge}
 use Rattle.isis_model.specs.Configs.{Config}
-use Rattle.isis_model.specs.Routers.{Contents, Router, book_of}
+use Rattle.isis_model.specs.Routers.{Circuit, Contents, Router, book_of}
 use Rattle.isis_model.specs.Books.{cell_at}
 use Rattle.isis_model.specs.Both.{at}
 use Rattle.isis_model.specs.Givens.{Given}
@@ -23,6 +23,7 @@ use Rattle.isis_pdu.specs.Reading.{Begins}
 use Rattle.isis_model.specs.Cells.{Cell, kept}
 use Rattle.isis_datagram.specs.Numbers.{lsp_id}
 use Rattle.isis_model.specs.SnpTable.{SnpEntry}
+use Rattle.isis_datagram.specs.Said.{ReadsBack, kind_sent, CanRead}
 use Rattle.isis_datagram.specs.Datagrams.{pdu_octets, datagram}
 use Rattle.isis_datagram.specs.Reading.{read}
 use Rattle.isis_datagram.specs.Tests.{goes_on, is_run, key_for, passes}
@@ -95,3 +96,20 @@ abbrev pub AreSendable : Router → Type 0
 AreSendable r =
     (level : Level) (id : ℕ) (cell : Cell) → cell_at (book_of r level) id ≡ Some cell
     → IsSendable (at r.config.keys level) level id cell
+
+-- ---- what a step sends
+
+-- whether it is an LSP or an SNP (own)
+abbrev pub is_update : Sent → Bool
+is_update (PointHello state extended named) = false
+is_update (LanHello level lan snpas) = false
+is_update (Lsp level id cell) = true
+is_update (Csnp level start end entries) = true
+is_update (Psnp level entries) = true
+
+-- an LSP or an SNP that is sent on a circuit is read as what it says, by a reader that can read it
+-- (own)
+abbrev pub ReadsUpdate : Config → Circuit → Config → ℕ → Circuit → Sent → Type 0
+ReadsUpdate by on config place c sent =
+    is_update sent ≡ true → CanRead by on config c (kind_sent sent)
+    → ReadsBack by on config place c sent

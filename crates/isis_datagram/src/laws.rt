@@ -16,6 +16,8 @@ ghost use Rattle.isis_model.specs.Routers.{Circuit, Contents, Router};
 ghost use Rattle.isis_model.specs.SnpTable.{SnpEntry};
 ghost use Rattle.isis_model.specs.Events.{Event};
 ghost use Rattle.isis_model.specs.Steps.{step};
+ghost use Rattle.isis_model.specs.Sorted.{IsSorted};
+ghost use Rattle.isis_model.specs.ReplyLaws.{AllSent};
 ghost use Rattle.isis_model.specs.Starts.{start};
 ghost use Rattle.isis_model.specs.Datagrams.{PointHello, LanHello, Lsp, Csnp, Psnp};
 ghost use Rattle.isis_model.specs.Good.{IsGoodGiven, IsGoodMessage, IsGoodEvent, IsGoodRouter, IsTelling, IsIssuable};
@@ -27,7 +29,7 @@ ghost use Rattle.isis_datagram.specs.Lsps.{given_octets};
 ghost use Rattle.isis_datagram.specs.Said.{ReadsBack, CanRead};
 ghost use Rattle.isis_datagram.specs.Senders.{IsSender, IsHandshake, IsLanHello};
 ghost use Rattle.isis_model.specs.Good.{AreTellable};
-ghost use Rattle.isis_datagram.specs.LspLaws.{IsLiveLsp, IssueTells, IsPurge, TellsKept, TellsEvent, AreSendable};
+ghost use Rattle.isis_datagram.specs.LspLaws.{IsLiveLsp, IssueTells, IsPurge, TellsKept, TellsEvent, AreSendable, ReadsUpdate};
 
 /// Identifiers of numbers have those numbers.
 pub fn number_laws()
@@ -151,4 +153,16 @@ pub fn sendable_laws()
         (r : Router) (event : Event)
         → IsGoodRouter r → IsTelling r → IsGoodEvent event → TellsEvent r.config event
         → AreSendable r → AreSendable (step (given_octets leaks attached) r event).router }
+{}
+
+/// Whatever LSP or SNP a step sends reads back, on whichever circuit, by a reader that can read it.
+pub fn step_reads()
+    ensures { (leaks : Router → Level → List (ℕ × ℕ)) (attached : Router → Bool)
+        (r : Router) (event : Event) (by : Config) (on c : Circuit) (place : ℕ)
+        → IsSorted r → IsGoodRouter r → IsTelling r → IsGoodEvent event
+        → TellsEvent r.config event → AreSendable r
+        → IsSender (step (given_octets leaks attached) r event).router.config
+        → AllSent
+            (ReadsUpdate by on (step (given_octets leaks attached) r event).router.config place c)
+            (step (given_octets leaks attached) r event).reply }
 {}
