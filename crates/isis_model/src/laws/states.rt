@@ -1,6 +1,6 @@
 //! Laws of states: what holds at the start and is kept by every step, where new LSPs come from, own
 //! LSPs, and drops.
-ghost use Rattle.std.specs.Prelude.{◌≡◌, ◌≢◌, ℕ, ◌/◌, ◌^◌, ◌<◌, ◌≤◌, List, length, Some};
+ghost use Rattle.std.specs.Prelude.{◌≡◌, ◌≢◌, ℕ, ◌/◌, ◌^◌, ◌<◌, ◌≤◌, List, length, Some, None, Bool};
 ghost use Rattle.std.specs.List.{AllByRecursion};
 ghost use Rattle.isis_base.specs.declared.level.Level.{Level};
 ghost use Rattle.isis_model.specs.declared.drop_name.DropName.{DropName};
@@ -13,7 +13,11 @@ ghost use Rattle.isis_model.specs.Routers.{Circuit, Contents, Router};
 ghost use Rattle.isis_model.specs.Givens.{Given};
 ghost use Rattle.isis_model.specs.Splits.{Item, split};
 ghost use Rattle.isis_model.specs.SplitLaws.{IsSmall, SaysEntries};
-ghost use Rattle.isis_model.specs.Wanted.{wanted};
+ghost use Rattle.std.specs.Option.{option_map};
+ghost use Rattle.isis_model.specs.Maps.{find};
+ghost use Rattle.isis_model.specs.Elections.{oneself};
+ghost use Rattle.isis_model.specs.LspPrefixes.{Reach, with_leaks};
+ghost use Rattle.isis_model.specs.Wanted.{pseudonode_lsp, wanted};
 ghost use Rattle.isis_model.specs.Events.{Message, Event, Take, Dropped};
 ghost use Rattle.isis_model.specs.Receiving.{drop_of};
 ghost use Rattle.isis_model.specs.Steps.{step};
@@ -82,6 +86,21 @@ pub fn wanted_own()
     ensures issuable { (given : Given) (before r : Router) (level : Level) → IsTelling r
         → AllByRecursion (λ w. IsIssuable (at r.config.keys level) w.1)
         (wanted given before r level) }
+{}
+
+/// A prefix of one's own isn't leaked over, and each other one is leaked as it is named first
+/// (RFC 5302 3). A pseudonode's LSPs have the LAN ID that the router's hellos give it.
+pub fn own_lsp_laws()
+    ensures own { (down : Bool) (leaks : List (ℕ × ℕ)) (prefixes : List (ℕ × Reach)) (p : ℕ)
+        (reach : Reach) → find prefixes p ≡ Some reach
+        → find (with_leaks down prefixes leaks) p ≡ Some reach }
+    ensures leaked { (down : Bool) (leaks : List (ℕ × ℕ)) (prefixes : List (ℕ × Reach)) (p : ℕ)
+        → find prefixes p ≡ None
+        → find (with_leaks down prefixes leaks) p
+        ≡ option_map (λ metric. record { metric = metric; down = down }) (find leaks p) }
+    ensures pseudonode { (r : Router) (place : ℕ) (c : Circuit) (level : Level)
+        → AllByRecursion (λ w. w.0 / 256 ≡ (oneself r.config place c).lan)
+            (pseudonode_lsp r place c level) }
 {}
 
 /// A split has at most 256 fragments. Where each entry fits a TLV and a fragment alone, each
