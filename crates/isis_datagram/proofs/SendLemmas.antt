@@ -14,7 +14,7 @@ use Rattle.isis_model.specs.OwnLsps.{issue_cell}
 use Rattle.isis_model.specs.Deeds.{Content, content_of}
 use Rattle.isis_model.specs.Events.{Event, Take, LspHeard}
 use Rattle.isis_model.specs.Steps.{step}
-use Rattle.isis_model.specs.StepLaws.{Source, Taken, Made, hearing}
+use Rattle.isis_model.specs.Hearings.{Source, Taken, Made, hearing}
 use Rattle.isis_model.specs.Good.{IsGood, IsGoodEvent, IsGoodRouter, IsTelling}
 use Rattle.isis_datagram.specs.Lsps.{given_octets}
 use Rattle.isis_datagram.specs.LspLaws.{TellsLive, IsLiveLsp, IsPurge, TellsKept, TellsEvent, IsSendable, AreSendable}

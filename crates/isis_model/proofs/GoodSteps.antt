@@ -6,7 +6,7 @@ use Rattle.isis_model.specs.Givens.{Given}
 use Rattle.isis_model.specs.Events.{Event}
 use Rattle.isis_model.specs.Steps.{step}
 use Rattle.isis_model.specs.Good.{IsGoodGiven, IsGoodEvent, IsGoodRouter, IsTelling}
-use Rattle.isis_model.specs.StepLaws.{hearing}
+use Rattle.isis_model.specs.Hearings.{hearing}
 use Rattle.isis_model.proofs.StepWays.{step-course}
 use Rattle.isis_model.proofs.GoodLemmas.{course-good}
 use Rattle.isis_model.proofs.BondLemmas.{step-stays}

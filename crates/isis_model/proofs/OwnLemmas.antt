@@ -25,7 +25,7 @@ use Rattle.isis_model.specs.OwnLsps.{contents_or}
 use Rattle.isis_model.specs.Takes.{answer_of}
 use Rattle.isis_model.specs.Receiving.{scene_of}
 use Rattle.isis_model.specs.Good.{IsGoodConfig, IsTelling, IsIssuable}
-use Rattle.isis_model.specs.StepLaws.{IsOwnLsp}
+use Rattle.isis_model.specs.Hearings.{IsOwnLsp}
 use Rattle.isis_model.proofs.BookLemmas.{choose}
 use Rattle.isis_model.proofs.ListLemmas.{all-map, all-append}
 use Rattle.isis_model.proofs.SplitLemmas.{split-fits}

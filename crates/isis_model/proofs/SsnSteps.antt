@@ -20,7 +20,8 @@ use Rattle.isis_model.specs.Seconds.{counted, waited, count_down, circuit_less, 
 use Rattle.isis_model.specs.Deeds.{Hearing, Way, Course, Goes, Next, Closes, Opens, Courses}
 use Rattle.isis_model.specs.Events.{Event, Second, Take, Pull, Metric, Overload, Prefix}
 use Rattle.isis_model.specs.Steps.{step}
-use Rattle.isis_model.specs.StepLaws.{hearing, named_in, stirs, SsnRises, SsnStays}
+use Rattle.isis_model.specs.Hearings.{hearing, named_in, stirs}
+use Rattle.isis_model.specs.StepLaws.{SsnRises, SsnStays}
 use Rattle.isis_model.specs.Flooding.{Keeps}
 use Rattle.isis_model.proofs.MapLemmas.{find-each}
 use Rattle.isis_model.proofs.SetLemmas.{has-with_one, has-without}

@@ -9,7 +9,7 @@ use Rattle.isis_model.specs.Routers.{Router, book_of}
 use Rattle.isis_model.specs.Givens.{Given}
 use Rattle.isis_model.specs.Deeds.{Content, content_of}
 use Rattle.isis_model.specs.Events.{Event}
-use Rattle.isis_model.specs.StepLaws.{Source}
+use Rattle.isis_model.specs.Hearings.{Source}
 use Rattle.isis_model.specs.ReplyLaws.{WasHeld}
 
 -- own

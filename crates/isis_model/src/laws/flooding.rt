@@ -18,7 +18,8 @@ ghost use Rattle.isis_model.specs.Events.{Event};
 ghost use Rattle.isis_model.specs.Steps.{step};
 ghost use Rattle.isis_model.specs.Good.{IsGoodBook};
 ghost use Rattle.isis_model.specs.Flooding.{Floods, Keeps, KeepsBoth, Stands, IsKept};
-ghost use Rattle.isis_model.specs.StepLaws.{heard_in, RankStays, FlagStays, RiseIsFlagged, OpeningIsFlagged, SsnRises, SsnStays};
+ghost use Rattle.isis_model.specs.Hearings.{heard_in};
+ghost use Rattle.isis_model.specs.StepLaws.{RankStays, FlagStays, RiseIsFlagged, OpeningIsFlagged, SsnRises, SsnStays};
 ghost use Rattle.isis_model.specs.SweepLaws.{ListsOnce, Frees, AreClean, IsRangeClean, IsListed, AreHeldLive};
 
 /// A set of circuits has a circuit exactly as the words that made it say.

@@ -25,7 +25,7 @@ ghost use Rattle.isis_model.specs.Starts.{start};
 ghost use Rattle.isis_model.specs.Sorted.{IsSorted};
 ghost use Rattle.isis_model.specs.Good.{IsGoodGiven, IsGoodEvent, IsGoodRouter, IsTelling, IsIssuable};
 ghost use Rattle.isis_model.specs.Deeds.{Courses};
-ghost use Rattle.isis_model.specs.StepLaws.{hearing};
+ghost use Rattle.isis_model.specs.Hearings.{hearing};
 ghost use Rattle.isis_model.specs.AdjacencyLaws.{FollowsAdjacencies, AreBonds, AreIdle};
 ghost use Rattle.isis_model.specs.ContentLaws.{TellsBoth};
 
@@ -100,7 +100,7 @@ pub fn own_lsp_laws()
         ≡ option_map (λ metric. record { metric = metric; down = down }) (find leaks p) }
     ensures pseudonode { (r : Router) (place : ℕ) (c : Circuit) (level : Level)
         → AllByRecursion (λ w. w.0 / 256 ≡ (oneself r.config place c).lan)
-            (pseudonode_lsp r place c level) }
+        (pseudonode_lsp r place c level) }
 {}
 
 /// A split has at most 256 fragments. Where each entry fits a TLV and a fragment alone, each
