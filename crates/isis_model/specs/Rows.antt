@@ -14,6 +14,7 @@ use Rattle.isis_model.specs.SnpTable.{SnpEntry}
 use Rattle.isis_model.specs.Adjacencies.{Handshake}
 use Rattle.isis_model.specs.Routers.{LanNeighbour, Circuit, Contents, Issued, Router, book_of}
 use Rattle.isis_model.specs.Elections.{Candidate}
+use Rattle.isis_model.specs.Splits.{Draft}
 use Rattle.isis_model.specs.Givens.{Given}
 use Rattle.isis_model.specs.Events.{Event, Second, Take, Prefix, PointHelloHeard, LanHelloHeard, LspHeard, Outcome}
 use Rattle.isis_model.specs.Both.{Both}
@@ -299,9 +300,17 @@ entry_heard left = record { id = 131072; rank = 2; lifetime = left; checksum = 7
 abbrev pub changed_prefix : Event
 changed_prefix = Prefix 10737434648 (Some 6)
 
--- what is held of the router's own LSP after some events (own)
+-- what is held of an LSP ID after some events, and of the router's own LSP (own)
+abbrev pub held_after : ℕ → List Event → Option Cell
+held_after id events = cell_at (book_of (run events) Two) id
+
+-- own
 abbrev pub own_after : List Event → Option Cell
-own_after events = cell_at (book_of (run events) Two) 65536
+own_after events = held_after 65536 events
+
+-- so many finished fragments, and an open one without room for 8 octets more of 9 (own)
+abbrev pub filled_up : ℕ → Draft
+filled_up count = record { done = replicate count []; closed = 0 ∷ 0 ∷ []; code = 0; value = [] }
 
 -- a neighbour that is Up (own)
 abbrev pub up_from : ℕ → LanNeighbour

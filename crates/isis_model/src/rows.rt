@@ -1,5 +1,5 @@
 //! Rows of the tables and the first steps of a router, worked out by computation.
-ghost use Rattle.std.specs.Prelude.{◌≡◌, ◌-◌, ◌^◌, true, false, [], ◌∷◌, replicate, Some, None, is_some};
+ghost use Rattle.std.specs.Prelude.{◌≡◌, ◌-◌, ◌^◌, true, false, [], ◌∷◌, length, replicate, Some, None, is_some};
 ghost use Rattle.isis_base.specs.declared.level.Level.TheVariants.{One, Two};
 ghost use Rattle.isis_tlv.specs.declared.three_way.Adj.TheVariants.{Up, Initializing, Down};
 ghost use Rattle.isis_model.specs.declared.whose.Whose.TheVariants.{Other, Unissued};
@@ -10,16 +10,19 @@ ghost use Rattle.isis_model.specs.Adjacencies.{three_way};
 ghost use Rattle.isis_model.specs.Starts.{quiet};
 ghost use Rattle.isis_model.specs.LetGos.{let_go};
 ghost use Rattle.isis_model.specs.HelloTests.{many_drop};
-ghost use Rattle.isis_model.specs.LspNeighbours.{lan_node};
+ghost use Rattle.isis_model.specs.LspNeighbours.{lan_node, put_nodes};
 ghost use Rattle.isis_model.specs.LspPrefixes.{with_leaks};
 ghost use Rattle.isis_model.specs.Wanted.{first_flags, wanted};
 ghost use Rattle.isis_model.specs.Pulls.{csnp_sent};
+ghost use Rattle.isis_model.specs.SnpLists.{pieces};
+ghost use Rattle.isis_model.specs.Splits.{holds_more};
+ghost use Rattle.isis_model.specs.Ageing.{aged, is_let_go};
 ghost use Rattle.isis_model.specs.LspTable.{hear_lsp};
-ghost use Rattle.isis_model.specs.SnpTable.{hear_entry};
+ghost use Rattle.isis_model.specs.SnpTable.{asked, hear_entry};
 ghost use Rattle.isis_model.specs.OwnLsps.{is_due};
 ghost use Rattle.isis_model.specs.Datagrams.{PointHello, LanHello, Csnp, Lsp, Psnp};
 ghost use Rattle.isis_model.specs.Events.{Second, Take, Pull, SnpHeard, Done, Dropped, Send};
-ghost use Rattle.isis_model.specs.Rows.{cell_of, header, lsp, entry, asked_for, book_with, before, config, level_one, level_two, shake, tested, contents_of, issued_at, hello, lan_hello_of, lan_hello, low_hello, events_up, seconds, own_lsp, run, answer_to, given, router, running, attached, both_levels, elected, lan_lsps, heard_of, entry_heard, changed_prefix, own_after, heard_from};
+ghost use Rattle.isis_model.specs.Rows.{cell_of, header, lsp, entry, asked_for, book_with, before, config, level_one, level_two, shake, tested, contents_of, issued_at, hello, lan_hello_of, lan_hello, low_hello, events_up, seconds, own_lsp, run, answer_to, given, router, running, attached, both_levels, elected, lan_lsps, heard_of, entry_heard, changed_prefix, own_after, held_after, filled_up, heard_from};
 
 /// A flag that was sent waits five seconds, and each second one less.
 pub fn wait_rows()
@@ -64,6 +67,7 @@ pub fn snp_rows()
         ≡ book_with ((7, cell_of 4 5 900 (replicate 27 1) 6 2) ∷ []) 4 }
     ensures asked { cell_at (hear_entry (book_with [] 4) 0 Other (entry 6 5)) 7
         ≡ Some asked_for }
+    ensures full { asked true 0 None ≡ None }
     ensures unasked { hear_entry (book_with [] 4) 0 Other (entry 6 0) ≡ book_with [] 4 }
 {}
 
@@ -120,6 +124,8 @@ pub fn lan_steps()
         ≡ Send (LanHello Two 513 (2 ∷ []) ∷ Lsp Two 65536 (own_lsp 1200 1 2) ∷ []) }
     ensures once { (answer_to (Pull 1) (seconds 5 (Pull 1 ∷ Second ∷ lan_hello ∷ []))).reply
         ≡ Send [] }
+    ensures opened { (answer_to (Pull 1) (lan_hello ∷ Second ∷ [])).reply
+        ≡ Send (LanHello Two 513 (2 ∷ []) ∷ []) }
     ensures partial { (answer_to (Take 1 (SnpHeard Two 2 2 None [])) (lan_hello ∷ [])).reply
         ≡ Dropped NotDesignated }
     ensures complete { (answer_to (Take 1 (SnpHeard Two 2 2 (Some (0, 9)) []))
@@ -174,23 +180,47 @@ pub fn own_rows()
     ensures pseudonode { lan_node 10 (elected 2 513) ≡ (513, 10) ∷ [] }
     ensures no_pseudonode { lan_node 10 (elected 2 512) ≡ [] }
     ensures other_system { lan_node 10 (elected 2 769) ≡ [] }
+    ensures parallel { put_nodes [] ((512, 10) ∷ (256, 3) ∷ (512, 4) ∷ [])
+        ≡ (256, 3) ∷ (512, 10) ∷ (512, 4) ∷ [] }
     ensures designated { wanted given router (run (low_hello ∷ [])) Two ≡ lan_lsps }
 {}
 
 /// An own LSP that is outbid is issued above with what is wanted; one whose contents changed is
-/// issued anew when its last issue is 5 seconds ago.
+/// issued anew when its last issue is 5 seconds ago; one that is no longer wanted is purged.
 pub fn outbid_rows()
     ensures issued { own_after (heard_of 65536 10 ∷ Second ∷ events_up)
         ≡ Some (record (own_lsp 1200 0 1) { rank = 22; checksum = 11 }) }
     ensures early { rank_of (own_after (seconds 4 (changed_prefix ∷ Second ∷ []))) ≡ 2 }
+    ensures pseudonode { rank_of (held_after 66048 (seconds 1 (lan_hello_of 1 2 ∷ []))) ≡ 2 }
+    ensures withdrawn { rank_of (held_after 66048 (seconds 2 (lan_hello_of 1 2 ∷ []))) ≡ 3 }
     ensures changed { rank_of (own_after (seconds 5 (changed_prefix ∷ Second ∷ []))) ≡ 4 }
 {}
 
-/// The limits of this router: 200 neighbours on a LAN, and 4,096 LSP IDs that were let go.
+/// The limits of this router: 200 neighbours on a LAN, 75 entries to an SNP, 256 fragments, and 4,096
+/// LSP IDs that were let go.
 pub fn limit_rows()
     ensures neighbours { many_drop (heard_from 1 199) 500 ≡ None }
     ensures too_many { many_drop (heard_from 1 200) 500 ≡ Some TooMany }
     ensures known { many_drop (heard_from 1 200) 7 ≡ None }
+    ensures piece { length (pieces 2 (replicate 75 (entry 4 5))) ≡ 1 }
+    ensures two_pieces { length (pieces 2 (replicate 76 (entry 4 5))) ≡ 2 }
+    ensures fragments { holds_more 9 (filled_up 254) (record { code = 22; octets = replicate 8 0 })
+        ≡ true }
+    ensures last_fragment { holds_more 9 (filled_up 255)
+        (record { code = 22; octets = replicate 8 0 }) ≡ false }
     ensures let_go { is_some (let_go (Some (replicate 4095 1)) 5) ≡ true }
     ensures all { let_go (Some (replicate 4096 1)) 5 ≡ None }
+{}
+
+/// The last second of an entry (ISO 10589 7.3.16.3, 7.3.16.4): a live LSP is purged and flooded, a
+/// purge is erased and let go, and an empty entry is erased alone.
+pub fn age_rows()
+    ensures later { aged 7 (cell_of 4 5 2 (replicate 27 1) 2 6)
+        ≡ Some (cell_of 4 5 1 (replicate 27 1) 2 6) }
+    ensures purged { aged 7 (cell_of 4 5 1 (replicate 27 1) 2 6) ≡ Some (cell_of 5 0 60 header 7 0) }
+    ensures erased { aged 7 (cell_of 5 0 1 header 2 6) ≡ None }
+    ensures empty { aged 7 (record asked_for { left = 1 }) ≡ None }
+    ensures kept { is_let_go (cell_of 4 5 1 (replicate 27 1) 2 6) ≡ false }
+    ensures gone { is_let_go (cell_of 5 0 1 header 2 6) ≡ true }
+    ensures nothing { is_let_go (record asked_for { left = 1 }) ≡ false }
 {}

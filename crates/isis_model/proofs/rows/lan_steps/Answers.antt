@@ -37,3 +37,7 @@ returns-clause-complete c = refl
 pub returns-clause-other_source : goal.returns-clause-other_source
 unfolding put erase each has with_one without only fallen set_cell lsp_case hear_range close open_up take_point take_lan with_item split system_lsp pseudonode_lsp wanted install retire look take_snp wait_less age_one age count_down hold second sent answered pull_hello pull_csnp pull_lsps pull_psnp pull_level pull step
 returns-clause-other_source c = refl
+
+pub returns-clause-opened : goal.returns-clause-opened
+unfolding put erase each has with_one without only fallen set_cell lsp_case hear_range close open_up take_point take_lan with_item split system_lsp pseudonode_lsp wanted install retire look take_snp wait_less age_one age count_down hold second sent answered pull_hello pull_csnp pull_lsps pull_psnp pull_level pull step
+returns-clause-opened c = refl
