@@ -163,6 +163,6 @@ pub fn step_reads()
         → TellsEvent r.config event → AreSendable r
         → IsSender (step (given_octets leaks attached) r event).router.config
         → AllSent
-            (ReadsUpdate by on (step (given_octets leaks attached) r event).router.config place c)
-            (step (given_octets leaks attached) r event).reply }
+        (ReadsUpdate by on (step (given_octets leaks attached) r event).router.config place c)
+        (step (given_octets leaks attached) r event).reply }
 {}

@@ -9,6 +9,9 @@ ghost use Rattle.isis_model.specs.Rows.{config, circuit};
 ghost use Rattle.isis_datagram.specs.Reading.{read};
 ghost use Rattle.isis_datagram.specs.Rows.{frr_lsp, frr_purge, frr_csnp, frr_psnp, reader, level_one, no_keys, keys, other_keys, read_by, heard, entry, psnp, lsp, point_hello, lan_hello, down_heard, padding};
 ghost use Rattle.isis_datagram.specs.Tlvs.{snpa_tlvs, entry_tlvs};
+ghost use Rattle.isis_datagram.specs.Datagrams.{pdu_octets};
+ghost use Rattle.isis_model.specs.Datagrams.{PointHello, LanHello, Csnp, Psnp};
+ghost use Rattle.isis_tlv.specs.declared.three_way.Adj.TheVariants.{Down};
 
 /// PDUs of FRR, by a reader without keys.
 pub fn frr_rows()
@@ -82,4 +85,24 @@ pub fn piece_rows()
     ensures more_snpas { length (snpa_tlvs (replicate 43 7)) ≡ 2 + 2 + 43 * 6 }
     ensures entries { length (entry_tlvs (replicate 15 (entry 7))) ≡ 2 + 15 * 16 }
     ensures more_entries { length (entry_tlvs (replicate 16 (entry 7))) ≡ 2 + 2 + 16 * 16 }
+{}
+
+/// What system 1 of L2 sends without keys, octet by octet (ISO 10589 9.6, 9.7, 9.11, 9.13): its
+/// hello in Down on circuit 1, its hello on LAN 2 where it is designated, a CSNP and a PSNP.
+pub fn sent_rows()
+    ensures point_hello { pdu_octets config 0 (circuit false) (PointHello Down 257 None)
+        ≡ 131 ∷ 20 ∷ 1 ∷ 0 ∷ 17 ∷ 1 ∷ 0 ∷ 0 ∷ 2 ∷ 0 ∷ 0 ∷ 0 ∷ 0 ∷ 0 ∷ 1 ∷ 0 ∷ 30 ∷ 0 ∷ 36 ∷ 1
+        ∷ 1 ∷ 4 ∷ 3 ∷ 73 ∷ 0 ∷ 1 ∷ 129 ∷ 1 ∷ 204 ∷ 240 ∷ 5 ∷ 2 ∷ 0 ∷ 0 ∷ 1 ∷ 1 ∷ [] }
+    ensures lan_hello { pdu_octets config 1 (circuit true) (LanHello level.Two 258 (2 ∷ []))
+        ≡ 131 ∷ 27 ∷ 1 ∷ 0 ∷ 16 ∷ 1 ∷ 0 ∷ 0 ∷ 2 ∷ 0 ∷ 0 ∷ 0 ∷ 0 ∷ 0 ∷ 1 ∷ 0 ∷ 30 ∷ 0 ∷ 44 ∷ 64
+        ∷ 0 ∷ 0 ∷ 0 ∷ 0 ∷ 0 ∷ 1 ∷ 2 ∷ 1 ∷ 4 ∷ 3 ∷ 73 ∷ 0 ∷ 1 ∷ 129 ∷ 1 ∷ 204
+        ∷ 6 ∷ 6 ∷ 0 ∷ 0 ∷ 0 ∷ 0 ∷ 0 ∷ 2 ∷ [] }
+    ensures csnp { pdu_octets config 0 (circuit false)
+        (Csnp level.Two 0 (2 ^ 64 - 1) (entry 1179 ∷ []))
+        ≡ 131 ∷ 33 ∷ 1 ∷ 0 ∷ 25 ∷ 1 ∷ 0 ∷ 0 ∷ 0 ∷ 51 ∷ 0 ∷ 0 ∷ 0 ∷ 0 ∷ 0 ∷ 1 ∷ 0
+        ∷ 0 ∷ 0 ∷ 0 ∷ 0 ∷ 0 ∷ 0 ∷ 0 ∷ 0 ∷ 255 ∷ 255 ∷ 255 ∷ 255 ∷ 255 ∷ 255 ∷ 255 ∷ 255
+        ∷ 9 ∷ 16 ∷ 4 ∷ 155 ∷ 0 ∷ 0 ∷ 0 ∷ 0 ∷ 0 ∷ 2 ∷ 0 ∷ 0 ∷ 0 ∷ 0 ∷ 0 ∷ 1 ∷ 167 ∷ 8 ∷ [] }
+    ensures psnp { pdu_octets config 0 (circuit false) (Psnp level.Two (entry 1179 ∷ []))
+        ≡ 131 ∷ 17 ∷ 1 ∷ 0 ∷ 27 ∷ 1 ∷ 0 ∷ 0 ∷ 0 ∷ 35 ∷ 0 ∷ 0 ∷ 0 ∷ 0 ∷ 0 ∷ 1 ∷ 0
+        ∷ 9 ∷ 16 ∷ 4 ∷ 155 ∷ 0 ∷ 0 ∷ 0 ∷ 0 ∷ 0 ∷ 2 ∷ 0 ∷ 0 ∷ 0 ∷ 0 ∷ 0 ∷ 1 ∷ 167 ∷ 8 ∷ [] }
 {}
