@@ -4,6 +4,7 @@ ghost use Rattle.std.specs.Prelude.{◌≡◌, ◌≢◌, ℕ, ◌/◌, ◌^◌,
 ghost use Rattle.std.specs.List.{AllByRecursion};
 ghost use Rattle.isis_base.specs.declared.level.Level.{Level};
 ghost use Rattle.isis_model.specs.declared.drop_name.DropName.{DropName};
+ghost use Rattle.isis_tlv.specs.Spelling.{area_value};
 ghost use Rattle.isis_model.specs.Both.{at};
 ghost use Rattle.isis_model.specs.Places.{nth};
 ghost use Rattle.isis_model.specs.Books.{risen};
@@ -42,6 +43,9 @@ pub fn start_laws()
     ensures good { (config : Config) (boot : ℕ) (circuits : List Circuit)
         → config.system < 2 ^ 48
         → length circuits ≤ 255 → IsGoodRouter (start config boot circuits) }
+    ensures telling { (config : Config) (boot : ℕ) (circuits : List Circuit)
+        → length (area_value config.areas) ≤ 255 → length circuits ≤ 126
+        → IsTelling (start config boot circuits) }
     ensures follows { (config : Config) (boot : ℕ) (circuits : List Circuit)
         → FollowsAdjacencies (start config boot circuits) }
     ensures bonds { (config : Config) (boot : ℕ) (circuits : List Circuit)
