@@ -5,9 +5,9 @@
 //! `read` (specs/Reading.antt) is a total function of a datagram's octets, the configuration and
 //! the circuit: the model's message, or the cause of the first test of octets that fails.
 //! `datagram` (specs/Datagrams.antt) is what is sent as octets. The laws say that what is sent is
-//! read as what it says (`said`, specs/Said.antt), and that every entry of a router may be sent. The
-//! frame is this project's own; all else is ISO 10589 9, RFC 5303 and RFC 5304. A section without a
-//! name is one of ISO 10589.
+//! read as what it says (`said`, specs/Said.antt), and that every entry of a router may be sent.
+//! The frame is this project's own; all else is ISO 10589 9, RFC 5303 and RFC 5304. A section
+//! without a name is one of ISO 10589.
 //!
 //! - `laws.rt`: the laws, functions without a body whose contracts hold for everything that is sent
 //! - `rows.rt`: PDUs that another router made, read by computation

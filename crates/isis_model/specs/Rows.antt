@@ -11,7 +11,7 @@ use Rattle.isis_model.specs.Configs.{Config}
 use Rattle.isis_model.specs.Cells.{Cell, Heard}
 use Rattle.isis_model.specs.Books.{Book, cell_at}
 use Rattle.isis_model.specs.SnpTable.{SnpEntry}
-use Rattle.isis_model.specs.Adjacencies.{Handshake}
+use Rattle.isis_model.specs.Adjacencies.{Handshake, Hello}
 use Rattle.isis_model.specs.Routers.{LanNeighbour, Circuit, Contents, Issued, Router, book_of}
 use Rattle.isis_model.specs.Elections.{Candidate}
 use Rattle.isis_model.specs.Splits.{Draft}
@@ -135,11 +135,11 @@ given = record {
 abbrev pub router : Router
 router = start config 1 (circuit false ∷ circuit true ∷ [])
 
--- a hello of system 2 with holding time 30, in a state, naming a system and a circuit (own)
-abbrev pub hello : Adj → Option (ℕ × ℕ) → Event
-hello state names = Take 0 (PointHelloHeard (record {
-  source = 2;
-  snpa = 2;
+-- what a hello of a system with holding time 30 says, in a state, naming a system and a circuit (own)
+abbrev pub hello_from : ℕ → Adj → Option (ℕ × ℕ) → Hello
+hello_from system state names = record {
+  source = system;
+  snpa = system;
   runs = record { one = false; two = true };
   holding = 30;
   priority = 0;
@@ -147,7 +147,15 @@ hello state names = Take 0 (PointHelloHeard (record {
   areas = [];
   handshake = Some (record { state = state; extended = 513; names = names });
   names_me = false;
-}))
+}
+
+-- it is taken on circuit 1 (own)
+abbrev pub hello_by : ℕ → Adj → Option (ℕ × ℕ) → Event
+hello_by system state names = Take 0 (PointHelloHeard (hello_from system state names))
+
+-- own
+abbrev pub hello : Adj → Option (ℕ × ℕ) → Event
+hello state names = hello_by 2 state names
 
 -- a LAN hello of system 2 with LAN ID 513, which lists the router, of a priority and holding time
 -- (own)

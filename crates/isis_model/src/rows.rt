@@ -6,7 +6,7 @@ ghost use Rattle.isis_model.specs.declared.whose.Whose.TheVariants.{Other, Uniss
 ghost use Rattle.isis_model.specs.declared.drop_name.DropName.TheVariants.{OwnId, OtherSnpa, NoLevel, NoArea, NoThreeWay, OtherNeighbour, TooMany, NoAdjacency, NotDesignated};
 ghost use Rattle.isis_model.specs.Waits.{no_waits, wait, five_at, fallen};
 ghost use Rattle.isis_model.specs.Books.{cell_at, rank_of};
-ghost use Rattle.isis_model.specs.Adjacencies.{three_way};
+ghost use Rattle.isis_model.specs.Adjacencies.{three_way, is_same};
 ghost use Rattle.isis_model.specs.Starts.{quiet};
 ghost use Rattle.isis_model.specs.LetGos.{let_go};
 ghost use Rattle.isis_model.specs.HelloTests.{many_drop};
@@ -22,7 +22,7 @@ ghost use Rattle.isis_model.specs.SnpTable.{asked, hear_entry};
 ghost use Rattle.isis_model.specs.OwnLsps.{is_due};
 ghost use Rattle.isis_model.specs.Datagrams.{PointHello, LanHello, Csnp, Lsp, Psnp};
 ghost use Rattle.isis_model.specs.Events.{Second, Take, Pull, SnpHeard, Done, Dropped, Send};
-ghost use Rattle.isis_model.specs.Rows.{cell_of, header, lsp, entry, asked_for, book_with, before, config, level_one, level_two, shake, tested, contents_of, issued_at, hello, lan_hello_of, lan_hello, low_hello, events_up, seconds, own_lsp, run, answer_to, given, router, running, attached, both_levels, elected, lan_lsps, heard_of, entry_heard, changed_prefix, own_after, held_after, filled_up, heard_from};
+ghost use Rattle.isis_model.specs.Rows.{cell_of, header, lsp, entry, asked_for, book_with, before, config, level_one, level_two, shake, tested, contents_of, issued_at, hello, hello_from, hello_by, up_from, lan_hello_of, lan_hello, low_hello, events_up, seconds, own_lsp, run, answer_to, given, router, running, attached, both_levels, elected, lan_lsps, heard_of, entry_heard, changed_prefix, own_after, held_after, filled_up, heard_from};
 
 /// A flag that was sent waits five seconds, and each second one less.
 pub fn wait_rows()
@@ -135,7 +135,7 @@ pub fn lan_steps()
 {}
 
 /// The three-way handshake (RFC 5303 3.2): one's own state, the state that is heard, and the new
-/// one.
+/// one; and whether a hello is from the neighbour that is kept.
 pub fn handshake_rows()
     ensures down_down { three_way Down Down ≡ Initializing }
     ensures down_initializing { three_way Down Initializing ≡ Up }
@@ -146,16 +146,25 @@ pub fn handshake_rows()
     ensures up_down { three_way Up Down ≡ Initializing }
     ensures up_initializing { three_way Up Initializing ≡ Up }
     ensures up_up { three_way Up Up ≡ Up }
+    ensures same { is_same (Some (up_from 2).neighbour) level_two (hello_from 2 Up None) 0 ≡ true }
+    ensures other_levels { is_same (Some (up_from 2).neighbour) both_levels (hello_from 2 Up None) 0
+        ≡ false }
+    ensures other_system { is_same (Some (up_from 2).neighbour) level_two (hello_from 3 Up None) 0
+        ≡ false }
+    ensures other_circuit { is_same (Some (up_from 2).neighbour) level_two (hello_from 2 Up None) 1
+        ≡ false }
 {}
 
 /// A hello is due on a LAN where a neighbour is new and where one goes, and not where one is heard
-/// again. A CSNP set is due again after 10 seconds, PSNPs after 2.
+/// again; point to point where another neighbour is kept. A CSNP set is due again after 10 seconds, PSNPs after 2.
 pub fn due_rows()
     ensures new { (answer_to (Pull 1) (lan_hello ∷ Pull 1 ∷ [])).reply
         ≡ Send (LanHello Two 513 (2 ∷ []) ∷ []) }
     ensures heard { (answer_to (Pull 1) (lan_hello ∷ Pull 1 ∷ lan_hello ∷ [])).reply ≡ Send [] }
     ensures gone { (answer_to (Pull 1) (Second ∷ Pull 1 ∷ lan_hello_of 64 1 ∷ [])).reply
         ≡ Send (LanHello Two 258 [] ∷ []) }
+    ensures other { (answer_to (Pull 0) (hello_by 3 Down None ∷ Pull 0 ∷ hello Down None ∷ [])).reply
+        ≡ Send (PointHello Initializing 257 (Some (3, 513)) ∷ []) }
     ensures csnp { (csnp_sent true quiet).csnp ≡ 10 }
     ensures owed { (answer_to (Pull 0) (seconds 1 (heard_of 131072 1 ∷ Pull 0
         ∷ heard_of 131072 1 ∷ Second ∷ events_up))).reply ≡ Send [] }
@@ -196,8 +205,8 @@ pub fn outbid_rows()
     ensures changed { rank_of (own_after (seconds 5 (changed_prefix ∷ Second ∷ []))) ≡ 4 }
 {}
 
-/// The limits of this router: 200 neighbours on a LAN, 75 entries to an SNP, 256 fragments, and 4,096
-/// LSP IDs that were let go.
+/// The limits of this router: 200 neighbours on a LAN, 75 entries to an SNP, 256 fragments, and
+/// 4,096 LSP IDs that were let go.
 pub fn limit_rows()
     ensures neighbours { many_drop (heard_from 1 199) 500 ≡ None }
     ensures too_many { many_drop (heard_from 1 200) 500 ≡ Some TooMany }
@@ -217,7 +226,8 @@ pub fn limit_rows()
 pub fn age_rows()
     ensures later { aged 7 (cell_of 4 5 2 (replicate 27 1) 2 6)
         ≡ Some (cell_of 4 5 1 (replicate 27 1) 2 6) }
-    ensures purged { aged 7 (cell_of 4 5 1 (replicate 27 1) 2 6) ≡ Some (cell_of 5 0 60 header 7 0) }
+    ensures purged { aged 7 (cell_of 4 5 1 (replicate 27 1) 2 6)
+        ≡ Some (cell_of 5 0 60 header 7 0) }
     ensures erased { aged 7 (cell_of 5 0 1 header 2 6) ≡ None }
     ensures empty { aged 7 (record asked_for { left = 1 }) ≡ None }
     ensures kept { is_let_go (cell_of 4 5 1 (replicate 27 1) 2 6) ≡ false }

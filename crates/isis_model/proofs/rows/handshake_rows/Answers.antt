@@ -28,3 +28,15 @@ returns-clause-up_initializing c = refl
 
 pub returns-clause-up_up : goal.returns-clause-up_up
 returns-clause-up_up c = refl
+
+pub returns-clause-same : goal.returns-clause-same
+returns-clause-same c = refl
+
+pub returns-clause-other_levels : goal.returns-clause-other_levels
+returns-clause-other_levels c = refl
+
+pub returns-clause-other_system : goal.returns-clause-other_system
+returns-clause-other_system c = refl
+
+pub returns-clause-other_circuit : goal.returns-clause-other_circuit
+returns-clause-other_circuit c = refl
