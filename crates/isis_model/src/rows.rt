@@ -5,7 +5,7 @@ ghost use Rattle.isis_tlv.specs.declared.three_way.Adj.TheVariants.{Up, Initiali
 ghost use Rattle.isis_model.specs.declared.whose.Whose.TheVariants.{Other, Unissued};
 ghost use Rattle.isis_model.specs.declared.drop_name.DropName.TheVariants.{OwnId, OtherSnpa, NoLevel, NoArea, NoThreeWay, OtherNeighbour, TooMany, NoAdjacency, NotDesignated};
 ghost use Rattle.isis_model.specs.Waits.{no_waits, wait, five_at, fallen};
-ghost use Rattle.isis_model.specs.Books.{cell_at, rank_of};
+ghost use Rattle.isis_model.specs.Books.{cell_at, rank_of, is_full};
 ghost use Rattle.isis_model.specs.Adjacencies.{three_way, is_same};
 ghost use Rattle.isis_model.specs.Starts.{quiet};
 ghost use Rattle.isis_model.specs.LetGos.{let_go};
@@ -205,12 +205,14 @@ pub fn outbid_rows()
     ensures changed { rank_of (own_after (seconds 5 (changed_prefix ∷ Second ∷ []))) ≡ 4 }
 {}
 
-/// The limits of this router: 200 neighbours on a LAN, 75 entries to an SNP, 256 fragments, and
-/// 4,096 LSP IDs that were let go.
+/// The limits of this router: 200 neighbours on a LAN, 65,536 entries, 75 entries to an SNP, 256
+/// fragments, and 4,096 LSP IDs that were let go.
 pub fn limit_rows()
     ensures neighbours { many_drop (heard_from 1 199) 500 ≡ None }
     ensures too_many { many_drop (heard_from 1 200) 500 ≡ Some TooMany }
     ensures known { many_drop (heard_from 1 200) 7 ≡ None }
+    ensures entries { is_full (book_with (replicate 65535 (7, cell_of 4 5 9 [] 0 0)) 0) ≡ false }
+    ensures full { is_full (book_with (replicate 65536 (7, cell_of 4 5 9 [] 0 0)) 0) ≡ true }
     ensures piece { length (pieces 2 (replicate 75 (entry 4 5))) ≡ 1 }
     ensures two_pieces { length (pieces 2 (replicate 76 (entry 4 5))) ≡ 2 }
     ensures fragments { holds_more 9 (filled_up 254) (record { code = 22; octets = replicate 8 0 })

@@ -55,3 +55,9 @@ returns-clause-fragments c = refl
 pub returns-clause-last_fragment : goal.returns-clause-last_fragment
 unfolding put erase each has with_one without only fallen header_of let_go set_cell lsp_case hear_lsp hear_range close open_up take_point take_lan with_item split system_lsp pseudonode_lsp wanted install retire look outbid take_lsp take_snp wait_less age_one age count_down hold second sent answered pull_hello pull_csnp pull_lsps pull_psnp pull_level pull step
 returns-clause-last_fragment c = refl
+
+pub returns-clause-entries : goal.returns-clause-entries
+returns-clause-entries c = refl
+
+pub returns-clause-full : goal.returns-clause-full
+returns-clause-full c = refl
