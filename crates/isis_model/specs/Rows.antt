@@ -15,6 +15,7 @@ use Rattle.isis_model.specs.Adjacencies.{Handshake, Hello}
 use Rattle.isis_model.specs.Routers.{LanNeighbour, Circuit, Contents, Issued, Router, book_of}
 use Rattle.isis_model.specs.Elections.{Candidate}
 use Rattle.isis_model.specs.Splits.{Draft}
+use Rattle.isis_model.specs.LspPrefixes.{Reach}
 use Rattle.isis_model.specs.Givens.{Given}
 use Rattle.isis_model.specs.Events.{Event, Second, Take, Prefix, PointHelloHeard, LanHelloHeard, LspHeard, Outcome}
 use Rattle.isis_model.specs.Both.{Both}
@@ -258,6 +259,23 @@ running runs overload =
 -- own
 abbrev pub attached : Given
 attached = record given { attached = λ (r : Router). true }
+
+-- routes that leak a prefix of metric 8 into either level (own)
+abbrev pub leaking : Given
+leaking = record given { leaks = λ (r : Router) (level : Level). (96, 8) ∷ [] }
+
+-- the router's own prefix, and that one (own)
+abbrev pub own_prefix : ℕ × Reach
+own_prefix = (10737434648, record { metric = 5; down = false })
+
+-- own
+abbrev pub leaked_prefix : Bool → ℕ × Reach
+leaked_prefix down = (96, record { metric = 8; down = down })
+
+-- a router of both levels that leaks into L1 (own)
+abbrev pub leaker : Router
+leaker =
+    record router { config = record config { runs = record { one = true; two = true }; leak = true } }
 
 -- both levels (own)
 abbrev pub both_levels : Both Bool

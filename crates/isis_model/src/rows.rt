@@ -11,7 +11,7 @@ ghost use Rattle.isis_model.specs.Starts.{quiet};
 ghost use Rattle.isis_model.specs.LetGos.{let_go};
 ghost use Rattle.isis_model.specs.HelloTests.{many_drop};
 ghost use Rattle.isis_model.specs.LspNeighbours.{lan_node, put_nodes};
-ghost use Rattle.isis_model.specs.LspPrefixes.{with_leaks};
+ghost use Rattle.isis_model.specs.LspPrefixes.{with_leaks, prefixes_of, reach_items};
 ghost use Rattle.isis_model.specs.Wanted.{first_flags, wanted};
 ghost use Rattle.isis_model.specs.Pulls.{csnp_sent};
 ghost use Rattle.isis_model.specs.SnpLists.{pieces};
@@ -19,10 +19,10 @@ ghost use Rattle.isis_model.specs.Splits.{holds_more};
 ghost use Rattle.isis_model.specs.Ageing.{aged, is_let_go};
 ghost use Rattle.isis_model.specs.LspTable.{hear_lsp};
 ghost use Rattle.isis_model.specs.SnpTable.{asked, hear_entry};
-ghost use Rattle.isis_model.specs.OwnLsps.{is_due};
+ghost use Rattle.isis_model.specs.OwnLsps.{Wait, Number, Exhaust, is_due, next};
 ghost use Rattle.isis_model.specs.Datagrams.{PointHello, LanHello, Csnp, Lsp, Psnp};
 ghost use Rattle.isis_model.specs.Events.{Second, Take, Pull, SnpHeard, Done, Dropped, Send};
-ghost use Rattle.isis_model.specs.Rows.{cell_of, header, lsp, entry, asked_for, book_with, before, config, level_one, level_two, shake, tested, contents_of, issued_at, hello, hello_from, hello_by, up_from, lan_hello_of, lan_hello, low_hello, events_up, seconds, own_lsp, run, answer_to, given, router, running, attached, both_levels, elected, lan_lsps, heard_of, entry_heard, changed_prefix, own_after, held_after, filled_up, heard_from};
+ghost use Rattle.isis_model.specs.Rows.{cell_of, header, lsp, entry, asked_for, book_with, before, config, level_one, level_two, shake, tested, contents_of, issued_at, hello, hello_from, hello_by, up_from, lan_hello_of, lan_hello, low_hello, events_up, seconds, own_lsp, run, answer_to, given, router, running, attached, both_levels, elected, lan_lsps, heard_of, leaking, own_prefix, leaked_prefix, leaker, entry_heard, changed_prefix, own_after, held_after, filled_up, heard_from};
 
 /// A flag that was sent waits five seconds, and each second one less.
 pub fn wait_rows()
@@ -72,13 +72,18 @@ pub fn snp_rows()
 {}
 
 /// A fragment with the same contents is issued anew after 900 seconds, one with other contents
-/// after 5.
+/// after 5; at the number above the one that is held.
 pub fn issue_rows()
     ensures first { is_due None (contents_of 1) ≡ true }
     ensures same { is_due (issued_at 899) (contents_of 1) ≡ false }
     ensures old { is_due (issued_at 900) (contents_of 1) ≡ true }
     ensures changed_early { is_due (issued_at 4) (contents_of 3) ≡ false }
     ensures changed { is_due (issued_at 5) (contents_of 3) ≡ true }
+    ensures number { next false None (Some (cell_of 5 0 60 [] 0 0)) (contents_of 1) ≡ Number 3 }
+    ensures number_one { next false None None (contents_of 1) ≡ Number 1 }
+    ensures exhausted { next false None (Some (cell_of 8589934590 9 60 [] 0 0)) (contents_of 1)
+        ≡ Exhaust }
+    ensures full { next true None None (contents_of 1) ≡ Wait }
 {}
 
 /// The tests of a point-to-point hello, by a router of L2 in area 49.0001 with extended circuit ID
@@ -186,6 +191,12 @@ pub fn own_rows()
         ((64, 7) ∷ (96, 8) ∷ [])
         ≡ (64, record { metric = 5; down = false })
         ∷ (96, record { metric = 8; down = true }) ∷ [] }
+    ensures up { prefixes_of leaking router (running both_levels false) Two
+        ≡ leaked_prefix false ∷ own_prefix ∷ [] }
+    ensures down { prefixes_of leaking router leaker One ≡ leaked_prefix true ∷ own_prefix ∷ [] }
+    ensures not_down { prefixes_of leaking router (running both_levels false) One ≡ own_prefix ∷ [] }
+    ensures bit { reach_items ((10737434648, record { metric = 5; down = true }) ∷ [])
+        ≡ record { code = 135; octets = 0 ∷ 0 ∷ 0 ∷ 5 ∷ 152 ∷ 10 ∷ 0 ∷ 1 ∷ [] } ∷ [] }
     ensures pseudonode { lan_node 10 (elected 2 513) ≡ (513, 10) ∷ [] }
     ensures no_pseudonode { lan_node 10 (elected 2 512) ≡ [] }
     ensures other_system { lan_node 10 (elected 2 769) ≡ [] }
@@ -195,11 +206,18 @@ pub fn own_rows()
 {}
 
 /// An own LSP that is outbid is issued above with what is wanted; one whose contents changed is
-/// issued anew when its last issue is 5 seconds ago; one that is no longer wanted is purged.
+/// issued anew when its last issue is 5 seconds ago; one that is no longer wanted is purged; and at
+/// the last number it is purged, and begins anew when its purge ends.
 pub fn outbid_rows()
     ensures issued { own_after (heard_of 65536 10 ∷ Second ∷ events_up)
         ≡ Some (record (own_lsp 1200 0 1) { rank = 22; checksum = 11 }) }
     ensures early { rank_of (own_after (seconds 4 (changed_prefix ∷ Second ∷ []))) ≡ 2 }
+    ensures last { rank_of (own_after (heard_of 65536 4294967295 ∷ Second ∷ events_up))
+        ≡ 8589934591 }
+    ensures held { rank_of (own_after (seconds 59 (heard_of 65536 4294967295 ∷ Second ∷ events_up)))
+        ≡ 8589934591 }
+    ensures begun { rank_of (own_after (seconds 60 (heard_of 65536 4294967295 ∷ Second ∷ events_up)))
+        ≡ 2 }
     ensures pseudonode { rank_of (held_after 66048 (seconds 1 (lan_hello_of 1 2 ∷ []))) ≡ 2 }
     ensures withdrawn { rank_of (held_after 66048 (seconds 2 (lan_hello_of 1 2 ∷ []))) ≡ 3 }
     ensures changed { rank_of (own_after (seconds 5 (changed_prefix ∷ Second ∷ []))) ≡ 4 }
