@@ -1,5 +1,5 @@
 -- Each entry with a key of a router may be sent.
-use Rattle.std.proofs.Common.{◌≡◌, ℕ, ◌*◌, ◌/◌, ◌^◌, ◌<◌, ◌≤◌, ◌==◌, nat_lt, Bool, true, false, ◌&&◌, List, Option, Some, None, refl, sym, ap, subst, arith}
+use Rattle.std.proofs.Common.{◌≡◌, ℕ, ◌^◌, ◌<◌, Bool, true, false, List, Option, Some, None, refl, sym, subst, arith}
 use Rattle.std.proofs.lemmas.Bool.Decides.{nat_tests}
 use Rattle.isis_base.specs.declared.level.Level.{Level}
 use Rattle.isis_model.specs.Both.{Both, at}
@@ -8,11 +8,10 @@ use Rattle.isis_model.specs.Waits.{no_waits}
 use Rattle.isis_model.specs.Cells.{Cell, Heard, kept, purged}
 use Rattle.isis_model.specs.Books.{cell_at}
 use Rattle.isis_model.specs.Configs.{Config}
-use Rattle.isis_model.specs.Routers.{Contents, Router, level_of, book_of}
-use Rattle.isis_model.specs.Givens.{Given}
+use Rattle.isis_model.specs.Routers.{Router, level_of, book_of}
 use Rattle.isis_model.specs.OwnLsps.{issue_cell}
 use Rattle.isis_model.specs.Deeds.{Content, content_of}
-use Rattle.isis_model.specs.Events.{Event, Take, LspHeard}
+use Rattle.isis_model.specs.Events.{Event, LspHeard}
 use Rattle.isis_model.specs.Steps.{step}
 use Rattle.isis_model.specs.Hearings.{Source, Taken, Made, hearing}
 use Rattle.isis_model.specs.Good.{IsGood, IsGoodEvent, IsGoodRouter, IsTelling}

@@ -1,13 +1,7 @@
 -- LSPs that may be sent: what is held says itself, as it came, as it was issued, or as a purge
 -- (own).
-use Rattle.std.specs.Prelude.{◌≡◌, ◌≢◌, ℕ, ◌^◌, ◌<◌, ◌≤◌, true, false, Bool, ◌==◌, ◌||◌, List, [], ◌∷◌, length, drop, Option, Some, None, IfSome, if◌then◌else◌}
-use Rattle.std.specs.List.{AllByRecursion}
+use Rattle.std.specs.Prelude.{◌≡◌, ℕ, ◌^◌, ◌<◌, ◌≤◌, true, false, Bool, List, [], length, drop, Option, Some}
 use Rattle.isis_base.specs.declared.level.Level.{Level}
-use Rattle.isis_base.specs.declared.pdu_kind.PduKind.{PduKind}
-use Rattle.isis_base.specs.declared.pdu_kind.PduKind.TheVariants as kind
-use Rattle.isis_tlv.specs.Tlvs.{AreTlvs}
-use Rattle.isis_tlv.specs.Fits.{IsArea}
-use Rattle.isis_tlv.specs.Spelling.{area_value}
 use Rattle.isis_model.specs.Ranks.{number_of, is_live, is_purge}
 use Rattle.isis_model.specs.Configs.{Config}
 use Rattle.isis_model.specs.Routers.{Circuit, Contents, Router, book_of}
@@ -22,11 +16,8 @@ use Rattle.isis_pdu.specs.Views as pdu
 use Rattle.isis_pdu.specs.Reading.{Begins}
 use Rattle.isis_model.specs.Cells.{Cell, kept}
 use Rattle.isis_datagram.specs.Numbers.{lsp_id}
-use Rattle.isis_model.specs.SnpTable.{SnpEntry}
 use Rattle.isis_datagram.specs.Said.{ReadsBack, kind_sent, CanRead}
-use Rattle.isis_datagram.specs.Datagrams.{pdu_octets, datagram}
-use Rattle.isis_datagram.specs.Reading.{read}
-use Rattle.isis_datagram.specs.Tests.{goes_on, is_run, key_for, passes}
+use Rattle.isis_datagram.specs.Tests.{passes}
 
 -- A live LSP's octets say what is held of it, have the standard's size and a checksum that holds,
 -- and are authentic where there is a key; their own lifetime is what it was when they came (own).

@@ -1,29 +1,15 @@
 -- What is sent as its reader is to take it, and what that needs of the reader (own).
-use Rattle.std.specs.Prelude.{◌≡◌, ◌≢◌, ℕ, ◌^◌, ◌<◌, ◌≤◌, true, false, Bool, ◌==◌, ◌||◌, List, [], ◌∷◌, length, drop, Option, Some, None, IfSome, if◌then◌else◌}
-use Rattle.std.specs.List.{AllByRecursion}
-use Rattle.isis_base.specs.declared.level.Level.{Level}
+use Rattle.std.specs.Prelude.{◌≡◌, ℕ, true, false, Bool, ◌==◌, ◌||◌, List, [], ◌∷◌, Some, None, if◌then◌else◌}
 use Rattle.isis_base.specs.declared.pdu_kind.PduKind.{PduKind}
 use Rattle.isis_base.specs.declared.pdu_kind.PduKind.TheVariants as kind
-use Rattle.isis_tlv.specs.Tlvs.{AreTlvs}
-use Rattle.isis_tlv.specs.Fits.{IsArea}
-use Rattle.isis_tlv.specs.Spelling.{area_value}
-use Rattle.isis_model.specs.Ranks.{number_of, is_live, is_purge}
+use Rattle.isis_model.specs.Ranks.{is_live}
 use Rattle.isis_model.specs.Configs.{Config}
-use Rattle.isis_model.specs.Routers.{Circuit, Contents, Router}
-use Rattle.isis_model.specs.Both.{at}
-use Rattle.isis_model.specs.Givens.{Given}
-use Rattle.isis_model.specs.OwnLsps.{issue_cell}
+use Rattle.isis_model.specs.Routers.{Circuit}
 use Rattle.isis_model.specs.Datagrams.{Sent, PointHello, LanHello, Lsp, Csnp, Psnp}
-use Rattle.isis_model.specs.Events.{Message, Refused, PointHelloHeard, LanHelloHeard, LspHeard, SnpHeard}
-use Rattle.iso_checksum.specs.Checksum.{checksum_holds}
-use Rattle.isis_pdu.specs.Views as pdu
-use Rattle.isis_pdu.specs.Reading.{Begins}
-use Rattle.isis_model.specs.Cells.{Cell, kept}
-use Rattle.isis_datagram.specs.Numbers.{lsp_id}
-use Rattle.isis_model.specs.SnpTable.{SnpEntry}
+use Rattle.isis_model.specs.Events.{Message, PointHelloHeard, LanHelloHeard, LspHeard, SnpHeard}
 use Rattle.isis_datagram.specs.Datagrams.{pdu_octets, datagram}
 use Rattle.isis_datagram.specs.Reading.{read}
-use Rattle.isis_datagram.specs.Tests.{goes_on, is_run, key_for, passes}
+use Rattle.isis_datagram.specs.Tests.{goes_on, is_run, key_for}
 
 -- whether an SNPA stands in a list of the model's (own)
 abbrev pub names : ℕ → List ℕ → Bool

@@ -1,7 +1,6 @@
 -- Who is elected is the greatest.
-use Rattle.std.proofs.Common.{◌≡◌, ℕ, ◌<◌, ◌≤◌, ◌==◌, nat_lt, Bool, true, false, ◌&&◌, ◌||◌, ◌⊎◌, inl, inr, ⊎_elim, List, [], ◌∷◌, Option, Some, None, if◌then◌else◌, refl, sym, ap, ◌∙◌, subst, arith}
+use Rattle.std.proofs.Common.{◌≡◌, ℕ, Bool, true, false, ◌&&◌, ◌⊎◌, inl, inr, ⊎_elim, List, [], ◌∷◌, Option, Some, None, if◌then◌else◌, refl, subst, arith}
 use Rattle.std.proofs.lemmas.Bool.Decides.{nat_tests}
-use Rattle.std.specs.List.{AllByRecursion}
 use Rattle.isis_base.specs.declared.level.Level.{Level}
 use Rattle.isis_model.specs.Both.{at}
 use Rattle.isis_model.specs.Configs.{Config}
@@ -9,7 +8,6 @@ use Rattle.isis_model.specs.Routers.{LanNeighbour, Circuit, some_up}
 use Rattle.isis_model.specs.Elections.{Candidate, beats, candidate, better, elect, oneself, designated}
 use Rattle.isis_model.specs.ElectionLaws.{IsOneOf, IsUnbeaten, IsElected, SameRank}
 use Rattle.isis_model.proofs.BookLemmas.{choose, test}
-use Rattle.isis_model.proofs.ListLemmas.{all-map}
 
 not-itself : (a : Candidate) → beats a a ≡ false
 not-itself a = grind (arith, nat_tests)

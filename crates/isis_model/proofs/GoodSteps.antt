@@ -1,5 +1,5 @@
 -- A step keeps a good router good, and one that can tell its areas and addresses able to.
-use Rattle.std.proofs.Common.{◌≡◌, ℕ, ◌^◌, ◌<◌, ◌≤◌, List, length, sym, subst}
+use Rattle.std.proofs.Common.{ℕ, ◌^◌, ◌<◌, ◌≤◌, List, length, sym, subst}
 use Rattle.isis_tlv.specs.Spelling.{area_value}
 use Rattle.isis_model.specs.Routers.{Router, level_of}
 use Rattle.isis_model.specs.Givens.{Given}

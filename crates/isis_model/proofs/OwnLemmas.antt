@@ -1,14 +1,13 @@
 -- What is wanted may be issued: it has an LSP ID of one's own, and TLVs that fit the room.
-use Rattle.std.proofs.Common.{◌≡◌, ℕ, ◌+◌, ◌*◌, ◌/◌, ◌%◌, ◌<◌, ◌≤◌, ◌==◌, nat_lt, true, false, List, [], ◌∷◌, ◌++◌, length, take, drop, Option, Some, None, is_some, if◌then◌else◌, refl, sym, ap, ◌∙◌, subst, arith, length-append, length-drop}
+use Rattle.std.proofs.Common.{◌≡◌, ℕ, ◌+◌, ◌*◌, ◌/◌, ◌%◌, ◌<◌, ◌≤◌, ◌==◌, List, [], ◌∷◌, ◌++◌, length, take, drop, Option, Some, None, is_some, refl, sym, subst, arith, length-append, length-drop}
 use Rattle.std.proofs.lemmas.List.{length-take}
-use Rattle.std.specs.List.{AllByRecursion, flat_map}
+use Rattle.std.specs.List.{AllByRecursion}
 use Rattle.isis_base.specs.declared.level.Level.{Level}
-use Rattle.isis_base.specs.declared.level.Level.TheVariants as level
 use Rattle.isis_base.specs.Fields.{u32_octets}
 use Rattle.isis_tlv.specs.Items.{octets_for}
 use Rattle.isis_tlv.specs.Tlvs.{tlv_octets, AreTlvs}
 use Rattle.isis_tlv.specs.Walks.{items_of}
-use Rattle.isis_tlv.specs.Spelling.{area_tlv, area_value, protocol_tlv, address_tlv, address_value}
+use Rattle.isis_tlv.specs.Spelling.{area_tlv, area_value, protocol_tlv, address_value}
 use Rattle.isis_tlv.proofs.TlvLemmas.{tlvs-joined, tlvs-one}
 use Rattle.isis_model.specs.Maps.{find}
 use Rattle.isis_model.specs.Both.{at}
@@ -18,9 +17,9 @@ use Rattle.isis_model.specs.Givens.{Given}
 use Rattle.isis_model.specs.Elections.{designated, is_own}
 use Rattle.isis_model.specs.Splits.{Item, split}
 use Rattle.isis_model.specs.SplitLaws.{IsSmall, Says, Silent, Tlv, SayAll, Sole, More, value_of}
-use Rattle.isis_model.specs.LspNeighbours.{all_nodes, lan_nodes, node_items}
+use Rattle.isis_model.specs.LspNeighbours.{all_nodes, node_items}
 use Rattle.isis_model.specs.LspPrefixes.{Reach, prefixes_of, reach_items}
-use Rattle.isis_model.specs.Wanted.{with_address, addresses_of, some_addresses, first_tlvs, room_for, room_of, numbered, fragments_of, system_lsp, pseudonode_lsp, pseudonode_lsps, wanted, bare}
+use Rattle.isis_model.specs.Wanted.{with_address, addresses_of, some_addresses, first_tlvs, room_for, numbered, fragments_of, system_lsp, pseudonode_lsp, pseudonode_lsps, wanted, bare}
 use Rattle.isis_model.specs.OwnLsps.{contents_or}
 use Rattle.isis_model.specs.Takes.{answer_of}
 use Rattle.isis_model.specs.Receiving.{scene_of}

@@ -1,12 +1,12 @@
 -- What a step does to SSN: from its deeds on one cell to both levels.
-use Rattle.std.proofs.Common.{◌≡◌, ◌≢◌, ℕ, zero, suc, ◌<◌, ◌≤◌, ◌==◌, ◌^◌, ◌+◌, ◌*◌, eqb, nat_lt, nat_le, Bool, true, false, not, ◌&&◌, ◌||◌, ◌⊎◌, inl, inr, ⊎_elim, List, Option, Some, None, if◌then◌else◌, refl, sym, ap, ◌∙◌, subst, arith}
+use Rattle.std.proofs.Common.{◌≡◌, ◌≢◌, ℕ, ◌<◌, ◌≤◌, ◌+◌, ◌*◌, nat_lt, nat_le, Bool, true, false, not, ◌&&◌, ◌||◌, ◌⊎◌, inl, inr, ⊎_elim, List, Option, Some, None, if◌then◌else◌, refl, sym, ap, ◌∙◌, subst, arith}
 use Rattle.std.proofs.lemmas.Bool.Decides.{nat_tests}
 use Rattle.std.specs.Option.{option_map}
 use Rattle.isis_model.specs.declared.whose.Whose.{Whose}
 use Rattle.isis_model.specs.Maps.{each}
 use Rattle.isis_model.specs.Ranks.{number_of, is_live}
 use Rattle.isis_model.specs.Sets.{has, with_one, without, only}
-use Rattle.isis_model.specs.Cells.{Cell, Heard, kept, purged, purge_of, flagged, srm_sent, srm_off}
+use Rattle.isis_model.specs.Cells.{Cell, Heard, purged, purge_of, flagged, srm_sent, srm_off}
 use Rattle.isis_model.specs.Books.{Book, cell_at, rank_of, rank_at, ssn_of, ssn_at, is_full, set_cell}
 use Rattle.isis_model.specs.LspTable.{lsp_case, lsp_row, ssn_stored, hear_lsp}
 use Rattle.isis_model.specs.SnpTable.{SnpEntry, snp_case, snp_row, asked, is_missed, hear_entry, hear_range}
@@ -15,7 +15,7 @@ use Rattle.isis_model.specs.Routers.{Contents, LevelState}
 use Rattle.isis_model.specs.OwnLsps.{install, retire}
 use Rattle.isis_model.specs.Ageing.{aged, age_cell, age_one, wait_less}
 use Rattle.isis_model.specs.Pulls.{srm_due, sent, answered}
-use Rattle.isis_model.specs.Openings.{close, open_up, marked}
+use Rattle.isis_model.specs.Openings.{close, open_up}
 use Rattle.isis_model.specs.Deeds.{Hearing, with_this, Way, Still, Then, Hear, Let, Entry, Range, Install, Retire, Age, Own, Wait, Sends, Answers}
 use Rattle.isis_model.proofs.MapLemmas.{find-each}
 use Rattle.isis_model.proofs.SetLemmas.{has-with_one, has-without, has-only, has-none}

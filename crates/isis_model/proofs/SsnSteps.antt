@@ -1,12 +1,10 @@
 -- What a step does to SSN, from the course of both levels; a second by its parts.
-use Rattle.std.proofs.Common.{◌≡◌, ◌≢◌, ℕ, zero, suc, ◌<◌, ◌≤◌, ◌==◌, nat_lt, Bool, true, false, not, ◌&&◌, ◌||◌, ◌⊎◌, inl, inr, ⊎_elim, length, map, Option, Some, None, if◌then◌else◌, refl, sym, ap, ◌∙◌, subst, arith, le_refl}
-use Rattle.std.proofs.lemmas.Bool.Decides.{nat_tests}
+use Rattle.std.proofs.Common.{◌≡◌, ◌≢◌, ℕ, zero, suc, ◌<◌, ◌≤◌, ◌==◌, nat_lt, Bool, true, false, not, ◌&&◌, ◌||◌, ◌⊎◌, inl, inr, ⊎_elim, length, map, Option, Some, None, if◌then◌else◌, refl, sym, ap, ◌∙◌, subst, arith}
 use Rattle.std.specs.Option.{option_map}
 use Rattle.isis_base.specs.declared.level.Level.{Level}
 use Rattle.isis_base.specs.declared.level.Level.TheVariants as level
-use Rattle.isis_model.specs.Maps.{each}
 use Rattle.isis_model.specs.Places.{nth}
-use Rattle.isis_model.specs.Sets.{has, with_one, without}
+use Rattle.isis_model.specs.Sets.{has}
 use Rattle.isis_model.specs.Cells.{Cell, srm_on}
 use Rattle.isis_model.specs.Books.{Book, cell_at, rank_at, ssn_of, ssn_at}
 use Rattle.isis_model.specs.LetGos.{lets_go}
@@ -14,10 +12,9 @@ use Rattle.isis_model.specs.Openings.{close, open_up, set_open, silenced, marked
 use Rattle.isis_model.specs.Routers.{Circuit, LevelState, Router, level_of, book_of, with_level, is_open}
 use Rattle.isis_model.specs.Givens.{Given}
 use Rattle.isis_model.specs.Wanted.{wanted}
-use Rattle.isis_model.specs.OwnLsps.{renew}
 use Rattle.isis_model.specs.Ageing.{age}
 use Rattle.isis_model.specs.Seconds.{counted, waited, count_down, circuit_less, hold, hold_one, hold_all, age_level, age_both, renew_level, renew_both, second}
-use Rattle.isis_model.specs.Deeds.{Hearing, Way, Course, Goes, Next, Closes, Opens, Courses}
+use Rattle.isis_model.specs.Deeds.{Hearing, Way, Course, Goes, Next, Closes, Opens}
 use Rattle.isis_model.specs.Events.{Event, Second, Take, Pull, Metric, Overload, Prefix}
 use Rattle.isis_model.specs.Steps.{step}
 use Rattle.isis_model.specs.Hearings.{hearing, named_in, stirs}
@@ -25,7 +22,7 @@ use Rattle.isis_model.specs.StepLaws.{SsnRises, SsnStays}
 use Rattle.isis_model.specs.Flooding.{Keeps}
 use Rattle.isis_model.proofs.MapLemmas.{find-each}
 use Rattle.isis_model.proofs.SetLemmas.{has-with_one, has-without}
-use Rattle.isis_model.proofs.BookLemmas.{choose, same-or, test}
+use Rattle.isis_model.proofs.BookLemmas.{choose, same-or}
 use Rattle.isis_model.proofs.WayLemmas.{way-keeps, course-keeps, way-opened}
 use Rattle.isis_model.proofs.LevelWays.{age-way, renew-way, all-mine}
 use Rattle.isis_model.proofs.LevelLemmas.{keeps-refl, keeps-trans}

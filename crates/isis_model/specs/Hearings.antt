@@ -1,14 +1,11 @@
 -- What a step hears, which LSP IDs it names, and where new LSPs come from (own).
-use Rattle.std.specs.Prelude.{◌≡◌, ℕ, ◌/◌, ◌<◌, ◌≤◌, ◌==◌, max, Bool, true, false, ◌&&◌, ◌⊎◌, List, [], ◌∷◌, if◌then◌else◌}
+use Rattle.std.specs.Prelude.{◌≡◌, ℕ, ◌/◌, ◌==◌, max, Bool, true, false, ◌&&◌, ◌⊎◌, List, [], ◌∷◌, if◌then◌else◌}
 use Rattle.isis_base.specs.declared.level.Level.{Level}
 use Rattle.isis_model.specs.Both.{at, is_level}
 use Rattle.isis_model.specs.Ranks.{live_rank}
 use Rattle.isis_model.specs.Cells.{Heard, kept}
 use Rattle.isis_model.specs.SnpTable.{SnpEntry, lists}
-use Rattle.isis_model.specs.Sets.{has}
-use Rattle.isis_model.specs.LetGos.{lets_go}
-use Rattle.isis_model.specs.Books.{rank_at, srm_at, ssn_at}
-use Rattle.isis_model.specs.Routers.{Contents, Router, level_of, book_of}
+use Rattle.isis_model.specs.Routers.{Contents, Router}
 use Rattle.isis_model.specs.Givens.{Given}
 use Rattle.isis_model.specs.OwnLsps.{issue_cell}
 use Rattle.isis_model.specs.Events.{Message, Refused, PointHelloHeard, LanHelloHeard, LspHeard, SnpHeard, Event, Second, Take, Pull, Metric, Overload, Prefix}

@@ -1,6 +1,6 @@
 -- One's own LSPs: when a fragment is issued, at which number, and when it is purged (ISO 10589
 -- 7.3.5, 7.3.6, 7.3.16.1; the times and what an exhausted number does: own).
-use Rattle.std.specs.Prelude.{ℕ, ◌+◌, ◌==◌, nat_le, Bool, true, false, ◌&&◌, ◌||◌, not, bytes_eq, List, [], ◌∷◌, Option, Some, None, if◌then◌else◌, nat_lt}
+use Rattle.std.specs.Prelude.{ℕ, ◌+◌, ◌==◌, nat_le, Bool, true, false, ◌&&◌, ◌||◌, not, bytes_eq, List, [], ◌∷◌, Option, Some, None, if◌then◌else◌}
 use Rattle.isis_base.specs.declared.level.Level.{Level}
 use Rattle.isis_model.specs.Maps.{find, put, erase}
 use Rattle.isis_model.specs.Ranks.{number_of, is_live, live_rank}
