@@ -136,7 +136,8 @@ given = record {
 abbrev pub router : Router
 router = start config 1 (circuit false ∷ circuit true ∷ [])
 
--- what a hello of a system with holding time 30 says, in a state, naming a system and a circuit (own)
+-- what a hello of a system with holding time 30 says, in a state, naming a system and a circuit
+-- (own)
 abbrev pub hello_from : ℕ → Adj → Option (ℕ × ℕ) → Hello
 hello_from system state names = record {
   source = system;
@@ -272,14 +273,14 @@ own_prefix = (10737434648, record { metric = 5; down = false })
 abbrev pub leaked_prefix : Bool → ℕ × Reach
 leaked_prefix down = (96, record { metric = 8; down = down })
 
--- a router of both levels that leaks into L1 (own)
-abbrev pub leaker : Router
-leaker =
-    record router { config = record config { runs = record { one = true; two = true }; leak = true } }
-
 -- both levels (own)
 abbrev pub both_levels : Both Bool
 both_levels = record { one = true; two = true }
+
+-- a router of both levels that leaks into L1 (own)
+abbrev pub leaker : Router
+leaker =
+    record router { config = record config { runs = both_levels; leak = true } }
 
 -- a designated system with its LAN ID (own)
 abbrev pub elected : ℕ → ℕ → Option Candidate

@@ -161,14 +161,16 @@ pub fn handshake_rows()
 {}
 
 /// A hello is due on a LAN where a neighbour is new and where one goes, and not where one is heard
-/// again; point to point where another neighbour is kept. A CSNP set is due again after 10 seconds, PSNPs after 2.
+/// again; point to point where another neighbour is kept. A CSNP set is due again after 10 seconds,
+/// PSNPs after 2.
 pub fn due_rows()
     ensures new { (answer_to (Pull 1) (lan_hello ∷ Pull 1 ∷ [])).reply
         ≡ Send (LanHello Two 513 (2 ∷ []) ∷ []) }
     ensures heard { (answer_to (Pull 1) (lan_hello ∷ Pull 1 ∷ lan_hello ∷ [])).reply ≡ Send [] }
     ensures gone { (answer_to (Pull 1) (Second ∷ Pull 1 ∷ lan_hello_of 64 1 ∷ [])).reply
         ≡ Send (LanHello Two 258 [] ∷ []) }
-    ensures other { (answer_to (Pull 0) (hello_by 3 Down None ∷ Pull 0 ∷ hello Down None ∷ [])).reply
+    ensures other { (answer_to (Pull 0)
+        (hello_by 3 Down None ∷ Pull 0 ∷ hello Down None ∷ [])).reply
         ≡ Send (PointHello Initializing 257 (Some (3, 513)) ∷ []) }
     ensures csnp { (csnp_sent true quiet).csnp ≡ 10 }
     ensures owed { (answer_to (Pull 0) (seconds 1 (heard_of 131072 1 ∷ Pull 0
@@ -194,7 +196,8 @@ pub fn own_rows()
     ensures up { prefixes_of leaking router (running both_levels false) Two
         ≡ leaked_prefix false ∷ own_prefix ∷ [] }
     ensures down { prefixes_of leaking router leaker One ≡ leaked_prefix true ∷ own_prefix ∷ [] }
-    ensures not_down { prefixes_of leaking router (running both_levels false) One ≡ own_prefix ∷ [] }
+    ensures not_down { prefixes_of leaking router (running both_levels false) One
+        ≡ own_prefix ∷ [] }
     ensures bit { reach_items ((10737434648, record { metric = 5; down = true }) ∷ [])
         ≡ record { code = 135; octets = 0 ∷ 0 ∷ 0 ∷ 5 ∷ 152 ∷ 10 ∷ 0 ∷ 1 ∷ [] } ∷ [] }
     ensures pseudonode { lan_node 10 (elected 2 513) ≡ (513, 10) ∷ [] }
@@ -216,8 +219,8 @@ pub fn outbid_rows()
         ≡ 8589934591 }
     ensures held { rank_of (own_after (seconds 59 (heard_of 65536 4294967295 ∷ Second ∷ events_up)))
         ≡ 8589934591 }
-    ensures begun { rank_of (own_after (seconds 60 (heard_of 65536 4294967295 ∷ Second ∷ events_up)))
-        ≡ 2 }
+    ensures begun { rank_of (own_after
+        (seconds 60 (heard_of 65536 4294967295 ∷ Second ∷ events_up))) ≡ 2 }
     ensures pseudonode { rank_of (held_after 66048 (seconds 1 (lan_hello_of 1 2 ∷ []))) ≡ 2 }
     ensures withdrawn { rank_of (held_after 66048 (seconds 2 (lan_hello_of 1 2 ∷ []))) ≡ 3 }
     ensures changed { rank_of (own_after (seconds 5 (changed_prefix ∷ Second ∷ []))) ≡ 4 }
