@@ -10,6 +10,7 @@ ghost use Rattle.isis_datagram.specs.Reading.{read};
 ghost use Rattle.isis_datagram.specs.Rows.{frr_lsp, frr_purge, frr_csnp, frr_psnp, reader, level_one, no_keys, keys, other_keys, read_by, heard, entry, psnp, lsp, point_hello, lan_hello, down_heard, padding};
 ghost use Rattle.isis_datagram.specs.Tlvs.{snpa_tlvs, entry_tlvs};
 ghost use Rattle.isis_datagram.specs.Datagrams.{pdu_octets};
+ghost use Rattle.isis_datagram.specs.Frames.{framed};
 ghost use Rattle.isis_model.specs.Datagrams.{PointHello, LanHello, Csnp, Psnp};
 ghost use Rattle.isis_tlv.specs.declared.three_way.Adj.TheVariants.{Down};
 
@@ -87,9 +88,12 @@ pub fn piece_rows()
     ensures more_entries { length (entry_tlvs (replicate 16 (entry 7))) ≡ 2 + 2 + 16 * 16 }
 {}
 
-/// What system 1 of L2 sends without keys, octet by octet (ISO 10589 9.6, 9.7, 9.11, 9.13): its
-/// hello in Down on circuit 1, its hello on LAN 2 where it is designated, a CSNP and a PSNP.
+/// What system 1 of L2 sends without keys, octet by octet (ISO 10589 9.6, 9.7, 9.11, 9.13): a frame
+/// of system 2 (own), its hello in Down on circuit 1, its hello on LAN 2 where it is designated, a
+/// CSNP and a PSNP.
 pub fn sent_rows()
+    ensures frame { framed 2 (7 ∷ [])
+        ≡ 73 ∷ 83 ∷ 85 ∷ 49 ∷ 0 ∷ 0 ∷ 0 ∷ 0 ∷ 0 ∷ 2 ∷ 7 ∷ [] }
     ensures point_hello { pdu_octets config 0 (circuit false) (PointHello Down 257 None)
         ≡ 131 ∷ 20 ∷ 1 ∷ 0 ∷ 17 ∷ 1 ∷ 0 ∷ 0 ∷ 2 ∷ 0 ∷ 0 ∷ 0 ∷ 0 ∷ 0 ∷ 1 ∷ 0 ∷ 30 ∷ 0 ∷ 36 ∷ 1
         ∷ 1 ∷ 4 ∷ 3 ∷ 73 ∷ 0 ∷ 1 ∷ 129 ∷ 1 ∷ 204 ∷ 240 ∷ 5 ∷ 2 ∷ 0 ∷ 0 ∷ 1 ∷ 1 ∷ [] }

@@ -2,7 +2,12 @@
 use Rattle.std.proofs.Common.{refl}
 use Rattle.isis_datagram.specs.Datagrams.{pdu_octets}
 use Rattle.isis_datagram.specs.Signing.{signed}
+use Rattle.isis_datagram.specs.Frames.{framed}
 use Rattle.isis_datagram.proofs.rows.sent_rows.Goals as goal
+
+pub returns-clause-frame : goal.returns-clause-frame
+unfolding framed
+returns-clause-frame c = refl
 
 pub returns-clause-point_hello : goal.returns-clause-point_hello
 unfolding pdu_octets signed
