@@ -12,7 +12,7 @@ use Rattle.isis_model.specs.Cells.{Cell, Heard}
 use Rattle.isis_model.specs.Books.{Book, cell_at}
 use Rattle.isis_model.specs.SnpTable.{SnpEntry}
 use Rattle.isis_model.specs.Adjacencies.{Handshake, Hello}
-use Rattle.isis_model.specs.Routers.{LanNeighbour, Circuit, Contents, Issued, Router, book_of}
+use Rattle.isis_model.specs.Routers.{LanNeighbour, LevelState, Circuit, Contents, Issued, Router, book_of}
 use Rattle.isis_model.specs.Elections.{Candidate}
 use Rattle.isis_model.specs.Splits.{Draft}
 use Rattle.isis_model.specs.LspPrefixes.{Reach}
@@ -334,6 +334,14 @@ held_after id events = cell_at (book_of (run events) Two) id
 -- own
 abbrev pub own_after : List Event → Option Cell
 own_after events = held_after 65536 events
+
+-- a level with so many entries, all of one LSP ID (own)
+abbrev pub full_of : ℕ → LevelState
+full_of count = record {
+  book = book_with (replicate count (7, cell_of 4 5 9 [] 0 0)) 0;
+  own = [];
+  gone = Some [];
+}
 
 -- so many finished fragments, and an open one without room for 8 octets more of 9 (own)
 abbrev pub filled_up : ℕ → Draft

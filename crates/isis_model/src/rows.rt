@@ -15,14 +15,15 @@ ghost use Rattle.isis_model.specs.LspPrefixes.{with_leaks, prefixes_of, reach_it
 ghost use Rattle.isis_model.specs.Wanted.{first_flags, wanted};
 ghost use Rattle.isis_model.specs.Pulls.{csnp_sent};
 ghost use Rattle.isis_model.specs.SnpLists.{pieces};
+ghost use Rattle.isis_model.specs.Receiving.{up_system, no_room};
 ghost use Rattle.isis_model.specs.Splits.{holds_more};
 ghost use Rattle.isis_model.specs.Ageing.{aged, is_let_go};
 ghost use Rattle.isis_model.specs.LspTable.{hear_lsp};
 ghost use Rattle.isis_model.specs.SnpTable.{asked, hear_entry};
 ghost use Rattle.isis_model.specs.OwnLsps.{Wait, Number, Exhaust, is_due, next};
 ghost use Rattle.isis_model.specs.Datagrams.{PointHello, LanHello, Csnp, Lsp, Psnp};
-ghost use Rattle.isis_model.specs.Events.{Second, Take, Pull, SnpHeard, Done, Dropped, Send};
-ghost use Rattle.isis_model.specs.Rows.{cell_of, header, lsp, entry, asked_for, book_with, before, config, level_one, level_two, shake, tested, contents_of, issued_at, hello, hello_from, hello_by, up_from, lan_hello_of, lan_hello, low_hello, events_up, seconds, own_lsp, run, answer_to, given, router, running, attached, both_levels, elected, lan_lsps, heard_of, leaking, own_prefix, leaked_prefix, leaker, entry_heard, changed_prefix, own_after, held_after, filled_up, heard_from};
+ghost use Rattle.isis_model.specs.Events.{Second, Take, Pull, LspHeard, SnpHeard, Done, Dropped, Send};
+ghost use Rattle.isis_model.specs.Rows.{cell_of, header, lsp, entry, asked_for, book_with, before, config, level_one, level_two, shake, tested, contents_of, issued_at, hello, hello_from, hello_by, up_from, lan_hello_of, lan_hello, low_hello, events_up, seconds, own_lsp, run, answer_to, given, router, running, attached, both_levels, elected, lan_lsps, heard_of, leaking, own_prefix, leaked_prefix, leaker, entry_heard, changed_prefix, own_after, held_after, filled_up, full_of, heard_from};
 
 /// A flag that was sent waits five seconds, and each second one less.
 pub fn wait_rows()
@@ -91,6 +92,7 @@ pub fn issue_rows()
 pub fn hello_rows()
     ensures good { tested config 2 2 level_two [] (shake (Some (1, 257))) ≡ None }
     ensures own_id { tested config 1 1 level_two [] (shake None) ≡ Some OwnId }
+    ensures own_before_snpa { tested config 1 3 level_two [] (shake None) ≡ Some OwnId }
     ensures other_snpa { tested config 2 3 level_two [] (shake None) ≡ Some OtherSnpa }
     ensures no_level { tested config 2 2 level_one [] (shake None) ≡ Some NoLevel }
     ensures no_area { tested (record config { runs = level_one }) 2 2 level_one [] (shake None)
@@ -133,6 +135,11 @@ pub fn lan_steps()
         ≡ Send (LanHello Two 513 (2 ∷ []) ∷ []) }
     ensures partial { (answer_to (Take 1 (SnpHeard Two 2 2 None [])) (lan_hello ∷ [])).reply
         ≡ Dropped NotDesignated }
+    ensures up { up_system (Some (up_from 2)) ≡ Some 2 }
+    ensures not_up { up_system (Some (record (up_from 2) { up = false })) ≡ None }
+    ensures lsp { (answer_to (Take 1 (LspHeard Two 2 (lsp 6 9))) (lan_hello ∷ [])).reply ≡ Done }
+    ensures other_lsp { (answer_to (Take 1 (LspHeard Two 3 (lsp 6 9))) (lan_hello ∷ [])).reply
+        ≡ Dropped NoAdjacency }
     ensures complete { (answer_to (Take 1 (SnpHeard Two 2 2 (Some (0, 9)) []))
         (lan_hello ∷ [])).reply ≡ Done }
     ensures other_source { (answer_to (Take 1 (SnpHeard Two 2 3 (Some (0, 9)) []))
@@ -234,6 +241,9 @@ pub fn limit_rows()
     ensures known { many_drop (heard_from 1 200) 7 ≡ None }
     ensures entries { is_full (book_with (replicate 65535 (7, cell_of 4 5 9 [] 0 0)) 0) ≡ false }
     ensures full { is_full (book_with (replicate 65536 (7, cell_of 4 5 9 [] 0 0)) 0) ≡ true }
+    ensures no_room { no_room (full_of 65536) 1 (record (lsp 6 9) { id = 8 }) ≡ true }
+    ensures held { no_room (full_of 65536) 1 (lsp 6 9) ≡ false }
+    ensures room { no_room (full_of 65535) 1 (record (lsp 6 9) { id = 8 }) ≡ false }
     ensures piece { length (pieces 2 (replicate 75 (entry 4 5))) ≡ 1 }
     ensures two_pieces { length (pieces 2 (replicate 76 (entry 4 5))) ≡ 2 }
     ensures fragments { holds_more 9 (filled_up 254) (record { code = 22; octets = replicate 8 0 })

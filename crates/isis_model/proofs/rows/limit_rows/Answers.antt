@@ -61,3 +61,15 @@ returns-clause-entries c = refl
 
 pub returns-clause-full : goal.returns-clause-full
 returns-clause-full c = refl
+
+pub returns-clause-no_room : goal.returns-clause-no_room
+unfolding put erase each has with_one without only fallen header_of let_go set_cell lsp_case hear_lsp hear_range close open_up take_point take_lan with_item split system_lsp pseudonode_lsp wanted install retire look outbid take_lsp take_snp wait_less age_one age count_down hold second sent answered pull_hello pull_csnp pull_lsps pull_psnp pull_level pull step
+returns-clause-no_room c = refl
+
+pub returns-clause-held : goal.returns-clause-held
+unfolding put erase each has with_one without only fallen header_of let_go set_cell lsp_case hear_lsp hear_range close open_up take_point take_lan with_item split system_lsp pseudonode_lsp wanted install retire look outbid take_lsp take_snp wait_less age_one age count_down hold second sent answered pull_hello pull_csnp pull_lsps pull_psnp pull_level pull step
+returns-clause-held c = refl
+
+pub returns-clause-room : goal.returns-clause-room
+unfolding put erase each has with_one without only fallen header_of let_go set_cell lsp_case hear_lsp hear_range close open_up take_point take_lan with_item split system_lsp pseudonode_lsp wanted install retire look outbid take_lsp take_snp wait_less age_one age count_down hold second sent answered pull_hello pull_csnp pull_lsps pull_psnp pull_level pull step
+returns-clause-room c = refl
