@@ -16,6 +16,7 @@ ghost use Rattle.isis_model.specs.Wanted.{first_flags, wanted};
 ghost use Rattle.isis_model.specs.Pulls.{csnp_sent};
 ghost use Rattle.isis_model.specs.SnpLists.{pieces};
 ghost use Rattle.isis_model.specs.Receiving.{up_system, no_room};
+ghost use Rattle.isis_model.specs.Routers.{level_of};
 ghost use Rattle.isis_model.specs.Splits.{holds_more};
 ghost use Rattle.isis_model.specs.Ageing.{aged, is_let_go};
 ghost use Rattle.isis_model.specs.LspTable.{hear_lsp};
@@ -124,8 +125,8 @@ pub fn first_steps()
         ≡ Send (Lsp Two 65536 (own_lsp 1195 0 1) ∷ []) }
 {}
 
-/// On a LAN the neighbour of the greater SNPA is designated; an LSP is sent once, and PSNPs are
-/// left to the neighbour.
+/// On a LAN the neighbour of the greater SNPA is designated; an LSP is sent once, PSNPs are left to
+/// the neighbour, and a purge that isn't held is let go. Point to point it is acknowledged too.
 pub fn lan_steps()
     ensures issued { (answer_to (Pull 1) (Second ∷ lan_hello ∷ [])).reply
         ≡ Send (LanHello Two 513 (2 ∷ []) ∷ Lsp Two 65536 (own_lsp 1200 1 2) ∷ []) }
@@ -138,6 +139,11 @@ pub fn lan_steps()
     ensures up { up_system (Some (up_from 2)) ≡ Some 2 }
     ensures not_up { up_system (Some (record (up_from 2) { up = false })) ≡ None }
     ensures lsp { (answer_to (Take 1 (LspHeard Two 2 (lsp 6 9))) (lan_hello ∷ [])).reply ≡ Done }
+    ensures purge { (answer_to (Take 1 (LspHeard Two 2 (lsp 5 0))) (lan_hello ∷ [])).reply ≡ Done }
+    ensures acknowledged { (answer_to (Take 0 (LspHeard Two 2 (lsp 5 0))) events_up).reply
+        ≡ Send (Psnp Two (record { id = 7; rank = 5; lifetime = 0; checksum = 0 } ∷ []) ∷ []) }
+    ensures let_go { (level_of (run (Take 0 (LspHeard Two 2 (lsp 5 0)) ∷ events_up)) Two).gone
+        ≡ Some (7 ∷ []) }
     ensures other_lsp { (answer_to (Take 1 (LspHeard Two 3 (lsp 6 9))) (lan_hello ∷ [])).reply
         ≡ Dropped NoAdjacency }
     ensures complete { (answer_to (Take 1 (SnpHeard Two 2 2 (Some (0, 9)) []))
