@@ -74,6 +74,10 @@ lsp rank checksum =
 abbrev pub entry : ℕ → ℕ → SnpEntry
 entry rank checksum = record { id = 7; rank = rank; lifetime = 600; checksum = checksum }
 
+-- the entry of its purge (own)
+abbrev pub purge_entry : SnpEntry
+purge_entry = record { id = 7; rank = 5; lifetime = 0; checksum = 0 }
+
 -- an empty entry that is asked for on circuit 1 (own)
 abbrev pub asked_for : Cell
 asked_for =

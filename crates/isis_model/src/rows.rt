@@ -14,17 +14,18 @@ ghost use Rattle.isis_model.specs.LspNeighbours.{lan_node, put_nodes};
 ghost use Rattle.isis_model.specs.LspPrefixes.{with_leaks, prefixes_of, reach_items};
 ghost use Rattle.isis_model.specs.Wanted.{first_flags, wanted};
 ghost use Rattle.isis_model.specs.Pulls.{csnp_sent};
-ghost use Rattle.isis_model.specs.SnpLists.{pieces};
+ghost use Rattle.isis_model.specs.SnpLists.{pieces, csnp_set};
 ghost use Rattle.isis_model.specs.Receiving.{up_system, no_room};
 ghost use Rattle.isis_model.specs.Routers.{level_of};
+ghost use Rattle.isis_model.specs.Openings.{close, open_up};
 ghost use Rattle.isis_model.specs.Splits.{holds_more};
 ghost use Rattle.isis_model.specs.Ageing.{aged, is_let_go};
 ghost use Rattle.isis_model.specs.LspTable.{hear_lsp};
-ghost use Rattle.isis_model.specs.SnpTable.{asked, hear_entry};
+ghost use Rattle.isis_model.specs.SnpTable.{asked, hear_entry, is_missed};
 ghost use Rattle.isis_model.specs.OwnLsps.{Wait, Number, Exhaust, is_due, next};
 ghost use Rattle.isis_model.specs.Datagrams.{PointHello, LanHello, Csnp, Lsp, Psnp};
 ghost use Rattle.isis_model.specs.Events.{Second, Take, Pull, LspHeard, SnpHeard, Done, Dropped, Send};
-ghost use Rattle.isis_model.specs.Rows.{cell_of, header, lsp, entry, asked_for, book_with, before, config, level_one, level_two, shake, tested, contents_of, issued_at, hello, hello_from, hello_by, up_from, lan_hello_of, lan_hello, low_hello, events_up, seconds, own_lsp, run, answer_to, given, router, running, attached, both_levels, elected, lan_lsps, heard_of, leaking, own_prefix, leaked_prefix, leaker, entry_heard, changed_prefix, own_after, held_after, filled_up, full_of, heard_from};
+ghost use Rattle.isis_model.specs.Rows.{cell_of, header, lsp, entry, purge_entry, asked_for, book_with, before, config, level_one, level_two, shake, tested, contents_of, issued_at, hello, hello_from, hello_by, up_from, lan_hello_of, lan_hello, low_hello, events_up, seconds, own_lsp, run, answer_to, given, router, running, attached, both_levels, elected, lan_lsps, heard_of, leaking, own_prefix, leaked_prefix, leaker, entry_heard, changed_prefix, own_after, held_after, filled_up, full_of, heard_from};
 
 /// A flag that was sent waits five seconds, and each second one less.
 pub fn wait_rows()
@@ -56,6 +57,7 @@ pub fn lsp_rows()
     ensures older { hear_lsp before 2 Other (lsp 2 5)
         ≡ book_with ((7, cell_of 4 5 900 (replicate 27 1) 6 2) ∷ []) 4 }
     ensures unheld { hear_lsp (book_with [] 4) 0 Other (lsp 5 0) ≡ book_with [] 4 }
+    ensures empty { hear_lsp (book_with ((7, asked_for) ∷ []) 4) 0 Other (lsp 5 0) ≡ book_with [] 4 }
 {}
 
 /// Rows of the table for entries.
@@ -141,7 +143,7 @@ pub fn lan_steps()
     ensures lsp { (answer_to (Take 1 (LspHeard Two 2 (lsp 6 9))) (lan_hello ∷ [])).reply ≡ Done }
     ensures purge { (answer_to (Take 1 (LspHeard Two 2 (lsp 5 0))) (lan_hello ∷ [])).reply ≡ Done }
     ensures acknowledged { (answer_to (Take 0 (LspHeard Two 2 (lsp 5 0))) events_up).reply
-        ≡ Send (Psnp Two (record { id = 7; rank = 5; lifetime = 0; checksum = 0 } ∷ []) ∷ []) }
+        ≡ Send (Psnp Two (purge_entry ∷ []) ∷ []) }
     ensures let_go { (level_of (run (Take 0 (LspHeard Two 2 (lsp 5 0)) ∷ events_up)) Two).gone
         ≡ Some (7 ∷ []) }
     ensures other_lsp { (answer_to (Take 1 (LspHeard Two 3 (lsp 6 9))) (lan_hello ∷ [])).reply
@@ -272,4 +274,31 @@ pub fn age_rows()
     ensures kept { is_let_go (cell_of 4 5 1 (replicate 27 1) 2 6) ≡ false }
     ensures gone { is_let_go (cell_of 5 0 1 header 2 6) ≡ true }
     ensures nothing { is_let_go (record asked_for { left = 1 }) ≡ false }
+{}
+
+/// A circuit that closes loses its flags (own); one that opens point to point has SRM for every key
+/// (ISO 10589 7.3.17), and a LAN nothing.
+pub fn opening_rows()
+    ensures closed { close before 1
+        ≡ record (book_with ((7, cell_of 4 5 900 (replicate 27 1) 0 4) ∷ []) 4) { opened = 5 } }
+    ensures opened { open_up (book_with ((7, cell_of 4 5 900 (replicate 27 1) 0 0) ∷ []) 4) 1
+        ≡ book_with ((7, cell_of 4 5 900 (replicate 27 1) 2 0) ∷ []) 4 }
+    ensures lan { open_up (book_with ((7, cell_of 4 5 900 (replicate 27 1) 0 0) ∷ []) 4) 2
+        ≡ book_with ((7, cell_of 4 5 900 (replicate 27 1) 0 0) ∷ []) 4 }
+    ensures empty { open_up (book_with ((7, asked_for) ∷ []) 4) 1
+        ≡ book_with ((7, asked_for) ∷ []) 4 }
+{}
+
+/// What a CSNP says and hears (ISO 10589 7.3.15.2, 7.3.15.3): purges are listed and empty entries
+/// aren't; a live LSP in its range that it doesn't list is missed.
+pub fn range_rows()
+    ensures listed { csnp_set Two (book_with ((7, cell_of 5 0 60 header 0 0) ∷ []) 4)
+        ≡ Csnp Two 0 (2 ^ 64 - 1) (purge_entry ∷ []) ∷ [] }
+    ensures empty { csnp_set Two (book_with ((7, asked_for) ∷ []) 4)
+        ≡ Csnp Two 0 (2 ^ 64 - 1) [] ∷ [] }
+    ensures missed { is_missed 7 7 [] 7 (cell_of 4 5 900 [] 0 0) ≡ true }
+    ensures before { is_missed 8 9 [] 7 (cell_of 4 5 900 [] 0 0) ≡ false }
+    ensures behind { is_missed 0 6 [] 7 (cell_of 4 5 900 [] 0 0) ≡ false }
+    ensures named { is_missed 0 9 (entry 2 5 ∷ []) 7 (cell_of 4 5 900 [] 0 0) ≡ false }
+    ensures purge { is_missed 0 9 [] 7 (cell_of 5 0 60 header 0 0) ≡ false }
 {}

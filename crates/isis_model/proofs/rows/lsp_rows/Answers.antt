@@ -46,3 +46,7 @@ returns-clause-older c = refl
 pub returns-clause-unheld : goal.returns-clause-unheld
 unfolding put erase has with_one without only header_of set_cell lsp_case hear_lsp
 returns-clause-unheld c = refl
+
+pub returns-clause-empty : goal.returns-clause-empty
+unfolding put erase has with_one without only header_of set_cell lsp_case hear_lsp
+returns-clause-empty c = refl
