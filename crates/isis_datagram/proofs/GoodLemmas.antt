@@ -152,8 +152,8 @@ not-live number live =
     let even = eqb-true ((2 * number + 1) % 2) 0 (and_parts (ltb 0 (2 * number + 1)) (eqb ((2 * number + 1) % 2) 0) live).1 in
     omega arith
 
-good-lsp : (id number lifetime checksum flags : ℕ) (octets : List ℕ) (holds : Bool) → id < 2 ^ 64 → number < 4294967296 → not (eqb number 0) ≡ true → (eqb lifetime 0 || (not (eqb checksum 0) && holds)) ≡ true → 27 ≤ length octets → IsGoodLsp (record { id = id; rank = rank_read number lifetime; checksum = checksum; flags = flags; left = lifetime; octets = octets })
-good-lsp id number lifetime checksum flags octets holds small fits some summed header =
+good-lsp : (id number lifetime checksum flags : ℕ) (octets : List ℕ) (holds : Bool) → id < 2 ^ 64 → number < 4294967296 → lifetime < 65536 → checksum < 65536 → not (eqb number 0) ≡ true → (eqb lifetime 0 || (not (eqb checksum 0) && holds)) ≡ true → 27 ≤ length octets → IsGoodLsp (record { id = id; rank = rank_read number lifetime; checksum = checksum; flags = flags; left = lifetime; octets = octets })
+good-lsp id number lifetime checksum flags octets holds small fits brief word some summed header =
     let positive : number ≡ 0 → ⊥ = eqb-false number 0 (not-true (eqb number 0) some) in
     elim (eqb lifetime 0) as (λ t. eqb lifetime 0 ≡ t → (t || (not (eqb checksum 0) && holds)) ≡ true → IsGoodLsp (record { id = id; rank = cond t (2 * number + 1) (2 * number); checksum = checksum; flags = flags; left = lifetime; octets = octets })) [
       | true ↦ λ dead sums. record {
@@ -161,6 +161,8 @@ good-lsp id number lifetime checksum flags octets holds small fits some summed h
         some = omega arith;
         bounded = omega arith;
         left = λ live. absurd (not-live number live);
+        fits = omega (arith, brief);
+        word = omega (arith, word);
         header = header;
         summed = λ live. absurd (not-live number live);
       }
@@ -172,6 +174,8 @@ good-lsp id number lifetime checksum flags octets holds small fits some summed h
             some = omega arith;
             bounded = omega arith;
             left = λ live. omega arith;
+            fits = omega (arith, brief);
+            word = omega (arith, word);
             header = header;
             summed = λ live. omega arith;
           }
@@ -241,7 +245,7 @@ good-value by on snpa octets (kind.Lsp level) small faultless known none =
     let its = kind.Lsp level in
     let n = length_at its octets in
     let tests = all-held (tests_of by on (value_at its octets (body_at its octets n)) (take n octets)) none in
-    good-lsp (lsp_number (lsp_at 12 octets)) (u32_at 20 octets) (u16_at 10 octets) (u16_at 24 octets) (get_or octets 26 0) (take n octets) _ (lsp-small 12 octets small) (u32-small 20 octets small) tests.1.1.1.1.1.0 tests.1.1.1.1.1.1.0 (whole-length octets its faultless known)
+    good-lsp (lsp_number (lsp_at 12 octets)) (u32_at 20 octets) (u16_at 10 octets) (u16_at 24 octets) (get_or octets 26 0) (take n octets) _ (lsp-small 12 octets small) (u32-small 20 octets small) (u16-small 10 octets small) (u16-small 24 octets small) tests.1.1.1.1.1.0 tests.1.1.1.1.1.1.0 (whole-length octets its faultless known)
 good-value by on snpa octets (kind.Csnp level) small faultless known none =
     let its = kind.Csnp level in
     let body = body_at its octets (length_at its octets) in

@@ -33,7 +33,8 @@ use Rattle.isis_datagram.specs.Reading.{runs_of, message, refused_or, read}
 use Rattle.isis_datagram.specs.Signing.{signed_tlvs, signed}
 use Rattle.isis_datagram.specs.Tlvs.{own_address, hello_tlvs, three_way_value, point_tlvs, snpa_tlvs, lan_tlvs}
 use Rattle.isis_datagram.specs.Datagrams.{levels_run, datagram, pdu_octets}
-use Rattle.isis_datagram.specs.Said.{names, said, CanRead, IsSender, IsHandshake, IsLanHello}
+use Rattle.isis_datagram.specs.Said.{names, said, CanRead}
+use Rattle.isis_datagram.specs.Senders.{IsSender, IsHandshake, IsLanHello}
 use Rattle.isis_datagram.proofs.NumberLemmas.{u48-again, node-reads_back}
 use Rattle.isis_datagram.proofs.ReadLemmas.{read-begins, octets_of_pdu-begins, all-hold}
 use Rattle.isis_datagram.proofs.ItemLemmas.{said_by, items-end, items-tlv, fine, fine-fault, fine-items, tlvs-none, pieces-items, pieces-others, pieces-tlvs, pieces-length}

@@ -2,8 +2,9 @@
 use Rattle.std.proofs.Common.{◌≡◌, ℕ, ◌+◌, ◌*◌, ◌/◌, ◌%◌, ◌^◌, ◌<◌, ◌≤◌, List, [], ◌++◌, length, drop, replicate, Bool, true, false, Option, Some, None, refl, ap, subst, arith}
 use Rattle.isis_base.specs.declared.level.Level.{Level}
 use Rattle.isis_base.specs.declared.level.Level.TheVariants as level
+use Rattle.isis_base.specs.declared.pdu_kind.PduKind.{PduKind}
 use Rattle.isis_base.specs.declared.pdu_kind.PduKind.TheVariants as kind
-use Rattle.isis_pdu.specs.Views.{Lsp}
+use Rattle.isis_pdu.specs.Views.{PduView, Lsp}
 use Rattle.isis_pdu.specs.Reading.{Begins}
 use Rattle.isis_pdu.specs.Spelling.{start_octets, field_octets, octets_of_pdu, IsWritable}
 use Rattle.iso_checksum.specs.Checksum.{checksum_holds, with_pair}
@@ -17,7 +18,8 @@ use Rattle.isis_datagram.specs.Numbers.{lsp_id}
 use Rattle.isis_datagram.specs.Tests.{passes}
 use Rattle.isis_datagram.specs.Signing.{auth_octets, signed_tlvs}
 use Rattle.isis_datagram.specs.Lsps.{issued_with, issued_tlvs, issued_checksum, issued_pdu, given_octets}
-use Rattle.isis_datagram.specs.Said.{TellsLive, IsIssuable}
+use Rattle.isis_datagram.specs.LspLaws.{TellsLive}
+use Rattle.isis_model.specs.Good.{IsIssuable}
 use Rattle.isis_datagram.proofs.ReadLemmas.{octets_of_pdu-begins}
 use Rattle.isis_datagram.proofs.AuthLemmas.{IsHead, signed-length, signed-are, signed-passes}
 use Rattle.isis_datagram.proofs.CheckLemmas.{checksum-in_range, checksum-holds}
@@ -48,6 +50,18 @@ same-signed None level id number flags checksum tlvs = refl
 same-signed (Some key) level id number flags checksum tlvs =
     ap (λ (message : List ℕ). auth_octets (hmac key message) ++ tlvs) (same-blank level id number flags checksum tlvs)
 
+issuable-short : (key : Option (List ℕ)) (contents : Contents) → IsIssuable key contents → length contents.tlvs ≤ 1465
+issuable-short None contents is = is.short
+issuable-short (Some key) contents is = let short = is.short in omega (arith, short)
+
+-- with the authentication it fits the room
+issued-room : (kind : PduKind) (pdu : List ℕ → PduView) → IsHead kind pdu → (key : Option (List ℕ)) (contents : Contents) → IsIssuable key contents → length (signed_tlvs key pdu contents.tlvs) ≤ 1465
+issued-room kind pdu head None contents is = is.short
+issued-room kind pdu head (Some key) contents is =
+    let longer = signed-length kind pdu head contents.tlvs is.tlvs (Some key) in
+    let short = is.short in
+    omega (arith, longer, short)
+
 module _ (key : Option (List ℕ)) (level : Level) (id number : ℕ) (contents : Contents) where
   abbrev its : List ℕ
   its = issued_tlvs key level id number contents
@@ -69,11 +83,11 @@ module _ (key : Option (List ℕ)) (level : Level) (id number : ℕ) (contents :
       let high : sum / 256 ≡ sum / 256 % 256 = omega arith in
       subst (λ (n : ℕ). checksum_holds (with_pair summed 12 n (sum % 256)) ≡ true) high holds
 
-  module _ (fits : number < 2 ^ 32) (is : IsIssuable contents) where
+  module _ (fits : number < 2 ^ 32) (is : IsIssuable key contents) where
     issued-authentic : passes key octets 27 ≡ true
     issued-authentic =
         let small = issued-in_range.1 in
-        let short = is.short in
+        let short = issuable-short key contents is in
         subst (λ (tlvs : List ℕ). passes key (octets_of_pdu (issued_with level id number contents.flags sum tlvs)) 27 ≡ true)
         (same-signed key level id number contents.flags sum contents.tlvs)
         (signed-passes (kind.Lsp level) (issued_with level id number contents.flags sum) (issued-head level id number contents.flags sum fits (omega arith)) contents.tlvs is.tlvs key (omega arith))
@@ -81,20 +95,18 @@ module _ (key : Option (List ℕ)) (level : Level) (id number : ℕ) (contents :
     issued-writable : IsWritable (issued_pdu key level id number contents)
     issued-writable =
         let small = issued-in_range.1 in
-        let short = is.short in
         let head = issued-head level id number contents.flags 0 fits (omega arith) in
-        let longer = signed-length (kind.Lsp level) (issued_with level id number contents.flags 0) head contents.tlvs is.tlvs key in
+        let longer = issued-room (kind.Lsp level) (issued_with level id number contents.flags 0) head key contents is in
         (issued-head level id number contents.flags sum fits (omega arith)).writable its (omega arith)
         (signed-are (kind.Lsp level) (issued_with level id number contents.flags 0) head contents.tlvs is.tlvs key)
 
     issued-short : length octets ≤ 1492
     issued-short =
-        let short = is.short in
         let head = issued-head level id number contents.flags 0 fits (omega arith) in
-        let longer = signed-length (kind.Lsp level) (issued_with level id number contents.flags 0) head contents.tlvs is.tlvs key in
+        let longer = issued-room (kind.Lsp level) (issued_with level id number contents.flags 0) head key contents is in
         omega arith
 
-pub issue-tells : (leaks : Router → Level → List (ℕ × ℕ)) (attached : Router → Bool) (r : Router) (level : Level) (id number : ℕ) (contents : Contents) → number < 2 ^ 32 → IsIssuable contents → TellsLive (at r.config.keys level) level id (issue_cell (given_octets leaks attached) r level id number contents)
+pub issue-tells : (leaks : Router → Level → List (ℕ × ℕ)) (attached : Router → Bool) (r : Router) (level : Level) (id number : ℕ) (contents : Contents) → number < 2 ^ 32 → IsIssuable (at r.config.keys level) contents → TellsLive (at r.config.keys level) level id (issue_cell (given_octets leaks attached) r level id number contents)
 issue-tells leaks attached r level id number contents fits is =
     let key = at r.config.keys level in
     let sent = octets key level id number contents in
@@ -116,4 +128,5 @@ pub given-good : (leaks : Router → Level → List (ℕ × ℕ)) (attached : Ro
 given-good leaks attached = record {
   header = λ r level id number contents. omega arith;
   summed = λ r level id number contents. (issued-in_range (at r.config.keys level) level id number contents).0;
+  word = λ r level id number contents. (issued-in_range (at r.config.keys level) level id number contents).1;
 }

@@ -27,7 +27,7 @@ use Rattle.isis_datagram.specs.Numbers.{u48_octets, lsp_id}
 use Rattle.isis_datagram.specs.Tests.{passes, tests_of, first_failing}
 use Rattle.isis_datagram.specs.Reading.{rank_read, message, read}
 use Rattle.isis_datagram.proofs.GoodLemmas.{Small, small-at, lsp-small, not-live, all-held, all-passed, start-passed, of-read}
-use Rattle.isis_datagram.specs.Said.{TellsLive, IsLiveLsp, IsPurge, TellsKept}
+use Rattle.isis_datagram.specs.LspLaws.{TellsLive, IsLiveLsp, IsPurge, TellsKept}
 use Rattle.isis_datagram.proofs.ListLemmas.{of-leading}
 use Rattle.isis_datagram.proofs.ItemLemmas.{tlvs-none}
 

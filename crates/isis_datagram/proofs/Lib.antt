@@ -12,3 +12,4 @@ pub mod IssueLemmas
 pub mod PurgeLemmas
 pub mod GoodLemmas
 pub mod KeptLemmas
+pub mod SendLemmas

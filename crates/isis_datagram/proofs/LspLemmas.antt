@@ -34,7 +34,8 @@ use Rattle.isis_datagram.specs.Tests.{tests_of, passes}
 use Rattle.isis_datagram.specs.Reading.{rank_read, message, refused_or, read}
 use Rattle.isis_datagram.specs.Lsps.{with_lifetime, signed_purge, lsp_sent}
 use Rattle.isis_datagram.specs.Datagrams.{datagram, pdu_octets}
-use Rattle.isis_datagram.specs.Said.{said, CanRead, IsLiveLsp}
+use Rattle.isis_datagram.specs.Said.{said, CanRead}
+use Rattle.isis_datagram.specs.LspLaws.{IsLiveLsp}
 use Rattle.isis_datagram.proofs.ListLemmas.{of-leading}
 use Rattle.isis_datagram.proofs.NumberLemmas.{lsp-reads_back, high-reads_back}
 use Rattle.isis_datagram.proofs.ReadLemmas.{read-begins, all-hold}

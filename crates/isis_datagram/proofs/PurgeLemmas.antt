@@ -34,7 +34,8 @@ use Rattle.isis_datagram.specs.Reading.{message, refused_or, read}
 use Rattle.isis_datagram.specs.Signing.{auth_octets, digest_of}
 use Rattle.isis_datagram.specs.Lsps.{with_lifetime, signed_purge, lsp_sent}
 use Rattle.isis_datagram.specs.Datagrams.{datagram, pdu_octets}
-use Rattle.isis_datagram.specs.Said.{said, CanRead, IsPurge}
+use Rattle.isis_datagram.specs.Said.{said, CanRead}
+use Rattle.isis_datagram.specs.LspLaws.{IsPurge}
 use Rattle.isis_datagram.proofs.ListLemmas.{of-exactly}
 use Rattle.isis_datagram.proofs.NumberLemmas.{lsp-reads_back}
 use Rattle.isis_datagram.proofs.ReadLemmas.{read-begins, all-hold}

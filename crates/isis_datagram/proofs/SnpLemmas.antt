@@ -37,7 +37,9 @@ use Rattle.isis_datagram.specs.Reading.{message, refused_or, read}
 use Rattle.isis_datagram.specs.Signing.{signed_tlvs, signed}
 use Rattle.isis_datagram.specs.Tlvs.{lsp_entry, entry_tlvs}
 use Rattle.isis_datagram.specs.Datagrams.{datagram, pdu_octets}
-use Rattle.isis_datagram.specs.Said.{said, CanRead, IsSender, IsTellable, AreTellable}
+use Rattle.isis_datagram.specs.Said.{said, CanRead}
+use Rattle.isis_datagram.specs.Senders.{IsSender}
+use Rattle.isis_model.specs.Good.{IsTellable, AreTellable}
 use Rattle.isis_datagram.proofs.NumberLemmas.{u48-again, lsp-reads_back}
 use Rattle.isis_datagram.proofs.ReadLemmas.{read-begins, octets_of_pdu-begins, all-hold}
 use Rattle.isis_datagram.proofs.ItemLemmas.{fine, fine-fault, fine-items, pieces-items, pieces-tlvs, pieces-length}

@@ -10,4 +10,6 @@ pub mod Lsps
 pub mod Tlvs
 pub mod Datagrams
 pub mod Said
+pub mod Senders
+pub mod LspLaws
 pub mod Rows

@@ -1,4 +1,5 @@
--- LSPs as octets: one's own as they are issued, and what is held as it is sent (ISO 10589 9.8, 7.3.15.5, 7.3.16.4).
+-- LSPs as octets: one's own as they are issued, and what is held as it is sent (ISO 10589 9.8,
+-- 7.3.15.5, 7.3.16.4).
 use Rattle.std.specs.Prelude.{ℕ, ◌+◌, Bool, List, ◌++◌, length, drop, replicate, Option, Some, None, if◌then◌else◌}
 use Rattle.isis_base.specs.declared.level.Level.{Level}
 use Rattle.isis_base.specs.Fields.{u16_octets}
@@ -16,11 +17,12 @@ use Rattle.isis_datagram.specs.CheckOctets.{checksum_with}
 
 -- ---- one's own, as it is issued, with MaxAge, 1,200 seconds (ISO 10589 7.3.16.3)
 
--- its header with a checksum, before its TLVs
+-- its header with a checksum, before its TLVs (9.8)
 abbrev pub issued_with : Level → ℕ → ℕ → ℕ → ℕ → List ℕ → PduView
-issued_with level id number flags checksum tlvs = Lsp level 1200 (lsp_id id) number checksum flags tlvs
+issued_with level id number flags checksum tlvs =
+    Lsp level 1200 (lsp_id id) number checksum flags tlvs
 
--- its TLVs, of which authentication is the first where there is a key
+-- its TLVs, of which authentication is the first where there is a key (RFC 5304 2)
 abbrev pub issued_tlvs : Option (List ℕ) → Level → ℕ → ℕ → Contents → List ℕ
 issued_tlvs key level id number contents =
     signed_tlvs key (issued_with level id number contents.flags 0) contents.tlvs
@@ -29,13 +31,16 @@ issued_tlvs key level id number contents =
 abbrev pub issued_checksum : Option (List ℕ) → Level → ℕ → ℕ → Contents → ℕ
 issued_checksum key level id number contents =
     let tlvs = issued_tlvs key level id number contents in
-    checksum_with (drop 12 (octets_of_pdu (issued_with level id number contents.flags 0 tlvs))) (length tlvs + 2)
+    checksum_with (drop 12 (octets_of_pdu (issued_with level id number contents.flags 0 tlvs)))
+    (length tlvs + 2)
 
+-- 9.8
 abbrev pub issued_pdu : Option (List ℕ) → Level → ℕ → ℕ → Contents → PduView
 issued_pdu key level id number contents =
-    issued_with level id number contents.flags (issued_checksum key level id number contents) (issued_tlvs key level id number contents)
+    issued_with level id number contents.flags (issued_checksum key level id number contents)
+    (issued_tlvs key level id number contents)
 
--- what a step of the model is given, with the octets and the checksum of what is issued
+-- what a step of the model is given, with the octets and the checksum of what is issued (own)
 abbrev pub given_octets : (Router → Level → List (ℕ × ℕ)) → (Router → Bool) → Given
 given_octets leaks attached = record {
   leaks = leaks;
@@ -59,5 +64,7 @@ signed_purge (Some key) header =
     let sized = with_piece 8 (u16_octets 46) header in
     sized ++ auth_octets (digest_of key 27 (sized ++ auth_octets (replicate 16 0)))
 
+-- 7.3.15.5, RFC 5304 2
 unfoldable pub lsp_sent : Option (List ℕ) → Cell → List ℕ
-lsp_sent key cell = if is_live cell.rank then with_lifetime cell.left cell.octets else signed_purge key cell.octets
+lsp_sent key cell =
+    if is_live cell.rank then with_lifetime cell.left cell.octets else signed_purge key cell.octets

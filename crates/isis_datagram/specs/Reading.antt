@@ -1,4 +1,5 @@
--- What a router reads of a datagram: the model's message, or the cause of the first test of octets that fails (own: the order).
+-- What a router reads of a datagram: the model's message, or the cause of the first test of octets
+-- that fails (own: the order).
 use Rattle.std.specs.Prelude.{ℕ, ◌==◌, Bool, true, false, List, take, map, Option, Some, None, Result, Ok, Err, if◌then◌else◌}
 use Rattle.std.specs.Result.{ok_prefix}
 use Rattle.isis_base.specs.declared.level.LevelSet.{LevelSet}
@@ -29,58 +30,66 @@ runs_of levels.Both = record { one = true; two = true }
 abbrev pub rank_read : ℕ → ℕ → ℕ
 rank_read number lifetime = if lifetime == 0 then purge_rank number else live_rank number
 
--- What a PDU from an SNPA says, whose octets are these: `own` is the reader's own SNPA.
+-- What a PDU from an SNPA says, whose octets are these: `own` is the reader's own SNPA (9).
 abbrev pub message : ℕ → ℕ → PduView → List ℕ → Message
-message own snpa (LanHello level circuit_type source holding priority lan tlvs) octets = LanHelloHeard level (record {
-  source = system_number source;
-  snpa = snpa;
-  runs = runs_of circuit_type;
-  holding = holding;
-  priority = priority;
-  lan = node_number lan;
-  areas = ok_prefix (areas_in tlvs);
-  handshake = None;
-  names_me = lists own (ok_prefix (snpas_in tlvs));
-})
-message own snpa (PointHello circuit_type source holding circuit tlvs) octets = PointHelloHeard (record {
-  source = system_number source;
-  snpa = snpa;
-  runs = runs_of circuit_type;
-  holding = holding;
-  priority = 0;
-  lan = 0;
-  areas = ok_prefix (areas_in tlvs);
-  handshake = first_handshake (ok_prefix (handshakes_in tlvs));
-  names_me = false;
-})
-message own snpa (Lsp level lifetime id number checksum flags tlvs) octets = LspHeard level snpa (record {
-  id = lsp_number id;
-  rank = rank_read number lifetime;
-  checksum = checksum;
-  flags = flags;
-  left = lifetime;
-  octets = octets;
-})
+message own snpa (LanHello level circuit_type source holding priority lan tlvs) octets =
+    LanHelloHeard level (record {
+      source = system_number source;
+      snpa = snpa;
+      runs = runs_of circuit_type;
+      holding = holding;
+      priority = priority;
+      lan = node_number lan;
+      areas = ok_prefix (areas_in tlvs);
+      handshake = None;
+      names_me = lists own (ok_prefix (snpas_in tlvs));
+    })
+message own snpa (PointHello circuit_type source holding circuit tlvs) octets =
+    PointHelloHeard (record {
+      source = system_number source;
+      snpa = snpa;
+      runs = runs_of circuit_type;
+      holding = holding;
+      priority = 0;
+      lan = 0;
+      areas = ok_prefix (areas_in tlvs);
+      handshake = first_handshake (ok_prefix (handshakes_in tlvs));
+      names_me = false;
+    })
+message own snpa (Lsp level lifetime id number checksum flags tlvs) octets =
+    LspHeard level snpa (record {
+      id = lsp_number id;
+      rank = rank_read number lifetime;
+      checksum = checksum;
+      flags = flags;
+      left = lifetime;
+      octets = octets;
+    })
 message own snpa (Csnp level source start end tlvs) octets =
-    SnpHeard level snpa (system_number source.system) (Some (lsp_number start, lsp_number end)) (map snp_entry (ok_prefix (entries_in tlvs)))
+    SnpHeard level snpa (system_number source.system) (Some (lsp_number start, lsp_number end))
+    (map snp_entry (ok_prefix (entries_in tlvs)))
 message own snpa (Psnp level source tlvs) octets =
-    SnpHeard level snpa (system_number source.system) None (map snp_entry (ok_prefix (entries_in tlvs)))
+    SnpHeard level snpa (system_number source.system) None
+    (map snp_entry (ok_prefix (entries_in tlvs)))
 
+-- own
 abbrev pub refused_or : Option DropName → Message → Message
 refused_or None message = message
 refused_or (Some cause) message = Refused cause
 
--- a PDU of so many octets from an SNPA
+-- a PDU of so many octets from an SNPA (own)
 abbrev pub read_pdu : Config → Circuit → ℕ → List ℕ → Result (PduView × ℕ) PduFault → Message
 read_pdu config c snpa octets (Err fault) = Refused drop.Pdu
 read_pdu config c snpa octets (Ok found) =
     let whole = take found.1 octets in
-    refused_or (first_failing (tests_of config c found.0 whole)) (message config.system snpa found.0 whole)
+    refused_or (first_failing (tests_of config c found.0 whole))
+    (message config.system snpa found.0 whole)
 
+-- own
 abbrev pub read_frame : Config → Circuit → Option (ℕ × List ℕ) → Message
 read_frame config c None = Refused drop.Frame
 read_frame config c (Some parts) = read_pdu config c parts.0 parts.1 (decoded parts.1)
 
--- what a router reads of a datagram on a circuit
+-- what a router reads of a datagram on a circuit (own)
 unfoldable pub read : Config → Circuit → List ℕ → Message
 read config c datagram = read_frame config c (unframed datagram)

@@ -1,4 +1,5 @@
--- The tests of a PDU's octets that need no state, in their order, each with the cause of a drop where it fails (own: the order).
+-- The tests of a PDU's octets that need no state, in their order, each with the cause of a drop
+-- where it fails (own: the order).
 use Rattle.std.specs.Prelude.{ℕ, ◌==◌, nat_le, Bool, true, ◌&&◌, ◌||◌, not, List, [], ◌∷◌, length, drop, Option, Some, None, is_none, if◌then◌else◌}
 use Rattle.isis_base.specs.declared.pdu_kind.PduKind.{PduKind}
 use Rattle.isis_base.specs.declared.pdu_kind.PduKind.TheVariants as kind
@@ -20,10 +21,11 @@ pub record Test : Type 0 where
   pub holds : Bool
   pub cause : DropName
 
+-- own
 abbrev pub row : Bool → DropName → Test
 row holds cause = record { holds = holds; cause = cause }
 
--- the cause of the first test that fails
+-- the cause of the first test that fails (own)
 abbrev pub first_failing : List Test → Option DropName
 first_failing [] = None
 first_failing (test ∷ tests) = if test.holds then first_failing tests else Some test.cause
@@ -38,7 +40,7 @@ goes_on c (kind.Lsp level) = true
 goes_on c (kind.Csnp level) = true
 goes_on c (kind.Psnp level) = true
 
--- a level that is run; a point-to-point hello is of no level
+-- a level that is run; a point-to-point hello is of no level (own)
 abbrev pub is_run : Config → PduKind → Bool
 is_run config (kind.LanHello level) = at config.runs level
 is_run config kind.PointHello = true
@@ -59,12 +61,15 @@ abbrev pub passes : Option (List ℕ) → List ℕ → ℕ → Bool
 passes None octets header = true
 passes (Some key) octets header = is_none (auth_fault key octets header)
 
--- no value that must be read has a fault: areas, SNPAs and three-way values of a hello, entries of an SNP
+-- no value that must be read has a fault: areas, SNPAs and three-way values of a hello, entries of
+-- an SNP (own)
 abbrev pub are_read : PduKind → List ℕ → Bool
 are_read (kind.LanHello level) tlvs =
-    is_none (fault_of (areas_in tlvs)) && is_none (fault_of (snpas_in tlvs)) && is_none (fault_of (handshakes_in tlvs))
+    is_none (fault_of (areas_in tlvs)) && is_none (fault_of (snpas_in tlvs))
+    && is_none (fault_of (handshakes_in tlvs))
 are_read kind.PointHello tlvs =
-    is_none (fault_of (areas_in tlvs)) && is_none (fault_of (snpas_in tlvs)) && is_none (fault_of (handshakes_in tlvs))
+    is_none (fault_of (areas_in tlvs)) && is_none (fault_of (snpas_in tlvs))
+    && is_none (fault_of (handshakes_in tlvs))
 are_read (kind.Lsp level) tlvs = true
 are_read (kind.Csnp level) tlvs = is_none (fault_of (entries_in tlvs))
 are_read (kind.Psnp level) tlvs = is_none (fault_of (entries_in tlvs))
@@ -77,7 +82,8 @@ has_number (Lsp level lifetime id number checksum flags tlvs) = not (number == 0
 has_number (Csnp level source start end tlvs) = true
 has_number (Psnp level source tlvs) = true
 
--- the checksum of an LSP that is no purge is there and holds, from the LSP ID to the end (ISO 10589 7.3.11, 7.3.15.1)
+-- the checksum of an LSP that is no purge is there and holds, from the LSP ID to the end (ISO 10589
+-- 7.3.11, 7.3.15.1)
 abbrev pub is_summed : PduView → List ℕ → Bool
 is_summed (LanHello level circuit_type source holding priority lan tlvs) octets = true
 is_summed (PointHello circuit_type source holding circuit tlvs) octets = true
@@ -86,7 +92,7 @@ is_summed (Lsp level lifetime id number checksum flags tlvs) octets =
 is_summed (Csnp level source start end tlvs) octets = true
 is_summed (Psnp level source tlvs) octets = true
 
--- the tests of a PDU whose octets are these
+-- the tests of a PDU whose octets are these (own)
 abbrev pub tests_of : Config → Circuit → PduView → List ℕ → List Test
 tests_of config c pdu octets =
     let kind = kind_of pdu in

@@ -14,14 +14,22 @@ ghost use Rattle.isis_model.specs.Cells.{Cell, purged};
 ghost use Rattle.isis_model.specs.Configs.{Config};
 ghost use Rattle.isis_model.specs.Routers.{Circuit, Contents, Router};
 ghost use Rattle.isis_model.specs.SnpTable.{SnpEntry};
+ghost use Rattle.isis_model.specs.Events.{Event};
+ghost use Rattle.isis_model.specs.Steps.{step};
+ghost use Rattle.isis_model.specs.Sorted.{IsSorted};
+ghost use Rattle.isis_model.specs.ReplyLaws.{AllSent};
+ghost use Rattle.isis_model.specs.Starts.{start};
 ghost use Rattle.isis_model.specs.Datagrams.{PointHello, LanHello, Lsp, Csnp, Psnp};
-ghost use Rattle.isis_model.specs.Good.{IsGoodGiven, IsGoodMessage};
+ghost use Rattle.isis_model.specs.Good.{IsGoodGiven, IsGoodMessage, IsGoodEvent, IsGoodRouter, IsTelling, IsIssuable};
 ghost use Rattle.isis_datagram.specs.Numbers.{system_id, snpa_id, node_id, lsp_id, system_number, snpa_number, node_number};
 ghost use Rattle.isis_datagram.specs.Frames.{framed, unframed};
 ghost use Rattle.isis_datagram.specs.Reading.{read};
 ghost use Rattle.isis_datagram.specs.CheckOctets.{checksum_with, with_checksum};
 ghost use Rattle.isis_datagram.specs.Lsps.{given_octets};
-ghost use Rattle.isis_datagram.specs.Said.{ReadsBack, CanRead, IsSender, AreTellable, IsHandshake, IsLanHello, IsLiveLsp, IsIssuable, IssueTells, IsPurge, TellsKept};
+ghost use Rattle.isis_datagram.specs.Said.{ReadsBack, CanRead};
+ghost use Rattle.isis_datagram.specs.Senders.{IsSender, IsHandshake, IsLanHello};
+ghost use Rattle.isis_model.specs.Good.{AreTellable};
+ghost use Rattle.isis_datagram.specs.LspLaws.{IsLiveLsp, IssueTells, IsPurge, TellsKept, TellsEvent, AreSendable, ReadsUpdate};
 
 /// Identifiers of numbers have those numbers.
 pub fn number_laws()
@@ -43,14 +51,17 @@ pub fn decoded_law()
         → decoded octets ≡ Ok (pdu, n) }
 {}
 
-/// The checksum of octets that have 0 in its place, where the second check octet has that weight, makes them hold; each
-/// check octet is 1 to 255, so it is the one that `fill` of iso_checksum writes.
+/// The checksum of octets that have 0 in its place, where the second check octet has that weight,
+/// makes them hold; each check octet is 1 to 255, so it is the one that `fill` of iso_checksum
+/// writes.
 pub fn checksum_law()
     ensures holds { (octets : List ℕ) (place weight : ℕ) → place + 2 ≤ length octets
         → with_checksum place 0 octets ≡ octets → weight + place + 1 ≡ length octets
         → Holds (with_checksum place (checksum_with octets weight) octets) }
-    ensures first { (octets : List ℕ) (weight : ℕ) → IsCheckOctet (checksum_with octets weight / 256) }
-    ensures second { (octets : List ℕ) (weight : ℕ) → IsCheckOctet (checksum_with octets weight % 256) }
+    ensures first { (octets : List ℕ) (weight : ℕ)
+        → IsCheckOctet (checksum_with octets weight / 256) }
+    ensures second { (octets : List ℕ) (weight : ℕ)
+        → IsCheckOctet (checksum_with octets weight % 256) }
 {}
 
 /// What is read of octets has the sizes that the model's laws ask of a message.
@@ -93,11 +104,12 @@ pub fn csnp_law()
         → ReadsBack by on config place c (Csnp level start end entries) }
 {}
 
-/// What is issued says what is held of it, has a checksum that holds and is authentic. So it may be sent.
+/// What is issued says what is held of it, has a checksum that holds and is authentic. So it may be
+/// sent.
 pub fn issue_law()
     ensures tells { (leaks : Router → Level → List (ℕ × ℕ)) (attached : Router → Bool)
         (r : Router) (level : Level) (id number : ℕ) (contents : Contents)
-        → number < 2 ^ 32 → IsIssuable contents
+        → number < 2 ^ 32 → IsIssuable (at r.config.keys level) contents
         → IssueTells (given_octets leaks attached) r level id number contents }
     ensures good { (leaks : Router → Level → List (ℕ × ℕ)) (attached : Router → Bool)
         → IsGoodGiven (given_octets leaks attached) }
@@ -130,4 +142,27 @@ pub fn purged_law()
 pub fn kept_law()
     ensures { (by : Config) (on : Circuit) (octets : List ℕ)
         → AllByRecursion (λ octet. octet < 256) octets → TellsKept by (read by on octets) }
+{}
+
+/// Each entry with a key of a router may be sent, and so reads back: from its start on, after each
+/// step of a good event whose LSP, if it says one, was read of octets.
+pub fn sendable_laws()
+    ensures start { (config : Config) (boot : ℕ) (circuits : List Circuit)
+        → AreSendable (start config boot circuits) }
+    ensures step { (leaks : Router → Level → List (ℕ × ℕ)) (attached : Router → Bool)
+        (r : Router) (event : Event)
+        → IsGoodRouter r → IsTelling r → IsGoodEvent event → TellsEvent r.config event
+        → AreSendable r → AreSendable (step (given_octets leaks attached) r event).router }
+{}
+
+/// Whatever LSP or SNP a step sends reads back, on whichever circuit, by a reader that can read it.
+pub fn step_reads()
+    ensures { (leaks : Router → Level → List (ℕ × ℕ)) (attached : Router → Bool)
+        (r : Router) (event : Event) (by : Config) (on c : Circuit) (place : ℕ)
+        → IsSorted r → IsGoodRouter r → IsTelling r → IsGoodEvent event
+        → TellsEvent r.config event → AreSendable r
+        → IsSender (step (given_octets leaks attached) r event).router.config
+        → AllSent
+        (ReadsUpdate by on (step (given_octets leaks attached) r event).router.config place c)
+        (step (given_octets leaks attached) r event).reply }
 {}

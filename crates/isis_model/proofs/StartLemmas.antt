@@ -20,7 +20,8 @@ use Rattle.isis_model.specs.Receiving.{drop_of, taken, take_or_drop}
 use Rattle.isis_model.specs.Steps.{with_metric, with_prefix, sent_all, step}
 use Rattle.isis_model.specs.Starts.{started, points_of, start}
 use Rattle.isis_model.specs.Sorted.{RisesFrom, IsSorted}
-use Rattle.isis_model.specs.Good.{IsGoodBook, IsGoodRouter}
+use Rattle.isis_tlv.specs.Spelling.{area_value}
+use Rattle.isis_model.specs.Good.{IsGoodBook, IsGoodRouter, IsTelling}
 use Rattle.isis_model.specs.AdjacencyLaws.{opens, is_point, FollowsAdjacencies, AreBonds, IsBond, bond_of, IsIdle, AreIdle}
 use Rattle.isis_model.proofs.SetLemmas.{has-with_one, has-none}
 use Rattle.isis_model.proofs.BookLemmas.{choose}
@@ -43,6 +44,9 @@ start-good config boot circuits short few = record {
     each-level : (l : Level) → IsGoodBook (book_of (start config boot circuits) l)
     each-level level.One = record { at = λ id. tt }
     each-level level.Two = record { at = λ id. tt }
+
+pub start-telling : (config : Config) (boot : ℕ) (circuits : List Circuit) → length (area_value config.areas) ≤ 255 → length circuits ≤ 126 → IsTelling (start config boot circuits)
+start-telling config boot circuits areas few = record { areas = areas; circuits = subst (λ (n : ℕ). n ≤ 126) (sym (length-map circuits started)) few }
 
 never : (t : Bool) → (if t then false else false) ≡ false
 never true = refl

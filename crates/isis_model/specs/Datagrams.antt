@@ -5,8 +5,9 @@ use Rattle.isis_tlv.specs.declared.three_way.Adj.{Adj}
 use Rattle.isis_model.specs.Cells.{Cell}
 use Rattle.isis_model.specs.SnpTable.{SnpEntry}
 
--- A point-to-point hello's three-way TLV (RFC 5303 3.1), a LAN hello's LAN ID and the SNPAs that it lists (ISO 10589 9.5,
--- 9.6), an LSP as it is held (9.8), a CSNP's range and entries (9.10, 9.11), a PSNP's entries (9.12, 9.13).
+-- A point-to-point hello's three-way TLV (RFC 5303 3.1), a LAN hello's LAN ID and the SNPAs that it
+-- lists (ISO 10589 9.5, 9.6), an LSP as it is held (9.8), a CSNP's range and entries (9.10, 9.11),
+-- a PSNP's entries (9.12, 9.13).
 pub data Sent : Type 0 where
   PointHello : (state : Adj) (extended : ℕ) (names : Option (ℕ × ℕ)) → Sent
   LanHello : (level : Level) (lan : ℕ) (snpas : List ℕ) → Sent

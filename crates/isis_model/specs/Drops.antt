@@ -5,7 +5,7 @@ use Rattle.isis_model.specs.declared.drop_name.DropName.TheVariants.{Frame, Pdu,
 use Rattle.isis_model.specs.Places.{nth, with_nth}
 use Rattle.isis_model.specs.Books.{risen}
 
--- the word of a cause
+-- the word of a cause (own)
 abbrev pub drop_word : DropName → List ℕ
 drop_word Frame = codes "frame"
 drop_word Pdu = codes "pdu"
@@ -27,7 +27,7 @@ drop_word NoAdjacency = codes "no-adjacency"
 drop_word NotDesignated = codes "not-designated"
 drop_word StoreFull = codes "store-full"
 
--- the place of a cause's counter: the order in which a datagram is tested
+-- the place of a cause's counter: the order in which a datagram is tested (own)
 abbrev pub drop_place : DropName → ℕ
 drop_place Frame = 0
 drop_place Pdu = 1
@@ -49,19 +49,20 @@ drop_place NoAdjacency = 16
 drop_place NotDesignated = 17
 drop_place StoreFull = 18
 
+-- own
 abbrev pub count_or : Option ℕ → ℕ
 count_or None = 0
 count_or (Some count) = count
 
--- how often a cause was met
+-- how often a cause was met (own)
 abbrev pub drops_of : List ℕ → DropName → ℕ
 drops_of drops cause = count_or (nth drops (drop_place cause))
 
--- the counters with one more of a cause
+-- the counters with one more of a cause (own)
 abbrev pub count_drop : List ℕ → DropName → List ℕ
 count_drop drops cause = with_nth drops (drop_place cause) (risen (drops_of drops cause))
 
--- the first of two tests that refuses
+-- the first of two tests that refuses (own)
 abbrev pub or_else : Option DropName → Option DropName → Option DropName
 or_else None later = later
 or_else (Some cause) later = Some cause

@@ -9,18 +9,20 @@ use Rattle.isis_model.specs.Routers.{Router}
 use Rattle.isis_model.specs.Elections.{idle_all}
 use Rattle.isis_model.specs.Datagrams.{Sent}
 
--- What a datagram says that passed the tests that need no state (a hello of the circuit's kind, a level that is run, and
--- so on): a hello, an LSP with its sender's SNPA, or an SNP with
--- its sender's SNPA, its source's system ID, a CSNP's range and its entries. Or why the first of these tests that fails
--- refuses it.
+-- What a datagram says that passed the tests that need no state (a hello of the circuit's kind, a
+-- level that is run, and so on): a hello, an LSP with its sender's SNPA, or an SNP with its
+-- sender's SNPA, its source's system ID, a CSNP's range and its entries. Or why the first of these
+-- tests that fails refuses it (own).
 pub data Message : Type 0 where
   Refused : (cause : DropName) → Message
   PointHelloHeard : (h : Hello) → Message
   LanHelloHeard : (level : Level) (h : Hello) → Message
   LspHeard : (level : Level) (snpa : ℕ) (h : Heard) → Message
-  SnpHeard : (level : Level) (snpa source : ℕ) (range : Option (ℕ × ℕ)) (entries : List SnpEntry) → Message
+  SnpHeard : (level : Level) (snpa source : ℕ) (range : Option (ℕ × ℕ)) (entries : List SnpEntry)
+      → Message
 
--- A second; a datagram that is taken, and a pull, on the circuit at a place; or a change of the configuration.
+-- A second; a datagram that is taken, and a pull, on the circuit at a place; or a change of the
+-- configuration (own).
 pub data Event : Type 0 where
   Second : Event
   Take : (place : ℕ) (message : Message) → Event
@@ -29,15 +31,21 @@ pub data Event : Type 0 where
   Overload : (on : Bool) → Event
   Prefix : (prefix : ℕ) (metric : Option ℕ) → Event
 
+-- own
 pub data Reply : Type 0 where
   Done : Reply
   Dropped : (cause : DropName) → Reply
   Send : (out : List Sent) → Reply
 
+-- own
 pub record Outcome : Type 0 where
   pub router : Router
   pub reply : Reply
 
--- the end of each event that isn't dropped: CSNP counters stand at 0 where the router isn't designated
+-- the end of each event that isn't dropped: CSNP counters stand at 0 where the router isn't
+-- designated (own)
 abbrev pub settled : Outcome → Outcome
-settled o = record o { router = record o.router { circuits = idle_all o.router.config 0 o.router.circuits } }
+settled o =
+    record o {
+      router = record o.router { circuits = idle_all o.router.config 0 o.router.circuits };
+    }

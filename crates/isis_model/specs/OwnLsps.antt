@@ -1,9 +1,9 @@
--- One's own LSPs: when a fragment is issued, at which number, and when it is purged (ISO 10589 7.3.5, 7.3.6, 7.3.16.1;
--- the times and what an exhausted number does: own).
-use Rattle.std.specs.Prelude.{ℕ, ◌+◌, ◌==◌, nat_le, Bool, true, false, ◌&&◌, ◌||◌, not, bytes_eq, List, [], ◌∷◌, Option, Some, None, if◌then◌else◌, nat_lt}
+-- One's own LSPs: when a fragment is issued, at which number, and when it is purged (ISO 10589
+-- 7.3.5, 7.3.6, 7.3.16.1; the times and what an exhausted number does: own).
+use Rattle.std.specs.Prelude.{ℕ, ◌+◌, ◌==◌, nat_le, Bool, true, false, ◌&&◌, ◌||◌, not, bytes_eq, List, [], ◌∷◌, Option, Some, None, if◌then◌else◌}
 use Rattle.isis_base.specs.declared.level.Level.{Level}
 use Rattle.isis_model.specs.Maps.{find, put, erase}
-use Rattle.isis_model.specs.Ranks.{number_of, is_purge, live_rank}
+use Rattle.isis_model.specs.Ranks.{number_of, is_live, live_rank}
 use Rattle.isis_model.specs.Waits.{no_waits}
 use Rattle.isis_model.specs.Cells.{Cell, flagged, purged}
 use Rattle.isis_model.specs.Books.{cell_at, rank_of, is_full, set_cell}
@@ -14,28 +14,31 @@ use Rattle.isis_model.specs.Givens.{Given}
 abbrev pub last_number : ℕ
 last_number = 4294967295
 
+-- 7.3.6
 abbrev pub same_contents : Contents → Contents → Bool
 same_contents a b = a.flags == b.flags && bytes_eq a.tlvs b.tlvs
 
 -- ---- a wanted fragment
 
--- what becomes of it: nothing now, an issue at a number, or its purge at the last number
+-- what becomes of it: nothing now, an issue at a number, or its purge at the last number (own)
 pub data Next : Type 0 where
   Wait : Next
   Number : (number : ℕ) → Next
   Exhaust : Next
 
--- whether it is to be issued: it isn't issued, or its contents changed and its last issue is 5 seconds ago, or its last
--- issue is 900 seconds ago (ISO 10589 7.3.6, 7.3.5)
+-- whether it is to be issued: it isn't issued, or its contents changed and its last issue is 5
+-- seconds ago, or its last issue is 900 seconds ago (ISO 10589 7.3.6, 7.3.5)
 abbrev pub is_due : Option Issued → Contents → Bool
 is_due None contents = true
-is_due (Some i) contents = (nat_le 5 i.age && not (same_contents i.contents contents)) || nat_le 900 i.age
+is_due (Some i) contents =
+    (nat_le 5 i.age && not (same_contents i.contents contents)) || nat_le 900 i.age
 
+-- own
 abbrev pub is_held : Option Cell → Bool
 is_held None = false
 is_held (Some cell) = true
 
--- a full book has no room for an LSP ID of which it has no entry
+-- a full book has no room for an LSP ID of which it has no entry (own)
 abbrev pub next : Bool → Option Issued → Option Cell → Contents → Next
 next full issued held contents =
     if not (is_due issued contents) then Wait
@@ -58,69 +61,74 @@ issue_cell given r level id number contents = record {
 
 -- ---- issue and purge: SRM is set, and SSN clear, on all open circuits
 
--- a level after an issue of a cell
+-- a level after an issue of a cell (7.3.12)
 unfoldable pub install : LevelState → ℕ → Contents → Cell → LevelState
 install state id contents cell = record state {
   book = set_cell state.book id (Some (flagged cell state.book.opened 0));
   own = put state.own id (record { contents = contents; age = 0 });
 }
 
--- a level after a purge, whose LSP then isn't issued
+-- a level after a purge, whose LSP then isn't issued (7.3.16.4)
 unfoldable pub retire : LevelState → ℕ → Cell → LevelState
 retire state id purge = record state {
   book = set_cell state.book id (Some (flagged purge state.book.opened 0));
   own = erase state.own id;
 }
 
--- the LSP that is held is purged and counts as not issued
+-- what is held live is purged, and a purge is left as it is; either then counts as not issued
+-- (7.3.16.4; at the last number 7.3.16.1; that the router goes on: own)
 abbrev pub retire_held : LevelState → ℕ → Option Cell → LevelState
-retire_held state id (Some cell) = if nat_lt 0 cell.rank then retire state id (purged cell) else state
-retire_held state id None = state
-
--- at the last number a live LSP is purged, and a purge is left as it is; either then counts as not issued
-abbrev pub exhaust : LevelState → ℕ → Option Cell → LevelState
-exhaust state id held =
-    if is_purge (rank_of held) then record state { own = erase state.own id } else retire_held state id held
+retire_held state id None = record state { own = erase state.own id }
+retire_held state id (Some cell) =
+    if is_live cell.rank then retire state id (purged cell)
+    else record state { own = erase state.own id }
 
 -- ---- a level's own LSPs are followed
 
+-- own
 abbrev pub do_next : Given → Router → Level → ℕ → Contents → LevelState → Next → LevelState
 do_next given r level id contents state Wait = state
-do_next given r level id contents state (Number n) = install state id contents (issue_cell given r level id n contents)
-do_next given r level id contents state Exhaust = exhaust state id (cell_at state.book id)
+do_next given r level id contents state (Number n) =
+    install state id contents (issue_cell given r level id n contents)
+do_next given r level id contents state Exhaust = retire_held state id (cell_at state.book id)
 
--- one wanted fragment is looked at
+-- one wanted fragment is looked at (7.3.6)
 unfoldable pub look : Given → Router → Level → LevelState → (ℕ × Contents) → LevelState
 look given r level state want =
-    do_next given r level want.0 want.1 state (next (is_full state.book) (find state.own want.0) (cell_at state.book want.0) want.1)
+    do_next given r level want.0 want.1 state
+    (next (is_full state.book) (find state.own want.0) (cell_at state.book want.0) want.1)
 
--- all of them, in order
+-- all of them, in order (own)
 abbrev pub look_all : Given → Router → Level → LevelState → List (ℕ × Contents) → LevelState
 look_all given r level state [] = state
-look_all given r level state (want ∷ wants) = look_all given r level (look given r level state want) wants
+look_all given r level state (want ∷ wants) =
+    look_all given r level (look given r level state want) wants
 
--- an issued LSP that is no longer wanted is purged
+-- an issued LSP that is no longer wanted is purged (7.3.16.4)
 abbrev pub withdraw_one : LevelState → ℕ → Option Contents → LevelState
 withdraw_one state id (Some _) = state
 withdraw_one state id None = retire_held state id (cell_at state.book id)
 
--- all of them, in order
+-- all of them, in order (own)
 abbrev pub withdraw_all : LevelState → List (ℕ × Contents) → List (ℕ × Issued) → LevelState
 withdraw_all state wants [] = state
-withdraw_all state wants (pair ∷ own) = withdraw_all (withdraw_one state pair.0 (find wants pair.0)) wants own
+withdraw_all state wants (pair ∷ own) =
+    withdraw_all (withdraw_one state pair.0 (find wants pair.0)) wants own
 
--- what is wanted is issued where it is due, and what isn't wanted is purged
+-- what is wanted is issued where it is due, and what isn't wanted is purged (7.3.6)
 abbrev pub renew : Given → Router → Level → LevelState → List (ℕ × Contents) → LevelState
-renew given r level state wants = let after = look_all given r level state wants in withdraw_all after wants after.own
+renew given r level state wants =
+    let after = look_all given r level state wants in withdraw_all after wants after.own
 
 -- ---- another's copy is newer
 
+-- own
 abbrev pub contents_or : Option Contents → Contents → Contents
 contents_or None bare = bare
 contents_or (Some contents) bare = contents
 
--- an own LSP is outbid at a number: it is issued at the next one at once (ISO 10589 7.3.16.1); at the last number it is
--- purged, by `last`
+-- an own LSP is outbid at a number: it is issued at the next one at once (ISO 10589 7.3.16.1); at
+-- the last number it is purged, by `last`
 unfoldable pub outbid : Given → Router → Level → LevelState → ℕ → ℕ → Contents → Cell → LevelState
 outbid given r level state id above contents last =
     if above == last_number then retire state id last

@@ -4,7 +4,8 @@ ghost use Rattle.isis_model.specs.Drops.{drop_place, drop_word};
 
 use std::fmt;
 
-/// Why a datagram is dropped, in the order in which it is tested (own). The first test that fails is the cause.
+/// Why a datagram is dropped, in the order in which it is tested (own). The first test that fails
+/// is the cause.
 #[derive(Clone, Copy, Debug, PartialEq, Eq)]
 pub enum DropName {
     /// It isn't an SNPA and a PDU in this project's frame.

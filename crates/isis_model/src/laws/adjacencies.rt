@@ -1,6 +1,11 @@
 //! Laws of adjacencies: which circuits are open, whom they keep, and what hellos tell of it.
-ghost use Rattle.std.specs.Prelude.{ℕ};
-ghost use Rattle.isis_model.specs.Routers.{Router};
+ghost use Rattle.std.specs.Prelude.{◌≡◌, ℕ, false, ◌&&◌, Some, None};
+ghost use Rattle.isis_base.specs.declared.level.Level.{Level};
+ghost use Rattle.isis_model.specs.Both.{at};
+ghost use Rattle.isis_model.specs.Configs.{Config};
+ghost use Rattle.isis_model.specs.Routers.{Router, Circuit, some_up};
+ghost use Rattle.isis_model.specs.Elections.{Candidate, beats, designated};
+ghost use Rattle.isis_model.specs.ElectionLaws.{IsElected, SameRank};
 ghost use Rattle.isis_model.specs.Givens.{Given};
 ghost use Rattle.isis_model.specs.Events.{Event};
 ghost use Rattle.isis_model.specs.Steps.{step};
@@ -12,9 +17,10 @@ pub fn step_follows()
         → FollowsAdjacencies r → FollowsAdjacencies (step given r event).router }
 {}
 
-/// A step leaves a router's system ID, its boot and the number of its circuits, and changes adjacencies only by hellos
-/// and by their end. A circuit that keeps another neighbour than before has the flag of every key, and somebody is kept
-/// exactly outside Down. Each hello that is sent tells the adjacency as it is.
+/// A step leaves a router's system ID, area addresses, keys, boot and the number of its circuits,
+/// and changes adjacencies only by hellos and by their end. A circuit that keeps another neighbour
+/// than before has the flag of every key, and somebody is kept exactly outside Down. Each hello
+/// that is sent tells the adjacency as it is.
 pub fn step_bonds()
     ensures stays { (given : Given) (r : Router) (event : Event)
         → Stays r (step given r event).router }
@@ -26,4 +32,19 @@ pub fn step_bonds()
         → AreBonds r → AreBonds (step given r event).router }
     ensures greets { (given : Given) (r : Router) (event : Event)
         → IsReplyGreeting (step given r event).router (place_of event) (step given r event).reply }
+{}
+
+/// Who is designated on a LAN and level (ISO 10589 8.4.5): a candidate that stands behind none, by
+/// priority, then SNPA, then system, of oneself and the neighbours that are Up; and nobody exactly
+/// where none is Up. Two candidates of which neither stands before the other are of one system.
+pub fn election_laws()
+    ensures elected { (config : Config) (place : ℕ) (c : Circuit) (level : Level) (x : Candidate)
+        → designated config place c level ≡ Some x → IsElected config place c level x }
+    ensures nobody { (config : Config) (place : ℕ) (c : Circuit) (level : Level)
+        → designated config place c level ≡ None
+        → (c.lan && some_up (at c.levels level).heard) ≡ false }
+    ensures somebody { (config : Config) (place : ℕ) (c : Circuit) (level : Level)
+        → (c.lan && some_up (at c.levels level).heard) ≡ false
+        → designated config place c level ≡ None }
+    ensures one { (a b : Candidate) → beats a b ≡ false → beats b a ≡ false → SameRank a b }
 {}

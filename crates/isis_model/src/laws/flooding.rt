@@ -1,4 +1,5 @@
-//! Laws of ranks and flags: for each part that hears or ages, for a step, and for two ends of a link.
+//! Laws of ranks and flags: for each part that hears or ages, for a step, and for two ends of a
+//! link.
 ghost use Rattle.std.specs.Prelude.{◌≡◌, ℕ, ◌≤◌, ◌||◌, ◌&&◌, not, ◌==◌, Bool, true, false, List, Option};
 ghost use Rattle.std.specs.List.{AllByRecursion};
 ghost use Rattle.isis_base.specs.declared.level.Level.{Level};
@@ -17,7 +18,8 @@ ghost use Rattle.isis_model.specs.Events.{Event};
 ghost use Rattle.isis_model.specs.Steps.{step};
 ghost use Rattle.isis_model.specs.Good.{IsGoodBook};
 ghost use Rattle.isis_model.specs.Flooding.{Floods, Keeps, KeepsBoth, Stands, IsKept};
-ghost use Rattle.isis_model.specs.StepLaws.{heard_in, RankStays, FlagStays, RiseIsFlagged, OpeningIsFlagged};
+ghost use Rattle.isis_model.specs.Hearings.{heard_in};
+ghost use Rattle.isis_model.specs.StepLaws.{RankStays, FlagStays, RiseIsFlagged, OpeningIsFlagged, SsnRises, SsnStays};
 ghost use Rattle.isis_model.specs.SweepLaws.{ListsOnce, Frees, AreClean, IsRangeClean, IsListed, AreHeldLive};
 
 /// A set of circuits has a circuit exactly as the words that made it say.
@@ -43,7 +45,8 @@ pub fn entry_floods()
         → h.rank ≤ heard place h.id → Floods heard gone book (hear_entry book place whose h) }
 {}
 
-/// An LSP that is taken keeps a level's flooding: what is let go stays so, ranks don't fall, and flags cover them.
+/// An LSP that is taken keeps a level's flooding: what is let go stays so, ranks don't fall, and
+/// flags cover them.
 pub fn take_lsp_keeps()
     ensures { (heard : ℕ → ℕ → ℕ) (scene : Scene) (state : LevelState) (place : ℕ)
         (whose : Whose) (h : Heard)
@@ -87,8 +90,19 @@ pub fn step_flags()
         → RiseIsFlagged event r (step given r event).router }
 {}
 
-/// What stands between two routers at an end of a link still stands after a step of that end, where the step hears
-/// there no rank above the other's, and after a step of the other, which doesn't let the LSP ID go.
+/// What a step does to SSN: it rises only for what a datagram names that is taken on that circuit
+/// (ISO 10589 7.3.15.1, 7.3.15.2). It stays, on a circuit that stays open, until the key changes or
+/// is let go, such a datagram names it, or the circuit is pulled (7.3.15.4) or takes a hello.
+pub fn step_ssn()
+    ensures rises { (given : Given) (r : Router) (event : Event)
+        → SsnRises event r (step given r event).router }
+    ensures stays { (given : Given) (r : Router) (event : Event)
+        → SsnStays event r (step given r event).router }
+{}
+
+/// What stands between two routers at an end of a link still stands after a step of that end, where
+/// the step hears there no rank above the other's, and after a step of the other, which doesn't let
+/// the LSP ID go.
 pub fn standing_laws()
     ensures here { (given : Given) (a b : Router) (event : Event) (level : Level) (place id : ℕ)
         → heard_in event level place id ≤ rank_at (book_of b level) id
@@ -98,8 +112,8 @@ pub fn standing_laws()
         → Stands a place b level id → Stands a place (step given b event).router level id }
 {}
 
-/// Where an SNP is taken on a point-to-point circuit that lists an LSP ID once, at least as new as what is held and
-/// with its checksum, the LSP ID's flag is clear there afterwards.
+/// Where an SNP is taken on a point-to-point circuit that lists an LSP ID once, at least as new as
+/// what is held and with its checksum, the LSP ID's flag is clear there afterwards.
 pub fn snp_frees()
     ensures { (scene : Scene) (state : LevelState) (system place : ℕ) (range : Option (ℕ × ℕ))
         (entries : List SnpEntry) (h : SnpEntry)
@@ -108,8 +122,8 @@ pub fn snp_frees()
         → srm_at (take_snp scene state system place range entries).book h.id place ≡ false }
 {}
 
-/// Where an SNP is taken and no entry sets a flag, what it lists live is held so; and where the range of a CSNP sets
-/// none either, what is held live in the range is listed.
+/// Where an SNP is taken and no entry sets a flag, what it lists live is held so; and where the
+/// range of a CSNP sets none either, what is held live in the range is listed.
 pub fn sweep_laws()
     ensures listed { (scene : Scene) (state : LevelState) (system place : ℕ)
         (entries : List SnpEntry)

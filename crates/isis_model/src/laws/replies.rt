@@ -1,17 +1,20 @@
 //! Laws of replies: what is sent is held after the step, and has the form that receivers accept.
 ghost use Rattle.isis_base.specs.declared.level.Level.{Level};
-ghost use Rattle.isis_model.specs.Books.{Book};
-ghost use Rattle.isis_model.specs.Routers.{Router};
+ghost use Rattle.std.specs.Prelude.{◌≡◌, ℕ, Some};
+ghost use Rattle.isis_model.specs.Cells.{Cell};
+ghost use Rattle.isis_model.specs.Books.{Book, cell_at};
+ghost use Rattle.isis_model.specs.Routers.{Router, book_of};
 ghost use Rattle.isis_model.specs.Givens.{Given};
-ghost use Rattle.isis_model.specs.SnpLists.{held_keys, csnp_set};
+ghost use Rattle.isis_model.specs.SnpLists.{snp_entry, held_keys, csnp_set};
 ghost use Rattle.isis_model.specs.Events.{Event};
 ghost use Rattle.isis_model.specs.Steps.{step};
 ghost use Rattle.isis_model.specs.Sorted.{RisesFrom, IsSorted};
-ghost use Rattle.isis_model.specs.Good.{IsGoodEvent, IsGoodRouter};
+ghost use Rattle.isis_model.specs.Good.{IsGoodEvent, IsGoodRouter, IsTellable};
 ghost use Rattle.isis_model.specs.CsnpLaws.{CoversFrom, HasShortIds};
 ghost use Rattle.isis_model.specs.ReplyLaws.{IsReplyHeld, IsReplyExact, IsReplyTold, IsReplyFine};
 
-/// What a reply says of LSPs is held after the step, with that rank or a newer one, unless the LSP ID was let go.
+/// What a reply says of LSPs is held after the step, with that rank or a newer one, unless the LSP
+/// ID was let go.
 pub fn step_reply()
     ensures { (given : Given) (r : Router) (event : Event) → IsSorted r
         → IsReplyHeld (step given r event).router (step given r event).reply }
@@ -34,6 +37,13 @@ pub fn step_fine()
     ensures { (given : Given) (r : Router) (event : Event)
         → IsSorted r → IsGoodRouter r → IsGoodEvent event
         → IsReplyFine (step given r event).reply }
+{}
+
+/// What an SNP says of whatever a good router holds has fields of the standard's sizes (ISO 10589
+/// 9.10): every entry may be listed.
+pub fn entries_tellable()
+    ensures { (r : Router) (level : Level) (id : ℕ) (cell : Cell) → IsGoodRouter r
+        → cell_at (book_of r level) id ≡ Some cell → IsTellable (snp_entry id cell) }
 {}
 
 /// A CSNP set covers all LSP IDs once, and lists the keys that are held, in order.

@@ -1,8 +1,11 @@
-//! Laws of states: what holds at the start and is kept by every step, where new LSPs come from, own LSPs, and drops.
-ghost use Rattle.std.specs.Prelude.{◌≡◌, ◌≢◌, ℕ, ◌/◌, ◌^◌, ◌<◌, ◌≤◌, List, length, Some};
+//! Laws of states: what holds at the start and is kept by every step, where new LSPs come from, own
+//! LSPs, and drops.
+ghost use Rattle.std.specs.Prelude.{◌≡◌, ◌≢◌, ℕ, ◌/◌, ◌^◌, ◌<◌, ◌≤◌, List, length, Some, None, Bool};
 ghost use Rattle.std.specs.List.{AllByRecursion};
 ghost use Rattle.isis_base.specs.declared.level.Level.{Level};
 ghost use Rattle.isis_model.specs.declared.drop_name.DropName.{DropName};
+ghost use Rattle.isis_tlv.specs.Spelling.{area_value};
+ghost use Rattle.isis_model.specs.Both.{at};
 ghost use Rattle.isis_model.specs.Places.{nth};
 ghost use Rattle.isis_model.specs.Books.{risen};
 ghost use Rattle.isis_model.specs.Configs.{Config};
@@ -11,15 +14,19 @@ ghost use Rattle.isis_model.specs.Routers.{Circuit, Contents, Router};
 ghost use Rattle.isis_model.specs.Givens.{Given};
 ghost use Rattle.isis_model.specs.Splits.{Item, split};
 ghost use Rattle.isis_model.specs.SplitLaws.{IsSmall, SaysEntries};
-ghost use Rattle.isis_model.specs.Wanted.{wanted};
+ghost use Rattle.std.specs.Option.{option_map};
+ghost use Rattle.isis_model.specs.Maps.{find};
+ghost use Rattle.isis_model.specs.Elections.{oneself};
+ghost use Rattle.isis_model.specs.LspPrefixes.{Reach, with_leaks};
+ghost use Rattle.isis_model.specs.Wanted.{pseudonode_lsp, wanted};
 ghost use Rattle.isis_model.specs.Events.{Message, Event, Take, Dropped};
 ghost use Rattle.isis_model.specs.Receiving.{drop_of};
 ghost use Rattle.isis_model.specs.Steps.{step};
 ghost use Rattle.isis_model.specs.Starts.{start};
 ghost use Rattle.isis_model.specs.Sorted.{IsSorted};
-ghost use Rattle.isis_model.specs.Good.{IsGoodGiven, IsGoodEvent, IsGoodRouter};
+ghost use Rattle.isis_model.specs.Good.{IsGoodGiven, IsGoodEvent, IsGoodRouter, IsTelling, IsIssuable};
 ghost use Rattle.isis_model.specs.Deeds.{Courses};
-ghost use Rattle.isis_model.specs.StepLaws.{hearing};
+ghost use Rattle.isis_model.specs.Hearings.{hearing};
 ghost use Rattle.isis_model.specs.AdjacencyLaws.{FollowsAdjacencies, AreBonds, AreIdle};
 ghost use Rattle.isis_model.specs.ContentLaws.{TellsBoth};
 
@@ -36,6 +43,9 @@ pub fn start_laws()
     ensures good { (config : Config) (boot : ℕ) (circuits : List Circuit)
         → config.system < 2 ^ 48
         → length circuits ≤ 255 → IsGoodRouter (start config boot circuits) }
+    ensures telling { (config : Config) (boot : ℕ) (circuits : List Circuit)
+        → length (area_value config.areas) ≤ 255 → length circuits ≤ 126
+        → IsTelling (start config boot circuits) }
     ensures follows { (config : Config) (boot : ℕ) (circuits : List Circuit)
         → FollowsAdjacencies (start config boot circuits) }
     ensures bonds { (config : Config) (boot : ℕ) (circuits : List Circuit)
@@ -50,12 +60,14 @@ pub fn step_sorted()
         → IsSorted r → IsSorted (step given r event).router }
 {}
 
-/// Where the event and what is given are good, a step keeps a good router good: both levels' cells, its system ID and
-/// its circuits' number.
+/// Where the event and what is given are good, a step keeps a good router good: both levels' cells,
+/// its system ID and its circuits' number. Its area addresses still fit one TLV.
 pub fn step_good()
-    ensures { (given : Given) (r : Router) (event : Event)
+    ensures good { (given : Given) (r : Router) (event : Event)
         → IsGoodGiven given → IsGoodEvent event
         → IsGoodRouter r → IsGoodRouter (step given r event).router }
+    ensures telling { (given : Given) (r : Router) (event : Event)
+        → IsTelling r → IsTelling (step given r event).router }
 {}
 
 /// The CSNP counter stands at 0 where the router isn't designated, before and after a step.
@@ -64,21 +76,40 @@ pub fn step_idle()
         → AreIdle r → AreIdle (step given r event).router }
 {}
 
-/// What a step tells of keys and contents: a new live LSP was taken or issued in it, and while the count of changes
-/// stands below its end, keys and contents stand.
+/// What a step tells of keys and contents: a new live LSP was taken or issued in it, and while the
+/// count of changes stands below its end, keys and contents stand.
 pub fn step_tells()
     ensures { (given : Given) (r : Router) (event : Event)
         → TellsBoth given event r (step given r event).router }
 {}
 
-/// The LSPs that are wanted are of one's own system.
+/// The LSPs that are wanted are of one's own system, and each of them has TLVs that fit the room.
 pub fn wanted_own()
-    ensures { (given : Given) (before r : Router) (level : Level) → length r.circuits ≤ 255
+    ensures own { (given : Given) (before r : Router) (level : Level) → length r.circuits ≤ 255
         → AllByRecursion (λ w. w.0 / 65536 ≡ r.config.system) (wanted given before r level) }
+    ensures issuable { (given : Given) (before r : Router) (level : Level) → IsTelling r
+        → AllByRecursion (λ w. IsIssuable (at r.config.keys level) w.1)
+        (wanted given before r level) }
 {}
 
-/// A split has at most 256 fragments. Where each entry fits a TLV and a fragment alone, each fragment fits the room, and
-/// the fragments say the entries in order, each once, up to the first that doesn't fit.
+/// A prefix of one's own isn't leaked over, and each other one is leaked as it is named first
+/// (RFC 5302 3). A pseudonode's LSPs have the LAN ID that the router's hellos give it.
+pub fn own_lsp_laws()
+    ensures own { (down : Bool) (leaks : List (ℕ × ℕ)) (prefixes : List (ℕ × Reach)) (p : ℕ)
+        (reach : Reach) → find prefixes p ≡ Some reach
+        → find (with_leaks down prefixes leaks) p ≡ Some reach }
+    ensures leaked { (down : Bool) (leaks : List (ℕ × ℕ)) (prefixes : List (ℕ × Reach)) (p : ℕ)
+        → find prefixes p ≡ None
+        → find (with_leaks down prefixes leaks) p
+        ≡ option_map (λ metric. record { metric = metric; down = down }) (find leaks p) }
+    ensures pseudonode { (r : Router) (place : ℕ) (c : Circuit) (level : Level)
+        → AllByRecursion (λ w. w.0 / 256 ≡ (oneself r.config place c).lan)
+        (pseudonode_lsp r place c level) }
+{}
+
+/// A split has at most 256 fragments. Where each entry fits a TLV and a fragment alone, each
+/// fragment fits the room, and the fragments say the entries in order, each once, up to the first
+/// that doesn't fit.
 pub fn split_laws()
     ensures count { (first : List ℕ) (items : List Item) (room : ℕ)
         → length (split first items room).fragments ≤ 256 }

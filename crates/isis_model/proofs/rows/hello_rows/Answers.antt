@@ -25,3 +25,6 @@ returns-clause-other_system c = refl
 
 pub returns-clause-other_boot : goal.returns-clause-other_boot
 returns-clause-other_boot c = refl
+
+pub returns-clause-own_before_snpa : goal.returns-clause-own_before_snpa
+returns-clause-own_before_snpa c = refl

@@ -16,3 +16,15 @@ returns-clause-changed_early c = refl
 
 pub returns-clause-changed : goal.returns-clause-changed
 returns-clause-changed c = refl
+
+pub returns-clause-number : goal.returns-clause-number
+returns-clause-number c = refl
+
+pub returns-clause-number_one : goal.returns-clause-number_one
+returns-clause-number_one c = refl
+
+pub returns-clause-exhausted : goal.returns-clause-exhausted
+returns-clause-exhausted c = refl
+
+pub returns-clause-full : goal.returns-clause-full
+returns-clause-full c = refl

@@ -35,6 +35,10 @@ pub returns-clause-same_lan : goal.returns-clause-same_lan
 unfolding put erase has with_one without only header_of set_cell lsp_case hear_lsp
 returns-clause-same_lan c = refl
 
+pub returns-clause-same_lan_clear : goal.returns-clause-same_lan_clear
+unfolding put erase has with_one without only header_of set_cell lsp_case hear_lsp
+returns-clause-same_lan_clear c = refl
+
 pub returns-clause-older : goal.returns-clause-older
 unfolding put erase has with_one without only header_of set_cell lsp_case hear_lsp
 returns-clause-older c = refl
@@ -42,3 +46,7 @@ returns-clause-older c = refl
 pub returns-clause-unheld : goal.returns-clause-unheld
 unfolding put erase has with_one without only header_of set_cell lsp_case hear_lsp
 returns-clause-unheld c = refl
+
+pub returns-clause-empty : goal.returns-clause-empty
+unfolding put erase has with_one without only header_of set_cell lsp_case hear_lsp
+returns-clause-empty c = refl

@@ -29,3 +29,7 @@ returns-clause-asked c = refl
 pub returns-clause-unasked : goal.returns-clause-unasked
 unfolding put erase has with_one without set_cell snp_case hear_entry
 returns-clause-unasked c = refl
+
+pub returns-clause-full : goal.returns-clause-full
+unfolding put erase has with_one without set_cell snp_case hear_entry
+returns-clause-full c = refl

@@ -6,7 +6,7 @@ use Rattle.isis_model.proofs.LevelWays.{age-way}
 use Rattle.isis_model.proofs.laws.flooding.age_keeps.Goals as goal
 
 any : (ℕ → ℕ → ℕ) → Hearing
-any heard = record { rank = heard; source = λ id rank content. Unit {0}; sane = ⊥; mine = λ id. Unit {0} }
+any heard = record { rank = heard; source = λ id rank content. Unit {0}; sane = ⊥; mine = λ id contents. Unit {0}; names = λ place id. Unit {0}; stirs = λ place. Unit {0} }
 
 pub returns : goal.returns
 unfolding any

@@ -6,8 +6,8 @@ use Rattle.isis_model.proofs.LevelWays.{take_lsp-way}
 use Rattle.isis_model.proofs.laws.flooding.take_lsp_keeps.Goals as goal
 
 any : (ℕ → ℕ → ℕ) → Hearing
-any heard = record { rank = heard; source = λ id rank content. Unit {0}; sane = ⊥; mine = λ id. Unit {0} }
+any heard = record { rank = heard; source = λ id rank content. Unit {0}; sane = ⊥; mine = λ id contents. Unit {0}; names = λ place id. Unit {0}; stirs = λ place. Unit {0} }
 
 pub returns : goal.returns
 unfolding any
-returns c heard scene s place w h k = way-keeps (any heard) s _ (take_lsp-way (any heard) scene (record { source = λ id number contents mine. tt; good = λ sane. absurd sane }) s place w h k tt (λ sane. absurd sane) (λ own. tt))
+returns c heard scene s place w h k = way-keeps (any heard) s _ (take_lsp-way (any heard) scene (record { source = λ id number contents mine. tt; good = λ sane. absurd sane }) s place w h k tt tt (λ sane. absurd sane) (λ own. tt))

@@ -1,5 +1,5 @@
 -- What holds of every state holds at the start.
-use Rattle.isis_model.proofs.StartLemmas.{start-sorted, start-good, start-follows, start-bonds, start-idle}
+use Rattle.isis_model.proofs.StartLemmas.{start-sorted, start-good, start-telling, start-follows, start-bonds, start-idle}
 use Rattle.isis_model.proofs.laws.states.start_laws.Goals as goal
 
 pub returns-clause-sorted : goal.returns-clause-sorted
@@ -7,6 +7,9 @@ returns-clause-sorted c = start-sorted
 
 pub returns-clause-good : goal.returns-clause-good
 returns-clause-good c = start-good
+
+pub returns-clause-telling : goal.returns-clause-telling
+returns-clause-telling c = start-telling
 
 pub returns-clause-follows : goal.returns-clause-follows
 returns-clause-follows c = start-follows

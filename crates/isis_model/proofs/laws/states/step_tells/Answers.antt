@@ -1,7 +1,7 @@
 -- Where new LSPs come from, and what the count of changes tells.
 use Rattle.isis_model.specs.Routers.{level_of}
 use Rattle.isis_model.specs.Steps.{step}
-use Rattle.isis_model.specs.StepLaws.{hearing}
+use Rattle.isis_model.specs.Hearings.{hearing}
 use Rattle.isis_model.proofs.StepWays.{step-course}
 use Rattle.isis_model.proofs.TellLemmas.{course-tells}
 use Rattle.isis_model.proofs.laws.states.step_tells.Goals as goal

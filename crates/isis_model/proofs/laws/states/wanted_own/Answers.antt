@@ -1,6 +1,10 @@
--- The LSPs that are wanted are of one's own system.
+-- The LSPs that are wanted are of one's own system, and may be issued.
 use Rattle.isis_model.proofs.WantedLemmas.{wanted-own}
+use Rattle.isis_model.proofs.OwnLemmas.{wanted-issuable}
 use Rattle.isis_model.proofs.laws.states.wanted_own.Goals as goal
 
-pub returns : goal.returns
-returns c = wanted-own
+pub returns-clause-own : goal.returns-clause-own
+returns-clause-own c = wanted-own
+
+pub returns-clause-issuable : goal.returns-clause-issuable
+returns-clause-issuable c given before r level telling = wanted-issuable given before r level telling.areas telling.circuits
