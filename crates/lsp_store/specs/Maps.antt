@@ -1,4 +1,4 @@
-use Rattle.std.specs.Prelude.{ℕ, ◌+◌, ◌≤◌, nat_lt, ◌==◌, List, [], ◌∷◌, Option, Some, None, if◌then◌else◌}
+use Rattle.std.specs.Prelude.{ℕ, ◌+◌, ◌≤◌, nat_lt, nat_le, ◌&&◌, ◌==◌, List, [], ◌∷◌, Option, Some, None, if◌then◌else◌}
 use Rattle.std.specs.Borrow.{Bor}
 use Rattle.isis_base.specs.declared.identifiers.LspId.{LspId}
 use Rattle.isis_base.specs.Identifiers.{lsp_number}
@@ -25,6 +25,17 @@ abbrev pub erase : {T : Type 0} → List (LspId × T) → ℕ → List (LspId ×
 erase [] n = []
 erase (pair ∷ pairs) n = if pair_number pair == n then pairs else pair ∷ erase pairs n
 
+-- pairs with the value of the first one of the number changed
+abbrev pub change_at : {T : Type 0} → (T → T) → List (LspId × T) → ℕ → List (LspId × T)
+change_at f [] n = []
+change_at f (pair ∷ pairs) n =
+    if pair_number pair == n then (pair.0, f pair.1) ∷ pairs else pair ∷ change_at f pairs n
+
+-- pairs with all values changed
+abbrev pub change_all : {T : Type 0} → (T → T) → List (LspId × T) → List (LspId × T)
+change_all f [] = []
+change_all f (pair ∷ pairs) = (pair.0, f pair.1) ∷ change_all f pairs
+
 -- the numbers rise, from `least` on
 abbrev pub RisesFrom : {T : Type 0} → ℕ → List (LspId × T) → Type 0
 RisesFrom least [] = Unit {0}
@@ -39,6 +50,14 @@ from start (pair ∷ pairs) = if nat_lt (pair_number pair) start then from start
 abbrev pub upto : {T : Type 0} → ℕ → List (LspId × T) → List (LspId × T)
 upto end [] = []
 upto end (pair ∷ pairs) = if nat_lt end (pair_number pair) then [] else pair ∷ upto end pairs
+
+-- the pairs whose numbers lie between two, both included
+abbrev pub between : {T : Type 0} → ℕ → ℕ → List (LspId × T) → List (LspId × T)
+between start end [] = []
+between start end (pair ∷ pairs) =
+    if nat_le start (pair_number pair) && nat_le (pair_number pair) end
+    then pair ∷ between start end pairs
+    else between start end pairs
 
 -- what an item of a walk shows
 abbrev pub pair_of : {T : Type 0} → LspId × Bor T → LspId × T

@@ -9,6 +9,7 @@
 //! - `places.rt`: where a pair is; `edits.rt`: pairs put in and taken out; `rooms.rt`: empty pages; `copy.rt`: equal maps
 #![tactic(auto)]
 
+mod change;
 mod entry;
 mod edits;
 mod fault;
@@ -16,16 +17,19 @@ mod live;
 mod page;
 mod pages;
 mod places;
+mod pairs;
 mod range;
 mod rooms;
 mod store;
 #[cfg(test)]
 mod tests;
 
+pub use change::Change;
 pub use entry::Entry;
 pub use fault::StoreFault;
 pub use live::Live;
 pub use page::Page;
 pub use pages::Pages;
+pub use pairs::Pairs;
 pub use range::PageRange;
 pub use store::Store;

@@ -1,15 +1,16 @@
+//! The walk over live entries.
 ghost use Rattle.std.specs.Prelude.{◌≡◌};
 ghost use Rattle.lsp_store.specs.Databases.{is_live};
 
 use crate::entry::Entry;
-use crate::range::PageRange;
+use crate::pairs::Pairs;
 use isis_base::LspId;
 use std::marker::Model;
 
 /// The live entries of a walk, in order. Contracts see those that are left.
 #[derive(Drop)]
 pub struct Live<'a> {
-    pub(crate) walk: PageRange<'a, Entry>,
+    pub(crate) walk: Pairs<'a, Entry>,
 }
 
 impl<'a> Model for Live<'a> {

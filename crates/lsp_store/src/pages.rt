@@ -1,13 +1,15 @@
 //! An ordered map from LSP IDs, in pages.
 ghost use Rattle.std.specs.Prelude.{◌≡◌, ℕ, ◌+◌, ◌<◌, ◌≤◌, ◌-◌, ◌^◌, ◌⊎◌, [], length, max, OnOk, OnErr, IfOk, IfErr, IsOk, IsSome, MatchOption, None, Some, vec_len, vec_capacity};
 ghost use Rattle.isis_base.specs.Identifiers.{lsp_number};
-ghost use Rattle.lsp_store.specs.Maps.{RisesFrom, find, put, erase, from, upto};
+ghost use Rattle.lsp_store.specs.Maps.{RisesFrom, find, put, erase, between, change_at, change_all};
 ghost use Rattle.lsp_store.specs.Places.{AllFilled, AllEmpty, HasRoom, flatten};
 ghost use Rattle.lsp_store.specs.PageMaps.{with_put, without};
 ghost use Rattle.lsp_store.specs.Rooms.{IsEnough};
 
+use crate::change::{Change, change_each, change_held};
 use crate::edits::{put_held, put_new, take_out};
 use crate::page::Page;
+use crate::pairs::Pairs;
 use crate::places::{search, value_at};
 use crate::rooms::{claim, fill_pool, pages_for};
 use crate::range::{PageRange, range_of};
@@ -79,6 +81,10 @@ impl<T: Drop> Pages<T> {
         }
         if more > usize::MAX - self.len {
             return Err(OutOfMemory);
+        }
+        if more <= self.pool.len() {
+            self.spare = more;
+            return Ok(());
         }
         let wanted = pages_for(&self.pages, more);
         match fill_pool(self.alloc, &mut self.pages, &mut self.pool, wanted) {
@@ -158,8 +164,35 @@ impl<T: Drop> Pages<T> {
 
     /// The pairs from one LSP ID to another, both included, in order.
     pub fn range(&self, start: LspId, end: LspId) -> PageRange<'_, T>
-        ensures { result ≡ upto (lsp_number end) (from (lsp_number start) self.now.entries) }
+        ensures { result ≡ between (lsp_number start) (lsp_number end) self.now.entries }
     {
         range_of(&self.pages, start.to_number(), end.to_number())
+    }
+
+    /// All pairs, in order.
+    pub fn pairs(&self) -> Pairs<'_, T>
+        ensures { result ≡ self.now.entries }
+    {
+        Pairs::new(&[], &self.pages)
+    }
+
+    /// Changes the LSP ID's value in place, where it has one.
+    pub fn change<C: Change<T>>(&mut self, id: LspId, change: &C)
+        ensures entries { self.new.entries ≡ change_at (C.changed change.now) self.old.entries (lsp_number id) }
+        ensures spare { self.new.spare ≡ self.old.spare }
+    {
+        let n = id.to_number();
+        match search(&self.pages, n) {
+            Ok(at) => change_held(&mut self.pages, at, n, change),
+            Err(_) => {}
+        }
+    }
+
+    /// Changes all values in place.
+    pub fn change_all<C: Change<T>>(&mut self, change: &C)
+        ensures entries { self.new.entries ≡ change_all (C.changed change.now) self.old.entries }
+        ensures spare { self.new.spare ≡ self.old.spare }
+    {
+        change_each(&mut self.pages, change);
     }
 }

@@ -1,6 +1,6 @@
 ghost use Rattle.std.specs.Prelude.{◌≡◌, ℕ, ◌+◌, ◌<◌, ◌≤◌, [], length, max, OnOk, OnErr, IfOk, IfErr, IsOk, IsSome, MatchOption, None, Some, Err, true, false, ◌⊎◌, ◌-◌, ◌^◌};
 ghost use Rattle.isis_base.specs.Identifiers.{lsp_number};
-ghost use Rattle.lsp_store.specs.Maps.{find, from, upto};
+ghost use Rattle.lsp_store.specs.Maps.{find, between};
 ghost use Rattle.lsp_store.specs.declared.fault.StoreFault.TheVariants.{Full, OutOfMemory};
 ghost use Rattle.lsp_store.specs.Databases.{count_after, key_of, with_entry, without_entry, PutCause, ReserveCause, is_live, is_live_key, live_of};
 
@@ -159,19 +159,17 @@ impl Store {
 
     /// The entries from one LSP ID to another, both included, in order.
     pub fn range(&self, start: LspId, end: LspId) -> PageRange<'_, Entry>
-        ensures { result ≡ upto (lsp_number end) (from (lsp_number start) self.now.entries) }
+        ensures { result ≡ between (lsp_number start) (lsp_number end) self.now.entries }
     {
         self.pages.range(start, end)
     }
 
     /// The entries with a key that isn't purged, in order.
     pub fn live(&self) -> Live<'_>
-        ensures { result ≡ live_of (upto (2 ^ 64 - 1) (from 0 self.now.entries)) }
+        ensures { result ≡ live_of self.now.entries }
     {
-        let first = LspId::from_number(0);
-        let last = LspId::from_number(u64::MAX);
         Live {
-            walk: self.pages.range(first, last),
+            walk: self.pages.pairs(),
         }
     }
 
