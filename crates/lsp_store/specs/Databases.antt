@@ -6,7 +6,7 @@ use Rattle.isis_base.specs.Keys.{rank}
 use Rattle.lsp_store.specs.declared.entry.Entry.{Entry}
 use Rattle.lsp_store.specs.declared.fault.StoreFault.{StoreFault}
 use Rattle.lsp_store.specs.declared.fault.StoreFault.TheVariants.{Full, OutOfMemory}
-use Rattle.lsp_store.specs.Maps.{find, put, erase}
+use Rattle.lsp_store.specs.Maps.{find, put, erase, change_at}
 
 -- the database of a level: the entries in order, for how many more of them memory is taken already, and how often a key changed
 pub record Database : Type 0 where
@@ -34,6 +34,14 @@ with_entry old id entry = record {
 -- without the number's entry
 abbrev pub without_entry : Database → ℕ → Database
 without_entry old n = record { entries = erase old.entries n; spare = old.spare; changes = count_after old.changes (key_of (find old.entries n)) None }
+
+-- with the number's entry changed, where there is one
+abbrev pub with_change : Database → ℕ → (Entry → Entry) → Database
+with_change old n f = record {
+  entries = change_at f old.entries n;
+  spare = old.spare;
+  changes = count_after old.changes (key_of (find old.entries n)) (key_of (find (change_at f old.entries n) n));
+}
 
 -- when an entry isn't put: the LSP ID has none, and 65,536 are there; or else it has none, and no room is spare
 abbrev pub PutCause : Database → ℕ → StoreFault → Type 0

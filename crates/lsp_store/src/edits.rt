@@ -170,9 +170,50 @@ pub(crate) fn take_out<T>(
 {
     let value = pages[at.0].remove(at.1);
     if pages[at.0].len() > 0 {
+        join_beside(pages, pool, at.0);
         return value;
     }
     let page = pages.remove(at.0);
     pool.push_reserved(page);
     value
+}
+
+/// Joins a page that has shrunk with the next one or the one before, where both together have at most 32 pairs.
+fn join_beside<T>(pages: &mut Vec<Page<T>>, pool: &mut Vec<Page<T>>, k: usize)
+    requires inside { k < length pages.old.items }
+    requires filled { AllFilled pages.old.items }
+    requires empty { AllEmpty pool.old.items }
+    requires room { HasRoom (vec_len pages.old) (vec_len pool.old) (vec_capacity pages.old) (vec_capacity pool.old) }
+    ensures all { flatten pages.new.items ≡ flatten pages.old.items }
+    ensures filled { AllFilled pages.new.items }
+    ensures empty { AllEmpty pool.new.items }
+    ensures enough { (spare : ℕ) → IsEnough pages.old.items (vec_len pool.old) spare → IsEnough pages.new.items (vec_len pool.new) spare }
+    ensures room { HasRoom (vec_len pages.new) (vec_len pool.new) (vec_capacity pages.new) (vec_capacity pool.new) }
+{
+    let here = pages[k].len();
+    if k + 1 < pages.len() && here + pages[k + 1].len() <= PAGE_PAIRS / 2 {
+        join(pages, pool, k);
+        return;
+    }
+    if k > 0 && pages[k - 1].len() + here <= PAGE_PAIRS / 2 {
+        join(pages, pool, k - 1);
+    }
+}
+
+/// Joins a page with the next one, which is kept then as an empty one.
+fn join<T>(pages: &mut Vec<Page<T>>, pool: &mut Vec<Page<T>>, k: usize)
+    requires inside { k + 1 < length pages.old.items }
+    requires few { length (slice_index_or pages.old.items k []) + length (slice_index_or pages.old.items (k + 1) []) ≤ 32 }
+    requires filled { AllFilled pages.old.items }
+    requires empty { AllEmpty pool.old.items }
+    requires room { HasRoom (vec_len pages.old) (vec_len pool.old) (vec_capacity pages.old) (vec_capacity pool.old) }
+    ensures all { flatten pages.new.items ≡ flatten pages.old.items }
+    ensures filled { AllFilled pages.new.items }
+    ensures empty { AllEmpty pool.new.items }
+    ensures enough { (spare : ℕ) → IsEnough pages.old.items (vec_len pool.old) spare → IsEnough pages.new.items (vec_len pool.new) spare }
+    ensures room { HasRoom (vec_len pages.new) (vec_len pool.new) (vec_capacity pages.new) (vec_capacity pool.new) }
+{
+    let mut upper = pages.remove(k + 1);
+    pages[k].append(&mut upper);
+    pool.push_reserved(upper);
 }

@@ -10,6 +10,7 @@
 #![tactic(auto)]
 
 mod change;
+mod copy;
 mod entry;
 mod edits;
 mod fault;
@@ -25,6 +26,7 @@ mod store;
 mod tests;
 
 pub use change::Change;
+pub use copy::TryCopy;
 pub use entry::Entry;
 pub use fault::StoreFault;
 pub use live::Live;

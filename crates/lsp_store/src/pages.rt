@@ -7,6 +7,7 @@ ghost use Rattle.lsp_store.specs.PageMaps.{with_put, without};
 ghost use Rattle.lsp_store.specs.Rooms.{IsEnough};
 
 use crate::change::{Change, change_each, change_held};
+use crate::copy::{TryCopy, copy_pages};
 use crate::edits::{put_held, put_new, take_out};
 use crate::page::Page;
 use crate::pairs::Pairs;
@@ -194,5 +195,32 @@ impl<T: Drop> Pages<T> {
         ensures spare { self.new.spare ≡ self.old.spare }
     {
         change_each(&mut self.pages, change);
+    }
+}
+
+impl<T: Drop + TryCopy> Pages<T> {
+    /// An equal map, for as many more pairs of which memory is taken.
+    pub fn copy(&self) -> Result<Pages<T>, OutOfMemory>
+        ensures { IfOk result (λ copy. copy ≡ self.now) }
+    {
+        let pages = match copy_pages(self.alloc, &self.pages) {
+            Ok(pages) => pages,
+            Err(fault) => return Err(fault),
+        };
+        let pool = match Vec::with_capacity(self.alloc, pages.len()) {
+            Ok(pool) => pool,
+            Err(_) => return Err(OutOfMemory),
+        };
+        let mut copy = Pages {
+            alloc: self.alloc,
+            pages,
+            pool,
+            len: self.len,
+            spare: 0,
+        };
+        match copy.reserve(self.spare) {
+            Ok(()) => Ok(copy),
+            Err(fault) => Err(fault),
+        }
     }
 }

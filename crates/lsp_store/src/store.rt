@@ -1,15 +1,17 @@
+//! One level's link state database.
 ghost use Rattle.std.specs.Prelude.{◌≡◌, ℕ, ◌+◌, ◌<◌, ◌≤◌, [], length, max, OnOk, OnErr, IfOk, IfErr, IsOk, IsSome, MatchOption, None, Some, Err, true, false, ◌⊎◌, ◌-◌, ◌^◌};
 ghost use Rattle.isis_base.specs.Identifiers.{lsp_number};
 ghost use Rattle.lsp_store.specs.Maps.{find, between};
 ghost use Rattle.lsp_store.specs.declared.fault.StoreFault.TheVariants.{Full, OutOfMemory};
-ghost use Rattle.lsp_store.specs.Databases.{count_after, key_of, with_entry, without_entry, PutCause, ReserveCause, is_live, is_live_key, live_of};
+ghost use Rattle.lsp_store.specs.Databases.{count_after, key_of, with_entry, without_entry, with_change, PutCause, ReserveCause, is_live, is_live_key, live_of};
 
+use crate::change::Change;
 use crate::entry::Entry;
 use crate::fault::StoreFault;
 use crate::pages::Pages;
 use crate::live::Live;
 use crate::range::PageRange;
-use isis_base::{Key, LspId, Order3, newer};
+use isis_base::{Key, LspId, Order3, OutOfMemory, newer};
 use std::alloc::Global;
 use std::marker::Model;
 
@@ -171,6 +173,34 @@ impl Store {
         Live {
             walk: self.pages.pairs(),
         }
+    }
+
+    /// Changes the LSP ID's entry in place, where it has one.
+    pub fn change<C: Change<Entry>>(&mut self, id: LspId, change: &C)
+        ensures { self.new ≡ with_change self.old (lsp_number id) (C.changed change.now) }
+    {
+        let before = self.key(id);
+        self.pages.change(id, change);
+        self.changes = recount(self.changes, before, self.key(id));
+    }
+
+    /// The key that the LSP ID's entry has; none where it has no entry, or an empty one.
+    pub fn key(&self, id: LspId) -> Option<Key>
+        ensures { result ≡ key_of (find self.now.entries (lsp_number id)) }
+    {
+        match self.pages.get(id) {
+            Some(entry) => entry.key,
+            None => None,
+        }
+    }
+
+    /// An equal store, with as many entries spare.
+    pub fn copy(&self) -> Result<Store, OutOfMemory>
+        ensures { IfOk result (λ copy. copy ≡ self.now) }
+    {
+        let pages = self.pages.copy()?;
+        let changes = self.changes;
+        Ok(Store { pages, changes })
     }
 
     /// The pages, lent.

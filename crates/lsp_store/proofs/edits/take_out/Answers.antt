@@ -11,14 +11,15 @@ use Rattle.lsp_store.proofs.edits.take_out.Goals as goal
 pub returns-then-len-gt0-clause-old : goal.returns-then-len-gt0-clause-old
 returns-then-len-gt0-clause-old g c = held-taken c.args.pages.now.items c.args.n c.args.at c.requires.at c.index_mut.result.now c.index_mut.ensures.value c.remove-value.result c.remove-value.ensures.old
 
-pub returns-then-len-gt0-clause-all : goal.returns-then-len-gt0-clause-all
-returns-then-len-gt0-clause-all g c = held-erased c.args.pages.now.items c.args.n c.args.at c.requires.at c.index_mut.result.now c.index_mut.ensures.value c.remove-value.new.self c.remove-value.ensures.new
-
-pub returns-then-len-gt0-clause-filled : goal.returns-then-len-gt0-clause-filled
-returns-then-len-gt0-clause-filled g c =
+pub join_beside-requires-clause-filled : goal.join_beside-requires-clause-filled
+join_beside-requires-clause-filled g c =
     let read = c.index.ensures ∙ get_or-set_same c.args.pages.now.items c.args.at.0 c.remove-value.new.self c.index.result.now c.requires.at.home.inside in
     let len = c.len.ensures.same ∙ ap length read in
     held-left c.args.pages.now.items c.args.n c.args.at c.requires.at c.index_mut.result.now c.index_mut.ensures.value c.remove-value.new.self c.remove-value.ensures.new c.requires.filled (let h = c.if-len-gt0.true in omega (arith, len, h))
+
+pub returns-then-len-gt0-clause-all : goal.returns-then-len-gt0-clause-all
+returns-then-len-gt0-clause-all g c =
+    c.join_beside.ensures.all ∙ held-erased c.args.pages.now.items c.args.n c.args.at c.requires.at c.index_mut.result.now c.index_mut.ensures.value c.remove-value.new.self c.remove-value.ensures.new
 
 pub returns-clause-old : goal.returns-clause-old
 returns-clause-old g c = held-taken c.args.pages.now.items c.args.n c.args.at c.requires.at c.index_mut.result.now c.index_mut.ensures.value c.remove-value.result c.remove-value.ensures.old
@@ -47,7 +48,7 @@ returns-then-len-gt0-clause-enough g c spare enough =
     let less = length-remove c.index_mut.result.now c.args.at.1 (let h = c.requires.at.place.inside in omega (arith, h, same)) in
     let len = ap length c.remove-value.ensures.new in
     let le = strain-set c.args.pages.now.items c.args.at.0 0 c.remove-value.new.self c.requires.at.home.inside (omega (arith, same, len, less)) in
-    enough-stays c.args.pages.now.items (set c.args.pages.now.items c.args.at.0 c.remove-value.new.self) (vec_len c.args.pool.now) (vec_len c.args.pool.now) spare spare (omega arith) (omega arith) (omega (arith, le)) enough
+    c.join_beside.ensures.enough spare (enough-stays c.args.pages.now.items (set c.args.pages.now.items c.args.at.0 c.remove-value.new.self) (vec_len c.args.pool.now) (vec_len c.args.pool.now) spare spare (omega arith) (omega arith) (omega (arith, le)) enough)
 
 pub returns-clause-enough : goal.returns-clause-enough
 returns-clause-enough g c spare enough =
