@@ -57,9 +57,10 @@ impl<T: Drop> Pages<T> {
         }
     }
 
-    /// The number of pairs.
+    /// The number of pairs, which are in order of LSP ID, each LSP ID at most once.
     pub fn len(&self) -> usize
-        ensures { result ≡ length self.now.entries }
+        ensures same { result ≡ length self.now.entries }
+        ensures rises { RisesFrom 0 self.now.entries }
     {
         self.len
     }

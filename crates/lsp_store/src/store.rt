@@ -1,7 +1,7 @@
 //! One level's link state database.
 ghost use Rattle.std.specs.Prelude.{◌≡◌, ℕ, ◌+◌, ◌<◌, ◌≤◌, [], length, max, OnOk, OnErr, IfOk, IfErr, IsOk, IsSome, MatchOption, None, Some, Err, true, false, ◌⊎◌, ◌-◌, ◌^◌};
 ghost use Rattle.isis_base.specs.Identifiers.{lsp_number};
-ghost use Rattle.lsp_store.specs.Maps.{find, between};
+ghost use Rattle.lsp_store.specs.Maps.{RisesFrom, find, between};
 ghost use Rattle.lsp_store.specs.declared.fault.StoreFault.TheVariants.{Full, OutOfMemory};
 ghost use Rattle.lsp_store.specs.Databases.{count_after, key_of, with_entry, without_entry, with_change, PutCause, ReserveCause, is_live, is_live_key, live_of};
 
@@ -26,11 +26,14 @@ pub struct Store {
 }
 
 impl Model for Store {
+    ghost use Rattle.std.specs.Prelude.{length, ◌≤◌};
     ghost use Rattle.lsp_store.specs.Databases.{Database};
 
     ghost Value = { Database };
 
     ghost view = { λ s. record { entries = s.pages.entries; spare = s.pages.spare; changes = s.changes } };
+
+    ghost invariant = { λ s. length s.pages.entries ≤ 65536 };
 }
 
 /// How often a key changed, where it was one and is another.
@@ -67,9 +70,11 @@ impl Store {
         }
     }
 
-    /// The number of entries.
+    /// The number of entries: at most 65,536, in order of LSP ID, and each LSP ID at most once.
     pub fn len(&self) -> usize
-        ensures { result ≡ length self.now.entries }
+        ensures same { result ≡ length self.now.entries }
+        ensures most { result ≤ 65536 }
+        ensures rises { RisesFrom 0 self.now.entries }
     {
         self.pages.len()
     }
@@ -96,7 +101,7 @@ impl Store {
         ensures err { OnErr result (self.new ≡ self.old) }
     {
         let len = self.pages.len();
-        if len > ENTRY_LIMIT || more > ENTRY_LIMIT - len {
+        if more > ENTRY_LIMIT - len {
             return Err(StoreFault::Full);
         }
         match self.pages.reserve(more) {
@@ -116,6 +121,7 @@ impl Store {
     fn is_full_for(&self, id: LspId) -> bool
         ensures yes { result ≡ true → (find self.now.entries (lsp_number id) ≡ None) × (65536 ≤ length self.now.entries) }
         ensures no { result ≡ false → (length self.now.entries < 65536) ⊎ IsSome (find self.now.entries (lsp_number id)) }
+        ensures rises { RisesFrom 0 self.now.entries }
     {
         if self.pages.len() < ENTRY_LIMIT {
             return false;
