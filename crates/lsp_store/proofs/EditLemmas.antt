@@ -160,3 +160,8 @@ pub put-bound : {T : Type 0} (id : LspId) (v : T) (page new : List (LspId × T))
 put-bound id v page new up r =
     let len = ap length r ∙ length-put page 0 id v up in
     subst (λ (m : ℕ). m ≤ length page + 1) (sym len) (choose (λ t. (if t then length page else length page + 1) ≤ length page + 1) (is_some (find page (lsp_number id))) (omega arith) (omega arith))
+
+pub put-grows : {T : Type 0} (id : LspId) (v : T) (page new : List (LspId × T)) → RisesFrom 0 page → new ≡ put page id v → length page ≤ length new
+put-grows id v page new up r =
+    let len = ap length r ∙ length-put page 0 id v up in
+    subst (λ (m : ℕ). length page ≤ m) (sym len) (choose (λ t. length page ≤ (if t then length page else length page + 1)) (is_some (find page (lsp_number id))) (omega arith) (omega arith))

@@ -4,13 +4,10 @@ use Rattle.std.specs.List.{remove}
 use Rattle.std.proofs.lemmas.List.{append_assoc, get_or_default}
 use Rattle.isis_base.specs.declared.identifiers.LspId.{LspId}
 use Rattle.lsp_store.specs.Places.{flatten, AllFilled}
+use Rattle.lsp_store.specs.PageFacts.{joined}
 use Rattle.lsp_store.specs.Rooms.{strain}
 use Rattle.lsp_store.proofs.RoomLemmas.{strain-le}
 use Rattle.lsp_store.proofs.PageLemmas.{filled-at, filled-set, filled-remove}
-
--- the pages with the pairs of the next page behind those of one
-abbrev pub joined : {T : Type 0} → List (List (LspId × T)) → ℕ → List (List (LspId × T))
-joined pages k = set (remove pages (suc k)) k (get_or pages k [] ++ get_or pages (suc k) [])
 
 at-removed : {T : Type 0} (pages : List (List (LspId × T))) (k : ℕ) (d : List (LspId × T)) → suc k < length pages → get_or (remove pages (suc k)) k d ≡ get_or pages k d
 at-removed [] k d lt = absurd (omega arith)

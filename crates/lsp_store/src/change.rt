@@ -2,7 +2,7 @@
 ghost use Rattle.std.specs.Prelude.{◌≡◌, ℕ, ◌+◌, ◌<◌, ◌≤◌, length, slice_get, IfSome, set, vec_len, vec_capacity};
 ghost use Rattle.lsp_store.specs.Maps.{change_at, change_all};
 ghost use Rattle.lsp_store.specs.Places.{IsHeldAt, AllFilled, flatten};
-ghost use Rattle.lsp_store.specs.Rooms.{strain};
+ghost use Rattle.lsp_store.specs.Rooms.{strain, AreDense};
 ghost use Rattle.lsp_store.specs.PageFacts.{change_pages};
 
 use crate::page::Page;
@@ -27,9 +27,11 @@ pub(crate) fn change_held<T, C: Change<T>>(
 )
     requires at { IsHeldAt pages.old.items n at }
     requires filled { AllFilled pages.old.items }
+    requires dense { AreDense pages.old.items }
     ensures all { flatten pages.new.items ≡ change_at (C.changed change.now) (flatten pages.old.items) n }
     ensures strain { strain pages.new.items ≤ strain pages.old.items }
     ensures filled { AllFilled pages.new.items }
+    ensures dense { AreDense pages.new.items }
     ensures len { vec_len pages.new ≡ vec_len pages.old }
     ensures capacity { vec_capacity pages.new ≡ vec_capacity pages.old }
 {

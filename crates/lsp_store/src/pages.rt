@@ -4,7 +4,7 @@ ghost use Rattle.isis_base.specs.Identifiers.{lsp_number};
 ghost use Rattle.lsp_store.specs.Maps.{RisesFrom, find, put, erase, between, change_at, change_all};
 ghost use Rattle.lsp_store.specs.Places.{AllFilled, AllEmpty, HasRoom, flatten};
 ghost use Rattle.lsp_store.specs.PageMaps.{with_put, without};
-ghost use Rattle.lsp_store.specs.Rooms.{IsEnough};
+ghost use Rattle.lsp_store.specs.Rooms.{IsEnough, AreDense};
 
 use crate::change::{Change, change_each, change_held};
 use crate::copy::{TryCopy, copy_pages};
@@ -155,10 +155,12 @@ impl<T: Drop> Pages<T> {
         }
     }
 
-    /// The pages, lent: of 1 to 64 pairs each, which are those of the map in order, one page after another.
+    /// The pages, lent: of 1 to 64 pairs each, and any two neighbours of more than 32 together. Their pairs are those of
+    /// the map in order, one page after another.
     pub fn list(&self) -> &[Page<T>]
         ensures all { flatten result.now ≡ self.now.entries }
         ensures filled { AllFilled result.now }
+        ensures dense { AreDense result.now }
         ensures rises { RisesFrom 0 self.now.entries }
     {
         self.pages.as_slice()

@@ -34,3 +34,9 @@ returns-clause-enough g c spare enough =
     let le = joined-strain pages c.args.k lt few in
     let more = c.push_reserved.ensures.len in
     enough-stays pages _ (vec_len c.args.pool.now) (vec_len c.push_reserved.new.self) spare spare (omega arith) (omega (arith, more)) (omega (arith, le, new, more)) enough
+
+pub returns-clause-pages : goal.returns-clause-pages
+returns-clause-pages g c =
+    let pages = c.args.pages.now.items in
+    let lt : suc c.args.k < length pages = let i = c.requires.inside in omega (arith, i) in
+    is-joined pages c.remove-upper.new.self.items c.args.k (c.args.k + 1) c.index_mut.result.now c.remove-upper.result c.append.new.self lt (omega arith) c.remove-upper.ensures.items c.remove-upper.ensures.value c.index_mut.ensures.value c.append.ensures.all

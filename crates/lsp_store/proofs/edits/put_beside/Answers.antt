@@ -4,6 +4,8 @@ use Rattle.lsp_store.specs.Places.{flatten}
 use Rattle.lsp_store.proofs.RoomLemmas.{strain-set}
 use Rattle.lsp_store.proofs.PageLemmas.{page-rises, put-home}
 use Rattle.lsp_store.proofs.EditLemmas.{is-page, put-filled, put-bound}
+use Rattle.lsp_store.proofs.EditLemmas.{put-grows}
+use Rattle.lsp_store.proofs.DenseLemmas.{dense-set}
 use Rattle.lsp_store.proofs.edits.put_beside.Goals as goal
 
 pub put-requires-clause-rises : goal.put-requires-clause-rises
@@ -43,3 +45,13 @@ returns-clause-strain g c =
     let le = strain-set half.new.pages.items half.result 1 c.put.new.self half.ensures.home.inside (omega (arith, same, len)) in
     let less = half.ensures.strain in
     omega (arith, le, less)
+
+pub returns-clause-dense : goal.returns-clause-dense
+returns-clause-dense g c =
+    let half = c.split_page-half in
+    let up = subst (RisesFrom 0) (sym half.ensures.all) c.requires.rises in
+    let page = is-page half.new.pages.items half.result c.index_mut.result.now half.ensures.home.inside c.index_mut.ensures.value in
+    let rises = subst (RisesFrom 0) (sym page) (page-rises half.new.pages.items half.result [] up half.ensures.home.inside) in
+    let grows = put-grows c.args.id c.args.value c.index_mut.result.now c.put.new.self rises c.put.ensures.new in
+    let same = ap length page in
+    dense-set half.new.pages.items half.result c.put.new.self half.ensures.home.inside (omega (arith, grows, same)) half.ensures.dense

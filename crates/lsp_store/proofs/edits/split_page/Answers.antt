@@ -5,6 +5,8 @@ use Rattle.lsp_store.specs.Rooms.{strain}
 use Rattle.lsp_store.proofs.RoomLemmas.{strain-halves}
 use Rattle.lsp_store.proofs.PageLemmas.{is-halves, flat-halves, halves-filled, halves-lower, halves-upper, lower-room, upper-room}
 use Rattle.std.proofs.lemmas.List.{get_or_default}
+use Rattle.lsp_store.specs.Rooms.{AreDense}
+use Rattle.lsp_store.proofs.DenseLemmas.{dense-halves}
 use Rattle.lsp_store.proofs.edits.split_page.Goals as goal
 
 pub returns-then-n-first-clause-all : goal.returns-then-n-first-clause-all
@@ -86,3 +88,17 @@ returns-clause-strain g c =
     let new = is-halves c.args.pages.now.items c.insert.new.self.items c.args.k c.cut_of-cut.result c.index_mut.result.now c.split.new.self c.split.new.upper c.requires.home.inside c.index_mut.ensures.value c.split.ensures.lower c.split.ensures.upper items in
     let cut : (c.cut_of-cut.result ≡ 32) ⊎ ((c.cut_of-cut.result ≡ 63) × (c.args.k + 1 ≡ length c.args.pages.now.items)) = elim c.cut_of-cut.ensures [ inl e ↦ inl e | inr e ↦ inr (e.0, let h = e.1 in rw c.deref.ensures.value at h) ] in
     subst (λ (ps : List (List _)). strain ps + 32 ≤ strain c.args.pages.now.items) (sym new) (strain-halves c.args.pages.now.items c.args.k c.cut_of-cut.result c.requires.home.inside c.requires.full cut)
+
+pub returns-then-n-first-clause-dense : goal.returns-then-n-first-clause-dense
+returns-then-n-first-clause-dense g c =
+    let items = rw c.unwrap.ensures at c.insert.ensures.items in
+    let new = is-halves c.args.pages.now.items c.insert.new.self.items c.args.k c.cut_of-cut.result c.index_mut.result.now c.split.new.self c.split.new.upper c.requires.home.inside c.index_mut.ensures.value c.split.ensures.lower c.split.ensures.upper items in
+    let cut : (c.cut_of-cut.result ≡ 32) ⊎ ((c.cut_of-cut.result ≡ 63) × (c.args.k + 1 ≡ length c.args.pages.now.items)) = elim c.cut_of-cut.ensures [ inl e ↦ inl e | inr e ↦ inr (e.0, let h = e.1 in rw c.deref.ensures.value at h) ] in
+    subst AreDense (sym new) (dense-halves c.args.pages.now.items c.args.k c.cut_of-cut.result c.requires.home.inside c.requires.full cut c.requires.filled c.requires.dense)
+
+pub returns-clause-dense : goal.returns-clause-dense
+returns-clause-dense g c =
+    let items = rw c.unwrap.ensures at c.insert.ensures.items in
+    let new = is-halves c.args.pages.now.items c.insert.new.self.items c.args.k c.cut_of-cut.result c.index_mut.result.now c.split.new.self c.split.new.upper c.requires.home.inside c.index_mut.ensures.value c.split.ensures.lower c.split.ensures.upper items in
+    let cut : (c.cut_of-cut.result ≡ 32) ⊎ ((c.cut_of-cut.result ≡ 63) × (c.args.k + 1 ≡ length c.args.pages.now.items)) = elim c.cut_of-cut.ensures [ inl e ↦ inl e | inr e ↦ inr (e.0, let h = e.1 in rw c.deref.ensures.value at h) ] in
+    subst AreDense (sym new) (dense-halves c.args.pages.now.items c.args.k c.cut_of-cut.result c.requires.home.inside c.requires.full cut c.requires.filled c.requires.dense)

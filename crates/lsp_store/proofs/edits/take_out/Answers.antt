@@ -6,6 +6,8 @@ use Rattle.lsp_store.specs.Rooms.{strain}
 use Rattle.lsp_store.proofs.RoomLemmas.{strain-set, strain-given_up, enough-stays}
 use Rattle.lsp_store.proofs.PageLemmas.{empty-push}
 use Rattle.lsp_store.proofs.EditLemmas.{is-page, held-taken, held-erased, held-left, flat-given_up, filled-given_up, none-left}
+use Rattle.lsp_store.specs.Rooms.{AreDense}
+use Rattle.lsp_store.proofs.DenseLemmas.{nearly-set, dense-given_up}
 use Rattle.lsp_store.proofs.edits.take_out.Goals as goal
 
 pub returns-then-len-gt0-clause-old : goal.returns-then-len-gt0-clause-old
@@ -56,3 +58,20 @@ returns-clause-enough g c spare enough =
     let items = ap strain c.remove-page.ensures.items in
     let more = c.push_reserved.ensures.len in
     enough-stays c.args.pages.now.items c.remove-page.new.self.items (vec_len c.args.pool.now) (vec_len c.push_reserved.new.self) spare spare (omega arith) (omega (arith, more)) (omega (arith, le, items, more)) enough
+
+pub join_beside-requires-clause-nearly : goal.join_beside-requires-clause-nearly
+join_beside-requires-clause-nearly g c =
+    let same = ap length (is-page c.args.pages.now.items c.args.at.0 c.index_mut.result.now c.requires.at.home.inside c.index_mut.ensures.value) in
+    let less = length-remove c.index_mut.result.now c.args.at.1 (let h = c.requires.at.place.inside in omega (arith, h, same)) in
+    let len = ap length c.remove-value.ensures.new in
+    nearly-set c.args.pages.now.items c.args.at.0 c.remove-value.new.self c.requires.at.home.inside (omega (arith, same, len, less)) c.requires.dense
+
+pub returns-clause-dense : goal.returns-clause-dense
+returns-clause-dense g c =
+    let read = c.index.ensures ∙ get_or-set_same c.args.pages.now.items c.args.at.0 c.remove-value.new.self c.index.result.now c.requires.at.home.inside in
+    let left = c.len.ensures.same ∙ ap length read in
+    let none = c.if-len-gt0.false in
+    let same = ap length (is-page c.args.pages.now.items c.args.at.0 c.index_mut.result.now c.requires.at.home.inside c.index_mut.ensures.value) in
+    let less = length-remove c.index_mut.result.now c.args.at.1 (let h = c.requires.at.place.inside in omega (arith, h, same)) in
+    let len = ap length c.remove-value.ensures.new in
+    subst AreDense (sym c.remove-page.ensures.items) (dense-given_up c.args.pages.now.items c.args.at.0 c.remove-value.new.self c.requires.at.home.inside (omega (arith, same, len, less, left, none)) c.requires.dense)

@@ -19,6 +19,7 @@ invariant_of-self g c =
     let size = old.size in
     record {
       filled = out.filled;
+      dense = out.dense;
       empty = old.empty;
       rises = subst (RisesFrom 0) (sym out.all) (change-rises f c.to_number-n.result 0 all old.rises);
       size = omega (arith, same, len, size);

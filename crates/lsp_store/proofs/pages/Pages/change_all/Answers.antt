@@ -2,10 +2,11 @@ use Rattle.std.proofs.Common.{length, sym, subst, ap, ◌∙◌, arith}
 use Rattle.std.specs.Prelude.{vec_len}
 use Rattle.lsp_store.specs.Maps.{RisesFrom, change_all}
 use Rattle.lsp_store.specs.Places.{flatten, AllFilled}
-use Rattle.lsp_store.specs.Rooms.{strain}
+use Rattle.lsp_store.specs.Rooms.{strain, AreDense}
 use Rattle.lsp_store.specs.PageMaps.{PageMap}
 use Rattle.lsp_store.proofs.RoomLemmas.{enough-stays}
 use Rattle.lsp_store.proofs.ChangeLemmas.{all-rises, length-change_all, pages-flat, pages-filled, pages-strain}
+use Rattle.lsp_store.proofs.DenseLemmas.{dense-change}
 use Rattle.lsp_store.proofs.pages.Pages.change_all.Goals as goal
 
 pub invariant_of-self : goal.invariant_of-self
@@ -23,6 +24,7 @@ invariant_of-self g c =
     record {
       filled = subst AllFilled (sym out.all) (pages-filled f pages old.filled);
       empty = old.empty;
+      dense = subst AreDense (sym out.all) (dense-change f pages old.dense);
       rises = subst (RisesFrom 0) (sym flat) (all-rises f 0 all old.rises);
       size = omega (arith, same, len, size);
       enough = enough-stays pages c.change_each.new.pages.items (vec_len c.self.inside.pool) (vec_len c.self.inside.pool) c.self.inside.spare c.self.inside.spare (omega arith) (omega arith) (omega (arith, few)) old.enough;

@@ -17,6 +17,7 @@ invariant_of-self g c =
     let count = old.size in
     record {
       filled = out.filled;
+      dense = out.dense;
       empty = old.empty;
       rises = subst (RisesFrom 0) (sym out.all) (put-rises (flatten c.self.inside.pages.items) 0 c.args.id c.args.value zero-le old.rises);
       size = omega (arith, same, len, count);
@@ -41,6 +42,7 @@ invariant_of-self-in-Err g c =
     let fits = claim.fits in
     record {
       filled = out.filled;
+      dense = out.dense;
       empty = out.empty;
       rises = subst (RisesFrom 0) (sym all) (put-rises (flatten c.self.inside.pages.items) 0 c.args.id c.args.value zero-le old.rises);
       size = omega (arith, more, len, count);

@@ -16,6 +16,7 @@ invariant_of-self g c =
     let fits = old.fits in
     record {
       filled = out.filled;
+      dense = out.dense;
       empty = out.empty;
       rises = subst (RisesFrom 0) (sym out.all) (erase-rises (flatten c.self.inside.pages.items) 0 c.to_number-n.result old.rises);
       size = omega (arith, less, len, count);
