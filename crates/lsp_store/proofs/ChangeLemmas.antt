@@ -1,11 +1,11 @@
 -- Values changed in place, by pairs and by pages.
-use Rattle.std.proofs.Common.{◌≡◌, ◌==◌, Bool, true, false, if◌then◌else◌, ℕ, zero, suc, ◌+◌, ◌<◌, ◌≤◌, List, [], ◌∷◌, ◌++◌, length, take, drop, get_or, set, Option, Some, None, IfSome, slice_get, refl, sym, ap, ap₂, ◌∙◌, subst, arith}
+use Rattle.std.proofs.Common.{◌≡◌, ◌==◌, if◌then◌else◌, ℕ, zero, suc, ◌+◌, ◌<◌, ◌≤◌, List, [], ◌∷◌, ◌++◌, length, take, drop, get_or, set, Option, Some, None, IfSome, slice_get, refl, sym, ap, ap₂, ◌∙◌, subst, arith}
 use Rattle.std.proofs.lemmas.Bool.Decides.{nat_tests}
-use Rattle.std.proofs.lemmas.List.{take-append-drop, set_split, drop_more, append-nil, get_or_default}
+use Rattle.std.proofs.lemmas.List.{take-append-drop, set_split, drop_more, get_or_default}
 use Rattle.isis_base.specs.declared.identifiers.LspId.{LspId}
 use Rattle.lsp_store.specs.Maps.{pair_number, find, change_at, change_all, RisesFrom}
-use Rattle.lsp_store.specs.Places.{AllBelow, AllAbove, IsPlace, IsGap, IsHome, IsHeldAt, IsFreeAt, flatten, AllFilled}
-use Rattle.lsp_store.specs.PageFacts.{first_number, change_pages}
+use Rattle.lsp_store.specs.Places.{AllBelow, AllAbove, IsPlace, IsHome, IsHeldAt, flatten, AllFilled}
+use Rattle.lsp_store.specs.PageFacts.{change_pages}
 use Rattle.lsp_store.specs.Rooms.{strain}
 use Rattle.lsp_store.proofs.MapLemmas.{slice_get-some, choose}
 use Rattle.lsp_store.proofs.PageLemmas.{flat-at, flat-set, filled-at, filled-set}

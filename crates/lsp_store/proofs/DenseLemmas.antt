@@ -1,5 +1,5 @@
 -- Pages next to each other stay more than 32 pairs together.
-use Rattle.std.proofs.Common.{◌≡◌, take, drop, ℕ, zero, suc, ◌+◌, ◌-◌, ◌<◌, ◌≤◌, ◌⊎◌, inl, inr, List, [], ◌∷◌, ◌++◌, length, length-append, get_or, set, refl, sym, ap, subst, arith}
+use Rattle.std.proofs.Common.{◌≡◌, take, drop, ℕ, zero, suc, ◌+◌, ◌-◌, ◌<◌, ◌≤◌, ◌⊎◌, inl, inr, List, [], ◌∷◌, length, length-append, get_or, set, refl, ap, subst, arith}
 use Rattle.std.specs.List.{remove}
 use Rattle.isis_base.specs.declared.identifiers.LspId.{LspId}
 use Rattle.lsp_store.specs.Places.{AllFilled}

@@ -11,14 +11,14 @@
 
 mod change;
 mod copy;
-mod entry;
 mod edits;
+mod entry;
 mod fault;
 mod live;
 mod page;
 mod pages;
-mod places;
 mod pairs;
+mod places;
 mod range;
 mod rooms;
 mod store;

@@ -8,8 +8,8 @@ ghost use Rattle.lsp_store.specs.Databases.{count_after, key_of, with_entry, wit
 use crate::change::Change;
 use crate::entry::Entry;
 use crate::fault::StoreFault;
-use crate::pages::Pages;
 use crate::live::Live;
+use crate::pages::Pages;
 use crate::range::PageRange;
 use isis_base::{Key, LspId, Order3, OutOfMemory, newer};
 use std::alloc::Global;

@@ -1,4 +1,4 @@
-use Rattle.std.proofs.Common.{◌<◌, ◌≤◌, ◌+◌, length, ◌∙◌, sym, arith}
+use Rattle.std.proofs.Common.{◌<◌, ◌+◌, length, arith}
 use Rattle.lsp_store.proofs.ChangeLemmas.{pages-turn}
 use Rattle.lsp_store.proofs.change.change_each.Goals as goal
 

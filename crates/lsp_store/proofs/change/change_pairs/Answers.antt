@@ -1,4 +1,4 @@
-use Rattle.std.proofs.Common.{◌<◌, ◌≤◌, ◌+◌, length, ◌∙◌, sym, arith}
+use Rattle.std.proofs.Common.{◌<◌, ◌+◌, length, ◌∙◌, arith}
 use Rattle.lsp_store.proofs.ChangeLemmas.{pairs-turn, pairs-end}
 use Rattle.lsp_store.proofs.change.change_pairs.Goals as goal
 

@@ -1,4 +1,4 @@
-use Rattle.std.proofs.Common.{ℕ, suc, ◌<◌, ◌≤◌, ◌+◌, ◌∙◌, [], List, length, get_or, sym, subst, ap, arith}
+use Rattle.std.proofs.Common.{ℕ, suc, ◌<◌, ◌≤◌, ◌+◌, ◌∙◌, [], length, get_or, sym, subst, ap, arith}
 use Rattle.std.specs.Prelude.{vec_len}
 use Rattle.lsp_store.specs.Places.{flatten, AllFilled, AllEmpty}
 use Rattle.lsp_store.specs.Rooms.{strain}

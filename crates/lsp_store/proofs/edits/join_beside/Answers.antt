@@ -1,4 +1,4 @@
-use Rattle.std.proofs.Common.{suc, ◌+◌, ◌-◌, ◌<◌, length, refl, sym, subst, arith}
+use Rattle.std.proofs.Common.{suc, ◌<◌, length, refl, sym, subst, arith}
 use Rattle.lsp_store.specs.Rooms.{AreDense}
 use Rattle.lsp_store.proofs.DenseLemmas.{thick, dense-joined, dense-back, dense-both}
 use Rattle.lsp_store.proofs.edits.join_beside.Goals as goal

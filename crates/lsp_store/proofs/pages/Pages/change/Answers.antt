@@ -1,4 +1,4 @@
-use Rattle.std.proofs.Common.{length, sym, subst, ap, ◌∙◌, arith}
+use Rattle.std.proofs.Common.{length, sym, subst, ap, arith}
 use Rattle.std.specs.Prelude.{vec_len}
 use Rattle.isis_base.specs.Identifiers.{lsp_number}
 use Rattle.lsp_store.specs.Maps.{RisesFrom}

@@ -1,4 +1,4 @@
-use Rattle.std.proofs.Common.{◌≡◌, List, ap, ap₂, subst, ◌∙◌}
+use Rattle.std.proofs.Common.{List, ap, ap₂, ◌∙◌}
 use Rattle.isis_base.specs.Identifiers.{lsp_number}
 use Rattle.lsp_store.specs.Maps.{from, upto, between}
 use Rattle.lsp_store.specs.Places.{flatten}
