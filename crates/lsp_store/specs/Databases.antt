@@ -1,3 +1,4 @@
+-- A database as contracts see it, and the causes of its faults (ISO 10589 7.3.15; the form: own).
 use Rattle.std.specs.Prelude.{◌≡◌, ℕ, ◌+◌, ◌-◌, ◌^◌, ◌<◌, ◌≤◌, nat_lt, ◌==◌, Bool, false, not, List, [], ◌∷◌, length, Option, Some, None, is_some, if◌then◌else◌}
 use Rattle.isis_base.specs.declared.identifiers.LspId.{LspId}
 use Rattle.isis_base.specs.declared.key.Key.{Key}
@@ -8,7 +9,8 @@ use Rattle.lsp_store.specs.declared.fault.StoreFault.{StoreFault}
 use Rattle.lsp_store.specs.declared.fault.StoreFault.TheVariants.{Full, OutOfMemory}
 use Rattle.lsp_store.specs.Maps.{find, put, erase, change_at}
 
--- the database of a level: the entries in order, for how many more of them memory is taken already, and how often a key changed
+-- the database of a level: the entries in order, for how many more of them memory is taken
+-- already, and how often a key changed
 pub record Database : Type 0 where
   pub entries : List (LspId × Entry)
   pub spare : ℕ
@@ -21,7 +23,10 @@ key_of (Some entry) = entry.key
 
 -- the count of changes, where a key was one and is another
 abbrev pub count_after : ℕ → Option Key → Option Key → ℕ
-count_after changes before after = if rank before == rank after then changes else (if nat_lt changes (2 ^ 64 - 1) then changes + 1 else changes)
+count_after changes before after =
+    if rank before == rank after
+    then changes
+    else (if nat_lt changes (2 ^ 64 - 1) then changes + 1 else changes)
 
 -- with an LSP ID's entry set
 abbrev pub with_entry : Database → LspId → Entry → Database
@@ -33,20 +38,28 @@ with_entry old id entry = record {
 
 -- without the number's entry
 abbrev pub without_entry : Database → ℕ → Database
-without_entry old n = record { entries = erase old.entries n; spare = old.spare; changes = count_after old.changes (key_of (find old.entries n)) None }
+without_entry old n = record {
+  entries = erase old.entries n;
+  spare = old.spare;
+  changes = count_after old.changes (key_of (find old.entries n)) None;
+}
 
 -- with the number's entry changed, where there is one
 abbrev pub with_change : Database → ℕ → (Entry → Entry) → Database
 with_change old n f = record {
   entries = change_at f old.entries n;
   spare = old.spare;
-  changes = count_after old.changes (key_of (find old.entries n)) (key_of (find (change_at f old.entries n) n));
+  changes =
+      count_after old.changes (key_of (find old.entries n))
+      (key_of (find (change_at f old.entries n) n));
 }
 
--- when an entry isn't put: the LSP ID has none, and 65,536 are there; or else it has none, and no room is spare
+-- when an entry isn't put: the LSP ID has none, and 65,536 are there; or else it has none, and no
+-- room is spare
 abbrev pub PutCause : Database → ℕ → StoreFault → Type 0
 PutCause old n Full = (find old.entries n ≡ None) × (65536 ≤ length old.entries)
-PutCause old n OutOfMemory = (find old.entries n ≡ None) × (length old.entries < 65536) × (old.spare ≡ 0)
+PutCause old n OutOfMemory =
+    (find old.entries n ≡ None) × (length old.entries < 65536) × (old.spare ≡ 0)
 
 -- when room isn't taken
 abbrev pub ReserveCause : Database → ℕ → StoreFault → Type 0

@@ -1,3 +1,4 @@
+-- Pairs by LSP ID, in order (own).
 use Rattle.std.specs.Prelude.{ℕ, ◌+◌, ◌≤◌, nat_lt, nat_le, ◌&&◌, ◌==◌, List, [], ◌∷◌, Option, Some, None, if◌then◌else◌}
 use Rattle.std.specs.Borrow.{Bor}
 use Rattle.isis_base.specs.declared.identifiers.LspId.{LspId}
@@ -18,7 +19,9 @@ put [] id value = (id, value) ∷ []
 put (pair ∷ pairs) id value =
     if pair_number pair == lsp_number id
     then (id, value) ∷ pairs
-    else (if nat_lt (lsp_number id) (pair_number pair) then (id, value) ∷ pair ∷ pairs else pair ∷ put pairs id value)
+    else (if nat_lt (lsp_number id) (pair_number pair)
+    then (id, value) ∷ pair ∷ pairs
+    else pair ∷ put pairs id value)
 
 -- pairs without the first one of the number
 abbrev pub erase : {T : Type 0} → List (LspId × T) → ℕ → List (LspId × T)
@@ -44,7 +47,8 @@ RisesFrom least (pair ∷ pairs) = (least ≤ pair_number pair) × RisesFrom (pa
 -- the pairs from a number on
 abbrev pub from : {T : Type 0} → ℕ → List (LspId × T) → List (LspId × T)
 from start [] = []
-from start (pair ∷ pairs) = if nat_lt (pair_number pair) start then from start pairs else pair ∷ pairs
+from start (pair ∷ pairs) =
+    if nat_lt (pair_number pair) start then from start pairs else pair ∷ pairs
 
 -- the pairs up to a number
 abbrev pub upto : {T : Type 0} → ℕ → List (LspId × T) → List (LspId × T)

@@ -1,3 +1,4 @@
+-- A map in pages as contracts see it (own).
 use Rattle.std.specs.Prelude.{ℕ, ◌-◌, List, is_some, if◌then◌else◌}
 use Rattle.isis_base.specs.declared.identifiers.LspId.{LspId}
 use Rattle.isis_base.specs.Identifiers.{lsp_number}
@@ -10,7 +11,10 @@ pub record PageMap (T : Type 0) : Type 0 where
 
 -- with an LSP ID's value set; a new pair uses up one that is spare
 abbrev pub with_put : {T : Type 0} → PageMap T → LspId → T → PageMap T
-with_put kept id value = record { entries = put kept.entries id value; spare = if is_some (find kept.entries (lsp_number id)) then kept.spare else kept.spare - 1 }
+with_put map id value = record {
+  entries = put map.entries id value;
+  spare = if is_some (find map.entries (lsp_number id)) then map.spare else map.spare - 1;
+}
 
 -- without the number's pair
 abbrev pub without : {T : Type 0} → PageMap T → ℕ → PageMap T

@@ -28,7 +28,8 @@ pub(crate) fn change_held<T, C: Change<T>>(
     requires at { IsHeldAt pages.old.items n at }
     requires filled { AllFilled pages.old.items }
     requires dense { AreDense pages.old.items }
-    ensures all { flatten pages.new.items ≡ change_at (C.changed change.now) (flatten pages.old.items) n }
+    ensures all { flatten pages.new.items
+        ≡ change_at (C.changed change.now) (flatten pages.old.items) n }
     ensures strain { strain pages.new.items ≤ strain pages.old.items }
     ensures filled { AllFilled pages.new.items }
     ensures dense { AreDense pages.new.items }
@@ -54,7 +55,8 @@ pub(crate) fn change_each<T, C: Change<T>>(pages: &mut Vec<Page<T>>, change: &C)
 /// Changes the value of a pair at a place.
 pub(crate) fn change_pair<T, C: Change<T>>(pairs: &mut Vec<(LspId, T)>, place: usize, change: &C)
     requires { place < length pairs.old.items }
-    ensures new { IfSome (slice_get pairs.old.items place) (λ pair. pairs.new.items ≡ set pairs.old.items place (pair.0, C.changed change.now pair.1)) }
+    ensures new { IfSome (slice_get pairs.old.items place) (λ pair. pairs.new.items
+        ≡ set pairs.old.items place (pair.0, C.changed change.now pair.1)) }
     ensures len { vec_len pairs.new ≡ vec_len pairs.old }
     ensures capacity { vec_capacity pairs.new ≡ vec_capacity pairs.old }
 {

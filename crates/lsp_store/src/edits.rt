@@ -39,13 +39,16 @@ pub(crate) fn put_new<T: Drop>(
     requires rises { RisesFrom 0 (flatten pages.old.items) }
     requires empty { AllEmpty pool.old.items }
     requires some { (spare : ℕ) × IsEnough pages.old.items (vec_len pool.old) (spare + 1) }
-    requires room { HasRoom (vec_len pages.old) (vec_len pool.old) (vec_capacity pages.old) (vec_capacity pool.old) }
+    requires room { HasRoom (vec_len pages.old) (vec_len pool.old)
+        (vec_capacity pages.old) (vec_capacity pool.old) }
     ensures all { flatten pages.new.items ≡ put (flatten pages.old.items) id value }
     ensures filled { AllFilled pages.new.items }
     ensures dense { AreDense pages.new.items }
     ensures empty { AllEmpty pool.new.items }
-    ensures enough { (spare : ℕ) → IsEnough pages.old.items (vec_len pool.old) (spare + 1) → IsEnough pages.new.items (vec_len pool.new) spare }
-    ensures room { HasRoom (vec_len pages.new) (vec_len pool.new) (vec_capacity pages.new) (vec_capacity pool.new) }
+    ensures enough { (spare : ℕ) → IsEnough pages.old.items (vec_len pool.old) (spare + 1)
+        → IsEnough pages.new.items (vec_len pool.new) spare }
+    ensures room { HasRoom (vec_len pages.new) (vec_len pool.new)
+        (vec_capacity pages.new) (vec_capacity pool.new) }
 {
     if pages.is_empty() {
         put_first(pages, take_page(pool), id, value);
@@ -138,7 +141,8 @@ fn split_page<T>(pages: &mut Vec<Page<T>>, k: usize, n: u64, mut upper: Page<T>)
     k + 1
 }
 
-/// How many pairs the lower one of two pages keeps. Where pairs come in order, pages are left full behind them.
+/// How many pairs the lower one of two pages keeps. Where pairs come in order, pages are left full
+/// behind them.
 fn cut_of<T>(pages: &[Page<T>], k: usize, n: u64) -> usize
     requires { k < length pages.now }
     ensures { (result ≡ 32) ⊎ ((result ≡ 63) × (k + 1 ≡ length pages.now)) }
@@ -172,17 +176,21 @@ pub(crate) fn take_out<T>(
     requires filled { AllFilled pages.old.items }
     requires dense { AreDense pages.old.items }
     requires empty { AllEmpty pool.old.items }
-    requires room { HasRoom (vec_len pages.old) (vec_len pool.old) (vec_capacity pages.old) (vec_capacity pool.old) }
+    requires room { HasRoom (vec_len pages.old) (vec_len pool.old)
+        (vec_capacity pages.old) (vec_capacity pool.old) }
     ensures old { find (flatten pages.old.items) n ≡ Some result }
     ensures all { flatten pages.new.items ≡ erase (flatten pages.old.items) n }
     ensures filled { AllFilled pages.new.items }
     ensures dense { AreDense pages.new.items }
     ensures empty { AllEmpty pool.new.items }
-    ensures enough { (spare : ℕ) → IsEnough pages.old.items (vec_len pool.old) spare → IsEnough pages.new.items (vec_len pool.new) spare }
-    ensures room { HasRoom (vec_len pages.new) (vec_len pool.new) (vec_capacity pages.new) (vec_capacity pool.new) }
+    ensures enough { (spare : ℕ) → IsEnough pages.old.items (vec_len pool.old) spare
+        → IsEnough pages.new.items (vec_len pool.new) spare }
+    ensures room { HasRoom (vec_len pages.new) (vec_len pool.new)
+        (vec_capacity pages.new) (vec_capacity pool.new) }
 {
     let value = pages[at.0].remove(at.1);
-    if pages[at.0].len() > 0 {
+    let left = pages[at.0].len();
+    if left > 0 {
         join_beside(pages, pool, at.0);
         return value;
     }
@@ -191,19 +199,23 @@ pub(crate) fn take_out<T>(
     value
 }
 
-/// Joins a page that has shrunk with the next one or the one before, where both together have at most 32 pairs.
+/// Joins a page that has shrunk with the next one or the one before, where both together have at
+/// most 32 pairs.
 fn join_beside<T>(pages: &mut Vec<Page<T>>, pool: &mut Vec<Page<T>>, k: usize)
     requires inside { k < length pages.old.items }
     requires filled { AllFilled pages.old.items }
     requires nearly { AreNearlyDense pages.old.items k }
     requires empty { AllEmpty pool.old.items }
-    requires room { HasRoom (vec_len pages.old) (vec_len pool.old) (vec_capacity pages.old) (vec_capacity pool.old) }
+    requires room { HasRoom (vec_len pages.old) (vec_len pool.old)
+        (vec_capacity pages.old) (vec_capacity pool.old) }
     ensures all { flatten pages.new.items ≡ flatten pages.old.items }
     ensures filled { AllFilled pages.new.items }
     ensures dense { AreDense pages.new.items }
     ensures empty { AllEmpty pool.new.items }
-    ensures enough { (spare : ℕ) → IsEnough pages.old.items (vec_len pool.old) spare → IsEnough pages.new.items (vec_len pool.new) spare }
-    ensures room { HasRoom (vec_len pages.new) (vec_len pool.new) (vec_capacity pages.new) (vec_capacity pool.new) }
+    ensures enough { (spare : ℕ) → IsEnough pages.old.items (vec_len pool.old) spare
+        → IsEnough pages.new.items (vec_len pool.new) spare }
+    ensures room { HasRoom (vec_len pages.new) (vec_len pool.new)
+        (vec_capacity pages.new) (vec_capacity pool.new) }
 {
     if is_thin(pages, k) {
         join(pages, pool, k);
@@ -221,8 +233,11 @@ fn join_beside<T>(pages: &mut Vec<Page<T>>, pool: &mut Vec<Page<T>>, k: usize)
 fn is_thin<T>(pages: &[Page<T>], k: usize) -> bool
     requires { k < length pages.now }
     ensures next { result ≡ true → k + 1 < length pages.now }
-    ensures yes { result ≡ true → length (slice_index_or pages.now k []) + length (slice_index_or pages.now (k + 1) []) ≤ 32 }
-    ensures no { result ≡ false → k + 1 < length pages.now → 33 ≤ length (slice_index_or pages.now k []) + length (slice_index_or pages.now (k + 1) []) }
+    ensures yes { result ≡ true → length (slice_index_or pages.now k [])
+        + length (slice_index_or pages.now (k + 1) []) ≤ 32 }
+    ensures no { result ≡ false → k + 1 < length pages.now
+        → 33 ≤ length (slice_index_or pages.now k [])
+        + length (slice_index_or pages.now (k + 1) []) }
 {
     if k + 1 >= pages.len() {
         return false;
@@ -233,16 +248,20 @@ fn is_thin<T>(pages: &[Page<T>], k: usize) -> bool
 /// Joins a page with the next one, which is kept then as an empty one.
 fn join<T>(pages: &mut Vec<Page<T>>, pool: &mut Vec<Page<T>>, k: usize)
     requires inside { k + 1 < length pages.old.items }
-    requires few { length (slice_index_or pages.old.items k []) + length (slice_index_or pages.old.items (k + 1) []) ≤ 32 }
+    requires few { length (slice_index_or pages.old.items k [])
+        + length (slice_index_or pages.old.items (k + 1) []) ≤ 32 }
     requires filled { AllFilled pages.old.items }
     requires empty { AllEmpty pool.old.items }
-    requires room { HasRoom (vec_len pages.old) (vec_len pool.old) (vec_capacity pages.old) (vec_capacity pool.old) }
+    requires room { HasRoom (vec_len pages.old) (vec_len pool.old)
+        (vec_capacity pages.old) (vec_capacity pool.old) }
     ensures pages { pages.new.items ≡ joined pages.old.items k }
     ensures all { flatten pages.new.items ≡ flatten pages.old.items }
     ensures filled { AllFilled pages.new.items }
     ensures empty { AllEmpty pool.new.items }
-    ensures enough { (spare : ℕ) → IsEnough pages.old.items (vec_len pool.old) spare → IsEnough pages.new.items (vec_len pool.new) spare }
-    ensures room { HasRoom (vec_len pages.new) (vec_len pool.new) (vec_capacity pages.new) (vec_capacity pool.new) }
+    ensures enough { (spare : ℕ) → IsEnough pages.old.items (vec_len pool.old) spare
+        → IsEnough pages.new.items (vec_len pool.new) spare }
+    ensures room { HasRoom (vec_len pages.new) (vec_len pool.new)
+        (vec_capacity pages.new) (vec_capacity pool.new) }
 {
     let mut upper = pages.remove(k + 1);
     pages[k].append(&mut upper);

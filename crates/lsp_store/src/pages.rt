@@ -39,7 +39,8 @@ impl<T> Model for Pages<T> {
 
     ghost view = { λ p. record { entries = flatten p.pages.items; spare = p.spare } };
 
-    ghost invariant = { λ p. IsPaged p.pages.items p.pool.items (vec_len p.pages) (vec_len p.pool) (vec_capacity p.pages) (vec_capacity p.pool) p.len p.spare };
+    ghost invariant = { λ p. IsPaged p.pages.items p.pool.items (vec_len p.pages) (vec_len p.pool)
+        (vec_capacity p.pages) (vec_capacity p.pool) p.len p.spare };
 }
 
 impl<T: Drop> Pages<T> {
@@ -99,7 +100,8 @@ impl<T: Drop> Pages<T> {
 
     /// The LSP ID's value.
     pub fn get(&self, id: LspId) -> Option<&T>
-        ensures { MatchOption result (find self.now.entries (lsp_number id) ≡ None) (λ value. find self.now.entries (lsp_number id) ≡ Some value.now) }
+        ensures { MatchOption result (find self.now.entries (lsp_number id) ≡ None)
+            (λ value. find self.now.entries (lsp_number id) ≡ Some value.now) }
     {
         let n = id.to_number();
         match search(&self.pages, n) {
@@ -108,8 +110,8 @@ impl<T: Drop> Pages<T> {
         }
     }
 
-    /// Sets the LSP ID's value, and answers the one before. With `spare` of at least 1, or where the LSP ID has a
-    /// value, it takes no memory.
+    /// Sets the LSP ID's value, and answers the one before. With `spare` of at least 1, or where
+    /// the LSP ID has a value, it takes no memory.
     pub fn put(&mut self, id: LspId, value: T) -> Result<Option<T>, (T, OutOfMemory)>
         ensures before { IfOk result (λ before. before ≡ find self.old.entries (lsp_number id)) }
         ensures ok { OnOk result (self.new ≡ with_put self.old id value) }
@@ -155,8 +157,8 @@ impl<T: Drop> Pages<T> {
         }
     }
 
-    /// The pages, lent: of 1 to 64 pairs each, and any two neighbours of more than 32 together. Their pairs are those of
-    /// the map in order, one page after another.
+    /// The pages, lent: of 1 to 64 pairs each, and any two neighbours of more than 32 together.
+    /// Their pairs are those of the map in order, one page after another.
     pub fn list(&self) -> &[Page<T>]
         ensures all { flatten result.now ≡ self.now.entries }
         ensures filled { AllFilled result.now }
@@ -182,7 +184,8 @@ impl<T: Drop> Pages<T> {
 
     /// Changes the LSP ID's value in place, where it has one.
     pub fn change<C: Change<T>>(&mut self, id: LspId, change: &C)
-        ensures entries { self.new.entries ≡ change_at (C.changed change.now) self.old.entries (lsp_number id) }
+        ensures entries { self.new.entries
+            ≡ change_at (C.changed change.now) self.old.entries (lsp_number id) }
         ensures spare { self.new.spare ≡ self.old.spare }
     {
         let n = id.to_number();

@@ -62,7 +62,8 @@ fn at_hand<'a, T>(
     rest: &'a [Page<T>],
 ) -> Option<(&'a [(LspId, T)], &'a [Page<T>])>
     requires { AllFilled rest.now }
-    ensures same { IfSome result (λ left. left.0.now ++ flatten left.1.now ≡ here.now ++ flatten rest.now) }
+    ensures same { IfSome result (λ left. left.0.now ++ flatten left.1.now
+        ≡ here.now ++ flatten rest.now) }
     ensures some { IfSome result (λ left. 0 < length left.0.now) }
     ensures filled { IfSome result (λ left. AllFilled left.1.now) }
     ensures none { IfNone result (here.now ++ flatten rest.now ≡ []) }

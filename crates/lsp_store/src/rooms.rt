@@ -18,12 +18,14 @@ pub(crate) fn claim<T: Drop>(
     len: usize,
     spare: usize,
 ) -> Result<usize, OutOfMemory>
-    requires room { HasRoom (vec_len pages.old) (vec_len pool.old) (vec_capacity pages.old) (vec_capacity pool.old) }
+    requires room { HasRoom (vec_len pages.old) (vec_len pool.old)
+        (vec_capacity pages.old) (vec_capacity pool.old) }
     requires empty { AllEmpty pool.old.items }
     requires spared { IsEnough pages.old.items (vec_len pool.old) spare }
     requires fits { len + spare < 2 ^ 64 }
     ensures pages { pages.new.items ≡ pages.old.items }
-    ensures room { HasRoom (vec_len pages.new) (vec_len pool.new) (vec_capacity pages.new) (vec_capacity pool.new) }
+    ensures room { HasRoom (vec_len pages.new) (vec_len pool.new)
+        (vec_capacity pages.new) (vec_capacity pool.new) }
     ensures empty { AllEmpty pool.new.items }
     ensures kept { vec_len pool.old ≤ vec_len pool.new }
     ensures left { IfOk result (λ left. left ≡ spare - 1) }
@@ -65,10 +67,12 @@ pub(crate) fn fill_pool<T: Drop>(
     pool: &mut Vec<Page<T>>,
     more: usize,
 ) -> Result<(), AllocError>
-    requires room { HasRoom (vec_len pages.old) (vec_len pool.old) (vec_capacity pages.old) (vec_capacity pool.old) }
+    requires room { HasRoom (vec_len pages.old) (vec_len pool.old)
+        (vec_capacity pages.old) (vec_capacity pool.old) }
     requires empty { AllEmpty pool.old.items }
     ensures pages { pages.new.items ≡ pages.old.items }
-    ensures room { HasRoom (vec_len pages.new) (vec_len pool.new) (vec_capacity pages.new) (vec_capacity pool.new) }
+    ensures room { HasRoom (vec_len pages.new) (vec_len pool.new)
+        (vec_capacity pages.new) (vec_capacity pool.new) }
     ensures empty { AllEmpty pool.new.items }
     ensures kept { vec_len pool.old ≤ vec_len pool.new }
     ensures ok { OnOk result (more ≤ vec_len pool.new) }
@@ -89,10 +93,12 @@ fn add_page<T: Drop>(
     pages: &mut Vec<Page<T>>,
     pool: &mut Vec<Page<T>>,
 ) -> Result<(), AllocError>
-    requires room { HasRoom (vec_len pages.old) (vec_len pool.old) (vec_capacity pages.old) (vec_capacity pool.old) }
+    requires room { HasRoom (vec_len pages.old) (vec_len pool.old)
+        (vec_capacity pages.old) (vec_capacity pool.old) }
     requires empty { AllEmpty pool.old.items }
     ensures pages { pages.new.items ≡ pages.old.items }
-    ensures room { HasRoom (vec_len pages.new) (vec_len pool.new) (vec_capacity pages.new) (vec_capacity pool.new) }
+    ensures room { HasRoom (vec_len pages.new) (vec_len pool.new)
+        (vec_capacity pages.new) (vec_capacity pool.new) }
     ensures empty { AllEmpty pool.new.items }
     ensures ok { OnOk result (vec_len pool.new ≡ vec_len pool.old + 1) }
     ensures err { OnErr result (vec_len pool.new ≡ vec_len pool.old) }

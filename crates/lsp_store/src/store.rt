@@ -31,7 +31,11 @@ impl Model for Store {
 
     ghost Value = { Database };
 
-    ghost view = { λ s. record { entries = s.pages.entries; spare = s.pages.spare; changes = s.changes } };
+    ghost view = { λ s. record {
+      entries = s.pages.entries;
+      spare = s.pages.spare;
+      changes = s.changes;
+    } };
 
     ghost invariant = { λ s. length s.pages.entries ≤ 65536 };
 }
@@ -112,15 +116,18 @@ impl Store {
 
     /// The LSP ID's entry.
     pub fn get(&self, id: LspId) -> Option<&Entry>
-        ensures { MatchOption result (find self.now.entries (lsp_number id) ≡ None) (λ entry. find self.now.entries (lsp_number id) ≡ Some entry.now) }
+        ensures { MatchOption result (find self.now.entries (lsp_number id) ≡ None)
+            (λ entry. find self.now.entries (lsp_number id) ≡ Some entry.now) }
     {
         self.pages.get(id)
     }
 
     /// Whether a new entry doesn't fit.
     fn is_full_for(&self, id: LspId) -> bool
-        ensures yes { result ≡ true → (find self.now.entries (lsp_number id) ≡ None) × (65536 ≤ length self.now.entries) }
-        ensures no { result ≡ false → (length self.now.entries < 65536) ⊎ IsSome (find self.now.entries (lsp_number id)) }
+        ensures yes { result ≡ true → (find self.now.entries (lsp_number id) ≡ None)
+            × (65536 ≤ length self.now.entries) }
+        ensures no { result ≡ false → (length self.now.entries < 65536) ⊎ IsSome
+            (find self.now.entries (lsp_number id)) }
         ensures rises { RisesFrom 0 self.now.entries }
     {
         if self.pages.len() < ENTRY_LIMIT {
@@ -132,13 +139,15 @@ impl Store {
         }
     }
 
-    /// Sets the LSP ID's entry, and answers the one before. `Full` exactly where the LSP ID has none and 65,536 are
-    /// there. With `spare` of at least 1, or where the LSP ID has one, it takes no memory.
+    /// Sets the LSP ID's entry, and answers the one before. `Full` exactly where the LSP ID has
+    /// none and 65,536 are there. With `spare` of at least 1, or where the LSP ID has one, it
+    /// takes no memory.
     pub fn put(&mut self, id: LspId, entry: Entry) -> Result<Option<Entry>, (Entry, StoreFault)>
         ensures before { IfOk result (λ before. before ≡ find self.old.entries (lsp_number id)) }
         ensures ok { OnOk result (self.new ≡ with_entry self.old id entry) }
         ensures cause { IfErr result (λ back. PutCause self.old (lsp_number id) back.1) }
-        ensures full { find self.old.entries (lsp_number id) ≡ None → 65536 ≤ length self.old.entries → IfOk result (λ _. ⊥) }
+        ensures full { find self.old.entries (lsp_number id) ≡ None
+            → 65536 ≤ length self.old.entries → IfOk result (λ _. ⊥) }
         ensures err { OnErr result (self.new ≡ self.old) }
         ensures returned { IfErr result (λ back. back.0 ≡ entry) }
     {
