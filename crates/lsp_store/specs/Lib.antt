@@ -1,0 +1,7 @@
+pub mod Maps
+pub mod Places
+pub mod PageFacts
+pub mod PageMaps
+pub mod Inside
+pub mod Databases
+pub mod Rooms
