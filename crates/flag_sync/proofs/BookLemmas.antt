@@ -1,0 +1,100 @@
+-- What a call does to entries and rows, as what it does to the book of the definitions.
+use Rattle.std.proofs.Common.{◌≡◌, ◌==◌, Bool, true, false, if◌then◌else◌, ℕ, ◌+◌, ◌-◌, ◌^◌, eqb, nat_lt, inl, inr, List, Option, Some, None, is_some, refl, sym, ap, ap₂, ◌∙◌, subst, arith}
+use Rattle.std.proofs.lemmas.Bool.Decides.{nat_tests}
+use Rattle.std.specs.Option.{option_map}
+use Rattle.isis_base.specs.declared.identifiers.LspId.{LspId}
+use Rattle.isis_base.specs.declared.key.Key.{Key}
+use Rattle.isis_base.specs.Identifiers.{lsp_number}
+use Rattle.isis_base.specs.Keys.{rank}
+use Rattle.isis_model.specs.Maps as cells
+use Rattle.isis_model.specs.Cells.{Cell}
+use Rattle.isis_model.specs.Books.{Book, cell_at, rank_of, rank_at, risen, set_cell}
+use Rattle.lsp_store.specs.declared.entry.Entry.{Entry}
+use Rattle.lsp_store.specs.Maps.{find, put, erase, change_at, change_all, RisesFrom}
+use Rattle.lsp_store.specs.Databases.{Database, key_of, count_after, with_entry, without_entry, with_change}
+use Rattle.flag_sync.specs.declared.deed.Deed.{Deed}
+use Rattle.flag_sync.specs.declared.deed.SrmDeed.{SrmDeed}
+use Rattle.flag_sync.specs.declared.deed.SrmDeed.TheVariants as srm
+use Rattle.flag_sync.specs.declared.deed.SsnDeed.{SsnDeed}
+use Rattle.flag_sync.specs.declared.deed.SsnDeed.TheVariants as ssn
+use Rattle.flag_sync.specs.declared.flag_row.FlagRow.{FlagRow}
+use Rattle.flag_sync.specs.FlagRows.{cell_of, srm_done, ssn_done, done}
+use Rattle.flag_sync.specs.Deeds.{srm_cell, ssn_cell, deed_cell}
+use Rattle.flag_sync.specs.BookStates.{BookState, cells_of, book_of, AreBeside}
+use Rattle.flag_sync.proofs.CellLemmas.{pair_up, find-cells, rank-cells, both-or-none, absent-erase, put-cells, erase-cells, change-cells, same-change, find-change, absent-change}
+
+-- a deed on a row is the deed on the cell
+deed-srm : (deed : SrmDeed) (place : ℕ) (entry : Entry) (row : FlagRow) → cell_of entry (srm_done deed place row) ≡ srm_cell deed place (cell_of entry row)
+deed-srm srm.Keep place entry row = refl
+deed-srm srm.Set place entry row = refl
+deed-srm srm.Clear place entry row = refl
+deed-srm srm.Wait place entry row = refl
+
+deed-ssn : (deed : SsnDeed) (place : ℕ) (entry : Entry) (row : FlagRow) → cell_of entry (ssn_done deed place row) ≡ ssn_cell deed place (cell_of entry row)
+deed-ssn ssn.Keep place entry row = refl
+deed-ssn ssn.Set place entry row = refl
+deed-ssn ssn.Clear place entry row = refl
+
+pub deed-cells : (deed : Deed) (entry : Entry) (row : FlagRow) → cell_of entry (done deed row) ≡ deed_cell deed (cell_of entry row)
+deed-cells deed entry row = deed-ssn deed.ssn deed.place entry (srm_done deed.srm deed.place row) ∙ ap (ssn_cell deed.ssn deed.place) (deed-srm deed.srm deed.place entry row)
+
+-- the count of changes, as both sides write it
+count-same : (changes x y held : ℕ) → held ≡ x → (if eqb x y then changes else risen changes) ≡ (if eqb y held then changes else risen changes)
+count-same changes x y held e = grind (arith, nat_tests, e)
+
+module _ (s : BookState) (b : AreBeside s.store.entries s.rows) (up : RisesFrom 0 s.store.entries) where
+  abbrev with_parts : List (ℕ × Cell) → ℕ → Book
+  with_parts cs k = record { cells = cs; opened = s.opened; p2p = s.points; changes = k }
+
+  pub held : (n : ℕ) → cell_at (book_of s) n ≡ pair_up (find s.store.entries n) (find s.rows n)
+  held n = find-cells s.store.entries s.rows n b
+
+  pub book-put : (id : LspId) (entry : Entry) (row : FlagRow) → book_of (record s { store = with_entry s.store id entry; rows = put s.rows id row }) ≡ set_cell (book_of s) (lsp_number id) (Some (cell_of entry row))
+  unfolding set_cell
+  book-put id entry row =
+      ap₂ with_parts (put-cells s.store.entries s.rows id entry row b)
+      (count-same s.store.changes (rank (key_of (find s.store.entries (lsp_number id)))) (rank entry.key) (rank_at (book_of s) (lsp_number id)) (rank-cells s.store.entries s.rows (lsp_number id) b))
+
+  pub book-erase : (n : ℕ) → book_of (record s { store = without_entry s.store n; rows = erase s.rows n }) ≡ set_cell (book_of s) n None
+  unfolding set_cell
+  book-erase n =
+      ap₂ with_parts (erase-cells s.store.entries s.rows n 0 b up)
+      (count-same s.store.changes (rank (key_of (find s.store.entries n))) 0 (rank_at (book_of s) n) (rank-cells s.store.entries s.rows n b))
+
+  pub book-change : (f : Entry → Entry) (g : FlagRow → FlagRow) (n : ℕ) (entry : Entry) (row : FlagRow) → find s.store.entries n ≡ Some entry → find s.rows n ≡ Some row → book_of (record s { store = with_change s.store n f; rows = change_at g s.rows n }) ≡ set_cell (book_of s) n (Some (cell_of (f entry) (g row)))
+  unfolding set_cell
+  book-change f g n entry row e h =
+      ap₂ with_parts (change-cells f g s.store.entries s.rows n 0 entry row b up e h)
+      (ap (λ (o : Option Entry). count_after s.store.changes (key_of (find s.store.entries n)) (key_of o)) (find-change f s.store.entries n entry e)
+      ∙ count-same s.store.changes (rank (key_of (find s.store.entries n))) (rank (f entry).key) (rank_at (book_of s) n) (rank-cells s.store.entries s.rows n b))
+
+  pub book-rows : (g : FlagRow → FlagRow) (n : ℕ) (entry : Entry) (row : FlagRow) → find s.store.entries n ≡ Some entry → find s.rows n ≡ Some row → book_of (record s { rows = change_at g s.rows n }) ≡ set_cell (book_of s) n (Some (cell_of entry (g row)))
+  unfolding set_cell
+  book-rows g n entry row e h =
+      ap₂ with_parts (ap (λ (es : List (LspId × Entry)). cells_of es (change_at g s.rows n)) (sym (same-change s.store.entries n)) ∙ change-cells (λ v. v) g s.store.entries s.rows n 0 entry row b up e h)
+      (stays (rank entry.key) (rank_at (book_of s) n) (rank-cells s.store.entries s.rows n b ∙ ap (λ (o : Option Entry). rank (key_of o)) e))
+    where
+      stays : (y z : ℕ) → z ≡ y → s.store.changes ≡ (if eqb y z then s.store.changes else risen s.store.changes)
+      stays y z q = grind (arith, nat_tests, q)
+
+  pub book-none : (n : ℕ) → find s.store.entries n ≡ None → find s.rows n ≡ None → book_of s ≡ set_cell (book_of s) n None
+  unfolding set_cell
+  book-none n e h =
+      ap₂ with_parts (sym (ap₂ cells_of (absent-erase s.store.entries n e) (absent-erase s.rows n h)) ∙ erase-cells s.store.entries s.rows n 0 b up)
+      (stays (rank_at (book_of s) n) (rank-cells s.store.entries s.rows n b ∙ ap (λ (o : Option Entry). rank (key_of o)) e))
+    where
+      stays : (z : ℕ) → z ≡ 0 → s.store.changes ≡ (if eqb 0 z then s.store.changes else risen s.store.changes)
+      stays z q = grind (arith, nat_tests, q)
+
+  -- a deed on a row that may be there
+  pub book-deed : (deed : Deed) (n : ℕ) → book_of (record s { rows = change_at (done deed) s.rows n }) ≡ set_cell (book_of s) n (option_map (deed_cell deed) (cell_at (book_of s) n))
+  book-deed deed n = elim (both-or-none s.store.entries s.rows n b) [
+    | inl h ↦
+        let none : cell_at (book_of s) n ≡ None = held n ∙ ap₂ pair_up h.0 h.1 in
+        ap (λ (rs : List (LspId × FlagRow)). book_of (record s { rows = rs })) (absent-change (done deed) s.rows n h.1)
+        ∙ book-none n h.0 h.1 ∙ ap (λ (c : Option Cell). set_cell (book_of s) n (option_map (deed_cell deed) c)) (sym none)
+    | inr h ↦
+        let some : cell_at (book_of s) n ≡ Some (cell_of h.0 h.1) = held n ∙ ap₂ pair_up h.2 h.3 in
+        book-rows (done deed) n h.0 h.1 h.2 h.3 ∙ ap (λ (c : Cell). set_cell (book_of s) n (Some c)) (deed-cells deed h.0 h.1)
+        ∙ ap (λ (c : Option Cell). set_cell (book_of s) n (option_map (deed_cell deed) c)) (sym some)
+  ]

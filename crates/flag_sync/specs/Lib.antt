@@ -1,0 +1,6 @@
+pub mod FlagRows
+pub mod Heard
+pub mod Known
+pub mod Entries
+pub mod BookStates
+pub mod Deeds

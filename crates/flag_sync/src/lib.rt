@@ -1,0 +1,18 @@
+//! The flags by which LSPs are flooded and acknowledged, beside one level's database (ISO 10589 7.3.15).
+#![tactic(auto)]
+
+mod bits;
+mod book;
+mod deed;
+mod flag_row;
+mod headers;
+mod heard;
+mod known;
+mod lsp_rows;
+mod row_edits;
+mod snp_rows;
+
+pub use book::Book;
+pub use flag_row::FlagRow;
+pub use heard::{EntryAnswer, LspAnswer, LspHeard};
+pub use isis_model::Whose;
