@@ -1,5 +1,5 @@
 -- Entries and rows side by side, as cells: what is found, put, erased and changed.
-use Rattle.std.proofs.Common.{◌≡◌, ◌==◌, Bool, true, false, if◌then◌else◌, ℕ, zero, suc, ◌+◌, ◌<◌, ◌≤◌, eqb, nat_lt, ◌⊎◌, inl, inr, List, [], ◌∷◌, length, Option, Some, None, refl, sym, ap, ap₂, ◌∙◌, subst, arith}
+use Rattle.std.proofs.Common.{◌≡◌, ◌==◌, Bool, true, false, if◌then◌else◌, ℕ, zero, suc, ◌+◌, ◌<◌, ◌≤◌, eqb, nat_lt, ◌⊎◌, inl, inr, List, [], ◌∷◌, length, Option, Some, None, IsSome, is_some, ◌-◌, refl, sym, ap, ap₂, ◌∙◌, subst, arith}
 use Rattle.std.proofs.lemmas.Bool.Decides.{nat_tests}
 use Rattle.std.specs.Option.{option_map}
 use Rattle.isis_base.specs.declared.identifiers.LspId.{LspId}
@@ -7,14 +7,15 @@ use Rattle.isis_base.specs.declared.key.Key.{Key}
 use Rattle.isis_base.specs.Identifiers.{lsp_number}
 use Rattle.isis_base.specs.Keys.{rank}
 use Rattle.isis_model.specs.Maps as cells
-use Rattle.isis_model.specs.Cells.{Cell}
+use Rattle.isis_model.specs.Cells.{Cell, header_of}
 use Rattle.isis_model.specs.Books.{rank_of}
 use Rattle.lsp_store.specs.declared.entry.Entry.{Entry}
 use Rattle.lsp_store.specs.Maps.{pair_number, find, put, erase, change_at, change_all, RisesFrom}
 use Rattle.lsp_store.specs.Databases.{key_of}
 use Rattle.flag_sync.specs.declared.flag_row.FlagRow.{FlagRow}
 use Rattle.flag_sync.specs.FlagRows.{cell_of}
-use Rattle.flag_sync.specs.Entries.{HasHeader, AllHaveHeaders}
+use Rattle.flag_sync.specs.Entries.{HasHeader, AllHaveHeaders, key_purged, purged_entry}
+use Rattle.flag_sync.proofs.HeaderLemmas.{header-length}
 use Rattle.flag_sync.specs.BookStates.{cells_of, AreBeside}
 
 -- ---- what is found
@@ -55,6 +56,12 @@ both-or-none (e ∷ es) (r ∷ rs) n b =
     cases : (t : Bool) → BothOrNone (find es n) (find rs n) → BothOrNone (if t then Some e.1 else find es n) (if t then Some r.1 else find rs n)
     cases true h = inr (e.1, r.1, refl, refl)
     cases false h = h
+
+pub row-some : (es : List (LspId × Entry)) (rs : List (LspId × FlagRow)) (n : ℕ) (entry : Entry) → AreBeside es rs → find es n ≡ Some entry → IsSome (find rs n)
+row-some es rs n entry b e = elim (both-or-none es rs n b) [
+  | inl h ↦ absurd (let f = sym h.0 ∙ e in grind (arith, f))
+  | inr h ↦ subst (λ (o : Option FlagRow). IsSome o) (sym h.3) refl
+]
 
 pub length-cells : (es : List (LspId × Entry)) (rs : List (LspId × FlagRow)) → AreBeside es rs → length (cells_of es rs) ≡ length es
 length-cells [] [] b = refl
@@ -211,3 +218,33 @@ each-beside g [] [] b = tt
 each-beside g [] (r ∷ rs) b = absurd b
 each-beside g (e ∷ es) [] b = absurd b
 each-beside g (e ∷ es) (r ∷ rs) b = (b.0, each-beside g es rs b.1)
+
+-- ---- one of the two sides alone
+
+pub rows-beside : (g : FlagRow → FlagRow) (es : List (LspId × Entry)) (rs : List (LspId × FlagRow)) (n : ℕ) → AreBeside es rs → AreBeside es (change_at g rs n)
+rows-beside g es rs n b = subst (λ (xs : List (LspId × Entry)). AreBeside xs (change_at g rs n)) (same-change es n) (change-beside (λ v. v) g es rs n b)
+
+pub entries-beside : (f : Entry → Entry) (es : List (LspId × Entry)) (rs : List (LspId × FlagRow)) (n : ℕ) → AreBeside es rs → AreBeside (change_at f es n) rs
+entries-beside f es rs n b = subst (λ (xs : List (LspId × FlagRow)). AreBeside (change_at f es n) xs) (same-change rs n) (change-beside f (λ v. v) es rs n b)
+
+-- a purge has the octets of a header
+pub purged-header : (entry : Entry) → HasHeader entry.key entry.octets → HasHeader (purged_entry entry).key (purged_entry entry).octets
+purged-header entry h = cases (nat_lt (length entry.octets) 27) refl
+  where
+    header : (key : Option Key) → 27 ≤ length entry.octets → HasHeader (key_purged key) (header_of entry.octets)
+    header None long = tt
+    header (Some key) long = let size = header-length entry.octets long in omega (arith, size)
+    cases : (t : Bool) → nat_lt (length entry.octets) 27 ≡ t → HasHeader (if t then entry else record entry { key = key_purged entry.key; checksum = 0; left = 60; octets = header_of entry.octets }).key (if t then entry else record entry { key = key_purged entry.key; checksum = 0; left = 60; octets = header_of entry.octets }).octets
+    cases true e = h
+    cases false e = header entry.key (grind (arith, nat_tests, e))
+
+pub has-header : (key : Option Key) (octets : List ℕ) → 27 ≤ length octets → HasHeader key octets
+has-header None octets long = tt
+has-header (Some key) octets long = long
+
+-- room for rows stays as large as that for entries
+pub put-room : (es : List (LspId × Entry)) (rs : List (LspId × FlagRow)) (n a b : ℕ) → AreBeside es rs → a ≤ b → (if is_some (find es n) then a else a - 1) ≤ (if is_some (find rs n) then b else b - 1)
+put-room es rs n a b beside le = elim (both-or-none es rs n beside) [
+  | inl h ↦ rw (h.0, h.1) (omega (arith, le))
+  | inr h ↦ rw (h.2, h.3) le
+]

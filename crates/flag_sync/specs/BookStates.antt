@@ -51,6 +51,12 @@ pub record IsBook (entries : List (LspId × Entry)) (rows : List (LspId × FlagR
   pub room : entries_spare ≤ rows_spare
   pub few : circuits ≤ 64
 
+-- circuits, their kinds and which of them are open stay
+pub record SameCircuits (old new : BookState) : Type 0 where
+  pub opened : new.opened ≡ old.opened
+  pub points : new.points ≡ old.points
+  pub circuits : new.circuits ≡ old.circuits
+
 -- a circuit's number
 abbrev pub IsCircuit : ℕ → ℕ → Type 0
 IsCircuit circuit circuits = (1 ≤ circuit) × (circuit ≤ circuits)

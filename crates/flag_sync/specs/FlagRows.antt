@@ -34,6 +34,13 @@ cell_of entry row = record {
   waits = waits_of row.waits;
 }
 
+-- a row without flags, and an entry without flags
+abbrev pub no_flags : FlagRow
+no_flags = record { srm = 0; ssn = 0; waits = 0 ∷ 0 ∷ 0 ∷ [] }
+
+abbrev pub entry_cell : Entry → Cell
+entry_cell entry = cell_of entry no_flags
+
 -- ---- what is done to a row on one circuit
 
 abbrev pub at_once : List ℕ → ℕ → List ℕ

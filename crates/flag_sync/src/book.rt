@@ -6,13 +6,11 @@ ghost use Rattle.lsp_store.specs.Databases.{ReserveCause};
 ghost use Rattle.flag_sync.specs.BookStates.{book_of};
 
 use crate::flag_row::FlagRow;
+use crate::sides::ENTRY_LIMIT;
 use isis_base::{LspId, OutOfMemory};
 use lsp_store::{Pages, Store, StoreFault};
 use std::alloc::Global;
 use std::marker::Model;
-
-/// The most entries of a store.
-pub(crate) const ENTRY_LIMIT: usize = 65_536;
 
 /// One level's database with its SRM and SSN flags (ISO 10589 7.3.15).
 #[derive(Drop)]

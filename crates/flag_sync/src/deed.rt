@@ -19,6 +19,7 @@ pub(crate) enum SsnDeed {
 }
 
 /// What is done to the flags of one circuit.
+#[derive(Drop)]
 pub(crate) struct Deed {
     pub(crate) place: u8,
     pub(crate) srm: SrmDeed,

@@ -1,4 +1,6 @@
 //! The flags of one LSP ID.
+ghost use Rattle.std.specs.Prelude.{◌≡◌, [], ◌∷◌};
+
 use isis_base::OutOfMemory;
 use lsp_store::TryCopy;
 
@@ -9,6 +11,16 @@ pub struct FlagRow {
     pub srm: u64,
     pub ssn: u64,
     pub waits: [u64; 3],
+}
+
+impl FlagRow {
+    /// SRM on these circuits, due at once, and SSN on those.
+    pub(crate) fn new(srm: u64, ssn: u64) -> FlagRow
+        ensures { result ≡ record { srm = srm; ssn = ssn; waits = 0 ∷ 0 ∷ 0 ∷ [] } }
+    {
+        let waits = [0, 0, 0];
+        FlagRow { srm, ssn, waits }
+    }
 }
 
 impl TryCopy for FlagRow {

@@ -19,6 +19,7 @@ pub(crate) const PURGE_SECONDS: u16 = 60;
 const HEADER: usize = 27;
 
 /// An entry becomes its purge: its header, with 60 seconds left.
+#[derive(Drop)]
 pub(crate) struct Purge;
 
 impl Change<Entry> for Purge {

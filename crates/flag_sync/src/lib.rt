@@ -3,6 +3,7 @@
 
 mod bits;
 mod book;
+mod cells;
 mod deed;
 mod flag_row;
 mod headers;
@@ -10,6 +11,7 @@ mod heard;
 mod known;
 mod lsp_rows;
 mod row_edits;
+mod sides;
 mod snp_rows;
 
 pub use book::Book;

@@ -8,6 +8,7 @@ use crate::flag_row::FlagRow;
 use lsp_store::Change;
 
 /// A second less of what each set SRM flag waits.
+#[derive(Drop)]
 pub(crate) struct SecondLess;
 
 impl Change<FlagRow> for Deed {
