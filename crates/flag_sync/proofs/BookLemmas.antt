@@ -7,10 +7,11 @@ use Rattle.isis_base.specs.declared.key.Key.{Key}
 use Rattle.isis_base.specs.Identifiers.{lsp_number}
 use Rattle.isis_base.specs.Keys.{rank}
 use Rattle.isis_model.specs.Maps as cells
-use Rattle.isis_model.specs.Sets.{has}
+use Rattle.isis_model.specs.Sets.{has, only}
 use Rattle.isis_model.specs.Waits.{no_waits}
 use Rattle.isis_model.specs.Cells.{Cell, flagged, purged, header_of}
 use Rattle.isis_model.specs.Books.{Book, cell_at, rank_of, rank_at, checksum_of, srm_of, srm_at, ssn_of, ssn_at, risen, set_cell}
+use Rattle.isis_model.specs.LspTable.{ssn_stored}
 use Rattle.lsp_store.specs.declared.entry.Entry.{Entry}
 use Rattle.lsp_store.specs.Maps.{find, put, erase, change_at, change_all, RisesFrom}
 use Rattle.lsp_store.specs.Databases.{Database, key_of, count_after, with_entry, without_entry, with_change}
@@ -199,4 +200,33 @@ module _ (s : BookState) (b : AreBeside s.store.entries s.rows) (up : RisesFrom 
         let cell : cell_at (book_of s) n ≡ None = held n ∙ ap₂ pair_up h.0 h.1 in
         record { key = ap rank_of cell ∙ ap rank (sym k); sum = ap checksum_of cell ∙ sym l }
     | inr h ↦ absurd (let f = sym h.2 ∙ e in grind (arith, f))
+  ]
+
+  -- nothing changes
+  pub book-stays : (n : ℕ) → book_of s ≡ set_cell (book_of s) n (cell_at (book_of s) n)
+  book-stays n = elim (both-or-none s.store.entries s.rows n b) [
+    | inl h ↦
+        let none : cell_at (book_of s) n ≡ None = held n ∙ ap₂ pair_up h.0 h.1 in
+        book-none n h.0 h.1 ∙ ap (set_cell (book_of s) n) (sym none)
+    | inr h ↦
+        let some : cell_at (book_of s) n ≡ Some (cell_of h.0 h.1) = held n ∙ ap₂ pair_up h.2 h.3 in
+        ap (λ (rs : List (LspId × FlagRow)). book_of (record s { rows = rs })) (sym (same-change s.rows n))
+        ∙ book-rows (λ v. v) n h.0 h.1 h.2 h.3 ∙ ap (set_cell (book_of s) n) (sym some)
+  ]
+
+  -- SSN behind a newer LSP, where it isn't on a point-to-point circuit
+  pub stored-found : (n place : ℕ) (row : FlagRow) → find s.rows n ≡ Some row → has s.points place ≡ false → only row.ssn place ≡ ssn_stored s.points place (cell_at (book_of s) n)
+  stored-found n place row e p = elim (both-or-none s.store.entries s.rows n b) [
+    | inl h ↦ absurd (let f = sym h.1 ∙ e in grind (arith, f))
+    | inr h ↦
+        let cell : cell_at (book_of s) n ≡ Some (cell_of h.0 row) = held n ∙ ap₂ pair_up h.2 e in
+        rw (cell, p) refl
+  ]
+
+  pub stored-none : (n place : ℕ) → find s.rows n ≡ None → has s.points place ≡ false → 0 ≡ ssn_stored s.points place (cell_at (book_of s) n)
+  stored-none n place e p = elim (both-or-none s.store.entries s.rows n b) [
+    | inl h ↦
+        let cell : cell_at (book_of s) n ≡ None = held n ∙ ap₂ pair_up h.0 h.1 in
+        rw (cell, p) refl
+    | inr h ↦ absurd (let f = sym h.3 ∙ e in grind (arith, f))
   ]

@@ -1,3 +1,4 @@
 pub mod HeaderLemmas
 pub mod CellLemmas
 pub mod BookLemmas
+pub mod RowLemmas

@@ -1,11 +1,11 @@
 -- A book as contracts see it, and as the definitions see it: entries and rows of flags side by side (ISO 10589 7.3.15).
-use Rattle.std.specs.Prelude.{◌≡◌, ℕ, ◌<◌, ◌≤◌, List, [], ◌∷◌}
+use Rattle.std.specs.Prelude.{◌≡◌, ℕ, ◌<◌, ◌≤◌, ◌⊎◌, List, [], ◌∷◌, length, None}
 use Rattle.isis_base.specs.declared.identifiers.LspId.{LspId}
 use Rattle.isis_base.specs.Identifiers.{lsp_number}
 use Rattle.isis_model.specs.Cells.{Cell}
 use Rattle.isis_model.specs.Books.{Book}
 use Rattle.lsp_store.specs.declared.entry.Entry.{Entry}
-use Rattle.lsp_store.specs.Maps.{RisesFrom}
+use Rattle.lsp_store.specs.Maps.{RisesFrom, find}
 use Rattle.lsp_store.specs.Databases.{Database}
 use Rattle.flag_sync.specs.declared.flag_row.FlagRow.{FlagRow}
 use Rattle.flag_sync.specs.FlagRows.{cell_of}
@@ -56,6 +56,14 @@ pub record SameCircuits (old new : BookState) : Type 0 where
   pub opened : new.opened ≡ old.opened
   pub points : new.points ≡ old.points
   pub circuits : new.circuits ≡ old.circuits
+
+-- no entry of a number is held, and 65,536 others are
+abbrev pub IsFullFor : BookState → ℕ → Type 0
+IsFullFor state n = (find state.store.entries n ≡ None) × (65536 ≤ length state.store.entries)
+
+-- room is taken for an entry, or 65,536 are held
+abbrev pub HasRoom : BookState → Type 0
+HasRoom state = (0 < state.store.spare) ⊎ (65536 ≤ length state.store.entries)
 
 -- a circuit's number
 abbrev pub IsCircuit : ℕ → ℕ → Type 0

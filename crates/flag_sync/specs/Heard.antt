@@ -1,5 +1,5 @@
 -- What is heard, as the definitions take it, and the rows of the tables as answers (own).
-use Rattle.std.specs.Prelude.{◌≡◌, ℕ, List, [], ◌∷◌, Option, Some, None}
+use Rattle.std.specs.Prelude.{◌≡◌, ℕ, List, [], ◌∷◌, Option, Some, None, Bool, true, false}
 use Rattle.isis_base.specs.declared.entry.LspEntry.{LspEntry}
 use Rattle.isis_base.specs.Identifiers.{lsp_number}
 use Rattle.isis_base.specs.Keys.{entry_rank}
@@ -56,3 +56,13 @@ outbid_of snp.Unasked e = None
 
 abbrev pub entry_answer_of : SnpCase → LspEntry → EntryAnswer
 entry_answer_of row e = record { flagged = sets_flag row; outbid = outbid_of row e }
+
+-- whether a row keeps what was heard
+abbrev pub makes_entry : LspCase → Bool
+makes_entry lsp.Outbid = false
+makes_entry lsp.PurgedOwn = true
+makes_entry lsp.AckPurge = false
+makes_entry lsp.Confused = false
+makes_entry lsp.Stored = true
+makes_entry lsp.Same = false
+makes_entry lsp.Older = false

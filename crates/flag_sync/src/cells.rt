@@ -109,7 +109,7 @@ impl Book {
         ensures { result ≡ srm_at (book_of self.now) (lsp_number id) (circuit - 1) }
     {
         match self.flags.get(id) {
-            Some(row) => has_bit(row.srm, circuit - 1),
+            Some(row) => has_bit(row.srm, self.place(circuit)),
             None => false,
         }
     }
@@ -120,9 +120,19 @@ impl Book {
         ensures { result ≡ ssn_at (book_of self.now) (lsp_number id) (circuit - 1) }
     {
         match self.flags.get(id) {
-            Some(row) => has_bit(row.ssn, circuit - 1),
+            Some(row) => has_bit(row.ssn, self.place(circuit)),
             None => false,
         }
+    }
+
+    /// The place of a circuit in a set of them: circuit 1 has place 0.
+    pub(crate) fn place(&self, circuit: u8) -> u8
+        requires { IsCircuit circuit self.now.circuits }
+        ensures place { result ≡ circuit - 1 }
+        ensures few { result < 64 }
+    {
+        let _circuits = self.circuits;
+        circuit - 1
     }
 
     /// Sets an LSP ID's entry and its row.
@@ -132,7 +142,7 @@ impl Book {
         entry: Entry,
         row: FlagRow,
     ) -> Result<(), (Entry, StoreFault)>
-        requires octets { 27 ≤ length entry.octets }
+        requires headed { HasHeader entry.key entry.octets }
         ensures book { OnOk result (book_of self.new ≡ set_cell (book_of self.old) (lsp_number id)
             (Some (cell_of entry row))) }
         ensures rest { OnOk result (SameCircuits self.old self.new) }

@@ -7,6 +7,8 @@ mod cells;
 mod deed;
 mod flag_row;
 mod headers;
+mod hear_entry;
+mod hear_lsp;
 mod heard;
 mod known;
 mod lsp_rows;

@@ -9,7 +9,7 @@ use Rattle.flag_sync.specs.declared.flag_row.FlagRow.{FlagRow}
 use Rattle.flag_sync.specs.FlagRows.{cell_of}
 use Rattle.flag_sync.specs.Entries.{AllHaveHeaders}
 use Rattle.flag_sync.specs.BookStates.{BookState, book_of, AreBeside}
-use Rattle.flag_sync.proofs.CellLemmas.{put-beside, put-headers, has-header}
+use Rattle.flag_sync.proofs.CellLemmas.{put-beside, put-headers}
 use Rattle.flag_sync.proofs.BookLemmas.{book-put}
 use Rattle.flag_sync.proofs.book.Book.keep.Goals as goal
 
@@ -34,7 +34,7 @@ invariant_of-self-2 c =
     record {
       beside = subst (λ (es : List _). AreBeside es c.put_both.new.flags.entries) (sym same) (subst (AreBeside (put c.self.inside.store.entries c.args.id c.args.entry)) (sym rows) (put-beside c.self.inside.store.entries c.self.inside.flags.entries c.args.id c.args.entry c.args.row i.beside));
       rises = subst (RisesFrom 0) (sym same) (put-rises c.self.inside.store.entries 0 c.args.id c.args.entry zero-le i.rises);
-      headed = subst AllHaveHeaders (sym same) (put-headers c.self.inside.store.entries c.args.id c.args.entry i.headed (has-header c.args.entry.key c.args.entry.octets c.requires.octets));
+      headed = subst AllHaveHeaders (sym same) (put-headers c.self.inside.store.entries c.args.id c.args.entry i.headed c.requires.headed);
       room = c.in-Ok.ensures.room;
       few = i.few;
     }

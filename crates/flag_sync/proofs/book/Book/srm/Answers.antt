@@ -1,5 +1,6 @@
-use Rattle.std.proofs.Common.{◌≡◌, ◌-◌, false, sym, subst, ◌∙◌}
+use Rattle.std.proofs.Common.{◌≡◌, ◌-◌, false, sym, ap, subst, ◌∙◌}
 use Rattle.isis_base.specs.Identifiers.{lsp_number}
+use Rattle.isis_model.specs.Sets.{has}
 use Rattle.isis_model.specs.Books.{srm_at}
 use Rattle.flag_sync.specs.BookStates.{BookState, book_of}
 use Rattle.flag_sync.proofs.BookLemmas.{srm-found, srm-none}
@@ -16,7 +17,7 @@ returns-in-Some c =
     } in
     let i = c.self.invariant in
     subst (λ (t : BookState). c.has_bit.result ≡ srm_at (book_of t) (lsp_number c.args.id) (c.args.circuit - 1)) c.self.view_is
-    (c.has_bit.ensures ∙ sym (srm-found s i.beside i.rises (lsp_number c.args.id) (c.args.circuit - 1) c.in-Some.row.now c.in-Some.ensures))
+    (c.has_bit.ensures ∙ ap (has c.in-Some.row.now.srm) c.place.ensures.place ∙ sym (srm-found s i.beside i.rises (lsp_number c.args.id) (c.args.circuit - 1) c.in-Some.row.now c.in-Some.ensures))
 
 pub returns-in-None : goal.returns-in-None
 returns-in-None c =
