@@ -9,9 +9,10 @@ use Rattle.isis_base.specs.Keys.{rank}
 use Rattle.isis_model.specs.Maps as cells
 use Rattle.isis_model.specs.Sets.{has, only}
 use Rattle.isis_model.specs.Waits.{no_waits}
-use Rattle.isis_model.specs.Cells.{Cell, flagged, purged, header_of}
-use Rattle.isis_model.specs.Books.{Book, cell_at, rank_of, rank_at, checksum_of, srm_of, srm_at, ssn_of, ssn_at, risen, set_cell}
+use Rattle.isis_model.specs.Cells.{Cell, flagged, purged, header_of, ssn_on, empty_cell}
+use Rattle.isis_model.specs.Books.{Book, cell_at, rank_of, rank_at, checksum_of, srm_of, srm_at, ssn_of, ssn_at, is_full, risen, set_cell}
 use Rattle.isis_model.specs.LspTable.{ssn_stored}
+use Rattle.isis_model.specs.SnpTable.{asked}
 use Rattle.lsp_store.specs.declared.entry.Entry.{Entry}
 use Rattle.lsp_store.specs.Maps.{find, put, erase, change_at, change_all, RisesFrom}
 use Rattle.lsp_store.specs.Databases.{Database, key_of, count_after, with_entry, without_entry, with_change}
@@ -27,7 +28,7 @@ use Rattle.flag_sync.specs.declared.known.Known.{Known}
 use Rattle.flag_sync.specs.Known.{Knows}
 use Rattle.flag_sync.specs.Entries.{HasHeader, AllHaveHeaders, purged_entry}
 use Rattle.flag_sync.specs.BookStates.{BookState, cells_of, book_of, AreBeside}
-use Rattle.flag_sync.proofs.CellLemmas.{pair_up, find-cells, rank-cells, both-or-none, absent-erase, put-cells, erase-cells, change-cells, same-change, find-change, absent-change, found-header}
+use Rattle.flag_sync.proofs.CellLemmas.{pair_up, find-cells, rank-cells, length-cells, both-or-none, absent-erase, put-cells, erase-cells, change-cells, same-change, find-change, absent-change, found-header}
 
 -- a deed on a row is the deed on the cell
 deed-srm : (deed : SrmDeed) (place : ℕ) (entry : Entry) (row : FlagRow) → cell_of entry (srm_done deed place row) ≡ srm_cell deed place (cell_of entry row)
@@ -229,4 +230,34 @@ module _ (s : BookState) (b : AreBeside s.store.entries s.rows) (up : RisesFrom 
         let cell : cell_at (book_of s) n ≡ None = held n ∙ ap₂ pair_up h.0 h.1 in
         rw (cell, p) refl
     | inr h ↦ absurd (let f = sym h.3 ∙ e in grind (arith, f))
+  ]
+
+  -- an LSP ID that is asked for
+  full-is : is_full (book_of s) ≡ eqb (length s.store.entries) 65536
+  full-is = ap (λ (k : ℕ). eqb k 65536) (length-cells s.store.entries s.rows b)
+
+  pub asked-found : (n place : ℕ) (entry : Entry) → find s.store.entries n ≡ Some entry → option_map (λ (c : Cell). ssn_on c place) (cell_at (book_of s) n) ≡ asked (is_full (book_of s)) place (cell_at (book_of s) n)
+  asked-found n place entry e = elim (both-or-none s.store.entries s.rows n b) [
+    | inl h ↦ absurd (let f = sym h.0 ∙ e in grind (arith, f))
+    | inr h ↦
+        let cell : cell_at (book_of s) n ≡ Some (cell_of h.0 h.1) = held n ∙ ap₂ pair_up h.2 h.3 in
+        rw cell refl
+  ]
+
+  pub asked-full : (n place : ℕ) → find s.store.entries n ≡ None → length s.store.entries ≡ 65536 → cell_at (book_of s) n ≡ asked (is_full (book_of s)) place (cell_at (book_of s) n)
+  asked-full n place e full = elim (both-or-none s.store.entries s.rows n b) [
+    | inl h ↦
+        let cell : cell_at (book_of s) n ≡ None = held n ∙ ap₂ pair_up h.0 h.1 in
+        let yes : is_full (book_of s) ≡ true = full-is ∙ grind (arith, nat_tests, full) in
+        rw (cell, yes) refl
+    | inr h ↦ absurd (let f = sym h.2 ∙ e in grind (arith, f))
+  ]
+
+  pub asked-new : (n place : ℕ) → find s.store.entries n ≡ None → length s.store.entries < 65536 → Some (ssn_on empty_cell place) ≡ asked (is_full (book_of s)) place (cell_at (book_of s) n)
+  asked-new n place e less = elim (both-or-none s.store.entries s.rows n b) [
+    | inl h ↦
+        let cell : cell_at (book_of s) n ≡ None = held n ∙ ap₂ pair_up h.0 h.1 in
+        let no : is_full (book_of s) ≡ false = full-is ∙ grind (arith, nat_tests, less) in
+        rw (cell, no) refl
+    | inr h ↦ absurd (let f = sym h.2 ∙ e in grind (arith, f))
   ]

@@ -1,9 +1,10 @@
 -- Which row of a table is met, by what is known of what is held.
-use Rattle.std.proofs.Common.{◌≡◌, Bool, true, false, if◌then◌else◌, ℕ, ◌+◌, ◌*◌, ◌<◌, nat_lt, Option, Some, None, refl, sym, ap, subst, arith}
+use Rattle.std.proofs.Common.{◌≡◌, ◌==◌, ◌&&◌, Bool, true, false, if◌then◌else◌, ℕ, ◌+◌, ◌*◌, ◌<◌, nat_lt, Option, Some, None, refl, sym, ap, subst, arith}
 use Rattle.std.proofs.lemmas.Bool.Decides.{nat_tests}
 use Rattle.isis_base.specs.declared.entry.LspEntry.{LspEntry}
 use Rattle.isis_base.specs.Keys.{entry_rank}
 use Rattle.isis_model.specs.declared.whose.Whose.{Whose}
+use Rattle.isis_model.specs.declared.whose.Whose.TheVariants as whose
 use Rattle.isis_model.specs.declared.lsp_case.LspCase.{LspCase}
 use Rattle.isis_model.specs.declared.lsp_case.LspCase.TheVariants as lsp
 use Rattle.isis_model.specs.declared.snp_case.SnpCase.{SnpCase}
@@ -11,8 +12,8 @@ use Rattle.isis_model.specs.declared.snp_case.SnpCase.TheVariants as snp
 use Rattle.isis_model.specs.Ranks.{is_live}
 use Rattle.isis_model.specs.Cells.{Cell, Heard}
 use Rattle.isis_model.specs.Books.{Book, cell_at, rank_of, is_full, set_cell}
-use Rattle.isis_model.specs.LspTable.{lsp_case, lsp_row, met, hear_lsp}
-use Rattle.isis_model.specs.SnpTable.{SnpEntry, snp_case, snp_row, hear_entry}
+use Rattle.isis_model.specs.LspTable.{lsp_case, lsp_row, met, hear_lsp, differs, is_issued}
+use Rattle.isis_model.specs.SnpTable.{SnpEntry, snp_case, snp_row, sets_flag, hear_entry}
 use Rattle.isis_model.proofs.FloodLemmas.{each-row, each-snp}
 use Rattle.flag_sync.specs.declared.known.Known.{Known}
 use Rattle.flag_sync.specs.Known.{Knows, known_cell}
@@ -46,3 +47,20 @@ hear-met book place w h row e = ap (λ (r : LspCase). set_cell book h.id (lsp_ro
 pub entry-met : (book : Book) (place : ℕ) (w : Whose) (h : SnpEntry) (row : SnpCase) → row ≡ snp_case w (cell_at book h.id) h → set_cell book h.id (snp_row row (is_full book) book.opened book.p2p place (cell_at book h.id)) ≡ hear_entry book place w h
 unfolding hear_entry
 entry-met book place w h row e = ap (λ (r : SnpCase). set_cell book h.id (snp_row r (is_full book) book.opened book.p2p place (cell_at book h.id))) e
+
+-- a row sets a flag or not, whosever the LSP is
+flags-any : (a t u : Bool) (x : SnpCase) → sets_flag (if a then snp.Nothing else (if t && false then snp.Outbid else (if t then snp.Confused else x))) ≡ sets_flag (if a then snp.Nothing else (if t && u then snp.Outbid else (if t then snp.Confused else x)))
+flags-any true t u x = refl
+flags-any false true true x = refl
+flags-any false true false x = refl
+flags-any false false u x = refl
+
+pub flags-same : (w : Whose) (held : Option Cell) (h : SnpEntry) → sets_flag (snp_case whose.Other held h) ≡ sets_flag (snp_case w held h)
+unfolding snp_case
+flags-same w held h =
+    flags-any (h.rank == 0 && rank_of held == 0) (differs held h.rank h.checksum) (is_issued w)
+    (if rank_of held == h.rank then snp.Same
+    else (if nat_lt h.rank (rank_of held) then snp.Older
+    else (if nat_lt 0 (rank_of held) then snp.Newer
+    else (if nat_lt 0 h.lifetime && nat_lt 0 h.checksum then snp.Asked
+    else snp.Unasked))))

@@ -119,14 +119,17 @@ impl Book {
             (cell_at (book_of self.old) (lsp_number id))) }
         ensures rest { SameCircuits self.old self.new }
     {
-        if self.store.get(id).is_some() {
-            let deed = Deed {
-                place,
-                srm: SrmDeed::Keep,
-                ssn: SsnDeed::Set,
-            };
-            self.flag(id, &deed);
-            return;
+        match self.store.get(id) {
+            Some(_) => {
+                let deed = Deed {
+                    place,
+                    srm: SrmDeed::Keep,
+                    ssn: SsnDeed::Set,
+                };
+                self.flag(id, &deed);
+                return;
+            }
+            None => {}
         }
         if self.store.len() >= ENTRY_LIMIT {
             self.stay(id);
