@@ -28,7 +28,7 @@ use Rattle.flag_sync.specs.declared.known.Known.{Known}
 use Rattle.flag_sync.specs.Known.{Knows}
 use Rattle.flag_sync.specs.Entries.{HasHeader, AllHaveHeaders, purged_entry}
 use Rattle.flag_sync.specs.BookStates.{BookState, cells_of, book_of, AreBeside}
-use Rattle.flag_sync.proofs.CellLemmas.{pair_up, find-cells, rank-cells, length-cells, both-or-none, absent-erase, put-cells, erase-cells, change-cells, same-change, find-change, absent-change, found-header}
+use Rattle.flag_sync.proofs.CellLemmas.{pair_up, find-cells, rank-cells, length-cells, both-or-none, absent-erase, put-cells, erase-cells, change-cells, same-change, find-change, absent-change, found-header, each-cells}
 
 -- a deed on a row is the deed on the cell
 deed-srm : (deed : SrmDeed) (place : ℕ) (entry : Entry) (row : FlagRow) → cell_of entry (srm_done deed place row) ≡ srm_cell deed place (cell_of entry row)
@@ -261,3 +261,7 @@ module _ (s : BookState) (b : AreBeside s.store.entries s.rows) (up : RisesFrom 
         rw (cell, no) refl
     | inr h ↦ absurd (let f = sym h.2 ∙ e in grind (arith, f))
   ]
+
+  -- all rows
+  pub book-all : (g : FlagRow → FlagRow) (f : Cell → Cell) → ((entry : Entry) (row : FlagRow) → cell_of entry (g row) ≡ f (cell_of entry row)) → book_of (record s { rows = change_all g s.rows }) ≡ record (book_of s) { cells = cells.each (λ (_ : ℕ) (cell : Cell). f cell) (book_of s).cells }
+  book-all g f same = ap (λ (cs : List (ℕ × Cell)). with_parts cs s.store.changes) (each-cells g f same s.store.entries s.rows)

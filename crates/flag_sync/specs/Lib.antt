@@ -4,3 +4,5 @@ pub mod Known
 pub mod Entries
 pub mod BookStates
 pub mod Deeds
+pub mod Circuits
+pub mod Walks

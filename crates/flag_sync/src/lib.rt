@@ -4,6 +4,7 @@
 mod bits;
 mod book;
 mod cells;
+mod circuits;
 mod deed;
 mod flag_row;
 mod headers;
@@ -15,8 +16,10 @@ mod lsp_rows;
 mod row_edits;
 mod sides;
 mod snp_rows;
+mod walks;
 
 pub use book::Book;
+pub use walks::{Due, Owed};
 pub use flag_row::FlagRow;
 pub use heard::{EntryAnswer, LspAnswer, LspHeard};
 pub use isis_model::Whose;
