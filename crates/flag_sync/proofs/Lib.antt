@@ -2,3 +2,5 @@ pub mod HeaderLemmas
 pub mod CellLemmas
 pub mod BookLemmas
 pub mod RowLemmas
+pub mod WalkLemmas
+pub mod MarkLemmas

@@ -20,6 +20,10 @@ pub record BookState : Type 0 where
   pub points : ℕ
   pub circuits : ℕ
 
+-- a database without entries
+abbrev pub no_entries : Database
+no_entries = record { entries = []; spare = 0; changes = 0 }
+
 -- entries and rows of the same LSP IDs, as cells
 abbrev pub cells_of : List (LspId × Entry) → List (LspId × FlagRow) → List (ℕ × Cell)
 cells_of [] rows = []

@@ -6,3 +6,4 @@ pub mod BookStates
 pub mod Deeds
 pub mod Circuits
 pub mod Walks
+pub mod Marks

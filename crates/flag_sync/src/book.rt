@@ -1,13 +1,16 @@
 //! One level's database with its flags.
-ghost use Rattle.std.specs.Prelude.{◌≡◌, ◌≤◌, ◌<◌, ◌+◌, length, max, IfOk, IfErr, OnOk, OnErr, IsOk, Err};
-ghost use Rattle.isis_base.specs.Identifiers.{lsp_number};
+ghost use Rattle.std.specs.Prelude.{◌≡◌, ◌≤◌, ◌<◌, ◌+◌, length, max, IfOk, IfErr, OnOk, OnErr, IsOk, Err, ℕ, [], Some, if◌then◌else◌};
+ghost use Rattle.isis_model.specs.Places.{nth};
+ghost use Rattle.isis_model.specs.Sets.{has, with_one};
 ghost use Rattle.lsp_store.specs.declared.fault.StoreFault.TheVariants.{Full};
 ghost use Rattle.lsp_store.specs.Databases.{ReserveCause};
-ghost use Rattle.flag_sync.specs.BookStates.{book_of};
+ghost use Rattle.flag_sync.specs.Circuits.{is_point};
+ghost use Rattle.flag_sync.specs.BookStates.{no_entries};
 
+use crate::bits::with_bit;
 use crate::flag_row::FlagRow;
 use crate::sides::ENTRY_LIMIT;
-use isis_base::{LspId, OutOfMemory};
+use isis_base::{CircuitKind, OutOfMemory};
 use lsp_store::{Pages, Store, StoreFault};
 use std::alloc::Global;
 use std::marker::Model;
@@ -37,6 +40,27 @@ impl Model for Book {
 }
 
 impl Book {
+    /// The book without entries, of circuits of these kinds, none of which is open.
+    pub fn new(alloc: Global, kinds: &[CircuitKind]) -> Result<Book, OutOfMemory>
+        requires { length kinds.now ≤ 64 }
+        ensures store { IfOk result (λ book. book.store ≡ no_entries) }
+        ensures rows { IfOk result (λ book. book.rows ≡ []) }
+        ensures opened { IfOk result (λ book. book.opened ≡ 0) }
+        ensures points { IfOk result (λ book. (place : ℕ)
+            → has book.points place ≡ is_point (nth kinds.now place)) }
+        ensures circuits { IfOk result (λ book. book.circuits ≡ length kinds.now) }
+    {
+        let book = Book {
+            alloc,
+            store: Store::new(alloc),
+            flags: Pages::new(alloc),
+            opened: 0,
+            points: points_of(kinds),
+            circuits: kinds.len(),
+        };
+        Ok(book)
+    }
+
     /// The database, lent.
     pub fn store(&self) -> &Store
         ensures { result.now ≡ self.now.store }
@@ -93,5 +117,32 @@ impl Book {
             points: self.points,
             circuits: self.circuits,
         })
+    }
+}
+
+/// The circuits that are point-to-point.
+fn points_of(kinds: &[CircuitKind]) -> u64
+    requires { length kinds.now ≤ 64 }
+    ensures { (place : ℕ) → has result place ≡ is_point (nth kinds.now place) }
+{
+    let mut points = 0u64;
+    let mut place = 0u8;
+    let mut left = kinds;
+    while let [kind, more @ ..] = left {
+        points = with_kind(points, place, *kind);
+        place += 1;
+        left = more;
+    }
+    points
+}
+
+/// The set with a circuit, where that is point-to-point.
+fn with_kind(points: u64, place: u8, kind: CircuitKind) -> u64
+    requires { place < 64 }
+    ensures { result ≡ (if is_point (Some kind) then with_one points place else points) }
+{
+    match kind {
+        CircuitKind::PointToPoint => with_bit(points, place),
+        CircuitKind::Lan => points,
     }
 }

@@ -13,6 +13,7 @@ mod hear_lsp;
 mod heard;
 mod known;
 mod lsp_rows;
+mod range;
 mod row_edits;
 mod sides;
 mod snp_rows;
