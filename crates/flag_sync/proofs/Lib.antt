@@ -4,3 +4,4 @@ pub mod BookLemmas
 pub mod RowLemmas
 pub mod WalkLemmas
 pub mod MarkLemmas
+pub mod KindLemmas

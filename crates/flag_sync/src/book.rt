@@ -126,12 +126,10 @@ fn points_of(kinds: &[CircuitKind]) -> u64
     ensures { (place : ℕ) → has result place ≡ is_point (nth kinds.now place) }
 {
     let mut points = 0u64;
-    let mut place = 0u8;
-    let mut left = kinds;
-    while let [kind, more @ ..] = left {
-        points = with_kind(points, place, *kind);
+    let mut place = 0usize;
+    while place < kinds.len() {
+        points = with_kind(points, place as u8, kinds[place]);
         place += 1;
-        left = more;
     }
     points
 }
