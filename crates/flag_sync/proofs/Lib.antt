@@ -5,3 +5,4 @@ pub mod RowLemmas
 pub mod WalkLemmas
 pub mod MarkLemmas
 pub mod KindLemmas
+pub mod SpareLemmas

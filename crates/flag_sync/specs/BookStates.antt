@@ -1,5 +1,5 @@
 -- A book as contracts see it, and as the definitions see it: entries and rows of flags side by side (ISO 10589 7.3.15).
-use Rattle.std.specs.Prelude.{◌≡◌, ℕ, ◌<◌, ◌≤◌, ◌⊎◌, List, [], ◌∷◌, length, None}
+use Rattle.std.specs.Prelude.{◌≡◌, ℕ, ◌+◌, ◌<◌, ◌≤◌, ◌⊎◌, List, [], ◌∷◌, length, None}
 use Rattle.isis_base.specs.declared.identifiers.LspId.{LspId}
 use Rattle.isis_base.specs.Identifiers.{lsp_number}
 use Rattle.isis_model.specs.Cells.{Cell}
@@ -60,6 +60,11 @@ pub record SameCircuits (old new : BookState) : Type 0 where
   pub opened : new.opened ≡ old.opened
   pub points : new.points ≡ old.points
   pub circuits : new.circuits ≡ old.circuits
+
+-- at most one entry's room is used up, and no entry is given up
+pub record KeepsRoom (old new : BookState) : Type 0 where
+  pub spare : old.store.spare ≤ new.store.spare + 1
+  pub held : length old.store.entries ≤ length new.store.entries
 
 -- no entry of a number is held, and 65,536 others are
 abbrev pub IsFullFor : BookState → ℕ → Type 0

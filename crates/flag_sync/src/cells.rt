@@ -10,7 +10,7 @@ ghost use Rattle.flag_sync.specs.FlagRows.{cell_of, entry_cell, done};
 ghost use Rattle.flag_sync.specs.Entries.{HasHeader, purged_entry};
 ghost use Rattle.flag_sync.specs.Deeds.{deed_cell};
 ghost use Rattle.flag_sync.specs.Known.{Knows};
-ghost use Rattle.flag_sync.specs.BookStates.{book_of, IsCircuit, SameCircuits};
+ghost use Rattle.flag_sync.specs.BookStates.{book_of, IsCircuit, KeepsRoom, SameCircuits};
 
 use crate::bits::has_bit;
 use crate::book::Book;
@@ -76,6 +76,7 @@ impl Book {
             (cell_at (book_of self.old) (lsp_number id))) }
         ensures rest { SameCircuits self.old self.new }
         ensures spare { self.new.store.spare ≡ self.old.store.spare }
+        ensures room { KeepsRoom self.old self.new }
     {
         let row = FlagRow::new(self.opened, 0);
         self.store.change(id, &Purge);
@@ -146,6 +147,7 @@ impl Book {
         ensures book { OnOk result (book_of self.new ≡ set_cell (book_of self.old) (lsp_number id)
             (Some (cell_of entry row))) }
         ensures rest { OnOk result (SameCircuits self.old self.new) }
+        ensures store { OnOk result (self.new.store ≡ with_entry self.old.store id entry) }
         ensures err { OnErr result (self.new ≡ self.old) }
         ensures back { IfErr result (λ back. back.0 ≡ entry) }
         ensures cause { IfErr result (λ back. PutCause self.old.store (lsp_number id) back.1) }

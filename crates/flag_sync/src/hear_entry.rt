@@ -8,7 +8,7 @@ ghost use Rattle.isis_model.specs.Books.{cell_at, rank_at, is_full, set_cell};
 ghost use Rattle.isis_model.specs.SnpTable.{freed, asked, snp_row, snp_case, sets_flag, hear_entry};
 ghost use Rattle.flag_sync.specs.Deeds.{deed_cell};
 ghost use Rattle.flag_sync.specs.Heard.{entry_of, entry_answer_of};
-ghost use Rattle.flag_sync.specs.BookStates.{book_of, HasRoom, IsCircuit, SameCircuits};
+ghost use Rattle.flag_sync.specs.BookStates.{book_of, HasRoom, IsCircuit, KeepsRoom, SameCircuits};
 
 use crate::bits::{has_bit, with_bit};
 use crate::book::Book;
@@ -31,6 +31,7 @@ impl Book {
         ensures answer { result ≡ entry_answer_of (snp_case whose
             (cell_at (book_of self.old) (lsp_number entry.now.id)) (entry_of entry.now)) entry.now }
         ensures rest { SameCircuits self.old self.new }
+        ensures room { KeepsRoom self.old self.new }
     {
         let known = self.known(entry.id);
         let row = snp_row_of(&known, entry, whose);
@@ -57,6 +58,7 @@ impl Book {
             (snp_row row (is_full (book_of self.old)) self.old.opened self.old.points place
             (cell_at (book_of self.old) (lsp_number id))) }
         ensures rest { SameCircuits self.old self.new }
+        ensures room { KeepsRoom self.old self.new }
     {
         match row {
             SnpCase::Nothing => self.stay(id),
@@ -77,6 +79,7 @@ impl Book {
             (snp_row case.Same full self.old.opened self.old.points place
             (cell_at (book_of self.old) (lsp_number id))) }
         ensures rest { SameCircuits self.old self.new }
+        ensures room { KeepsRoom self.old self.new }
     {
         let deed = free_deed(self.points, place);
         self.flag(id, &deed);
@@ -89,6 +92,7 @@ impl Book {
             (snp_row case.Older full self.old.opened self.old.points place
             (cell_at (book_of self.old) (lsp_number id))) }
         ensures rest { SameCircuits self.old self.new }
+        ensures room { KeepsRoom self.old self.new }
     {
         let deed = Deed {
             place,
@@ -105,6 +109,7 @@ impl Book {
             (snp_row case.Newer full self.old.opened self.old.points place
             (cell_at (book_of self.old) (lsp_number id))) }
         ensures rest { SameCircuits self.old self.new }
+        ensures room { KeepsRoom self.old self.new }
     {
         let deed = ask_deed(self.points, place);
         self.flag(id, &deed);
@@ -118,6 +123,7 @@ impl Book {
             (snp_row case.Asked (is_full (book_of self.old)) self.old.opened self.old.points place
             (cell_at (book_of self.old) (lsp_number id))) }
         ensures rest { SameCircuits self.old self.new }
+        ensures room { KeepsRoom self.old self.new }
     {
         match self.store.get(id) {
             Some(_) => {

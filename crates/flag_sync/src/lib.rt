@@ -17,6 +17,8 @@ mod range;
 mod row_edits;
 mod sides;
 mod snp_rows;
+#[cfg(test)]
+mod tests;
 mod walks;
 
 pub use book::Book;

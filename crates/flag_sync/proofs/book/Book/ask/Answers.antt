@@ -4,8 +4,10 @@ use Rattle.isis_base.specs.Identifiers.{lsp_number}
 use Rattle.isis_model.specs.Cells.{Cell, ssn_on, empty_cell}
 use Rattle.isis_model.specs.Books.{cell_at, is_full, set_cell}
 use Rattle.isis_model.specs.SnpTable.{asked}
+use Rattle.lsp_store.specs.Maps.{RisesFrom}
 use Rattle.flag_sync.specs.BookStates.{BookState, book_of}
 use Rattle.flag_sync.proofs.BookLemmas.{asked-found, asked-full, asked-new}
+use Rattle.flag_sync.proofs.SpareLemmas.{room-put}
 use Rattle.flag_sync.proofs.book.Book.ask.Goals as goal
 
 pub returns-in-Some-clause-book : goal.returns-in-Some-clause-book
@@ -62,3 +64,8 @@ returns-clause-book c =
     let kept = rw c.unwrap.ensures at c.keep.ensures.book in
     let made = rw (c.new-2.ensures, c.with_bit.ensures, c.new.ensures) at kept in
     made ∙ ap (set_cell (book_of c.args.self.now) n) same
+
+pub returns-clause-room : goal.returns-clause-room
+returns-clause-room c =
+    let up = subst (λ (t : BookState). RisesFrom 0 t.store.entries) c.self.view_is c.self.invariant.rises in
+    room-put c.args.id _ c.args.self.now c.keep.new.self up (rw c.unwrap.ensures at c.keep.ensures.store)

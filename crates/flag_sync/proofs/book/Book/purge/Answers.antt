@@ -10,9 +10,10 @@ use Rattle.lsp_store.specs.Databases.{Database, with_change}
 use Rattle.lsp_store.proofs.ChangeLemmas.{change-rises}
 use Rattle.flag_sync.specs.declared.flag_row.FlagRow.{FlagRow}
 use Rattle.flag_sync.specs.Entries.{AllHaveHeaders, purged_entry}
-use Rattle.flag_sync.specs.BookStates.{BookState, book_of, AreBeside}
+use Rattle.flag_sync.specs.BookStates.{BookState, KeepsRoom, book_of, AreBeside}
 use Rattle.flag_sync.proofs.CellLemmas.{change-beside, change-headers, purged-header}
 use Rattle.flag_sync.proofs.BookLemmas.{book-purge}
+use Rattle.flag_sync.proofs.SpareLemmas.{room-change}
 use Rattle.flag_sync.proofs.book.Book.purge.Goals as goal
 
 pub invariant_of-self : goal.invariant_of-self
@@ -44,3 +45,15 @@ returns-clause-book c =
     subst (λ (t : BookState). book_of (record s { store = c.change.new.self; rows = c.change-2.new.self.entries }) ≡ set_cell (book_of t) n (option_map (λ (cell : Cell). flagged (purged cell) t.opened 0) (cell_at (book_of t) n))) c.self.view_is
     (ap₂ (λ (d : Database) (rs : List (LspId × FlagRow)). book_of (record s { store = d; rows = rs })) c.change.ensures (c.change-2.ensures.entries ∙ ap (λ (r : FlagRow). change_at (λ _. r) c.self.inside.flags.entries n) c.new-row.ensures)
     ∙ book-purge s i.beside i.rises i.headed n key)
+
+pub returns-clause-room : goal.returns-clause-room
+returns-clause-room c =
+    let s : BookState = record {
+      store = c.self.inside.store;
+      rows = c.self.inside.flags.entries;
+      opened = c.self.inside.opened;
+      points = c.self.inside.points;
+      circuits = c.self.inside.circuits;
+    } in
+    let new : BookState = record s { store = c.change.new.self; rows = c.change-2.new.self.entries } in
+    subst (λ (t : BookState). KeepsRoom t new) c.self.view_is (room-change purged_entry (lsp_number c.args.id) s new c.change.ensures)
