@@ -177,104 +177,210 @@ const ONE_THREE: [bool; 3] = [true, false, true];
 const ONE_TWO: [bool; 3] = [true, true, false];
 const THREE: [bool; 3] = [false, false, true];
 
+/// A row for an LSP: what is heard, the answer, and what is held then.
+#[derive(Clone, Copy)]
+struct LspRow {
+    circuit: u8,
+    whose: Whose,
+    heard: LspEntry,
+    answer: LspAnswer,
+    left: Shown,
+}
+
+/// The place of the first row that isn't met.
+fn first_wrong_lsp(alloc: Global, rows: &[LspRow]) -> Result<Option<usize>, OutOfMemory> {
+    let mut place = 0usize;
+    let mut rest = rows;
+    while let [row, more @ ..] = rest {
+        let book = match held(alloc) {
+            Ok(book) => book,
+            Err(fault) => return Err(fault),
+        };
+        if after_lsp(book, row.circuit, row.whose, row.heard) != Some((row.answer, row.left)) {
+            return Ok(Some(place));
+        }
+        place = place.wrapping_add(1);
+        rest = more;
+    }
+    Ok(None)
+}
+
+/// A row for an entry: what is heard, whether a flag is set, the number that outbids, and what is held then.
+#[derive(Clone, Copy)]
+struct EntryRow {
+    circuit: u8,
+    whose: Whose,
+    heard: LspEntry,
+    answer: EntryAnswer,
+    left: Shown,
+}
+
+/// The place of the first row that isn't met, where the LSP ID is held.
+fn first_wrong_entry(alloc: Global, rows: &[EntryRow]) -> Result<Option<usize>, OutOfMemory> {
+    let mut place = 0usize;
+    let mut rest = rows;
+    while let [row, more @ ..] = rest {
+        let book = match held(alloc) {
+            Ok(book) => book,
+            Err(fault) => return Err(fault),
+        };
+        if after_entry(book, row.circuit, row.whose, row.heard) != Some((row.answer, row.left)) {
+            return Ok(Some(place));
+        }
+        place = place.wrapping_add(1);
+        rest = more;
+    }
+    Ok(None)
+}
+
+fn lsp_row(circuit: u8, whose: Whose, heard: LspEntry, answer: LspAnswer, left: Shown) -> LspRow {
+    LspRow {
+        circuit,
+        whose,
+        heard,
+        answer,
+        left,
+    }
+}
+
+fn entry_row(
+    circuit: u8,
+    heard: LspEntry,
+    flagged: bool,
+    outbid: Option<u32>,
+    left: Shown,
+) -> EntryRow {
+    let whose = if outbid.is_some() {
+        Whose::Issued
+    } else {
+        Whose::Other
+    };
+    let answer = EntryAnswer { flagged, outbid };
+    EntryRow {
+        circuit,
+        whose,
+        heard,
+        answer,
+        left,
+    }
+}
+
 // The rows of the table for LSPs, in its order.
 #[test]
 fn lsps_heard(rt: HostRuntime) -> Result<(), Fail> {
-    let alloc = rt.alloc();
+    let (issued, unissued, other) = (Whose::Issued, Whose::Unissued, Whose::Other);
+    let same = cell(2, false, ONE_THREE, TWO_THREE);
+    let (one, two) = (said(3, 600, 9), said(2, 600, 6));
     let rows = [
-        (1, Whose::Issued, said(3, 600, 9), LspAnswer::Outbid { above: 3 }, cell(2, false, ONE_THREE, TWO_THREE)),
-        (1, Whose::Issued, said(2, 600, 6), LspAnswer::Outbid { above: 2 }, cell(2, false, ONE_THREE, TWO_THREE)),
-        (1, Whose::Unissued, said(3, 600, 9), LspAnswer::PurgedOwn, cell(3, true, ALL, NONE)),
-        (1, Whose::Other, said(2, 600, 6), LspAnswer::Confused, cell(2, true, ALL, NONE)),
-        (1, Whose::Other, said(3, 600, 9), LspAnswer::Stored, cell(3, false, TWO_THREE, ONE)),
-        (3, Whose::Other, said(3, 600, 9), LspAnswer::Stored, cell(3, false, ONE_TWO, THREE)),
-        (1, Whose::Other, said(2, 0, 0), LspAnswer::Stored, cell(2, true, TWO_THREE, ONE)),
-        (1, Whose::Other, said(2, 600, 5), LspAnswer::Same, cell(2, false, THREE, ALL)),
-        (3, Whose::Other, said(2, 600, 5), LspAnswer::Same, cell(2, false, ONE, TWO_THREE)),
-        (2, Whose::Other, said(1, 600, 9), LspAnswer::Older, cell(2, false, ALL, THREE)),
+        lsp_row(1, issued, one, LspAnswer::Outbid { above: 3 }, same),
+        lsp_row(1, issued, two, LspAnswer::Outbid { above: 2 }, same),
+        lsp_row(1, unissued, one, LspAnswer::PurgedOwn, cell(3, true, ALL, NONE)),
+        lsp_row(1, other, two, LspAnswer::Confused, cell(2, true, ALL, NONE)),
+        lsp_row(1, other, one, LspAnswer::Stored, cell(3, false, TWO_THREE, ONE)),
+        lsp_row(3, other, one, LspAnswer::Stored, cell(3, false, ONE_TWO, THREE)),
+        lsp_row(1, other, said(2, 0, 0), LspAnswer::Stored, cell(2, true, TWO_THREE, ONE)),
+        lsp_row(1, other, said(2, 600, 5), LspAnswer::Same, cell(2, false, THREE, ALL)),
+        lsp_row(3, other, said(2, 600, 5), LspAnswer::Same, cell(2, false, ONE, TWO_THREE)),
+        lsp_row(2, other, said(1, 600, 9), LspAnswer::Older, cell(2, false, ALL, THREE)),
     ];
-    let mut place = 0usize;
-    for (circuit, whose, heard, answer, left) in rows {
-        let found = after_lsp(held(alloc)?, circuit, whose, heard);
-        assert_eq!(rt; found, Some((answer, left)), "row {place}");
-        place = place.wrapping_add(1);
-    }
-    let none = after_lsp(bare(alloc)?, 1, Whose::Other, said(4, 0, 0));
+    assert_eq!(rt; first_wrong_lsp(rt.alloc(), rows.as_slice())?, None);
+    Ok(())
+}
+
+// A purge of which nothing is held.
+#[test]
+fn purge_heard(rt: HostRuntime) -> Result<(), Fail> {
+    let none = after_lsp(bare(rt.alloc())?, 1, Whose::Other, said(4, 0, 0));
     assert_eq!(rt; none, Some((LspAnswer::AckPurge, cell(0, false, NONE, NONE))));
     Ok(())
 }
 
-// The rows of the table for entries, in its order.
+// The rows of the table for entries of what is held, in its order.
 #[test]
 fn entries_heard(rt: HostRuntime) -> Result<(), Fail> {
-    let alloc = rt.alloc();
+    let same = cell(2, false, ONE_THREE, TWO_THREE);
     let rows = [
-        (1, Whose::Issued, said(2, 600, 6), true, Some(2), cell(2, false, ONE_THREE, TWO_THREE)),
-        (1, Whose::Other, said(2, 600, 6), true, None, cell(2, true, ALL, NONE)),
-        (1, Whose::Other, said(2, 600, 5), false, None, cell(2, false, THREE, TWO_THREE)),
-        (3, Whose::Other, said(2, 600, 5), false, None, cell(2, false, ONE_THREE, TWO_THREE)),
-        (2, Whose::Other, said(1, 600, 9), true, None, cell(2, false, ALL, THREE)),
-        (1, Whose::Other, said(3, 600, 9), true, None, cell(2, false, THREE, ALL)),
+        entry_row(1, said(2, 600, 6), true, Some(2), same),
+        entry_row(1, said(2, 600, 6), true, None, cell(2, true, ALL, NONE)),
+        entry_row(1, said(2, 600, 5), false, None, cell(2, false, THREE, TWO_THREE)),
+        entry_row(3, said(2, 600, 5), false, None, same),
+        entry_row(2, said(1, 600, 9), true, None, cell(2, false, ALL, THREE)),
+        entry_row(1, said(3, 600, 9), true, None, cell(2, false, THREE, ALL)),
     ];
-    let mut place = 0usize;
-    for (circuit, whose, heard, flagged, outbid, left) in rows {
-        let found = after_entry(held(alloc)?, circuit, whose, heard);
-        assert_eq!(rt; found, Some((EntryAnswer { flagged, outbid }, left)), "row {place}");
-        place = place.wrapping_add(1);
-    }
-    let rows = [
-        (said(0, 0, 0), false, NONE),
-        (said(3, 600, 9), true, ONE),
-        (said(3, 600, 0), false, NONE),
-        (said(3, 0, 9), false, NONE),
-    ];
-    for (heard, flagged, ssn) in rows {
-        let found = after_entry(bare(alloc)?, 1, Whose::Other, heard);
-        let answer = EntryAnswer {
-            flagged,
-            outbid: None,
-        };
-        assert_eq!(rt; found, Some((answer, cell(0, false, NONE, ssn))));
-    }
+    assert_eq!(rt; first_wrong_entry(rt.alloc(), rows.as_slice())?, None);
     Ok(())
 }
 
-// The other calls of a book, once each.
+/// Whether an entry of what isn't held is answered so, and SSN set on these circuits.
+fn is_new(alloc: Global, heard: LspEntry, flagged: bool, ssn: [bool; 3]) -> Result<bool, OutOfMemory> {
+    let book = match bare(alloc) {
+        Ok(book) => book,
+        Err(fault) => return Err(fault),
+    };
+    let outbid = None;
+    let answer = EntryAnswer { flagged, outbid };
+    let found = after_entry(book, 1, Whose::Other, heard);
+    Ok(found == Some((answer, cell(0, false, NONE, ssn))))
+}
+
+// The rows of the table for entries of what isn't held.
 #[test]
-fn calls_of_a_book(rt: HostRuntime) -> Result<(), Fail> {
+fn new_entries_heard(rt: HostRuntime) -> Result<(), Fail> {
     let alloc = rt.alloc();
+    assert!(rt; is_new(alloc, said(0, 0, 0), false, NONE)?);
+    assert!(rt; is_new(alloc, said(3, 600, 9), true, ONE)?);
+    assert!(rt; is_new(alloc, said(3, 600, 0), false, NONE)?);
+    assert!(rt; is_new(alloc, said(3, 0, 9), false, NONE)?);
+    Ok(())
+}
+
+// What is sent, waits and is answered.
+#[test]
+fn flags_over_time(rt: HostRuntime) -> Result<(), Fail> {
     let id = LspId::from_number(ID);
-    let (start, end) = (LspId::from_number(0), LspId::from_number(u64::MAX));
-    let mut book = held(alloc)?;
+    let mut book = held(rt.alloc())?;
     assert_eq!(rt; book.due(1).count(), 0usize);
     assert_eq!(rt; book.due(3).next(), Some(id));
     assert_eq!(rt; book.owed(2).next(), Some(id));
-    for _ in 0..5u8 {
-        book.second();
-    }
+    book.second();
+    book.second();
+    book.second();
+    book.second();
+    assert_eq!(rt; book.due(1).count(), 0usize);
+    book.second();
     assert_eq!(rt; book.due(1).next(), Some(id));
     book.answered(2);
     book.sent(3, id);
     assert_eq!(rt; now_held(&book), cell(2, false, ONE, THREE));
-    let copy = book.copy()?;
-    assert_eq!(rt; now_held(&copy), cell(2, false, ONE, THREE));
-    assert_eq!(rt; copy.flag_pages().len(), 1usize);
+    Ok(())
+}
+
+// Ranges, marks, and a circuit that closes.
+#[test]
+fn circuits_of_a_book(rt: HostRuntime) -> Result<(), Fail> {
+    let (start, end) = (LspId::from_number(0), LspId::from_number(u64::MAX));
+    let mut book = held(rt.alloc())?;
     assert!(rt; !book.would_flag_range(start, end, &[said(2, 600, 5)]));
     assert!(rt; book.would_flag_range(start, end, &[]));
     assert!(rt; book.hear_csnp_range(2, start, end, &[]));
-    assert_eq!(rt; now_held(&book), cell(2, false, ONE_TWO, THREE));
+    assert_eq!(rt; now_held(&book), cell(2, false, ALL, TWO_THREE));
     book.clear_circuit(3);
+    assert_eq!(rt; now_held(&book), cell(2, false, ONE_TWO, [false, true, false]));
     book.mark_all(3);
-    assert_eq!(rt; now_held(&book), cell(2, false, ALL, NONE));
     book.set_open(1, false);
-    assert_eq!(rt; now_held(&book), cell(2, false, TWO_THREE, NONE));
+    assert_eq!(rt; now_held(&book), cell(2, false, TWO_THREE, [false, true, false]));
+    Ok(())
+}
+
+// What is held of one LSP ID.
+#[test]
+fn entry_of_a_book(rt: HostRuntime) -> Result<(), Fail> {
+    let id = LspId::from_number(ID);
+    let mut book = held(rt.alloc())?;
+    let copy = book.copy()?;
+    assert_eq!(rt; copy.flag_pages().len(), 1usize);
     book.set_left(id, 17);
     assert_eq!(rt; book.store().get(id).map(|entry| entry.left), Some(17));
-    if book.store().key(id).is_some() {
-        book.purge(id);
-    }
-    assert_eq!(rt; now_held(&book), cell(2, true, TWO_THREE, NONE));
-    assert_eq!(rt; book.store().get(id).map(|entry| entry.octets.len()), Some(27));
     book.erase(id);
     assert_eq!(rt; now_held(&book), cell(0, false, NONE, NONE));
     assert_eq!(rt; book.flag_pages().len(), 0usize);
