@@ -234,6 +234,7 @@ purged-header entry h = cases (nat_lt (length entry.octets) 27) refl
     header : (key : Option Key) → 27 ≤ length entry.octets → HasHeader (key_purged key) (header_of entry.octets)
     header None long = tt
     header (Some key) long = let size = header-length entry.octets long in omega (arith, size)
+
     cases : (t : Bool) → nat_lt (length entry.octets) 27 ≡ t → HasHeader (if t then entry else record entry { key = key_purged entry.key; checksum = 0; left = 60; octets = header_of entry.octets }).key (if t then entry else record entry { key = key_purged entry.key; checksum = 0; left = 60; octets = header_of entry.octets }).octets
     cases true e = h
     cases false e = header entry.key (grind (arith, nat_tests, e))

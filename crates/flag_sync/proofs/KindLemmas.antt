@@ -27,12 +27,16 @@ kinds-turn points place kinds kind e known q =
   where
     at : place ≡ q → is_point (nth kinds q) ≡ is_point (Some kind)
     at s = ap (λ (n : ℕ). is_point (nth kinds n)) (sym s) ∙ ap is_point e
+
     before : place ≡ q → has points q ≡ false
     before s = known q ∙ (let no : nat_lt q place ≡ false = grind (arith, nat_tests, s) in rw no refl)
+
     now : place ≡ q → nat_lt q (place + 1) ≡ true
     now s = grind (arith, nat_tests, s)
+
     other : place ≢ q → nat_lt q (place + 1) ≡ nat_lt q place
     other d = grind (arith, nat_tests, d)
+
     turn : (t : Bool) → is_point (Some kind) ≡ t → has (if t then with_one points place else points) q ≡ (nat_lt q (place + 1) && is_point (nth kinds q))
     turn true p =
         has-with_one points place q
@@ -49,6 +53,7 @@ kinds-end points place kinds le known q = known q ∙ cases (nat_lt q place) ref
   where
     past : nat_lt q place ≡ false → is_point (nth kinds q) ≡ false
     past e = let ge : length kinds ≤ q = (let h : place ≤ q = grind (arith, nat_tests, e) in omega (arith, h, le)) in ap is_point (nth-none kinds q ge)
+
     cases : (t : Bool) → nat_lt q place ≡ t → (t && is_point (nth kinds q)) ≡ is_point (nth kinds q)
     cases true e = refl
     cases false e = sym (past e)

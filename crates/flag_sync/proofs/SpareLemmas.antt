@@ -30,6 +30,7 @@ room-put id entry old new up e =
     less : (t : Bool) → old.store.spare ≤ (if t then old.store.spare else old.store.spare - 1) + 1
     less true = omega arith
     less false = omega arith
+
     more : (t : Bool) → length old.store.entries ≤ (if t then length old.store.entries else length old.store.entries + 1)
     more true = omega arith
     more false = omega arith

@@ -1,4 +1,5 @@
--- A book as contracts see it, and as the definitions see it: entries and rows of flags side by side (ISO 10589 7.3.15).
+-- A book as contracts see it, and as the definitions see it: entries and rows of flags side by
+-- side (ISO 10589 7.3.15).
 use Rattle.std.specs.Prelude.{◌≡◌, ℕ, ◌+◌, ◌<◌, ◌≤◌, ◌⊎◌, List, [], ◌∷◌, length, None}
 use Rattle.isis_base.specs.declared.identifiers.LspId.{LspId}
 use Rattle.isis_base.specs.Identifiers.{lsp_number}
@@ -11,8 +12,8 @@ use Rattle.flag_sync.specs.declared.flag_row.FlagRow.{FlagRow}
 use Rattle.flag_sync.specs.FlagRows.{cell_of}
 use Rattle.flag_sync.specs.Entries.{AllHaveHeaders}
 
--- the database, the rows of flags, the circuits that are open for the level, those that are point-to-point, and the
--- number of circuits
+-- the database, the rows of flags, the circuits that are open for the level, those that are
+-- point-to-point, and the number of circuits
 pub record BookState : Type 0 where
   pub store : Database
   pub rows : List (LspId × FlagRow)
@@ -28,7 +29,8 @@ no_entries = record { entries = []; spare = 0; changes = 0 }
 abbrev pub cells_of : List (LspId × Entry) → List (LspId × FlagRow) → List (ℕ × Cell)
 cells_of [] rows = []
 cells_of (entry ∷ entries) [] = []
-cells_of (entry ∷ entries) (row ∷ rows) = (lsp_number entry.0, cell_of entry.1 row.1) ∷ cells_of entries rows
+cells_of (entry ∷ entries) (row ∷ rows) =
+    (lsp_number entry.0, cell_of entry.1 row.1) ∷ cells_of entries rows
 
 -- the book of the definitions
 abbrev pub book_of : BookState → Book
@@ -44,7 +46,8 @@ abbrev pub AreBeside : List (LspId × Entry) → List (LspId × FlagRow) → Typ
 AreBeside [] [] = Unit {0}
 AreBeside [] (row ∷ rows) = ⊥
 AreBeside (entry ∷ entries) [] = ⊥
-AreBeside (entry ∷ entries) (row ∷ rows) = (lsp_number entry.0 ≡ lsp_number row.0) × AreBeside entries rows
+AreBeside (entry ∷ entries) (row ∷ rows) =
+    (lsp_number entry.0 ≡ lsp_number row.0) × AreBeside entries rows
 
 -- what a book keeps; room is taken for at least as many rows as for entries
 pub record IsBook (entries : List (LspId × Entry)) (rows : List (LspId × FlagRow))

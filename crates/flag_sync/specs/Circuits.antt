@@ -1,4 +1,5 @@
--- A circuit's flags of all LSP IDs, opened, closed, cleared, sent and walked over (ISO 10589 7.3.15, 7.3.17; the form: own).
+-- A circuit's flags of all LSP IDs, opened, closed, cleared, sent and walked over (ISO 10589
+-- 7.3.15, 7.3.17; the form: own).
 use Rattle.std.specs.Prelude.{ℕ, ◌+◌, ◌==◌, nat_lt, Bool, true, false, ◌&&◌, ◌||◌, List, [], ◌∷◌, Option, Some, None, if◌then◌else◌}
 use Rattle.isis_base.specs.declared.identifiers.LspId.{LspId}
 use Rattle.isis_base.specs.declared.level.CircuitKind.{CircuitKind}
@@ -15,11 +16,13 @@ use Rattle.flag_sync.specs.FlagRows.{waits_of}
 
 -- a circuit's flags are cleared
 abbrev pub cleared : Book → ℕ → Book
-cleared book place = record book { cells = each (λ (_ : ℕ) (cell : Cell). silenced cell place) book.cells }
+cleared book place =
+    record book { cells = each (λ (_ : ℕ) (cell : Cell). silenced cell place) book.cells }
 
 -- a circuit is opened, which sets no flag, or closed, which clears its flags
 abbrev pub open_or_close : Book → ℕ → Bool → Book
-open_or_close book place up = if up then record book { opened = with_one book.opened place } else close book place
+open_or_close book place up =
+    if up then record book { opened = with_one book.opened place } else close book place
 
 -- a cell after its LSP was sent on a circuit
 abbrev pub sent_on : ℕ → ℕ → Cell → Cell

@@ -1,4 +1,5 @@
--- Rows of flags, what is done to them, and a row beside its entry as one cell (ISO 10589 7.3.15; the form: own).
+-- Rows of flags, what is done to them, and a row beside its entry as one cell (ISO 10589 7.3.15;
+-- the form: own).
 use Rattle.std.specs.Prelude.{ℕ, List, [], ◌∷◌, slice_index}
 use Rattle.isis_base.specs.Keys.{rank}
 use Rattle.isis_model.specs.Sets.{with_one, without}
@@ -15,7 +16,11 @@ use Rattle.flag_sync.specs.declared.deed.SsnDeed.TheVariants as ssn
 -- what the three bit planes say
 abbrev pub waits_of : List ℕ → Waits
 waits_of planes =
-    record { ones = slice_index planes 0; twos = slice_index planes 1; fours = slice_index planes 2 }
+    record {
+      ones = slice_index planes 0;
+      twos = slice_index planes 1;
+      fours = slice_index planes 2;
+    }
 
 -- the three bit planes
 abbrev pub planes_of : Waits → List ℕ
@@ -45,16 +50,24 @@ entry_cell entry = cell_of entry no_flags
 
 abbrev pub at_once : List ℕ → ℕ → List ℕ
 at_once planes place =
-    without (slice_index planes 0) place ∷ without (slice_index planes 1) place ∷ without (slice_index planes 2) place ∷ []
+    without (slice_index planes 0) place
+    ∷ without (slice_index planes 1) place
+    ∷ without (slice_index planes 2) place
+    ∷ []
 
 abbrev pub five : List ℕ → ℕ → List ℕ
 five planes place =
-    with_one (slice_index planes 0) place ∷ without (slice_index planes 1) place ∷ with_one (slice_index planes 2) place ∷ []
+    with_one (slice_index planes 0) place
+    ∷ without (slice_index planes 1) place
+    ∷ with_one (slice_index planes 2) place
+    ∷ []
 
 abbrev pub srm_done : SrmDeed → ℕ → FlagRow → FlagRow
 srm_done srm.Keep place row = row
-srm_done srm.Set place row = record row { srm = with_one row.srm place; waits = at_once row.waits place }
-srm_done srm.Clear place row = record row { srm = without row.srm place; waits = at_once row.waits place }
+srm_done srm.Set place row =
+    record row { srm = with_one row.srm place; waits = at_once row.waits place }
+srm_done srm.Clear place row =
+    record row { srm = without row.srm place; waits = at_once row.waits place }
 srm_done srm.Wait place row = record row { waits = five row.waits place }
 
 abbrev pub ssn_done : SsnDeed → ℕ → FlagRow → FlagRow

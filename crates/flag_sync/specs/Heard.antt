@@ -27,7 +27,12 @@ heard_of l = record {
 
 -- an entry of a sequence number PDU that is heard
 abbrev pub entry_of : LspEntry → SnpEntry
-entry_of e = record { id = lsp_number e.id; rank = entry_rank e; lifetime = e.lifetime; checksum = e.checksum }
+entry_of e = record {
+  id = lsp_number e.id;
+  rank = entry_rank e;
+  lifetime = e.lifetime;
+  checksum = e.checksum;
+}
 
 abbrev pub entries_of : List LspEntry → List SnpEntry
 entries_of [] = []

@@ -19,11 +19,14 @@ abbrev pub passes : (ℕ → ℕ → Bool) → LspId → Entry → Bool
 passes test id entry = test (lsp_number id) (rank entry.key)
 
 -- rows after SRM was set for the entries that pass, one after another
-abbrev pub marks : (ℕ → ℕ → Bool) → ℕ → List (LspId × Entry) → List (LspId × FlagRow) → List (LspId × FlagRow)
+abbrev pub marks : (ℕ → ℕ → Bool) → ℕ → List (LspId × Entry) → List (LspId × FlagRow)
+    → List (LspId × FlagRow)
 marks test place [] rows = rows
 marks test place (pair ∷ entries) rows =
     marks test place entries
-    (if passes test pair.0 pair.1 then change_at (srm_done srm.Set place) rows (lsp_number pair.0) else rows)
+    (if passes test pair.0 pair.1
+    then change_at (srm_done srm.Set place) rows (lsp_number pair.0)
+    else rows)
 
 -- whether some entry passes
 abbrev pub some_pass : (ℕ → ℕ → Bool) → List (LspId × Entry) → Bool

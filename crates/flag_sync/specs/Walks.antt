@@ -16,11 +16,13 @@ row_due place row =
 
 abbrev pub due_of : ℕ → List (LspId × FlagRow) → List LspId
 due_of place [] = []
-due_of place (pair ∷ rows) = if row_due place pair.1 then pair.0 ∷ due_of place rows else due_of place rows
+due_of place (pair ∷ rows) =
+    if row_due place pair.1 then pair.0 ∷ due_of place rows else due_of place rows
 
 abbrev pub owed_of : ℕ → List (LspId × FlagRow) → List LspId
 owed_of place [] = []
-owed_of place (pair ∷ rows) = if has pair.1.ssn place then pair.0 ∷ owed_of place rows else owed_of place rows
+owed_of place (pair ∷ rows) =
+    if has pair.1.ssn place then pair.0 ∷ owed_of place rows else owed_of place rows
 
 abbrev pub numbers_of : List LspId → List ℕ
 numbers_of [] = []
@@ -29,4 +31,5 @@ numbers_of (id ∷ ids) = lsp_number id ∷ numbers_of ids
 -- the numbers of the LSP IDs whose cells pass a test
 abbrev pub ids_where : (Cell → Bool) → List (ℕ × Cell) → List ℕ
 ids_where test [] = []
-ids_where test (pair ∷ cells) = if test pair.1 then pair.0 ∷ ids_where test cells else ids_where test cells
+ids_where test (pair ∷ cells) =
+    if test pair.1 then pair.0 ∷ ids_where test cells else ids_where test cells

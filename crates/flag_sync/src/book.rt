@@ -33,10 +33,16 @@ impl Model for Book {
 
     ghost use Rattle.flag_sync.specs.BookStates.{IsBook};
 
-    ghost view = { λ b. record { store = b.store; rows = b.flags.entries; opened = b.opened;
-        points = b.points; circuits = b.circuits } };
+    ghost view = { λ b. record {
+      store = b.store;
+      rows = b.flags.entries;
+      opened = b.opened;
+      points = b.points;
+      circuits = b.circuits;
+    } };
 
-    ghost invariant = { λ b. IsBook b.store.entries b.flags.entries b.store.spare b.flags.spare b.circuits };
+    ghost invariant = { λ b. IsBook b.store.entries b.flags.entries b.store.spare b.flags.spare
+        b.circuits };
 }
 
 impl Book {
@@ -82,10 +88,12 @@ impl Book {
         self.store.spare()
     }
 
-    /// Takes the memory for so many more entries, flags included. `Full` exactly where 65,536 would be passed.
+    /// Takes the memory for so many more entries, flags included. `Full` exactly where 65,536
+    /// would be passed.
     pub fn reserve(&mut self, more: usize) -> Result<(), StoreFault>
         ensures ok { OnOk result (self.new ≡ record self.old {
-            store = record self.old.store { spare = max self.old.store.spare more } }) }
+          store = record self.old.store { spare = max self.old.store.spare more };
+        }) }
         ensures err { OnErr result (self.new ≡ self.old) }
         ensures full { 65536 < length self.old.store.entries + more → result ≡ Err Full }
         ensures cause { IfErr result (ReserveCause self.old.store more) }

@@ -67,8 +67,8 @@ impl Book {
         self.keep(id, entry, row)
     }
 
-    /// The entry becomes its purge's header with 60 seconds left, with SRM set and SSN clear on all open circuits
-    /// (ISO 10589 7.3.16.4).
+    /// The entry becomes its purge's header with 60 seconds left, with SRM set and SSN clear on
+    /// all open circuits (ISO 10589 7.3.16.4).
     pub fn purge(&mut self, id: LspId)
         requires key { 0 < rank_at (book_of self.old) (lsp_number id) }
         ensures book { book_of self.new ≡ set_cell (book_of self.old) (lsp_number id)

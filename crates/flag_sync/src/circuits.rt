@@ -19,7 +19,8 @@ use crate::row_edits::SecondLess;
 use isis_base::LspId;
 
 impl Book {
-    /// Whether a circuit has an adjacency of the level that is up. Closing clears the circuit's flags.
+    /// Whether a circuit has an adjacency of the level that is up. Closing clears the circuit's
+    /// flags.
     pub fn set_open(&mut self, circuit: u8, up: bool)
         requires { IsCircuit circuit self.old.circuits }
         ensures book { book_of self.new ≡ open_or_close (book_of self.old) (circuit - 1) up }
@@ -50,11 +51,13 @@ impl Book {
         self.flag_all(&deed);
     }
 
-    /// The LSP was sent on the circuit (ISO 10589 7.3.15.5): on a LAN SRM is cleared, else it waits five seconds.
+    /// The LSP was sent on the circuit (ISO 10589 7.3.15.5): on a LAN SRM is cleared, else it
+    /// waits five seconds.
     pub fn sent(&mut self, circuit: u8, id: LspId)
         requires { IsCircuit circuit self.old.circuits }
         ensures book { book_of self.new ≡ set_cell (book_of self.old) (lsp_number id)
-            (option_map (sent_on self.old.points (circuit - 1)) (cell_at (book_of self.old) (lsp_number id))) }
+            (option_map (sent_on self.old.points (circuit - 1))
+            (cell_at (book_of self.old) (lsp_number id))) }
         ensures store { self.new.store ≡ self.old.store }
         ensures rest { SameCircuits self.old self.new }
     {
@@ -90,7 +93,9 @@ impl Book {
     /// Does to the flags of all LSP IDs what a deed says.
     fn flag_all(&mut self, deed: &Deed)
         ensures book { book_of self.new ≡ record (book_of self.old) {
-            cells = each (λ (_ : ℕ) (cell : Cell). deed_cell deed.now cell) (book_of self.old).cells } }
+          cells = each
+              (λ (_ : ℕ) (cell : Cell). deed_cell deed.now cell) (book_of self.old).cells;
+        } }
         ensures store { self.new.store ≡ self.old.store }
         ensures rest { SameCircuits self.old self.new }
     {

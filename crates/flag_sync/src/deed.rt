@@ -1,7 +1,8 @@
 //! What is done to the flags of one circuit.
 ghost use Rattle.std.specs.Prelude.{◌<◌};
 
-/// What is done to SRM on a circuit. A flag that is set is due at once; one that waits is due in five seconds.
+/// What is done to SRM on a circuit. A flag that is set is due at once; one that waits is due in
+/// five seconds.
 #[derive(Clone, Copy, Debug, PartialEq, Eq)]
 pub(crate) enum SrmDeed {
     Keep,

@@ -4,8 +4,8 @@ ghost use Rattle.std.specs.Prelude.{◌≡◌, [], ◌∷◌};
 use isis_base::OutOfMemory;
 use lsp_store::TryCopy;
 
-/// The flags of one LSP ID (ISO 10589 7.3.15), bit c - 1 for circuit c: SRM, SSN, and the seconds, 0 to 5, that each
-/// set SRM flag still waits, as three bit planes, the lowest one first.
+/// The flags of one LSP ID (ISO 10589 7.3.15), bit c - 1 for circuit c: SRM, SSN, and the seconds,
+/// 0 to 5, that each set SRM flag still waits, as three bit planes, the lowest one first.
 #[derive(Clone, Copy, Debug, PartialEq, Eq)]
 pub struct FlagRow {
     pub srm: u64,

@@ -38,7 +38,8 @@ impl Change<Entry> for Purge {
     }
 }
 
-/// The entry of an LSP that is kept as it was heard; of a purge its header alone, with 60 seconds left.
+/// The entry of an LSP that is kept as it was heard; of a purge its header alone, with 60 seconds
+/// left.
 pub(crate) fn heard_entry(alloc: Global, lsp: &LspHeard<'_>) -> Result<Entry, OutOfMemory>
     requires number { 0 < lsp.now.entry.number }
     requires octets { 27 ≤ length lsp.now.octets.now }
@@ -65,7 +66,8 @@ pub(crate) fn purge_entry(alloc: Global, lsp: &LspHeard<'_>) -> Result<Entry, Ou
     requires number { 0 < lsp.now.entry.number }
     requires octets { 27 ≤ length lsp.now.octets.now }
     ensures cell { IfOk result (λ entry. (row : Row)
-        → cell_of entry row ≡ with_row (purge_of lsp.now.entry.number lsp.now.flags lsp.now.octets.now) row) }
+        → cell_of entry row
+        ≡ with_row (purge_of lsp.now.entry.number lsp.now.flags lsp.now.octets.now) row) }
     ensures headed { IfOk result (λ entry. 27 ≤ length entry.octets) }
 {
     let octets = header(alloc, lsp.octets)?;
@@ -97,7 +99,8 @@ fn header(alloc: Global, lsp: &[u8]) -> Result<Octets, OutOfMemory>
     Ok(octets)
 }
 
-/// The octets of an LSP become those of its purge's header: PDU length 27, lifetime 0 and checksum 0.
+/// The octets of an LSP become those of its purge's header: PDU length 27, lifetime 0 and checksum
+/// 0.
 fn make_header(octets: &mut Octets)
     requires { 27 ≤ length octets.old }
     ensures header { octets.new ≡ header_of octets.old }

@@ -23,11 +23,13 @@ use isis_model::{SnpCase, Whose};
 use lsp_store::Entry;
 
 impl Book {
-    /// An entry of a sequence number PDU is heard on a circuit (ISO 10589 7.3.15.2). It takes no memory.
+    /// An entry of a sequence number PDU is heard on a circuit (ISO 10589 7.3.15.2). It takes no
+    /// memory.
     pub fn hear_entry(&mut self, circuit: u8, entry: &LspEntry, whose: Whose) -> EntryAnswer
         requires circuit { IsCircuit circuit self.old.circuits }
         requires room { HasRoom self.old }
-        ensures book { book_of self.new ≡ hear_entry (book_of self.old) (circuit - 1) whose (entry_of entry.now) }
+        ensures book { book_of self.new
+            ≡ hear_entry (book_of self.old) (circuit - 1) whose (entry_of entry.now) }
         ensures answer { result ≡ entry_answer_of (snp_case whose
             (cell_at (book_of self.old) (lsp_number entry.now.id)) (entry_of entry.now)) entry.now }
         ensures rest { SameCircuits self.old self.new }
@@ -72,10 +74,12 @@ impl Book {
         }
     }
 
-    /// What is held is acknowledged by the neighbour: on a point-to-point circuit SRM is clear there.
+    /// What is held is acknowledged by the neighbour: on a point-to-point circuit SRM is clear
+    /// there.
     fn free(&mut self, place: u8, id: LspId)
         requires { place < 64 }
-        ensures book { (full : Bool) → book_of self.new ≡ set_cell (book_of self.old) (lsp_number id)
+        ensures book { (full : Bool) → book_of self.new
+            ≡ set_cell (book_of self.old) (lsp_number id)
             (snp_row case.Same full self.old.opened self.old.points place
             (cell_at (book_of self.old) (lsp_number id))) }
         ensures rest { SameCircuits self.old self.new }
@@ -88,7 +92,8 @@ impl Book {
     /// What is held is sent, since the neighbour's is older.
     fn send_held(&mut self, place: u8, id: LspId)
         requires { place < 64 }
-        ensures book { (full : Bool) → book_of self.new ≡ set_cell (book_of self.old) (lsp_number id)
+        ensures book { (full : Bool) → book_of self.new
+            ≡ set_cell (book_of self.old) (lsp_number id)
             (snp_row case.Older full self.old.opened self.old.points place
             (cell_at (book_of self.old) (lsp_number id))) }
         ensures rest { SameCircuits self.old self.new }
@@ -105,7 +110,8 @@ impl Book {
     /// A newer one than what is held is asked for.
     fn ask_again(&mut self, place: u8, id: LspId)
         requires { place < 64 }
-        ensures book { (full : Bool) → book_of self.new ≡ set_cell (book_of self.old) (lsp_number id)
+        ensures book { (full : Bool) → book_of self.new
+            ≡ set_cell (book_of self.old) (lsp_number id)
             (snp_row case.Newer full self.old.opened self.old.points place
             (cell_at (book_of self.old) (lsp_number id))) }
         ensures rest { SameCircuits self.old self.new }
@@ -148,7 +154,8 @@ impl Book {
             left: PURGE_SECONDS,
             octets: Octets::new(self.alloc),
         };
-        self.keep(id, entry, FlagRow::new(0, with_bit(0, place))).unwrap();
+        self.keep(id, entry, FlagRow::new(0, with_bit(0, place)))
+            .unwrap();
     }
 }
 

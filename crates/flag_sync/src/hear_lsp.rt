@@ -24,8 +24,8 @@ use isis_model::{LspCase, Whose};
 use lsp_store::StoreFault;
 
 impl Book {
-    /// An LSP is heard on a circuit (ISO 10589 7.3.15.1, 7.3.16). `Full` exactly where it is to be kept, its LSP ID
-    /// isn't held, and 65,536 entries are.
+    /// An LSP is heard on a circuit (ISO 10589 7.3.15.1, 7.3.16). `Full` exactly where it is to be
+    /// kept, its LSP ID isn't held, and 65,536 entries are.
     pub fn hear_lsp(
         &mut self,
         circuit: u8,
@@ -60,7 +60,8 @@ impl Book {
         requires place { place < 64 }
         requires number { 0 < lsp.now.entry.number }
         requires octets { 27 ≤ length lsp.now.octets.now }
-        requires key { row ≡ case.Confused → 0 < rank_at (book_of self.old) (lsp_number lsp.now.entry.id) }
+        requires key { row ≡ case.Confused
+            → 0 < rank_at (book_of self.old) (lsp_number lsp.now.entry.id) }
         ensures book { OnOk result (book_of self.new
             ≡ set_cell (book_of self.old) (lsp_number lsp.now.entry.id)
             (lsp_row row self.old.opened self.old.points place
@@ -116,7 +117,8 @@ impl Book {
         Ok(())
     }
 
-    /// A newer LSP is kept, and flooded on all circuits but the one that it came on, where it is acknowledged.
+    /// A newer LSP is kept, and flooded on all circuits but the one that it came on, where it is
+    /// acknowledged.
     fn keep_heard(&mut self, place: u8, lsp: &LspHeard<'_>) -> Result<(), StoreFault>
         requires place { place < 64 }
         requires number { 0 < lsp.now.entry.number }
@@ -143,10 +145,12 @@ impl Book {
         Ok(())
     }
 
-    /// SSN behind a newer LSP: set on the point-to-point circuit it came on, as it was on a LAN, and clear elsewhere.
+    /// SSN behind a newer LSP: set on the point-to-point circuit it came on, as it was on a LAN,
+    /// and clear elsewhere.
     fn ssn_of_stored(&self, place: u8, id: LspId) -> u64
         requires { place < 64 }
-        ensures { result ≡ ssn_stored self.now.points place (cell_at (book_of self.now) (lsp_number id)) }
+        ensures { result
+            ≡ ssn_stored self.now.points place (cell_at (book_of self.now) (lsp_number id)) }
     {
         if has_bit(self.points, place) {
             return with_bit(0, place);
@@ -160,7 +164,8 @@ impl Book {
     /// What is held is acknowledged.
     fn acknowledge(&mut self, place: u8, id: LspId)
         requires { place < 64 }
-        ensures book { (lsp : LspHeard) → book_of self.new ≡ set_cell (book_of self.old) (lsp_number id)
+        ensures book { (lsp : LspHeard) → book_of self.new
+            ≡ set_cell (book_of self.old) (lsp_number id)
             (lsp_row case.Same self.old.opened self.old.points place
             (cell_at (book_of self.old) (lsp_number id)) (heard_of lsp)) }
         ensures rest { SameCircuits self.old self.new }
@@ -172,7 +177,8 @@ impl Book {
     /// What is held is sent back.
     pub(crate) fn send_back(&mut self, place: u8, id: LspId)
         requires { place < 64 }
-        ensures book { (lsp : LspHeard) → book_of self.new ≡ set_cell (book_of self.old) (lsp_number id)
+        ensures book { (lsp : LspHeard) → book_of self.new
+            ≡ set_cell (book_of self.old) (lsp_number id)
             (lsp_row case.Older self.old.opened self.old.points place
             (cell_at (book_of self.old) (lsp_number id)) (heard_of lsp)) }
         ensures rest { SameCircuits self.old self.new }

@@ -9,7 +9,8 @@ pub struct LspHeard<'a> {
     pub octets: &'a [u8],
 }
 
-/// What became of an LSP that was heard: the row of the table that it met (ISO 10589 7.3.15.1, 7.3.16).
+/// What became of an LSP that was heard: the row of the table that it met (ISO 10589 7.3.15.1,
+/// 7.3.16).
 #[derive(Clone, Copy, Debug, PartialEq, Eq)]
 pub enum LspAnswer {
     /// It is newer, and kept.

@@ -8,7 +8,8 @@ ghost use Rattle.flag_sync.specs.Known.{known_cell};
 use isis_base::{Key, Order3, newer};
 use isis_model::Whose;
 
-/// What is held of an LSP ID, so far as the tables ask: the key, and the checksum, which is 0 where nothing is held.
+/// What is held of an LSP ID, so far as the tables ask: the key, and the checksum, which is 0
+/// where nothing is held.
 #[derive(Clone, Copy, Debug)]
 pub(crate) struct Known {
     pub(crate) key: Option<Key>,

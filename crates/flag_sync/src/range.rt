@@ -18,8 +18,8 @@ use isis_base::{LspEntry, LspId};
 use lsp_store::{Pages, Store};
 
 impl Book {
-    /// The range of a CSNP is heard on a circuit (ISO 10589 7.3.15.2): each live LSP in it that isn't listed gets SRM
-    /// there. True exactly where some LSP ID does. It takes no memory.
+    /// The range of a CSNP is heard on a circuit (ISO 10589 7.3.15.2): each live LSP in it that
+    /// isn't listed gets SRM there. True exactly where some LSP ID does. It takes no memory.
     pub fn hear_csnp_range(
         &mut self,
         circuit: u8,
@@ -78,7 +78,8 @@ fn mark_keys(store: &Store, flags: &mut Pages<FlagRow>, place: u8)
     }
 }
 
-/// Sets SRM for each live LSP from one LSP ID to another that isn't listed, and answers whether there is one.
+/// Sets SRM for each live LSP from one LSP ID to another that isn't listed, and answers whether
+/// there is one.
 fn mark_missed(
     store: &Store,
     flags: &mut Pages<FlagRow>,

@@ -12,7 +12,8 @@ use lsp_store::{Entry, Pages, Store, StoreFault};
 /// The most entries of a store.
 pub(crate) const ENTRY_LIMIT: usize = 65_536;
 
-/// Sets an LSP ID's entry and its row. At a fault nothing is changed but that room for rows may be taken.
+/// Sets an LSP ID's entry and its row. At a fault nothing is changed but that room for rows may be
+/// taken.
 pub(crate) fn put_both(
     store: &mut Store,
     flags: &mut Pages<FlagRow>,
@@ -50,7 +51,8 @@ fn take_room(store: &Store, flags: &mut Pages<FlagRow>, id: LspId) -> Result<(),
     requires room { store.now.spare ≤ flags.old.spare }
     ensures same { flags.new.entries ≡ flags.old.entries }
     ensures room { store.now.spare ≤ flags.new.spare }
-    ensures ready { OnOk result (IsSome (find flags.old.entries (lsp_number id)) ⊎ (0 < flags.new.spare)) }
+    ensures ready { OnOk result (IsSome (find flags.old.entries (lsp_number id))
+        ⊎ (0 < flags.new.spare)) }
     ensures cause { IfErr result (PutCause store.now (lsp_number id)) }
     ensures full { find store.now.entries (lsp_number id) ≡ None
         → 65536 ≤ length store.now.entries → IfOk result (λ _. ⊥) }

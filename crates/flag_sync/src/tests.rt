@@ -65,7 +65,8 @@ fn bare(alloc: Global) -> Result<Book, OutOfMemory>
     Ok(book)
 }
 
-/// The same with the entry, SRM on circuits 1 and 3, of which it waits on 1, and SSN on circuits 2 and 3.
+/// The same with the entry, SRM on circuits 1 and 3, of which it waits on 1, and SSN on circuits 2
+/// and 3.
 fn held(alloc: Global) -> Result<Book, OutOfMemory>
     ensures { IfOk result (λ book. book.circuits ≡ 3) }
 {
@@ -170,11 +171,17 @@ fn after_entry(
 }
 
 const ALL: [bool; 3] = [true, true, true];
+
 const NONE: [bool; 3] = [false, false, false];
+
 const ONE: [bool; 3] = [true, false, false];
+
 const TWO_THREE: [bool; 3] = [false, true, true];
+
 const ONE_THREE: [bool; 3] = [true, false, true];
+
 const ONE_TWO: [bool; 3] = [true, true, false];
+
 const THREE: [bool; 3] = [false, false, true];
 
 /// A row for an LSP: what is heard, the answer, and what is held then.
@@ -190,8 +197,7 @@ struct LspRow {
 /// The place of the first row that isn't met.
 fn first_wrong_lsp(alloc: Global, rows: &[LspRow]) -> Result<Option<usize>, OutOfMemory> {
     let mut place = 0usize;
-    let mut rest = rows;
-    while let [row, more @ ..] = rest {
+    for row in rows {
         let book = match held(alloc) {
             Ok(book) => book,
             Err(fault) => return Err(fault),
@@ -200,12 +206,12 @@ fn first_wrong_lsp(alloc: Global, rows: &[LspRow]) -> Result<Option<usize>, OutO
             return Ok(Some(place));
         }
         place = place.wrapping_add(1);
-        rest = more;
     }
     Ok(None)
 }
 
-/// A row for an entry: what is heard, whether a flag is set, the number that outbids, and what is held then.
+/// A row for an entry: what is heard, whether a flag is set, the number that outbids, and what is
+/// held then.
 #[derive(Clone, Copy)]
 struct EntryRow {
     circuit: u8,
@@ -218,8 +224,7 @@ struct EntryRow {
 /// The place of the first row that isn't met, where the LSP ID is held.
 fn first_wrong_entry(alloc: Global, rows: &[EntryRow]) -> Result<Option<usize>, OutOfMemory> {
     let mut place = 0usize;
-    let mut rest = rows;
-    while let [row, more @ ..] = rest {
+    for row in rows {
         let book = match held(alloc) {
             Ok(book) => book,
             Err(fault) => return Err(fault),
@@ -228,7 +233,6 @@ fn first_wrong_entry(alloc: Global, rows: &[EntryRow]) -> Result<Option<usize>, 
             return Ok(Some(place));
         }
         place = place.wrapping_add(1);
-        rest = more;
     }
     Ok(None)
 }
@@ -274,14 +278,56 @@ fn lsps_heard(rt: HostRuntime) -> Result<(), Fail> {
     let rows = [
         lsp_row(1, issued, one, LspAnswer::Outbid { above: 3 }, same),
         lsp_row(1, issued, two, LspAnswer::Outbid { above: 2 }, same),
-        lsp_row(1, unissued, one, LspAnswer::PurgedOwn, cell(3, true, ALL, NONE)),
+        lsp_row(
+            1,
+            unissued,
+            one,
+            LspAnswer::PurgedOwn,
+            cell(3, true, ALL, NONE),
+        ),
         lsp_row(1, other, two, LspAnswer::Confused, cell(2, true, ALL, NONE)),
-        lsp_row(1, other, one, LspAnswer::Stored, cell(3, false, TWO_THREE, ONE)),
-        lsp_row(3, other, one, LspAnswer::Stored, cell(3, false, ONE_TWO, THREE)),
-        lsp_row(1, other, said(2, 0, 0), LspAnswer::Stored, cell(2, true, TWO_THREE, ONE)),
-        lsp_row(1, other, said(2, 600, 5), LspAnswer::Same, cell(2, false, THREE, ALL)),
-        lsp_row(3, other, said(2, 600, 5), LspAnswer::Same, cell(2, false, ONE, TWO_THREE)),
-        lsp_row(2, other, said(1, 600, 9), LspAnswer::Older, cell(2, false, ALL, THREE)),
+        lsp_row(
+            1,
+            other,
+            one,
+            LspAnswer::Stored,
+            cell(3, false, TWO_THREE, ONE),
+        ),
+        lsp_row(
+            3,
+            other,
+            one,
+            LspAnswer::Stored,
+            cell(3, false, ONE_TWO, THREE),
+        ),
+        lsp_row(
+            1,
+            other,
+            said(2, 0, 0),
+            LspAnswer::Stored,
+            cell(2, true, TWO_THREE, ONE),
+        ),
+        lsp_row(
+            1,
+            other,
+            said(2, 600, 5),
+            LspAnswer::Same,
+            cell(2, false, THREE, ALL),
+        ),
+        lsp_row(
+            3,
+            other,
+            said(2, 600, 5),
+            LspAnswer::Same,
+            cell(2, false, ONE, TWO_THREE),
+        ),
+        lsp_row(
+            2,
+            other,
+            said(1, 600, 9),
+            LspAnswer::Older,
+            cell(2, false, ALL, THREE),
+        ),
     ];
     assert_eq!(rt; first_wrong_lsp(rt.alloc(), rows.as_slice())?, None);
     Ok(())
@@ -291,7 +337,10 @@ fn lsps_heard(rt: HostRuntime) -> Result<(), Fail> {
 #[test]
 fn purge_heard(rt: HostRuntime) -> Result<(), Fail> {
     let none = after_lsp(bare(rt.alloc())?, 1, Whose::Other, said(4, 0, 0));
-    assert_eq!(rt; none, Some((LspAnswer::AckPurge, cell(0, false, NONE, NONE))));
+    assert_eq!(rt;
+        none,
+        Some((LspAnswer::AckPurge, cell(0, false, NONE, NONE)))
+    );
     Ok(())
 }
 
@@ -302,7 +351,13 @@ fn entries_heard(rt: HostRuntime) -> Result<(), Fail> {
     let rows = [
         entry_row(1, said(2, 600, 6), true, Some(2), same),
         entry_row(1, said(2, 600, 6), true, None, cell(2, true, ALL, NONE)),
-        entry_row(1, said(2, 600, 5), false, None, cell(2, false, THREE, TWO_THREE)),
+        entry_row(
+            1,
+            said(2, 600, 5),
+            false,
+            None,
+            cell(2, false, THREE, TWO_THREE),
+        ),
         entry_row(3, said(2, 600, 5), false, None, same),
         entry_row(2, said(1, 600, 9), true, None, cell(2, false, ALL, THREE)),
         entry_row(1, said(3, 600, 9), true, None, cell(2, false, THREE, ALL)),
@@ -312,7 +367,12 @@ fn entries_heard(rt: HostRuntime) -> Result<(), Fail> {
 }
 
 /// Whether an entry of what isn't held is answered so, and SSN set on these circuits.
-fn is_new(alloc: Global, heard: LspEntry, flagged: bool, ssn: [bool; 3]) -> Result<bool, OutOfMemory> {
+fn is_new(
+    alloc: Global,
+    heard: LspEntry,
+    flagged: bool,
+    ssn: [bool; 3],
+) -> Result<bool, OutOfMemory> {
     let book = match bare(alloc) {
         Ok(book) => book,
         Err(fault) => return Err(fault),
@@ -339,14 +399,14 @@ fn new_entries_heard(rt: HostRuntime) -> Result<(), Fail> {
 fn flags_over_time(rt: HostRuntime) -> Result<(), Fail> {
     let id = LspId::from_number(ID);
     let mut book = held(rt.alloc())?;
-    assert_eq!(rt; book.due(1).count(), 0usize);
+    assert_eq!(rt; book.due(1).next(), None);
     assert_eq!(rt; book.due(3).next(), Some(id));
     assert_eq!(rt; book.owed(2).next(), Some(id));
     book.second();
     book.second();
     book.second();
     book.second();
-    assert_eq!(rt; book.due(1).count(), 0usize);
+    assert_eq!(rt; book.due(1).next(), None);
     book.second();
     assert_eq!(rt; book.due(1).next(), Some(id));
     book.answered(2);
@@ -365,10 +425,16 @@ fn circuits_of_a_book(rt: HostRuntime) -> Result<(), Fail> {
     assert!(rt; book.hear_csnp_range(2, start, end, &[]));
     assert_eq!(rt; now_held(&book), cell(2, false, ALL, TWO_THREE));
     book.clear_circuit(3);
-    assert_eq!(rt; now_held(&book), cell(2, false, ONE_TWO, [false, true, false]));
+    assert_eq!(rt;
+        now_held(&book),
+        cell(2, false, ONE_TWO, [false, true, false])
+    );
     book.mark_all(3);
     book.set_open(1, false);
-    assert_eq!(rt; now_held(&book), cell(2, false, TWO_THREE, [false, true, false]));
+    assert_eq!(rt;
+        now_held(&book),
+        cell(2, false, TWO_THREE, [false, true, false])
+    );
     Ok(())
 }
 

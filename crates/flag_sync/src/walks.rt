@@ -92,7 +92,8 @@ impl Book {
     pub fn due(&self, circuit: u8) -> Due<'_>
         requires { IsCircuit circuit self.now.circuits }
         ensures rows { result ≡ due_of (circuit - 1) self.now.rows }
-        ensures cells { numbers_of result ≡ ids_where (λ (cell : Cell). srm_due (circuit - 1) cell) (book_of self.now).cells }
+        ensures cells { numbers_of result ≡ ids_where
+            (λ (cell : Cell). srm_due (circuit - 1) cell) (book_of self.now).cells }
     {
         let place = self.place(circuit);
         let rows = self.flags.pairs();
@@ -103,7 +104,8 @@ impl Book {
     pub fn owed(&self, circuit: u8) -> Owed<'_>
         requires { IsCircuit circuit self.now.circuits }
         ensures rows { result ≡ owed_of (circuit - 1) self.now.rows }
-        ensures cells { numbers_of result ≡ ids_where (λ (cell : Cell). has cell.ssn (circuit - 1)) (book_of self.now).cells }
+        ensures cells { numbers_of result ≡ ids_where
+            (λ (cell : Cell). has cell.ssn (circuit - 1)) (book_of self.now).cells }
     {
         let place = self.place(circuit);
         let rows = self.flags.pairs();
@@ -117,5 +119,8 @@ fn is_due(row: &FlagRow, place: u8) -> bool
     ensures { result ≡ row_due place row.now }
 {
     let [ones, twos, fours] = row.waits;
-    has_bit(row.srm, place) && !has_bit(ones, place) && !has_bit(twos, place) && !has_bit(fours, place)
+    has_bit(row.srm, place)
+        && !has_bit(ones, place)
+        && !has_bit(twos, place)
+        && !has_bit(fours, place)
 }

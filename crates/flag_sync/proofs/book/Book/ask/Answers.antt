@@ -23,7 +23,7 @@ returns-in-Some-clause-book c =
     let n = lsp_number c.args.id in
     let p = c.args.place in
     let same = subst (λ (t : BookState). option_map (λ (cell : Cell). ssn_on cell p) (cell_at (book_of t) n) ≡ asked (is_full (book_of t)) p (cell_at (book_of t) n)) c.self.view_is
-        (asked-found s i.beside i.rises n p c.in-Some.field-0.now c.in-Some.ensures) in
+    (asked-found s i.beside i.rises n p c.in-Some.field-0.now c.in-Some.ensures) in
     c.flag.ensures.book ∙ ap (set_cell (book_of c.args.self.now) n) same
 
 pub returns-then-len-ge-ENTRY_LIMIT-clause-book : goal.returns-then-len-ge-ENTRY_LIMIT-clause-book
@@ -42,7 +42,7 @@ returns-then-len-ge-ENTRY_LIMIT-clause-book c =
     let len = c.len.ensures.same in
     let most = c.len.ensures.most in
     let same = subst (λ (t : BookState). cell_at (book_of t) n ≡ asked (is_full (book_of t)) p (cell_at (book_of t) n)) c.self.view_is
-        (asked-full s i.beside i.rises n p c.in-None.ensures (omega (arith, many, len, most))) in
+    (asked-full s i.beside i.rises n p c.in-None.ensures (omega (arith, many, len, most))) in
     c.stay.ensures ∙ ap (set_cell (book_of c.args.self.now) n) same
 
 pub returns-clause-book : goal.returns-clause-book
@@ -60,7 +60,7 @@ returns-clause-book c =
     let few = c.if-len-ge-ENTRY_LIMIT.false in
     let len = c.len.ensures.same in
     let same = subst (λ (t : BookState). Some (ssn_on empty_cell p) ≡ asked (is_full (book_of t)) p (cell_at (book_of t) n)) c.self.view_is
-        (asked-new s i.beside i.rises n p c.in-None.ensures (omega (arith, few, len))) in
+    (asked-new s i.beside i.rises n p c.in-None.ensures (omega (arith, few, len))) in
     let kept = rw c.unwrap.ensures at c.keep.ensures.book in
     let made = rw (c.new-2.ensures, c.with_bit.ensures, c.new.ensures) at kept in
     made ∙ ap (set_cell (book_of c.args.self.now) n) same
