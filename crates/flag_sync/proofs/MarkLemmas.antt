@@ -1,5 +1,5 @@
 -- SRM set for the LSP IDs that pass a test, by rows and by cells.
-use Rattle.std.proofs.Common.{◌≡◌, ◌==◌, ◌&&◌, ◌||◌, not, Bool, true, false, if◌then◌else◌, eqb, nat_le, nat_lt, ℕ, ◌+◌, ◌<◌, ◌≤◌, List, [], ◌∷◌, refl, sym, ap, ap₂, ◌∙◌, subst, arith}
+use Rattle.std.proofs.Common.{◌≡◌, ◌&&◌, ◌||◌, not, Bool, true, false, if◌then◌else◌, nat_le, ℕ, ◌+◌, ◌<◌, List, [], ◌∷◌, refl, ap, ap₂, ◌∙◌, arith}
 use Rattle.std.proofs.lemmas.Bool.Decides.{nat_tests}
 use Rattle.isis_base.specs.declared.identifiers.LspId.{LspId}
 use Rattle.isis_base.specs.declared.entry.LspEntry.{LspEntry}
@@ -10,7 +10,7 @@ use Rattle.isis_model.specs.SnpTable.{lists, is_missed}
 use Rattle.isis_model.specs.Maps as cells
 use Rattle.isis_model.specs.Cells.{Cell, srm_on}
 use Rattle.lsp_store.specs.declared.entry.Entry.{Entry}
-use Rattle.lsp_store.specs.Maps.{pair_number, change_at, between, RisesFrom}
+use Rattle.lsp_store.specs.Maps.{change_at, between, RisesFrom}
 use Rattle.flag_sync.specs.declared.flag_row.FlagRow.{FlagRow}
 use Rattle.flag_sync.specs.declared.deed.SrmDeed.TheVariants as srm
 use Rattle.flag_sync.specs.FlagRows.{cell_of, srm_done}

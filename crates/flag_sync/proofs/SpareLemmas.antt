@@ -1,9 +1,9 @@
 -- How much room calls use up.
-use Rattle.std.proofs.Common.{◌≡◌, Bool, true, false, if◌then◌else◌, ℕ, ◌+◌, ◌-◌, ◌≤◌, List, length, Option, is_some, refl, sym, ap, ◌∙◌, subst, arith}
+use Rattle.std.proofs.Common.{◌≡◌, Bool, true, false, if◌then◌else◌, ℕ, ◌+◌, ◌-◌, ◌≤◌, length, is_some, ap, ◌∙◌, arith}
 use Rattle.isis_base.specs.declared.identifiers.LspId.{LspId}
 use Rattle.isis_base.specs.Identifiers.{lsp_number}
 use Rattle.lsp_store.specs.declared.entry.Entry.{Entry}
-use Rattle.lsp_store.specs.Maps.{find, put, change_at, RisesFrom}
+use Rattle.lsp_store.specs.Maps.{find, RisesFrom}
 use Rattle.lsp_store.specs.Databases.{Database, with_entry, with_change}
 use Rattle.lsp_store.proofs.MapLemmas.{length-put}
 use Rattle.lsp_store.proofs.ChangeLemmas.{length-change_at}

@@ -1,17 +1,16 @@
 -- The LSP IDs of a circuit's flags, by rows and by cells.
-use Rattle.std.proofs.Common.{◌≡◌, ◌==◌, ◌&&◌, not, Bool, true, false, if◌then◌else◌, ℕ, ◌+◌, ◌*◌, ◌<◌, slice_index, List, [], ◌∷◌, refl, sym, ap, ap₂, ◌∙◌, arith}
+use Rattle.std.proofs.Common.{◌≡◌, ◌==◌, ◌&&◌, not, Bool, true, false, if◌then◌else◌, ℕ, ◌+◌, ◌*◌, ◌<◌, slice_index, List, [], ◌∷◌, refl, sym, ap₂, arith}
 use Rattle.std.proofs.lemmas.Bool.Decides.{nat_tests}
 use Rattle.std.specs.Int.{bit_at}
 use Rattle.std.proofs.lemmas.Nat.Bits.{bit_at-lt}
 use Rattle.isis_base.specs.declared.identifiers.LspId.{LspId}
 use Rattle.isis_base.specs.Identifiers.{lsp_number}
 use Rattle.isis_model.specs.Sets.{has}
-use Rattle.isis_model.specs.Waits.{wait}
 use Rattle.isis_model.specs.Cells.{Cell}
 use Rattle.isis_model.specs.Pulls.{srm_due}
 use Rattle.lsp_store.specs.declared.entry.Entry.{Entry}
 use Rattle.flag_sync.specs.declared.flag_row.FlagRow.{FlagRow}
-use Rattle.flag_sync.specs.FlagRows.{cell_of, waits_of}
+use Rattle.flag_sync.specs.FlagRows.{cell_of}
 use Rattle.flag_sync.specs.Walks.{row_due, due_of, owed_of, numbers_of, ids_where}
 use Rattle.flag_sync.specs.BookStates.{cells_of, AreBeside}
 

@@ -1,18 +1,13 @@
 -- A circuit's flags of all LSP IDs, opened, closed, cleared, sent and walked over (ISO 10589
 -- 7.3.15, 7.3.17; the form: own).
-use Rattle.std.specs.Prelude.{ℕ, ◌+◌, ◌==◌, nat_lt, Bool, true, false, ◌&&◌, ◌||◌, List, [], ◌∷◌, Option, Some, None, if◌then◌else◌}
-use Rattle.isis_base.specs.declared.identifiers.LspId.{LspId}
+use Rattle.std.specs.Prelude.{ℕ, Bool, true, false, Option, Some, None, if◌then◌else◌}
 use Rattle.isis_base.specs.declared.level.CircuitKind.{CircuitKind}
 use Rattle.isis_base.specs.declared.level.CircuitKind.TheVariants.{PointToPoint, Lan}
-use Rattle.isis_base.specs.Identifiers.{lsp_number}
 use Rattle.isis_model.specs.Maps.{each}
 use Rattle.isis_model.specs.Sets.{has, with_one}
-use Rattle.isis_model.specs.Waits.{wait}
 use Rattle.isis_model.specs.Cells.{Cell, srm_off, srm_sent}
 use Rattle.isis_model.specs.Books.{Book}
 use Rattle.isis_model.specs.Openings.{silenced, close}
-use Rattle.flag_sync.specs.declared.flag_row.FlagRow.{FlagRow}
-use Rattle.flag_sync.specs.FlagRows.{waits_of}
 
 -- a circuit's flags are cleared
 abbrev pub cleared : Book → ℕ → Book

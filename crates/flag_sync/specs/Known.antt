@@ -1,5 +1,5 @@
 -- What the tables ask of what is held (own).
-use Rattle.std.specs.Prelude.{◌≡◌, [], Option, Some, None}
+use Rattle.std.specs.Prelude.{◌≡◌, [], Option}
 use Rattle.isis_base.specs.Keys.{rank}
 use Rattle.isis_model.specs.Waits.{no_waits}
 use Rattle.isis_model.specs.Cells.{Cell}

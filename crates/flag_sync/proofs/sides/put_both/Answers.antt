@@ -1,7 +1,5 @@
-use Rattle.std.proofs.Common.{◌≤◌, ◌≡◌, ◌-◌, is_some, if◌then◌else◌, ℕ, List, sym, subst, ap, ◌∙◌, arith}
-use Rattle.isis_base.specs.declared.identifiers.LspId.{LspId}
+use Rattle.std.proofs.Common.{sym, subst, ap}
 use Rattle.isis_base.specs.Identifiers.{lsp_number}
-use Rattle.lsp_store.specs.Maps.{find}
 use Rattle.lsp_store.specs.Databases.{Database}
 use Rattle.lsp_store.specs.PageMaps.{PageMap}
 use Rattle.flag_sync.specs.declared.flag_row.FlagRow.{FlagRow}

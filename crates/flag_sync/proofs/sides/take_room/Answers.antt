@@ -1,6 +1,5 @@
-use Rattle.std.proofs.Common.{◌≡◌, Some, Option, IsSome, inl, inr, refl, sym, subst, ◌∙◌, arith}
+use Rattle.std.proofs.Common.{inl}
 use Rattle.isis_base.specs.Identifiers.{lsp_number}
-use Rattle.flag_sync.specs.declared.flag_row.FlagRow.{FlagRow}
 use Rattle.flag_sync.proofs.CellLemmas.{row-some}
 use Rattle.flag_sync.proofs.sides.take_room.Goals as goal
 

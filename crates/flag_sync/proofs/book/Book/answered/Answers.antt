@@ -1,4 +1,4 @@
-use Rattle.std.proofs.Common.{◌≡◌, ◌-◌, ℕ, ap, ◌∙◌}
+use Rattle.std.proofs.Common.{ℕ, ap, ◌∙◌}
 use Rattle.isis_model.specs.Maps.{each}
 use Rattle.isis_model.specs.Cells.{Cell, ssn_off}
 use Rattle.isis_model.specs.Books.{Book}

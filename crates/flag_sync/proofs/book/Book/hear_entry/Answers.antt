@@ -1,4 +1,4 @@
-use Rattle.std.proofs.Common.{◌≡◌, ◌-◌, ℕ, sym, ap, ◌∙◌}
+use Rattle.std.proofs.Common.{◌-◌, ℕ, sym, ap, ◌∙◌}
 use Rattle.isis_model.specs.declared.snp_case.SnpCase.{SnpCase}
 use Rattle.isis_model.specs.Books.{cell_at, is_full, set_cell}
 use Rattle.isis_model.specs.SnpTable.{snp_row}

@@ -1,4 +1,4 @@
-use Rattle.std.proofs.Common.{◌≡◌, Some, List, sym, subst, ap, ap₂, ◌∙◌, zero-le, arith}
+use Rattle.std.proofs.Common.{◌≡◌, Some, List, sym, subst, ap, ap₂, ◌∙◌, zero-le}
 use Rattle.isis_base.specs.declared.identifiers.LspId.{LspId}
 use Rattle.isis_base.specs.Identifiers.{lsp_number}
 use Rattle.isis_model.specs.Books.{set_cell}

@@ -5,7 +5,7 @@ use Rattle.isis_model.specs.Books.{Book}
 use Rattle.isis_model.specs.Openings.{mark_all}
 use Rattle.flag_sync.specs.declared.flag_row.FlagRow.{FlagRow}
 use Rattle.flag_sync.specs.Marks.{marks, has_key}
-use Rattle.flag_sync.specs.BookStates.{BookState, cells_of, book_of, AreBeside}
+use Rattle.flag_sync.specs.BookStates.{BookState, book_of, AreBeside}
 use Rattle.flag_sync.proofs.MarkLemmas.{marks-beside, marks-cells}
 use Rattle.flag_sync.proofs.book.Book.mark_all.Goals as goal
 

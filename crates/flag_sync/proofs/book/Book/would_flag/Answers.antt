@@ -1,4 +1,4 @@
-use Rattle.std.proofs.Common.{◌≡◌, ap, ◌∙◌}
+use Rattle.std.proofs.Common.{ap, ◌∙◌}
 use Rattle.isis_model.specs.declared.whose.Whose.TheVariants as whose
 use Rattle.isis_model.specs.Books.{cell_at}
 use Rattle.isis_model.specs.SnpTable.{sets_flag}
