@@ -12,6 +12,7 @@
 //! - `range.rt`: what a CSNP misses, and marks; `walks.rt`: what is due and owed
 //! - `cells.rt`: one LSP ID; `circuits.rt`: one circuit, and seconds
 //! - `deed.rt`, `row_edits.rt`: flags changed in place; `headers.rt`: entries kept, and purges
+//! - `laws.rt`: the opening of a circuit, by two calls
 #![tactic(auto)]
 
 mod bits;
@@ -25,6 +26,7 @@ mod hear_entry;
 mod hear_lsp;
 mod heard;
 mod known;
+mod laws;
 mod lsp_rows;
 mod range;
 mod row_edits;
@@ -38,4 +40,5 @@ pub use book::Book;
 pub use flag_row::FlagRow;
 pub use heard::{EntryAnswer, LspAnswer, LspHeard};
 pub use isis_model::Whose;
+pub use laws::opening_law;
 pub use walks::{Due, Owed};
