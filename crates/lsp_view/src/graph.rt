@@ -1,0 +1,98 @@
+//! Who lists whom, and which nodes are overloaded (ISO 10589 7.2.5, 7.2.8.1).
+ghost use Rattle.std.specs.Prelude.{◌≡◌, ◌++◌, map, IfOk, OnOk};
+ghost use Rattle.isis_tlv.specs.declared.neighbour.NeighbourItem.{NeighbourItem};
+ghost use Rattle.lsp_view.specs.Bodies.{neighbours_in};
+ghost use Rattle.lsp_view.specs.Views.{row_from, rows_in, is_overloaded, overloaded_in};
+
+use crate::body::add_items;
+use crate::flags::has_overload;
+use crate::lead::lead;
+use isis_base::{LspId, NodeId, OutOfMemory};
+use isis_tlv::NeighbourItem;
+use lsp_store::{Entry, Store};
+use spf_tree::Row;
+use std::alloc::Global;
+
+/// The code of extended IS reachability (RFC 5305 3).
+const NEIGHBOURS: u8 = 22;
+
+/// A row for each neighbour that a live LSP lists whose node's number 0 is held live, in the order of LSP ID and place.
+#[tactic(auto, unfolding(crate::specs::Views::rows_in))]
+pub fn rows(alloc: Global, store: &Store) -> Result<Vec<Row>, OutOfMemory>
+    ensures { IfOk result (λ rows. rows.items ≡ rows_in store.now.entries) }
+{
+    let mut rows = Vec::new(alloc);
+    for (id, entry) in store.live() {
+        if lead(store, id.node).is_some() {
+            match add_rows(alloc, &mut rows, id.node, entry.octets.as_slice()) {
+                Ok(()) => {}
+                Err(error) => return Err(error),
+            }
+        }
+    }
+    Ok(rows)
+}
+
+/// Adds the rows that the octets of a node's LSP list.
+fn add_rows(
+    alloc: Global,
+    rows: &mut Vec<Row>,
+    node: NodeId,
+    octets: &[u8],
+) -> Result<(), OutOfMemory>
+    ensures { OnOk result (rows.new.items
+        ≡ rows.old.items ++ map (row_from node) (neighbours_in octets.now)) }
+{
+    let mut items = Vec::new(alloc);
+    match add_items::<NeighbourItem>(&mut items, NEIGHBOURS, octets) {
+        Ok(()) => {}
+        Err(error) => return Err(error),
+    }
+    add_items_of(rows, node, items.as_slice())
+}
+
+/// Adds the rows from a node to some neighbours.
+fn add_items_of(
+    rows: &mut Vec<Row>,
+    node: NodeId,
+    items: &[NeighbourItem],
+) -> Result<(), OutOfMemory>
+    ensures { OnOk result (rows.new.items ≡ rows.old.items ++ map (row_from node) items.now) }
+{
+    for item in items {
+        let row = Row {
+            from: node,
+            to: item.node,
+            metric: item.metric,
+        };
+        match rows.push(row) {
+            Ok(()) => {}
+            Err(_) => return Err(OutOfMemory),
+        }
+    }
+    Ok(())
+}
+
+/// The nodes whose live number 0 has the overload bit, in order.
+#[tactic(auto, unfolding(crate::specs::Views::overloaded_in))]
+pub fn overloaded(alloc: Global, store: &Store) -> Result<Vec<NodeId>, OutOfMemory>
+    ensures { IfOk result (λ nodes. nodes.items ≡ overloaded_in store.now.entries) }
+{
+    let mut nodes = Vec::new(alloc);
+    for (id, entry) in store.live() {
+        if is_overloaded(id, entry) {
+            match nodes.push(id.node) {
+                Ok(()) => {}
+                Err(_) => return Err(OutOfMemory),
+            }
+        }
+    }
+    Ok(nodes)
+}
+
+/// Whether an LSP is a number 0 with the overload bit (ISO 10589 9.8).
+fn is_overloaded(id: LspId, entry: &Entry) -> bool
+    ensures { result ≡ is_overloaded (id, entry.now) }
+{
+    id.number == 0 && has_overload(entry.flags)
+}

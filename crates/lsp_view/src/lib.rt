@@ -1,0 +1,24 @@
+//! The live LSPs of a database as graph and routes need them (ISO 10589 7.2.5, 7.2.8).
+//!
+//! LSPs of a node count only while its number 0 is held live. A TLV whose value has a fault is unread, and octets that
+//! aren't an LSP's header and TLVs say nothing (own).
+//!
+//! - `graph.rt`: who lists whom, and which nodes are overloaded
+//! - `systems.rt`: what one system says: prefixes, area addresses, the attached bit
+//! - `body.rt`: what the octets of an LSP say, by the codes of TLVs; `lead.rt`: a node's number 0;
+//!   `flags.rt`: its flags
+//! - `laws.rt`: how many rows there are at most
+#![tactic(auto)]
+
+mod body;
+mod flags;
+mod graph;
+pub mod laws;
+mod lead;
+mod systems;
+
+pub use graph::{overloaded, rows};
+pub use systems::{area_list, is_attached, reach};
+
+#[cfg(test)]
+mod tests;

@@ -1,0 +1,111 @@
+//! What one system says: prefixes, area addresses and the attached bit.
+ghost use Rattle.std.specs.Prelude.{◌≡◌, ◌++◌, filter, IfOk, OnOk};
+ghost use Rattle.lsp_view.specs.Bodies.{prefixes_in};
+ghost use Rattle.lsp_view.specs.Views.{own_node, lead_of, is_reachable, reach_in, areas_at, attached_at};
+
+use crate::body::add_items;
+use crate::flags::has_attached;
+use crate::lead::{is_live, lead};
+use isis_base::{AreaAddress, LspId, NodeId, OutOfMemory, SystemId};
+use isis_tlv::PrefixItem;
+use lsp_store::Store;
+use std::alloc::Global;
+
+/// The code of area addresses (ISO 10589 9.8).
+const AREAS: u8 = 1;
+
+/// The code of extended IP reachability (RFC 5305 4).
+const PREFIXES: u8 = 135;
+
+/// The greatest metric of a prefix that may be reached (RFC 5305 4).
+const GREATEST: u32 = 4_261_412_864;
+
+/// The node that a system is.
+fn own_node(system: SystemId) -> NodeId
+    ensures { result ≡ own_node system }
+{
+    NodeId {
+        system,
+        pseudonode: 0,
+    }
+}
+
+/// The prefixes that the live LSPs of a system list, of a metric that may be reached, where its number 0 is held live; in the
+/// order of LSP ID and place.
+#[tactic(auto, unfolding(crate::specs::Views::reach_in))]
+pub fn reach(alloc: Global, store: &Store, system: SystemId) -> Result<Vec<PrefixItem>, OutOfMemory>
+    ensures { IfOk result (λ items. items.items ≡ reach_in store.now.entries system) }
+{
+    let node = own_node(system);
+    let mut items = Vec::new(alloc);
+    if lead(store, node).is_none() {
+        return Ok(items);
+    }
+    let (first, last) = (LspId { node, number: 0 }, LspId { node, number: 255 });
+    for (_, entry) in store.range(first, last) {
+        if is_live(entry) {
+            match add_reach(alloc, &mut items, entry.octets.as_slice()) {
+                Ok(()) => {}
+                Err(error) => return Err(error),
+            }
+        }
+    }
+    Ok(items)
+}
+
+/// Adds the prefixes that the octets of an LSP list, of a metric that may be reached.
+fn add_reach(alloc: Global, items: &mut Vec<PrefixItem>, octets: &[u8]) -> Result<(), OutOfMemory>
+    ensures { OnOk result (items.new.items
+        ≡ items.old.items ++ filter is_reachable (prefixes_in octets.now)) }
+{
+    let mut listed = Vec::new(alloc);
+    match add_items::<PrefixItem>(&mut listed, PREFIXES, octets) {
+        Ok(()) => {}
+        Err(error) => return Err(error),
+    }
+    add_reachable(items, listed.as_slice())
+}
+
+/// Adds those of a metric that may be reached.
+fn add_reachable(items: &mut Vec<PrefixItem>, listed: &[PrefixItem]) -> Result<(), OutOfMemory>
+    ensures { OnOk result (items.new.items ≡ items.old.items ++ filter is_reachable listed.now) }
+{
+    for item in listed {
+        if item.metric <= GREATEST {
+            match items.push(*item) {
+                Ok(()) => {}
+                Err(_) => return Err(OutOfMemory),
+            }
+        }
+    }
+    Ok(())
+}
+
+/// The area addresses that a system's live number 0 lists.
+pub fn area_list(
+    alloc: Global,
+    store: &Store,
+    system: SystemId,
+) -> Result<Vec<AreaAddress>, OutOfMemory>
+    ensures { IfOk result (λ areas. areas.items
+        ≡ areas_at (lead_of store.now.entries (own_node system))) }
+{
+    let mut areas = Vec::new(alloc);
+    match lead(store, own_node(system)) {
+        Some(entry) => match add_items::<AreaAddress>(&mut areas, AREAS, entry.octets.as_slice()) {
+            Ok(()) => Ok(areas),
+            Err(error) => Err(error),
+        },
+        None => Ok(areas),
+    }
+}
+
+/// Whether a system's live number 0 has the attached bit of the default metric. It takes no memory.
+pub fn is_attached(store: &Store, system: SystemId) -> bool
+    ensures { result ≡ attached_at (lead_of store.now.entries (own_node system)) }
+{
+    match lead(store, own_node(system)) {
+        Some(entry) => has_attached(entry.flags),
+        None => false,
+    }
+}
