@@ -1,0 +1,6 @@
+-- What the check doesn't find alone: addresses, entries that fit, maps, and binary searches.
+mod FirstLemmas
+mod FitLemmas
+mod MapLemmas
+mod SearchLemmas
+mod ShownLemmas

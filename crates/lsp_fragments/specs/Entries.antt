@@ -1,0 +1,33 @@
+-- What an own LSP says: what its first fragment begins with, and the entries of its TLVs (ISO 10589
+-- 9.8).
+use Rattle.std.specs.Prelude.{ℕ, List, [], ◌++◌, map, take, drop, if◌then◌else◌}
+use Rattle.isis_tlv.specs.declared.neighbour.NeighbourItem.{NeighbourItem}
+use Rattle.isis_tlv.specs.declared.prefix.PrefixItem.{PrefixItem}
+use Rattle.isis_tlv.specs.Spelling.{area_tlv, protocol_tlv, neighbour_octets, prefix_octets}
+use Rattle.isis_model.specs.Splits.{Item}
+use Rattle.lsp_fragments.specs.declared.content.Content.{Content}
+use Rattle.isis_model.specs.Wanted.{some_addresses}
+
+-- a neighbour's entry of TLV 22 (RFC 5305 3)
+abbrev pub neighbour_entry : NeighbourItem → Item
+neighbour_entry item = record { code = 22; octets = neighbour_octets item }
+
+-- a prefix's entry of TLV 135 (RFC 5305 4)
+abbrev pub prefix_entry : PrefixItem → Item
+prefix_entry item = record { code = 135; octets = prefix_octets item }
+
+-- the neighbours, then the prefixes (ISO 10589 9.8)
+abbrev pub entries_of : Content → List Item
+entries_of content =
+    map neighbour_entry content.neighbours.items ++ map prefix_entry content.prefixes.items
+
+-- TLVs of addresses, at most 63 to a TLV (RFC 1195 5.3)
+unfoldable pub address_tlvs : List ℕ → List ℕ
+address_tlvs addresses = some_addresses (take 63 addresses) ++ some_addresses (drop 63 addresses)
+
+-- what fragment 0 begins with: area addresses, IPv4, and addresses (ISO 10589 9.8); of a pseudonode
+-- nothing (7.3.8)
+abbrev pub first_of : Content → List ℕ
+first_of content =
+    if content.pseudonode then []
+    else area_tlv content.areas.items ++ (protocol_tlv ++ address_tlvs content.addresses.items)

@@ -1,0 +1,7 @@
+-- The definitions: what a content says as entries, how many of them 256 fragments hold, what
+-- becomes of a wanted fragment, and what is kept of own LSPs that are issued.
+pub mod Entries
+pub mod Fits
+pub mod Issues
+pub mod Keyed
+pub mod Kept

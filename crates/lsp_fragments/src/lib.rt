@@ -1,0 +1,30 @@
+//! One's own LSPs: their split into fragments, and when a fragment is issued anew.
+//!
+//! ISO 10589 7.3.4 (fragments), 7.3.5, 7.3.6 and 7.3.16.1 (when, and at which sequence number). Own:
+//! neighbours stand before prefixes; an entry goes into the last TLV of its code, else into a new
+//! one, else into the next fragment, and never back; 256 fragments at most; the five seconds
+//! between issues. What the calls answer is what the router's model (isis_model) says.
+//!
+//! - `content.rt`: what an LSP says; `first.rt`: what its first fragment begins with
+//! - `entries.rt`: an entry's octets; `fault.rt`: why an LSP isn't split
+//! - `filling.rt`: fragments while they are filled; `splitting.rt`: the split
+//! - `issue.rt`: what becomes of a wanted fragment; `own_lsps.rt`: the own LSPs that are issued
+//! - `kept.rt`, `by_id.rt`: one of them, and a list of them by LSP ID
+#![tactic(auto)]
+
+mod by_id;
+mod content;
+mod entries;
+mod fault;
+mod filling;
+mod first;
+mod issue;
+mod kept;
+mod own_lsps;
+mod splitting;
+
+pub use content::Content;
+pub use fault::SplitFault;
+pub use issue::Issue;
+pub use own_lsps::OwnLsps;
+pub use splitting::split;
