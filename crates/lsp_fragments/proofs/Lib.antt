@@ -1,6 +1,7 @@
 -- What the check doesn't find alone: addresses, entries that fit, maps, and binary searches.
 mod FirstLemmas
 mod FitLemmas
+mod GoodLemmas
 mod MapLemmas
 mod SearchLemmas
 mod ShownLemmas

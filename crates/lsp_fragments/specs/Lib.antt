@@ -2,6 +2,7 @@
 -- becomes of a wanted fragment, and what is kept of own LSPs that are issued.
 pub mod Entries
 pub mod Fits
+pub mod GoodSplits
 pub mod Issues
 pub mod Keyed
 pub mod Kept

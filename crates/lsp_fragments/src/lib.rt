@@ -10,6 +10,7 @@
 //! - `filling.rt`: fragments while they are filled; `splitting.rt`: the split
 //! - `issue.rt`: what becomes of a wanted fragment; `own_lsps.rt`: the own LSPs that are issued
 //! - `kept.rt`, `by_id.rt`: one of them, and a list of them by LSP ID
+//! - `laws.rt`: which split is made, and what the answers are in the router's model
 #![tactic(auto)]
 
 mod by_id;
@@ -20,11 +21,16 @@ mod filling;
 mod first;
 mod issue;
 mod kept;
+mod laws;
 mod own_lsps;
 mod splitting;
 
 pub use content::Content;
 pub use fault::SplitFault;
 pub use issue::Issue;
+pub use laws::good_splits;
 pub use own_lsps::OwnLsps;
 pub use splitting::split;
+
+#[cfg(test)]
+mod tests;
