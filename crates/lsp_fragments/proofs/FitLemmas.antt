@@ -50,6 +50,14 @@ filled-all room d e (x ∷ xs) h =
     choose (λ t. (if t then put_all room next xs else None) ≡ Some e → (if t then filled room next xs else stop) ≡ record { fragments = e.done ++ whole e ∷ []; whole = true }) (holds_more room d x)
     (λ k. filled-all room next e xs k) (λ k. absurd (cc)) h
 
+pub filled-append : (room : ℕ) (d e : Draft) (xs ys : List Item) → put_all room d xs ≡ Some e → filled room d (xs ++ ys) ≡ filled room e ys
+filled-append room d e [] ys h = let same : d ≡ e = cc in ap (λ (d : Draft). filled room d ys) same
+filled-append room d e (x ∷ xs) ys h =
+    let next = with_item room d x in
+    let stop : Split = record { fragments = d.done ++ whole d ∷ []; whole = false } in
+    choose (λ t. (if t then put_all room next xs else None) ≡ Some e → (if t then filled room next (xs ++ ys) else stop) ≡ filled room e ys) (holds_more room d x)
+    (λ k. filled-append room next e xs ys k) (λ k. absurd (cc)) h
+
 filled-stopped : (room : ℕ) (d : Draft) (xs : List Item) → put_all room d xs ≡ None → (filled room d xs).whole ≡ false
 filled-stopped room d [] h = absurd (cc)
 filled-stopped room d (x ∷ xs) h =

@@ -14,13 +14,13 @@ value-one-more (x ∷ xs) i = ap (λ (r : List ℕ). x.octets ++ r) (value-one-m
 
 -- ---- the octets of the open fragment
 
-whole-bare : (d : Draft) → d.code ≡ 0 → whole d ≡ d.closed
+pub whole-bare : (d : Draft) → d.code ≡ 0 → whole d ≡ d.closed
 whole-bare d zero = choose (λ (xs : List ℕ). xs ≡ d.closed) (d.code == 0) d.closed (d.closed ++ d.code ∷ length d.value ∷ d.value) (λ _. refl) (λ e. absurd (grind (arith, nat_tests, e, zero)))
 
-whole-tlv : (d : Draft) → 0 < d.code → whole d ≡ d.closed ++ d.code ∷ length d.value ∷ d.value
+pub whole-tlv : (d : Draft) → 0 < d.code → whole d ≡ d.closed ++ d.code ∷ length d.value ∷ d.value
 whole-tlv d some = choose (λ (xs : List ℕ). xs ≡ d.closed ++ d.code ∷ length d.value ∷ d.value) (d.code == 0) d.closed (d.closed ++ d.code ∷ length d.value ∷ d.value) (λ e. absurd (grind (arith, nat_tests, e, some))) (λ _. refl)
 
-whole-length : (d : Draft) → 0 < d.code → length (whole d) ≡ length d.closed + 2 + length d.value
+pub whole-length : (d : Draft) → 0 < d.code → length (whole d) ≡ length d.closed + 2 + length d.value
 whole-length d some = ap length (whole-tlv d some) ∙ (let k = length-append d.closed (d.code ∷ length d.value ∷ d.value) in omega (arith, k))
 
 -- ---- the open fragment
@@ -74,6 +74,7 @@ open-join room pre d items i small j (Filled b) =
       entry = b.entry;
       more = b.more ++ i ∷ [];
       tlv = record {
+        some = b.some;
         coded = all-append (λ (x : Item). x.code ≡ d.code) (b.entry ∷ b.more) (i ∷ []) b.tlv.coded (sym code, tt);
         short = omega (arith, same, short);
       };
@@ -100,7 +101,7 @@ begin room pre octets code size before i done small closed late fits =
       closed = closed;
       entry = i;
       more = [];
-      tlv = record { coded = (refl, tt); short = omega (arith, same, most) };
+      tlv = record { some = small.code; coded = (refl, tt); short = omega (arith, same, most) };
       late = late;
       fits = omega (arith, same, fits);
       some = small.code;

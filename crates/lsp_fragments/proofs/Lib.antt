@@ -2,6 +2,7 @@
 mod FirstLemmas
 mod FitLemmas
 mod GoodLemmas
+mod OnlyLemmas
 mod MapLemmas
 mod SearchLemmas
 mod ShownLemmas

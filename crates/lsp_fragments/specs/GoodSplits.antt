@@ -14,6 +14,7 @@ pub record HasNoPlace (room : ℕ) (octets : List ℕ) (code size : ℕ) (entry 
 
 -- what a TLV may say: some entries of one code, of at most 255 octets (9.8)
 pub record IsTlv (code : ℕ) (entry : Item) (more : List Item) : Type 0 where
+  pub some : 0 < code
   pub coded : AllByRecursion (λ (item : Item). item.code ≡ code) (entry ∷ more)
   pub short : length (value_of (entry ∷ more)) ≤ 255
 

@@ -1,9 +1,12 @@
 -- What becomes of a wanted fragment (ISO 10589 7.3.5, 7.3.6, 7.3.16.1; the five seconds between
 -- issues, and what an exhausted number does: own).
 use Rattle.std.specs.Prelude.{ℕ, ◌+◌, ◌==◌, nat_le, Bool, true, ◌&&◌, ◌||◌, not, Option, Some, None, if◌then◌else◌}
+use Rattle.isis_base.specs.declared.level.Level.{Level}
 use Rattle.isis_model.specs.Ranks.{number_of}
 use Rattle.isis_model.specs.Books.{risen}
-use Rattle.isis_model.specs.Routers.{Contents, Issued}
+use Rattle.isis_model.specs.Cells.{Cell}
+use Rattle.isis_model.specs.Givens.{Given}
+use Rattle.isis_model.specs.Routers.{Contents, Issued, LevelState, Router}
 use Rattle.isis_model.specs.OwnLsps.{last_number, same_contents, Next}
 use Rattle.isis_model.specs.OwnLsps as own
 use Rattle.lsp_fragments.specs.declared.issue.Issue.{Issue}
@@ -39,3 +42,11 @@ next_of Wait = own.Wait
 -- what is issued, a second older; the age stands still at the end of 64 bits (7.3.5)
 abbrev pub older : Issued → Issued
 older i = record i { age = risen i.age }
+
+-- a level after an own LSP is outbid, by the answer; `last` is the purge at the last number
+-- (7.3.16.1)
+abbrev pub outbid_by : Given → Router → Level → LevelState → ℕ → Contents → Cell → Issue → LevelState
+outbid_by given r level state id contents last (Number number) =
+    own.install state id contents (own.issue_cell given r level id number contents)
+outbid_by given r level state id contents last Exhausted = own.retire state id last
+outbid_by given r level state id contents last Wait = state

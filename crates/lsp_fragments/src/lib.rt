@@ -28,7 +28,7 @@ mod splitting;
 pub use content::Content;
 pub use fault::SplitFault;
 pub use issue::Issue;
-pub use laws::good_splits;
+pub use laws::{good_splits, next_laws, own_laws};
 pub use own_lsps::OwnLsps;
 pub use splitting::split;
 
