@@ -1,5 +1,5 @@
 -- How many entries 256 fragments hold.
-use Rattle.std.proofs.Common.{◌≡◌, ℕ, zero, suc, ◌+◌, ◌<◌, ◌≤◌, Bool, true, false, List, [], ◌∷◌, ◌++◌, length, take, Option, Some, None, Err, if◌then◌else◌, refl, sym, ap, ◌∙◌, zero-le, arith}
+use Rattle.std.proofs.Common.{◌≡◌, ℕ, zero, suc, ◌+◌, ◌<◌, ◌≤◌, Bool, true, false, List, [], ◌∷◌, ◌++◌, length, take, Some, None, Err, if◌then◌else◌, refl, sym, ap, ◌∙◌, zero-le, arith}
 use Rattle.isis_model.specs.Splits.{Item, Draft, Split, whole, holds_more, with_item, filled, split}
 use Rattle.lsp_fragments.specs.declared.fault.SplitFault.{SplitFault}
 use Rattle.lsp_fragments.specs.declared.fault.SplitFault.TheVariants.{TooMuch, OutOfMemory}

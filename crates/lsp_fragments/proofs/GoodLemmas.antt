@@ -1,12 +1,12 @@
 -- The split of the router's model is good.
-use Rattle.std.proofs.Common.{◌≡◌, ℕ, ◌+◌, ◌<◌, ◌≤◌, ◌==◌, nat_lt, ◌||◌, Bool, true, false, List, [], ◌∷◌, ◌++◌, length, if◌then◌else◌, refl, sym, ap, ◌∙◌, subst, arith, append_assoc, append-nil, length-append, zero-le}
+use Rattle.std.proofs.Common.{◌≡◌, ℕ, ◌+◌, ◌<◌, ◌≤◌, ◌==◌, nat_lt, ◌||◌, Bool, true, false, List, [], ◌∷◌, ◌++◌, length, refl, sym, ap, ◌∙◌, subst, arith, append_assoc, append-nil, length-append, zero-le}
 use Rattle.std.proofs.lemmas.Bool.Decides.{nat_tests}
 use Rattle.std.specs.List.{AllByRecursion}
-use Rattle.isis_model.specs.Splits.{Item, Draft, Split, whole, joins, begins, holds_more, with_item, filled, split}
+use Rattle.isis_model.specs.Splits.{Item, Draft, whole, joins, begins, holds_more, with_item, filled, split}
 use Rattle.isis_model.specs.SplitLaws.{IsSmall, value_of}
 use Rattle.isis_model.proofs.BookLemmas.{choose}
 use Rattle.isis_model.proofs.ListLemmas.{all-append}
-use Rattle.lsp_fragments.specs.GoodSplits.{HasNoPlace, IsTlv, IsFragment, Bare, Tlv, AreFragments, Sole, More, IsStop, IsGoodSplit}
+use Rattle.lsp_fragments.specs.GoodSplits.{HasNoPlace, IsTlv, IsFragment, Bare, Tlv, AreFragments, Sole, More, IsGoodSplit}
 
 value-one-more : (xs : List Item) (i : Item) → value_of (xs ++ i ∷ []) ≡ value_of xs ++ i.octets
 value-one-more [] i = append-nil i.octets

@@ -6,3 +6,4 @@ mod OnlyLemmas
 mod MapLemmas
 mod SearchLemmas
 mod ShownLemmas
+mod ContentLemmas

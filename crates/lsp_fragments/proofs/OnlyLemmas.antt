@@ -1,13 +1,13 @@
 -- A good split is the one that the router's model makes.
-use Rattle.std.proofs.Common.{◌≡◌, ℕ, ◌+◌, ◌<◌, ◌≤◌, ◌==◌, nat_lt, ◌&&◌, ◌||◌, nat_le, Bool, true, false, List, [], ◌∷◌, ◌++◌, length, Option, Some, None, if◌then◌else◌, refl, sym, ap, ◌∙◌, subst, arith, append_assoc, append-nil, length-append}
+use Rattle.std.proofs.Common.{◌≡◌, ℕ, ◌+◌, ◌<◌, ◌≤◌, ◌==◌, nat_lt, ◌&&◌, ◌||◌, nat_le, Bool, true, false, List, [], ◌∷◌, ◌++◌, length, Some, None, if◌then◌else◌, refl, sym, ap, ◌∙◌, subst, arith, append_assoc, append-nil, length-append}
 use Rattle.std.proofs.lemmas.Bool.Decides.{nat_tests}
 use Rattle.std.specs.List.{AllByRecursion}
 use Rattle.isis_model.specs.Splits.{Item, Draft, Split, whole, joins, begins, holds_more, with_item, filled, split}
 use Rattle.isis_model.specs.SplitLaws.{IsSmall, value_of}
 use Rattle.lsp_fragments.specs.Fits.{put_all}
-use Rattle.lsp_fragments.specs.GoodSplits.{HasNoPlace, IsTlv, IsFragment, Bare, Tlv, AreFragments, Sole, More, IsStop, IsGoodSplit}
+use Rattle.lsp_fragments.specs.GoodSplits.{HasNoPlace, IsFragment, Bare, Tlv, AreFragments, Sole, More, IsGoodSplit}
 use Rattle.lsp_fragments.proofs.FitLemmas.{put_all-append, filled-all, filled-append}
-use Rattle.lsp_fragments.proofs.GoodLemmas.{whole-bare, whole-tlv, whole-length}
+use Rattle.lsp_fragments.proofs.GoodLemmas.{whole-tlv, whole-length}
 
 -- ---- one entry
 

@@ -1,11 +1,13 @@
 -- What an own LSP says: what its first fragment begins with, and the entries of its TLVs (ISO 10589
 -- 9.8).
-use Rattle.std.specs.Prelude.{ℕ, List, [], ◌++◌, map, take, drop, if◌then◌else◌}
+use Rattle.std.specs.Prelude.{ℕ, ◌+◌, ◌*◌, ◌/◌, List, [], ◌++◌, map, take, drop, if◌then◌else◌}
+use Rattle.isis_base.specs.Identifiers.{lsp_number}
 use Rattle.isis_tlv.specs.declared.neighbour.NeighbourItem.{NeighbourItem}
 use Rattle.isis_tlv.specs.declared.prefix.PrefixItem.{PrefixItem}
 use Rattle.isis_tlv.specs.Spelling.{area_tlv, protocol_tlv, neighbour_octets, prefix_octets}
 use Rattle.isis_model.specs.Splits.{Item}
 use Rattle.lsp_fragments.specs.declared.content.Content.{Content}
+use Rattle.isis_model.specs.LspPrefixes.{Reach}
 use Rattle.isis_model.specs.Wanted.{some_addresses}
 
 -- a neighbour's entry of TLV 22 (RFC 5305 3)
@@ -31,3 +33,16 @@ abbrev pub first_of : Content → List ℕ
 first_of content =
     if content.pseudonode then []
     else area_tlv content.areas.items ++ (protocol_tlv ++ address_tlvs content.addresses.items)
+
+-- a neighbour as the router's model has it: its node, an LSP ID's number without the last octet,
+-- and the metric (own)
+abbrev pub node_pair : NeighbourItem → ℕ × ℕ
+node_pair item = (lsp_number (record { node = item.node; number = 0 }) / 256, item.metric)
+
+-- a prefix as the router's model has it: 64 times its address plus its length, the metric, and the
+-- up/down bit (own)
+abbrev pub reach_pair : PrefixItem → ℕ × Reach
+reach_pair item = (
+  64 * item.prefix.address + item.prefix.length,
+  record { metric = item.metric; down = item.down },
+)

@@ -1,12 +1,12 @@
 -- Which split is good, and which good one is made: no entry stands in a later TLV or fragment than
 -- it must (ISO 10589 7.3.4; the order and the greed: own).
-use Rattle.std.specs.Prelude.{◌≡◌, ℕ, ◌+◌, ◌<◌, ◌≤◌, Bool, true, false, List, [], ◌∷◌, ◌++◌, length}
+use Rattle.std.specs.Prelude.{◌≡◌, ℕ, ◌+◌, ◌<◌, ◌≤◌, true, false, List, [], ◌∷◌, ◌++◌, length}
 use Rattle.std.specs.List.{AllByRecursion}
 use Rattle.isis_model.specs.Splits.{Item, Split}
 use Rattle.isis_model.specs.SplitLaws.{value_of}
 
--- a fragment of these octets, whose last TLV has this code (0 where there is none) and a value of so
--- many octets, has no place for an entry: neither in that TLV nor in one more (own)
+-- a fragment of these octets, whose last TLV has this code (0 where there is none) and a value of
+-- so many octets, has no place for an entry: neither in that TLV nor in one more (own)
 pub record HasNoPlace (room : ℕ) (octets : List ℕ) (code size : ℕ) (entry : Item) : Type 0 where
   pub joins : code ≡ entry.code → size + length entry.octets ≤ 255
       → room < length octets + length entry.octets
@@ -32,7 +32,8 @@ pub data IsFragment (room : ℕ) (first : List ℕ) : List ℕ → ℕ → ℕ �
 
 -- Fragments in order, the last one apart, and the entries that they say. The first one begins with
 -- `first`, each other one with an entry that has no place in the one before it (own).
-pub data AreFragments (room : ℕ) (first : List ℕ) : List (List ℕ) → List ℕ → ℕ → ℕ → List Item → Type 0 where
+pub data AreFragments (room : ℕ) (first : List ℕ) : List (List ℕ) → List ℕ → ℕ → ℕ → List Item
+    → Type 0 where
   Sole : (octets : List ℕ) (code size : ℕ) (items : List Item)
       → IsFragment room first octets code size items
       → AreFragments room first [] octets code size items
@@ -44,7 +45,8 @@ pub data AreFragments (room : ℕ) (first : List ℕ) : List (List ℕ) → List
       → AreFragments room first (done ++ octets ∷ []) last next count (items ++ entry ∷ more)
 
 -- where entries are left out, the first of them has no place in the last of 256 fragments (own)
-pub record IsStop (room : ℕ) (done : List (List ℕ)) (last : List ℕ) (code size : ℕ) (rest : List Item) : Type 0 where
+pub record IsStop (room : ℕ) (done : List (List ℕ)) (last : List ℕ) (code size : ℕ)
+    (rest : List Item) : Type 0 where
   pub entry : Item
   pub more : List Item
   pub is : rest ≡ entry ∷ more

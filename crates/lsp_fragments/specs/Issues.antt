@@ -45,7 +45,8 @@ older i = record i { age = risen i.age }
 
 -- a level after an own LSP is outbid, by the answer; `last` is the purge at the last number
 -- (7.3.16.1)
-abbrev pub outbid_by : Given → Router → Level → LevelState → ℕ → Contents → Cell → Issue → LevelState
+abbrev pub outbid_by : Given → Router → Level → LevelState → ℕ → Contents → Cell → Issue
+    → LevelState
 outbid_by given r level state id contents last (Number number) =
     own.install state id contents (own.issue_cell given r level id number contents)
 outbid_by given r level state id contents last Exhausted = own.retire state id last

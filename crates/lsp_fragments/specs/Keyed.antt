@@ -1,5 +1,5 @@
 -- A list in order of a key, as a map (own).
-use Rattle.std.specs.Prelude.{◌≡◌, ℕ, ◌<◌, ◌≤◌, suc, List, [], ◌∷◌, length, take, drop, slice_index_or, Result, MatchResult}
+use Rattle.std.specs.Prelude.{◌≡◌, ℕ, ◌<◌, ◌≤◌, suc, List, [], ◌∷◌, length, take, drop, slice_index_or}
 
 -- a list's items by a key of each
 abbrev pub keyed : {X : Type 0} → (X → ℕ) → List X → List (ℕ × X)

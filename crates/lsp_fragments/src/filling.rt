@@ -13,8 +13,8 @@ const FRAGMENTS: usize = 256;
 /// The most octets of a TLV's value (ISO 10589 9.8).
 const VALUE: usize = 255;
 
-/// Fragments while they are filled: those that are done, the open one, and apart its last TLV, which
-/// may still grow; code 0 where it has none. Contracts see it as the router's model has it.
+/// Fragments while they are filled: those that are done, the open one, and apart its last TLV,
+/// which may still grow; code 0 where it has none. Contracts see it as the router's model has it.
 #[derive(Drop)]
 pub(crate) struct Filling {
     alloc: Global,

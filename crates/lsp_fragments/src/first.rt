@@ -37,6 +37,7 @@ fn add_areas(out: &mut Octets, areas: &[AreaAddress]) -> Result<(), OutOfMemory>
     ensures ok { OnOk result (out.new ≡ out.old ++ area_tlv areas.now) }
     ensures short { length (area_value areas.now) ≤ 42 }
 {
+    // An area address has at most 14 octets with its length, so that the value fits.
     let mut left = areas;
     while let [area, more @ ..] = left {
         size_of(area);

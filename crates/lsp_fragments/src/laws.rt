@@ -1,8 +1,12 @@
 //! Laws: which split is made, and what the answers on own LSPs are in the router's model.
 //! Functions without a body, whose contracts hold for all values.
-ghost use Rattle.std.specs.Prelude.{◌≡◌, ℕ, ◌<◌, ◌-◌, ◌^◌, Bool, false, true, List, Option, Some, None};
+ghost use Rattle.std.specs.Prelude.{◌≡◌, ℕ, ◌<◌, ◌-◌, ◌^◌, ◌++◌, map, Bool, false, true, List, Option, Some, None};
 ghost use Rattle.std.specs.List.{AllByRecursion};
 ghost use Rattle.isis_base.specs.declared.level.Level.{Level};
+ghost use Rattle.isis_base.specs.Identifiers.{IsId};
+ghost use Rattle.isis_tlv.specs.declared.neighbour.NeighbourItem.{NeighbourItem};
+ghost use Rattle.isis_tlv.specs.declared.prefix.PrefixItem.{PrefixItem};
+ghost use Rattle.isis_tlv.specs.Spelling.{area_tlv, protocol_tlv};
 ghost use Rattle.isis_model.specs.Maps.{put, erase};
 ghost use Rattle.isis_model.specs.Books.{rank_of};
 ghost use Rattle.isis_model.specs.Cells.{Cell};
@@ -12,6 +16,10 @@ ghost use Rattle.isis_model.specs.Seconds as seconds;
 ghost use Rattle.isis_model.specs.OwnLsps as own;
 ghost use Rattle.isis_model.specs.Splits as splits;
 ghost use Rattle.isis_model.specs.SplitLaws.{IsSmall};
+ghost use Rattle.isis_model.specs.LspNeighbours.{node_items};
+ghost use Rattle.isis_model.specs.LspPrefixes.{reach_items};
+ghost use Rattle.isis_model.specs.Wanted.{first_tlvs, addresses_of};
+ghost use Rattle.lsp_fragments.specs.Entries.{neighbour_entry, prefix_entry, address_tlvs, node_pair, reach_pair};
 ghost use Rattle.lsp_fragments.specs.GoodSplits.{IsGoodSplit};
 ghost use Rattle.lsp_fragments.specs.Issues.{issue_next, issue_above, is_same, next_of, outbid_by, older};
 
@@ -58,4 +66,16 @@ pub fn own_laws()
         → (own.retire_held state id held).own ≡ erase state.own id }
     ensures second { (issued : Issued) → issued.age < 2 ^ 64 - 1
         → older issued ≡ seconds.older issued }
+{}
+
+/// A content says what the router's model has an LSP say: the same first TLVs, and the same entries
+/// in the same order.
+pub fn content_laws()
+    ensures first { (r : Router) → first_tlvs r ≡ area_tlv r.config.areas ++ (protocol_tlv
+        ++ address_tlvs (addresses_of r.circuits)) }
+    ensures prefixes { (list : List PrefixItem)
+        → reach_items (map reach_pair list) ≡ map prefix_entry list }
+    ensures neighbours { (list : List NeighbourItem)
+        → AllByRecursion (λ item. IsId (record { node = item.node; number = 0 })) list
+        → node_items (map node_pair list) ≡ map neighbour_entry list }
 {}

@@ -1,9 +1,12 @@
 //! One's own LSPs: their split into fragments, and when a fragment is issued anew.
 //!
-//! ISO 10589 7.3.4 (fragments), 7.3.5, 7.3.6 and 7.3.16.1 (when, and at which sequence number). Own:
-//! neighbours stand before prefixes; an entry goes into the last TLV of its code, else into a new
-//! one, else into the next fragment, and never back; 256 fragments at most; the five seconds
-//! between issues. What the calls answer is what the router's model (isis_model) says.
+//! ISO 10589 7.3.4 (fragments), 7.3.5, 7.3.6 and 7.3.16.1 (when, and at which sequence number).
+//! Own: neighbours stand before prefixes; an entry goes into the last TLV of its code, else into a
+//! new one, else into the next fragment, and never back; the five seconds between issues; what the
+//! last sequence number does. What the calls answer is what the router's model (isis_model) says.
+//!
+//! A split goes over the entries once: an entry's octets are added to the last TLV, and a TLV's to
+//! its fragment. Own LSPs lie in a list by LSP ID; an issue finds its place by a binary search.
 //!
 //! - `content.rt`: what an LSP says; `first.rt`: what its first fragment begins with
 //! - `entries.rt`: an entry's octets; `fault.rt`: why an LSP isn't split
@@ -28,7 +31,7 @@ mod splitting;
 pub use content::Content;
 pub use fault::SplitFault;
 pub use issue::Issue;
-pub use laws::{good_splits, next_laws, own_laws};
+pub use laws::{content_laws, good_splits, next_laws, own_laws};
 pub use own_lsps::OwnLsps;
 pub use splitting::split;
 

@@ -110,7 +110,8 @@ impl OwnLsps {
         kept_of(&self.list, id).is_some()
     }
 
-    /// The TLVs and the flags octet of the last issue; `None` exactly where the LSP ID isn't issued.
+    /// The TLVs and the flags octet of the last issue; `None` exactly where the LSP ID isn't
+    /// issued.
     pub fn contents(&self, id: LspId) -> Option<(&[u8], u8)>
         ensures { MatchOption result (find self.now (lsp_number id) ≡ None)
             (λ said. option_map (λ i. i.contents) (find self.now (lsp_number id))

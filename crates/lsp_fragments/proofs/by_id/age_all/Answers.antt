@@ -1,4 +1,4 @@
-use Rattle.std.proofs.Common.{◌≡◌, ◌∙◌, ap, ℕ, List, length, map, sym, subst}
+use Rattle.std.proofs.Common.{◌≡◌, ◌∙◌, ap, List, length, map, sym, subst}
 use Rattle.std.proofs.lemmas.List.{with_items_is, length-map}
 use Rattle.isis_model.specs.Sorted.{RisesFrom}
 use Rattle.lsp_fragments.specs.declared.kept.Kept.{Kept}

@@ -1,8 +1,7 @@
-use Rattle.std.proofs.Common.{◌∙◌, ap, sym, refl, subst, List}
+use Rattle.std.proofs.Common.{◌∙◌, ap, sym, subst}
 use Rattle.isis_base.specs.Identifiers.{lsp_number}
 use Rattle.isis_model.specs.Sorted.{RisesFrom}
-use Rattle.lsp_fragments.specs.declared.kept.Kept.{Kept}
-use Rattle.lsp_fragments.specs.Kept.{id_of, by_id, IsAt}
+use Rattle.lsp_fragments.specs.Kept.{id_of, by_id}
 use Rattle.lsp_fragments.proofs.MapLemmas.{erase-place, erase-gap, erase-rises}
 use Rattle.lsp_fragments.proofs.by_id.take_out.Goals as goal
 

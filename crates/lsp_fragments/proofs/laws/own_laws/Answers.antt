@@ -1,5 +1,5 @@
-use Rattle.std.proofs.Common.{◌≡◌, ◌==◌, ◌+◌, Option, Some, None, if◌then◌else◌, refl}
-use Rattle.isis_model.specs.Cells.{Cell, purged}
+use Rattle.std.proofs.Common.{◌≡◌, ◌==◌, ◌+◌, Some, None, if◌then◌else◌, refl}
+use Rattle.isis_model.specs.Cells.{purged}
 use Rattle.isis_model.specs.Routers.{LevelState}
 use Rattle.isis_model.specs.Ranks.{is_live}
 use Rattle.isis_model.specs.Maps.{erase}

@@ -1,11 +1,10 @@
-use Rattle.std.proofs.Common.{◌≡◌, ◌+◌, ◌≤◌, ◌++◌, ℕ, List, map, length, arith, ◌∙◌, sym, ap, subst, Err}
+use Rattle.std.proofs.Common.{◌≡◌, ◌++◌, ℕ, List, map, length, arith, ◌∙◌, sym, ap, subst, Err}
 use Rattle.std.proofs.lemmas.List.{length-map}
 use Rattle.isis_tlv.specs.declared.neighbour.NeighbourItem.{NeighbourItem}
 use Rattle.isis_tlv.specs.declared.prefix.PrefixItem.{PrefixItem}
-use Rattle.isis_model.specs.Splits.{Item}
 use Rattle.lsp_fragments.specs.declared.fault.SplitFault.{SplitFault}
 use Rattle.lsp_fragments.specs.Entries.{neighbour_entry, prefix_entry}
-use Rattle.lsp_fragments.specs.Fits.{IsPut, fit_of, fault_behind}
+use Rattle.lsp_fragments.specs.Fits.{IsPut, fault_behind}
 use Rattle.lsp_fragments.proofs.FitLemmas.{first-fault, second-fault, fit-less, put_all-append}
 use Rattle.lsp_fragments.proofs.splitting.put_entries.Goals as goal
 

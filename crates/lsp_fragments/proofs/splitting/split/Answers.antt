@@ -1,7 +1,7 @@
-use Rattle.std.proofs.Common.{◌≡◌, ℕ, List, [], ◌∷◌, ◌++◌, Some, Err, true, ◌∙◌, sym, ap, subst}
-use Rattle.isis_model.specs.Splits.{Draft, Split}
+use Rattle.std.proofs.Common.{◌≡◌, ℕ, List, [], Some, Err, true, ◌∙◌, sym, ap, subst}
+use Rattle.isis_model.specs.Splits.{Draft}
 use Rattle.lsp_fragments.specs.Entries.{first_of, entries_of}
-use Rattle.lsp_fragments.specs.Fits.{IsPut, IsFault, put_all}
+use Rattle.lsp_fragments.specs.Fits.{IsPut, put_all}
 use Rattle.lsp_fragments.proofs.FitLemmas.{split-all, split-fault}
 use Rattle.lsp_fragments.proofs.splitting.split.Goals as goal
 

@@ -1,10 +1,10 @@
-use Rattle.std.proofs.Common.{◌≡◌, ◌∙◌, ap, ℕ, List, Option, subst, sym}
-use Rattle.std.specs.Option.{option_map, IsSome}
+use Rattle.std.proofs.Common.{◌∙◌, ap, ℕ, List, subst, sym}
+use Rattle.std.specs.Option.{IsSome}
 use Rattle.std.proofs.lemmas.Result.{on_ok_weaker}
 use Rattle.isis_base.specs.Identifiers.{lsp_number}
 use Rattle.isis_model.specs.Maps.{find, put}
 use Rattle.isis_model.specs.Routers.{Issued}
-use Rattle.lsp_fragments.specs.Kept.{by_id, shown, issued_of, id_of}
+use Rattle.lsp_fragments.specs.Kept.{by_id, shown}
 use Rattle.lsp_fragments.proofs.ShownLemmas.{put-shown, find-some}
 use Rattle.lsp_fragments.proofs.own_lsps.OwnLsps.issued.Goals as goal
 
