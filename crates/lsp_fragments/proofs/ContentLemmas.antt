@@ -18,7 +18,7 @@ use Rattle.isis_model.specs.LspNeighbours.{u56_octets, node_items}
 use Rattle.isis_model.specs.LspPrefixes.{Reach, reach_items}
 use Rattle.isis_model.specs.Wanted.{some_addresses, addresses_of, first_tlvs}
 use Rattle.isis_model.specs.Splits.{Item}
-use Rattle.lsp_fragments.specs.Entries.{neighbour_entry, prefix_entry, address_tlvs, node_pair, reach_pair}
+use Rattle.lsp_fragments.specs.Entries.{neighbour_entry, prefix_entry, address_tlvs, node_and_metric, reach_pair}
 
 -- ---- neighbours
 
@@ -36,17 +36,17 @@ id-octets id is =
     let count : length (lsp_octets id) ≡ 8 = omega (arith, six, length-append id.node.system.0 (id.node.pseudonode ∷ []), length-append (id.node.system.0 ++ id.node.pseudonode ∷ []) (id.number ∷ [])) in
     be_bytes_8 (lsp_octets id) (lsp_number id) count (small-at (lsp_octets id) is.small) refl
 
-neighbour-octets : (item : NeighbourItem) → IsId (record { node = item.node; number = 0 }) → u56_octets (node_pair item).0 ≡ node_octets item.node
+neighbour-octets : (item : NeighbourItem) → IsId (record { node = item.node; number = 0 }) → u56_octets (node_and_metric item).0 ≡ node_octets item.node
 neighbour-octets item is =
     let n = lsp_number (record { node = item.node; number = 0 }) in
     let six = is.six in
     let count : length (u56_octets (n / 256)) ≡ length (node_octets item.node) = (let k = length-append item.node.system.0 (item.node.pseudonode ∷ []) in omega (arith, k, six)) in
     front (u56_octets (n / 256)) (node_octets item.node) (n % 256 ∷ []) (0 ∷ []) count (octets-of n ∙ id-octets (record { node = item.node; number = 0 }) is)
 
-pub neighbours-same : (list : List NeighbourItem) → AllByRecursion (λ (item : NeighbourItem). IsId (record { node = item.node; number = 0 })) list → node_items (map node_pair list) ≡ map neighbour_entry list
+pub neighbours-same : (list : List NeighbourItem) → AllByRecursion (λ (item : NeighbourItem). IsId (record { node = item.node; number = 0 })) list → node_items (map node_and_metric list) ≡ map neighbour_entry list
 neighbours-same [] are = refl
 neighbours-same (item ∷ list) are =
-    ap (λ (octets : List ℕ). record { code = 22; octets = octets ++ u24_octets item.metric ++ 0 ∷ [] } ∷ node_items (map node_pair list)) (neighbour-octets item are.0)
+    ap (λ (octets : List ℕ). record { code = 22; octets = octets ++ u24_octets item.metric ++ 0 ∷ [] } ∷ node_items (map node_and_metric list)) (neighbour-octets item are.0)
     ∙ ap (λ (rest : List Item). neighbour_entry item ∷ rest) (neighbours-same list are.1)
 
 -- ---- prefixes

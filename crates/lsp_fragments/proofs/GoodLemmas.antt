@@ -6,7 +6,7 @@ use Rattle.isis_model.specs.Splits.{Item, Draft, whole, joins, begins, holds_mor
 use Rattle.isis_model.specs.SplitLaws.{IsSmall, value_of}
 use Rattle.isis_model.proofs.BookLemmas.{choose}
 use Rattle.isis_model.proofs.ListLemmas.{all-append}
-use Rattle.lsp_fragments.specs.GoodSplits.{HasNoPlace, IsTlv, IsFragment, Bare, Tlv, AreFragments, Sole, More, IsGoodSplit}
+use Rattle.lsp_fragments.specs.GoodSplits.{HasNoPlace, IsTlv, IsFragment, Bare, WithTlv, AreFragments, Single, Another, IsGoodSplit}
 
 value-one-more : (xs : List Item) (i : Item) → value_of (xs ++ i ∷ []) ≡ value_of xs ++ i.octets
 value-one-more [] i = append-nil i.octets
@@ -53,7 +53,7 @@ open-fragment room pre d items (Filled b) =
     subst (IsFragment room pre (whole d) d.code (length d.value)) (sym b.all)
     (subst (λ (xs : List ℕ). IsFragment room pre xs d.code (length d.value) (b.before ++ b.entry ∷ b.more)) (sym (whole-tlv d b.some))
     (subst (λ (v : List ℕ). IsFragment room pre (d.closed ++ d.code ∷ length v ∷ v) d.code (length v) (b.before ++ b.entry ∷ b.more)) (sym b.value)
-    (Tlv d.closed b.code b.size b.before b.closed d.code b.entry b.more b.tlv b.late b.fits)))
+    (WithTlv d.closed b.code b.size b.before b.closed d.code b.entry b.more b.tlv b.late b.fits)))
 
 open-join : (room : ℕ) (pre : List ℕ) (d : Draft) (items : List Item) (i : Item) → IsSmall room i → joins room d i ≡ true → Open room pre d items → Open room pre (record d { value = d.value ++ i.octets }) (items ++ i ∷ [])
 open-join room pre d items i small j (Blank code value closed) = absurd (let some = small.code in grind (arith, nat_tests, j, code, some))
@@ -137,11 +137,11 @@ data Good (room : ℕ) (first : List ℕ) (d : Draft) (items : List Item) : Type
 
 good-are : (room : ℕ) (first : List ℕ) (d : Draft) (items : List Item) → Good room first d items → AreFragments room first d.done (whole d) d.code (length d.value) items
 good-are room first d items (Early e h) =
-    subst (λ (done : List (List ℕ)). AreFragments room first done (whole d) d.code (length d.value) items) (sym e) (Sole (whole d) d.code (length d.value) items (open-fragment room first d items h))
+    subst (λ (done : List (List ℕ)). AreFragments room first done (whole d) d.code (length d.value) items) (sym e) (Single (whole d) d.code (length d.value) items (open-fragment room first d items h))
 good-are room first d items (Later b) =
     subst (AreFragments room first d.done (whole d) d.code (length d.value)) (sym b.all)
     (subst (λ (done : List (List ℕ)). AreFragments room first done (whole d) d.code (length d.value) (b.before ++ b.entry ∷ b.more)) (sym b.is)
-    (More b.done b.octets b.code b.size b.before b.are (whole d) d.code (length d.value) b.entry b.more (open-fragment room [] d (b.entry ∷ b.more) b.open_) b.none))
+    (Another b.done b.octets b.code b.size b.before b.are (whole d) d.code (length d.value) b.entry b.more (open-fragment room [] d (b.entry ∷ b.more) b.open_) b.none))
 
 good-put : (room : ℕ) (first : List ℕ) (d : Draft) (items : List Item) (i : Item) → IsSmall room i → Good room first d items → Good room first (with_item room d i) (items ++ i ∷ [])
 unfolding with_item

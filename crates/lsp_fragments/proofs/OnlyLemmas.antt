@@ -5,7 +5,7 @@ use Rattle.std.specs.List.{AllByRecursion}
 use Rattle.isis_model.specs.Splits.{Item, Draft, Split, whole, joins, begins, holds_more, with_item, filled, split}
 use Rattle.isis_model.specs.SplitLaws.{IsSmall, value_of}
 use Rattle.lsp_fragments.specs.Fits.{put_all}
-use Rattle.lsp_fragments.specs.GoodSplits.{HasNoPlace, IsFragment, Bare, Tlv, AreFragments, Sole, More, IsGoodSplit}
+use Rattle.lsp_fragments.specs.GoodSplits.{HasNoPlace, IsFragment, Bare, WithTlv, AreFragments, Single, Another, IsGoodSplit}
 use Rattle.lsp_fragments.proofs.FitLemmas.{put_all-append, filled-all, filled-append}
 use Rattle.lsp_fragments.proofs.GoodLemmas.{whole-tlv, whole-length}
 
@@ -96,7 +96,7 @@ no-join room d i late = choose-code (d.code == i.code) (nat_le (length d.value +
 
 fragment-put : (room : ℕ) (first octets : List ℕ) (code size : ℕ) (items : List Item) (done : List (List ℕ)) → IsFragment room first octets code size items → Makes room (blank done first) items done octets code size
 fragment-put room first octets code size items done Bare = record { draft = blank done first; put = refl; dones = refl; all = refl; codes = refl; sizes = refl }
-fragment-put room first octets code size items done (Tlv before was had others f next i more tlv late fits) =
+fragment-put room first octets code size items done (WithTlv before was had others f next i more tlv late fits) =
     let m = fragment-put room first before was had others done f in
     let d = m.draft in
     let code : i.code ≡ next = tlv.coded.0 in
@@ -157,8 +157,8 @@ out-begins room d octets code size i all none =
     grind (arith, nat_tests, over, len)
 
 fragments-put : (room : ℕ) (first : List ℕ) (done : List (List ℕ)) (last : List ℕ) (code size : ℕ) (items : List Item) → AllByRecursion (IsSmall room) items → length done ≤ 255 → AreFragments room first done last code size items → Makes room (blank [] first) items done last code size
-fragments-put room first done last code size items small few (Sole octets was had all f) = fragment-put room first octets was had all [] f
-fragments-put room first done last code size items small few (More before octets was had others are next c n i more f none) =
+fragments-put room first done last code size items small few (Single octets was had all f) = fragment-put room first octets was had all [] f
+fragments-put room first done last code size items small few (Another before octets was had others are next c n i more f none) =
     let count = length-append before (octets ∷ []) in
     let m = fragments-put room first before octets was had others (all-left (IsSmall room) others (i ∷ more) small) (omega (arith, few, count)) are in
     let d = m.draft in

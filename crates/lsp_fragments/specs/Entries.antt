@@ -19,8 +19,8 @@ abbrev pub prefix_entry : PrefixItem → Item
 prefix_entry item = record { code = 135; octets = prefix_octets item }
 
 -- the neighbours, then the prefixes (ISO 10589 9.8)
-abbrev pub entries_of : Content → List Item
-entries_of content =
+abbrev pub content_entries : Content → List Item
+content_entries content =
     map neighbour_entry content.neighbours.items ++ map prefix_entry content.prefixes.items
 
 -- TLVs of addresses, at most 63 to a TLV (RFC 1195 5.3)
@@ -29,15 +29,15 @@ address_tlvs addresses = some_addresses (take 63 addresses) ++ some_addresses (d
 
 -- what fragment 0 begins with: area addresses, IPv4, and addresses (ISO 10589 9.8); of a pseudonode
 -- nothing (7.3.8)
-abbrev pub first_of : Content → List ℕ
-first_of content =
+abbrev pub content_first : Content → List ℕ
+content_first content =
     if content.pseudonode then []
     else area_tlv content.areas.items ++ (protocol_tlv ++ address_tlvs content.addresses.items)
 
 -- a neighbour as the router's model has it: its node, an LSP ID's number without the last octet,
 -- and the metric (own)
-abbrev pub node_pair : NeighbourItem → ℕ × ℕ
-node_pair item = (lsp_number (record { node = item.node; number = 0 }) / 256, item.metric)
+abbrev pub node_and_metric : NeighbourItem → ℕ × ℕ
+node_and_metric item = (lsp_number (record { node = item.node; number = 0 }) / 256, item.metric)
 
 -- a prefix as the router's model has it: 64 times its address plus its length, the metric, and the
 -- up/down bit (own)

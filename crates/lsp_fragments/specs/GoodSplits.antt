@@ -22,7 +22,7 @@ pub record IsTlv (code : ℕ) (entry : Item) (more : List Item) : Type 0 where
 -- its first entry has no place in the TLV before it (own).
 pub data IsFragment (room : ℕ) (first : List ℕ) : List ℕ → ℕ → ℕ → List Item → Type 0 where
   Bare : IsFragment room first first 0 0 []
-  Tlv : (octets : List ℕ) (code size : ℕ) (items : List Item)
+  WithTlv : (octets : List ℕ) (code size : ℕ) (items : List Item)
       → IsFragment room first octets code size items
       → (next : ℕ) (entry : Item) (more : List Item) → IsTlv next entry more
       → (code ≡ next → 255 < size + length entry.octets)
@@ -34,10 +34,10 @@ pub data IsFragment (room : ℕ) (first : List ℕ) : List ℕ → ℕ → ℕ �
 -- `first`, each other one with an entry that has no place in the one before it (own).
 pub data AreFragments (room : ℕ) (first : List ℕ) : List (List ℕ) → List ℕ → ℕ → ℕ → List Item
     → Type 0 where
-  Sole : (octets : List ℕ) (code size : ℕ) (items : List Item)
+  Single : (octets : List ℕ) (code size : ℕ) (items : List Item)
       → IsFragment room first octets code size items
       → AreFragments room first [] octets code size items
-  More : (done : List (List ℕ)) (octets : List ℕ) (code size : ℕ) (items : List Item)
+  Another : (done : List (List ℕ)) (octets : List ℕ) (code size : ℕ) (items : List Item)
       → AreFragments room first done octets code size items
       → (last : List ℕ) (next count : ℕ) (entry : Item) (more : List Item)
       → IsFragment room [] last next count (entry ∷ more)

@@ -14,9 +14,9 @@ use Rattle.lsp_fragments.specs.declared.issue.Issue.TheVariants.{Number, Exhaust
 
 -- whether it is to be issued: it isn't issued; or it says something else, and was issued at least 5
 -- seconds ago; or it was issued at least 900 seconds ago (7.3.6, 7.3.5)
-abbrev pub is_due : Option Issued → Bool → Bool
-is_due None same = true
-is_due (Some i) same = (nat_le 5 i.age && not same) || nat_le 900 i.age
+abbrev pub is_issue_due : Option Issued → Bool → Bool
+is_issue_due None same = true
+is_issue_due (Some i) same = (nat_le 5 i.age && not same) || nat_le 900 i.age
 
 -- the number above one, where there is one (7.3.16.1)
 abbrev pub issue_above : ℕ → Issue
@@ -26,12 +26,12 @@ issue_above number = if number == last_number then Exhausted else Number (number
 -- same as when it was issued (7.3.6)
 abbrev pub issue_next : Option Issued → ℕ → Bool → Issue
 issue_next issued rank same =
-    if is_due issued same then issue_above (number_of rank) else Wait
+    if is_issue_due issued same then issue_above (number_of rank) else Wait
 
 -- whether what is issued says the same; nothing does where it isn't (7.3.6)
-abbrev pub is_same : Option Issued → Contents → Bool
-is_same None contents = true
-is_same (Some i) contents = same_contents i.contents contents
+abbrev pub says_same : Option Issued → Contents → Bool
+says_same None contents = true
+says_same (Some i) contents = same_contents i.contents contents
 
 -- an answer, as the router's model has it
 abbrev pub next_of : Issue → Next
@@ -40,8 +40,8 @@ next_of Exhausted = own.Exhaust
 next_of Wait = own.Wait
 
 -- what is issued, a second older; the age stands still at the end of 64 bits (7.3.5)
-abbrev pub older : Issued → Issued
-older i = record i { age = risen i.age }
+abbrev pub older_issued : Issued → Issued
+older_issued i = record i { age = risen i.age }
 
 -- a level after an own LSP is outbid, by the answer; `last` is the purge at the last number
 -- (7.3.16.1)

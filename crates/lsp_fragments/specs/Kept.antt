@@ -7,12 +7,12 @@ use Rattle.lsp_fragments.specs.Keyed.{keyed, IsPlace, IsGap}
 use Rattle.isis_model.specs.Books.{risen}
 
 -- own
-abbrev pub id_of : Kept → ℕ
-id_of kept = lsp_number kept.id
+abbrev pub kept_id : Kept → ℕ
+kept_id kept = lsp_number kept.id
 
 -- by LSP ID
 abbrev pub by_id : List Kept → List (ℕ × Kept)
-by_id list = keyed id_of list
+by_id list = keyed kept_id list
 
 -- an own LSP that is kept, as the router's model has it
 abbrev pub issued_of : Kept → Issued
@@ -20,17 +20,17 @@ issued_of kept =
     record { contents = record { flags = kept.flags; tlvs = kept.tlvs }; age = kept.age }
 
 -- each as the router's model has it
-abbrev pub shown : List (ℕ × Kept) → List (ℕ × Issued)
-shown [] = []
-shown (pair ∷ rest) = (pair.0, issued_of pair.1) ∷ shown rest
+abbrev pub issued_pairs : List (ℕ × Kept) → List (ℕ × Issued)
+issued_pairs [] = []
+issued_pairs (pair ∷ rest) = (pair.0, issued_of pair.1) ∷ issued_pairs rest
 
 -- a list as the router's model has it
 abbrev pub all_issued : List Kept → List (ℕ × Issued)
-all_issued list = shown (by_id list)
+all_issued list = issued_pairs (by_id list)
 
 -- a place of the LSP ID, where it is kept, and else where it would go
-abbrev pub IsAt : List Kept → ℕ → Result ℕ ℕ → Type 0
-IsAt list id place = MatchResult place (IsPlace id_of list id) (IsGap id_of list id)
+abbrev pub IsIdAt : List Kept → ℕ → Result ℕ ℕ → Type 0
+IsIdAt list id place = MatchResult place (IsPlace kept_id list id) (IsGap kept_id list id)
 
 -- a second older; the age stands still at the end of 64 bits
 abbrev pub older_kept : Kept → Kept

@@ -3,7 +3,7 @@ ghost use Rattle.std.specs.Prelude.{◌≡◌, map, OnOk, OnErr, IfOk, IsOk, IsS
 ghost use Rattle.isis_base.specs.Identifiers.{lsp_number};
 ghost use Rattle.isis_model.specs.Maps.{find, put, erase};
 ghost use Rattle.isis_model.specs.Sorted.{RisesFrom};
-ghost use Rattle.lsp_fragments.specs.Kept.{id_of, by_id, issued_of, all_issued, older_kept, IsAt};
+ghost use Rattle.lsp_fragments.specs.Kept.{kept_id, by_id, issued_of, all_issued, older_kept, IsIdAt};
 
 use crate::kept::Kept;
 use isis_base::{LspId, OutOfMemory};
@@ -12,7 +12,7 @@ use std::alloc::Global;
 /// Where the LSP ID is, or where it would go.
 pub(crate) fn place_of(list: &[Kept], id: LspId) -> Result<usize, usize>
     requires { RisesFrom 0 (by_id list.now) }
-    ensures { IsAt list.now (lsp_number id) result }
+    ensures { IsIdAt list.now (lsp_number id) result }
 {
     let number = id.to_number();
     list.binary_search_by_key(&number, |kept| kept.id.to_number())
@@ -36,12 +36,12 @@ pub(crate) fn put_at(
     place: Result<usize, usize>,
     kept: Kept,
 ) -> Result<(), OutOfMemory>
-    requires place { IsAt list.old.items (id_of kept) place }
+    requires place { IsIdAt list.old.items (kept_id kept) place }
     requires rises { RisesFrom 0 (by_id list.old.items) }
-    ensures ok { OnOk result (by_id list.new.items ≡ put (by_id list.old.items) (id_of kept) kept) }
+    ensures ok { OnOk result (by_id list.new.items ≡ put (by_id list.old.items) (kept_id kept) kept) }
     ensures err { OnErr result (list.new.items ≡ list.old.items) }
     ensures rises { RisesFrom 0 (by_id list.new.items) }
-    ensures held { IsSome (find (by_id list.old.items) (id_of kept)) → IsOk result }
+    ensures held { IsSome (find (by_id list.old.items) (kept_id kept)) → IsOk result }
 {
     match place {
         Ok(at) => {

@@ -18,7 +18,7 @@ const ADDRESSES: usize = 63;
 pub(crate) fn first_of(alloc: Global, content: &Content) -> Result<Octets, OutOfMemory>
     requires areas { length content.now.areas.items ≤ 3 }
     requires addresses { length content.now.addresses.items ≤ 64 }
-    ensures value { IfOk result (λ octets. octets ≡ entries.first_of content.now) }
+    ensures value { IfOk result (λ octets. octets ≡ entries.content_first content.now) }
     ensures short { IfOk result (λ octets. length octets ≤ 400) }
 {
     let mut octets = Octets::new(alloc);

@@ -19,9 +19,9 @@ ghost use Rattle.isis_model.specs.SplitLaws.{IsSmall};
 ghost use Rattle.isis_model.specs.LspNeighbours.{node_items};
 ghost use Rattle.isis_model.specs.LspPrefixes.{reach_items};
 ghost use Rattle.isis_model.specs.Wanted.{first_tlvs, addresses_of};
-ghost use Rattle.lsp_fragments.specs.Entries.{neighbour_entry, prefix_entry, address_tlvs, node_pair, reach_pair};
+ghost use Rattle.lsp_fragments.specs.Entries.{neighbour_entry, prefix_entry, address_tlvs, node_and_metric, reach_pair};
 ghost use Rattle.lsp_fragments.specs.GoodSplits.{IsGoodSplit};
-ghost use Rattle.lsp_fragments.specs.Issues.{issue_next, issue_above, is_same, next_of, outbid_by, older};
+ghost use Rattle.lsp_fragments.specs.Issues.{issue_next, issue_above, says_same, next_of, outbid_by, older_issued};
 
 /// The split of the router's model is a good one: where each entry fits a TLV and a fragment alone,
 /// the fragments say the entries in order, each once; no TLV and no fragment but the first fragment
@@ -41,10 +41,10 @@ pub fn good_splits()
 pub fn next_laws()
     ensures next { (issued : Option Issued) (held : Option Cell) (contents : Contents)
         → own.next false issued held contents
-        ≡ next_of (issue_next issued (rank_of held) (is_same issued contents)) }
+        ≡ next_of (issue_next issued (rank_of held) (says_same issued contents)) }
     ensures held { (full : Bool) (issued : Option Issued) (held : Cell) (contents : Contents)
         → own.next full issued (Some held) contents
-        ≡ next_of (issue_next issued held.rank (is_same issued contents)) }
+        ≡ next_of (issue_next issued held.rank (says_same issued contents)) }
     ensures full { (issued : Option Issued) (contents : Contents)
         → own.next true issued None contents ≡ own.Wait }
 {}
@@ -65,7 +65,7 @@ pub fn own_laws()
     ensures dropped_held { (state : LevelState) (id : ℕ) (held : Option Cell)
         → (own.retire_held state id held).own ≡ erase state.own id }
     ensures second { (issued : Issued) → issued.age < 2 ^ 64 - 1
-        → older issued ≡ seconds.older issued }
+        → older_issued issued ≡ seconds.older issued }
 {}
 
 /// A content says what the router's model has an LSP say: the same first TLVs, and the same entries
@@ -77,5 +77,5 @@ pub fn content_laws()
         → reach_items (map reach_pair list) ≡ map prefix_entry list }
     ensures neighbours { (list : List NeighbourItem)
         → AllByRecursion (λ item. IsId (record { node = item.node; number = 0 })) list
-        → node_items (map node_pair list) ≡ map neighbour_entry list }
+        → node_items (map node_and_metric list) ≡ map neighbour_entry list }
 {}

@@ -6,7 +6,7 @@ ghost use Rattle.isis_base.specs.Keys.{rank};
 ghost use Rattle.isis_model.specs.Maps.{find, put, erase, each};
 ghost use Rattle.isis_model.specs.Ranks.{number_of};
 ghost use Rattle.isis_model.specs.Routers.{Issued};
-ghost use Rattle.lsp_fragments.specs.Issues.{issue_next, issue_above, older};
+ghost use Rattle.lsp_fragments.specs.Issues.{issue_next, issue_above, older_issued};
 
 use crate::by_id::{age_all, copy_of, kept_of, place_of, put_at, take_out};
 use crate::issue::Issue;
@@ -125,7 +125,7 @@ impl OwnLsps {
 
     /// A second more since each issue.
     pub fn second(&mut self)
-        ensures { self.new ≡ each (λ (_ : ℕ) (i : Issued). older i) self.old }
+        ensures { self.new ≡ each (λ (_ : ℕ) (i : Issued). older_issued i) self.old }
     {
         age_all(&mut self.list);
     }

@@ -1,7 +1,7 @@
 //! The split of an own LSP into fragments.
 ghost use Rattle.std.specs.Prelude.{◌≡◌, ◌≤◌, ◌<◌, ◌^◌, length, map, true, All, IfOk, IfErr, ◌+◌};
 ghost use Rattle.isis_model.specs.Splits as splits;
-ghost use Rattle.lsp_fragments.specs.Entries.{first_of, entries_of, neighbour_entry, prefix_entry};
+ghost use Rattle.lsp_fragments.specs.Entries.{content_first, content_entries, neighbour_entry, prefix_entry};
 ghost use Rattle.lsp_fragments.specs.Fits.{IsFault, IsPut, fit_of, fault_behind};
 
 use crate::content::Content;
@@ -23,9 +23,9 @@ pub fn split(alloc: Global, content: &Content, room: usize) -> Result<Vec<Octets
     requires areas { length content.now.areas.items ≤ 3 }
     requires addresses { length content.now.addresses.items ≤ 64 }
     requires metrics { All (λ item. item.metric < 2 ^ 24) content.now.neighbours.items }
-    ensures ok { IfOk result (λ all. splits.split (first_of content.now) (entries_of content.now)
+    ensures ok { IfOk result (λ all. splits.split (content_first content.now) (content_entries content.now)
         room ≡ record { fragments = all.items; whole = true }) }
-    ensures too_much { IfErr result (IsFault (first_of content.now) (entries_of content.now) room) }
+    ensures too_much { IfErr result (IsFault (content_first content.now) (content_entries content.now) room) }
 {
     let first = match first::first_of(alloc, content) {
         Ok(first) => first,
@@ -45,7 +45,7 @@ pub fn split(alloc: Global, content: &Content, room: usize) -> Result<Vec<Octets
 fn put_entries(filling: Filling, content: &Content, room: usize) -> Result<Filling, SplitFault>
     requires room { room ≤ 1465 }
     requires metrics { All (λ item. item.metric < 2 ^ 24) content.now.neighbours.items }
-    ensures { IsPut room filling (entries_of content.now) result }
+    ensures { IsPut room filling (content_entries content.now) result }
 {
     let filling = match put_neighbours(filling, &content.neighbours, room) {
         Ok(filling) => filling,
