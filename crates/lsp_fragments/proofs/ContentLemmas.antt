@@ -1,5 +1,5 @@
 -- A content's entries as the router's model has them.
-use Rattle.std.proofs.Common.{◌≡◌, ℕ, ◌+◌, ◌*◌, ◌/◌, ◌%◌, List, [], ◌∷◌, ◌++◌, map, take, drop, length, if◌then◌else◌, refl, sym, ap, ◌∙◌, arith, append_assoc, length-append}
+use Rattle.std.proofs.Common.{◌≡◌, ℕ, ◌+◌, ◌*◌, ◌/◌, ◌%◌, ◌≤◌, List, [], ◌∷◌, ◌++◌, map, take, drop, length, if◌then◌else◌, refl, sym, ap, ◌∙◌, arith, append_assoc, length-append}
 use Rattle.std.specs.Int.{to_be_bytes, w64}
 use Rattle.std.proofs.lemmas.Nat.{be_bytes_8}
 use Rattle.std.proofs.Math.Nat.{div-div-eq-div-mul}
@@ -18,6 +18,8 @@ use Rattle.isis_model.specs.LspNeighbours.{u56_octets, node_items}
 use Rattle.isis_model.specs.LspPrefixes.{Reach, reach_items}
 use Rattle.isis_model.specs.Wanted.{some_addresses, addresses_of, first_tlvs}
 use Rattle.isis_model.specs.Splits.{Item}
+use Rattle.isis_model.specs.SplitLaws.{IsSmall}
+use Rattle.std.proofs.lemmas.List.{length-take}
 use Rattle.lsp_fragments.specs.Entries.{neighbour_entry, prefix_entry, address_tlvs, node_and_metric, reach_pair}
 
 -- ---- neighbours
@@ -69,3 +71,22 @@ pub first-same : (r : Router) → first_tlvs r ≡ area_tlv r.config.areas ++ (p
 unfolding address_tlvs
 first-same r = append_assoc (area_tlv r.config.areas ++ protocol_tlv) (some_addresses (take 63 (addresses_of r.circuits))) (some_addresses (drop 63 (addresses_of r.circuits)))
     ∙ append_assoc (area_tlv r.config.areas) protocol_tlv (some_addresses (take 63 (addresses_of r.circuits)) ++ some_addresses (drop 63 (addresses_of r.circuits)))
+
+-- ---- each entry fits
+
+neighbour-small : (room : ℕ) (item : NeighbourItem) → 1400 ≤ room → length item.node.system.0 ≡ 6 → IsSmall room (neighbour_entry item)
+neighbour-small room item h six =
+    let a = length-append item.node.system.0 (item.node.pseudonode ∷ []) in
+    let b = length-append (node_octets item.node) (u24_octets item.metric) in
+    let c = length-append (node_octets item.node ++ u24_octets item.metric) (0 ∷ []) in
+    record { code = omega arith; value = omega (arith, a, b, c, six); fits = omega (arith, a, b, c, six, h) }
+
+prefix-small : (room : ℕ) (item : PrefixItem) → 1400 ≤ room → IsSmall room (prefix_entry item)
+prefix-small room item h =
+    let n = length-take (octets_for item.prefix.length) (u32_octets item.prefix.address) in
+    record { code = omega arith; value = omega (arith, n); fits = omega (arith, n, h) }
+
+pub entries-small : (room : ℕ) (neighbours : List NeighbourItem) (prefixes : List PrefixItem) → 1400 ≤ room → AllByRecursion (λ (item : NeighbourItem). length item.node.system.0 ≡ 6) neighbours → AllByRecursion (IsSmall room) (map neighbour_entry neighbours ++ map prefix_entry prefixes)
+entries-small room [] [] h six = tt
+entries-small room [] (item ∷ prefixes) h six = (prefix-small room item h, entries-small room [] prefixes h six)
+entries-small room (item ∷ neighbours) prefixes h six = (neighbour-small room item h six.0, entries-small room neighbours prefixes h six.1)

@@ -1,6 +1,6 @@
 //! Laws: which split is made, and what the answers on own LSPs are in the router's model.
 //! Functions without a body, whose contracts hold for all values.
-ghost use Rattle.std.specs.Prelude.{◌≡◌, ℕ, ◌<◌, ◌-◌, ◌^◌, ◌++◌, map, Bool, false, true, List, Option, Some, None};
+ghost use Rattle.std.specs.Prelude.{◌≡◌, ℕ, ◌<◌, ◌≤◌, ◌-◌, ◌^◌, ◌++◌, map, length, Bool, false, true, List, Option, Some, None};
 ghost use Rattle.std.specs.List.{AllByRecursion};
 ghost use Rattle.isis_base.specs.declared.level.Level.{Level};
 ghost use Rattle.isis_base.specs.Identifiers.{IsId};
@@ -69,7 +69,7 @@ pub fn own_laws()
 {}
 
 /// A content says what the router's model has an LSP say: the same first TLVs, and the same entries
-/// in the same order.
+/// in the same order. Each entry fits a TLV and a fragment alone, so its split is good.
 pub fn content_laws()
     ensures first { (r : Router) → first_tlvs r ≡ area_tlv r.config.areas ++ (protocol_tlv
         ++ address_tlvs (addresses_of r.circuits)) }
@@ -78,4 +78,8 @@ pub fn content_laws()
     ensures neighbours { (list : List NeighbourItem)
         → AllByRecursion (λ item. IsId (record { node = item.node; number = 0 })) list
         → node_items (map node_and_metric list) ≡ map neighbour_entry list }
+    ensures small { (room : ℕ) (neighbours : List NeighbourItem) (prefixes : List PrefixItem)
+        → 1400 ≤ room → AllByRecursion (λ item. length item.node.system.0 ≡ 6) neighbours
+        → AllByRecursion (IsSmall room)
+        (map neighbour_entry neighbours ++ map prefix_entry prefixes) }
 {}

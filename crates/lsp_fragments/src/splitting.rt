@@ -23,9 +23,10 @@ pub fn split(alloc: Global, content: &Content, room: usize) -> Result<Vec<Octets
     requires areas { length content.now.areas.items ≤ 3 }
     requires addresses { length content.now.addresses.items ≤ 64 }
     requires metrics { All (λ item. item.metric < 2 ^ 24) content.now.neighbours.items }
-    ensures ok { IfOk result (λ all. splits.split (content_first content.now) (content_entries content.now)
-        room ≡ record { fragments = all.items; whole = true }) }
-    ensures too_much { IfErr result (IsFault (content_first content.now) (content_entries content.now) room) }
+    ensures ok { IfOk result (λ all. splits.split (content_first content.now)
+        (content_entries content.now) room ≡ record { fragments = all.items; whole = true }) }
+    ensures too_much { IfErr result (IsFault (content_first content.now)
+        (content_entries content.now) room) }
 {
     let first = match first::first_of(alloc, content) {
         Ok(first) => first,
