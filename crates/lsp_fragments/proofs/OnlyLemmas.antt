@@ -156,34 +156,35 @@ out-begins room d octets code size i all none =
     let over = none.begins in
     grind (arith, nat_tests, over, len)
 
+-- an entry without a place begins the next fragment as it would begin an empty one
+next-put : (room : ℕ) (d : Draft) (before : List (List ℕ)) (octets : List ℕ) (i : Item) (more : List Item) → d.done ≡ before → whole d ≡ octets → IsSmall room i → length before < 255 → joins room d i ≡ false → begins room d i ≡ false
+    → put_all room d (i ∷ more) ≡ put_all room (blank (before ++ octets ∷ []) []) (i ∷ more)
+next-put room d before octets i more dones all small few j b =
+    let done = before ++ octets ∷ [] in
+    let some = small.code in
+    let fits = small.fits in
+    let count : length d.done ≡ length before = ap length dones in
+    let less : nat_lt (length d.done) 255 ≡ true = grind (arith, nat_tests, few, count) in
+    let fresh : Draft = record { done = done; closed = []; code = i.code; value = i.octets } in
+    let moved : record { done = d.done ++ whole d ∷ []; closed = []; code = i.code; value = i.octets } ≡ fresh =
+    ap (λ (xs : List (List ℕ)). record { done = xs ++ whole d ∷ []; closed = []; code = i.code; value = i.octets }) dones
+    ∙ ap (λ (xs : List ℕ). record { done = before ++ xs ∷ []; closed = []; code = i.code; value = i.octets }) all in
+    let bj = no-join room (blank done []) i (λ e. absurd (omega (arith, e, some))) in
+    let bb : begins room (blank done []) i ≡ true = (let h : 2 + length i.octets ≤ room = fits in grind (arith, nat_tests, h)) in
+    put-one room d fresh i more (or-third (joins room d i) (begins room d i) (nat_lt (length d.done) 255) less) (with-next room d i j b ∙ moved)
+    ∙ sym (put-one room (blank done []) fresh i more (or-second (joins room (blank done []) i) (begins room (blank done []) i) (nat_lt (length done) 255) bb) (with-begin room (blank done []) i bj bb))
+
 fragments-put : (room : ℕ) (first : List ℕ) (done : List (List ℕ)) (last : List ℕ) (code size : ℕ) (items : List Item) → AllByRecursion (IsSmall room) items → length done ≤ 255 → AreFragments room first done last code size items → Makes room (blank [] first) items done last code size
 fragments-put room first done last code size items small few (Single octets was had all f) = fragment-put room first octets was had all [] f
 fragments-put room first done last code size items small few (Another before octets was had others are next c n i more f none) =
     let count = length-append before (octets ∷ []) in
     let m = fragments-put room first before octets was had others (all-left (IsSmall room) others (i ∷ more) small) (omega (arith, few, count)) are in
-    let d = m.draft in
-    let done = before ++ octets ∷ [] in
-    let k = fragment-put room [] next c n (i ∷ more) done f in
-    let is_small = (all-right (IsSmall room) others (i ∷ more) small).0 in
-    let fits = is_small.fits in
-    let some = is_small.code in
-    let j = out-joins room d octets was had i m.all m.codes m.sizes none in
-    let b = out-begins room d octets was had i m.all none in
-    let dones = m.dones in
-    let dcount : length d.done ≡ length before = ap length dones in
-    let less : nat_lt (length d.done) 255 ≡ true = grind (arith, nat_tests, few, count, dcount) in
-    let fresh : Draft = record { done = done; closed = []; code = i.code; value = i.octets } in
-    let moved : record { done = d.done ++ whole d ∷ []; closed = []; code = i.code; value = i.octets } ≡ fresh =
-    ap (λ (xs : List (List ℕ)). record { done = xs ++ whole d ∷ []; closed = []; code = i.code; value = i.octets }) dones
-    ∙ ap (λ (xs : List ℕ). record { done = before ++ xs ∷ []; closed = []; code = i.code; value = i.octets }) m.all in
-    let bj = no-join room (blank done []) i (λ e. absurd (omega (arith, e, some))) in
-    let bb : begins room (blank done []) i ≡ true = (let h : 2 + length i.octets ≤ room = fits in grind (arith, nat_tests, h)) in
+    let k = fragment-put room [] next c n (i ∷ more) (before ++ octets ∷ []) f in
+    let put = next-put room m.draft before octets i more m.dones m.all (all-right (IsSmall room) others (i ∷ more) small).0 (omega (arith, few, count))
+    (out-joins room m.draft octets was had i m.all m.codes m.sizes none) (out-begins room m.draft octets was had i m.all none) in
     record {
       draft = k.draft;
-      put = put_all-append room (blank [] first) d others (i ∷ more) m.put
-          ∙ put-one room d fresh i more (or-third (joins room d i) (begins room d i) (nat_lt (length d.done) 255) less) (with-next room d i j b ∙ moved)
-          ∙ sym (put-one room (blank done []) fresh i more (or-second (joins room (blank done []) i) (begins room (blank done []) i) (nat_lt (length done) 255) bb) (with-begin room (blank done []) i bj bb))
-          ∙ k.put;
+      put = put_all-append room (blank [] first) m.draft others (i ∷ more) m.put ∙ (put ∙ k.put);
       dones = k.dones;
       all = k.all;
       codes = k.codes;
@@ -194,6 +195,9 @@ fragments-put room first done last code size items small few (Another before oct
 
 filled-none : (room : ℕ) (d : Draft) (i : Item) (more : List Item) → holds_more room d i ≡ false → filled room d (i ∷ more) ≡ record { fragments = d.done ++ whole d ∷ []; whole = false }
 filled-none room d i more h = if-false (holds_more room d i) _ _ h
+
+filled-cut : (room : ℕ) (start d : Draft) (xs : List Item) (i : Item) (more : List Item) → put_all room start xs ≡ Some d → holds_more room d i ≡ false → filled room start (xs ++ i ∷ more) ≡ record { fragments = d.done ++ whole d ∷ []; whole = false }
+filled-cut room start d xs i more put none = filled-append room start d xs (i ∷ more) put ∙ filled-none room d i more none
 
 module _ (first : List ℕ) (items : List Item) (room : ℕ) (small : AllByRecursion (IsSmall room) items) (fragments : List (List ℕ)) where
   only-whole : IsGoodSplit first items room (record { fragments = fragments; whole = true }) → record { fragments = fragments; whole = true } ≡ split first items room
@@ -219,8 +223,7 @@ module _ (first : List ℕ) (items : List Item) (room : ℕ) (small : AllByRecur
       let count : length d.done ≡ length g.done = ap length m.dones in
       let f : nat_lt (length d.done) 255 ≡ false = grind (arith, nat_tests, full, count) in
       ap (λ (f : List (List ℕ)). record { fragments = f; whole = false }) (g.fragments ∙ ap (λ (xs : List (List ℕ)). xs ++ g.last ∷ []) (sym m.dones) ∙ ap (λ (x : List ℕ). d.done ++ x ∷ []) (sym m.all))
-      ∙ sym (filled-none room d stop.entry stop.more (or-none (joins room d stop.entry) (begins room d stop.entry) (nat_lt (length d.done) 255) j b f))
-      ∙ sym (filled-append room (blank [] first) d g.taken (stop.entry ∷ stop.more) m.put)
+      ∙ sym (filled-cut room (blank [] first) d g.taken stop.entry stop.more m.put (or-none (joins room d stop.entry) (begins room d stop.entry) (nat_lt (length d.done) 255) j b f))
       ∙ ap (λ (xs : List Item). filled room (blank [] first) xs) (sym same)
 
 pub split-only : (first : List ℕ) (items : List Item) (room : ℕ) (s : Split) → AllByRecursion (IsSmall room) items → IsGoodSplit first items room s → s ≡ split first items room
