@@ -7,7 +7,7 @@ ghost use Rattle.isis_base.specs.Identifiers.{IsId};
 ghost use Rattle.isis_tlv.specs.declared.neighbour.NeighbourItem.{NeighbourItem};
 ghost use Rattle.isis_tlv.specs.declared.prefix.PrefixItem.{PrefixItem};
 ghost use Rattle.isis_tlv.specs.Spelling.{area_tlv, protocol_tlv};
-ghost use Rattle.isis_model.specs.Maps.{put, erase};
+ghost use Rattle.isis_model.specs.Maps.{put, erase, each};
 ghost use Rattle.isis_model.specs.Books.{rank_of};
 ghost use Rattle.isis_model.specs.Cells.{Cell};
 ghost use Rattle.isis_model.specs.Routers.{Contents, Issued, LevelState, Router};
@@ -64,8 +64,10 @@ pub fn own_laws()
         → (own.retire state id purge).own ≡ erase state.own id }
     ensures dropped_held { (state : LevelState) (id : ℕ) (held : Option Cell)
         → (own.retire_held state id held).own ≡ erase state.own id }
-    ensures second { (issued : Issued) → issued.age < 2 ^ 64 - 1
-        → older_issued issued ≡ seconds.older issued }
+    ensures second { (all : List (ℕ × Issued))
+        → AllByRecursion (λ pair. pair.1.age < 2 ^ 64 - 1) all
+        → each (λ (_ : ℕ) (i : Issued). older_issued i) all
+        ≡ each (λ (_ : ℕ) (i : Issued). seconds.older i) all }
 {}
 
 /// A content says what the router's model has an LSP say: the same first TLVs, and the same entries
