@@ -55,7 +55,8 @@ pub record IsStop (room : ℕ) (done : List (List ℕ)) (last : List ℕ) (code 
 
 -- a good split: fragments that say the entries in order, each once; all of them in at most 256
 -- fragments, or else those that 256 fragments hold (7.3.4)
-pub record IsGoodSplit (first : List ℕ) (items : List Item) (room : ℕ) (split : Split) : Type 0 where
+pub record IsGoodSplit (first : List ℕ) (items : List Item) (room : ℕ) (split : Split)
+    : Type 0 where
   pub done : List (List ℕ)
   pub last : List ℕ
   pub code : ℕ

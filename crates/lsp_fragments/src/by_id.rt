@@ -38,7 +38,8 @@ pub(crate) fn put_at(
 ) -> Result<(), OutOfMemory>
     requires place { IsIdAt list.old.items (kept_id kept) place }
     requires rises { RisesFrom 0 (by_id list.old.items) }
-    ensures ok { OnOk result (by_id list.new.items ≡ put (by_id list.old.items) (kept_id kept) kept) }
+    ensures ok { OnOk result (by_id list.new.items
+        ≡ put (by_id list.old.items) (kept_id kept) kept) }
     ensures err { OnErr result (list.new.items ≡ list.old.items) }
     ensures rises { RisesFrom 0 (by_id list.new.items) }
     ensures held { IsSome (find (by_id list.old.items) (kept_id kept)) → IsOk result }
