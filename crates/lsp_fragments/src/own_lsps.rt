@@ -1,0 +1,160 @@
+//! The own LSPs that are issued.
+ghost use Rattle.std.specs.Prelude.{◌≡◌, ℕ, [], OnOk, OnErr, IfOk, IsOk, IsSome, is_some, MatchOption, None, Some};
+ghost use Rattle.std.specs.Option.{option_map};
+ghost use Rattle.isis_base.specs.Identifiers.{lsp_number};
+ghost use Rattle.isis_base.specs.Keys.{rank};
+ghost use Rattle.isis_model.specs.Maps.{find, put, erase, each};
+ghost use Rattle.isis_model.specs.Ranks.{number_of};
+ghost use Rattle.isis_model.specs.Routers.{Issued};
+ghost use Rattle.lsp_fragments.specs.Issues.{issue_next, issue_above, older_issued};
+
+use crate::by_id::{age_all, copy_of, kept_of, place_of, put_at, take_out};
+use crate::issue::Issue;
+use crate::kept::Kept;
+use isis_base::{Key, LspId, Octets, OutOfMemory};
+use std::alloc::Global;
+use std::marker::Model;
+
+/// After so many seconds a fragment that says something else may be issued (own).
+const CHANGED: u64 = 5;
+
+/// After so many seconds a fragment is issued anew (ISO 10589 7.3.5).
+const REFRESH: u64 = 900;
+
+/// A level's own LSPs that are issued (ISO 10589 7.3.6): for each LSP ID what its last issue says,
+/// and the seconds since then. Contracts see it as the router's model has it.
+#[derive(Drop)]
+pub struct OwnLsps {
+    list: Vec<Kept>,
+}
+
+impl Model for OwnLsps {
+    ghost use Rattle.std.specs.Prelude.{ℕ, List};
+    ghost use Rattle.isis_model.specs.Routers.{Issued};
+    ghost use Rattle.isis_model.specs.Sorted.{RisesFrom};
+
+    ghost Value = { List (ℕ × Issued) };
+
+    ghost use Rattle.lsp_fragments.specs.Kept.{by_id, all_issued};
+
+    ghost view = { λ o. all_issued o.list.items };
+
+    ghost invariant = { λ o. RisesFrom 0 (by_id o.list.items) };
+}
+
+impl OwnLsps {
+    /// None is issued. It takes no memory.
+    pub fn new(alloc: Global) -> OwnLsps
+        ensures { result ≡ [] }
+    {
+        OwnLsps {
+            list: Vec::new(alloc),
+        }
+    }
+
+    /// What becomes of a wanted fragment, by the key that is held of its LSP ID, and by whether it
+    /// says the `same` as its last issue (ISO 10589 7.3.5, 7.3.6). It is issued at the number above
+    /// the one that is held where it isn't issued, where it says something else and was issued at
+    /// least 5 seconds ago, and where it was issued at least 900 seconds ago; else it waits. At the
+    /// last number it is `Exhausted`.
+    pub fn next_issue(&self, id: LspId, held: Option<Key>, same: bool) -> Issue
+        ensures { result ≡ issue_next (find self.now (lsp_number id)) (rank held) same }
+    {
+        let due = match kept_of(&self.list, id) {
+            Some(kept) => (kept.age >= CHANGED && !same) || kept.age >= REFRESH,
+            None => true,
+        };
+        if !due {
+            return Issue::Wait;
+        }
+        issue_at(number_of(held))
+    }
+
+    /// What becomes of an own LSP of which a copy of number `above` is heard (ISO 10589 7.3.16.1):
+    /// it is issued at the next number at once. At the last number it is `Exhausted`.
+    pub fn outbid(&self, _id: LspId, above: u32) -> Issue
+        ensures { result ≡ issue_above above }
+    {
+        issue_at(above)
+    }
+
+    /// Keeps what an LSP ID was issued with, just now. Where it was issued before, it takes no
+    /// memory. At `OutOfMemory` all is as before.
+    pub fn issued(&mut self, id: LspId, tlvs: Octets, flags: u8) -> Result<(), OutOfMemory>
+        ensures ok { OnOk result (self.new ≡ put self.old (lsp_number id)
+            (record { contents = record { flags = flags; tlvs = tlvs }; age = 0 })) }
+        ensures err { OnErr result (self.new ≡ self.old) }
+        ensures held { IsSome (find self.old (lsp_number id)) → IsOk result }
+    {
+        let place = place_of(&self.list, id);
+        let kept = Kept {
+            id,
+            flags,
+            tlvs,
+            age: 0,
+        };
+        put_at(&mut self.list, place, kept)
+    }
+
+    /// The LSP ID isn't issued any longer.
+    pub fn drop_id(&mut self, id: LspId)
+        ensures { self.new ≡ erase self.old (lsp_number id) }
+    {
+        take_out(&mut self.list, id);
+    }
+
+    /// Whether the LSP ID is issued.
+    pub fn is_issued(&self, id: LspId) -> bool
+        ensures { result ≡ is_some (find self.now (lsp_number id)) }
+    {
+        kept_of(&self.list, id).is_some()
+    }
+
+    /// The TLVs and the flags octet of the last issue; `None` exactly where the LSP ID isn't
+    /// issued.
+    pub fn contents(&self, id: LspId) -> Option<(&[u8], u8)>
+        ensures { MatchOption result (find self.now (lsp_number id) ≡ None)
+            (λ said. option_map (λ i. i.contents) (find self.now (lsp_number id))
+            ≡ Some (record { flags = said.1; tlvs = said.0.now })) }
+    {
+        match kept_of(&self.list, id) {
+            Some(kept) => Some((kept.tlvs.as_slice(), kept.flags)),
+            None => None,
+        }
+    }
+
+    /// A second more since each issue.
+    pub fn second(&mut self)
+        ensures { self.new ≡ each (λ (_ : ℕ) (i : Issued). older_issued i) self.old }
+    {
+        age_all(&mut self.list);
+    }
+
+    /// An equal value.
+    pub fn copy(&self) -> Result<OwnLsps, OutOfMemory>
+        ensures { IfOk result (λ copy. copy ≡ self.now) }
+    {
+        let list = copy_of(*self.list.allocator(), &self.list)?;
+        Ok(OwnLsps { list })
+    }
+}
+
+/// The number of a key, 0 of none.
+fn number_of(held: Option<Key>) -> u32
+    ensures { result ≡ number_of (rank held) }
+{
+    match held {
+        Some(key) => key.number,
+        None => 0,
+    }
+}
+
+/// The number above one, where there is one.
+fn issue_at(above: u32) -> Issue
+    ensures { result ≡ issue_above above }
+{
+    match above.checked_add(1) {
+        Some(number) => Issue::Number(number),
+        None => Issue::Exhausted,
+    }
+}
