@@ -1,0 +1,31 @@
+//! The configuration of a router, and the desk that makes those tests of a datagram that need no state.
+//!
+//! A datagram is taken out of its frame (this project's own) and its PDU decoded (ISO 10589 9). Then come seven tests, in
+//! one fixed order, this project's own: the length of an LSP or SNP (1,492 octets), the kind of circuit that a hello goes on, the
+//! level, the authentication (RFC 5304 3), the values that must be read, the sequence number of an LSP and its checksum
+//! (ISO 10589 7.3.15.1, 7.3.16.1). The first that fails is the cause of a drop. Opening takes no memory, and what was found
+//! isn't decoded again.
+//!
+//! - `cause.rt`, `naming.rt`: the causes of a drop, and their names
+//! - `header.rt`, `header_of.rt`: the fields of a PDU's header; `found.rt`: what was found in a datagram
+//! - `opened.rt`: a datagram with what was found in it; `seen.rt`: that, lent
+//! - `values.rt`: the first value that doesn't fit
+//! - `desk.rt`: the desk and its tests; `desk_circuit.rt`: what the tests look at of a circuit
+#![tactic(auto)]
+
+mod cause;
+mod desk;
+mod desk_circuit;
+mod found;
+mod header;
+mod header_of;
+mod naming;
+mod opened;
+mod seen;
+mod values;
+
+pub use cause::DropCause;
+pub use desk::Desk;
+pub use isis_model::DropName;
+pub use opened::Opened;
+pub use seen::Seen;
