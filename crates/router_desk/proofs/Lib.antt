@@ -1,3 +1,4 @@
 -- Lemmas, by topic.
 pub mod ValueLemmas
 pub mod OpenLemmas
+pub mod ReadingLemmas

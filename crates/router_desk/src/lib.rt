@@ -11,6 +11,7 @@
 //! - `opened.rt`: a datagram with what was found in it; `seen.rt`: that, lent
 //! - `values.rt`: the first value that doesn't fit
 //! - `desk.rt`: the desk and its tests; `desk_circuit.rt`: what the tests look at of a circuit
+//! - `laws.rt`: what a desk finds is what a router of the model reads: a function without a body, whose contract is the law
 #![tactic(auto)]
 
 mod cause;
@@ -19,6 +20,7 @@ mod desk_circuit;
 mod found;
 mod header;
 mod header_of;
+pub mod laws;
 mod naming;
 mod opened;
 mod seen;
