@@ -36,9 +36,9 @@ use Rattle.isis_datagram.specs.Reading as reading
 use Rattle.router_desk.specs.declared.cause.DropCause.{DropCause}
 use Rattle.router_desk.specs.declared.desk_circuit.DeskCircuit.{DeskCircuit}
 use Rattle.router_desk.specs.Causes.{name_of}
-use Rattle.router_desk.specs.Desks.{DeskOf, kind_of_circuit, desk_circuit, desk_of}
+use Rattle.router_desk.specs.Desks.{DeskOf, is_lan, is_point, kind_of_circuit, desk_circuit, desk_of}
 use Rattle.router_desk.specs.Values.{hello_fault, snp_fault, value_fault, place_in_pdu, value_place}
-use Rattle.router_desk.specs.Table.{Test, first_failing, is_lan, is_point, goes_on, is_run, key_for, auth_fault_under, tests_of}
+use Rattle.router_desk.specs.Table.{Test, first_failing, goes_on, is_run, key_for, auth_fault_under, tests_of}
 use Rattle.router_desk.specs.Opening.{SeenView, refused_or, seen_pdu, seen_frame, seen_by, seen_on, seen_at, message_of}
 
 -- ---- frames

@@ -15,6 +15,15 @@ pub record DeskOf : Type 0 where
   pub keys : Both (Option (List ℕ))
   pub circuits : List DeskCircuit
 
+-- whether a circuit is a LAN, and whether it is a point-to-point link (ISO 10589 6.3)
+abbrev pub is_lan : CircuitKind → Bool
+is_lan circuit.PointToPoint = false
+is_lan circuit.Lan = true
+
+abbrev pub is_point : CircuitKind → Bool
+is_point circuit.PointToPoint = true
+is_point circuit.Lan = false
+
 -- the kind of a circuit of the model (ISO 10589 6.3)
 abbrev pub kind_of_circuit : Bool → CircuitKind
 kind_of_circuit true = circuit.Lan

@@ -2,7 +2,6 @@
 use Rattle.std.specs.Prelude.{ℕ, nat_le, Bool, true, false, ◌||◌, List, [], ◌∷◌, length, Option, Some, None, is_none, if◌then◌else◌}
 use Rattle.std.specs.Option.{unwrap_or}
 use Rattle.isis_base.specs.declared.level.CircuitKind.{CircuitKind}
-use Rattle.isis_base.specs.declared.level.CircuitKind.TheVariants as circuit
 use Rattle.isis_base.specs.declared.pdu_kind.PduKind.{PduKind}
 use Rattle.isis_base.specs.declared.pdu_kind.PduKind.TheVariants as kind
 use Rattle.isis_base.specs.PduKinds.{header_length, is_hello}
@@ -16,7 +15,7 @@ use Rattle.isis_datagram.specs.Tests.{has_number, is_summed}
 use Rattle.router_desk.specs.declared.cause.DropCause.{DropCause}
 use Rattle.router_desk.specs.declared.cause.DropCause.TheVariants as cause
 use Rattle.router_desk.specs.declared.desk_circuit.DeskCircuit.{DeskCircuit}
-use Rattle.router_desk.specs.Desks.{DeskOf}
+use Rattle.router_desk.specs.Desks.{DeskOf, is_lan, is_point}
 use Rattle.router_desk.specs.Values.{value_place}
 
 -- a test, and the cause where it fails (own)
@@ -31,15 +30,6 @@ row holds cause = record { holds = holds; cause = cause }
 abbrev pub first_failing : List Test → Option DropCause
 first_failing [] = None
 first_failing (test ∷ tests) = if test.holds then first_failing tests else Some test.cause
-
--- whether a hello of a kind of circuit goes on another (ISO 10589 8.2, 8.4)
-abbrev pub is_lan : CircuitKind → Bool
-is_lan circuit.PointToPoint = false
-is_lan circuit.Lan = true
-
-abbrev pub is_point : CircuitKind → Bool
-is_point circuit.PointToPoint = true
-is_point circuit.Lan = false
 
 -- a hello of the circuit's kind; LSPs and SNPs go on both kinds (ISO 10589 8.2, 8.4)
 abbrev pub goes_on : CircuitKind → PduKind → Bool

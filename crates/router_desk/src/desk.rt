@@ -33,11 +33,11 @@ const SUMMED: usize = 12;
 /// What never changes of a router's configuration: its system, its levels, the kinds of its circuits, and the keys.
 #[derive(Drop, Debug)]
 pub struct Desk {
-    system: SystemId,
-    levels: LevelSet,
-    area_key: Option<Octets>,
-    domain_key: Option<Octets>,
-    circuits: Vec<DeskCircuit>,
+    pub(crate) system: SystemId,
+    pub(crate) levels: LevelSet,
+    pub(crate) area_key: Option<Octets>,
+    pub(crate) domain_key: Option<Octets>,
+    pub(crate) circuits: Vec<DeskCircuit>,
 }
 
 impl Model for Desk {

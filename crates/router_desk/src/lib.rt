@@ -6,28 +6,37 @@
 //! (ISO 10589 7.3.15.1, 7.3.16.1). The first that fails is the cause of a drop. Opening takes no memory, and what was found
 //! isn't decoded again.
 //!
+//! - `config.rt`, `circuit_config.rt`: a configuration; `list.rt`: its lists; `copies.rt`: copies
 //! - `cause.rt`, `naming.rt`: the causes of a drop, and their names
 //! - `header.rt`, `header_of.rt`: the fields of a PDU's header; `found.rt`: what was found in a datagram
 //! - `opened.rt`: a datagram with what was found in it; `seen.rt`: that, lent
 //! - `values.rt`: the first value that doesn't fit
-//! - `desk.rt`: the desk and its tests; `desk_circuit.rt`: what the tests look at of a circuit
+//! - `desk.rt`: the desk and its tests; `desk_new.rt`: desks made; `desk_circuit.rt`: what the tests look at of a circuit
 //! - `laws.rt`: what a desk finds is what a router of the model reads: a function without a body, whose contract is the law
 #![tactic(auto)]
 
 mod cause;
+mod circuit_config;
+mod config;
+mod copies;
 mod desk;
 mod desk_circuit;
+mod desk_new;
 mod found;
 mod header;
 mod header_of;
 pub mod laws;
+mod list;
 mod naming;
 mod opened;
 mod seen;
 mod values;
 
 pub use cause::DropCause;
+pub use circuit_config::CircuitConfig;
+pub use config::{Change, Config};
 pub use desk::Desk;
 pub use isis_model::DropName;
+pub use list::{Areas, Circuits, Parts, Prefixes};
 pub use opened::Opened;
 pub use seen::Seen;
