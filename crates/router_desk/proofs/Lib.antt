@@ -2,3 +2,4 @@
 pub mod ValueLemmas
 pub mod OpenLemmas
 pub mod ReadingLemmas
+pub mod DistinctLemmas

@@ -6,7 +6,8 @@
 //! (ISO 10589 7.3.15.1, 7.3.16.1). The first that fails is the cause of a drop. Opening takes no memory, and what was found
 //! isn't decoded again.
 //!
-//! - `config.rt`, `circuit_config.rt`: a configuration; `list.rt`: its lists; `copies.rt`: copies
+//! - `config.rt`, `circuit_config.rt`: a configuration; `list.rt`: its lists; `copies.rt`: copies;
+//!   `valid.rt`: whether it is within the limits
 //! - `cause.rt`, `naming.rt`: the causes of a drop, and their names
 //! - `header.rt`, `header_of.rt`: the fields of a PDU's header; `found.rt`: what was found in a datagram
 //! - `opened.rt`: a datagram with what was found in it; `seen.rt`: that, lent
@@ -30,6 +31,7 @@ mod list;
 mod naming;
 mod opened;
 mod seen;
+mod valid;
 mod values;
 
 pub use cause::DropCause;
