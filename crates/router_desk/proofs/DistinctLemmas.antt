@@ -1,5 +1,5 @@
 -- Numbers of which none stands twice, in any order and sorted.
-use Rattle.std.proofs.Common.{◌≡◌, ◌∙◌, ℕ, zero, suc, ◌+◌, ◌<◌, ◌≤◌, List, [], ◌∷◌, length, get_or, cond, eqb, Bool, true, false, ◌&&◌, ◌||◌, not, refl, sym, ap, arith}
+use Rattle.std.proofs.Common.{◌≡◌, ◌∙◌, ℕ, suc, ◌+◌, ◌<◌, ◌≤◌, List, [], ◌∷◌, length, get_or, cond, eqb, Bool, true, false, ◌&&◌, ◌||◌, not, refl, sym, ap, arith}
 use Rattle.std.specs.List.{list_any, sum_by}
 use Rattle.std.specs.List.Sorted.{IsPermutation, IsNonDecreasing, IsSorted}
 use Rattle.std.specs.Ordering.{nat_cmp}
@@ -96,9 +96,10 @@ all-from least (x ∷ xs) each = (each 0 (omega arith), all-from least xs (λ j 
 
 ordered : (xs : List ℕ) → IsNonDecreasing xs → Ordered xs
 ordered [] rises = tt
-ordered (x ∷ xs) rises =
-    (all-from x xs (λ j h. rises 0 (suc j) 0 (omega arith) (omega (arith, h))),
-    ordered xs (λ i j d low high. rises (suc i) (suc j) d (omega (arith, low)) (omega (arith, high))))
+ordered (x ∷ xs) rises = (
+  all-from x xs (λ j h. rises 0 (suc j) 0 (omega arith) (omega (arith, h))),
+  ordered xs (λ i j d low high. rises (suc i) (suc j) d (omega (arith, low)) (omega (arith, high))),
+)
 
 above : (x y : ℕ) (xs : List ℕ) → x < y → AllFrom y xs → stands x xs ≡ false
 above x y [] less all = refl

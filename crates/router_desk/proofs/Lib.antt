@@ -3,3 +3,5 @@ pub mod ValueLemmas
 pub mod OpenLemmas
 pub mod ReadingLemmas
 pub mod DistinctLemmas
+pub mod PassedLemmas
+pub mod ValidLemmas

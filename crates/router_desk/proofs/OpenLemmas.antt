@@ -1,5 +1,5 @@
 -- What is found in a datagram lies in it, and is what a desk finds.
-use Rattle.std.proofs.Common.{◌≡◌, ◌∙◌, ℕ, ◌+◌, ◌≤◌, List, [], length, take, drop, cond, ltb, Bool, true, false, Option, Some, None, Result, Ok, Err, refl, sym, ap, arith, length-drop, length-take-le}
+use Rattle.std.proofs.Common.{◌≡◌, ◌∙◌, ℕ, ◌≤◌, List, [], length, take, drop, cond, ltb, Bool, true, false, Option, Some, None, Result, Ok, Err, refl, sym, ap, arith, length-drop}
 use Rattle.std.specs.Prelude.{bytes_eq, codes}
 use Rattle.std.proofs.lemmas.Bool.{ltb-false}
 use Rattle.isis_base.specs.declared.identifiers.Snpa.{Snpa}
@@ -17,12 +17,11 @@ use Rattle.isis_pdu.specs.Decoded.{decoded}
 use Rattle.router_desk.specs.declared.cause.DropCause.{DropCause}
 use Rattle.router_desk.specs.declared.cause.DropCause.TheVariants as cause
 use Rattle.router_desk.specs.declared.desk_circuit.DeskCircuit.{DeskCircuit}
-use Rattle.router_desk.specs.declared.found.Found.{Found}
 use Rattle.router_desk.specs.declared.header.Header.{Header}
-use Rattle.router_desk.specs.Desks.{DeskOf}
+use Rattle.router_desk.specs.Desks.{DeskView}
 use Rattle.router_desk.specs.Headers.{header_of, pdu_with, header_kind}
 use Rattle.router_desk.specs.Table.{tests_of, first_failing}
-use Rattle.router_desk.specs.Opening.{SeenView, refused_or, seen_pdu, seen_frame, seen_on, seen_in, Lies}
+use Rattle.router_desk.specs.Opening.{refused_or, seen_pdu, seen_frame, seen_on, seen_in, Lies}
 
 -- ---- frames
 
@@ -89,7 +88,7 @@ whole octets pdu n begins =
 
 -- ---- what is found
 
-module _ (desk : DeskOf) (c : DeskCircuit) (datagram : List ℕ) where
+module _ (desk : DeskView) (c : DeskCircuit) (datagram : List ℕ) where
   pub frame-refused : (fault : FrameFault) → Err fault ≡ unframed datagram → Err (cause.Frame fault) ≡ seen_on desk c datagram
   unfolding seen_on
   frame-refused fault is = ap (seen_frame desk c) is

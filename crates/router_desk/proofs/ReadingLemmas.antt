@@ -1,6 +1,6 @@
 -- What a desk finds is what a router of the model reads.
 use Rattle.std.proofs.Common.{◌≡◌, ◌∙◌, ℕ, zero, suc, ◌+◌, ◌-◌, List, [], ◌∷◌, ◌++◌, length, take, drop as past, map, cond, eqb, ltb, leb, Bool, true, false, ◌&&◌, ◌||◌, not, Option, Some, None, Result, Ok, Err, refl, sym, ap, arith, is_none}
-use Rattle.std.specs.Prelude.{bytes_eq, codes, find, flat_map, option_and_then, slice_get}
+use Rattle.std.specs.Prelude.{bytes_eq, find, flat_map, option_and_then, slice_get}
 use Rattle.std.specs.Option.{option_map, is_some}
 use Rattle.std.specs.Result.{result_err}
 use Rattle.std.proofs.lemmas.Bool.{ltb-true, ltb-false, lt-leb, le-leb, eqb-true}
@@ -27,7 +27,6 @@ use Rattle.isis_model.specs.declared.drop_name.DropName.TheVariants as drop
 use Rattle.isis_model.specs.Places.{nth}
 use Rattle.isis_model.specs.Configs.{Config}
 use Rattle.isis_model.specs.Routers.{Circuit}
-use Rattle.isis_model.specs.Events.{Message}
 use Rattle.isis_datagram.specs.Numbers.{u48_of, snpa_number}
 use Rattle.isis_datagram.specs.Frames.{magic, unframed}
 use Rattle.isis_datagram.specs.Values.{items_if, items_in}
@@ -36,7 +35,7 @@ use Rattle.isis_datagram.specs.Reading as reading
 use Rattle.router_desk.specs.declared.cause.DropCause.{DropCause}
 use Rattle.router_desk.specs.declared.desk_circuit.DeskCircuit.{DeskCircuit}
 use Rattle.router_desk.specs.Causes.{name_of}
-use Rattle.router_desk.specs.Desks.{DeskOf, is_lan, is_point, kind_of_circuit, desk_circuit, desk_of}
+use Rattle.router_desk.specs.Desks.{DeskView, is_lan, is_point, kind_of_circuit, desk_circuit, desk_of}
 use Rattle.router_desk.specs.Values.{hello_fault, snp_fault, value_fault, place_in_pdu, value_place}
 use Rattle.router_desk.specs.Table.{Test, first_failing, goes_on, is_run, key_for, auth_fault_under, tests_of}
 use Rattle.router_desk.specs.Opening.{SeenView, refused_or, seen_pdu, seen_frame, seen_by, seen_on, seen_at, message_of}
@@ -269,7 +268,7 @@ tests-named config circuits c pdu octets =
 -- ---- what is read
 
 module _ (config : Config) (circuits : List Circuit) (c : Circuit) where
-  abbrev its_desk : DeskOf
+  abbrev its_desk : DeskView
   its_desk = desk_of config circuits
 
   refused-reads : (found : Option DropCause) (seen : SeenView) → message_of config.system (refused_or found seen) ≡ reading.refused_or (option_map name_of found) (reading.message config.system (snpa_number seen.snpa) seen.pdu seen.octets)

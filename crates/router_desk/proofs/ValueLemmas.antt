@@ -1,5 +1,5 @@
 -- A value's fault lies in it.
-use Rattle.std.proofs.Common.{◌≡◌, ℕ, zero, suc, ◌+◌, ◌≤◌, ◌<◌, List, [], ◌∷◌, length, drop, cond, eqb, Bool, true, false, Option, Some, None, Result, Ok, Err, refl, sym, subst, arith, length-drop}
+use Rattle.std.proofs.Common.{◌≡◌, ℕ, zero, suc, ◌+◌, ◌≤◌, ◌<◌, List, [], ◌∷◌, length, drop, cond, eqb, Bool, true, false, Option, Some, None, Result, sym, subst, arith, length-drop}
 use Rattle.std.specs.Prelude.{find}
 use Rattle.std.specs.List.{AllByRecursion}
 use Rattle.std.specs.Option.{IfSome, ok_or, is_some}
@@ -11,7 +11,7 @@ use Rattle.isis_tlv.specs.declared.three_way.ThreeWay.{ThreeWay}
 use Rattle.isis_tlv.specs.Walks.{before, walk, items_of, fault_of}
 use Rattle.isis_tlv.specs.Tlvs.{TlvView, StandsIn, tlv_list}
 use Rattle.isis_tlv.proofs.TlvLemmas.{tlvs-stand}
-use Rattle.isis_tlv.specs.Items.{values_of, area_at, snpa_at, entry_at, three_way_of}
+use Rattle.isis_tlv.specs.Items.{values_of, area_at, snpa_at, entry_at}
 use Rattle.router_desk.specs.Values.{hello_fault, snp_fault, value_fault, faulty_tlv}
 
 -- the fault of octets that begin at a place is at one of them

@@ -1,5 +1,5 @@
 -- A desk: what of a configuration the tests look at that need no state.
-use Rattle.std.specs.Prelude.{ℕ, ◌-◌, Bool, true, false, List, map, Option, slice_get, if◌then◌else◌}
+use Rattle.std.specs.Prelude.{ℕ, ◌-◌, Bool, true, false, List, map, Option, slice_get}
 use Rattle.isis_base.specs.declared.level.CircuitKind.{CircuitKind}
 use Rattle.isis_base.specs.declared.level.CircuitKind.TheVariants as circuit
 use Rattle.isis_model.specs.Both.{Both}
@@ -7,9 +7,9 @@ use Rattle.isis_model.specs.Configs.{Config}
 use Rattle.isis_model.specs.Routers.{Circuit}
 use Rattle.router_desk.specs.declared.desk_circuit.DeskCircuit.{DeskCircuit}
 
--- the system ID, the levels that are run, the keys of both levels, and the kind and the key of each circuit, which
--- never change (own)
-pub record DeskOf : Type 0 where
+-- the system ID, the levels that are run, the keys of both levels, and the kind and the key of
+-- each circuit, which never change (own)
+pub record DeskView : Type 0 where
   pub system : ℕ
   pub runs : Both Bool
   pub keys : Both (Option (List ℕ))
@@ -33,7 +33,7 @@ abbrev pub desk_circuit : Circuit → DeskCircuit
 desk_circuit c = record { kind = kind_of_circuit c.lan; key = c.key }
 
 -- the desk of a router of the model
-abbrev pub desk_of : Config → List Circuit → DeskOf
+abbrev pub desk_of : Config → List Circuit → DeskView
 desk_of config circuits = record {
   system = config.system;
   runs = config.runs;
@@ -42,5 +42,5 @@ desk_of config circuits = record {
 }
 
 -- the circuit of a number, counted from 1 (own)
-abbrev pub circuit_at : DeskOf → ℕ → Option DeskCircuit
+abbrev pub circuit_at : DeskView → ℕ → Option DeskCircuit
 circuit_at desk number = slice_get desk.circuits (number - 1)

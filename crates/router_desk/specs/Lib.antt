@@ -1,4 +1,5 @@
--- The definitions: causes of a drop, what a desk is, the tests that need no state, and what is found by them.
+-- The definitions: causes of a drop, what a desk is, the tests that need no state, and what is
+-- found by them.
 pub mod Causes
 pub mod Desks
 pub mod Configs

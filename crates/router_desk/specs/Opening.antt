@@ -1,4 +1,5 @@
--- What a desk finds in a datagram: its sender and its PDU, or the cause of the first test that fails.
+-- What a desk finds in a datagram: its sender and its PDU, or the cause of the first test that
+-- fails.
 use Rattle.std.specs.Prelude.{◌≡◌, ℕ, ◌+◌, ◌≤◌, List, length, take, drop, Option, Some, None, Result, Ok, Err, IfOk}
 use Rattle.isis_base.specs.declared.identifiers.Snpa.{Snpa}
 use Rattle.isis_base.specs.PduKinds.{header_length}
@@ -17,7 +18,7 @@ use Rattle.router_desk.specs.declared.desk_circuit.DeskCircuit.{DeskCircuit}
 use Rattle.router_desk.specs.declared.found.Found.{Found}
 use Rattle.router_desk.specs.declared.seen.Seen.{Seen}
 use Rattle.router_desk.specs.Causes.{name_of}
-use Rattle.router_desk.specs.Desks.{DeskOf, circuit_at}
+use Rattle.router_desk.specs.Desks.{DeskView, circuit_at}
 use Rattle.router_desk.specs.Headers.{pdu_with, header_kind}
 use Rattle.router_desk.specs.Table.{tests_of, first_failing}
 
@@ -29,11 +30,12 @@ pub record SeenView : Type 0 where
 
 -- the same without where it lies in memory (own)
 abbrev pub seen_view : Result Seen DropCause → Result SeenView DropCause
-seen_view (Ok seen) = Ok (record { snpa = seen.sender; pdu = pdu_view seen.pdu; octets = seen.octets.now })
+seen_view (Ok seen) =
+    Ok (record { snpa = seen.sender; pdu = pdu_view seen.pdu; octets = seen.octets.now })
 seen_view (Err cause) = Err cause
 
 -- a datagram that came on a circuit, with what was found in it (own)
-pub record OpenedOf : Type 0 where
+pub record OpenedView : Type 0 where
   pub circuit : ℕ
   pub octets : List ℕ
   pub seen : Result SeenView DropCause
@@ -45,32 +47,34 @@ refused_or None seen = Ok seen
 refused_or (Some cause) seen = Err cause
 
 -- a PDU of so many octets, or the cause of a drop
-abbrev pub seen_pdu : DeskOf → DeskCircuit → Snpa → List ℕ → Result (PduView × ℕ) PduFault
-    → Result SeenView DropCause
+abbrev pub seen_pdu : DeskView → DeskCircuit → Snpa → List ℕ
+    → Result (PduView × ℕ) PduFault → Result SeenView DropCause
 seen_pdu desk c snpa octets (Err fault) = Err (cause.Pdu fault)
 seen_pdu desk c snpa octets (Ok found) =
     let whole = take found.1 octets in
     refused_or (first_failing (tests_of desk c found.0 whole))
     (record { snpa = snpa; pdu = found.0; octets = whole })
 
-abbrev pub seen_frame : DeskOf → DeskCircuit → Result (Snpa × List ℕ) FrameFault → Result SeenView DropCause
+abbrev pub seen_frame : DeskView → DeskCircuit → Result (Snpa × List ℕ) FrameFault
+    → Result SeenView DropCause
 seen_frame desk c (Err fault) = Err (cause.Frame fault)
 seen_frame desk c (Ok parts) = seen_pdu desk c parts.0 parts.1 (decoded parts.1)
 
 -- what a desk finds in a datagram on a circuit
-unfoldable pub seen_on : DeskOf → DeskCircuit → List ℕ → Result SeenView DropCause
+unfoldable pub seen_on : DeskView → DeskCircuit → List ℕ → Result SeenView DropCause
 seen_on desk c datagram = seen_frame desk c (unframed datagram)
 
 -- the same on the circuit of a number; on one that isn't there no PDU goes (own)
-abbrev pub seen_by : DeskOf → Option DeskCircuit → List ℕ → Result SeenView DropCause
+abbrev pub seen_by : DeskView → Option DeskCircuit → List ℕ → Result SeenView DropCause
 seen_by desk None datagram = Err cause.WrongKind
 seen_by desk (Some c) datagram = seen_on desk c datagram
 
-abbrev pub seen_at : DeskOf → ℕ → List ℕ → Result SeenView DropCause
+abbrev pub seen_at : DeskView → ℕ → List ℕ → Result SeenView DropCause
 seen_at desk number datagram = seen_by desk (circuit_at desk number) datagram
 
--- what the desk finds is what was found: so a desk opened it, or another with the same to say of it (own)
-abbrev pub IsOpenedBy : DeskOf → OpenedOf → Type 0
+-- what the desk finds is what was found: so a desk opened it, or another with the same to say of
+-- it (own)
+abbrev pub IsOpenedBy : DeskView → OpenedView → Type 0
 IsOpenedBy desk opened = opened.seen ≡ seen_at desk opened.circuit opened.octets
 
 -- ---- what it says

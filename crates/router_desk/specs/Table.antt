@@ -1,5 +1,7 @@
--- The tests of a PDU's octets that need no state, in their order, each with the cause of a drop where it fails (own: the order).
-use Rattle.std.specs.Prelude.{ℕ, nat_le, Bool, true, false, ◌||◌, List, [], ◌∷◌, length, Option, Some, None, is_none, if◌then◌else◌}
+-- The tests of a PDU's octets that need no state, in their order, each with the cause of a drop
+-- where it fails (own: the order).
+use Rattle.std.specs.Prelude.{◌≡◌, ℕ, nat_le, Bool, true, ◌||◌, List, [], ◌∷◌, length, Option, Some, None, is_none, if◌then◌else◌}
+use Rattle.std.specs.List.{AllByRecursion}
 use Rattle.std.specs.Option.{unwrap_or}
 use Rattle.isis_base.specs.declared.level.CircuitKind.{CircuitKind}
 use Rattle.isis_base.specs.declared.pdu_kind.PduKind.{PduKind}
@@ -15,7 +17,7 @@ use Rattle.isis_datagram.specs.Tests.{has_number, is_summed}
 use Rattle.router_desk.specs.declared.cause.DropCause.{DropCause}
 use Rattle.router_desk.specs.declared.cause.DropCause.TheVariants as cause
 use Rattle.router_desk.specs.declared.desk_circuit.DeskCircuit.{DeskCircuit}
-use Rattle.router_desk.specs.Desks.{DeskOf, is_lan, is_point}
+use Rattle.router_desk.specs.Desks.{DeskView, is_lan, is_point}
 use Rattle.router_desk.specs.Values.{value_place}
 
 -- a test, and the cause where it fails (own)
@@ -25,6 +27,10 @@ pub record Test : Type 0 where
 
 abbrev pub row : Bool → DropCause → Test
 row holds cause = record { holds = holds; cause = cause }
+
+-- each test holds
+abbrev pub AllHold : List Test → Type 0
+AllHold tests = AllByRecursion (λ test. test.holds ≡ true) tests
 
 -- the cause of the first test that fails
 abbrev pub first_failing : List Test → Option DropCause
@@ -61,7 +67,7 @@ auth_fault_under None octets header = None
 auth_fault_under (Some key) octets header = auth_fault key octets header
 
 -- the tests of a PDU whose octets are these
-abbrev pub tests_of : DeskOf → DeskCircuit → PduView → List ℕ → List Test
+abbrev pub tests_of : DeskView → DeskCircuit → PduView → List ℕ → List Test
 tests_of desk c pdu octets =
     let kind = kind_of pdu in
     let auth = auth_fault_under (key_for desk.keys c.key kind) octets (header_length kind) in

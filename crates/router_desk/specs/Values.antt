@@ -10,7 +10,8 @@ use Rattle.isis_tlv.specs.Walks.{fault_of}
 use Rattle.isis_tlv.specs.Tlvs.{TlvView, tlv_list}
 use Rattle.isis_tlv.specs.Items.{areas_of, snpas_of, entries_of, three_way_of}
 
--- the fault of a TLV of a hello: areas, SNPAs and three-way values are read (ISO 10589 9.5, RFC 5303 3.1)
+-- the fault of a TLV of a hello: areas, SNPAs and three-way values are read (ISO 10589 9.5, RFC
+-- 5303 3.1)
 abbrev pub hello_fault : TlvView → Option ValueFault
 hello_fault tlv =
     if tlv.code == 1 then fault_of (areas_of tlv.value)
@@ -34,7 +35,8 @@ value_fault (kind.Psnp level) tlv = snp_fault tlv
 abbrev pub faulty_tlv : PduKind → List ℕ → Option TlvView
 faulty_tlv kind tlvs = find (λ tlv. is_some (value_fault kind tlv)) (tlv_list 0 tlvs)
 
--- the place of a TLV's fault in the PDU: where its value begins, and the fault's place in the value (own)
+-- the place of a TLV's fault in the PDU: where its value begins, and the fault's place in the
+-- value (own)
 abbrev pub place_in_pdu : PduKind → TlvView → Option ℕ
 place_in_pdu kind tlv =
     option_map (λ fault. header_length kind + tlv.place + 2 + fault.place) (value_fault kind tlv)

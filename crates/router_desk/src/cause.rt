@@ -4,7 +4,8 @@ use hmac_auth::AuthFault;
 use isis_edge::FrameFault;
 use isis_pdu::PduFault;
 
-/// Why a datagram is dropped, in the order in which it is tested (own). The first test that fails is the cause.
+/// Why a datagram is dropped, in the order in which it is tested (own). The first test that fails
+/// is the cause.
 #[derive(Clone, Copy, Debug, PartialEq, Eq)]
 pub enum DropCause {
     /// It has no frame.
@@ -19,8 +20,8 @@ pub enum DropCause {
     WrongLevel,
     /// There is a key, and the PDU isn't authentic under it (RFC 5304 3).
     Auth(AuthFault),
-    /// A TLV that must be read has a value that doesn't fit. `place` is that of the first octet of the first item that doesn't,
-    /// counted from 0 in the PDU.
+    /// A TLV that must be read has a value that doesn't fit. `place` is that of the first octet of
+    /// the first item that doesn't, counted from 0 in the PDU.
     Value { place: usize },
     /// An LSP has sequence number 0 (ISO 10589 7.3.16.1).
     ZeroNumber,

@@ -30,7 +30,8 @@ const MOST: usize = 1492;
 /// Where an LSP's ID stands, from which on its checksum counts (ISO 10589 7.3.11).
 const SUMMED: usize = 12;
 
-/// What never changes of a router's configuration: its system, its levels, the kinds of its circuits, and the keys.
+/// What never changes of a router's configuration: its system, its levels, the kinds of its
+/// circuits, and the keys.
 #[derive(Drop, Debug)]
 pub struct Desk {
     pub(crate) system: SystemId,
@@ -43,9 +44,9 @@ pub struct Desk {
 impl Model for Desk {
     ghost use Rattle.isis_datagram.specs.Numbers.{system_number};
     ghost use Rattle.isis_datagram.specs.Reading.{runs_of};
-    ghost use Rattle.router_desk.specs.Desks.{DeskOf};
+    ghost use Rattle.router_desk.specs.Desks.{DeskView};
 
-    ghost Value = { DeskOf };
+    ghost Value = { DeskView };
 
     ghost view = { λ d. record {
       system = system_number d.system;

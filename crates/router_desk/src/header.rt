@@ -1,7 +1,8 @@
 //! The fields of a PDU's header.
 use isis_base::{Level, LevelSet, LspId, NodeId, SystemId};
 
-/// The fields of a PDU's header, by its type, as `Pdu` has them beside its TLVs (ISO 10589 9.5 to 9.13).
+/// The fields of a PDU's header, by its type, as `Pdu` has them beside its TLVs (ISO 10589 9.5 to
+/// 9.13).
 #[derive(Clone, Copy, Debug)]
 pub(crate) enum Header {
     LanHello {

@@ -9,20 +9,20 @@ use std::marker::Model;
 
 /// A growing list of a configuration's parts. Contracts see it as the list.
 #[derive(Drop, Debug)]
-pub struct Parts<T> {
+pub struct ConfigList<T> {
     items: Vec<T>,
 }
 
 /// The area addresses of a router (ISO 10589 7.1.5).
-pub type Areas = Parts<AreaAddress>;
+pub type Areas = ConfigList<AreaAddress>;
 
 /// The circuits of a router; the first has number 1.
-pub type Circuits = Parts<CircuitConfig>;
+pub type Circuits = ConfigList<CircuitConfig>;
 
 /// A router's own prefixes, each with its metric.
-pub type Prefixes = Parts<(Prefix, u32)>;
+pub type Prefixes = ConfigList<(Prefix, u32)>;
 
-impl<T> Model for Parts<T> {
+impl<T> Model for ConfigList<T> {
     ghost use Rattle.std.specs.Prelude.{List};
 
     ghost Value = { List T };
@@ -30,12 +30,12 @@ impl<T> Model for Parts<T> {
     ghost view = { λ p. p.items.items };
 }
 
-impl<T> Parts<T> {
+impl<T> ConfigList<T> {
     /// The empty list. It takes no memory.
-    pub fn new(alloc: Global) -> Parts<T>
+    pub fn new(alloc: Global) -> ConfigList<T>
         ensures { result ≡ [] }
     {
-        Parts {
+        ConfigList {
             items: Vec::new(alloc),
         }
     }
@@ -74,7 +74,7 @@ impl<T> Parts<T> {
     }
 }
 
-impl<T: Drop> Parts<T> {
+impl<T: Drop> ConfigList<T> {
     /// Adds a part at the end. At `OutOfMemory` the list is as it was.
     pub fn push(&mut self, item: T) -> Result<(), OutOfMemory>
         ensures ok { OnOk result (self.new ≡ self.old ++ item ∷ []) }
@@ -85,12 +85,12 @@ impl<T: Drop> Parts<T> {
     }
 }
 
-impl<T: Copy> Parts<T> {
+impl<T: Copy> ConfigList<T> {
     /// An equal list.
-    pub fn copy(&self) -> Result<Parts<T>, OutOfMemory>
+    pub fn copy(&self) -> Result<ConfigList<T>, OutOfMemory>
         ensures { IfOk result (λ copy. copy ≡ self.now) }
     {
         let items = Vec::from_slice(self.allocator(), &self.items)?;
-        Ok(Parts { items })
+        Ok(ConfigList { items })
     }
 }

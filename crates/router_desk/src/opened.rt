@@ -21,9 +21,9 @@ pub struct Opened {
 }
 
 impl Model for Opened {
-    ghost use Rattle.router_desk.specs.Opening.{OpenedOf, result_in, LiesIn};
+    ghost use Rattle.router_desk.specs.Opening.{OpenedView, result_in, LiesIn};
 
-    ghost Value = { OpenedOf };
+    ghost Value = { OpenedView };
 
     ghost view = { λ o. record {
       circuit = o.circuit;
@@ -75,7 +75,8 @@ impl Opened {
         }
     }
 
-    /// The datagram's sender and PDU, or the cause of the first of these tests that failed. Nothing is decoded again.
+    /// The datagram's sender and PDU, or the cause of the first of these tests that failed.
+    /// Nothing is decoded again.
     pub fn seen(&self) -> Result<Seen<'_>, DropCause>
         ensures { seen_view result ≡ self.now.seen }
     {

@@ -1,5 +1,5 @@
 //! Whether a configuration is within the limits.
-ghost use Rattle.std.specs.Prelude.{◌≡◌, ◌≤◌, length};
+ghost use Rattle.std.specs.Prelude.{◌≡◌, ◌≤◌, ◌↔◌, IsTrue, length};
 ghost use Rattle.router_desk.specs.Configs.{prefix_number};
 ghost use Rattle.router_desk.specs.Limits as limit;
 
@@ -29,21 +29,30 @@ const PRIORITY: u8 = 127;
 const KEY: usize = 128;
 
 impl Config {
-    /// Whether this is within the limits: 1 to 3 areas; at most 64 circuits, each with a metric of at most 16,777,215, a priority
-    /// of at most 127 and a key, if any, of 1 to 128 octets; at most 4,096 prefixes, none named twice, each with a
-    /// metric of at most 4,261,412,864; and keys of 1 to 128 octets. It takes no memory.
-    #[tactic(auto, unfolding(crate::specs::Limits::is_valid))]
+    /// Whether this is within the limits: 1 to 3 areas; at most 64 circuits, each with a metric of
+    /// at most 16,777,215, a priority of at most 127 and a key, if any, of 1 to 128 octets; at
+    /// most 4,096 prefixes, none named twice, each with a metric of at most 4,261,412,864; and
+    /// keys of 1 to 128 octets. It takes no memory.
     pub fn valid(&self) -> bool
-        ensures { result ≡ limit.is_valid self.now }
+        ensures exactly { IsTrue result ↔ limit.IsValid self.now }
+        ensures value { result ≡ limit.is_valid self.now }
     {
-        1 <= self.areas.len()
-            && self.areas.len() <= AREAS
-            && self.circuits.len() <= CIRCUITS
-            && fit_circuits(self.circuits.as_slice())
-            && fit_prefixes(self.prefixes.as_slice())
-            && fits_key(&self.area_key)
-            && fits_key(&self.domain_key)
+        is_valid(self)
     }
+}
+
+/// Whether a configuration is within the limits, test by test.
+#[tactic(auto, unfolding(crate::specs::Limits::is_valid))]
+fn is_valid(config: &Config) -> bool
+    ensures { result ≡ limit.is_valid config.now }
+{
+    1 <= config.areas.len()
+        && config.areas.len() <= AREAS
+        && config.circuits.len() <= CIRCUITS
+        && fit_circuits(config.circuits.as_slice())
+        && fit_prefixes(config.prefixes.as_slice())
+        && fits_key(&config.area_key)
+        && fits_key(&config.domain_key)
 }
 
 /// Whether each circuit is within the limits.

@@ -9,8 +9,9 @@ ghost use Rattle.router_desk.specs.Values.{hello_fault, snp_fault, value_fault, 
 use isis_base::PduKind;
 use isis_tlv::{Item, Items, Tlv, Tlvs, ValueFault, areas, entries, snpas, three_way_value};
 
-/// The place in the PDU of the first item that must be read and doesn't fit: area addresses, SNPAs and three-way values of a
-/// hello, entries of a sequence numbers PDU. `tlvs` are the octets behind the header.
+/// The place in the PDU of the first item that must be read and doesn't fit: area addresses, SNPAs
+/// and three-way values of a hello, entries of a sequence numbers PDU. `tlvs` are the octets
+/// behind the header.
 #[tactic(auto, unfolding(crate::specs::Values::value_place))]
 pub(crate) fn value_place(kind: PduKind, tlvs: &[u8]) -> Option<usize>
     ensures { result ≡ value_place kind tlvs.now }

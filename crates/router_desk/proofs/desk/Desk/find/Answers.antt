@@ -1,4 +1,4 @@
-use Rattle.std.proofs.Common.{rules, refl, sym, length-take-le}
+use Rattle.std.proofs.Common.{refl, sym, length-take-le}
 use Rattle.isis_pdu.specs.Views.{pdu_view}
 use Rattle.router_desk.proofs.OpenLemmas.{frame-refused, pdu-refused, test-refused, seen-here, lies-here}
 use Rattle.router_desk.proofs.desk.Desk.find.Goals as goal

@@ -14,7 +14,8 @@ use std::alloc::Global;
 impl Desk {
     /// The desk of a configuration. It has copies of the keys, so the configuration stays whole.
     pub fn new(alloc: Global, config: &Config) -> Result<Desk, OutOfMemory>
-        ensures { IfOk result (λ desk. desk ≡ desk_of (config_of config.now) (circuits_of config.now)) }
+        ensures { IfOk result (λ desk. desk
+            ≡ desk_of (config_of config.now) (circuits_of config.now)) }
     {
         let area_key = copy_of_key(&config.area_key)?;
         let domain_key = copy_of_key(&config.domain_key)?;

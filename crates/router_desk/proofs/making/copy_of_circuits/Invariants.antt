@@ -1,5 +1,5 @@
 use Rattle.std.proofs.Common.{◌≡◌, take}
-use Rattle.router_desk.proofs.desk_new.copy_of_circuits.Given as goal
+use Rattle.router_desk.proofs.making.copy_of_circuits.Given as goal
 
 -- the list has the circuits so far
 abbrev pub invariant-loop-place : goal.invariant-loop-place
