@@ -59,33 +59,36 @@ const LONG: &[u8] = b"\x83\x11\x01\x00\x1a\x01\x00\x00\x05\xd5\x00\x00\x00\x00\x
 const LONG_HELLO: &[u8] =
     b"\x83\x14\x01\x00\x11\x01\x00\x00\x03\x00\x00\x00\x00\x00\x02\x00\x1e\x05\xd5\x01";
 
-/// What a configuration is made of, in numbers.
-#[derive(Clone, Copy, Debug)]
-struct Sizes {
-    areas: usize,
-    circuits: usize,
-    metric: u32,
-    priority: u8,
-    key: usize,
-    prefixes: u32,
-    step: u32,
-    prefix_metric: u32,
-    area_key: usize,
-    domain_key: usize,
-}
-
-const LEAST: Sizes = Sizes {
-    areas: 1,
-    circuits: 1,
-    metric: 0,
-    priority: 0,
-    key: 1,
-    prefixes: 0,
-    step: 1,
-    prefix_metric: 0,
-    area_key: 1,
-    domain_key: 1,
-};
+/// How many areas and circuits, the metric, priority and key octets of each circuit, how many prefixes,
+/// how far their addresses are apart, their metric, the octets of the area and of the domain key; and
+/// 1 where that is within the limits.
+const LIMITS: &str = "\
+1 1 0 0 1 0 1 0 1 1 1
+0 1 0 0 1 0 1 0 1 1 0
+3 1 0 0 1 0 1 0 1 1 1
+4 1 0 0 1 0 1 0 1 1 0
+1 0 0 0 1 0 1 0 1 1 1
+1 64 0 0 1 0 1 0 1 1 1
+1 65 0 0 1 0 1 0 1 1 0
+1 1 16777215 0 1 0 1 0 1 1 1
+1 1 16777216 0 1 0 1 0 1 1 0
+1 1 0 127 1 0 1 0 1 1 1
+1 1 0 128 1 0 1 0 1 1 0
+1 1 0 0 0 0 1 0 1 1 0
+1 1 0 0 128 0 1 0 1 1 1
+1 1 0 0 129 0 1 0 1 1 0
+1 1 0 0 1 4096 1 0 1 1 1
+1 1 0 0 1 4097 1 0 1 1 0
+1 1 0 0 1 4096 2097152 0 1 1 0
+1 1 0 0 1 2 0 0 1 1 0
+1 1 0 0 1 1 1 4261412864 1 1 1
+1 1 0 0 1 1 1 4261412865 1 1 0
+1 1 0 0 1 0 1 0 0 1 0
+1 1 0 0 1 0 1 0 128 1 1
+1 1 0 0 1 0 1 0 129 1 0
+1 1 0 0 1 0 1 0 1 0 0
+1 1 0 0 1 0 1 0 1 128 1
+1 1 0 0 1 0 1 0 1 129 0";
 
 /// The octets of hex digits.
 fn octets_of(alloc: Global, hex: &str) -> Result<Octets, Fail> {
@@ -102,7 +105,7 @@ fn octets_of(alloc: Global, hex: &str) -> Result<Octets, Fail> {
 }
 
 /// A key of so many octets.
-fn key_of(alloc: Global, len: usize) -> Result<Option<Octets>, OutOfMemory> {
+fn key_of(alloc: Global, len: u32) -> Result<Option<Octets>, OutOfMemory> {
     let mut key = Octets::new(alloc);
     for _ in 0..len {
         key.push(b'k')?;
@@ -159,27 +162,64 @@ fn config_of(alloc: Global, keyed: bool) -> Result<Config, Fail> {
     Ok(config)
 }
 
-/// A configuration of these sizes.
-fn sized(alloc: Global, sizes: &Sizes) -> Result<Config, Fail> {
-    let mut config = bare(alloc, LevelSet::Both);
+/// The numbers of a row.
+fn numbers_of(row: &str) -> Result<[u32; 11], Fail> {
+    let mut numbers = [0; 11];
+    let mut fields = row.split(' ');
+    for number in numbers.iter_mut() {
+        let field = fields.next().ok_or("a number")?;
+        *number = field.parse::<u32>()?;
+    }
+    Ok(numbers)
+}
+
+/// So many areas.
+fn areas_of(alloc: Global, count: u32) -> Result<Areas, Fail> {
+    let mut areas = Areas::new(alloc);
     let area = AreaAddress::new(&[0x49]).ok_or("an area")?;
-    for _ in 0..sizes.areas {
-        config.areas.push(area)?;
+    for _ in 0..count {
+        areas.push(area)?;
     }
-    for _ in 0..sizes.circuits {
-        let mut next = circuit(CircuitKind::Lan, key_of(alloc, sizes.key)?);
-        next.metric = sizes.metric;
-        next.priority = sizes.priority;
-        config.circuits.push(next)?;
+    Ok(areas)
+}
+
+/// So many circuits of a metric, a priority and a key of so many octets.
+fn circuits_of(
+    alloc: Global,
+    count: u32,
+    metric: u32,
+    priority: u32,
+    key: u32,
+) -> Result<Circuits, Fail> {
+    let mut circuits = Circuits::new(alloc);
+    for _ in 0..count {
+        let mut next = circuit(CircuitKind::Lan, key_of(alloc, key)?);
+        next.metric = metric;
+        next.priority = priority as u8;
+        circuits.push(next)?;
     }
-    for place in 0..sizes.prefixes {
-        let address = place.wrapping_mul(sizes.step);
-        let prefix = Prefix::new(address, 32).ok_or("a prefix")?;
-        config.prefixes.push((prefix, sizes.prefix_metric))?;
+    Ok(circuits)
+}
+
+/// So many prefixes, of addresses so far apart, and their metric.
+fn prefixes_of(alloc: Global, count: u32, step: u32, metric: u32) -> Result<Prefixes, Fail> {
+    let mut prefixes = Prefixes::new(alloc);
+    for place in 0..count {
+        let prefix = Prefix::new(place.wrapping_mul(step), 32).ok_or("a prefix")?;
+        prefixes.push((prefix, metric))?;
     }
-    config.area_key = key_of(alloc, sizes.area_key)?;
-    config.domain_key = key_of(alloc, sizes.domain_key)?;
-    Ok(config)
+    Ok(prefixes)
+}
+
+/// Whether the configuration of a row is within the limits.
+fn is_within(alloc: Global, row: &[u32; 11]) -> Result<bool, Fail> {
+    let mut config = bare(alloc, LevelSet::Both);
+    config.areas = areas_of(alloc, row[0])?;
+    config.circuits = circuits_of(alloc, row[1], row[2], row[3], row[4])?;
+    config.prefixes = prefixes_of(alloc, row[5], row[6], row[7])?;
+    config.area_key = key_of(alloc, row[8])?;
+    config.domain_key = key_of(alloc, row[9])?;
+    Ok(config.valid())
 }
 
 /// What a desk finds in a datagram on a circuit that it has.
@@ -193,12 +233,12 @@ fn long(alloc: Global, header: &[u8]) -> Result<Octets, Fail> {
     let mut datagram = Octets::new(alloc);
     datagram.extend(b"ISU1\x00\x00\x00\x00\x00\x02")?;
     datagram.extend(header)?;
-    while_short(&mut datagram)?;
+    add_zeros(&mut datagram)?;
     Ok(datagram)
 }
 
 /// Adds TLVs of code 8 up to 1,503 octets: of 255 octets each, and then one of those that are left.
-fn while_short(datagram: &mut Octets) -> Result<(), Fail> {
+fn add_zeros(datagram: &mut Octets) -> Result<(), Fail> {
     for _ in 0..5 {
         datagram.extend(&[8, 255])?;
         datagram.extend(&[0; 255])?;
@@ -213,30 +253,59 @@ fn while_short(datagram: &mut Octets) -> Result<(), Fail> {
     Ok(())
 }
 
+/// A row's fields: the desk, the circuit, the datagram in hex, and the outcome.
+fn fields_of(row: &str) -> Result<(bool, u8, &str, &str), Fail> {
+    let (desk, rest) = row.split_once(' ').ok_or("a desk")?;
+    let (number, rest) = rest.split_once(' ').ok_or("a circuit")?;
+    let (hex, want) = rest.split_once(' ').ok_or("an outcome")?;
+    let number = number.parse::<u8>()?;
+    Ok((desk == "keyed", number, hex, want))
+}
+
+/// The desk of a router with keys or without.
+fn desk_of(alloc: Global, keyed: bool) -> Result<Desk, Fail> {
+    let config = config_of(alloc, keyed)?;
+    let copy = config.copy()?;
+    let desk = Desk::new(alloc, &copy)?;
+    let copy = desk.copy()?;
+    Ok(copy)
+}
+
+/// Whether a datagram was seen whole, from the sender of the rows.
+fn is_seen(found: &Opened) -> bool {
+    match found.seen() {
+        Ok(seen) => seen.sender.0 == [0, 0, 0, 0, 0, 2] && seen.octets.len() >= 17,
+        Err(_) => false,
+    }
+}
+
+/// The text of what a desk finds of a row: the outcome.
+fn outcome_of(
+    rt: &impl Abort,
+    alloc: Global,
+    desk: &Desk,
+    number: u8,
+    hex: &str,
+) -> Result<String, Fail> {
+    let found = opened(rt, desk, number, octets_of(alloc, hex)?);
+    let copy = found.copy()?;
+    assert_eq!(rt; copy.circuit(), number, "at {hex}");
+    assert_eq!(rt; copy.octets(), found.octets(), "at {hex}");
+    let outcome = copy.outcome();
+    assert_eq!(rt; is_seen(&copy), outcome.is_none(), "at {hex}");
+    Ok(format!(in alloc; "{outcome:?}")?)
+}
+
 #[test]
 fn each_cause_and_each_type_once(rt: HostRuntime) -> Result<(), Fail> {
     let alloc = rt.alloc();
-    let free = Desk::new(alloc, &config_of(alloc, false)?)?.copy()?;
-    let keyed = Desk::new(alloc, &config_of(alloc, true)?.copy()?)?;
+    let free = desk_of(alloc, false)?;
+    let keyed = desk_of(alloc, true)?;
     for row in ROWS.lines() {
-        let (desk, rest) = row.split_once(' ').ok_or("a desk")?;
-        let (number, rest) = rest.split_once(' ').ok_or("a circuit")?;
-        let (hex, want) = rest.split_once(' ').ok_or("an outcome")?;
-        let desk = if desk == "keyed" { &keyed } else { &free };
-        let number = number.parse::<u8>()?;
-        let found = opened(&rt, desk, number, octets_of(alloc, hex)?).copy()?;
-        let outcome = found.outcome();
-        let says = format!(in alloc; "{outcome:?}")?;
+        let (is_keyed, number, hex, want) = fields_of(row)?;
+        let desk = if is_keyed { &keyed } else { &free };
+        let says = outcome_of(&rt, alloc, desk, number, hex)?;
         assert_eq!(rt; says.as_str(), want, "at {row}");
-        assert_eq!(rt; found.circuit(), number, "at {row}");
-        assert_eq!(rt; 2 * found.octets().len(), hex.len(), "at {row}");
-        let sender = found.seen().ok().map(|seen| seen.sender);
-        let is_seen = outcome.is_none();
-        assert_eq!(rt;
-            sender == Some(Snpa([0, 0, 0, 0, 0, 2])),
-            is_seen,
-            "at {row}"
-        );
     }
     Ok(())
 }
@@ -244,7 +313,7 @@ fn each_cause_and_each_type_once(rt: HostRuntime) -> Result<(), Fail> {
 #[test]
 fn takes_long_hellos_alone(rt: HostRuntime) -> Result<(), Fail> {
     let alloc = rt.alloc();
-    let desk = Desk::new(alloc, &config_of(alloc, false)?)?;
+    let desk = desk_of(alloc, false)?;
     let hello = opened(&rt, &desk, 1, long(alloc, LONG_HELLO)?);
     assert_eq!(rt; hello.outcome(), None);
     let psnp = opened(&rt, &desk, 1, long(alloc, LONG)?);
@@ -254,155 +323,10 @@ fn takes_long_hellos_alone(rt: HostRuntime) -> Result<(), Fail> {
 
 #[test]
 fn limits_hold_on_both_sides(rt: HostRuntime) -> Result<(), Fail> {
-    let rows = [
-        (LEAST, true),
-        (Sizes { areas: 0, ..LEAST }, false),
-        (Sizes { areas: 3, ..LEAST }, true),
-        (Sizes { areas: 4, ..LEAST }, false),
-        (
-            Sizes {
-                circuits: 0,
-                ..LEAST
-            },
-            true,
-        ),
-        (
-            Sizes {
-                circuits: 64,
-                ..LEAST
-            },
-            true,
-        ),
-        (
-            Sizes {
-                circuits: 65,
-                ..LEAST
-            },
-            false,
-        ),
-        (
-            Sizes {
-                metric: 16_777_215,
-                ..LEAST
-            },
-            true,
-        ),
-        (
-            Sizes {
-                metric: 16_777_216,
-                ..LEAST
-            },
-            false,
-        ),
-        (
-            Sizes {
-                priority: 127,
-                ..LEAST
-            },
-            true,
-        ),
-        (
-            Sizes {
-                priority: 128,
-                ..LEAST
-            },
-            false,
-        ),
-        (Sizes { key: 0, ..LEAST }, false),
-        (Sizes { key: 128, ..LEAST }, true),
-        (Sizes { key: 129, ..LEAST }, false),
-        (
-            Sizes {
-                prefixes: 4096,
-                ..LEAST
-            },
-            true,
-        ),
-        (
-            Sizes {
-                prefixes: 4097,
-                ..LEAST
-            },
-            false,
-        ),
-        (
-            Sizes {
-                prefixes: 4096,
-                step: 1 << 21,
-                ..LEAST
-            },
-            false,
-        ),
-        (
-            Sizes {
-                prefixes: 2,
-                step: 0,
-                ..LEAST
-            },
-            false,
-        ),
-        (
-            Sizes {
-                prefixes: 1,
-                prefix_metric: 4_261_412_864,
-                ..LEAST
-            },
-            true,
-        ),
-        (
-            Sizes {
-                prefixes: 1,
-                prefix_metric: 4_261_412_865,
-                ..LEAST
-            },
-            false,
-        ),
-        (
-            Sizes {
-                area_key: 0,
-                ..LEAST
-            },
-            false,
-        ),
-        (
-            Sizes {
-                area_key: 128,
-                ..LEAST
-            },
-            true,
-        ),
-        (
-            Sizes {
-                area_key: 129,
-                ..LEAST
-            },
-            false,
-        ),
-        (
-            Sizes {
-                domain_key: 0,
-                ..LEAST
-            },
-            false,
-        ),
-        (
-            Sizes {
-                domain_key: 128,
-                ..LEAST
-            },
-            true,
-        ),
-        (
-            Sizes {
-                domain_key: 129,
-                ..LEAST
-            },
-            false,
-        ),
-    ];
-    for (sizes, want) in &rows {
-        let config = sized(rt.alloc(), sizes)?;
-        assert_eq!(rt; config.valid(), *want, "at {sizes:?}");
+    for line in LIMITS.lines() {
+        let row = numbers_of(line)?;
+        let within = is_within(rt.alloc(), &row)?;
+        assert_eq!(rt; within, row[10] == 1, "at {line}");
     }
     Ok(())
 }
