@@ -195,7 +195,7 @@ fn circuits_of(
     for _ in 0..count {
         let mut next = circuit(CircuitKind::Lan, key_of(alloc, key)?);
         next.metric = metric;
-        next.priority = priority as u8;
+        next.priority = u8::try_from(priority).ok().ok_or("a priority")?;
         circuits.push(next)?;
     }
     Ok(circuits)
@@ -246,7 +246,8 @@ fn add_zeros(datagram: &mut Octets) -> Result<(), Fail> {
     let left = 1501usize
         .checked_sub(datagram.len())
         .ok_or("a PDU that is too long")?;
-    datagram.extend(&[8, left as u8])?;
+    let count = u8::try_from(left).ok().ok_or("a length")?;
+    datagram.extend(&[8, count])?;
     for _ in 0..left {
         datagram.push(0)?;
     }
@@ -296,16 +297,23 @@ fn outcome_of(
     Ok(format!(in alloc; "{outcome:?}")?)
 }
 
-#[test]
-fn each_cause_and_each_type_once(rt: HostRuntime) -> Result<(), Fail> {
-    let alloc = rt.alloc();
-    let free = desk_of(alloc, false)?;
-    let keyed = desk_of(alloc, true)?;
+/// Compares what a desk finds with each row that is of a router with keys, or without.
+fn compare(rt: &impl Abort, alloc: Global, desk: &Desk, keyed: bool) -> Result<(), Fail> {
     for row in ROWS.lines() {
         let (is_keyed, number, hex, want) = fields_of(row)?;
-        let desk = if is_keyed { &keyed } else { &free };
-        let says = outcome_of(&rt, alloc, desk, number, hex)?;
-        assert_eq!(rt; says.as_str(), want, "at {row}");
+        if is_keyed == keyed {
+            let says = outcome_of(rt, alloc, desk, number, hex)?;
+            assert_eq!(rt; says.as_str(), want, "at {row}");
+        }
+    }
+    Ok(())
+}
+
+#[test]
+fn each_cause_and_each_type_once(rt: HostRuntime) -> Result<(), Fail> {
+    for keyed in [false, true] {
+        let desk = desk_of(rt.alloc(), keyed)?;
+        compare(&rt, rt.alloc(), &desk, keyed)?;
     }
     Ok(())
 }
