@@ -15,7 +15,7 @@
 //!   `found.rt`: what was found in a datagram
 //! - `opened.rt`: a datagram with what was found in it; `seen.rt`: that, lent
 //! - `values.rt`: the first value that doesn't fit
-//! - `desk.rt`: the desk and its tests; `making.rt`: desks made;
+//! - `desk.rt`: the desk and its tests; `making.rt`: desks made; `parts.rt`: what a desk knows;
 //!   `desk_circuit.rt`: what the tests look at of a circuit
 //! - `laws.rt`: what a desk finds is what a router of the model reads, and what passed the tests:
 //!   functions without a body, whose contracts are the laws
@@ -35,6 +35,7 @@ mod list;
 mod making;
 mod naming;
 mod opened;
+mod parts;
 mod seen;
 mod valid;
 mod values;

@@ -2,7 +2,9 @@
 //! by itself; the limits of a configuration from both sides; and each call once with ample memory.
 use super::*;
 use adjacency::HelloDrop;
-use isis_base::{AreaAddress, CircuitKind, LevelSet, Octets, OutOfMemory, Prefix, Snpa, SystemId};
+use isis_base::{
+    AreaAddress, CircuitKind, Level, LevelSet, Octets, OutOfMemory, Prefix, Snpa, SystemId,
+};
 use isis_pdu::{PduFault, PduFaultKind};
 use std::alloc::Global;
 use std::process::Abort;
@@ -383,5 +385,19 @@ fn lists_are_what_was_pushed(rt: HostRuntime) -> Result<(), Fail> {
     assert_eq!(rt; copy.as_slice(), list.as_slice());
     let other = circuit(CircuitKind::Lan, key_of(rt.alloc(), 3)?).copy()?;
     assert_eq!(rt; other.key.map_or(0, |key| key.len()), 3);
+    Ok(())
+}
+
+#[test]
+fn a_desk_lends_its_parts(rt: HostRuntime) -> Result<(), Fail> {
+    let desk = desk_of(rt.alloc(), true)?;
+    assert!(rt; desk.circuit_count() == 2);
+    assert_eq!(rt; desk.system(), SystemId([0, 0, 0, 0, 0, 1]));
+    assert_eq!(rt; desk.levels(), LevelSet::One);
+    assert_eq!(rt; desk.key(Level::One).map_or(0, |key| key.len()), 4);
+    assert!(rt; desk.key(Level::Two).is_none());
+    assert_eq!(rt; desk.kind(2), CircuitKind::Lan);
+    assert!(rt; desk.hello_key(1).is_some());
+    assert!(rt; desk.hello_key(2).is_none());
     Ok(())
 }
