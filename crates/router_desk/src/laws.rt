@@ -17,7 +17,8 @@ pub fn reading_law()
         ≡ read config c datagram }
 {}
 
-/// What a desk finds passed each test on the circuit that it came on: a hello is of its kind, and a level is run.
+/// What a desk finds passed each test on the circuit that it came on: a hello is of its kind, and
+/// a level is run.
 pub fn passed_law()
     ensures { (desk : DeskView) (number : ℕ) (datagram : List ℕ) (seen : SeenView)
         → seen_at desk number datagram ≡ Ok seen

@@ -1,5 +1,6 @@
-//! Each cause of a drop and a PDU of each type, from vectors.py beside src/, which packs and signs them
-//! by itself; the limits of a configuration from both sides; and each call once with ample memory.
+//! Each cause of a drop and a PDU of each type, from vectors.py beside src/, which packs and signs
+//! them by itself; the limits of a configuration from both sides; and each call once with ample
+//! memory.
 use super::*;
 use adjacency::HelloDrop;
 use isis_base::{
@@ -61,9 +62,9 @@ const LONG: &[u8] = b"\x83\x11\x01\x00\x1a\x01\x00\x00\x05\xd5\x00\x00\x00\x00\x
 const LONG_HELLO: &[u8] =
     b"\x83\x14\x01\x00\x11\x01\x00\x00\x03\x00\x00\x00\x00\x00\x02\x00\x1e\x05\xd5\x01";
 
-/// How many areas and circuits, the metric, priority and key octets of each circuit, how many prefixes,
-/// how far their addresses are apart, their metric, the octets of the area and of the domain key; and
-/// 1 where that is within the limits.
+/// How many areas and circuits, the metric, priority and key octets of each circuit, how many
+/// prefixes, how far their addresses are apart, their metric, the octets of the area and of the
+/// domain key; and 1 where that is within the limits.
 const LIMITS: &str = "\
 1 1 0 0 1 0 1 0 1 1 1
 0 1 0 0 1 0 1 0 1 1 0
@@ -147,7 +148,8 @@ fn circuit(kind: CircuitKind, key: Option<Octets>) -> CircuitConfig {
     }
 }
 
-/// A router with a point-to-point circuit 1 and a LAN 2: of both levels without keys, or of L1 with some.
+/// A router with a point-to-point circuit 1 and a LAN 2: of both levels without keys, or of L1
+/// with some.
 fn config_of(alloc: Global, keyed: bool) -> Result<Config, Fail> {
     let levels = if keyed { LevelSet::One } else { LevelSet::Both };
     let mut config = bare(alloc, levels);
@@ -239,7 +241,8 @@ fn long(alloc: Global, header: &[u8]) -> Result<Octets, Fail> {
     Ok(datagram)
 }
 
-/// Adds TLVs of code 8 up to 1,503 octets: of 255 octets each, and then one of those that are left.
+/// Adds TLVs of code 8 up to 1,503 octets: of 255 octets each, and then one of those that are
+/// left.
 fn add_zeros(datagram: &mut Octets) -> Result<(), Fail> {
     for _ in 0..5 {
         datagram.extend(&[8, 255])?;
