@@ -1,0 +1,7 @@
+-- Lemmas, by topic.
+pub mod ValueLemmas
+pub mod OpenLemmas
+pub mod ReadingLemmas
+pub mod DistinctLemmas
+pub mod PassedLemmas
+pub mod ValidLemmas

@@ -1,0 +1,10 @@
+-- The definitions: causes of a drop, what a desk is, the tests that need no state, and what is
+-- found by them.
+pub mod Causes
+pub mod Desks
+pub mod Configs
+pub mod Limits
+pub mod Headers
+pub mod Values
+pub mod Table
+pub mod Opening

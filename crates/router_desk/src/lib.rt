@@ -1,0 +1,53 @@
+//! The configuration of a router, and the desk that makes those tests of a datagram that need no
+//! state.
+//!
+//! A datagram is taken out of its frame (this project's own) and its PDU decoded (ISO 10589 9).
+//! Then come seven tests, in one fixed order, this project's own: the length of an LSP or SNP
+//! (1,492 octets), the kind of circuit that a hello goes on, the level, the authentication (RFC
+//! 5304 3), the values that must be read, the sequence number of an LSP and its checksum (ISO
+//! 10589 7.3.15.1, 7.3.16.1). The first that fails is the cause of a drop. Opening takes no
+//! memory, and what was found isn't decoded again.
+//!
+//! - `config.rt`, `circuit_config.rt`: a configuration; `list.rt`: its lists; `copies.rt`: copies;
+//!   `valid.rt`: whether it is within the limits
+//! - `cause.rt`, `naming.rt`: the causes of a drop, and their names
+//! - `header.rt`, `header_of.rt`: the fields of a PDU's header;
+//!   `found.rt`: what was found in a datagram
+//! - `opened.rt`: a datagram with what was found in it; `seen.rt`: that, lent
+//! - `values.rt`: the first value that doesn't fit
+//! - `desk.rt`: the desk and its tests; `making.rt`: desks made; `parts.rt`: what a desk knows;
+//!   `desk_circuit.rt`: what the tests look at of a circuit
+//! - `laws.rt`: what a desk finds is what a router of the model reads, and what passed the tests:
+//!   functions without a body, whose contracts are the laws
+#![tactic(auto)]
+
+mod cause;
+mod circuit_config;
+mod config;
+mod copies;
+mod desk;
+mod desk_circuit;
+mod found;
+mod header;
+mod header_of;
+pub mod laws;
+mod list;
+mod making;
+mod naming;
+mod opened;
+mod parts;
+mod seen;
+mod valid;
+mod values;
+
+pub use cause::DropCause;
+pub use circuit_config::CircuitConfig;
+pub use config::{Change, Config};
+pub use desk::Desk;
+pub use isis_model::DropName;
+pub use list::{Areas, Circuits, ConfigList, Prefixes};
+pub use opened::Opened;
+pub use seen::Seen;
+
+#[cfg(test)]
+mod tests;
