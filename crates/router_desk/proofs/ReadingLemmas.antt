@@ -201,38 +201,38 @@ values-read (kind.Psnp level) tlvs = place-none _ tlvs ∙ snp-list (kind.Psnp l
 
 -- ---- tests
 
-lan-again : (lan : Bool) → is_lan (kind_of_circuit lan) ≡ lan
-lan-again true = refl
-lan-again false = refl
+lan-reads_back : (lan : Bool) → is_lan (kind_of_circuit lan) ≡ lan
+lan-reads_back true = refl
+lan-reads_back false = refl
 
-point-again : (lan : Bool) → is_point (kind_of_circuit lan) ≡ not lan
-point-again true = refl
-point-again false = refl
+point-reads_back : (lan : Bool) → is_point (kind_of_circuit lan) ≡ not lan
+point-reads_back true = refl
+point-reads_back false = refl
 
-goes-again : (c : Circuit) (its : PduKind) → goes_on (kind_of_circuit c.lan) its ≡ model.goes_on c its
-goes-again c (kind.LanHello level) = lan-again c.lan
-goes-again c kind.PointHello = point-again c.lan
-goes-again c (kind.Lsp level) = refl
-goes-again c (kind.Csnp level) = refl
-goes-again c (kind.Psnp level) = refl
+goes-reads_back : (c : Circuit) (its : PduKind) → goes_on (kind_of_circuit c.lan) its ≡ model.goes_on c its
+goes-reads_back c (kind.LanHello level) = lan-reads_back c.lan
+goes-reads_back c kind.PointHello = point-reads_back c.lan
+goes-reads_back c (kind.Lsp level) = refl
+goes-reads_back c (kind.Csnp level) = refl
+goes-reads_back c (kind.Psnp level) = refl
 
-run-again : (config : Config) (its : PduKind) → is_run config.runs its ≡ model.is_run config its
-run-again config (kind.LanHello level) = refl
-run-again config kind.PointHello = refl
-run-again config (kind.Lsp level) = refl
-run-again config (kind.Csnp level) = refl
-run-again config (kind.Psnp level) = refl
+run-reads_back : (config : Config) (its : PduKind) → is_run config.runs its ≡ model.is_run config its
+run-reads_back config (kind.LanHello level) = refl
+run-reads_back config kind.PointHello = refl
+run-reads_back config (kind.Lsp level) = refl
+run-reads_back config (kind.Csnp level) = refl
+run-reads_back config (kind.Psnp level) = refl
 
-key-again : (config : Config) (c : Circuit) (its : PduKind) → key_for config.keys c.key its ≡ model.key_for config c its
-key-again config c (kind.LanHello level) = refl
-key-again config c kind.PointHello = refl
-key-again config c (kind.Lsp level) = refl
-key-again config c (kind.Csnp level) = refl
-key-again config c (kind.Psnp level) = refl
+key-reads_back : (config : Config) (c : Circuit) (its : PduKind) → key_for config.keys c.key its ≡ model.key_for config c its
+key-reads_back config c (kind.LanHello level) = refl
+key-reads_back config c kind.PointHello = refl
+key-reads_back config c (kind.Lsp level) = refl
+key-reads_back config c (kind.Csnp level) = refl
+key-reads_back config c (kind.Psnp level) = refl
 
-passes-again : (key : Option (List ℕ)) (octets : List ℕ) (header : ℕ) → is_none (auth_fault_under key octets header) ≡ model.passes key octets header
-passes-again None octets header = refl
-passes-again (Some key) octets header = refl
+passes-reads_back : (key : Option (List ℕ)) (octets : List ℕ) (header : ℕ) → is_none (auth_fault_under key octets header) ≡ model.passes key octets header
+passes-reads_back None octets header = refl
+passes-reads_back (Some key) octets header = refl
 
 -- a test by the name of its cause
 abbrev named : Test → model.Test
@@ -249,11 +249,11 @@ first-named (test ∷ tests) = by test.holds (first-named tests)
 tests-named : (config : Config) (circuits : List Circuit) (c : Circuit) (pdu : PduView) (octets : List ℕ) → map named (tests_of (desk_of config circuits) (desk_circuit c) pdu octets) ≡ model.tests_of config c pdu octets
 tests-named config circuits c pdu octets =
     let its = kind_of pdu in
-    let goes = goes-again c its in
-    let run = run-again config its in
+    let goes = goes-reads_back c its in
+    let run = run-reads_back config its in
     let auth =
-    passes-again (key_for config.keys c.key its) octets (header_length its)
-    ∙ ap (λ (key : Option (List ℕ)). model.passes key octets (header_length its)) (key-again config c its) in
+    passes-reads_back (key_for config.keys c.key its) octets (header_length its)
+    ∙ ap (λ (key : Option (List ℕ)). model.passes key octets (header_length its)) (key-reads_back config c its) in
     let values = values-read its (tlvs_of_pdu pdu) in
     λ i.
     model.row (is_hello its || leb (length octets) 1492) drop.TooLong
