@@ -1,0 +1,8 @@
+pub mod HeaderLemmas
+pub mod CellLemmas
+pub mod BookLemmas
+pub mod RowLemmas
+pub mod WalkLemmas
+pub mod MarkLemmas
+pub mod KindLemmas
+pub mod SpareLemmas

@@ -1,0 +1,11 @@
+use Rattle.std.proofs.Common.{◌≡◌, length}
+use Rattle.isis_base.specs.Identifiers.{lsp_number}
+use Rattle.lsp_store.specs.Maps.{between}
+use Rattle.flag_sync.specs.Marks.{some_pass, is_unlisted}
+use Rattle.flag_sync.proofs.range.has_missed.Given as goal
+
+abbrev pub invariant-loop-id : goal.invariant-loop-id
+invariant-loop-id l = some_pass (is_unlisted l.listed) l.left ≡ some_pass (is_unlisted l.listed) (between (lsp_number l.fn.start) (lsp_number l.fn.end) l.store.entries)
+
+abbrev pub decreases-loop-id : goal.decreases-loop-id
+decreases-loop-id l = length l.left

@@ -1,0 +1,44 @@
+//! The flags by which LSPs are flooded and acknowledged, beside one level's database (ISO 10589
+//! 7.3.15 to 7.3.17).
+//!
+//! A book has an entry and a row of flags for each LSP ID. The tables for LSPs and for sequence
+//! number PDUs are each one function to a row, and one to what the row does; each call is proved
+//! equal to isis_model's definition, for every LSP ID and circuit. Own: rows of 64-bit words, bit
+//! c - 1 for circuit c, and that flags fall at a circuit's closing.
+//!
+//! - `book.rt`: the book; `flag_row.rt`: a row; `bits.rt`: sets of circuits; `sides.rt`: both sides
+//! - `heard.rt`: what is heard and answered; `known.rt`: what the tables ask of what is held
+//! - `lsp_rows.rt`, `snp_rows.rt`: which row is met; `hear_lsp.rt`, `hear_entry.rt`: what it does
+//! - `range.rt`: what a CSNP misses, and marks; `walks.rt`: what is due and owed
+//! - `cells.rt`: one LSP ID; `circuits.rt`: one circuit, and seconds
+//! - `deed.rt`, `row_edits.rt`: flags changed in place; `headers.rt`: entries kept, and purges
+//! - `laws.rt`: the opening of a circuit, by two calls
+#![tactic(auto)]
+
+mod bits;
+mod book;
+mod cells;
+mod circuits;
+mod deed;
+mod flag_row;
+mod headers;
+mod hear_entry;
+mod hear_lsp;
+mod heard;
+mod known;
+mod laws;
+mod lsp_rows;
+mod range;
+mod row_edits;
+mod sides;
+mod snp_rows;
+#[cfg(test)]
+mod tests;
+mod walks;
+
+pub use book::Book;
+pub use flag_row::FlagRow;
+pub use heard::{EntryAnswer, LspAnswer, LspHeard};
+pub use isis_model::Whose;
+pub use laws::opening_law;
+pub use walks::{Due, Owed};
