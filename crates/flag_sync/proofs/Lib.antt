@@ -6,3 +6,4 @@ pub mod WalkLemmas
 pub mod MarkLemmas
 pub mod KindLemmas
 pub mod SpareLemmas
+pub mod AgeLemmas

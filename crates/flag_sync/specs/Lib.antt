@@ -7,3 +7,4 @@ pub mod Deeds
 pub mod Circuits
 pub mod Walks
 pub mod Marks
+pub mod Ages

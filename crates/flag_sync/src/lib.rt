@@ -10,11 +10,12 @@
 //! - `heard.rt`: what is heard and answered; `known.rt`: what the tables ask of what is held
 //! - `lsp_rows.rt`, `snp_rows.rt`: which row is met; `hear_lsp.rt`, `hear_entry.rt`: what it does
 //! - `range.rt`: what a CSNP misses, and marks; `walks.rt`: what is due and owed
-//! - `cells.rt`: one LSP ID; `circuits.rt`: one circuit, and seconds
+//! - `cells.rt`: one LSP ID; `circuits.rt`: one circuit, and seconds; `ages.rt`: what is left
 //! - `deed.rt`, `row_edits.rt`: flags changed in place; `headers.rt`: entries kept, and purges
 //! - `laws.rt`: the opening of a circuit, by two calls
 #![tactic(auto)]
 
+mod ages;
 mod bits;
 mod book;
 mod cells;
