@@ -24,6 +24,7 @@ impl Book {
     /// purges and erases nothing.
     pub fn age_entries(&mut self)
         ensures book { book_of self.new ≡ less_left (book_of self.old) }
+        ensures rises { RisesFrom 0 (book_of self.old).cells }
         ensures rest { SameCircuits self.old self.new }
         ensures spare { self.new.store.spare ≡ self.old.store.spare }
     {
