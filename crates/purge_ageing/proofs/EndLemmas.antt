@@ -294,12 +294,14 @@ all-changed [] least s r e = absurd (grind (arith, e))
 all-changed (n ∷ ns) least s r e = cases (nat_lt 0 (rank_at s.book n)) refl e (λ g. all-changed ns (n + 1) (end_id s n) r.1 g)
   where
     cases : (t : Bool) → nat_lt 0 (rank_at s.book n) ≡ t → (t || some_keyed s.book ns) ≡ true → (some_keyed (end_id s n).book ns ≡ true → (q : ℕ) × (rank_at (end_all (end_id s n) ns).book q ≡ rank_at (end_id s n).book q → ⊥)) → (q : ℕ) × (rank_at (end_all (end_id s n) ns).book q ≡ rank_at s.book q → ⊥)
-    cases true t g h =
-        (n, λ same.
-            let some : 0 < rank_at s.book n = grind (arith, nat_tests, t) in
-            let yes : eqb n n ≡ true = grind (arith, nat_tests) in
-            let here : rank_at (end_id s n).book n ≡ rank_of (ended s.book.opened (cell_at s.book n)) = rank-end s n n ∙ rw yes refl in
-            end-other s.book.opened (cell_at s.book n) some (sym here ∙ sym (all-before ns (n + 1) n (end_id s n) (omega arith) r.1) ∙ same))
+    cases true t g h = (
+      n,
+      λ same.
+          let some : 0 < rank_at s.book n = grind (arith, nat_tests, t) in
+          let yes : eqb n n ≡ true = grind (arith, nat_tests) in
+          let here : rank_at (end_id s n).book n ≡ rank_of (ended s.book.opened (cell_at s.book n)) = rank-end s n n ∙ rw yes refl in
+          end-other s.book.opened (cell_at s.book n) some (sym here ∙ sym (all-before ns (n + 1) n (end_id s n) (omega arith) r.1) ∙ same),
+    )
     cases false t g h =
         let zero : rank_at s.book n ≡ 0 = grind (arith, nat_tests, t) in
         let found = h (keyed-rest ns (n + 1) n s (omega arith) r.1 ∙ g) in
