@@ -1,5 +1,5 @@
 -- A second less of all entries, and those that have no seconds left, as cells.
-use Rattle.std.proofs.Common.{◌≡◌, Bool, true, false, if◌then◌else◌, ℕ, ◌+◌, ◌≤◌, ◌<◌, eqb, nat_lt, nat_le, ◌&&◌, List, [], ◌∷◌, Option, Some, None, refl, sym, ap, ap₂, ◌∙◌, subst, arith}
+use Rattle.std.proofs.Common.{◌≡◌, Bool, true, false, if◌then◌else◌, ℕ, ◌+◌, ◌≤◌, eqb, nat_lt, nat_le, List, [], ◌∷◌, Some, refl, ap, arith}
 use Rattle.std.proofs.lemmas.Bool.Decides.{nat_tests}
 use Rattle.std.specs.Option.{option_map}
 use Rattle.isis_base.specs.declared.identifiers.LspId.{LspId}

@@ -1,9 +1,6 @@
 use Rattle.std.proofs.Common.{◌≡◌, List, sym, subst, ap, ◌∙◌, arith}
-use Rattle.isis_base.specs.declared.identifiers.LspId.{LspId}
-use Rattle.isis_model.specs.Cells.{Cell}
 use Rattle.isis_model.specs.Books.{Book}
 use Rattle.isis_model.specs.Sorted as sorted
-use Rattle.lsp_store.specs.declared.entry.Entry.{Entry}
 use Rattle.lsp_store.specs.Maps.{RisesFrom}
 use Rattle.lsp_store.specs.Databases.{Database}
 use Rattle.flag_sync.specs.Entries.{AllHaveHeaders}

@@ -1,9 +1,7 @@
-use Rattle.std.proofs.Common.{◌≡◌, List, Option, subst, ap, ◌∙◌}
+use Rattle.std.proofs.Common.{◌≡◌, subst, ap, ◌∙◌}
 use Rattle.std.specs.Option.{option_map}
-use Rattle.isis_base.specs.declared.identifiers.LspId.{LspId}
 use Rattle.isis_base.specs.Identifiers.{lsp_number}
 use Rattle.isis_model.specs.Sorted.{RisesFrom}
-use Rattle.lsp_store.specs.declared.entry.Entry.{Entry}
 use Rattle.lsp_store.specs.Maps.{from}
 use Rattle.flag_sync.specs.Ages.{over_from, first_of, first_over}
 use Rattle.flag_sync.specs.BookStates.{BookState, book_of}
