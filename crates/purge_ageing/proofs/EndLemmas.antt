@@ -1,5 +1,5 @@
 -- A second as two steps: a second less for all entries, and the end of those that have none left.
-use Rattle.std.proofs.Common.{◌≡◌, Bool, true, false, if◌then◌else◌, ℕ, ◌+◌, ◌-◌, ◌*◌, ◌/◌, ◌%◌, ◌≤◌, ◌<◌, eqb, nat_lt, nat_le, ◌&&◌, ◌||◌, List, [], ◌∷◌, ◌++◌, length, Option, Some, None, refl, sym, ap, ap₂, ◌∙◌, subst, arith}
+use Rattle.std.proofs.Common.{◌≡◌, Bool, true, false, if◌then◌else◌, ℕ, ◌+◌, ◌-◌, ◌*◌, ◌/◌, ◌≤◌, ◌<◌, eqb, nat_lt, nat_le, ◌&&◌, ◌||◌, List, [], ◌∷◌, ◌++◌, Option, Some, None, refl, sym, ap, ap₂, ◌∙◌, subst, arith}
 use Rattle.std.proofs.lemmas.Bool.Decides.{nat_tests}
 use Rattle.std.proofs.lemmas.List.{append_assoc}
 use Rattle.std.specs.Option.{option_map}
@@ -12,7 +12,7 @@ use Rattle.isis_model.specs.LetGos.{LetGo, let_go}
 use Rattle.isis_model.specs.Routers.{Issued, LevelState}
 use Rattle.isis_model.specs.Ageing.{less, aged, is_let_go, age_cell, age_one, age_all, age}
 use Rattle.isis_model.proofs.MapLemmas.{find-set_at, find-each}
-use Rattle.flag_sync.specs.Ages.{less_left, over_from, first_of}
+use Rattle.flag_sync.specs.Ages.{less_left, over_from}
 use Rattle.purge_ageing.specs.Ids.{Rises}
 use Rattle.purge_ageing.specs.Ends.{state_of, ended, end_id, end_all, some_keyed}
 

@@ -1,9 +1,6 @@
-use Rattle.std.proofs.Common.{◌≡◌, ◌||◌, Bool, true, false, ℕ, List, refl, sym, ap, ◌∙◌, subst, arith}
+use Rattle.std.proofs.Common.{sym, ◌∙◌}
 use Rattle.isis_base.specs.Identifiers.{lsp_number}
-use Rattle.isis_model.specs.Routers.{Issued}
-use Rattle.flag_sync.specs.Ages.{less_left, over_from}
-use Rattle.flag_sync.specs.BookStates.{BookState, book_of}
-use Rattle.purge_ageing.specs.Ends.{state_of, end_all, some_keyed}
+use Rattle.flag_sync.specs.BookStates.{book_of}
 use Rattle.purge_ageing.proofs.LoopLemmas.{turn-ends, turn-keyed, turn-fewer, ends-none, keyed-none, whole, some-changed, none-changed}
 use Rattle.purge_ageing.proofs.second.age.Goals as goal
 

@@ -1,8 +1,7 @@
 use Rattle.std.proofs.Common.{◌≡◌, ◌||◌, ℕ, List, length}
 use Rattle.isis_base.specs.Identifiers.{lsp_number}
-use Rattle.isis_model.specs.Sorted.{RisesFrom}
 use Rattle.isis_model.specs.Routers.{Issued}
-use Rattle.flag_sync.specs.Ages.{less_left, over_from}
+use Rattle.flag_sync.specs.Ages.{over_from}
 use Rattle.flag_sync.specs.BookStates.{book_of, SameCircuits}
 use Rattle.purge_ageing.specs.Ends.{state_of, end_all, some_keyed}
 use Rattle.purge_ageing.proofs.second.age.Given as goal

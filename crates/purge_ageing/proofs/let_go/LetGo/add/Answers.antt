@@ -1,8 +1,6 @@
-use Rattle.std.proofs.Common.{◌∙◌, ◌<◌, ℕ, List, sym, subst, ap, arith}
+use Rattle.std.proofs.Common.{◌∙◌, List, subst, arith}
 use Rattle.isis_base.specs.declared.identifiers.LspId.{LspId}
 use Rattle.isis_base.specs.Identifiers.{lsp_number}
-use Rattle.isis_model.specs.LetGos.{with_id}
-use Rattle.flag_sync.specs.Walks.{numbers_of}
 use Rattle.purge_ageing.specs.Ids.{IsPlace, IsGap}
 use Rattle.purge_ageing.proofs.IdLemmas.{add-all, add-held, add-new, add-full, listed-more}
 use Rattle.purge_ageing.proofs.let_go.LetGo.add.Goals as goal
