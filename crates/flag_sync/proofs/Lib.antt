@@ -7,3 +7,4 @@ pub mod MarkLemmas
 pub mod KindLemmas
 pub mod SpareLemmas
 pub mod AgeLemmas
+pub mod SaidLemmas

@@ -8,3 +8,4 @@ pub mod Circuits
 pub mod Walks
 pub mod Marks
 pub mod Ages
+pub mod Said
