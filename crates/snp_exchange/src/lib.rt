@@ -5,14 +5,18 @@
 //! memory of what they list.
 //!
 //! - `csnp.rt`: the CSNP set; `psnp.rt`: what PSNPs list; `entries.rt`: a growing list of entries
+//! - `sweep.rt`: which LSP IDs the ranges of CSNPs cover; `ranges.rt`: ranges in order
 #![tactic(auto)]
 
 mod csnp;
 mod entries;
 mod psnp;
+mod ranges;
+mod sweep;
 #[cfg(test)]
 mod tests;
 
 pub use csnp::{Piece, csnp_set};
 pub use entries::Entries;
 pub use psnp::psnp_lists;
+pub use sweep::{Sweep, Swept};
