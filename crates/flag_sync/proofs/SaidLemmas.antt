@@ -1,23 +1,22 @@
 -- What sequence number PDUs say of entries, as the definitions say it of cells.
-use Rattle.std.proofs.Common.{◌≡◌, Bool, true, false, if◌then◌else◌, ℕ, zero, suc, ◌+◌, ◌*◌, ◌%◌, ◌≤◌, ◌<◌, eqb, nat_lt, ◌&&◌, List, [], ◌∷◌, Option, Some, None, is_some, refl, sym, ap, ap₂, ◌∙◌, subst, arith}
+use Rattle.std.proofs.Common.{◌≡◌, Bool, true, false, if◌then◌else◌, ℕ, zero, suc, ◌+◌, ◌*◌, ◌≤◌, nat_lt, List, [], ◌∷◌, Option, Some, None, refl, sym, ap, ap₂, ◌∙◌, subst, arith}
 use Rattle.std.proofs.lemmas.Bool.Decides.{nat_tests}
-use Rattle.std.specs.List.{AllByRecursion}
 use Rattle.isis_base.specs.declared.identifiers.LspId.{LspId}
 use Rattle.isis_base.specs.declared.key.Key.{Key}
 use Rattle.isis_base.specs.declared.entry.LspEntry.{LspEntry}
 use Rattle.isis_base.specs.Identifiers.{lsp_number}
-use Rattle.isis_base.specs.Keys.{rank, entry_rank}
+use Rattle.isis_base.specs.Keys.{rank}
 use Rattle.isis_model.specs.Maps.{find}
 use Rattle.isis_model.specs.Sets.{has}
 use Rattle.isis_model.specs.Sorted as sorted
 use Rattle.isis_model.specs.Ranks.{is_live}
 use Rattle.isis_model.specs.Cells.{Cell}
-use Rattle.isis_model.specs.Books.{Book, cell_at}
+use Rattle.isis_model.specs.Books.{Book}
 use Rattle.isis_model.specs.Good.{IsGood, IsGoodCell, IsGoodBook}
 use Rattle.isis_model.specs.SnpTable.{SnpEntry}
 use Rattle.isis_model.specs.SnpLists.{snp_entry, entries_where}
 use Rattle.lsp_store.specs.declared.entry.Entry.{Entry}
-use Rattle.lsp_store.specs.Maps.{pair_number, RisesFrom}
+use Rattle.lsp_store.specs.Maps.{RisesFrom}
 use Rattle.flag_sync.specs.declared.flag_row.FlagRow.{FlagRow}
 use Rattle.flag_sync.specs.FlagRows.{cell_of}
 use Rattle.flag_sync.specs.Heard.{entry_of, entries_of}
@@ -39,10 +38,12 @@ found-least (p ∷ cells) least n c r e =
 
 pub all-good : (cells : List (ℕ × Cell)) (least : ℕ) → sorted.RisesFrom least cells → ((n : ℕ) (c : Cell) → find cells n ≡ Some c → IsGoodCell c) → AllGood cells
 all-good [] least r g = tt
-all-good (p ∷ cells) least r g =
-    (g p.0 p.1 (grind (arith, nat_tests)), all-good cells (p.0 + 1) r.1 (λ n c e.
-        let le = found-least cells (p.0 + 1) n c r.1 e in
-        g n c (grind (arith, nat_tests, e, le))))
+all-good (p ∷ cells) least r g = (
+  g p.0 p.1 (grind (arith, nat_tests)),
+  all-good cells (p.0 + 1) r.1 (λ n c e.
+      let le = found-least cells (p.0 + 1) n c r.1 e in
+      g n c (grind (arith, nat_tests, e, le))),
+)
 
 pub good-cells : (b : Book) → IsGoodBook b → (n : ℕ) (c : Cell) → find b.cells n ≡ Some c → IsGoodCell c
 good-cells b g n c e = (subst (IsGood n) e (g.at n)).1
