@@ -6,3 +6,5 @@ pub mod WalkLemmas
 pub mod MarkLemmas
 pub mod KindLemmas
 pub mod SpareLemmas
+pub mod AgeLemmas
+pub mod SaidLemmas

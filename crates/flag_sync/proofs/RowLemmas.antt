@@ -28,7 +28,7 @@ snp-known w known held h k = rw (k.key, k.sum) refl
 
 -- a key is held that an LSP is confused with
 pub confused-held : (w : Whose) (held : Option Cell) (h : Heard) → 0 < h.rank → lsp_case w held h ≡ lsp.Confused → 0 < rank_of held
-confused-held w held h some = each-row (λ row. row ≡ lsp.Confused → 0 < rank_of held) w held h (λ _ _ e. cc) (λ _ e. cc) (λ _ e. cc) (λ same _. omega (arith, same, some)) (λ _ e. cc) (λ _ e. cc) (λ _ e. cc)
+confused-held w held h some = each-row (λ row. row ≡ lsp.Confused → 0 < rank_of held) w held h (λ _ _ _ e. cc) (λ _ _ e. cc) (λ _ _ e. cc) (λ same _ _. omega (arith, same, some)) (λ _ e. cc) (λ _ e. cc) (λ _ e. cc)
 
 live-some : (rank : ℕ) → is_live rank ≡ true → 0 < rank
 live-some rank e = grind (arith, nat_tests, e)

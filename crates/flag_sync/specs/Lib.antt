@@ -7,3 +7,5 @@ pub mod Deeds
 pub mod Circuits
 pub mod Walks
 pub mod Marks
+pub mod Ages
+pub mod Said

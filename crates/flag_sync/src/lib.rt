@@ -9,12 +9,14 @@
 //! - `book.rt`: the book; `flag_row.rt`: a row; `bits.rt`: sets of circuits; `sides.rt`: both sides
 //! - `heard.rt`: what is heard and answered; `known.rt`: what the tables ask of what is held
 //! - `lsp_rows.rt`, `snp_rows.rt`: which row is met; `hear_lsp.rt`, `hear_entry.rt`: what it does
-//! - `range.rt`: what a CSNP misses, and marks; `walks.rt`: what is due and owed
-//! - `cells.rt`: one LSP ID; `circuits.rt`: one circuit, and seconds
+//! - `range.rt`: what a CSNP misses, and marks; `walks.rt`: what is due and owed; `said.rt`: what
+//!   sequence number PDUs say
+//! - `cells.rt`: one LSP ID; `circuits.rt`: one circuit, and seconds; `ages.rt`: what is left
 //! - `deed.rt`, `row_edits.rt`: flags changed in place; `headers.rt`: entries kept, and purges
 //! - `laws.rt`: the opening of a circuit, by two calls
 #![tactic(auto)]
 
+mod ages;
 mod bits;
 mod book;
 mod cells;
@@ -30,6 +32,7 @@ mod laws;
 mod lsp_rows;
 mod range;
 mod row_edits;
+mod said;
 mod sides;
 mod snp_rows;
 #[cfg(test)]
@@ -41,4 +44,5 @@ pub use flag_row::FlagRow;
 pub use heard::{EntryAnswer, LspAnswer, LspHeard};
 pub use isis_model::Whose;
 pub use laws::opening_law;
+pub use said::{Keys, SaidOwed};
 pub use walks::{Due, Owed};

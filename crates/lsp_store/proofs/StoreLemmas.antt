@@ -2,9 +2,9 @@
 use Rattle.std.proofs.Common.{◌≡◌, ℕ, ◌+◌, ◌<◌, ◌≤◌, ◌⊎◌, inl, inr, List, length, Option, Some, None, is_some, IsSome, if◌then◌else◌, sym, ap, subst, arith}
 use Rattle.isis_base.specs.declared.identifiers.LspId.{LspId}
 use Rattle.isis_base.specs.Identifiers.{lsp_number}
-use Rattle.lsp_store.specs.Maps.{find, put, erase, change_at, RisesFrom}
+use Rattle.lsp_store.specs.Maps.{find, put, erase, change_at, change_all, RisesFrom}
 use Rattle.lsp_store.proofs.MapLemmas.{length-put, length-erase, choose}
-use Rattle.lsp_store.proofs.ChangeLemmas.{length-change_at}
+use Rattle.lsp_store.proofs.ChangeLemmas.{length-change_at, length-change_all}
 
 most-some : {T : Type 0} (o : Option T) (n : ℕ) → IsSome o → n ≤ 65536 → (if is_some o then n else n + 1) ≤ 65536
 most-some (Some v) n some le = le
@@ -27,3 +27,6 @@ most-erase m n le =
 
 pub most-change : {T : Type 0} (f : T → T) (m : List (LspId × T)) (n : ℕ) → length m ≤ 65536 → length (change_at f m n) ≤ 65536
 most-change f m n le = let len = length-change_at f n m in omega (arith, len, le)
+
+pub most-all : {T : Type 0} (f : T → T) (m : List (LspId × T)) → length m ≤ 65536 → length (change_all f m) ≤ 65536
+most-all f m le = let len = length-change_all f m in omega (arith, len, le)

@@ -54,6 +54,10 @@ with_change old n f = record {
       (key_of (find (change_at f old.entries n) n));
 }
 
+-- an entry with a second less left, where that isn't 0 (7.3.16.3)
+abbrev pub one_less : Entry → Entry
+one_less entry = record entry { left = entry.left - 1 }
+
 -- when an entry isn't put: the LSP ID has none, and 65,536 are there; or else it has none, and no
 -- room is spare
 abbrev pub PutCause : Database → ℕ → StoreFault → Type 0

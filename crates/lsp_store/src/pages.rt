@@ -1,7 +1,7 @@
 //! An ordered map from LSP IDs, in pages.
 ghost use Rattle.std.specs.Prelude.{◌≡◌, ℕ, ◌+◌, ◌<◌, ◌≤◌, ◌-◌, ◌^◌, ◌⊎◌, [], length, max, OnOk, OnErr, IfOk, IfErr, IsOk, IsSome, MatchOption, None, Some, vec_len, vec_capacity};
 ghost use Rattle.isis_base.specs.Identifiers.{lsp_number};
-ghost use Rattle.lsp_store.specs.Maps.{RisesFrom, find, put, erase, between, change_at, change_all};
+ghost use Rattle.lsp_store.specs.Maps.{RisesFrom, find, put, erase, between, from, change_at, change_all};
 ghost use Rattle.lsp_store.specs.Places.{AllFilled, AllEmpty, HasRoom, flatten};
 ghost use Rattle.lsp_store.specs.PageMaps.{with_put, without};
 ghost use Rattle.lsp_store.specs.Rooms.{IsEnough, AreDense};
@@ -12,7 +12,7 @@ use crate::edits::{put_held, put_new, take_out};
 use crate::page::Page;
 use crate::pairs::Pairs;
 use crate::places::{search, value_at};
-use crate::range::{PageRange, range_of};
+use crate::range::{PageRange, pairs_from, range_of};
 use crate::rooms::{claim, fill_pool, pages_for};
 use isis_base::{LspId, OutOfMemory};
 use std::alloc::Global;
@@ -180,6 +180,14 @@ impl<T: Drop> Pages<T> {
         ensures { result ≡ self.now.entries }
     {
         Pairs::new(&[], &self.pages)
+    }
+
+    /// The pairs from an LSP ID on, in order.
+    pub fn pairs_from(&self, start: LspId) -> Pairs<'_, T>
+        ensures { result ≡ from (lsp_number start) self.now.entries }
+    {
+        let (here, rest) = pairs_from(&self.pages, start.to_number());
+        Pairs::new(here, rest)
     }
 
     /// Changes the LSP ID's value in place, where it has one.

@@ -60,7 +60,7 @@ pub(crate) fn range_of<T>(pages: &[Page<T>], start: u64, end: u64) -> PageRange<
 }
 
 /// The pairs from a number on, of which some are at hand.
-fn pairs_from<T>(pages: &[Page<T>], start: u64) -> (&[(LspId, T)], &[Page<T>])
+pub(crate) fn pairs_from<T>(pages: &[Page<T>], start: u64) -> (&[(LspId, T)], &[Page<T>])
     requires filled { AllFilled pages.now }
     requires rises { RisesFrom 0 (flatten pages.now) }
     ensures same { result.0.now ++ flatten result.1.now ≡ from start (flatten pages.now) }

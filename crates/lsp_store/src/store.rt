@@ -1,9 +1,9 @@
 //! One level's link state database.
 ghost use Rattle.std.specs.Prelude.{◌≡◌, ℕ, ◌+◌, ◌<◌, ◌≤◌, [], length, max, OnOk, OnErr, IfOk, IfErr, IsOk, IsSome, MatchOption, None, Some, Err, true, false, ◌⊎◌, ◌-◌, ◌^◌};
 ghost use Rattle.isis_base.specs.Identifiers.{lsp_number};
-ghost use Rattle.lsp_store.specs.Maps.{RisesFrom, find, between};
+ghost use Rattle.lsp_store.specs.Maps.{RisesFrom, find, between, change_all};
 ghost use Rattle.lsp_store.specs.declared.fault.StoreFault.TheVariants.{Full, OutOfMemory};
-ghost use Rattle.lsp_store.specs.Databases.{count_after, key_of, with_entry, without_entry, with_change, PutCause, ReserveCause, is_live, is_live_key, live_of};
+ghost use Rattle.lsp_store.specs.Databases.{count_after, key_of, with_entry, without_entry, with_change, one_less, PutCause, ReserveCause, is_live, is_live_key, live_of};
 
 use crate::change::Change;
 use crate::entry::Entry;
@@ -17,6 +17,20 @@ use std::marker::Model;
 
 /// The most entries of a store.
 pub const ENTRY_LIMIT: usize = 65_536;
+
+/// A second less of what an entry has left, where that isn't 0.
+#[derive(Drop)]
+struct SecondLess;
+
+impl Change<Entry> for SecondLess {
+    ghost use Rattle.lsp_store.specs.Databases.{one_less};
+
+    ghost changed = { λ _ entry. one_less entry };
+
+    fn change(&self, entry: &mut Entry) {
+        entry.left = entry.left.saturating_sub(1);
+    }
+}
 
 /// The link state database of one level.
 #[derive(Drop)]
@@ -197,6 +211,14 @@ impl Store {
         let before = self.key(id);
         self.pages.change(id, change);
         self.changes = recount(self.changes, before, self.key(id));
+    }
+
+    /// A second less of what each entry has left, where that isn't 0 (ISO 10589 7.3.16.3).
+    pub fn age(&mut self)
+        ensures { self.new
+            ≡ record self.old { entries = change_all one_less self.old.entries } }
+    {
+        self.pages.change_all(&SecondLess);
     }
 
     /// The key that the LSP ID's entry has; none where it has no entry, or an empty one.

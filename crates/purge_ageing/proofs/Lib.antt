@@ -1,0 +1,4 @@
+pub mod SearchLemmas
+pub mod IdLemmas
+pub mod EndLemmas
+pub mod LoopLemmas

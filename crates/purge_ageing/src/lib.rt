@@ -1,0 +1,23 @@
+//! Lifetimes of one level's entries (ISO 10589 7.3.16.3, 7.3.16.4), and the LSP IDs that are let
+//! go.
+//!
+//! Own: empty entries last 60 seconds too; the LSP IDs whose purge was erased are recorded, and from
+//! the 4,097th different one on every LSP ID counts as recorded.
+//!
+//! A second takes no memory. It walks the database twice, and takes each entry out of its page in
+//! neither walk: the first one lowers in place what each entry has left, the second one goes from
+//! one entry that is over to the next. An entry that is over costs a few binary searches more, so
+//! the cost is that of a walk over the pages while few are.
+//!
+//! - `second.rt`: a second of a level's entries; `let_go.rt`: the LSP IDs that are let go
+//! - `ids.rt`: LSP IDs in a sorted list
+#![tactic(auto)]
+
+mod ids;
+mod let_go;
+mod second;
+#[cfg(test)]
+mod tests;
+
+pub use let_go::LetGo;
+pub use second::age;

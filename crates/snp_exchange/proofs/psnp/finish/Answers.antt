@@ -1,0 +1,11 @@
+use Rattle.std.proofs.Common.{◌≡◌, ◌<◌, length, arith}
+use Rattle.std.proofs.lemmas.Bool.Decides.{nat_tests}
+use Rattle.snp_exchange.proofs.PieceLemmas.{list-end}
+use Rattle.snp_exchange.proofs.psnp.finish.Goals as goal
+
+pub returns : goal.returns
+returns c =
+    let test = c.if-len-eq0.false in
+    let len = c.len.ensures in
+    let some : 0 < length c.args.entries = grind (arith, nat_tests, test, len) in
+    list-end c.args.lists.items c.push.new.self.items c.args.entries c.in_ok-push.ensures.items some

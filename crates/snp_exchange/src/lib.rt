@@ -1,0 +1,22 @@
+//! What sequence number PDUs say of one level's database (ISO 10589 7.3.15.3, 7.3.15.4).
+//!
+//! A CSNP set covers all LSP IDs once, in order, in pieces of 75 entries at most; PSNPs list what is
+//! owed on a circuit, 75 to a PDU (own). Both are made in one walk over the database, and hold the
+//! memory of what they list.
+//!
+//! - `csnp.rt`: the CSNP set; `psnp.rt`: what PSNPs list; `entries.rt`: a growing list of entries
+//! - `sweep.rt`: which LSP IDs the ranges of CSNPs cover; `ranges.rt`: ranges in order
+#![tactic(auto)]
+
+mod csnp;
+mod entries;
+mod psnp;
+mod ranges;
+mod sweep;
+#[cfg(test)]
+mod tests;
+
+pub use csnp::{Piece, csnp_set};
+pub use entries::Entries;
+pub use psnp::psnp_lists;
+pub use sweep::{Sweep, Swept};
