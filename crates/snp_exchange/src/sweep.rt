@@ -59,12 +59,7 @@ impl Sweep {
         ensures swept { IfOk result (λ swept. IsSwept swept self.new) }
         ensures err { OnErr result (self.new ≡ self.old) }
     {
-        match with_range(
-            self.alloc,
-            &self.ranges,
-            start.to_number(),
-            end.to_number(),
-        ) {
+        match with_range(self.alloc, &self.ranges, start.to_number(), end.to_number()) {
             Ok(ranges) => self.ranges = ranges,
             Err(fault) => return Err(fault),
         }

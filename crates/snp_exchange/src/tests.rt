@@ -151,7 +151,13 @@ fn sweeps(rt: HostRuntime) -> Result<(), Fail> {
     let first = LspId::from_number(0);
     assert_eq!(rt; sweep.take(first, id_of(75), false)?, Swept::Partial);
     assert_eq!(rt; sweep.take(behind(150), last, false)?, Swept::Partial);
-    assert_eq!(rt; sweep.take(behind(75), id_of(150), false)?, Swept::Whole { clean: true });
-    assert_eq!(rt; sweep.take(last, first, true)?, Swept::Whole { clean: false });
+    assert_eq!(rt;
+        sweep.take(behind(75), id_of(150), false)?,
+        Swept::Whole { clean: true }
+    );
+    assert_eq!(rt;
+        sweep.take(last, first, true)?,
+        Swept::Whole { clean: false }
+    );
     Ok(())
 }
