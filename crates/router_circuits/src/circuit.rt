@@ -1,0 +1,193 @@
+//! A circuit.
+ghost use Rattle.std.specs.Prelude.{◌≡◌, true, false, map, IfOk, IfSome, IsNone, MatchOption, ◌↔◌};
+ghost use Rattle.std.specs.Option.{option_map};
+ghost use Rattle.isis_model.specs.Both.{at};
+ghost use Rattle.adjacency.specs.Changes.{boot_of};
+ghost use Rattle.adjacency.specs.Lans.{AreHeard, neighbours};
+ghost use Rattle.adjacency.specs.Views.{neighbour_of, point_of};
+ghost use Rattle.router_desk.specs.Configs.{circuit_of};
+ghost use Rattle.router_circuits.specs.Facts.{IsCircuit};
+
+use crate::medium::Medium;
+use crate::sizes::point_sizes;
+use crate::timers::Timers;
+use adjacency::{Neighbour, P2pAdj};
+use isis_base::{Level, Octets, OutOfMemory};
+use router_desk::CircuitConfig;
+use std::alloc::Global;
+use std::marker::Model;
+
+/// A circuit of a router: its configuration, its adjacencies, and its counters. Contracts see it as
+/// the router's model has it.
+#[derive(Drop, Debug)]
+pub struct Circuit {
+    metric: u32,
+    pub(crate) priority: u8,
+    address: Option<u32>,
+    key: Option<Octets>,
+    pub(crate) medium: Medium,
+    pub(crate) one: Timers,
+    pub(crate) two: Timers,
+    pub(crate) hello: u8,
+}
+
+impl Model for Circuit {
+    ghost use Rattle.isis_model.specs.Routers as model;
+    ghost use Rattle.router_circuits.specs.Views.{AreSized, heard_in, is_lan, levels_in, point_in};
+
+    ghost Value = { model.Circuit };
+
+    ghost view = { λ c. record {
+      lan = is_lan c.medium;
+      metric = c.metric;
+      priority = c.priority;
+      address = c.address;
+      key = c.key;
+      point = point_in c.medium;
+      levels = levels_in (heard_in c.medium) c.one c.two;
+      hello = c.hello;
+    } };
+
+    ghost invariant = { λ c. AreSized c.medium };
+}
+
+impl Circuit {
+    /// The circuit of a configuration: nothing was heard, and a hello is due.
+    pub fn new(alloc: Global, config: &CircuitConfig) -> Result<Circuit, OutOfMemory>
+        ensures { IfOk result (λ circuit. circuit ≡ circuit_of config.now) }
+    {
+        let key = copy_of_key(&config.key)?;
+        let medium = Medium::new(alloc, config.kind)?;
+        Ok(Circuit {
+            metric: config.metric,
+            priority: config.priority,
+            address: config.address,
+            key,
+            medium,
+            one: QUIET,
+            two: QUIET,
+            hello: 0,
+        })
+    }
+
+    /// An equal circuit.
+    pub fn copy(&self) -> Result<Circuit, OutOfMemory>
+        ensures { IfOk result (λ copy. copy ≡ self.now) }
+    {
+        let key = copy_of_key(&self.key)?;
+        let medium = self.medium.copy()?;
+        Ok(Circuit {
+            metric: self.metric,
+            priority: self.priority,
+            address: self.address,
+            key,
+            medium,
+            one: self.one,
+            two: self.two,
+            hello: self.hello,
+        })
+    }
+
+    /// What always holds of a circuit. It does nothing.
+    pub fn facts(&self)
+        ensures { IsCircuit self.now }
+    {
+        self.medium.up(Level::One);
+        self.medium.up(Level::Two);
+        if let Some(point) = self.medium.point() {
+            point_sizes(point);
+        }
+    }
+
+    /// Whether it is a LAN, or else a point-to-point circuit (ISO 10589 6.3).
+    pub fn is_lan(&self) -> bool
+        ensures { result ≡ self.now.lan }
+    {
+        self.medium.is_lan()
+    }
+
+    /// The metric (RFC 5305 3).
+    pub fn metric(&self) -> u32
+        ensures { result ≡ self.now.metric }
+    {
+        self.metric
+    }
+
+    /// Sets the metric.
+    pub fn set_metric(&mut self, metric: u32)
+        ensures { self.new ≡ record self.old { metric = metric } }
+    {
+        self.metric = metric;
+    }
+
+    /// The priority on a LAN (ISO 10589 8.4.5).
+    pub fn priority(&self) -> u8
+        ensures { result ≡ self.now.priority }
+    {
+        self.priority
+    }
+
+    /// The IPv4 address.
+    pub fn address(&self) -> Option<u32>
+        ensures { result ≡ self.now.address }
+    {
+        self.address
+    }
+
+    /// The key of hellos (RFC 5304 3).
+    pub fn key(&self) -> Option<&[u8]>
+        ensures { option_map (λ key. key.now) result ≡ self.now.key }
+    {
+        match &self.key {
+            Some(key) => Some(key.as_slice()),
+            None => None,
+        }
+    }
+
+    /// The adjacency of a point-to-point circuit; `None` exactly on a LAN.
+    pub fn point(&self) -> Option<&P2pAdj>
+        ensures none { IsNone result ↔ (self.now.lan ≡ true) }
+        ensures some { IfSome result (λ point. point_of point.now ≡ self.now.point) }
+    {
+        self.medium.point()
+    }
+
+    /// All neighbours that are heard on a LAN and level, by SNPA; none on a point-to-point circuit.
+    pub fn heard(&self, level: Level) -> &[Neighbour]
+        ensures all { map neighbour_of result.now ≡ neighbours (at self.now.levels level).heard }
+        ensures heard { AreHeard (at self.now.levels level).heard }
+    {
+        self.medium.heard(level)
+    }
+
+    /// The boot number in the extended circuit ID of a point-to-point neighbour, where its state is
+    /// Up (own).
+    pub fn names_boot(&self) -> Option<u32>
+        ensures { result ≡ boot_of self.now.point }
+    {
+        match self.medium.point() {
+            Some(point) => point.names_boot(),
+            None => None,
+        }
+    }
+}
+
+/// The counters of a level on which nothing was heard.
+const QUIET: Timers = Timers {
+    csnp: 0,
+    psnp: 0,
+    due: false,
+};
+
+/// An equal key, where there is one.
+fn copy_of_key(key: &Option<Octets>) -> Result<Option<Octets>, OutOfMemory>
+    ensures { IfOk result (λ copy. copy ≡ key.now) }
+{
+    match key {
+        None => Ok(None),
+        Some(key) => {
+            let copy = key.copy()?;
+            Ok(Some(copy))
+        }
+    }
+}

@@ -1,0 +1,152 @@
+//! Who is designated on a LAN.
+ghost use Rattle.std.specs.Prelude.{◌≡◌, ℕ, ◌+◌, ◌*◌, map, if◌then◌else◌};
+ghost use Rattle.std.specs.Option.{option_map};
+ghost use Rattle.isis_model.specs.Configs.{Config};
+ghost use Rattle.isis_model.specs.Elections as model;
+ghost use Rattle.isis_model.specs.Pulls.{lan_of};
+ghost use Rattle.isis_model.specs.Routers.{Router};
+ghost use Rattle.isis_datagram.specs.Numbers.{node_number, system_number};
+ghost use Rattle.designated_is.specs.Numbers as own;
+ghost use Rattle.adjacency.specs.Views.{neighbour_of};
+ghost use Rattle.adjacency.specs.Views as views;
+ghost use Rattle.router_circuits.specs.Elections.{candidate_of, designated_of, elect, system_and_lan};
+ghost use Rattle.router_circuits.specs.Views.{IsHere};
+
+use crate::candidate::Candidate;
+use crate::circuit::Circuit;
+use crate::designated::Designated;
+use crate::numbers::{are_same_systems, node_to_number, number, snpa_to_number};
+use adjacency::Neighbour;
+use designated_is::pseudonode;
+use isis_base::{Level, NodeId, Snpa, SystemId};
+
+impl Circuit {
+    /// The designated system of a LAN and level, for a router of this system whose circuit has this
+    /// number (ISO 10589 8.4.5): the greatest of the router and its up neighbours. `None` where no
+    /// neighbour is up, and on a point-to-point circuit.
+    pub fn designated(&self, system: SystemId, circuit: u8, level: Level) -> Option<Designated>
+        ensures { (config : Config) (place : ℕ) → IsHere config place system circuit
+            → option_map designated_of result
+            ≡ option_map system_and_lan (model.designated config place self.now level) }
+    {
+        let up = self.medium.up(level);
+        if up.is_empty() {
+            return None;
+        }
+        let best = elected(self.oneself(system, circuit), up);
+        Some(designated_from(best))
+    }
+
+    /// Whether the router is designated on a LAN and level (ISO 10589 8.4.5).
+    pub fn is_designated(&self, system: SystemId, circuit: u8, level: Level) -> bool
+        ensures { (config : Config) (place : ℕ) → IsHere config place system circuit
+            → result ≡ model.is_designated config place self.now level }
+    {
+        match self.designated(system, circuit, level) {
+            Some(designated) => are_same_systems(designated.system, system),
+            None => false,
+        }
+    }
+
+    /// The LAN ID that the router's hellos say (ISO 10589 8.4.5): the designated system's, one's
+    /// own where there is none.
+    pub fn lan_id(&self, system: SystemId, circuit: u8, level: Level) -> NodeId
+        ensures { (r : Router) (place : ℕ) → IsHere r.config place system circuit
+            → node_number result ≡ lan_of r place self.now level }
+    {
+        match self.designated(system, circuit, level) {
+            Some(designated) => designated.lan,
+            None => own_lan(system, circuit),
+        }
+    }
+
+    /// Oneself as a candidate (ISO 10589 8.4.5): an SNPA is its system's ID (own).
+    fn oneself(&self, system: SystemId, circuit: u8) -> Candidate
+        ensures { (config : Config) (place : ℕ) → IsHere config place system circuit
+            → candidate_of result ≡ model.oneself config place self.now }
+    {
+        let lan = own_lan(system, circuit);
+        Candidate {
+            priority: self.priority,
+            snpa: Snpa(system.0),
+            system,
+            lan,
+        }
+    }
+}
+
+/// One's own LAN ID on a circuit: the circuit's number is its pseudonode (own).
+fn own_lan(system: SystemId, circuit: u8) -> NodeId
+    ensures number { node_number result ≡ 256 * system_number system + circuit }
+    ensures same { views.node_number result ≡ node_number result }
+    ensures system { own.system_number system ≡ system_number system }
+{
+    number(system);
+    let lan = NodeId {
+        system,
+        pseudonode: pseudonode(circuit),
+    };
+    node_to_number(lan);
+    lan
+}
+
+/// What a candidate is designated with.
+fn designated_from(best: Candidate) -> Designated
+    ensures { designated_of result ≡ system_and_lan (candidate_of best) }
+{
+    number(best.system);
+    node_to_number(best.lan);
+    Designated {
+        system: best.system,
+        lan: best.lan,
+    }
+}
+
+/// The greatest of a candidate and neighbours.
+#[tactic(auto, unfolding(crate::specs::Elections::elect))]
+fn elected(oneself: Candidate, up: &[Neighbour]) -> Candidate
+    ensures { candidate_of result ≡ elect (candidate_of oneself) (map neighbour_of up.now) }
+{
+    let mut best = oneself;
+    for neighbour in up {
+        best = greater(best, candidate(neighbour));
+    }
+    best
+}
+
+/// A neighbour as a candidate.
+fn candidate(neighbour: &Neighbour) -> Candidate
+    ensures { candidate_of result ≡ model.candidate (neighbour_of neighbour.now) }
+{
+    Candidate {
+        priority: neighbour.priority,
+        snpa: neighbour.snpa,
+        system: neighbour.system,
+        lan: neighbour.lan,
+    }
+}
+
+/// The greater of two candidates, the first where they are equal.
+fn greater(best: Candidate, other: Candidate) -> Candidate
+    ensures { candidate_of result ≡ (if model.beats (candidate_of other) (candidate_of best)
+        then candidate_of other else candidate_of best) }
+{
+    if stands_before(other, best) {
+        return other;
+    }
+    best
+}
+
+/// Whether a candidate stands before another: by priority, then SNPA, then system.
+fn stands_before(a: Candidate, b: Candidate) -> bool
+    ensures { result ≡ model.beats (candidate_of a) (candidate_of b) }
+{
+    if a.priority != b.priority {
+        return a.priority > b.priority;
+    }
+    let (a_snpa, b_snpa) = (snpa_to_number(a.snpa), snpa_to_number(b.snpa));
+    if a_snpa != b_snpa {
+        return a_snpa > b_snpa;
+    }
+    number(a.system) > number(b.system)
+}

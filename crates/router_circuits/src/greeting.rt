@@ -1,0 +1,104 @@
+//! What a point-to-point hello does to an adjacency.
+ghost use Rattle.std.specs.Prelude.{◌≡◌, not, IfOk, IfSome, OnErr, Some};
+ghost use Rattle.std.specs.Option.{option_map};
+ghost use Rattle.isis_model.specs.Adjacencies as model;
+ghost use Rattle.isis_model.specs.Both as both;
+ghost use Rattle.isis_model.specs.HelloTests.{point_drop};
+ghost use Rattle.adjacency.specs.Changes.{IsTested};
+ghost use Rattle.adjacency.specs.Views.{config_of, hello_of, neighbour_of, point_of, runs_of, shake_of};
+ghost use Rattle.router_circuits.specs.Hellos.{IsGreeted, is_one};
+
+use crate::adjacencies::is_change;
+use crate::greeted::Greeted;
+use crate::numbers::are_same_systems;
+use adjacency::{AdjChange, HelloDrop, HelloFields, Neighbour, Own, P2pAdj};
+use isis_base::{Level, LevelSet};
+use isis_tlv::Adj;
+
+/// Takes a hello: what it did, where no test refuses it.
+pub(crate) fn greet(
+    point: &mut P2pAdj,
+    own: &Own<'_>,
+    hello: &HelloFields<'_>,
+) -> Result<Greeted, HelloDrop>
+    ensures tested { IsTested result
+        (point_drop (config_of own.now) own.now.id (hello_of hello.now)) }
+    ensures unchanged { OnErr result (point.new ≡ point.old) }
+    ensures greeted { IfOk result (λ greeted. IfSome hello.now.three_way (λ shake.
+        IsGreeted (point_of point.old) (point_of point.new)
+        (model.common_of (config_of own.now) (hello_of hello.now))
+        (hello_of hello.now) (shake_of shake) greeted)) }
+{
+    let old = *point;
+    let change = match point.hear_hello(own, hello) {
+        Ok(change) => change,
+        Err(refused) => return Err(refused),
+    };
+    let came_up = change == AdjChange::WentUp;
+    Ok(Greeted {
+        anew: !are_one(kept(&old), kept(point)),
+        moved: is_change(change),
+        one: came_up && is_open(point, Level::One),
+        two: came_up && is_open(point, Level::Two),
+    })
+}
+
+/// Whether an adjacency is up on a level.
+pub(crate) fn is_open(point: &P2pAdj, level: Level) -> bool
+    ensures { result ≡ model.point_open (point_of point.now) level }
+{
+    point.state() == Adj::Up && keeps(kept(point), level)
+}
+
+/// The neighbour that is kept.
+fn kept(point: &P2pAdj) -> Option<Neighbour>
+    ensures { option_map neighbour_of result ≡ (point_of point.now).neighbour }
+{
+    point.neighbour().copied()
+}
+
+/// Whether the neighbour that is kept has a level in common.
+fn keeps(neighbour: Option<Neighbour>, level: Level) -> bool
+    ensures { result ≡ model.keeps_level (option_map neighbour_of neighbour) level }
+{
+    match neighbour {
+        Some(neighbour) => has(neighbour.levels, level),
+        None => false,
+    }
+}
+
+/// Whether a level is one of these.
+fn has(levels: LevelSet, level: Level) -> bool
+    ensures { result ≡ both.at (runs_of levels) level }
+{
+    match (levels, level) {
+        (LevelSet::One, Level::Two) => false,
+        (LevelSet::Two, Level::One) => false,
+        _ => true,
+    }
+}
+
+/// Whether two neighbours are one: by system, extended circuit ID and levels in common.
+fn are_one(a: Option<Neighbour>, b: Option<Neighbour>) -> bool
+    ensures { result ≡ is_one (option_map neighbour_of a) (option_map neighbour_of b) }
+{
+    match (a, b) {
+        (Some(a), Some(b)) => {
+            are_same_systems(a.system, b.system)
+                && a.id == b.id
+                && are_same_levels(a.levels, b.levels)
+        }
+        _ => false,
+    }
+}
+
+fn are_same_levels(a: LevelSet, b: LevelSet) -> bool
+    ensures { result ≡ both.same_levels (runs_of a) (runs_of b) }
+{
+    match (a, b) {
+        (LevelSet::One, LevelSet::One) => true,
+        (LevelSet::Two, LevelSet::Two) => true,
+        (LevelSet::Both, LevelSet::Both) => true,
+        _ => false,
+    }
+}

@@ -1,0 +1,52 @@
+//! The sizes of fields, and hellos in the model's words.
+ghost use Rattle.std.specs.Prelude.{◌≡◌, ℕ, ◌<◌, ◌^◌, Bool, IfSome};
+ghost use Rattle.isis_model.specs.Adjacencies as model;
+ghost use Rattle.isis_model.specs.Both.{Both};
+ghost use Rattle.adjacency.specs.Views as views;
+ghost use Rattle.router_circuits.specs.Hellos.{hello_of, shakes_of};
+ghost use Rattle.router_circuits.specs.Views.{IsSized};
+
+use crate::numbers::{node_to_number, number, snpa_to_number};
+use adjacency::{HelloFields, Neighbour, P2pAdj};
+use isis_tlv::ThreeWay;
+
+/// A hello's fields have the standard's sizes, and both ways to see it as the model's are one.
+pub(crate) fn hello_sizes(hello: &HelloFields<'_>)
+    ensures same { views.hello_of hello.now ≡ hello_of hello.now }
+    ensures sized { (common : Both Bool) (extended : ℕ) → extended < 2 ^ 32
+        → IsSized (model.neighbour_of (hello_of hello.now) common extended) }
+{
+    let hello = *hello;
+    number(hello.source);
+    snpa_to_number(hello.snpa);
+    node_to_number(hello.lan);
+    shake_sizes(hello.three_way);
+}
+
+/// The same of a three-way value.
+fn shake_sizes(three_way: Option<ThreeWay>)
+    ensures { views.shakes_of three_way ≡ shakes_of three_way }
+{
+    if let Some(shake) = three_way {
+        if let Some((system, _)) = shake.neighbour {
+            number(system);
+        }
+    }
+}
+
+/// The fields of a point-to-point neighbour have the standard's sizes.
+pub(crate) fn point_sizes(point: &P2pAdj)
+    ensures { IfSome (views.point_of point.now).neighbour IsSized }
+{
+    if let Some(neighbour) = point.neighbour() {
+        neighbour_sizes(*neighbour);
+    }
+}
+
+fn neighbour_sizes(neighbour: Neighbour)
+    ensures { IsSized (views.neighbour_of neighbour) }
+{
+    number(neighbour.system);
+    snpa_to_number(neighbour.snpa);
+    node_to_number(neighbour.lan);
+}
