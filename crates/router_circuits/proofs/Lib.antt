@@ -1,4 +1,6 @@
 -- What the check doesn't find alone, by topic: identifiers as numbers, what comes of hellos and
--- seconds, sizes, and elections.
+-- seconds, sizes, neighbours by SNPA, and elections.
 pub mod NumberLemmas
 pub mod ChangeLemmas
+pub mod SearchLemmas
+pub mod ElectLemmas

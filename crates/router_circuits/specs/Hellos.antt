@@ -18,6 +18,7 @@ use Rattle.adjacency.specs.declared.hello.AdjChange.TheVariants as change
 use Rattle.adjacency.specs.Views.{id_or_0}
 use Rattle.router_circuits.specs.declared.greeted.Greeted.{Greeted}
 use Rattle.router_circuits.specs.declared.medium.Medium.{Medium}
+use Rattle.router_circuits.specs.declared.timers.Timers.{Timers}
 use Rattle.router_circuits.specs.Views.{point_in, heard_in}
 
 -- ---- hellos in the model's words
@@ -28,6 +29,12 @@ pub record IsOwn (config : Config) (own : Own) : Type 0 where
   pub system : config.system ≡ system_number own.system
   pub areas : config.areas ≡ own.areas.now
   pub runs : config.runs ≡ runs_of own.levels
+
+-- configurations of which hellos see the same (own)
+pub record IsAlike (a b : Config) : Type 0 where
+  pub system : a.system ≡ b.system
+  pub areas : a.areas ≡ b.areas
+  pub runs : a.runs ≡ b.runs
 
 -- the system and extended circuit ID that a handshake names (RFC 5303 3.1)
 abbrev pub names_of : Option (SystemId × ℕ) → Option (ℕ × ℕ)
@@ -66,12 +73,23 @@ is_change change.Moved = true
 is_change change.WentUp = true
 is_change change.LeftUp = true
 
+-- whether it came up
+abbrev pub is_coming_up : AdjChange → Bool
+is_coming_up change.None = false
+is_coming_up change.Moved = false
+is_coming_up change.WentUp = true
+is_coming_up change.LeftUp = false
+
 -- whether two neighbours are one: by system, extended circuit ID and levels in common (own)
 abbrev pub is_one : Option Neighbour → Option Neighbour → Bool
 is_one None b = false
 is_one (Some a) None = false
 is_one (Some a) (Some b) =
     a.system == b.system && a.extended == b.extended && same_levels a.levels b.levels
+
+-- counters of a level with a CSNP set due, where one is (ISO 10589 7.3.17)
+abbrev pub with_due : Timers → Bool → Timers
+with_due timers due = record timers { due = timers.due || due }
 
 -- What a point-to-point hello did: whether the neighbour that was kept isn't its sender, whether a
 -- hello is due, and whether a CSNP set is due on each level (own).

@@ -2,11 +2,11 @@
 ghost use Rattle.std.specs.Prelude.{◌≡◌, true, false, map, [], IfOk, MatchOption};
 ghost use Rattle.isis_model.specs.Both.{at};
 ghost use Rattle.router_desk.specs.Desks as desks;
-ghost use Rattle.isis_model.specs.Seconds.{point_less};
+ghost use Rattle.isis_model.specs.Seconds.{heard_less, point_less, point_over, some_over};
 ghost use Rattle.adjacency.specs.Views.{neighbour_of, point_of, point_down};
 ghost use Rattle.adjacency.specs.Lans.{AreHeard, neighbours, ups};
 ghost use Rattle.router_circuits.specs.Hellos.{both_less, is_change, is_over};
-ghost use Rattle.router_circuits.specs.Views.{AreSized, heard_in, is_lan, point_in};
+ghost use Rattle.router_circuits.specs.Views.{AllSized, AreSized, heard_in, is_lan, point_in};
 
 use crate::medium::Medium;
 use adjacency::{AdjChange, LanAdj, Neighbour, P2pAdj};
@@ -112,14 +112,31 @@ impl Medium {
         ensures sized { AreSized self.new }
     {
         match self {
-            Medium::Point(point) => is_change(point.second()),
+            Medium::Point(point) => point_second(point),
             Medium::Lan(one, two) => {
-                let one_over = is_change(one.second());
-                let two_over = is_change(two.second());
-                one_over || two_over
+                let one_over = lan_second(one);
+                let two_over = lan_second(two);
+                one_over | two_over
             }
         }
     }
+}
+
+/// A second of a point-to-point adjacency; whether its time is over.
+fn point_second(point: &mut P2pAdj) -> bool
+    ensures less { point_of point.new ≡ point_less (point_of point.old) }
+    ensures over { result ≡ point_over (point_of point.old).neighbour }
+{
+    is_change(point.second())
+}
+
+/// A second of a level's adjacencies of a LAN; whether the time of one is over.
+fn lan_second(lan: &mut LanAdj) -> bool
+    ensures less { lan.new ≡ heard_less lan.old }
+    ensures over { result ≡ some_over lan.old }
+    ensures sized { AllSized lan.old → AllSized lan.new }
+{
+    is_change(lan.second())
 }
 
 /// Whether something became of an adjacency.

@@ -1,9 +1,9 @@
 //! A circuit.
-ghost use Rattle.std.specs.Prelude.{◌≡◌, true, false, map, IfOk, IfSome, IsNone, MatchOption, ◌↔◌};
+ghost use Rattle.std.specs.Prelude.{◌≡◌, true, false, map, IfOk, MatchOption};
 ghost use Rattle.std.specs.Option.{option_map};
 ghost use Rattle.isis_model.specs.Both.{at};
 ghost use Rattle.adjacency.specs.Changes.{boot_of};
-ghost use Rattle.adjacency.specs.Lans.{AreHeard, neighbours};
+ghost use Rattle.adjacency.specs.Lans.{AreHeard, neighbours, ups};
 ghost use Rattle.adjacency.specs.Views.{neighbour_of, point_of};
 ghost use Rattle.router_desk.specs.Configs.{circuit_of};
 ghost use Rattle.router_circuits.specs.Facts.{IsCircuit};
@@ -146,8 +146,8 @@ impl Circuit {
 
     /// The adjacency of a point-to-point circuit; `None` exactly on a LAN.
     pub fn point(&self) -> Option<&P2pAdj>
-        ensures none { IsNone result ↔ (self.now.lan ≡ true) }
-        ensures some { IfSome result (λ point. point_of point.now ≡ self.now.point) }
+        ensures { MatchOption result (self.now.lan ≡ true)
+            (λ point. (self.now.lan ≡ false) × (point_of point.now ≡ self.now.point)) }
     {
         self.medium.point()
     }
@@ -158,6 +158,14 @@ impl Circuit {
         ensures heard { AreHeard (at self.now.levels level).heard }
     {
         self.medium.heard(level)
+    }
+
+    /// The neighbours in state Up on a LAN and level, by SNPA; none on a point-to-point circuit.
+    pub(crate) fn up(&self, level: Level) -> &[Neighbour]
+        ensures up { map neighbour_of result.now ≡ ups (at self.now.levels level).heard }
+        ensures heard { AreHeard (at self.now.levels level).heard }
+    {
+        self.medium.up(level)
     }
 
     /// The boot number in the extended circuit ID of a point-to-point neighbour, where its state is

@@ -15,6 +15,7 @@ ghost use Rattle.router_circuits.specs.Views.{IsHere};
 use crate::candidate::Candidate;
 use crate::circuit::Circuit;
 use crate::designated::Designated;
+use crate::senders::some_up;
 use crate::numbers::{are_same_systems, node_to_number, number, snpa_to_number};
 use adjacency::Neighbour;
 use designated_is::pseudonode;
@@ -29,8 +30,11 @@ impl Circuit {
             → option_map designated_of result
             ≡ option_map system_and_lan (model.designated config place self.now level) }
     {
-        let up = self.medium.up(level);
-        if up.is_empty() {
+        if !self.is_lan() {
+            return None;
+        }
+        let up = self.up(level);
+        if !some_up(up) {
             return None;
         }
         let best = elected(self.oneself(system, circuit), up);

@@ -1,16 +1,19 @@
 //! What a point-to-point hello does to an adjacency.
-ghost use Rattle.std.specs.Prelude.{◌≡◌, not, IfOk, IfSome, OnErr, Some};
+ghost use Rattle.std.specs.Prelude.{◌≡◌, ◌&&◌, not, IfOk, IfSome, OnErr, Some};
 ghost use Rattle.std.specs.Option.{option_map};
+ghost use Rattle.isis_base.specs.declared.level.Level.TheVariants as level;
 ghost use Rattle.isis_model.specs.Adjacencies as model;
 ghost use Rattle.isis_model.specs.Both as both;
+ghost use Rattle.isis_model.specs.Configs.{Config};
 ghost use Rattle.isis_model.specs.HelloTests.{point_drop};
 ghost use Rattle.adjacency.specs.Changes.{IsTested};
-ghost use Rattle.adjacency.specs.Views.{config_of, hello_of, neighbour_of, point_of, runs_of, shake_of};
-ghost use Rattle.router_circuits.specs.Hellos.{IsGreeted, is_one};
+ghost use Rattle.adjacency.specs.Views.{neighbour_of, point_of, runs_of};
+ghost use Rattle.router_circuits.specs.Hellos.{IsGreeted, IsOwn, hello_of, is_change, is_coming_up, is_one};
 
 use crate::adjacencies::is_change;
 use crate::greeted::Greeted;
 use crate::numbers::are_same_systems;
+use crate::sizes::{hello_sizes, own_words};
 use adjacency::{AdjChange, HelloDrop, HelloFields, Neighbour, Own, P2pAdj};
 use isis_base::{Level, LevelSet};
 use isis_tlv::Adj;
@@ -21,26 +24,48 @@ pub(crate) fn greet(
     own: &Own<'_>,
     hello: &HelloFields<'_>,
 ) -> Result<Greeted, HelloDrop>
-    ensures tested { IsTested result
-        (point_drop (config_of own.now) own.now.id (hello_of hello.now)) }
+    ensures tested { (config : Config) → IsOwn config own.now
+        → IsTested result (point_drop config own.now.id (hello_of hello.now)) }
     ensures unchanged { OnErr result (point.new ≡ point.old) }
-    ensures greeted { IfOk result (λ greeted. IfSome hello.now.three_way (λ shake.
+    ensures greeted { (config : Config) → IsOwn config own.now
+        → IfOk result (λ greeted. IfSome (hello_of hello.now).handshake (λ shake.
         IsGreeted (point_of point.old) (point_of point.new)
-        (model.common_of (config_of own.now) (hello_of hello.now))
-        (hello_of hello.now) (shake_of shake) greeted)) }
+        (model.common_of config (hello_of hello.now)) (hello_of hello.now) shake greeted)) }
 {
+    own_words(own);
+    hello_sizes(hello);
     let old = *point;
     let change = match point.hear_hello(own, hello) {
         Ok(change) => change,
         Err(refused) => return Err(refused),
     };
-    let came_up = change == AdjChange::WentUp;
-    Ok(Greeted {
-        anew: !are_one(kept(&old), kept(point)),
+    Ok(greeted(old, *point, change))
+}
+
+/// What a hello did that made an adjacency of another.
+fn greeted(old: P2pAdj, new: P2pAdj, change: AdjChange) -> Greeted
+    ensures anew { result.anew ≡ not (is_one (point_of old).neighbour (point_of new).neighbour) }
+    ensures moved { result.moved ≡ is_change change }
+    ensures one { result.one ≡ (is_coming_up change && model.point_open (point_of new) level.One) }
+    ensures two { result.two ≡ (is_coming_up change && model.point_open (point_of new) level.Two) }
+{
+    let came_up = came_up(change);
+    Greeted {
+        anew: !are_one(kept(&old), kept(&new)),
         moved: is_change(change),
-        one: came_up && is_open(point, Level::One),
-        two: came_up && is_open(point, Level::Two),
-    })
+        one: came_up & is_open(&new, Level::One),
+        two: came_up & is_open(&new, Level::Two),
+    }
+}
+
+/// Whether an adjacency came up.
+fn came_up(change: AdjChange) -> bool
+    ensures { result ≡ is_coming_up change }
+{
+    match change {
+        AdjChange::WentUp => true,
+        _ => false,
+    }
 }
 
 /// Whether an adjacency is up on a level.

@@ -1,5 +1,5 @@
 //! Hellos that are heard on a circuit.
-ghost use Rattle.std.specs.Prelude.{◌≡◌, true, false, Bool, not, IfOk, IfSome, OnErr};
+ghost use Rattle.std.specs.Prelude.{◌≡◌, true, false, Bool, if◌then◌else◌, not, IfOk, IfSome, OnErr};
 ghost use Rattle.isis_model.specs.Adjacencies as model;
 ghost use Rattle.isis_model.specs.Both.{alone, at, with_at};
 ghost use Rattle.isis_model.specs.Configs.{Config};
@@ -8,16 +8,16 @@ ghost use Rattle.isis_model.specs.HelloTests.{lan_drop, point_drop};
 ghost use Rattle.isis_model.specs.Maps.{find};
 ghost use Rattle.adjacency.specs.Changes.{IsTested};
 ghost use Rattle.adjacency.specs.Lans as lans;
-ghost use Rattle.adjacency.specs.Views as views;
-ghost use Rattle.router_circuits.specs.Hellos.{hello_of, IsGreeted, IsOwn};
-ghost use Rattle.router_circuits.specs.Views.{AreSized, heard_in, is_lan, point_in};
+ghost use Rattle.router_circuits.specs.Hellos.{hello_of, IsGreeted, IsOwn, with_due};
+ghost use Rattle.router_circuits.specs.Views.{AllSized, AreSized, heard_in, is_lan, point_in};
 
 use crate::adjacencies::is_change;
 use crate::circuit::Circuit;
 use crate::greeted::Greeted;
 use crate::greeting::greet;
 use crate::medium::Medium;
-use crate::sizes::hello_sizes;
+use crate::sizes::{hello_sizes, own_words};
+use crate::timers::Timers;
 use adjacency::{HelloDrop, HelloFields, LanAdj, Own};
 use isis_base::Level;
 
@@ -39,16 +39,13 @@ impl Circuit {
             anew ≡ not (model.is_same self.old.point.neighbour
             (model.common_of config (hello_of hello.now)) (hello_of hello.now) shake.extended))) }
     {
-        hello_sizes(hello);
         let greeted = match self.medium.hear_point(own, hello) {
             Ok(greeted) => greeted,
             Err(refused) => return Err(refused),
         };
-        if greeted.moved {
-            self.hello = 0;
-        }
-        self.one.due |= greeted.one;
-        self.two.due |= greeted.two;
+        self.hello = due_or(greeted.moved, self.hello);
+        self.one = with_due(self.one, greeted.one);
+        self.two = with_due(self.two, greeted.two);
         Ok(greeted.anew)
     }
 
@@ -68,12 +65,11 @@ impl Circuit {
             ≡ hellos.lan_circuit self.old level
             (alone level (model.common_of config (hello_of hello.now))) (hello_of hello.now)) }
     {
-        hello_sizes(hello);
-        match self.medium.hear_lan(own, level, hello) {
-            Ok(true) => self.hello = 0,
-            Ok(false) => {}
+        let due = match self.medium.hear_lan(own, level, hello) {
+            Ok(due) => due,
             Err(refused) => return Err(refused),
-        }
+        };
+        self.hello = due_or(due, self.hello);
         Ok(())
     }
 }
@@ -86,14 +82,14 @@ impl Medium {
         hello: &HelloFields<'_>,
     ) -> Result<Greeted, HelloDrop>
         requires { is_lan self.old ≡ false }
-        ensures tested { IsTested result
-            (point_drop (views.config_of own.now) own.now.id (views.hello_of hello.now)) }
+        ensures tested { (config : Config) → IsOwn config own.now
+            → IsTested result (point_drop config own.now.id (hello_of hello.now)) }
         ensures unchanged { OnErr result (self.new ≡ self.old) }
         ensures lan { is_lan self.new ≡ false }
-        ensures greeted { IfOk result (λ greeted. IfSome hello.now.three_way (λ shake.
+        ensures greeted { (config : Config) → IsOwn config own.now
+            → IfOk result (λ greeted. IfSome (hello_of hello.now).handshake (λ shake.
             IsGreeted (point_in self.old) (point_in self.new)
-            (model.common_of (views.config_of own.now) (views.hello_of hello.now))
-            (views.hello_of hello.now) (views.shake_of shake) greeted)) }
+            (model.common_of config (hello_of hello.now)) (hello_of hello.now) shake greeted)) }
     {
         match self {
             Medium::Point(point) => greet(point, own, hello),
@@ -108,18 +104,20 @@ impl Medium {
         level: Level,
         hello: &HelloFields<'_>,
     ) -> Result<bool, HelloDrop>
-        requires { is_lan self.old ≡ true }
-        ensures tested { IsTested result (lan_drop (views.config_of own.now) level
-            (at (heard_in self.old) level) (views.hello_of hello.now)) }
+        requires lan { is_lan self.old ≡ true }
+        requires sized { AreSized self.old }
+        ensures tested { (config : Config) → IsOwn config own.now → IsTested result
+            (lan_drop config level (at (heard_in self.old) level) (hello_of hello.now)) }
         ensures unchanged { OnErr result (self.new ≡ self.old) }
         ensures lan { is_lan self.new ≡ true }
-        ensures heard { IfOk result (λ _. heard_in self.new ≡ with_at (heard_in self.old) level
+        ensures heard { (config : Config) → IsOwn config own.now
+            → IfOk result (λ _. heard_in self.new ≡ with_at (heard_in self.old) level
             (lans.hear_lan (at (heard_in self.old) level)
-            (alone level (model.common_of (views.config_of own.now) (views.hello_of hello.now)))
-            (views.hello_of hello.now))) }
+            (alone level (model.common_of config (hello_of hello.now))) (hello_of hello.now))) }
         ensures due { IfOk result (λ due. due ≡ not (hellos.seen_so
-            (find (at (heard_in self.old) level) (views.hello_of hello.now).snpa)
+            (find (at (heard_in self.old) level) (hello_of hello.now).snpa)
             hello.now.names_me)) }
+        ensures sized { AreSized self.new }
     {
         match self {
             Medium::Point(_) => unreachable!(),
@@ -138,17 +136,37 @@ fn hear(
     level: Level,
     hello: &HelloFields<'_>,
 ) -> Result<bool, HelloDrop>
-    ensures tested { IsTested result
-        (lan_drop (views.config_of own.now) level lan.old (views.hello_of hello.now)) }
+    ensures tested { (config : Config) → IsOwn config own.now
+        → IsTested result (lan_drop config level lan.old (hello_of hello.now)) }
     ensures unchanged { OnErr result (lan.new ≡ lan.old) }
-    ensures heard { IfOk result (λ _. lan.new ≡ lans.hear_lan lan.old
-        (alone level (model.common_of (views.config_of own.now) (views.hello_of hello.now)))
-        (views.hello_of hello.now)) }
+    ensures heard { (config : Config) → IsOwn config own.now
+        → IfOk result (λ _. lan.new ≡ lans.hear_lan lan.old
+        (alone level (model.common_of config (hello_of hello.now))) (hello_of hello.now)) }
     ensures due { IfOk result (λ due. due ≡ not (hellos.seen_so
-        (find lan.old (views.hello_of hello.now).snpa) hello.now.names_me)) }
+        (find lan.old (hello_of hello.now).snpa) hello.now.names_me)) }
+    ensures sized { AllSized lan.old → AllSized lan.new }
 {
+    own_words(own);
+    hello_sizes(hello);
     match lan.hear_hello(own, level, hello) {
         Ok(change) => Ok(is_change(change)),
         Err(refused) => Err(refused),
+    }
+}
+
+/// 0 where a hello is due.
+fn due_or(due: bool, hello: u8) -> u8
+    ensures { result ≡ (if due then 0 else hello) }
+{
+    if due { 0 } else { hello }
+}
+
+/// The counters with a CSNP set due, where one is.
+fn with_due(timers: Timers, due: bool) -> Timers
+    ensures { result ≡ with_due timers due }
+{
+    Timers {
+        due: timers.due || due,
+        ..timers
     }
 }

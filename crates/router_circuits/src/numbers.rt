@@ -39,7 +39,8 @@ pub(crate) fn node_to_number(node: NodeId) -> u64
 
 /// Whether two system IDs are one.
 pub(crate) fn are_same_systems(a: SystemId, b: SystemId) -> bool
-    ensures { result ≡ (system_number a == system_number b) }
+    ensures value { result ≡ (system_number a == system_number b) }
+    ensures same { result ≡ (datagram.system_number a == datagram.system_number b) }
 {
     number(a) == number(b)
 }

@@ -22,9 +22,9 @@ impl Circuit {
     pub fn is_open(&self, level: Level) -> bool
         ensures { result ≡ routers.is_open self.now level }
     {
-        match self.medium.point() {
+        match self.point() {
             Some(point) => greeting::is_open(point, level),
-            None => !self.medium.up(level).is_empty(),
+            None => some_up(self.up(level)),
         }
     }
 
@@ -34,11 +34,19 @@ impl Circuit {
         ensures { option_map system_number result
             ≡ receiving.sender_of self.now level (snpa_number snpa) }
     {
-        match self.medium.point() {
+        match self.point() {
             Some(point) => kept_system(point),
-            None => up_system(self.medium.up(level), snpa),
+            None => up_system(self.up(level), snpa),
         }
     }
+}
+
+/// Whether there is a neighbour in state Up.
+pub(crate) fn some_up(up: &[Neighbour]) -> bool
+    ensures { (heard : List (ℕ × routers.LanNeighbour)) → map neighbour_of up.now ≡ ups heard
+        → result ≡ routers.some_up heard }
+{
+    !up.is_empty()
 }
 
 /// The system of the point-to-point neighbour that is kept.
@@ -46,9 +54,13 @@ fn kept_system(point: &P2pAdj) -> Option<SystemId>
     ensures { option_map system_number result
         ≡ receiving.kept_system (point_of point.now).neighbour }
 {
-    let neighbour = point.neighbour()?;
-    number(neighbour.system);
-    Some(neighbour.system)
+    match point.neighbour() {
+        Some(neighbour) => {
+            number(neighbour.system);
+            Some(neighbour.system)
+        }
+        None => None,
+    }
 }
 
 /// The system of the neighbour of an SNPA among those Up.
@@ -60,7 +72,11 @@ fn up_system(up: &[Neighbour], snpa: Snpa) -> Option<SystemId>
         ≡ receiving.up_system (find heard (snpa_number snpa)) }
 {
     snpa_to_number(snpa);
-    let neighbour = neighbour_at(up, snpa)?;
-    number(neighbour.system);
-    Some(neighbour.system)
+    match neighbour_at(up, snpa) {
+        Some(neighbour) => {
+            number(neighbour.system);
+            Some(neighbour.system)
+        }
+        None => None,
+    }
 }

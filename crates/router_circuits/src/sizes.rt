@@ -2,12 +2,13 @@
 ghost use Rattle.std.specs.Prelude.{◌≡◌, ℕ, ◌<◌, ◌^◌, Bool, IfSome};
 ghost use Rattle.isis_model.specs.Adjacencies as model;
 ghost use Rattle.isis_model.specs.Both.{Both};
+ghost use Rattle.isis_model.specs.Configs.{Config};
 ghost use Rattle.adjacency.specs.Views as views;
-ghost use Rattle.router_circuits.specs.Hellos.{hello_of, shakes_of};
+ghost use Rattle.router_circuits.specs.Hellos.{IsAlike, IsOwn, hello_of, shakes_of};
 ghost use Rattle.router_circuits.specs.Views.{IsSized};
 
 use crate::numbers::{node_to_number, number, snpa_to_number};
-use adjacency::{HelloFields, Neighbour, P2pAdj};
+use adjacency::{HelloFields, Neighbour, Own, P2pAdj};
 use isis_tlv::ThreeWay;
 
 /// A hello's fields have the standard's sizes, and both ways to see it as the model's are one.
@@ -20,7 +21,21 @@ pub(crate) fn hello_sizes(hello: &HelloFields<'_>)
     number(hello.source);
     snpa_to_number(hello.snpa);
     node_to_number(hello.lan);
+    number_sizes(hello.priority, hello.holding);
     shake_sizes(hello.three_way);
+}
+
+/// A priority has one octet, a holding time two.
+fn number_sizes(priority: u8, holding: u16)
+    ensures priority { priority < 2 ^ 8 }
+    ensures holding { holding < 2 ^ 16 }
+{}
+
+/// Both ways to see one's own part of a configuration are one.
+pub(crate) fn own_words(own: &Own<'_>)
+    ensures { (config : Config) → IsOwn config own.now → IsAlike (views.config_of own.now) config }
+{
+    number(own.system);
 }
 
 /// The same of a three-way value.

@@ -1,0 +1,42 @@
+use Rattle.std.proofs.Common.{◌≡◌, false, ◌∙◌, ap}
+use Rattle.isis_model.specs.Adjacencies as model
+use Rattle.isis_model.specs.Routers.{Circuit}
+use Rattle.router_circuits.specs.Hellos.{hello_of}
+use Rattle.router_circuits.specs.Views.{heard_in, is_lan, levels_in, point_in}
+use Rattle.router_circuits.proofs.ChangeLemmas.{met-some, anew-some}
+use Rattle.router_circuits.proofs.circuit.Circuit.hear_point.Goals as goal
+
+pub returns-clause-heard : goal.returns-clause-heard
+returns-clause-heard c config is =
+    let h = hello_of c.args.hello.now in
+    let old = c.self.inside in
+    let lan : is_lan old.medium ≡ false = ap (λ (x : Circuit). x.lan) c.self.view_is ∙ c.requires in
+    let view : Circuit = record {
+      lan = is_lan old.medium;
+      metric = old.metric;
+      priority = old.priority;
+      address = old.address;
+      key = old.key;
+      point = point_in old.medium;
+      levels = levels_in (heard_in old.medium) old.one old.two;
+      hello = old.hello;
+    } in
+    met-some old.medium c.hear_point.new.self old.one old.two view c.args.self.now (model.common_of config h) h c.in-Ok.greeted c.self.view_is h.handshake _ _ _
+    c.due_or-self-inside.ensures c.with_due-self-inside.ensures c.with_due-self-inside-2.ensures lan c.in-Ok.ensures.lan (c.in-Ok.ensures.greeted config is)
+
+pub returns-clause-anew : goal.returns-clause-anew
+returns-clause-anew c config is =
+    let h = hello_of c.args.hello.now in
+    let old = c.self.inside in
+    let view : Circuit = record {
+      lan = is_lan old.medium;
+      metric = old.metric;
+      priority = old.priority;
+      address = old.address;
+      key = old.key;
+      point = point_in old.medium;
+      levels = levels_in (heard_in old.medium) old.one old.two;
+      hello = old.hello;
+    } in
+    anew-some old.medium c.hear_point.new.self old.one old.two view c.args.self.now (model.common_of config h) h c.in-Ok.greeted c.self.view_is h.handshake
+    (c.in-Ok.ensures.greeted config is)
