@@ -170,19 +170,19 @@ met (medium.Lan a b) new one two c common h shake g o n m = absurd (grind (arith
 met (medium.Point p) (medium.Lan a b) one two c common h shake g o n m = absurd (grind (arith, n))
 met (medium.Point p) (medium.Point q) one two c common h shake g o n m =
     rw (m.one, m.two, m.moved) (subst (λ (x : model.PointAdj). after x ≡ point_circuit (of_medium c (medium.Point p) one two) common h shake) (sym m.heard) refl) where
-  same : Bool
-  same = model.is_same (point_of p).neighbour common h shake.extended
+      same : Bool
+      same = model.is_same (point_of p).neighbour common h shake.extended
 
-  after : model.PointAdj → Circuit
-  after x = record c {
-    lan = false;
-    point = x;
-    levels = record {
-      one = level_in [] (with_due one (comes_up (point_of p) x same && model.point_open x level.One));
-      two = level_in [] (with_due two (comes_up (point_of p) x same && model.point_open x level.Two));
-    };
-    hello = if is_moved (point_of p) x same then 0 else c.hello;
-  }
+      after : model.PointAdj → Circuit
+      after x = record c {
+        lan = false;
+        point = x;
+        levels = record {
+          one = level_in [] (with_due one (comes_up (point_of p) x same && model.point_open x level.One));
+          two = level_in [] (with_due two (comes_up (point_of p) x same && model.point_open x level.Two));
+        };
+        hello = if is_moved (point_of p) x same then 0 else c.hello;
+      }
 
 module _ (old new : Medium) (one two : Timers) (c now : Circuit) (common : Both Bool) (h : model.Hello) (g : Greeted) (was : of_medium c old one two ≡ now) where
   pub met-some : (o : Option model.Handshake) (hello : ℕ) (first second : Timers)

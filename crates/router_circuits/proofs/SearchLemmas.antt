@@ -120,14 +120,14 @@ unfolding snpa_in system_in
 find-ups [] least k r s = refl
 find-ups (p ∷ heard) least k r s =
     by p.1.up (eqb p.0 k) refl refl (find-ups heard (p.0 + 1) k r.1 s.1) where
-  by : (t u : Bool) → p.1.up ≡ t → eqb p.0 k ≡ u → option_map system_in (find (keyed snpa_in (ups heard)) k) ≡ up_system (find heard k)
-      → option_map system_in (find (keyed snpa_in (if t then p.1.neighbour ∷ ups heard else ups heard)) k) ≡ up_system (if u then Some p.1 else find heard k)
-  by true true e f rest = rw (s.0, f, e) refl
-  by true false e f rest = rw (s.0, f) rest
-  by false true e f rest =
-      let same : p.0 ≡ k = grind (arith, nat_tests, f) in
-      rw (above-none (keyed snpa_in (ups heard)) (p.0 + 1) k (omega (arith, same)) (ups-rise heard (p.0 + 1) r.1 s.1), e) refl
-  by false false e f rest = rest
+      by : (t u : Bool) → p.1.up ≡ t → eqb p.0 k ≡ u → option_map system_in (find (keyed snpa_in (ups heard)) k) ≡ up_system (find heard k)
+          → option_map system_in (find (keyed snpa_in (if t then p.1.neighbour ∷ ups heard else ups heard)) k) ≡ up_system (if u then Some p.1 else find heard k)
+      by true true e f rest = rw (s.0, f, e) refl
+      by true false e f rest = rw (s.0, f) rest
+      by false true e f rest =
+          let same : p.0 ≡ k = grind (arith, nat_tests, f) in
+          rw (above-none (keyed snpa_in (ups heard)) (p.0 + 1) k (omega (arith, same)) (ups-rise heard (p.0 + 1) r.1 s.1), e) refl
+      by false false e f rest = rest
 
 -- the system of a neighbour Up, by its SNPA
 pub up-system : (up : List Neighbour) (heard : List (ℕ × LanNeighbour)) (k : ℕ) → AreHeard heard → map neighbour_of up ≡ ups heard → option_map (λ n. (neighbour_of n).system) (find (by_snpa up) k) ≡ up_system (find heard k)

@@ -76,11 +76,7 @@ impl Circuit {
 
 impl Medium {
     /// Takes a hello on a point-to-point circuit.
-    fn hear_point(
-        &mut self,
-        own: &Own<'_>,
-        hello: &HelloFields<'_>,
-    ) -> Result<Greeted, HelloDrop>
+    fn hear_point(&mut self, own: &Own<'_>, hello: &HelloFields<'_>) -> Result<Greeted, HelloDrop>
         requires { is_lan self.old ≡ false }
         ensures tested { (config : Config) → IsOwn config own.now
             → IsTested result (point_drop config own.now.id (hello_of hello.now)) }

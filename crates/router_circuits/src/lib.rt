@@ -14,7 +14,7 @@
 //! - `senders.rt`: of whom a datagram may come; `by_snpa.rt`: neighbours by SNPA
 //! - `election.rt`, `candidate.rt`, `designated.rt`: who is designated
 //! - `due.rt`, `timers.rt`: the counters, and what is due
-//! - `numbers.rt`: system IDs as numbers
+//! - `numbers.rt`: identifiers as numbers; `laws.rt`: they are those of datagrams
 #![tactic(auto)]
 
 mod adjacencies;
@@ -27,6 +27,7 @@ mod election;
 mod greeted;
 mod greeting;
 mod hearing;
+mod laws;
 mod medium;
 mod numbers;
 mod senders;
@@ -35,6 +36,7 @@ mod timers;
 
 pub use circuit::Circuit;
 pub use designated::Designated;
+pub use laws::word_laws;
 
 #[cfg(test)]
 mod tests;

@@ -26,6 +26,6 @@ pub returns-in-Ok-clause-sized : goal.returns-in-Ok-clause-sized
 returns-in-Ok-clause-sized c sized =
     let own = views.config_of c.args.own.now in
     let heard = c.in-Ok.ensures.heard
-        ∙ ap (λ (h : model.Hello). lans.hear_lan c.args.lan.now (alone c.args.level (model.common_of own h)) h) c.hello_sizes.ensures.same in
+    ∙ ap (λ (h : model.Hello). lans.hear_lan c.args.lan.now (alone c.args.level (model.common_of own h)) h) c.hello_sizes.ensures.same in
     subst (λ (m : List (ℕ × LanNeighbour)). AllSized m) (sym heard)
     (hear-sizes c.args.lan.now _ (hello_of c.args.hello.now) (c.hello_sizes.ensures.sized _ 0 (omega arith)) sized)

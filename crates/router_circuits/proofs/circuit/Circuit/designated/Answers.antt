@@ -15,6 +15,6 @@ returns c config place here =
     let lan : self.lan ≡ true = grind (arith, c.if-not-is_lan.false, c.is_lan.ensures) in
     let up : some_up (at self.levels c.args.level).heard ≡ true = grind (arith, c.if-not-some_up.false, c.some_up.ensures (at self.levels c.args.level).heard c.up-up.ensures.up) in
     let best = c.elected-best.ensures ∙ ap (λ (b : model.Candidate). elect b (map neighbour_of c.up-up.result.now)) (c.oneself.ensures config place here)
-        ∙ ap (λ (ns : List Neighbour). elect (model.oneself config place self) ns) c.up-up.ensures.up in
+    ∙ ap (λ (ns : List Neighbour). elect (model.oneself config place self) ns) c.up-up.ensures.up in
     ap (λ (p : ℕ × ℕ). Some p) (c.designated_from.ensures ∙ ap system_and_lan best)
     ∙ ap (λ (o : Option model.Candidate). option_map system_and_lan o) (sym (designated-some config place self c.args.level lan up))
