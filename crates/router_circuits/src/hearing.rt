@@ -27,6 +27,7 @@ impl Circuit {
     /// neighbour that was kept, for then the circuit closes first.
     pub fn hear_point(&mut self, own: &Own<'_>, hello: &HelloFields<'_>) -> Result<bool, HelloDrop>
         requires { self.old.lan ≡ false }
+        ensures kind { self.new.lan ≡ false }
         ensures tested { (config : Config) → IsOwn config own.now
             → IsTested result (point_drop config own.now.id (hello_of hello.now)) }
         ensures unchanged { OnErr result (self.new ≡ self.old) }
@@ -58,6 +59,7 @@ impl Circuit {
         hello: &HelloFields<'_>,
     ) -> Result<(), HelloDrop>
         requires { self.old.lan ≡ true }
+        ensures kind { self.new.lan ≡ true }
         ensures tested { (config : Config) → IsOwn config own.now → IsTested result
             (lan_drop config level (at self.old.levels level).heard (hello_of hello.now)) }
         ensures unchanged { OnErr result (self.new ≡ self.old) }

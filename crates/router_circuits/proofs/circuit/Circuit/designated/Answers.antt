@@ -6,7 +6,7 @@ use Rattle.isis_model.specs.Routers.{some_up}
 use Rattle.isis_model.specs.Elections as model
 use Rattle.adjacency.specs.Views.{neighbour_of}
 use Rattle.router_circuits.specs.Elections.{elect, system_and_lan}
-use Rattle.router_circuits.proofs.ElectLemmas.{designated-some, designated-none, designated-nobody}
+use Rattle.router_circuits.proofs.ElectLemmas.{designated-some}
 use Rattle.router_circuits.proofs.circuit.Circuit.designated.Goals as goal
 
 pub returns : goal.returns
