@@ -161,7 +161,7 @@ impl Circuit {
     }
 
     /// The neighbours in state Up on a LAN and level, by SNPA; none on a point-to-point circuit.
-    pub(crate) fn up(&self, level: Level) -> &[Neighbour]
+    pub fn up(&self, level: Level) -> &[Neighbour]
         ensures up { map neighbour_of result.now ≡ ups (at self.now.levels level).heard }
         ensures heard { AreHeard (at self.now.levels level).heard }
     {

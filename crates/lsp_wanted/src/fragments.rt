@@ -1,0 +1,62 @@
+//! The split of what fits.
+ghost use Rattle.std.specs.Prelude.{◌≡◌, ◌≤◌, ◌<◌, ◌^◌, take, length, All, IfOk};
+ghost use Rattle.isis_model.specs.Splits as splits;
+ghost use Rattle.isis_model.specs.Wanted.{room_for};
+ghost use Rattle.lsp_fragments.specs.Entries.{content_entries, content_first};
+ghost use Rattle.lsp_wanted.specs.Lent.{key_of};
+
+use isis_base::{Octets, OutOfMemory};
+use lsp_fragments::{Content, SplitFault, split};
+use std::alloc::Global;
+
+/// The octets that a fragment's TLVs may take, with authentication and without (ISO 10589 7.3.4).
+const SIGNED: usize = 1446;
+
+const PLAIN: usize = 1465;
+
+/// The TLVs of each fragment, and whether all entries fit.
+pub(crate) struct Fragments {
+    pub tlvs: Vec<Octets>,
+    pub whole: bool,
+}
+
+/// The split of a content: of all entries, or else of those that 256 fragments hold.
+pub(crate) fn fragments(
+    alloc: Global,
+    content: Content,
+    signed: bool,
+) -> Result<Fragments, OutOfMemory>
+    requires areas { length content.areas.items ≤ 3 }
+    requires addresses { length content.addresses.items ≤ 64 }
+    requires metrics { All (λ item. item.metric < 2 ^ 24) content.neighbours.items }
+    ensures { IfOk result (λ parts. splits.split (content_first content)
+        (content_entries content) (room_for (key_of signed))
+        ≡ record { fragments = parts.tlvs.items; whole = parts.whole }) }
+{
+    let room = if signed { SIGNED } else { PLAIN };
+    let fit = match split(alloc, &content, room) {
+        Ok(tlvs) => return Ok(Fragments { tlvs, whole: true }),
+        Err(SplitFault::TooMuch { fit }) => fit,
+        Err(SplitFault::OutOfMemory) => return Err(OutOfMemory),
+    };
+    let content = first_entries(content, fit);
+    match split(alloc, &content, room) {
+        Ok(tlvs) => Ok(Fragments { tlvs, whole: false }),
+        Err(_) => Err(OutOfMemory),
+    }
+}
+
+/// A content with the first so many of its entries, the neighbours before the prefixes.
+fn first_entries(content: Content, count: usize) -> Content
+    ensures entries { content_entries result ≡ take count (content_entries content) }
+    ensures first { content_first result ≡ content_first content }
+    ensures areas { result.areas.items ≡ content.areas.items }
+    ensures addresses { result.addresses.items ≡ content.addresses.items }
+    ensures neighbours { result.neighbours.items ≡ take count content.neighbours.items }
+{
+    let mut content = content;
+    let before = content.neighbours.len();
+    content.neighbours.truncate(count);
+    content.prefixes.truncate(count.saturating_sub(before));
+    content
+}

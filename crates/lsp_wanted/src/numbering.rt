@@ -1,0 +1,48 @@
+//! Fragments with their LSP IDs.
+ghost use Rattle.std.specs.Prelude.{◌≡◌, ◌≤◌, ◌<◌, ◌+◌, ◌*◌, ◌++◌, length, map, OnOk};
+ghost use Rattle.isis_base.specs.Identifiers.{lsp_number};
+ghost use Rattle.isis_model.specs.Wanted.{fragments_of};
+ghost use Rattle.isis_datagram.specs.Numbers.{node_number};
+ghost use Rattle.lsp_wanted.specs.Parts.{counted};
+ghost use Rattle.lsp_wanted.specs.Views.{wanted_of};
+
+use crate::wanted::Wanted;
+use isis_base::{LspId, NodeId, Octets, OutOfMemory};
+
+/// Adds the fragments of a node's LSP, whose number 0 has flags of its own.
+pub(crate) fn add(
+    list: &mut Vec<Wanted>,
+    node: NodeId,
+    first: u8,
+    flags: u8,
+    parts: Vec<Octets>,
+) -> Result<(), OutOfMemory>
+    requires { length parts.items ≤ 256 }
+    ensures { OnOk result (map wanted_of list.new.items ≡ map wanted_of list.old.items
+        ++ fragments_of first flags (256 * node_number node) parts.items) }
+{
+    let mut parts = parts;
+    parts.reverse();
+    let mut number = 0usize;
+    while let Some(tlvs) = parts.pop() {
+        let flags = if number == 0 { first } else { flags };
+        let id = id_of(node, number);
+        match list.push(Wanted { id, flags, tlvs }) {
+            Ok(()) => {}
+            Err(_) => return Err(OutOfMemory),
+        }
+        number += 1;
+    }
+    Ok(())
+}
+
+/// The LSP ID of a node's fragment.
+fn id_of(node: NodeId, number: usize) -> LspId
+    requires { number < 256 }
+    ensures { lsp_number result ≡ 256 * node_number node + number }
+{
+    LspId {
+        node,
+        number: number as u8,
+    }
+}
