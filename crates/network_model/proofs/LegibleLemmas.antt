@@ -20,7 +20,8 @@ use Rattle.isis_datagram.specs.Said.{said, ReadsBack, kind_sent, CanRead}
 use Rattle.isis_datagram.specs.Senders.{IsHandshake}
 use Rattle.isis_datagram.specs.LspLaws.{ReadsUpdate}
 use Rattle.isis_datagram.proofs.HelloLemmas.{point-reads}
-use Rattle.network_model.specs.Speakers.{IsReading, IsSpeaking, IsName}
+use Rattle.isis_datagram.specs.Speakers.{IsSpeaking, IsName}
+use Rattle.network_model.specs.Speakers.{IsReading}
 use Rattle.network_model.proofs.PointReplies.{NotLan}
 
 -- ---- a reader that can read it reads what any reader reads, but for what that refuses

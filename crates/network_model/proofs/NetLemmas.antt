@@ -21,7 +21,8 @@ use Rattle.isis_datagram.specs.LspLaws.{TellsKept, TellsEvent, ReadsUpdate}
 use Rattle.isis_datagram.proofs.GoodLemmas.{good-read}
 use Rattle.isis_datagram.proofs.KeptLemmas.{kept-tells}
 use Rattle.isis_datagram.proofs.SendLemmas.{step-reads}
-use Rattle.network_model.specs.Speakers.{IsSpeaking, AreSpeaking, AreOctets, IsLegible}
+use Rattle.isis_datagram.specs.Speakers.{IsSpeaking}
+use Rattle.network_model.specs.Speakers.{AreSpeaking, AreOctets, IsLegible}
 use Rattle.network_model.specs.Networks.{End, Datagram, octets_of, Network, place_on, place_in, place_at, restarted}
 use Rattle.network_model.specs.Runs.{read_on, post, posts, posted, moved, Happening, is_injection, restart_at, apply}
 use Rattle.network_model.specs.Ports.{Port, In}
