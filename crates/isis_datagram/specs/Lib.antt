@@ -12,4 +12,5 @@ pub mod Datagrams
 pub mod Said
 pub mod Senders
 pub mod LspLaws
+pub mod Speakers
 pub mod Rows

@@ -1,0 +1,11 @@
+mod InLemmas
+mod PortLemmas
+mod ReadLemmas
+mod LegibleLemmas
+mod PointReplies
+mod ChangeLemmas
+mod LinkLemmas
+mod RestartLemmas
+mod NetLemmas
+mod ClaimLemmas
+mod CountLemmas

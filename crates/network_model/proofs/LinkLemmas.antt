@@ -1,0 +1,221 @@
+-- What is kept of a link, by a step of one of its ends, by its restart, and by others.
+use Rattle.std.proofs.Common.{◌≡◌, ◌≢◌, ℕ, ◌≤◌, inl, inr, ⊎_elim, List, ◌++◌, Option, Some, None, if◌then◌else◌, refl, sym, ap, ◌∙◌, subst, zero-le, le_trans, le_of_eq}
+use Rattle.isis_tlv.specs.declared.three_way.Adj.TheVariants.{Up}
+use Rattle.isis_base.specs.declared.level.Level.{Level}
+use Rattle.isis_base.specs.declared.level.Level.TheVariants as level
+use Rattle.isis_model.specs.Sets.{has}
+use Rattle.isis_model.specs.Books.{rank_at}
+use Rattle.isis_model.specs.LetGos.{lets_go}
+use Rattle.isis_model.specs.Adjacencies.{Handshake, Hello}
+use Rattle.isis_model.specs.Routers.{Router, level_of, book_of, extended_of}
+use Rattle.isis_model.specs.Givens.{Given}
+use Rattle.isis_model.specs.Datagrams.{PointHello}
+use Rattle.isis_model.specs.Events.{Message, PointHelloHeard, Event, Second, Take, Pull, Metric, Overload, Prefix}
+use Rattle.isis_model.specs.Steps.{step}
+use Rattle.isis_model.specs.Hearings.{heard_in, says}
+use Rattle.isis_model.specs.Flooding.{Covers, KeepsBoth, Stands, IsKept}
+use Rattle.isis_model.specs.ReplyLaws.{IsHeld}
+use Rattle.isis_model.specs.AdjacencyLaws.{NamesMe, Bond, no_bond, bond_at, Bonds, Same, Ends, Meets, IsGreeting}
+use Rattle.isis_model.proofs.BookLemmas.{test, same-or}
+use Rattle.isis_model.proofs.StepLemmas.{step-keeps}
+use Rattle.isis_model.proofs.StepWays.{step-course}
+use Rattle.isis_model.proofs.RisingLemmas.{course-rises}
+use Rattle.isis_model.proofs.TouchSteps.{step-touch}
+use Rattle.isis_model.proofs.BondLemmas.{step-stays, step-bonds}
+use Rattle.isis_model.proofs.StandingLemmas.{stands-here, stands-there}
+use Rattle.network_model.specs.Networks.{Datagram}
+use Rattle.network_model.specs.Ports.{Port, name_of, In, Hails, Reason, Hellos}
+use Rattle.network_model.specs.Speakers.{IsLegible}
+use Rattle.network_model.specs.Links.{IsSound, IsSent, IsStanding, EndHolds}
+use Rattle.network_model.proofs.InLemmas.{in-split}
+use Rattle.network_model.proofs.PortLemmas.{Own, hellos-more, hellos-own, hellos-none, hellos-meets}
+use Rattle.network_model.proofs.ReadLemmas.{Reads, said-later}
+
+-- a message is what the other end sent on the link in its present boot
+pub record Carried (f : Port) (b : Router) (k : ℕ) (ds : List Datagram) (m : Message) : Type 0 where
+  pub datagram : Datagram
+  pub was_sent : In datagram ds
+  pub sender : datagram.sender ≡ f.router
+  pub on : datagram.link ≡ k
+  pub boot : datagram.boot ≡ b.boot
+  pub reads : Reads datagram m
+
+-- what a router posts after a step
+pub record Posts (e : Port) (t : Router) (k : ℕ) (more : List Datagram) : Type 0 where
+  pub sender : (d : Datagram) → In d more → d.sender ≡ e.router
+  pub boot : (d : Datagram) → In d more → d.boot ≡ t.boot
+  pub system : (d : Datagram) → In d more → d.config.system ≡ t.config.system
+  pub held : (d : Datagram) → In d more → IsHeld t d.says
+  pub greets : (d : Datagram) → In d more → d.link ≡ k → IsGreeting t e.place d.says
+  pub legible : (d : Datagram) → In d more → d.link ≡ k → IsLegible d
+
+-- ---- a step of an end, seen from itself
+
+-- what a step hears there is at most what the other end holds
+heard-within : (e f : Port) (b : Router) (k : ℕ) (ds : List Datagram) (event : Event) → ((m : Message) → event ≡ Take e.place m → Carried f b k ds m) → IsSent f b k ds
+    → (l : Level) (id : ℕ) → IsKept b l id → heard_in event l e.place id ≤ rank_at (book_of b l) id
+heard-within e f b k ds Second comes sent l id kept = zero-le
+heard-within e f b k ds (Take p m) comes sent l id kept = same-or (λ t. (if t then says m l id else 0) ≤ rank_at (book_of b l) id) p e.place
+    (λ same. let c = comes m (ap (λ (n : ℕ). Take n m) same) in c.reads.within b l id (sent.held c.datagram c.was_sent c.sender c.boot) kept)
+    (λ _. zero-le)
+heard-within e f b k ds (Pull p) comes sent l id kept = zero-le
+heard-within e f b k ds (Metric p metric) comes sent l id kept = zero-le
+heard-within e f b k ds (Overload on) comes sent l id kept = zero-le
+heard-within e f b k ds (Prefix prefix metric) comes sent l id kept = zero-le
+
+-- what isn't let go after a step wasn't before it
+kept-before : (heard : Level → ℕ → ℕ → ℕ) (r t : Router) → KeepsBoth heard r t → (l : Level) (id : ℕ) → IsKept t l id → IsKept r l id
+kept-before heard r t k l id g = test (λ x. lets_go (level_of r l).gone id ≡ x → IsKept r l id) (lets_go (level_of r l).gone id)
+    (λ _ e. absurd (let now = (k.on l).grows id e in cc)) (λ _ e. e) refl
+
+covers-less : (n : ℕ) (b : Router) (l : Level) (id place : ℕ) → Covers 0 (book_of b l) id place → Covers n (book_of b l) id place
+covers-less n b l id place c o k = ⊎_elim (λ f. inl f) (λ z. inr (le_trans z zero-le)) (c o k)
+
+sound-step : (given : Given) (e : Port) (a : Router) (event : Event) → IsSound e a → IsSound e (step given a event).router
+sound-step given e a event s =
+    let t = (step given a event).router in
+    let touch = step-touch given a event s.touch in
+    record {
+      system = (step-stays given a event).system ∙ s.system;
+      touch = touch;
+      sorted = record { on = λ l. course-rises _ _ _ ((step-course given a event).on l) (s.sorted.on l) };
+      point = sym (touch.points level.One e.place) ∙ ap (λ (n : ℕ). has n e.place) ((step-keeps given a event).on level.One).floods.kinds ∙ s.touch.points level.One e.place ∙ s.point;
+    }
+
+both-same : (n : ℕ × ℕ) (x y : ℕ) → n.0 ≡ x → n.1 ≡ y → ◌≡◌ {A = Option (ℕ × ℕ)} (Some n) (Some (x, y))
+both-same n x y a b = rw (← a, ← b) refl
+
+-- a name that is one's own
+own-name : (r : Router) (place : ℕ) (o : Option (ℕ × ℕ)) → NamesMe r place o → o ≢ None → o ≡ Some (r.config.system, extended_of r.boot place)
+own-name r place None d n = absurd (n refl)
+own-name r place (Some names) d n = both-same names r.config.system (extended_of r.boot place) d.0 d.1
+
+-- whom a hello that is taken makes an end keep
+met-name : (e : Port) (a : Router) (f : Port) (b : Router) (k : ℕ) (ds : List Datagram) (h : Hello) (s : Handshake) → EndHolds f b e a k ds → Carried f b k ds (PointHelloHeard h) → h.handshake ≡ Some s
+    → ◌≡◌ {A = Option (ℕ × ℕ)} (Some (h.source, s.extended)) (Some (name_of f b.boot))
+met-name e a f b k ds h s far c shakes =
+    let said = c.reads.greets h s refl shakes in
+    let hail : Hails f k c.datagram s.state s.extended s.names = record { sender = c.sender; on = c.on; says = said.0 } in
+    let own = (far.hellos.named c.datagram s.state s.extended s.names c.was_sent hail).own in
+    ap (λ (n : ℕ). Some (n, s.extended)) (said.1 ∙ far.sent.system c.datagram c.was_sent c.sender) ∙ ap (λ (n : ℕ). Some (f.system, n)) (own ∙ ap (λ (n : ℕ). extended_of n f.place) c.boot)
+
+-- the hellos after the step, before it posts
+hellos-bonds : (e : Port) (a : Router) (f : Port) (b : Router) (k : ℕ) (ds : List Datagram) (event : Event) (t : Router)
+    → ((m : Message) → event ≡ Take e.place m → Carried f b k ds m) → EndHolds e a f b k ds → EndHolds f b e a k ds
+    → Bonds a event t e.place → Hellos e a.boot (bond_at t e.place) f b.boot k ds
+hellos-bonds e a f b k ds event t comes near far (Same q) = subst (λ (m : Bond). Hellos e a.boot m f b.boot k ds) (sym q) near.hellos
+hellos-bonds e a f b k ds event t comes near far (Ends q) = subst (λ (m : Bond). Hellos e a.boot m f b.boot k ds) (sym q) (hellos-none e a.boot a.boot (bond_at a e.place) f b.boot k ds near.hellos)
+hellos-bonds e a f b k ds event t comes near far (Meets h s state takes shakes drop up heard q covered) =
+    subst (λ (m : Bond). Hellos e a.boot m f b.boot k ds) (sym (q ∙ ap (λ (o : Option (ℕ × ℕ)). record { state = state; names = o }) (met-name e a f b k ds h s far c shakes)))
+    (hellos-meets e a.boot (bond_at a e.place) state f b.boot k ds up why near.hellos)
+  where
+    c : Carried f b k ds (PointHelloHeard h)
+    c = comes (PointHelloHeard h) takes
+
+    said : (c.datagram.says ≡ PointHello s.state s.extended s.names) × (h.source ≡ c.datagram.config.system)
+    said = c.reads.greets h s refl shakes
+
+    hail : Hails f k c.datagram s.state s.extended s.names
+    hail = record { sender = c.sender; on = c.on; says = said.0 }
+
+    why : state ≡ Up → Reason e a.boot (record { state = state; names = Some (name_of f b.boot) }) f k ds
+    why is_up =
+        let some : s.names ≢ None = λ n. heard is_up ((far.hellos.named c.datagram s.state s.extended s.names c.was_sent hail).bond.names n) in
+        let mine : s.names ≡ Some (name_of e a.boot) = own-name a e.place s.names drop some ∙ ap (λ (n : ℕ). Some (n, extended_of a.boot e.place)) near.sound.system in
+        record {
+          hello = c.datagram;
+          state = s.state;
+          extended = s.extended;
+          was_sent = c.was_sent;
+          hails = record { sender = c.sender; on = c.on; says = said.0 ∙ ap (λ (o : Option (ℕ × ℕ)). PointHello s.state s.extended o) mine };
+          keeps = ap (λ (n : ℕ). Some (name_of f n)) (sym c.boot);
+        }
+
+standing-step : (given : Given) (e : Port) (a : Router) (f : Port) (b : Router) (k : ℕ) (ds : List Datagram) (event : Event)
+    → ((m : Message) → event ≡ Take e.place m → Carried f b k ds m) → EndHolds e a f b k ds → IsSent f b k ds
+    → IsStanding e (step given a event).router f b
+standing-step given e a f b k ds event comes near sent = record { stands = λ names l id kept_t kept_b. by-bonds names l id kept_t kept_b (step-bonds given a event e.place) }
+  where
+    t : Router
+    t = (step given a event).router
+
+    old : (bond_at a e.place).names ≡ Some (name_of f b.boot) → (l : Level) (id : ℕ) → IsKept t l id → IsKept b l id → Stands t e.place b l id
+    old names l id kept_t kept_b = stands-here given a b event l e.place id (heard-within e f b k ds event comes sent l id kept_b)
+        (near.standing.stands names l id (kept-before (heard_in event) a t (step-keeps given a event) l id kept_t) kept_b)
+
+    by-bonds : (bond_at t e.place).names ≡ Some (name_of f b.boot) → (l : Level) (id : ℕ) → IsKept t l id → IsKept b l id → Bonds a event t e.place → Stands t e.place b l id
+    by-bonds names l id kept_t kept_b (Same q) = old (sym (ap (λ (m : Bond). m.names) q) ∙ names) l id kept_t kept_b
+    by-bonds names l id kept_t kept_b (Ends q) = absurd (let none : no_bond.names ≡ Some (name_of f b.boot) = sym (ap (λ (m : Bond). m.names) q) ∙ names in cc)
+    by-bonds names l id kept_t kept_b (Meets h s state takes shakes drop up heard q (inl was)) = old (was ∙ sym (ap (λ (m : Bond). m.names) q) ∙ names) l id kept_t kept_b
+    by-bonds names l id kept_t kept_b (Meets h s state takes shakes drop up heard q (inr covered)) = covers-less _ t l id e.place (covered l id)
+
+-- what an end posts is its own
+own-posts : (e : Port) (t : Router) (x k : ℕ) (more : List Datagram) → t.boot ≡ x → Posts e t k more → Own e x (bond_at t e.place) k more
+own-posts e t x k more same p = record {
+  boot = λ d i. p.boot d i ∙ same;
+  sender = p.sender;
+  bond = λ d s q n i hail. (subst (IsGreeting t e.place) hail.says (p.greets d i hail.on)).0;
+  own = λ d s q n i hail. (subst (IsGreeting t e.place) hail.says (p.greets d i hail.on)).1 ∙ ap (λ (n : ℕ). extended_of n e.place) same;
+}
+
+sent-step : (given : Given) (e : Port) (a : Router) (event : Event) (k : ℕ) (ds more : List Datagram) → IsSound e a → Posts e (step given a event).router k more → IsSent e a k ds → IsSent e (step given a event).router k (ds ++ more)
+sent-step given e a event k ds more sound p s =
+    let t = (step given a event).router in
+    let stays = step-stays given a event in
+    record {
+      system = λ d i q. ⊎_elim (λ (o : In d ds). s.system d o q) (λ (o : In d more). p.system d o ∙ stays.system ∙ sound.system) (in-split d ds more i);
+      boot = λ d i q. ⊎_elim (λ (o : In d ds). le_trans (s.boot d o q) (le_of_eq (sym stays.boot))) (λ (o : In d more). le_of_eq (p.boot d o)) (in-split d ds more i);
+      held = λ d i q x. ⊎_elim (λ (o : In d ds). said-later (heard_in event) a t (step-keeps given a event) d.says (s.held d o q (x ∙ stays.boot))) (λ (o : In d more). p.held d o) (in-split d ds more i);
+      legible = λ d i q x. ⊎_elim (λ (o : In d ds). s.legible d o q x) (λ (o : In d more). p.legible d o x) (in-split d ds more i);
+    }
+
+-- ---- an end steps
+
+pub step-near : (given : Given) (e : Port) (a : Router) (f : Port) (b : Router) (k : ℕ) (ds more : List Datagram) (event : Event)
+    → ((m : Message) → event ≡ Take e.place m → Carried f b k ds m) → Posts e (step given a event).router k more
+    → EndHolds e a f b k ds → EndHolds f b e a k ds → EndHolds e (step given a event).router f b k (ds ++ more)
+step-near given e a f b k ds more event comes posts near far =
+    let t = (step given a event).router in
+    let same = (step-stays given a event).boot in
+    record {
+      sound = sound-step given e a event near.sound;
+      hellos = subst (λ (x : ℕ). Hellos e x (bond_at t e.place) f b.boot k (ds ++ more)) (sym same)
+          (hellos-own e a.boot (bond_at t e.place) f b.boot k ds more (own-posts e t a.boot k more same posts)
+          (hellos-bonds e a f b k ds event t comes near far (step-bonds given a event e.place)));
+      sent = sent-step given e a event k ds more near.sound posts near.sent;
+      standing = standing-step given e a f b k ds event comes near far.sent;
+    }
+
+sent-more : (e : Port) (a : Router) (k : ℕ) (ds more : List Datagram) → ((d : Datagram) → In d more → d.sender ≢ e.router) → IsSent e a k ds → IsSent e a k (ds ++ more)
+sent-more e a k ds more foreign s = record {
+  system = λ d i q. ⊎_elim (λ (o : In d ds). s.system d o q) (λ (o : In d more). absurd (foreign d o q)) (in-split d ds more i);
+  boot = λ d i q. ⊎_elim (λ (o : In d ds). s.boot d o q) (λ (o : In d more). absurd (foreign d o q)) (in-split d ds more i);
+  held = λ d i q x. ⊎_elim (λ (o : In d ds). s.held d o q x) (λ (o : In d more). absurd (foreign d o q)) (in-split d ds more i);
+  legible = λ d i q x. ⊎_elim (λ (o : In d ds). s.legible d o q x) (λ (o : In d more). absurd (foreign d o q)) (in-split d ds more i);
+}
+
+-- the other end's step, seen from an end
+pub step-far : (given : Given) (e : Port) (a : Router) (f : Port) (b : Router) (k : ℕ) (ds more : List Datagram) (event : Event)
+    → ((d : Datagram) → In d more → d.sender ≢ f.router)
+    → EndHolds f b e a k ds → EndHolds f b e (step given a event).router k (ds ++ more)
+step-far given e a f b k ds more event foreign far =
+    let t = (step given a event).router in
+    let same = (step-stays given a event).boot in
+    record {
+      sound = far.sound;
+      hellos = hellos-more f b.boot (bond_at b f.place) e t.boot k ds more foreign (subst (λ (x : ℕ). Hellos f b.boot (bond_at b f.place) e x k ds) (sym same) far.hellos);
+      sent = sent-more f b k ds more foreign far.sent;
+      standing = record {
+        stands = λ names l id kept_b kept_t. stands-there given b a event l f.place id kept_t
+            (far.standing.stands (names ∙ ap (λ (x : ℕ). Some (name_of e x)) same) l id kept_b (kept-before (heard_in event) a t (step-keeps given a event) l id kept_t));
+      };
+    }
+
+-- a router that is no end steps
+pub others-step : (e : Port) (a : Router) (f : Port) (b : Router) (k : ℕ) (ds more : List Datagram) → ((d : Datagram) → In d more → d.sender ≢ e.router) → EndHolds e a f b k ds → EndHolds e a f b k (ds ++ more)
+others-step e a f b k ds more foreign h = record {
+  sound = h.sound;
+  hellos = hellos-more e a.boot (bond_at a e.place) f b.boot k ds more foreign h.hellos;
+  sent = sent-more e a k ds more foreign h.sent;
+  standing = h.standing;
+}

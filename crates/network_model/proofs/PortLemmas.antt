@@ -1,0 +1,123 @@
+-- What is kept of a link's hellos, by what happens.
+use Rattle.std.proofs.Common.{◌≡◌, ◌≢◌, ℕ, ◌+◌, ◌*◌, ◌≤◌, ⊎_elim, List, ◌++◌, Option, Some, refl, sym, ap, ◌∙◌, subst, arith, le_refl, le_trans, le_of_eq}
+use Rattle.isis_tlv.specs.declared.three_way.Adj.{Adj}
+use Rattle.isis_tlv.specs.declared.three_way.Adj.TheVariants.{Up, Down}
+use Rattle.isis_model.specs.Routers.{extended_of}
+use Rattle.isis_model.specs.AdjacencyLaws.{Bond, no_bond, IsBond}
+use Rattle.network_model.specs.Networks.{Datagram}
+use Rattle.network_model.specs.Ports.{Port, name_of, In, Hails, TellsBoot, IsHail, Reason, Hellos, Uncrossed}
+use Rattle.network_model.proofs.InLemmas.{in-old, in-split}
+
+some-one : (a b : ℕ × ℕ) → ◌≡◌ {A = Option (ℕ × ℕ)} (Some a) (Some b) → a ≡ b
+some-one a b e = cc
+
+-- a name tells one boot
+pub one-boot : (f : Port) (y z : ℕ) → name_of f y ≡ name_of f z → y ≡ z
+one-boot f y z e = let k : 256 * y + (f.place + 1) ≡ 256 * z + (f.place + 1) = ap (λ (n : ℕ × ℕ). n.1) e in omega (arith, k)
+
+pub one-name : (f : Port) (y z : ℕ) → ◌≡◌ {A = Option (ℕ × ℕ)} (Some (name_of f y)) (Some (name_of f z)) → y ≡ z
+one-name f y z e = one-boot f y z (some-one _ _ e)
+
+-- the boot of a name that is told is at most the present one
+pub told : (f : Port) (y z : ℕ) → TellsBoot f y (name_of f z) → z ≤ y
+told f y z t = le_trans (le_of_eq (one-boot f z t.boot t.name_is)) t.past
+
+-- ---- the list grows by what others send
+
+pub reason-more : (e : Port) (x : ℕ) (m : Bond) (f : Port) (k : ℕ) (ds more : List Datagram) → Reason e x m f k ds → Reason e x m f k (ds ++ more)
+reason-more e x m f k ds more r = record { hello = r.hello; state = r.state; extended = r.extended; was_sent = in-old r.hello ds more r.was_sent; hails = r.hails; keeps = r.keeps }
+
+pub hellos-more : (e : Port) (x : ℕ) (m : Bond) (f : Port) (y k : ℕ) (ds more : List Datagram) → ((d : Datagram) → In d more → d.sender ≢ e.router) → Hellos e x m f y k ds → Hellos e x m f y k (ds ++ more)
+hellos-more e x m f y k ds more foreign h = record {
+  bond = h.bond;
+  kept = h.kept;
+  named = λ d s p n i hail. ⊎_elim (λ (o : In d ds). h.named d s p n o hail) (λ (o : In d more). absurd (foreign d o hail.sender)) (in-split d ds more i);
+  reason = λ up. reason-more e x m f k ds more (h.reason up);
+}
+
+-- ---- the list grows by what the end itself sends
+
+pub record Own (e : Port) (x : ℕ) (m : Bond) (k : ℕ) (more : List Datagram) : Type 0 where
+  pub boot : (d : Datagram) → In d more → d.boot ≡ x
+  pub sender : (d : Datagram) → In d more → d.sender ≡ e.router
+  pub bond : (d : Datagram) (s : Adj) (p : ℕ) (n : Option (ℕ × ℕ)) → In d more → Hails e k d s p n → m ≡ record { state = s; names = n }
+  pub own : (d : Datagram) (s : Adj) (p : ℕ) (n : Option (ℕ × ℕ)) → In d more → Hails e k d s p n → p ≡ extended_of x e.place
+
+pub hellos-own : (e : Port) (x : ℕ) (m : Bond) (f : Port) (y k : ℕ) (ds more : List Datagram) → Own e x m k more → Hellos e x m f y k ds → Hellos e x m f y k (ds ++ more)
+hellos-own e x m f y k ds more own h = record {
+  bond = h.bond;
+  kept = h.kept;
+  named = λ d s p n i hail. ⊎_elim (λ (o : In d ds). h.named d s p n o hail) (λ (o : In d more). fresh d s p n o hail) (in-split d ds more i);
+  reason = λ up. reason-more e x m f k ds more (h.reason up);
+}
+  where
+    fresh : (d : Datagram) (s : Adj) (p : ℕ) (n : Option (ℕ × ℕ)) → In d more → Hails e k d s p n → IsHail e x m f y d s p n
+    fresh d s p n o hail =
+        let same : m ≡ record { state = s; names = n } = own.bond d s p n o hail in
+        let names : m.names ≡ n = ap (λ (b : Bond). b.names) same in
+        record {
+          own = own.own d s p n o hail ∙ ap (λ (b : ℕ). extended_of b e.place) (sym (own.boot d o));
+          bond = subst IsBond same h.bond;
+          other = λ name a. h.kept name (names ∙ a);
+          kept = λ z w b a c. le_of_eq (one-name f z w (sym a ∙ sym names ∙ c));
+        }
+
+-- ---- the other end's boot is a later one
+
+pub later-boot : (f : Port) (y z : ℕ) (n : ℕ × ℕ) → y ≤ z → TellsBoot f y n → TellsBoot f z n
+later-boot f y z n l t = record { boot = t.boot; name_is = t.name_is; past = le_trans t.past l }
+
+pub hellos-later : (e : Port) (x : ℕ) (m : Bond) (f : Port) (y z k : ℕ) (ds : List Datagram) → y ≤ z → Hellos e x m f y k ds → Hellos e x m f z k ds
+hellos-later e x m f y z k ds l h = record {
+  bond = h.bond;
+  kept = λ n a. later-boot f y z n l (h.kept n a);
+  named = λ d s p n i hail. let g = h.named d s p n i hail in record { own = g.own; bond = g.bond; other = λ name a. later-boot f y z name l (g.other name a); kept = g.kept };
+  reason = h.reason;
+}
+
+-- ---- the end's adjacency ends, or the end restarts
+
+pub no-bond : IsBond no_bond
+no-bond = record { down = λ e. refl; names = λ e. refl }
+
+-- no adjacency, and a boot that is this one or that of no hello
+pub hellos-none : (e : Port) (x new : ℕ) (m : Bond) (f : Port) (y k : ℕ) (ds : List Datagram) → Hellos e x m f y k ds → Hellos e new no_bond f y k ds
+hellos-none e x new m f y k ds h = record {
+  bond = no-bond;
+  kept = λ n a. absurd (cc);
+  named = λ d s p n i hail. let g = h.named d s p n i hail in record { own = g.own; bond = g.bond; other = g.other; kept = λ z w b a c. absurd (cc) };
+  reason = λ up. absurd (cc);
+}
+
+-- ---- the end meets the other in its present boot
+
+pub hellos-meets : (e : Port) (x : ℕ) (m : Bond) (state : Adj) (f : Port) (y k : ℕ) (ds : List Datagram) → state ≢ Down
+    → (state ≡ Up → Reason e x (record { state = state; names = Some (name_of f y) }) f k ds)
+    → Hellos e x m f y k ds → Hellos e x (record { state = state; names = Some (name_of f y) }) f y k ds
+hellos-meets e x m state f y k ds up why h = record {
+  bond = record { down = λ a. absurd (up a); names = λ a. absurd (cc) };
+  kept = λ n a. record { boot = y; name_is = sym (some-one _ _ a); past = le_refl y };
+  named = λ d s p n i hail. let g = h.named d s p n i hail in record { own = g.own; bond = g.bond; other = g.other; kept = λ z w b a c. le_trans (told f y z (g.other (name_of f z) a)) (le_of_eq (one-name f y w c)) };
+  reason = why;
+}
+
+-- ---- hellos that cross
+
+pub uncrossed-flip : (e f : Port) (k : ℕ) (ds : List Datagram) → Uncrossed e f k ds → Uncrossed f e k ds
+uncrossed-flip e f k ds h = record { none = λ d g s t p q z u i j a b l r. h.none g d t s q p u z j i b a r l }
+
+pub uncrossed-more : (e f : Port) (k : ℕ) (ds more : List Datagram) → ((d : Datagram) → In d more → d.sender ≢ e.router) → ((d : Datagram) → In d more → d.sender ≢ f.router) → Uncrossed e f k ds → Uncrossed e f k (ds ++ more)
+uncrossed-more e f k ds more fe ff h = record {
+  none = λ d g s t p q z u i j a b l r.
+      ⊎_elim (λ (o : In d ds). ⊎_elim (λ (n : In g ds). h.none d g s t p q z u o n a b l r) (λ (n : In g more). ff g n b.sender) (in-split g ds more j)) (λ (o : In d more). fe d o a.sender) (in-split d ds more i);
+}
+
+-- what an end sends crosses nothing: whoever names it names no boot past its present one
+pub uncrossed-own : (e : Port) (x : ℕ) (f : Port) (y k : ℕ) (n : Bond) (ds more : List Datagram) → ((d : Datagram) → In d more → d.sender ≢ f.router) → ((d : Datagram) → In d more → d.boot ≡ x)
+    → Hellos f y n e x k ds → Uncrossed e f k ds → Uncrossed e f k (ds ++ more)
+uncrossed-own e x f y k n ds more ff boots far h = record {
+  none = λ d g s t p q z u i j a b l r.
+      ⊎_elim (λ (v : In g ds). ⊎_elim (λ (o : In d ds). h.none d g s t p q z u o v a b l r)
+      (λ (o : In d more). let past : u ≤ x = told e x u ((far.named g t q (Some (name_of e u)) v b).other (name_of e u) refl) in let now = boots d o in omega (arith, past, now, l)) (in-split d ds more i))
+      (λ (v : In g more). ff g v b.sender) (in-split g ds more j);
+}

@@ -1,0 +1,32 @@
+-- What is legible: that a receiver reads what was said, or refuses it by a test that needs no state
+-- (own).
+use Rattle.std.specs.Prelude.{◌≡◌, ℕ, ◌<◌, ◌⊎◌, Some}
+use Rattle.std.specs.List.{AllByRecursion}
+use Rattle.isis_model.specs.declared.drop_name.DropName.{DropName}
+use Rattle.isis_model.specs.Places.{nth}
+use Rattle.isis_model.specs.Configs.{Config}
+use Rattle.isis_model.specs.Routers.{Circuit, Router}
+use Rattle.isis_model.specs.Events.{Message, Refused}
+use Rattle.isis_datagram.specs.Reading.{read}
+use Rattle.isis_datagram.specs.Said.{said}
+use Rattle.isis_datagram.specs.Speakers.{IsSpeaking}
+use Rattle.network_model.specs.Networks.{Datagram, octets_of, Network}
+
+-- a message is refused by a test that needs no state, or it is this one (own)
+abbrev pub IsReading : Message → Message → Type 0
+IsReading m says = ((cause : DropName) × (m ≡ Refused cause)) ⊎ (m ≡ says)
+
+-- whoever takes a datagram's octets, on whichever circuit, reads what was said, or refuses it (own)
+abbrev pub IsLegible : Datagram → Type 0
+IsLegible d = (by : Config) (on : Circuit)
+    → IsReading (read by on (octets_of d)) (said by.system d.config d.place d.circuit d.says)
+
+-- each router of a network (own)
+abbrev pub AreSpeaking : Network → Type 0
+AreSpeaking net = (i : ℕ) (r : Router) → nth net.routers i ≡ Some r → IsSpeaking r
+
+-- the octets of each datagram are octets (own)
+abbrev pub AreOctets : Network → Type 0
+AreOctets net =
+    AllByRecursion (λ (d : Datagram). AllByRecursion (λ octet. octet < 256) (octets_of d))
+    net.datagrams

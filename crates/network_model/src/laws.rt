@@ -1,0 +1,41 @@
+//! The laws of networks: functions without a body, whose contracts hold for every network and event.
+ghost use Rattle.std.specs.Prelude.{◌≡◌, ℕ, ◌≤◌, List, Bool, Some, false};
+ghost use Rattle.isis_base.specs.declared.level.Level.{Level};
+ghost use Rattle.isis_model.specs.Places.{nth};
+ghost use Rattle.isis_model.specs.Routers.{Router};
+ghost use Rattle.isis_datagram.specs.Lsps.{given_octets};
+ghost use Rattle.network_model.specs.Networks.{Network, Datagram};
+ghost use Rattle.network_model.specs.Runs.{Happening, apply, is_injection};
+ghost use Rattle.network_model.specs.Speakers.{AreSpeaking, AreOctets};
+ghost use Rattle.network_model.specs.Ports.{Port};
+ghost use Rattle.network_model.specs.Links.{IsWired, Joins, LinkHolds, Holds, IsUp, Claim};
+ghost use Rattle.network_model.specs.Starts.{Opens};
+ghost use Rattle.network_model.specs.Counts.{ahead, flags};
+
+/// What is kept of a link holds when its ends open, and is kept by each event that injects nothing,
+/// where each router is one that can be reached. An event leaves the links as they are.
+pub fn link_holds()
+    ensures start { (net : Network) (e f : Port) (link : ℕ) → Opens net e f → Holds net e f link }
+    ensures event { (leaks : Router → Level → List (ℕ × ℕ)) (attached : Router → Bool)
+        (net : Network) (e f : Port) (link : ℕ) (h : Happening)
+        → is_injection h ≡ false → IsWired net → Joins net e f link
+        → AreOctets net → AreSpeaking net → AreSpeaking (apply (given_octets leaks attached) net h)
+        → Holds net e f link → Holds (apply (given_octets leaks attached) net h) e f link }
+    ensures links { (leaks : Router → Level → List (ℕ × ℕ)) (attached : Router → Bool)
+        (net : Network) (h : Happening)
+        → (apply (given_octets leaks attached) net h).links ≡ net.links }
+{}
+
+/// Where what is kept of a link holds, and the link is up at a level, each end names the other, and
+/// stands to it for each LSP ID that neither let go. So no end is ahead in more LSP IDs than its
+/// flags on the link.
+pub fn link_claim()
+    ensures claim { (e f : Port) (link : ℕ) (a b : Router) (sent : List Datagram) (level : Level)
+        → LinkHolds e f link a b sent → IsUp e a f b level → Claim e a f b level }
+    ensures near { (e f : Port) (link : ℕ) (a b : Router) (sent : List Datagram) (level : Level)
+        → LinkHolds e f link a b sent → IsUp e a f b level
+        → ahead a b level ≤ flags a e.place level }
+    ensures far { (e f : Port) (link : ℕ) (a b : Router) (sent : List Datagram) (level : Level)
+        → LinkHolds e f link a b sent → IsUp e a f b level
+        → ahead b a level ≤ flags b f.place level }
+{}
