@@ -8,8 +8,6 @@ use Rattle.isis_model.proofs.BookLemmas.{choose, test}
 use Rattle.lsp_fragments.specs.declared.issue.Issue.TheVariants.{Number, Exhausted}
 use Rattle.lsp_fragments.specs.Issues.{outbid_by, older_issued}
 use Rattle.isis_model.specs.Seconds as seconds
-use Rattle.isis_model.specs.Books.{risen}
-use Rattle.std.proofs.lemmas.Bool.Decides.{nat_tests}
 use Rattle.std.specs.List.{AllByRecursion}
 use Rattle.lsp_fragments.proofs.laws.own_laws.Goals as goal
 
@@ -17,9 +15,7 @@ same-second : (all : List (ℕ × Issued)) → AllByRecursion (λ (pair : ℕ ×
 unfolding each
 same-second [] less = refl
 same-second (pair ∷ all) less =
-    let age : risen pair.1.age ≡ pair.1.age + 1 = (let h = less.0 in grind (arith, nat_tests, h)) in
-    ap (λ (n : ℕ). (pair.0, record pair.1 { age = n }) ∷ each (λ (_ : ℕ) (i : Issued). older_issued i) all) age
-    ∙ ap (λ (rest : List (ℕ × Issued)). (pair.0, seconds.older pair.1) ∷ rest) (same-second all less.1)
+    ap (λ (rest : List (ℕ × Issued)). (pair.0, seconds.older pair.1) ∷ rest) (same-second all less.1)
 
 pub returns-clause-second : goal.returns-clause-second
 returns-clause-second c = same-second
