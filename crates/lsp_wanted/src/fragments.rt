@@ -15,7 +15,7 @@ const SIGNED: usize = 1446;
 const PLAIN: usize = 1465;
 
 /// The TLVs of each fragment, and whether all entries fit.
-pub(crate) struct Fragments {
+pub(crate) struct Parts {
     pub tlvs: Vec<Octets>,
     pub whole: bool,
 }
@@ -25,7 +25,7 @@ pub(crate) fn fragments(
     alloc: Global,
     content: Content,
     signed: bool,
-) -> Result<Fragments, OutOfMemory>
+) -> Result<Parts, OutOfMemory>
     requires areas { length content.areas.items ≤ 3 }
     requires addresses { length content.addresses.items ≤ 64 }
     requires metrics { All (λ item. item.metric < 2 ^ 24) content.neighbours.items }
@@ -35,13 +35,13 @@ pub(crate) fn fragments(
 {
     let room = if signed { SIGNED } else { PLAIN };
     let fit = match split(alloc, &content, room) {
-        Ok(tlvs) => return Ok(Fragments { tlvs, whole: true }),
+        Ok(tlvs) => return Ok(Parts { tlvs, whole: true }),
         Err(SplitFault::TooMuch { fit }) => fit,
         Err(SplitFault::OutOfMemory) => return Err(OutOfMemory),
     };
     let content = first_entries(content, fit);
     match split(alloc, &content, room) {
-        Ok(tlvs) => Ok(Fragments { tlvs, whole: false }),
+        Ok(tlvs) => Ok(Parts { tlvs, whole: false }),
         Err(_) => Err(OutOfMemory),
     }
 }
