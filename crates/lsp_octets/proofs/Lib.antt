@@ -1,2 +1,4 @@
 -- Lemmas, by topic.
 pub mod DraftLemmas
+pub mod SumLemmas
+pub mod HeldLemmas

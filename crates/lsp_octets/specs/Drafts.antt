@@ -43,9 +43,9 @@ lsp_octets_with level id flags number checksum tlvs =
 pub record IsDraft (level : Level) (id : LspId) (flags : ℕ) (keyed : Bool)
     (tlvs octets : List ℕ) : Type 0 where
   pub six : length id.node.system.0 ≡ 6
-  pub tlvs : AreTlvs tlvs
+  pub are : AreTlvs tlvs
   pub short : length (blank_auth keyed) + length tlvs ≤ 1465
-  pub octets : octets ≡ lsp_octets_with level id flags 0 0 (blank_auth keyed ++ tlvs)
+  pub whole : octets ≡ lsp_octets_with level id flags 0 0 (blank_auth keyed ++ tlvs)
 
 -- octets with the digest in its place, where there is a key (RFC 5304 2)
 abbrev pub with_digest : Option (List ℕ) → List ℕ → List ℕ

@@ -1,13 +1,15 @@
 //! An own LSP without its number, and its issue.
-ghost use Rattle.std.specs.Prelude.{◌≡◌, ◌<◌, ◌≤◌, length, is_some, Some, false, IfOk};
+ghost use Rattle.std.specs.Prelude.{◌≡◌, ◌<◌, ◌≤◌, length, is_some, IfOk};
 ghost use Rattle.std.specs.Option.{option_copied};
 ghost use Rattle.isis_base.specs.Identifiers.{lsp_number};
+ghost use Rattle.isis_base.specs.Keys.{rank};
 ghost use Rattle.isis_pdu.specs.Spelling.{octets_of_pdu};
 ghost use Rattle.isis_model.specs.Good.{IsIssuable};
+ghost use Rattle.isis_model.specs.Ranks.{live_rank};
 ghost use Rattle.isis_datagram.specs.Lsps.{issued_pdu, issued_checksum};
 ghost use Rattle.lsp_octets.specs.Drafts.{IsIssuedCell};
 
-use crate::blank::{AUTH, blank, is_id};
+use crate::blank::{BLANK_AUTH, blank, is_id};
 use crate::places::{NUMBER, sign, sum, write_at};
 use isis_base::{Key, Level, LspId, Octets, OutOfMemory};
 use lsp_store::Entry;
@@ -68,11 +70,11 @@ impl Draft {
           level = level;
           id = id;
           contents = record { flags = flags; tlvs = tlvs };
-          keyed = is_some (option_copied key);
+          keyed = is_some (option_copied key.entry);
         }) }
     {
         let keyed = key.is_some();
-        let auth: &[u8] = if keyed { &AUTH } else { &[] };
+        let auth: &[u8] = if keyed { &BLANK_AUTH } else { &[] };
         let octets = blank(alloc, level, id, flags, auth, tlvs.as_slice())?;
         Ok(Draft {
             level,
@@ -90,14 +92,14 @@ impl Draft {
     pub fn issue(self, key: Option<&[u8]>, number: u32) -> Issued
         requires some { 0 < number }
         requires keyed { is_some (option_copied key) ≡ self.keyed }
-        ensures cell { IsIssuedCell (option_copied key) self.level (lsp_number self.id) number
+        ensures cell { IsIssuedCell (option_copied key.entry) self.level (lsp_number self.id) number
             self.contents result.entry }
-        ensures key { result.entry.key ≡ Some (record { number = number; purged = false }) }
+        ensures rank { rank result.entry.key ≡ live_rank number }
         ensures fields { (result.entry.flags ≡ self.contents.flags) × (result.entry.left ≡ 1200) }
-        ensures octets { result.entry.octets ≡ octets_of_pdu
-            (issued_pdu (option_copied key) self.level (lsp_number self.id) number self.contents) }
-        ensures checksum { result.entry.checksum ≡ issued_checksum (option_copied key) self.level
-            (lsp_number self.id) number self.contents }
+        ensures octets { result.entry.octets ≡ octets_of_pdu (issued_pdu (option_copied key.entry)
+            self.level (lsp_number self.id) number self.contents) }
+        ensures checksum { result.entry.checksum ≡ issued_checksum (option_copied key.entry)
+            self.level (lsp_number self.id) number self.contents }
         ensures long { 27 ≤ length result.entry.octets }
         ensures tlvs { result.tlvs ≡ self.contents.tlvs }
     {

@@ -53,7 +53,7 @@ fn write_piece(octets: &mut [u8], place: usize, piece: &[u8])
 pub(crate) fn sign(octets: &mut Octets, key: Option<&[u8]>)
     requires room { IfSome (option_copied key) (λ _. DIGEST + 16 ≤ length octets.old) }
     requires place { IfSome (option_copied key) (λ _. IsDigestPlace octets.old DIGEST) }
-    ensures { octets.new ≡ with_digest (option_copied key) octets.old }
+    ensures { octets.new ≡ with_digest (option_copied key.entry) octets.old }
 {
     if let Some(key) = key {
         sign_pdu(key, octets.as_mut_slice(), DIGEST);

@@ -1,0 +1,36 @@
+-- A datagram while it is written: the frame and a header without TLVs, then the TLVs, and at last
+-- the PDU length and the digest (ISO 10589 9; RFC 5304 2; the order: own).
+use Rattle.std.specs.Prelude.{ℕ, ◌+◌, ◌-◌, Bool, List, [], ◌++◌, length, take, drop, Option, Some, None}
+use Rattle.isis_base.specs.declared.identifiers.SystemId.{SystemId}
+use Rattle.isis_base.specs.declared.pdu_kind.PduKind.{PduKind}
+use Rattle.isis_base.specs.PduKinds.{header_length, length_place}
+use Rattle.isis_base.specs.Fields.{u16_octets}
+use Rattle.isis_pdu.specs.Views.{PduView}
+use Rattle.isis_pdu.specs.Spelling.{octets_of_pdu}
+use Rattle.hmac_auth.specs.Hmac.{hmac}
+use Rattle.hmac_auth.specs.Pdus.{with_piece, blanked}
+use Rattle.isis_datagram.specs.Frames.{magic}
+use Rattle.lsp_octets.specs.Drafts.{blank_auth}
+
+-- the frame of a system, and what stands behind it (own)
+abbrev pub frame_of : SystemId → List ℕ → List ℕ
+frame_of system pdu = magic ++ (system.0 ++ pdu)
+
+-- a datagram's octets before its length and digest are known, of a PDU but for its TLVs (own)
+abbrev pub begun : SystemId → (List ℕ → PduView) → Bool → List ℕ → List ℕ
+begun system pdu keyed tlvs =
+    frame_of system (octets_of_pdu (pdu []) ++ (blank_auth keyed ++ tlvs))
+
+-- a PDU's octets with their length in its place (ISO 10589 9)
+abbrev pub sized : PduKind → List ℕ → List ℕ
+sized kind pdu = with_piece (length_place kind) (u16_octets (length pdu)) pdu
+
+-- with the digest in its place, behind the header, where there is a key (RFC 5304 2)
+abbrev pub digested : PduKind → Option (List ℕ) → List ℕ → List ℕ
+digested kind None pdu = pdu
+digested kind (Some key) pdu =
+    let at = header_length kind + 3 in with_piece at (hmac key (blanked pdu at)) pdu
+
+-- the datagram with both (own)
+abbrev pub ended : PduKind → Option (List ℕ) → List ℕ → List ℕ
+ended kind key octets = take 10 octets ++ digested kind key (sized kind (drop 10 octets))
