@@ -1,5 +1,5 @@
 -- An own LSP's octets, field by field, before and after it has a number.
-use Rattle.std.proofs.Common.{◌≡◌, ◌∙◌, ℕ, ◌+◌, ◌-◌, ◌*◌, ◌/◌, ◌%◌, ◌<◌, ◌≤◌, List, [], ◌∷◌, ◌++◌, length, take, drop, replicate, Bool, true, false, is_some, Option, Some, None, Ok, refl, sym, ap, subst, arith, length-append}
+use Rattle.std.proofs.Common.{◌≡◌, ◌∙◌, ℕ, ◌+◌, ◌-◌, ◌*◌, ◌/◌, ◌%◌, ◌<◌, List, [], ◌∷◌, ◌++◌, length, take, drop, is_some, Option, Some, None, refl, sym, ap, subst, arith, length-append}
 use Rattle.isis_base.specs.declared.identifiers.LspId.{LspId}
 use Rattle.isis_base.specs.declared.level.Level.{Level}
 use Rattle.isis_base.specs.declared.level.Level.TheVariants as level
@@ -23,7 +23,7 @@ use Rattle.isis_pdu.specs.Spelling.{start_octets, field_octets}
 use Rattle.isis_datagram.specs.Numbers.{u48_octets, lsp_id}
 use Rattle.isis_datagram.specs.CheckOctets.{checksum_with, with_checksum}
 use Rattle.isis_datagram.specs.Signing.{auth_octets}
-use Rattle.isis_datagram.specs.Lsps.{issued_with, issued_tlvs, issued_checksum, issued_pdu}
+use Rattle.isis_datagram.specs.Lsps.{issued_tlvs, issued_checksum, issued_pdu}
 use Rattle.isis_pdu.specs.Spelling.{octets_of_pdu}
 use Rattle.isis_datagram.proofs.AuthLemmas.{blank, written-digest, place-digest}
 use Rattle.isis_datagram.proofs.IssueLemmas.{issued-in_range}
@@ -113,18 +113,20 @@ module _ (id : LspId) (six : length id.node.system.0 ≡ 6) (level : Level) (fla
   -- the digest's place is behind the header
   pub placed : (number : ℕ) (tlvs : List ℕ) → AreTlvs tlvs → IsDigestPlace (signed_with number blank tlvs) 30
   placed number tlvs are =
-      let front = header_with number (19 + length tlvs) in
-      (27, framed number (auth_octets blank ++ tlvs) (tlvs-joined (auth_octets blank) tlvs (tlvs-one 10 (54 ∷ blank)) are),
-      ap (λ (octets : List ℕ). digest_place octets 27) (headed number blank tlvs refl)
-      ∙ place-digest front tlvs 27 (header-size number (19 + length tlvs)))
+      let front = header_with number (19 + length tlvs) in (
+        27,
+        framed number (auth_octets blank ++ tlvs) (tlvs-joined (auth_octets blank) tlvs (tlvs-one 10 (54 ∷ blank)) are),
+        ap (λ (octets : List ℕ). digest_place octets 27) (headed number blank tlvs refl)
+            ∙ place-digest front tlvs 27 (header-size number (19 + length tlvs)),
+      )
 
   -- ---- what is issued
 
-  abbrev blank_with : Option (List ℕ) → ℕ → List ℕ → List ℕ
+  abbrev pub blank_with : Option (List ℕ) → ℕ → List ℕ → List ℕ
   blank_with key number tlvs = lsp_octets_with level id flags number 0 (blank_auth (is_some key) ++ tlvs)
 
   -- the TLVs of what is issued
-  abbrev its : Option (List ℕ) → ℕ → List ℕ → List ℕ
+  abbrev pub its : Option (List ℕ) → ℕ → List ℕ → List ℕ
   its None number tlvs = tlvs
   its (Some key) number tlvs = auth_octets (hmac key (blanked (signed_with number blank tlvs) 30)) ++ tlvs
 
@@ -133,6 +135,15 @@ module _ (id : LspId) (six : length id.node.system.0 ≡ 6) (level : Level) (fla
   signed-octets (Some key) number tlvs =
       let message = blanked (signed_with number blank tlvs) 30 in
       digested number (hmac key message) tlvs (length-hmac key message)
+
+  pub its-length : (key : Option (List ℕ)) (number : ℕ) (tlvs : List ℕ) → length (its key number tlvs) ≡ length (blank_auth (is_some key)) + length tlvs
+  its-length None number tlvs = omega arith
+  its-length (Some key) number tlvs =
+      let message = blanked (signed_with number blank tlvs) 30 in
+      let d = hmac key message in
+      let both = length-append d tlvs in
+      let sixteen = length-hmac key message in
+      omega (arith, both, sixteen)
 
   module _ (same : lsp_id (lsp_number id) ≡ id) where
     its-same : (key : Option (List ℕ)) (number : ℕ) (tlvs : List ℕ) → issued_tlvs key level (lsp_number id) number (record { flags = flags; tlvs = tlvs }) ≡ its key number tlvs
@@ -144,7 +155,7 @@ module _ (id : LspId) (six : length id.node.system.0 ≡ 6) (level : Level) (fla
       abbrev contents : Contents
       contents = record { flags = flags; tlvs = tlvs }
 
-      abbrev before_sum : List ℕ
+      abbrev pub before_sum : List ℕ
       before_sum = lsp_octets_with level id flags number 0 (its key number tlvs)
 
       -- the checksum of what is signed

@@ -2,3 +2,4 @@
 pub mod DraftLemmas
 pub mod SumLemmas
 pub mod HeldLemmas
+pub mod IssueLemmas

@@ -3,7 +3,6 @@
 use Rattle.std.specs.Prelude.{◌≡◌, ℕ, ◌+◌, ◌≤◌, Bool, true, false, List, [], ◌++◌, length, replicate, Option, Some, None}
 use Rattle.isis_base.specs.declared.identifiers.LspId.{LspId}
 use Rattle.isis_base.specs.declared.level.Level.{Level}
-use Rattle.isis_base.specs.Identifiers.{lsp_number}
 use Rattle.isis_tlv.specs.Tlvs.{AreTlvs}
 use Rattle.isis_pdu.specs.Views.{Lsp}
 use Rattle.isis_pdu.specs.Spelling.{octets_of_pdu}

@@ -11,7 +11,7 @@ use std::alloc::Global;
 
 /// The authentication before its digest is known: code 10, length 17, type 54 and zeros (RFC 5304
 /// 2).
-pub(crate) const BLANK_AUTH: [u8; 19] = [10, 17, 54, 0, 0, 0, 0, 0, 0, 0, 0, 0, 0, 0, 0, 0, 0, 0, 0];
+pub const BLANK_AUTH: [u8; 19] = [10, 17, 54, 0, 0, 0, 0, 0, 0, 0, 0, 0, 0, 0, 0, 0, 0, 0, 0];
 
 /// The octets of an LSP of number 0 and checksum 0, whose TLVs are these two pieces.
 pub(crate) fn blank(

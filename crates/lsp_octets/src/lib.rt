@@ -20,6 +20,7 @@ mod held;
 pub mod laws;
 mod places;
 
+pub use blank::BLANK_AUTH;
 pub use draft::{Draft, Issued};
 pub use held::put_lsp;
 

@@ -9,8 +9,8 @@ ghost use Rattle.lsp_octets.specs.Drafts.{with_digest};
 use hmac_auth::sign_pdu;
 use isis_base::Octets;
 use isis_base::fields::u16_at;
-use iso_checksum::fill;
 use isis_datagram::laws::checksum_law;
+use iso_checksum::fill;
 
 /// The number of octets of an LSP's header (ISO 10589 9.8).
 pub(crate) const HEADER: usize = 27;
