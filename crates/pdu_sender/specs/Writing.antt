@@ -1,6 +1,7 @@
 -- A datagram while it is written: the frame and a header without TLVs, then the TLVs, and at last
 -- the PDU length and the digest (ISO 10589 9; RFC 5304 2; the order: own).
-use Rattle.std.specs.Prelude.{ℕ, ◌+◌, ◌-◌, Bool, List, [], ◌++◌, length, take, drop, Option, Some, None}
+use Rattle.std.specs.Prelude.{ℕ, ◌+◌, ◌≤◌, Bool, IfSome, List, [], ◌++◌, length, take, drop, Option, Some, None}
+use Rattle.std.specs.List.{flat_map}
 use Rattle.isis_base.specs.declared.identifiers.SystemId.{SystemId}
 use Rattle.isis_base.specs.declared.pdu_kind.PduKind.{PduKind}
 use Rattle.isis_base.specs.PduKinds.{header_length, length_place}
@@ -9,6 +10,8 @@ use Rattle.isis_pdu.specs.Views.{PduView}
 use Rattle.isis_pdu.specs.Spelling.{octets_of_pdu}
 use Rattle.hmac_auth.specs.Hmac.{hmac}
 use Rattle.hmac_auth.specs.Pdus.{with_piece, blanked}
+use Rattle.hmac_auth.specs.Auth.{IsDigestPlace}
+use Rattle.isis_datagram.specs.Tlvs.{in_pieces}
 use Rattle.isis_datagram.specs.Frames.{magic}
 use Rattle.lsp_octets.specs.Drafts.{blank_auth}
 
@@ -25,6 +28,14 @@ begun system pdu keyed tlvs =
 abbrev pub sized : PduKind → List ℕ → List ℕ
 sized kind pdu = with_piece (length_place kind) (u16_octets (length pdu)) pdu
 
+-- what of a PDU its length and digest need: a header, and where there is a key the place of the
+-- digest, behind the header (RFC 5304 2)
+pub record IsSignable (kind : PduKind) (key : Option (List ℕ)) (pdu : List ℕ) : Type 0 where
+  pub header : header_length kind ≤ length pdu
+  pub short : length pdu ≤ 65535
+  pub room : IfSome key (λ _. header_length kind + 19 ≤ length pdu)
+  pub place : IfSome key (λ _. IsDigestPlace (sized kind pdu) (header_length kind + 3))
+
 -- with the digest in its place, behind the header, where there is a key (RFC 5304 2)
 abbrev pub digested : PduKind → Option (List ℕ) → List ℕ → List ℕ
 digested kind None pdu = pdu
@@ -34,3 +45,12 @@ digested kind (Some key) pdu =
 -- the datagram with both (own)
 abbrev pub ended : PduKind → Option (List ℕ) → List ℕ → List ℕ
 ended kind key octets = take 10 octets ++ digested kind key (sized kind (drop 10 octets))
+
+-- a datagram that has both's places (own)
+pub record IsEndable (kind : PduKind) (key : Option (List ℕ)) (octets : List ℕ) : Type 0 where
+  pub frame : 10 ≤ length octets
+  pub pdu : IsSignable kind key (drop 10 octets)
+
+-- a list in pieces of a size, each piece as octets (own)
+abbrev pub pieced : {X : Type 0} → ℕ → (List X → List ℕ) → List X → List ℕ
+pieced size octets list = flat_map octets (in_pieces (length list) size list)

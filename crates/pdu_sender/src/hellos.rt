@@ -1,5 +1,5 @@
 //! Hellos.
-ghost use Rattle.std.specs.Prelude.{◌≡◌, ℕ, ◌≤◌, ◌++◌, length, IfOk, OnOk};
+ghost use Rattle.std.specs.Prelude.{◌≡◌, ℕ, ◌≤◌, [], ◌++◌, length, IfOk, OnOk};
 ghost use Rattle.isis_model.specs.Configs.{Config};
 ghost use Rattle.isis_model.specs.Routers.{Circuit};
 ghost use Rattle.isis_model.specs.Datagrams as sent;
@@ -8,8 +8,9 @@ ghost use Rattle.isis_datagram.specs.Datagrams.{datagram};
 ghost use Rattle.isis_datagram.specs.Tlvs.{hello_tlvs};
 ghost use Rattle.pdu_sender.specs.Sends.{Sends, FitAreas, names_of, snpas_of};
 
+use crate::ids::{names_law, node_law, snpas_law, system_law};
+use crate::pieces::put_heard;
 use crate::sender::Sender;
-use crate::snpa_tlvs::put_heard;
 use crate::writing::{begin, end};
 use adjacency::Neighbour;
 use isis_base::{Level, NodeId, Octets, OutOfMemory, PduKind, SystemId};
@@ -35,6 +36,8 @@ pub fn point_hello(
         → IfOk result (λ octets. octets
         ≡ datagram config place c (sent.PointHello state extended (names_of neighbour))) }
 {
+    system_law(sender.system);
+    names_law(neighbour);
     let header = Pdu::PointHello {
         circuit_type: sender.levels,
         source: sender.system,
@@ -70,6 +73,9 @@ pub fn lan_hello(
         → IfOk result (λ octets. octets
         ≡ datagram config place c (sent.LanHello level (node_number lan) (snpas_of heard.now))) }
 {
+    system_law(sender.system);
+    node_law(lan);
+    snpas_law(heard);
     let header = Pdu::LanHello {
         level,
         circuit_type: sender.levels,

@@ -9,14 +9,15 @@
 //! - `sender.rt`: who sends on which circuit
 //! - `writing.rt`: how a datagram begins and ends
 //! - `hellos.rt`, `snps.rt`, `lsps.rt`: hellos, sequence number PDUs and LSPs
-//! - `snpa_tlvs.rt`, `entry_tlvs.rt`: the TLVs of SNPAs heard and of LSP entries
+//! - `pieces.rt`: the TLVs of SNPAs heard and of LSP entries
+//! - `ids.rt`: identifiers are those of their numbers
 #![tactic(auto)]
 
-mod entry_tlvs;
 mod hellos;
+mod ids;
 mod lsps;
+mod pieces;
 mod sender;
-mod snpa_tlvs;
 mod snps;
 mod writing;
 

@@ -1,12 +1,11 @@
 //! How a datagram begins and ends.
-ghost use Rattle.std.specs.Prelude.{◌≡◌, ◌+◌, ◌≤◌, [], ◌++◌, length, drop, IfOk, IfSome};
+ghost use Rattle.std.specs.Prelude.{◌≡◌, ◌≤◌, [], ◌++◌, length, IfOk};
 ghost use Rattle.std.specs.Option.{option_copied};
 ghost use Rattle.isis_base.specs.PduKinds.{header_length};
 ghost use Rattle.isis_pdu.specs.Views.{pdu_view, tlvs_of_pdu};
 ghost use Rattle.isis_pdu.specs.Spelling.{octets_of_pdu, priority_of};
-ghost use Rattle.hmac_auth.specs.Auth.{IsDigestPlace};
 ghost use Rattle.lsp_octets.specs.Drafts.{blank_auth};
-ghost use Rattle.pdu_sender.specs.Writing.{frame_of, sized, digested, ended};
+ghost use Rattle.pdu_sender.specs.Writing.{frame_of, sized, digested, ended, IsSignable, IsEndable};
 
 use hmac_auth::sign_pdu;
 use isis_base::{Octets, OutOfMemory, PduKind, Snpa, SystemId};
@@ -50,12 +49,7 @@ pub(crate) fn frame(alloc: Global, system: SystemId, pdu: &[u8]) -> Result<Octet
 
 /// Writes the PDU length, and the digest where there is a key.
 pub(crate) fn end(octets: &mut Octets, kind: PduKind, key: Option<&[u8]>)
-    requires header { FRAME + header_length kind ≤ length octets.old }
-    requires short { length octets.old ≤ 65535 }
-    requires room { IfSome (option_copied key)
-        (λ _. FRAME + header_length kind + 19 ≤ length octets.old) }
-    requires place { IfSome (option_copied key)
-        (λ _. IsDigestPlace (sized kind (drop 10 octets.old)) (header_length kind + 3)) }
+    requires { IsEndable kind (option_copied key) octets.old }
     ensures { octets.new ≡ ended kind (option_copied key.entry) octets.old }
 {
     end_lent(octets.as_mut_slice(), kind, key);
@@ -63,12 +57,7 @@ pub(crate) fn end(octets: &mut Octets, kind: PduKind, key: Option<&[u8]>)
 
 /// The same of a datagram that is lent.
 fn end_lent(octets: &mut [u8], kind: PduKind, key: Option<&[u8]>)
-    requires header { FRAME + header_length kind ≤ length octets.old }
-    requires short { length octets.old ≤ 65535 }
-    requires room { IfSome (option_copied key)
-        (λ _. FRAME + header_length kind + 19 ≤ length octets.old) }
-    requires place { IfSome (option_copied key)
-        (λ _. IsDigestPlace (sized kind (drop 10 octets.old)) (header_length kind + 3)) }
+    requires { IsEndable kind (option_copied key) octets.old }
     ensures { octets.new ≡ ended kind (option_copied key.entry) octets.old }
 {
     end_pdu(&mut octets[FRAME..], kind, key);
@@ -76,12 +65,7 @@ fn end_lent(octets: &mut [u8], kind: PduKind, key: Option<&[u8]>)
 
 /// The same of a PDU that is lent.
 fn end_pdu(pdu: &mut [u8], kind: PduKind, key: Option<&[u8]>)
-    requires header { header_length kind ≤ length pdu.old }
-    requires short { length pdu.old ≤ 65535 }
-    requires room { IfSome (option_copied key)
-        (λ _. header_length kind + 19 ≤ length pdu.old) }
-    requires place { IfSome (option_copied key)
-        (λ _. IsDigestPlace (sized kind pdu.old) (header_length kind + 3)) }
+    requires { IsSignable kind (option_copied key) pdu.old }
     ensures { pdu.new ≡ digested kind (option_copied key.entry) (sized kind pdu.old) }
 {
     write_length(pdu, kind);
