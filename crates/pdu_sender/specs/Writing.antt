@@ -1,6 +1,6 @@
 -- A datagram while it is written: the frame and a header without TLVs, then the TLVs, and at last
 -- the PDU length and the digest (ISO 10589 9; RFC 5304 2; the order: own).
-use Rattle.std.specs.Prelude.{ℕ, ◌+◌, ◌≤◌, Bool, IfSome, List, [], ◌++◌, length, take, drop, Option, Some, None}
+use Rattle.std.specs.Prelude.{ℕ, ◌+◌, ◌≤◌, Bool, IfSome, List, [], ◌++◌, length, take, drop, map, Option, Some, None}
 use Rattle.std.specs.List.{flat_map}
 use Rattle.isis_base.specs.declared.identifiers.SystemId.{SystemId}
 use Rattle.isis_base.specs.declared.pdu_kind.PduKind.{PduKind}
@@ -13,6 +13,8 @@ use Rattle.hmac_auth.specs.Pdus.{with_piece, blanked}
 use Rattle.hmac_auth.specs.Auth.{IsDigestPlace}
 use Rattle.isis_datagram.specs.Tlvs.{in_pieces}
 use Rattle.isis_datagram.specs.Frames.{magic}
+use Rattle.isis_tlv.specs.Spelling.{snpa_tlv}
+use Rattle.adjacency.specs.declared.neighbour.Neighbour.{Neighbour}
 use Rattle.lsp_octets.specs.Drafts.{blank_auth}
 
 -- the frame of a system, and what stands behind it (own)
@@ -54,3 +56,7 @@ pub record IsEndable (kind : PduKind) (key : Option (List ℕ)) (octets : List �
 -- a list in pieces of a size, each piece as octets (own)
 abbrev pub pieced : {X : Type 0} → ℕ → (List X → List ℕ) → List X → List ℕ
 pieced size octets list = flat_map octets (in_pieces (length list) size list)
+
+-- the TLV of the SNPAs of neighbours (ISO 10589 9.5)
+abbrev pub heard_tlv : List Neighbour → List ℕ
+heard_tlv piece = snpa_tlv (map (λ (n : Neighbour). n.snpa) piece)

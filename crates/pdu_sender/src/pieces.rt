@@ -1,7 +1,7 @@
 //! Lists in pieces, a TLV to a piece.
-ghost use Rattle.std.specs.Prelude.{◌≡◌, ◌≤◌, ◌*◌, ℕ, List, length, map, take, drop, ◌++◌, OnOk};
-ghost use Rattle.isis_tlv.specs.Spelling.{snpa_tlv, entry_tlv};
-ghost use Rattle.pdu_sender.specs.Writing.{pieced};
+ghost use Rattle.std.specs.Prelude.{◌≡◌, ◌≤◌, length, take, drop, ◌++◌, OnOk};
+ghost use Rattle.isis_tlv.specs.Spelling.{entry_tlv};
+ghost use Rattle.pdu_sender.specs.Writing.{pieced, heard_tlv};
 
 use adjacency::Neighbour;
 use isis_base::{LspEntry, Octets, OutOfMemory, Snpa};
@@ -31,9 +31,7 @@ pub(crate) fn put_all_entries(out: &mut Octets, entries: &[LspEntry]) -> Result<
 
 /// Adds TLVs of the SNPAs of these neighbours.
 pub(crate) fn put_heard(out: &mut Octets, heard: &[Neighbour]) -> Result<(), OutOfMemory>
-    ensures { OnOk result (out.new ≡ out.old
-        ++ pieced 42 (λ (piece : List Neighbour). snpa_tlv (map (λ (n : Neighbour). n.snpa) piece))
-        heard.now) }
+    ensures { OnOk result (out.new ≡ out.old ++ pieced 42 heard_tlv heard.now) }
 {
     let mut rest = heard;
     while !rest.is_empty() {
@@ -50,18 +48,14 @@ pub(crate) fn put_heard(out: &mut Octets, heard: &[Neighbour]) -> Result<(), Out
 /// Adds a TLV of the SNPAs of these neighbours.
 fn put_piece(out: &mut Octets, piece: &[Neighbour]) -> Result<(), OutOfMemory>
     requires { length piece.now ≤ 42 }
-    ensures { OnOk result (out.new
-        ≡ out.old ++ snpa_tlv (map (λ (n : Neighbour). n.snpa) piece.now)) }
+    ensures { OnOk result (out.new ≡ out.old ++ heard_tlv piece.now) }
 {
     let mut snpas = [Snpa([0; 6]); SNPAS];
-    let mut rest = piece;
-    let mut count = 0usize;
-    while let [neighbour, more @ ..] = rest {
-        snpas[count] = neighbour.snpa;
-        count += 1;
-        rest = more;
+    for place in 0..piece.len() {
+        let neighbour = &piece[place];
+        snpas[place] = neighbour.snpa;
     }
-    put_snpas(out, &snpas[..count])
+    put_snpas(out, &snpas[..piece.len()])
 }
 
 /// At most so many of a list, and the others.

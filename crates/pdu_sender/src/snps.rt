@@ -38,7 +38,10 @@ pub fn csnp(
     entries_law(entries);
     let header = Pdu::Csnp {
         level,
-        source: own_node(sender),
+        source: NodeId {
+            system: sender.system,
+            pseudonode: 0,
+        },
         start,
         end: end_id,
         tlvs: &[],
@@ -67,7 +70,10 @@ pub fn psnp(
     entries_law(entries);
     let header = Pdu::Psnp {
         level,
-        source: own_node(sender),
+        source: NodeId {
+            system: sender.system,
+            pseudonode: 0,
+        },
         tlvs: &[],
     };
     let key = sender.level_key(level);
@@ -75,14 +81,4 @@ pub fn psnp(
     put_all_entries(&mut octets, entries)?;
     end(&mut octets, PduKind::Psnp(level), key);
     Ok(octets)
-}
-
-/// The system itself, as a node.
-fn own_node(sender: &Sender<'_>) -> NodeId
-    ensures { result ≡ record { system = sender.now.system; pseudonode = 0 } }
-{
-    NodeId {
-        system: sender.system,
-        pseudonode: 0,
-    }
 }
