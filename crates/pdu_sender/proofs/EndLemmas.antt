@@ -1,6 +1,5 @@
 -- How a datagram ends: with the PDU length and the digest.
-use Rattle.std.proofs.Common.{◌≡◌, ◌∙◌, ℕ, ◌+◌, ◌≤◌, List, [], ◌∷◌, ◌++◌, length, take, drop, replicate, Bool, true, false, is_some, Option, Some, None, refl, sym, ap, subst, arith, take_all, append-nil, length-append}
-use Rattle.std.specs.Prelude.{IfSome}
+use Rattle.std.proofs.Common.{◌≡◌, ◌∙◌, ℕ, ◌+◌, ◌≤◌, List, [], ◌∷◌, ◌++◌, length, Bool, true, false, is_some, Option, Some, None, refl, sym, ap, subst, arith, take_all, append-nil, length-append}
 use Rattle.isis_base.specs.declared.pdu_kind.PduKind.{PduKind}
 use Rattle.isis_base.specs.PduKinds.{header_length, length_place}
 use Rattle.isis_base.specs.Fields.{u16_octets}
@@ -68,10 +67,12 @@ module _ (kind : PduKind) (pdu : List ℕ → PduView) (is : IsBegun kind pdu) (
     placed : IsDigestPlace (sized kind (inside true)) (header_length kind + 3)
     placed =
         let n = length (auth blank) in
-        subst (λ (octets : List ℕ). IsDigestPlace octets (header_length kind + 3)) (sym (sized-is true))
-        (header_length kind, blank-pdu,
-        ap (λ (octets : List ℕ). digest_place octets (header_length kind)) (is.head.spells (auth blank))
-        ∙ place-digest (is.head.front n) tlvs (header_length kind) (is.head.long n))
+        subst (λ (octets : List ℕ). IsDigestPlace octets (header_length kind + 3)) (sym (sized-is true)) (
+          header_length kind,
+          blank-pdu,
+          ap (λ (octets : List ℕ). digest_place octets (header_length kind)) (is.head.spells (auth blank))
+              ∙ place-digest (is.head.front n) tlvs (header_length kind) (is.head.long n),
+        )
 
     signable : (key : Option (List ℕ)) → IsSignable kind key (inside (is_some key))
     signable None =

@@ -16,7 +16,6 @@ use Rattle.hmac_auth.specs.Pdus.{is_purge}
 use Rattle.isis_model.specs.SnpTable.{SnpEntry}
 use Rattle.isis_base.specs.declared.identifiers.SystemId.{SystemId}
 use Rattle.std.proofs.lemmas.List.{take-append-drop, length-map}
-
 use Rattle.isis_model.specs.Both.{at}
 use Rattle.isis_model.specs.Cells.{Cell}
 use Rattle.isis_model.specs.Configs.{Config}
@@ -40,7 +39,6 @@ use Rattle.isis_datagram.specs.Tlvs.{in_pieces, own_address, hello_tlvs, three_w
 use Rattle.isis_datagram.specs.Datagrams.{levels_run, pdu_octets, datagram}
 use Rattle.isis_datagram.proofs.ItemLemmas.{tlvs-none}
 use Rattle.std.specs.List.{flat_map}
-use Rattle.isis_datagram.proofs.AuthLemmas.{IsHead}
 use Rattle.std.specs.Borrow.{Bor}
 use Rattle.lsp_octets.specs.Drafts.{blank_auth}
 use Rattle.pdu_sender.proofs.EndLemmas.{IsBegun, before_end}

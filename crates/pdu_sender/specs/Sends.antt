@@ -1,5 +1,5 @@
 -- Who sends on which circuit, as the router's model has both.
-use Rattle.std.specs.Prelude.{◌≡◌, ℕ, ◌+◌, ◌≤◌, length, map, List, Option, Some, None}
+use Rattle.std.specs.Prelude.{◌≡◌, ℕ, ◌+◌, ◌≤◌, length, map, List, Option}
 use Rattle.std.specs.Option.{option_map, option_copied}
 use Rattle.isis_base.specs.declared.identifiers.SystemId.{SystemId}
 use Rattle.isis_tlv.specs.Spelling.{area_value}

@@ -1,7 +1,5 @@
-use Rattle.std.proofs.Common.{◌≡◌, ◌∙◌, ℕ, List, [], ◌++◌, Option, sym, ap, subst}
+use Rattle.std.proofs.Common.{◌∙◌, ℕ, List, [], ◌++◌, sym, ap}
 use Rattle.std.specs.Option.{option_copied}
-use Rattle.isis_base.specs.declared.identifiers.SystemId.{SystemId}
-use Rattle.isis_datagram.specs.Numbers.{system_number}
 use Rattle.isis_datagram.specs.Lsps.{lsp_sent}
 use Rattle.flag_sync.specs.FlagRows.{cell_of}
 use Rattle.pdu_sender.specs.Writing.{frame_of}

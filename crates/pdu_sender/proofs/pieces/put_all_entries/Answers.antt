@@ -1,4 +1,4 @@
-use Rattle.std.proofs.Common.{◌≡◌, ◌<◌, ℕ, length, arith}
+use Rattle.std.proofs.Common.{length}
 use Rattle.isis_tlv.specs.Spelling.{entry_tlv}
 use Rattle.pdu_sender.proofs.PieceLemmas.{pieced-written, some-left}
 use Rattle.pdu_sender.proofs.pieces.put_all_entries.Goals as goal

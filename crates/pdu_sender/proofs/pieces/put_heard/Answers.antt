@@ -1,4 +1,4 @@
-use Rattle.std.proofs.Common.{◌≡◌, ◌<◌, ◌≤◌, ℕ, List, length, arith, ap, length-drop}
+use Rattle.std.proofs.Common.{length, arith, ap, length-drop}
 use Rattle.pdu_sender.specs.Writing.{heard_tlv}
 use Rattle.pdu_sender.proofs.PieceLemmas.{pieced-written, some-left, take-short}
 use Rattle.pdu_sender.proofs.pieces.put_heard.Goals as goal

@@ -1,17 +1,15 @@
-use Rattle.std.proofs.Common.{◌≡◌, ◌∙◌, ℕ, ◌*◌, List, [], Some, ◌++◌, Bool, is_some, Option, length, sym, ap, subst, arith}
+use Rattle.std.proofs.Common.{◌≡◌, ◌∙◌, ℕ, ◌*◌, List, Bool, Option, sym, ap, subst, arith}
 use Rattle.std.specs.Option.{option_copied}
 use Rattle.isis_base.specs.Identifiers.{lsp_number}
 use Rattle.isis_base.specs.declared.pdu_kind.PduKind.TheVariants as kind
-use Rattle.isis_model.specs.Both.{at}
 use Rattle.isis_model.specs.Datagrams as sent
-use Rattle.isis_datagram.specs.Numbers.{system_id, system_number, node_number}
+use Rattle.isis_datagram.specs.Numbers.{system_id, system_number}
 use Rattle.isis_datagram.specs.Signing.{signed}
 use Rattle.isis_datagram.specs.Datagrams.{datagram}
-use Rattle.isis_datagram.specs.Tlvs.{hello_tlvs, point_tlvs, lan_tlvs, entry_tlvs}
-use Rattle.isis_tlv.specs.Spelling.{three_way_tlv, entry_tlv}
+use Rattle.isis_datagram.specs.Tlvs.{entry_tlvs}
+use Rattle.isis_tlv.specs.Spelling.{entry_tlv}
 use Rattle.flag_sync.specs.Heard.{entries_of}
-use Rattle.pdu_sender.specs.Sends.{names_of, snpas_of}
-use Rattle.pdu_sender.specs.Writing.{pieced, heard_tlv, IsEndable, ended, frame_of}
+use Rattle.pdu_sender.specs.Writing.{pieced, IsEndable, ended, frame_of}
 use Rattle.pdu_sender.proofs.EndLemmas.{before_end, endable, datagram-ended}
 use Rattle.pdu_sender.proofs.SendLemmas.{behind, full, full-begun, entries-fit, full-written, full-datagram, copied-some, few-entries}
 use Rattle.pdu_sender.proofs.snps.csnp.Goals as goal
@@ -29,9 +27,9 @@ end-requires c =
     let fit = entries-fit list (few-entries c.args.entries.now c.requires) in
     let keyed = c.is_some.ensures ∙ copied-some c.level_key-key.result in
     let written =
-        behind (pieced 15 entry_tlv c.args.entries.now) c.in_ok-put_all_entries.ensures c.in_ok-octets.ensures.octets
-        ∙ full-written s.system n c.system_law.ensures c.is_some.result c.args.level c.args.start c.args.end_id first last c.args.entries.now c.id_law.ensures.same c.id_law-2.ensures.same c.entries_law.ensures
-        ∙ ap (λ (k : Bool). before_end n pdu k tlvs) keyed in
+    behind (pieced 15 entry_tlv c.args.entries.now) c.in_ok-put_all_entries.ensures c.in_ok-octets.ensures.octets
+    ∙ full-written s.system n c.system_law.ensures c.is_some.result c.args.level c.args.start c.args.end_id first last c.args.entries.now c.id_law.ensures.same c.id_law-2.ensures.same c.entries_law.ensures
+    ∙ ap (λ (k : Bool). before_end n pdu k tlvs) keyed in
     let size = fit.fits in
     subst (IsEndable (kind.Csnp c.args.level) key) (sym written) (endable (kind.Csnp c.args.level) pdu (full-begun c.args.level (256 * n) first last) tlvs fit.are (omega (arith, size)) n key)
 
@@ -48,9 +46,9 @@ returns c config place circuit sends =
     let fit = entries-fit list (few-entries c.args.entries.now c.requires) in
     let keyed = c.is_some.ensures ∙ copied-some c.level_key-key.result in
     let written =
-        behind (pieced 15 entry_tlv c.args.entries.now) c.in_ok-put_all_entries.ensures c.in_ok-octets.ensures.octets
-        ∙ full-written s.system n c.system_law.ensures c.is_some.result c.args.level c.args.start c.args.end_id first last c.args.entries.now c.id_law.ensures.same c.id_law-2.ensures.same c.entries_law.ensures
-        ∙ ap (λ (k : Bool). before_end n pdu k tlvs) keyed in
+    behind (pieced 15 entry_tlv c.args.entries.now) c.in_ok-put_all_entries.ensures c.in_ok-octets.ensures.octets
+    ∙ full-written s.system n c.system_law.ensures c.is_some.result c.args.level c.args.start c.args.end_id first last c.args.entries.now c.id_law.ensures.same c.id_law-2.ensures.same c.entries_law.ensures
+    ∙ ap (λ (k : Bool). before_end n pdu k tlvs) keyed in
     c.end.ensures ∙ ap (ended (kind.Csnp c.args.level) key) written ∙ datagram-ended (kind.Csnp c.args.level) pdu (full-begun c.args.level (256 * n) first last) tlvs fit.are n key
     ∙ subst (λ (k : Option (List ℕ)). frame_of (system_id n) (signed k pdu tlvs) ≡ datagram config place circuit (sent.Csnp c.args.level first last list)) (sym c.level_key-key.ensures)
     (full-datagram s config place circuit sends c.args.level first last list)

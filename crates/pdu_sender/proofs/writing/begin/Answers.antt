@@ -1,4 +1,4 @@
-use Rattle.std.proofs.Common.{List, ℕ, subst, sym}
+use Rattle.std.proofs.Common.{subst, sym}
 use Rattle.isis_tlv.specs.Tlvs.{AreTlvs}
 use Rattle.isis_datagram.proofs.ItemLemmas.{tlvs-none}
 use Rattle.pdu_sender.proofs.writing.begin.Goals as goal
