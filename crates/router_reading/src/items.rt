@@ -6,6 +6,7 @@ ghost use Rattle.isis_datagram.specs.Numbers.{system_number, snpa_number};
 ghost use Rattle.isis_datagram.specs.Values as values;
 ghost use Rattle.isis_datagram.specs.Values.{lists, handshake, first_handshake};
 
+use crate::twins::are_six;
 use isis_base::{AreaAddress, LspEntry, OutOfMemory, Snpa, SystemId};
 use isis_tlv::{ThreeWay, Tlvs, areas, entries, snpas, three_way_value};
 use std::alloc::Global;
@@ -23,6 +24,7 @@ const ENTRIES: u8 = 9;
 const THREE_WAY: u8 = 240;
 
 /// The area addresses, up to a fault.
+#[tactic(auto, unfolding(isis_datagram::specs::Values::items_in))]
 pub(crate) fn areas_in(alloc: Global, tlvs: &[u8]) -> Result<Vec<AreaAddress>, OutOfMemory>
     ensures { IfOk result (λ list. list.items ≡ ok_prefix (values.areas_in tlvs.now)) }
 {
@@ -47,6 +49,7 @@ pub(crate) fn areas_in(alloc: Global, tlvs: &[u8]) -> Result<Vec<AreaAddress>, O
 }
 
 /// The LSP entries, up to a fault.
+#[tactic(auto, unfolding(isis_datagram::specs::Values::items_in))]
 pub(crate) fn entries_in(alloc: Global, tlvs: &[u8]) -> Result<Vec<LspEntry>, OutOfMemory>
     ensures { IfOk result (λ list. list.items ≡ ok_prefix (values.entries_in tlvs.now)) }
 {
@@ -71,6 +74,7 @@ pub(crate) fn entries_in(alloc: Global, tlvs: &[u8]) -> Result<Vec<LspEntry>, Ou
 }
 
 /// Whether the SNPAs, up to a fault, have one's own.
+#[tactic(auto, unfolding(isis_datagram::specs::Values::items_in))]
 pub(crate) fn names_own(own: SystemId, tlvs: &[u8]) -> bool
     ensures { result ≡ lists (system_number own) (ok_prefix (values.snpas_in tlvs.now)) }
 {
@@ -95,10 +99,13 @@ pub(crate) fn names_own(own: SystemId, tlvs: &[u8]) -> bool
 fn is_own(own: SystemId, snpa: Snpa) -> bool
     ensures { result ≡ (snpa_number snpa == system_number own) }
 {
+    are_six(snpa.0);
+    are_six(own.0);
     snpa.0 == own.0
 }
 
 /// The first three-way value, where it has no fault.
+#[tactic(auto, unfolding(isis_datagram::specs::Values::items_in))]
 pub(crate) fn three_way_in(tlvs: &[u8]) -> Option<ThreeWay>
     ensures { option_map handshake result
         ≡ first_handshake (ok_prefix (values.handshakes_in tlvs.now)) }

@@ -5,19 +5,19 @@
 //! the message that the definitions of isis_datagram read, for every PDU that passed the desk's
 //! tests. Memory is taken for area addresses and LSP entries; an LSP's octets are lent.
 //!
-//! - `heard.rt`: what is heard; `hear.rt`: a PDU as such a value
+//! - `heard.rt`: what is heard; `reading.rt`: a PDU as such a value
 //! - `items.rt`: the items of the TLVs of a code
 //! - `twins.rt`: identifiers have the same numbers in the definitions of all crates: functions that
 //!   do nothing, whose contracts are the laws
 #![tactic(auto)]
 
-mod hear;
 mod heard;
 mod items;
+mod reading;
 pub mod twins;
 
-pub use hear::hear;
 pub use heard::{Heard, HelloHeard};
+pub use reading::hear;
 
 #[cfg(test)]
 mod tests;

@@ -12,11 +12,17 @@ use isis_base::{NodeId, Snpa, SystemId};
 use isis_tlv::ThreeWay;
 
 /// Six octets.
-fn are_six(octets: [u8; 6])
+pub(crate) fn are_six(octets: [u8; 6])
     ensures six { length octets ≡ 6 }
     ensures small { AllByRecursion (λ octet. octet < 256) octets }
 {
     let [_a, _b, _c, _d, _e, _f] = octets;
+}
+
+/// An octet.
+fn is_octet(octet: u8)
+    ensures { octet < 256 }
+{
 }
 
 /// A system ID has one number.
@@ -38,7 +44,7 @@ pub fn node_twins(node: NodeId)
     ensures { adjacency.node_number node ≡ datagram.node_number node }
 {
     are_six(node.system.0);
-    let _pseudonode = node.pseudonode;
+    is_octet(node.pseudonode);
 }
 
 /// A three-way value is one handshake.
