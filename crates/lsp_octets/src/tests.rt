@@ -1,0 +1,1 @@
+//! An own LSP issued, and a purge sent, with and without a key.

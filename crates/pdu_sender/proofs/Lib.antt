@@ -1,0 +1,4 @@
+-- Lemmas, by topic.
+pub mod PieceLemmas
+pub mod EndLemmas
+pub mod SendLemmas

@@ -1,0 +1,46 @@
+use Rattle.std.proofs.Common.{◌∙◌, [], Bool, sym, ap, subst, arith}
+use Rattle.std.specs.Option.{option_copied}
+use Rattle.isis_base.specs.declared.pdu_kind.PduKind.TheVariants as kind
+use Rattle.isis_datagram.specs.Numbers.{system_number, node_number}
+use Rattle.isis_datagram.specs.Tlvs.{hello_tlvs, lan_tlvs}
+use Rattle.pdu_sender.specs.Sends.{snpas_of}
+use Rattle.pdu_sender.specs.Writing.{pieced, heard_tlv, IsEndable, ended}
+use Rattle.pdu_sender.proofs.EndLemmas.{before_end, endable, datagram-ended}
+use Rattle.pdu_sender.proofs.SendLemmas.{behind, lan, lan-begun, lan-fit, lan-written, lan-datagram, copied-some, few-snpas}
+use Rattle.pdu_sender.proofs.hellos.lan_hello.Goals as goal
+
+pub end-requires : goal.end-requires
+end-requires c =
+    let s = c.args.sender.now in
+    let n = system_number s.system in
+    let key = option_copied s.key in
+    let list = snpas_of c.args.heard.now in
+    let id = node_number c.args.lan in
+    let pdu = lan c.args.level s.levels n s.priority id in
+    let tlvs = lan_tlvs s.areas.now s.address list in
+    let fit = lan-fit s.areas.now s.address list c.requires.areas (few-snpas c.args.heard.now c.requires.few) in
+    let keyed = c.is_some.ensures ∙ copied-some s.key in
+    let written =
+    behind (pieced 42 heard_tlv c.args.heard.now) c.in_ok-put_heard.ensures (behind (hello_tlvs s.areas.now s.address []) c.in_ok-put_common.ensures c.in_ok-octets.ensures.octets)
+    ∙ lan-written s.system n c.system_law.ensures c.is_some.result c.args.level s.levels s.priority c.args.lan id s.areas.now s.address c.args.heard.now c.node_law.ensures c.snpas_law.ensures
+    ∙ ap (λ (k : Bool). before_end n pdu k tlvs) keyed in
+    let size = fit.fits in
+    subst (IsEndable (kind.LanHello c.args.level) key) (sym written) (endable (kind.LanHello c.args.level) pdu (lan-begun c.args.level s.levels n s.priority id c.requires.priority) tlvs fit.are (omega (arith, size)) n key)
+
+pub returns : goal.returns
+returns c config place circuit sends =
+    let s = c.args.sender.now in
+    let n = system_number s.system in
+    let key = option_copied s.key in
+    let list = snpas_of c.args.heard.now in
+    let id = node_number c.args.lan in
+    let pdu = lan c.args.level s.levels n s.priority id in
+    let tlvs = lan_tlvs s.areas.now s.address list in
+    let fit = lan-fit s.areas.now s.address list c.requires.areas (few-snpas c.args.heard.now c.requires.few) in
+    let keyed = c.is_some.ensures ∙ copied-some s.key in
+    let written =
+    behind (pieced 42 heard_tlv c.args.heard.now) c.in_ok-put_heard.ensures (behind (hello_tlvs s.areas.now s.address []) c.in_ok-put_common.ensures c.in_ok-octets.ensures.octets)
+    ∙ lan-written s.system n c.system_law.ensures c.is_some.result c.args.level s.levels s.priority c.args.lan id s.areas.now s.address c.args.heard.now c.node_law.ensures c.snpas_law.ensures
+    ∙ ap (λ (k : Bool). before_end n pdu k tlvs) keyed in
+    c.end.ensures ∙ ap (ended (kind.LanHello c.args.level) key) written ∙ datagram-ended (kind.LanHello c.args.level) pdu (lan-begun c.args.level s.levels n s.priority id c.requires.priority) tlvs fit.are n key
+    ∙ lan-datagram s config place circuit sends c.args.level id list

@@ -1,0 +1,45 @@
+use Rattle.std.proofs.Common.{◌∙◌, [], Some, Bool, sym, ap, subst, arith}
+use Rattle.std.specs.Option.{option_copied}
+use Rattle.isis_base.specs.declared.pdu_kind.PduKind.TheVariants as kind
+use Rattle.isis_datagram.specs.Numbers.{system_number}
+use Rattle.isis_datagram.specs.Tlvs.{hello_tlvs, point_tlvs}
+use Rattle.isis_tlv.specs.Spelling.{three_way_tlv}
+use Rattle.pdu_sender.specs.Sends.{names_of}
+use Rattle.pdu_sender.specs.Writing.{IsEndable, ended}
+use Rattle.pdu_sender.proofs.EndLemmas.{before_end, endable, datagram-ended}
+use Rattle.pdu_sender.proofs.SendLemmas.{behind, point, point-begun, point-fit, point-written, point-datagram, copied-some}
+use Rattle.pdu_sender.proofs.hellos.point_hello.Goals as goal
+
+pub end-requires : goal.end-requires
+end-requires c =
+    let s = c.args.sender.now in
+    let n = system_number s.system in
+    let key = option_copied s.key in
+    let named = names_of c.args.neighbour in
+    let pdu = point s.levels n s.circuit in
+    let tlvs = point_tlvs s.areas.now s.address c.args.state c.args.extended named in
+    let fit = point-fit s.areas.now s.address c.args.state c.args.extended named c.requires in
+    let keyed = c.is_some.ensures ∙ copied-some s.key in
+    let written =
+    behind (three_way_tlv (record { state = c.args.state; own_id = Some c.args.extended; neighbour = c.args.neighbour })) c.in_ok-put_three_way.ensures.ok (behind (hello_tlvs s.areas.now s.address []) c.in_ok-put_common.ensures c.in_ok-octets.ensures.octets)
+    ∙ point-written s.system n c.system_law.ensures c.is_some.result s.levels s.circuit s.areas.now s.address c.args.state c.args.extended c.args.neighbour named c.names_law.ensures
+    ∙ ap (λ (k : Bool). before_end n pdu k tlvs) keyed in
+    let size = fit.fits in
+    subst (IsEndable (kind.PointHello) key) (sym written) (endable (kind.PointHello) pdu (point-begun s.levels n s.circuit) tlvs fit.are (omega (arith, size)) n key)
+
+pub returns : goal.returns
+returns c config place circuit sends =
+    let s = c.args.sender.now in
+    let n = system_number s.system in
+    let key = option_copied s.key in
+    let named = names_of c.args.neighbour in
+    let pdu = point s.levels n s.circuit in
+    let tlvs = point_tlvs s.areas.now s.address c.args.state c.args.extended named in
+    let fit = point-fit s.areas.now s.address c.args.state c.args.extended named c.requires in
+    let keyed = c.is_some.ensures ∙ copied-some s.key in
+    let written =
+    behind (three_way_tlv (record { state = c.args.state; own_id = Some c.args.extended; neighbour = c.args.neighbour })) c.in_ok-put_three_way.ensures.ok (behind (hello_tlvs s.areas.now s.address []) c.in_ok-put_common.ensures c.in_ok-octets.ensures.octets)
+    ∙ point-written s.system n c.system_law.ensures c.is_some.result s.levels s.circuit s.areas.now s.address c.args.state c.args.extended c.args.neighbour named c.names_law.ensures
+    ∙ ap (λ (k : Bool). before_end n pdu k tlvs) keyed in
+    c.end.ensures ∙ ap (ended (kind.PointHello) key) written ∙ datagram-ended (kind.PointHello) pdu (point-begun s.levels n s.circuit) tlvs fit.are n key
+    ∙ point-datagram s config place circuit sends c.args.state c.args.extended named

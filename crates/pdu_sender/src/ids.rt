@@ -1,0 +1,82 @@
+//! Identifiers are those of their numbers: functions that do nothing, whose contracts are the laws.
+ghost use Rattle.std.specs.Prelude.{◌≡◌, ℕ, ◌<◌, length, map};
+ghost use Rattle.std.specs.List.{AllByRecursion};
+ghost use Rattle.std.specs.Option.{option_map};
+ghost use Rattle.flag_sync.specs.Heard.{entry_of, entries_of};
+ghost use Rattle.isis_datagram.specs.Numbers.{system_id, node_id, snpa_id, system_number, node_number, snpa_number};
+ghost use Rattle.isis_datagram.specs.Tlvs.{lsp_entry};
+ghost use Rattle.pdu_sender.specs.Sends.{names_of, snpas_of};
+
+use adjacency::Neighbour;
+use isis_base::{LspEntry, NodeId, Snpa, SystemId};
+use lsp_octets::laws::id_law;
+
+/// Six octets.
+fn are_six(octets: [u8; 6])
+    ensures six { length octets ≡ 6 }
+    ensures small { AllByRecursion (λ octet. octet < 256) octets }
+{
+    let [_a, _b, _c, _d, _e, _f] = octets;
+}
+
+/// A system ID.
+pub(crate) fn system_law(system: SystemId)
+    ensures { system_id (system_number system) ≡ system }
+{
+    are_six(system.0);
+}
+
+/// A node ID.
+pub(crate) fn node_law(node: NodeId)
+    ensures { node_id (node_number node) ≡ node }
+{
+    system_law(node.system);
+    let _pseudonode = node.pseudonode;
+}
+
+/// A neighbour's system with its extended circuit ID, where it has one.
+pub(crate) fn names_law(neighbour: Option<(SystemId, u32)>)
+    ensures { option_map (λ (name : ℕ × ℕ). (system_id name.0, name.1)) (names_of neighbour)
+        ≡ neighbour }
+{
+    if let Some((system, _)) = neighbour {
+        system_law(system);
+    }
+}
+
+/// A neighbour's SNPA.
+fn snpa_law(neighbour: &Neighbour)
+    ensures { snpa_id (snpa_number neighbour.now.snpa) ≡ neighbour.now.snpa }
+{
+    let Snpa(octets) = neighbour.snpa;
+    are_six(octets);
+}
+
+/// The SNPAs of neighbours.
+pub(crate) fn snpas_law(heard: &[Neighbour])
+    ensures { map snpa_id (snpas_of heard.now) ≡ map (λ (n : Neighbour). n.snpa) heard.now }
+{
+    let mut left = heard;
+    while let [neighbour, more @ ..] = left {
+        snpa_law(neighbour);
+        left = more;
+    }
+}
+
+/// An LSP entry.
+fn entry_law(entry: &LspEntry)
+    ensures { lsp_entry (entry_of entry.now) ≡ entry.now }
+{
+    id_law(entry.id);
+}
+
+/// LSP entries.
+pub(crate) fn entries_law(entries: &[LspEntry])
+    ensures { map lsp_entry (entries_of entries.now) ≡ entries.now }
+{
+    let mut left = entries;
+    while let [entry, more @ ..] = left {
+        entry_law(entry);
+        left = more;
+    }
+}

@@ -1,0 +1,38 @@
+//! LSPs.
+ghost use Rattle.std.specs.Prelude.{◌≡◌, ℕ, IfOk};
+ghost use Rattle.isis_model.specs.Configs.{Config};
+ghost use Rattle.isis_model.specs.Routers.{Circuit};
+ghost use Rattle.isis_model.specs.Datagrams as sent;
+ghost use Rattle.isis_datagram.specs.Datagrams.{datagram};
+ghost use Rattle.flag_sync.specs.declared.flag_row.FlagRow.{FlagRow};
+ghost use Rattle.flag_sync.specs.FlagRows.{cell_of};
+ghost use Rattle.lsp_octets.specs.Held.{IsPuttable};
+ghost use Rattle.pdu_sender.specs.Sends.{Sends};
+
+use crate::ids::system_law;
+use crate::sender::Sender;
+use crate::writing::frame;
+use isis_base::{Level, Octets, OutOfMemory};
+use lsp_octets::put_lsp;
+use lsp_store::Entry;
+use std::alloc::Global;
+
+/// What is held of an LSP as it is sent: with the seconds that are left, or as a purge (ISO 10589
+/// 7.3.15.5). An entry with a key that may be sent by the definitions may be sent here
+/// (`sendable_law` of lsp_octets).
+pub fn lsp(
+    alloc: Global,
+    sender: &Sender<'_>,
+    level: Level,
+    entry: &Entry,
+) -> Result<Octets, OutOfMemory>
+    requires { IsPuttable entry.now }
+    ensures { (config : Config) (place : ℕ) (c : Circuit) (id : ℕ) (row : FlagRow)
+        → Sends sender.now config place c → IfOk result (λ octets. octets
+        ≡ datagram config place c (sent.Lsp level id (cell_of entry.now row))) }
+{
+    system_law(sender.system);
+    let mut octets = frame(alloc, sender.system, &[])?;
+    put_lsp(&mut octets, sender.level_key(level), entry)?;
+    Ok(octets)
+}

@@ -1,0 +1,3 @@
+-- Lemmas, by topic.
+pub mod TwinLemmas
+pub mod LeftLemmas

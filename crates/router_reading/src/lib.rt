@@ -1,0 +1,23 @@
+//! What an opened datagram says, as the values that a router's parts take.
+//!
+//! ISO 10589 9.5 to 9.13 and RFC 5303 3.1: the area addresses, SNPAs, three-way values and LSP
+//! entries of a PDU's TLVs. Of several three-way values the first counts (own). What is heard is
+//! the message that the definitions of isis_datagram read, for every PDU that passed the desk's
+//! tests. Memory is taken for area addresses and LSP entries; an LSP's octets are lent.
+//!
+//! - `heard.rt`: what is heard; `reading.rt`: a PDU as such a value
+//! - `items.rt`: the items of the TLVs of a code
+//! - `twins.rt`: identifiers have the same numbers in the definitions of all crates: functions that
+//!   do nothing, whose contracts are the laws
+#![tactic(auto)]
+
+mod heard;
+mod items;
+mod reading;
+pub mod twins;
+
+pub use heard::{Heard, HelloHeard};
+pub use reading::hear;
+
+#[cfg(test)]
+mod tests;

@@ -1,0 +1,154 @@
+//! A PDU as what is heard.
+ghost use Rattle.std.specs.Prelude.{◌≡◌, true, map, IfOk};
+ghost use Rattle.std.specs.Result.{ok_prefix};
+ghost use Rattle.isis_pdu.specs.Views.{pdu_view};
+ghost use Rattle.isis_datagram.specs.Numbers.{system_number, snpa_number};
+ghost use Rattle.isis_datagram.specs.Reading.{message};
+ghost use Rattle.isis_datagram.specs.Tests.{has_number};
+ghost use Rattle.isis_datagram.specs.Values as values;
+ghost use Rattle.isis_datagram.specs.Values.{snp_entry};
+ghost use Rattle.isis_model.specs.Events as event;
+ghost use Rattle.router_reading.specs.Heard.{hello_heard, hello_without, message_of, range_of, IsNumbered};
+
+use crate::heard::{Heard, HelloHeard};
+use crate::items::{areas_in, entries_in, names_own, three_way_in};
+use crate::twins::{node_twins, snpa_twins, system_twins, three_way_twins};
+use flag_sync::LspHeard;
+use isis_base::{Level, LevelSet, LspEntry, LspId, NodeId, OutOfMemory, Snpa, SystemId};
+use isis_pdu::Pdu;
+use router_desk::Seen;
+use std::alloc::Global;
+
+/// No LAN ID.
+const NO_LAN: NodeId = NodeId {
+    system: SystemId([0; 6]),
+    pseudonode: 0,
+};
+
+/// What a PDU that passed the desk's tests says to the system `own`, whose SNPA is its system ID
+/// (own). An LSP has a number.
+pub fn hear<'a>(alloc: Global, own: SystemId, seen: &Seen<'a>) -> Result<Heard<'a>, OutOfMemory>
+    requires number { has_number (pdu_view seen.now.pdu) ≡ true }
+    ensures message { IfOk result (λ heard. message_of heard ≡ message (system_number own)
+        (snpa_number seen.now.sender) (pdu_view seen.now.pdu) seen.now.octets.now) }
+    ensures numbered { IfOk result IsNumbered }
+{
+    let snpa = seen.sender;
+    match seen.pdu {
+        Pdu::PointHello {
+            circuit_type,
+            source,
+            holding,
+            tlvs,
+            ..
+        } => {
+            let mut hello = hello_heard(alloc, snpa, circuit_type, source, holding, tlvs)?;
+            hello.three_way = three_way_in(tlvs);
+            three_way_twins(hello.three_way);
+            Ok(Heard::PointHello(hello))
+        }
+        Pdu::LanHello {
+            level,
+            circuit_type,
+            source,
+            holding,
+            priority,
+            lan,
+            tlvs,
+        } => {
+            node_twins(lan);
+            let mut hello = hello_heard(alloc, snpa, circuit_type, source, holding, tlvs)?;
+            hello.priority = priority;
+            hello.lan = lan;
+            hello.names_me = names_own(own, tlvs);
+            Ok(Heard::LanHello(level, hello))
+        }
+        Pdu::Lsp {
+            level,
+            lifetime,
+            id,
+            number,
+            checksum,
+            flags,
+            ..
+        } => {
+            let entry = LspEntry {
+                lifetime,
+                id,
+                number,
+                checksum,
+            };
+            let octets = seen.octets;
+            let lsp = LspHeard {
+                entry,
+                flags,
+                octets,
+            };
+            Ok(Heard::Lsp { level, snpa, lsp })
+        }
+        Pdu::Csnp {
+            level,
+            source,
+            start,
+            end,
+            tlvs,
+        } => snp(alloc, snpa, level, source, Some((start, end)), tlvs),
+        Pdu::Psnp {
+            level,
+            source,
+            tlvs,
+        } => snp(alloc, snpa, level, source, None, tlvs),
+    }
+}
+
+/// What every hello says: a point-to-point one without its three-way value.
+fn hello_heard(
+    alloc: Global,
+    snpa: Snpa,
+    levels: LevelSet,
+    source: SystemId,
+    holding: u16,
+    tlvs: &[u8],
+) -> Result<HelloHeard, OutOfMemory>
+    ensures { IfOk result (λ hello. hello_heard hello
+        ≡ hello_without (snpa_number snpa) levels source holding tlvs.now) }
+{
+    snpa_twins(snpa);
+    system_twins(source);
+    let areas = areas_in(alloc, tlvs)?;
+    Ok(HelloHeard {
+        source,
+        snpa,
+        levels,
+        holding,
+        priority: 0,
+        lan: NO_LAN,
+        areas,
+        three_way: None,
+        names_me: false,
+    })
+}
+
+/// A sequence number PDU.
+fn snp<'a>(
+    alloc: Global,
+    snpa: Snpa,
+    level: Level,
+    source: NodeId,
+    range: Option<(LspId, LspId)>,
+    tlvs: &[u8],
+) -> Result<Heard<'a>, OutOfMemory>
+    ensures message { IfOk result (λ heard. message_of heard ≡ event.SnpHeard level
+        (snpa_number snpa) (system_number source.system) (range_of range)
+        (map snp_entry (ok_prefix (values.entries_in tlvs.now)))) }
+    ensures numbered { IfOk result IsNumbered }
+{
+    let entries = entries_in(alloc, tlvs)?;
+    Ok(Heard::Snp {
+        level,
+        snpa,
+        source: source.system,
+        range,
+        entries,
+    })
+}

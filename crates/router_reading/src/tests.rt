@@ -1,0 +1,1 @@
+//! A hello, an LSP and a sequence number PDU heard.
