@@ -1,0 +1,27 @@
+//! A router's own prefixes, in order.
+ghost use Rattle.std.specs.Prelude.{◌≡◌, is_some, length, [], IfOk, OnOk, OnErr, map};
+ghost use Rattle.isis_model.specs.Maps.{find, put, erase, set_at};
+ghost use Rattle.router_desk.specs.Configs.{prefix_number, prefixes_of};
+
+use isis_base::Prefix;
+use std::alloc::Global;
+use std::marker::Model;
+
+/// A router's own prefixes with their metrics, in rising order of address and length. Contracts see
+/// them as the router's model has them.
+#[derive(Drop, Debug)]
+pub(crate) struct OwnPrefixes {
+    list: Vec<(Prefix, u32)>,
+}
+
+impl Model for OwnPrefixes {
+    ghost use Rattle.std.specs.Prelude.{List, ℕ, map};
+    ghost use Rattle.isis_model.specs.Sorted.{RisesFrom};
+    ghost use Rattle.router_core.specs.Prefixes.{numbered};
+
+    ghost Value = { List (ℕ × ℕ) };
+
+    ghost view = { λ p. map numbered p.list.items };
+
+    ghost invariant = { λ p. RisesFrom 0 (map numbered p.list.items) };
+}
