@@ -1,1 +1,2 @@
 mod ShapeLemmas
+mod IdleLemmas

@@ -6,7 +6,9 @@ ghost use Rattle.isis_model.specs.Places.{nth};
 ghost use Rattle.isis_model.specs.Hellos as hellos;
 ghost use Rattle.isis_model.specs.HelloTests.{lan_drop, point_drop};
 ghost use Rattle.isis_model.specs.Routers.{extended_of, with_circuit};
-ghost use Rattle.isis_model.specs.Takes as takes;
+ghost use Rattle.isis_model.specs.AdjacencyLaws.{AreIdle};
+ghost use Rattle.isis_model.specs.Events.{Done, settled};
+ghost use Rattle.isis_model.specs.Receiving.{greeted};
 ghost use Rattle.adjacency.specs.Changes.{IsTested};
 ghost use Rattle.router_circuits.specs.Hellos.{hello_of};
 ghost use Rattle.router_core.specs.Events.{IsThere};
@@ -62,5 +64,57 @@ impl Machine {
     {
         let own = own_of(&self.desk, self.areas.as_slice(), self.boot, circuit);
         hear_lan_at(&mut self.circuits, circuit, &own, level, hello)
+    }
+
+    /// A point-to-point hello is taken.
+    pub(crate) fn take_point(
+        &mut self,
+        circuit: u8,
+        hello: &HelloFields<'_>,
+    ) -> Result<(), HelloDrop>
+        requires there { IsThere self.old circuit }
+        requires kind { IfSome (nth self.old.circuits (circuit - 1)) (λ c. c.lan ≡ false) }
+        requires boot { self.old.boot < 2 ^ 24 }
+        requires idle { AreIdle self.old }
+        ensures tested { IsTested result (point_drop self.old.config
+            (extended_of self.old.boot (circuit - 1)) (hello_of hello.now)) }
+        ensures unchanged { OnErr result (self.new ≡ self.old) }
+        ensures state { OnOk result (IfSome (nth self.old.circuits (circuit - 1)) (λ c.
+            self.new ≡ (settled (record {
+              router = greeted self.old (circuit - 1) c (hello_of hello.now)
+                  (hello_of hello.now).handshake;
+              reply = Done;
+            })).router)) }
+    {
+        let anew = self.hear_point(circuit, hello)?;
+        self.follow(circuit, anew);
+        self.settle(circuit);
+        Ok(())
+    }
+
+    /// A hello of a level is taken on a LAN.
+    pub(crate) fn take_lan(
+        &mut self,
+        circuit: u8,
+        level: Level,
+        hello: &HelloFields<'_>,
+    ) -> Result<(), HelloDrop>
+        requires there { IsThere self.old circuit }
+        requires kind { IfSome (nth self.old.circuits (circuit - 1)) (λ c. c.lan ≡ true) }
+        requires boot { self.old.boot < 2 ^ 24 }
+        requires idle { AreIdle self.old }
+        ensures tested { IfSome (nth self.old.circuits (circuit - 1)) (λ c. IsTested result
+            (lan_drop self.old.config level (at c.levels level).heard (hello_of hello.now))) }
+        ensures unchanged { OnErr result (self.new ≡ self.old) }
+        ensures state { OnOk result (IfSome (nth self.old.circuits (circuit - 1)) (λ c.
+            self.new ≡ (settled (record {
+              router = hellos.take_lan self.old (circuit - 1) c level (hello_of hello.now);
+              reply = Done;
+            })).router)) }
+    {
+        self.hear_lan(circuit, level, hello)?;
+        self.follow(circuit, false);
+        self.settle(circuit);
+        Ok(())
     }
 }
