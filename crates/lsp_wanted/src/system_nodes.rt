@@ -48,6 +48,7 @@ pub(crate) fn system_nodes(
 }
 
 /// A pseudonode's neighbours: the router and all up neighbours, at metric 0, by node.
+#[tactic(auto, unfolding(crate::specs::Parts::put_ups))]
 pub(crate) fn lan_nodes(
     alloc: Global,
     system: SystemId,
