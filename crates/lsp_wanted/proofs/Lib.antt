@@ -3,3 +3,4 @@
 pub mod NodeLemmas
 pub mod ReachLemmas
 pub mod PartLemmas
+pub mod WantedLemmas

@@ -1,6 +1,7 @@
 -- Neighbours in order of nodes.
 use Rattle.std.proofs.Common.{◌≡◌, ℕ, zero, suc, ◌+◌, ◌*◌, ◌/◌, ◌<◌, ◌≤◌, true, false, Bool, nat_lt, eqb, List, [], ◌∷◌, length, map, drop, get_or, drop-cons, Option, Some, None, if◌then◌else◌, refl, sym, ap, ◌∙◌, subst, arith}
-use Rattle.std.specs.List.{insert}
+use Rattle.std.specs.List.{insert, AllByRecursion}
+use Rattle.isis_base.specs.Identifiers.{IsId}
 use Rattle.std.specs.List.Sorted.{IsNonDecreasingBy}
 use Rattle.std.proofs.lemmas.Bool.Decides.{nat_tests}
 use Rattle.isis_base.specs.declared.level.Level.{Level}
@@ -16,7 +17,7 @@ use Rattle.adjacency.specs.Views.{neighbour_of}
 use Rattle.adjacency.specs.declared.neighbour.Neighbour as code
 use Rattle.lsp_fragments.specs.Entries.{node_and_metric}
 use Rattle.lsp_wanted.specs.Parts.{IsBehind, NotFalling, put_ups}
-use Rattle.lsp_wanted.specs.Views.{node_in}
+use Rattle.lsp_wanted.specs.Views.{AreGood}
 
 abbrev pub key : NeighbourItem → ℕ
 key item = (node_and_metric item).0
@@ -86,3 +87,8 @@ all-step config l place circuits c ns next lt is put =
     let s : place + 1 ≡ suc place = omega arith in
     let cons : drop place circuits ≡ c ∷ drop (place + 1) circuits = rw s (drop-cons circuits place c lt ∙ ap (λ (x : Circuit). x ∷ drop (suc place) circuits) (sym is)) in
     rw (cons, put) refl
+
+-- neighbours have node IDs of seven octets
+pub good-ids : (list : List NeighbourItem) → AreGood list → AllByRecursion (λ item. IsId (record { node = item.node; number = 0 })) list
+good-ids [] good = tt
+good-ids (item ∷ list) good = (good.0.id, good-ids list good.1)
