@@ -18,10 +18,15 @@ use Rattle.isis_model.specs.Sorted.{RisesFrom}
 use Rattle.isis_model.specs.Wanted.{first_flags, first_tlvs, fragments_of, is_type, numbered, pseudonode_lsp, pseudonode_lsps, room_for, room_of, system_lsp, wanted}
 use Rattle.isis_model.proofs.BookLemmas.{choose}
 use Rattle.isis_model.proofs.SplitLemmas.{split-few}
+use Rattle.isis_model.proofs.OwnLemmas.{wanted-issuable}
+use Rattle.isis_model.proofs.WantedLemmas.{wanted-own}
+use Rattle.isis_tlv.specs.Spelling.{area_value}
+use Rattle.isis_base.specs.Identifiers.{lsp_number}
+use Rattle.std.proofs.lemmas.List.{length-map}
 use Rattle.lsp_wanted.specs.declared.wanted.Wanted.{Wanted}
 use Rattle.lsp_wanted.specs.Views.{contents_of, prefix_pair, wanted_of}
 use Rattle.lsp_wanted.specs.declared.wants.Wants.{Wants}
-use Rattle.lsp_wanted.specs.Lent.{config_of, given_of, key_of, router_of}
+use Rattle.lsp_wanted.specs.Lent.{IsLent, config_of, given_of, key_of, router_of}
 use Rattle.lsp_wanted.specs.Parts.{is_down, is_leaked_into, leaked_or}
 
 -- ---- what is looked at
@@ -235,3 +240,49 @@ wanted-none given before r l e = rw e refl
 pub wanted-some : (given : Given) (before r : Router) (l : Level) → at r.config.runs l ≡ true → wanted given before r l ≡ system_lsp given before r l ++ pseudonode_lsps r l 0 r.circuits
 unfolding wanted
 wanted-some given before r l e = rw e refl
+
+-- ---- all of them
+
+key-some : (signed : Bool) (l : Level) → is_some (at (record { one = key_of signed; two = key_of signed }) l) ≡ signed
+key-some true level.One = refl
+key-some true level.Two = refl
+key-some false level.One = refl
+key-some false level.Two = refl
+
+module _ (base : Wants) (circuits : List Circuit) (leaks : List (Prefix × ℕ)) (attached : Bool) (l : Level) (ws : List Wanted)
+    (made : map wanted_of ws ≡ wanted (given_of leaks attached) (router_of base circuits) (router_of base circuits) l) where
+  pub lent-wanted : (given : Given) (before r : Router) → IsLent given before r l base circuits leaks attached → map wanted_of ws ≡ wanted given before r l
+  lent-wanted given before r lent =
+      let like : AreLike (config_of base) r.config l = record {
+        system = sym lent.system;
+        areas = sym lent.areas;
+        runs = sym lent.runs;
+        leak = sym lent.leak;
+        overload = sym lent.overload;
+        prefixes = sym lent.prefixes;
+        signed = key-some base.signed l ∙ sym lent.signed;
+      } in
+      made ∙ wanted-same (given_of leaks attached) given (router_of base circuits) before (router_of base circuits) r l like (sym lent.circuits) (sym lent.leaks) (sym lent.attached)
+
+  pub lent-issuable : (key : Option (List ℕ)) → length (area_value base.areas.now) ≤ 255 → length circuits ≤ 126 → is_some key ≡ base.signed → AllByRecursion (λ w. IsIssuable key (contents_of w)) ws
+  lent-issuable key areas few e =
+      let mine = at (config_of base).keys l in
+      let all = wanted-issuable (given_of leaks attached) (router_of base circuits) (router_of base circuits) l areas few in
+      all-under mine key ws (key-some base.signed l ∙ sym e)
+      (all-of (λ w. IsIssuable mine w.1) ws (subst (λ (m : List (ℕ × Contents)). AllByRecursion (λ w. IsIssuable mine w.1) m) (sym made) all))
+
+  pub lent-own : length circuits ≤ 255 → AllByRecursion (λ w. lsp_number w.id / 65536 ≡ system_number base.system) ws
+  lent-own few =
+      all-of (λ w. w.0 / 65536 ≡ system_number base.system) ws
+      (subst (λ (m : List (ℕ × Contents)). AllByRecursion (λ w. w.0 / 65536 ≡ system_number base.system) m) (sym made)
+      (wanted-own (given_of leaks attached) (router_of base circuits) (router_of base circuits) l few))
+
+  pub lent-rises : RisesFrom 0 (map wanted_of ws)
+  lent-rises = subst (λ (m : List (ℕ × Contents)). RisesFrom 0 m) (sym made) (wanted-rises (given_of leaks attached) (router_of base circuits) (router_of base circuits) l)
+
+  pub lent-count : length ws ≤ 256 + 256 * length circuits
+  lent-count =
+      let same = length-map ws wanted_of in
+      let count = ap (λ (m : List (ℕ × Contents)). length m) made in
+      let most = wanted-count (given_of leaks attached) (router_of base circuits) (router_of base circuits) l in
+      omega (arith, same, count, most)
