@@ -1,5 +1,5 @@
 -- Neighbours in order of nodes.
-use Rattle.std.proofs.Common.{◌≡◌, ℕ, zero, suc, ◌+◌, ◌*◌, ◌/◌, ◌<◌, ◌≤◌, true, false, Bool, nat_lt, eqb, List, [], ◌∷◌, length, map, drop, get_or, drop-cons, Option, Some, None, if◌then◌else◌, refl, sym, ap, ◌∙◌, subst, arith}
+use Rattle.std.proofs.Common.{◌≡◌, ℕ, zero, suc, ◌+◌, ◌*◌, ◌<◌, ◌≤◌, true, false, Bool, nat_lt, List, [], ◌∷◌, length, map, drop, get_or, drop-cons, if◌then◌else◌, refl, sym, ap, ◌∙◌, arith}
 use Rattle.std.specs.List.{insert, AllByRecursion}
 use Rattle.isis_base.specs.Identifiers.{IsId}
 use Rattle.std.specs.List.Sorted.{IsNonDecreasingBy}
@@ -9,7 +9,6 @@ use Rattle.isis_tlv.specs.declared.neighbour.NeighbourItem.{NeighbourItem}
 use Rattle.isis_model.specs.Adjacencies as model
 use Rattle.isis_model.specs.Both.{at}
 use Rattle.isis_model.specs.Configs.{Config}
-use Rattle.isis_model.specs.Elections as elections
 use Rattle.isis_model.specs.LspNeighbours as nodes
 use Rattle.isis_model.specs.Routers.{Circuit, LanNeighbour}
 use Rattle.adjacency.specs.Lans.{ups}

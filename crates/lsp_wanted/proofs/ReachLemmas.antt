@@ -1,16 +1,16 @@
 -- Prefixes in order of their numbers.
-use Rattle.std.proofs.Common.{◌≡◌, ◌≢◌, ℕ, zero, suc, ◌+◌, ◌<◌, ◌≤◌, true, false, Bool, nat_lt, eqb, List, [], ◌∷◌, length, map, get_or, Option, Some, None, is_some, if◌then◌else◌, refl, sym, ap, ◌∙◌, subst, arith}
+use Rattle.std.proofs.Common.{◌≡◌, ℕ, zero, suc, ◌+◌, ◌<◌, ◌≤◌, true, false, Bool, nat_lt, eqb, List, [], ◌∷◌, length, map, get_or, Some, None, is_some, if◌then◌else◌, refl, ap, subst, arith}
 use Rattle.std.specs.List.{insert}
 use Rattle.std.specs.List.Sorted.{IsNonDecreasingBy}
 use Rattle.std.specs.Ordering.{nat_cmp, ordering_index}
 use Rattle.std.specs.declared.cmp.Ordering.TheVariants.{Less, Equal, Greater}
 use Rattle.std.proofs.lemmas.Bool.Decides.{nat_tests}
 use Rattle.isis_tlv.specs.declared.prefix.PrefixItem.{PrefixItem}
-use Rattle.isis_model.specs.LspPrefixes.{Reach, own_reach, with_leaks}
+use Rattle.isis_model.specs.LspPrefixes.{Reach, own_reach}
 use Rattle.isis_model.specs.Maps.{find, put}
 use Rattle.isis_model.specs.Sorted.{RisesFrom}
 use Rattle.lsp_fragments.specs.Entries.{reach_pair}
-use Rattle.lsp_wanted.specs.Parts.{IsSpot, with_leak}
+use Rattle.lsp_wanted.specs.Parts.{with_leak}
 
 abbrev pub key : PrefixItem → ℕ
 key item = (reach_pair item).0

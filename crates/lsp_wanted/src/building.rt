@@ -12,8 +12,8 @@ ghost use Rattle.isis_datagram.specs.Numbers.{node_number, system_number};
 ghost use Rattle.lsp_wanted.specs.Lent.{IsLent, given_of, router_of};
 ghost use Rattle.lsp_wanted.specs.Views.{contents_of, prefix_pair, wanted_of};
 
-use crate::flags::{first_flags, is_type, runs};
 use crate::contents::{area_sizes, pseudonode_content, system_content};
+use crate::flags::{first_flags, is_type, runs};
 use crate::fragments::{Parts, fragments};
 use crate::numbering;
 use crate::wanted::Wanted;

@@ -22,11 +22,7 @@ pub(crate) struct Parts {
 }
 
 /// The split of a content: of all entries, or else of those that 256 fragments hold.
-pub(crate) fn fragments(
-    alloc: Global,
-    content: Content,
-    signed: bool,
-) -> Result<Parts, OutOfMemory>
+pub(crate) fn fragments(alloc: Global, content: Content, signed: bool) -> Result<Parts, OutOfMemory>
     requires { IsSplittable content }
     ensures split { IfOk result (λ parts. splits.split (content_first content)
         (content_entries content) (room_for (key_of signed))

@@ -1,4 +1,4 @@
-use Rattle.std.proofs.Common.{◌+◌, ◌*◌, ◌≤◌, length}
+use Rattle.std.proofs.Common.{◌*◌, ◌≤◌, length}
 use Rattle.isis_tlv.specs.Spelling.{area_value}
 use Rattle.lsp_wanted.proofs.contents.area_sizes.Given as goal
 

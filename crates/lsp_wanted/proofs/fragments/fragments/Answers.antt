@@ -1,4 +1,4 @@
-use Rattle.std.proofs.Common.{◌≤◌, ◌<◌, ◌^◌, length, subst, rules}
+use Rattle.std.proofs.Common.{◌≤◌, ◌<◌, ◌^◌, length, subst}
 use Rattle.std.proofs.lemmas.List.Elements.{All-take}
 use Rattle.isis_tlv.specs.declared.neighbour.NeighbourItem.{NeighbourItem}
 use Rattle.isis_model.specs.Splits.{Split}

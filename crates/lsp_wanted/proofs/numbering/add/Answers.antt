@@ -18,11 +18,13 @@ loop-tlvs-preserved c =
     let inv = loop.invariant in
     let same = ap (λ (m : List (List ℕ)). length m) items in
     let count = length-append rest (c.in-Some.tlvs ∷ []) in
-    let few = inv.1 in
-    (ap (λ (ws : List Wanted). map wanted_of ws ++ counted c.args.first c.args.flags id (loop.number + 1) (reverse rest)) c.in-Ok.ensures.items
-    ∙ counted-next loop.list.items _ c.args.first c.args.flags id loop.number c.in-Some.tlvs (reverse rest) c.id_of.ensures c.flags_of.ensures refl
-    ∙ ap (λ (m : List (List ℕ)). map wanted_of loop.list.items ++ counted c.args.first c.args.flags id loop.number m) (sym popped)
-    ∙ inv.0, omega (arith, same, count, few))
+    let few = inv.1 in (
+      ap (λ (ws : List Wanted). map wanted_of ws ++ counted c.args.first c.args.flags id (loop.number + 1) (reverse rest)) c.in-Ok.ensures.items
+          ∙ counted-next loop.list.items _ c.args.first c.args.flags id loop.number c.in-Some.tlvs (reverse rest) c.id_of.ensures c.flags_of.ensures refl
+          ∙ ap (λ (m : List (List ℕ)). map wanted_of loop.list.items ++ counted c.args.first c.args.flags id loop.number m) (sym popped)
+          ∙ inv.0,
+      omega (arith, same, count, few),
+    )
 
 pub returns : goal.returns
 returns c =
