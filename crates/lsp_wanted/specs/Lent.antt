@@ -2,7 +2,7 @@
 use Rattle.std.specs.Prelude.{◌≡◌, ℕ, Bool, List, [], map, Option, Some, None, is_some, if◌then◌else◌}
 use Rattle.isis_base.specs.declared.level.Level.{Level}
 use Rattle.isis_base.specs.declared.prefix.Prefix.{Prefix}
-use Rattle.isis_model.specs.Both.{Both, at}
+use Rattle.isis_model.specs.Both.{at}
 use Rattle.isis_model.specs.Configs.{Config}
 use Rattle.isis_model.specs.Givens.{Given}
 use Rattle.isis_model.specs.Routers.{Circuit, Router}

@@ -1,11 +1,11 @@
 -- Prefixes, neighbours and own LSPs as the model of the router has them.
-use Rattle.std.specs.Prelude.{ℕ, List, [], ◌∷◌, Option, Some, None}
+use Rattle.std.specs.Prelude.{ℕ, ◌^◌, ◌<◌, ◌≤◌, length, All, List, [], ◌∷◌, Option, Some, None}
 use Rattle.isis_base.specs.declared.prefix.Prefix.{Prefix}
 use Rattle.isis_base.specs.Identifiers.{lsp_number, IsId}
 use Rattle.std.specs.List.{AllByRecursion}
-use Rattle.std.specs.Prelude.{◌^◌, ◌<◌}
 use Rattle.isis_tlv.specs.declared.neighbour.NeighbourItem.{NeighbourItem}
 use Rattle.isis_model.specs.Routers.{Contents}
+use Rattle.lsp_fragments.specs.declared.content.Content.{Content}
 use Rattle.lsp_fragments.specs.Entries.{node_and_metric}
 use Rattle.router_desk.specs.Configs.{prefix_number}
 use Rattle.lsp_wanted.specs.declared.wanted.Wanted.{Wanted}
@@ -34,3 +34,10 @@ pub record IsGoodItem (item : NeighbourItem) : Type 0 where
 
 abbrev pub AreGood : List NeighbourItem → Type 0
 AreGood items = AllByRecursion IsGoodItem items
+
+-- what is asked of a content that is split: at most 3 areas, 64 addresses, and metrics of three
+-- octets (RFC 5305 3)
+pub record IsSplittable (content : Content) : Type 0 where
+  pub areas : length content.areas.items ≤ 3
+  pub addresses : length content.addresses.items ≤ 64
+  pub metrics : All (λ item. item.metric < 2 ^ 24) content.neighbours.items

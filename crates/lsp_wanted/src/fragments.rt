@@ -1,9 +1,10 @@
 //! The split of what fits.
-ghost use Rattle.std.specs.Prelude.{◌≡◌, ◌≤◌, ◌<◌, ◌^◌, take, length, All, IfOk};
+ghost use Rattle.std.specs.Prelude.{◌≡◌, ◌≤◌, take, length, IfOk};
 ghost use Rattle.isis_model.specs.Splits as splits;
 ghost use Rattle.isis_model.specs.Wanted.{room_for};
 ghost use Rattle.lsp_fragments.specs.Entries.{content_entries, content_first};
 ghost use Rattle.lsp_wanted.specs.Lent.{key_of};
+ghost use Rattle.lsp_wanted.specs.Views.{IsSplittable};
 
 use isis_base::{Octets, OutOfMemory};
 use lsp_fragments::{Content, SplitFault, split};
@@ -21,17 +22,12 @@ pub(crate) struct Parts {
 }
 
 /// The split of a content: of all entries, or else of those that 256 fragments hold.
-pub(crate) fn fragments(
-    alloc: Global,
-    content: Content,
-    signed: bool,
-) -> Result<Parts, OutOfMemory>
-    requires areas { length content.areas.items ≤ 3 }
-    requires addresses { length content.addresses.items ≤ 64 }
-    requires metrics { All (λ item. item.metric < 2 ^ 24) content.neighbours.items }
-    ensures { IfOk result (λ parts. splits.split (content_first content)
+pub(crate) fn fragments(alloc: Global, content: Content, signed: bool) -> Result<Parts, OutOfMemory>
+    requires { IsSplittable content }
+    ensures split { IfOk result (λ parts. splits.split (content_first content)
         (content_entries content) (room_for (key_of signed))
         ≡ record { fragments = parts.tlvs.items; whole = parts.whole }) }
+    ensures few { IfOk result (λ parts. length parts.tlvs.items ≤ 256) }
 {
     let room = if signed { SIGNED } else { PLAIN };
     let fit = match split(alloc, &content, room) {

@@ -13,10 +13,11 @@
 //! - `nodes.rt`: neighbours in order; `system_nodes.rt`: those of circuits and of LANs
 //! - `reaches.rt`: prefixes, one's own and leaked ones; `flags.rt`: the flags octet
 //! - `fragments.rt`: the split of what fits; `numbering.rt`: fragments with their LSP IDs
-//! - `building.rt`: all LSPs of a level
+//! - `contents.rt`: what LSPs say before they are split; `building.rt`: all LSPs of a level
 #![tactic(auto)]
 
 mod building;
+mod contents;
 mod flags;
 mod fragments;
 mod nodes;

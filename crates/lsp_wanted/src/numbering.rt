@@ -1,5 +1,5 @@
 //! Fragments with their LSP IDs.
-ghost use Rattle.std.specs.Prelude.{◌≡◌, ◌≤◌, ◌<◌, ◌+◌, ◌*◌, ◌++◌, length, map, OnOk};
+ghost use Rattle.std.specs.Prelude.{◌≡◌, ◌≤◌, ◌<◌, ◌+◌, ◌*◌, ◌++◌, length, map, OnOk, ◌==◌, if◌then◌else◌};
 ghost use Rattle.isis_base.specs.Identifiers.{lsp_number};
 ghost use Rattle.isis_model.specs.Wanted.{fragments_of};
 ghost use Rattle.isis_datagram.specs.Numbers.{node_number};
@@ -25,9 +25,12 @@ pub(crate) fn add(
     parts.reverse();
     let mut number = 0usize;
     while let Some(tlvs) = parts.pop() {
-        let flags = if number == 0 { first } else { flags };
-        let id = id_of(node, number);
-        match list.push(Wanted { id, flags, tlvs }) {
+        let fragment = Wanted {
+            id: id_of(node, number),
+            flags: flags_of(number, first, flags),
+            tlvs,
+        };
+        match list.push(fragment) {
             Ok(()) => {}
             Err(_) => return Err(OutOfMemory),
         }
@@ -45,4 +48,11 @@ fn id_of(node: NodeId, number: usize) -> LspId
         node,
         number: number as u8,
     }
+}
+
+/// The flags of a fragment.
+fn flags_of(number: usize, first: u8, flags: u8) -> u8
+    ensures { result ≡ (if number == 0 then first else flags) }
+{
+    if number == 0 { first } else { flags }
 }

@@ -48,6 +48,7 @@ pub(crate) fn system_nodes(
 }
 
 /// A pseudonode's neighbours: the router and all up neighbours, at metric 0, by node.
+#[tactic(auto, unfolding(crate::specs::Parts::put_ups))]
 pub(crate) fn lan_nodes(
     alloc: Global,
     system: SystemId,
@@ -72,12 +73,7 @@ pub(crate) fn lan_nodes(
 }
 
 /// What a circuit, of this place, gives the system's LSP.
-fn node_of(
-    system: SystemId,
-    circuit: &Circuit,
-    place: usize,
-    level: Level,
-) -> Option<NeighbourItem>
+fn node_of(system: SystemId, circuit: &Circuit, place: usize, level: Level) -> Option<NeighbourItem>
     requires place { place < 64 }
     requires metric { circuit.now.metric ≤ 16777215 }
     ensures node { (config : Config) → config.system ≡ system_number system

@@ -1,5 +1,5 @@
 -- What became of adjacencies, and what the model says comes of it.
-use Rattle.std.proofs.Common.{◌≡◌, ℕ, Bool, true, false, not, ◌&&◌, nat_lt, eqb, if◌then◌else◌, List, [], ◌∷◌, Option, Some, None, IfSome, refl, sym, ap, subst, ◌∙◌, arith}
+use Rattle.std.proofs.Common.{◌≡◌, ℕ, Bool, true, false, not, ◌&&◌, nat_lt, eqb, if◌then◌else◌, List, [], ◌∷◌, Option, Some, None, IfSome, IsSome, refl, sym, ap, subst, ◌∙◌, arith}
 use Rattle.std.proofs.lemmas.Bool.Decides.{nat_tests}
 use Rattle.isis_model.specs.Adjacencies as model
 use Rattle.isis_model.specs.Both.{Both, same_flag}
@@ -22,7 +22,10 @@ use Rattle.isis_tlv.specs.declared.three_way.ThreeWay.{ThreeWay}
 use Rattle.isis_base.specs.declared.level.Level.{Level}
 use Rattle.isis_base.specs.declared.level.Level.TheVariants as level
 use Rattle.isis_model.specs.Configs.{Config}
-use Rattle.isis_model.specs.HelloTests.{point_drop, lan_drop}
+use Rattle.isis_model.specs.HelloTests.{hello_drop, shake_drop, point_drop, lan_drop}
+use Rattle.isis_model.specs.Drops.{or_else}
+use Rattle.isis_model.specs.declared.drop_name.DropName.{DropName}
+use Rattle.isis_model.specs.declared.drop_name.DropName.TheVariants.{NoThreeWay}
 use Rattle.router_circuits.specs.declared.greeted.Greeted.{Greeted}
 use Rattle.router_circuits.specs.Hellos.{IsGreeted, IsAlike, is_change, is_coming_up, is_one, shake_of, shakes_of, with_due}
 use Rattle.router_circuits.specs.declared.medium.Medium.{Medium}
@@ -221,3 +224,12 @@ same-point a b extended h s = rw (s.system, s.areas, s.runs) refl
 
 pub same-lan : (a b : Config) (l : Level) (heard : List (ℕ × LanNeighbour)) (h : model.Hello) → IsAlike a b → lan_drop a l heard h ≡ lan_drop b l heard h
 same-lan a b l heard h s = rw (s.system, s.areas, s.runs) refl
+
+-- a point-to-point hello that passes its tests has a three-way value
+pub shaken : (config : Config) (extended : ℕ) (h : model.Hello) (three : Option ThreeWay) → h.handshake ≡ views.shakes_of three → point_drop config extended h ≡ None → IsSome three
+shaken config extended h (Some shake) e passed = refl
+shaken config extended h None e passed =
+    absurd (by (hello_drop config (model.common_of config h) (config.runs.one && h.runs.one) h) (subst (λ (o : Option model.Handshake). or_else (hello_drop config (model.common_of config h) (config.runs.one && h.runs.one) h) (shake_drop config extended o) ≡ None) e passed)) where
+      by : (d : Option DropName) → or_else d (Some NoThreeWay) ≡ None → ⊥
+      by None f = grind (arith, f)
+      by (Some d) f = grind (arith, f)

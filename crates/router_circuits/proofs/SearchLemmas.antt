@@ -13,7 +13,13 @@ use Rattle.isis_model.specs.Routers.{LanNeighbour}
 use Rattle.isis_model.specs.Sorted.{RisesFrom}
 use Rattle.adjacency.specs.declared.neighbour.Neighbour.{Neighbour}
 use Rattle.adjacency.specs.Inside.{keyed, by_snpa, snpa_of}
-use Rattle.adjacency.specs.Lans.{AreHeard, ups}
+use Rattle.adjacency.specs.Lans.{AreHeard, neighbours, ups}
+use Rattle.isis_model.specs.Pulls.{snpas_of}
+use Rattle.isis_model.specs.Both.{Both, at}
+use Rattle.isis_base.specs.declared.level.Level.{Level}
+use Rattle.isis_base.specs.declared.level.Level.TheVariants as level
+use Rattle.router_circuits.specs.declared.timers.Timers.{Timers}
+use Rattle.router_circuits.specs.Views.{levels_in}
 use Rattle.adjacency.specs.Views.{neighbour_of}
 
 -- ---- a binary search by key
@@ -134,3 +140,22 @@ pub up-system : (up : List Neighbour) (heard : List (ℕ × LanNeighbour)) (k : 
 up-system up heard k are e =
     sym (find-seen up k) ∙ ap (λ (m : List model.Neighbour). option_map system_in (find (keyed snpa_in m) k)) e
     ∙ find-ups heard 0 k are.rises are.snpas
+
+-- ---- the SNPAs of those heard
+
+snpas-seen : (ns : List Neighbour) → map snpa_of ns ≡ map snpa_in (map neighbour_of ns)
+unfolding snpa_in
+snpas-seen [] = refl
+snpas-seen (n ∷ ns) = ap (λ (m : List ℕ). snpa_of n ∷ m) (snpas-seen ns)
+
+snpas-heard : (heard : List (ℕ × LanNeighbour)) → AllByRecursion (λ pair. pair.1.neighbour.snpa ≡ pair.0) heard → map snpa_in (neighbours heard) ≡ snpas_of heard
+unfolding snpa_in
+snpas-heard [] s = refl
+snpas-heard (p ∷ heard) s = rw s.0 (ap (λ (m : List ℕ). p.0 ∷ m) (snpas-heard heard s.1))
+
+pub all-snpas : (ns : List Neighbour) (heard : List (ℕ × LanNeighbour)) → AreHeard heard → map neighbour_of ns ≡ neighbours heard → map snpa_of ns ≡ snpas_of heard
+all-snpas ns heard are e = snpas-seen ns ∙ ap (λ (m : List model.Neighbour). map snpa_in m) e ∙ snpas-heard heard are.snpas
+
+pub level-heard : (heard : Both (List (ℕ × LanNeighbour))) (one two : Timers) (l : Level) → (at (levels_in heard one two) l).heard ≡ at heard l
+level-heard heard one two level.One = refl
+level-heard heard one two level.Two = refl

@@ -2,7 +2,9 @@
 ghost use Rattle.std.specs.Prelude.{◌≡◌, true, false, map, IfOk, MatchOption};
 ghost use Rattle.std.specs.Option.{option_map};
 ghost use Rattle.isis_model.specs.Both.{at};
+ghost use Rattle.isis_model.specs.Pulls.{snpas_of};
 ghost use Rattle.adjacency.specs.Changes.{boot_of};
+ghost use Rattle.adjacency.specs.Inside.{snpa_of};
 ghost use Rattle.adjacency.specs.Lans.{AreHeard, neighbours, ups};
 ghost use Rattle.adjacency.specs.Views.{neighbour_of, point_of};
 ghost use Rattle.router_desk.specs.Configs.{circuit_of};
@@ -156,6 +158,7 @@ impl Circuit {
     pub fn heard(&self, level: Level) -> &[Neighbour]
         ensures all { map neighbour_of result.now ≡ neighbours (at self.now.levels level).heard }
         ensures heard { AreHeard (at self.now.levels level).heard }
+        ensures snpas { map snpa_of result.now ≡ snpas_of (at self.now.levels level).heard }
     {
         self.medium.heard(level)
     }

@@ -1,5 +1,5 @@
 //! What a point-to-point hello does to an adjacency.
-ghost use Rattle.std.specs.Prelude.{◌≡◌, ◌&&◌, not, IfOk, IfSome, OnErr, Some};
+ghost use Rattle.std.specs.Prelude.{◌≡◌, ◌&&◌, not, IfOk, IfSome, IsSome, OnErr, Some};
 ghost use Rattle.std.specs.Option.{option_map};
 ghost use Rattle.isis_base.specs.declared.level.Level.TheVariants as level;
 ghost use Rattle.isis_model.specs.Adjacencies as model;
@@ -26,6 +26,7 @@ pub(crate) fn greet(
 ) -> Result<Greeted, HelloDrop>
     ensures tested { (config : Config) → IsOwn config own.now
         → IsTested result (point_drop config own.now.id (hello_of hello.now)) }
+    ensures shaken { IfOk result (λ _. IsSome hello.now.three_way) }
     ensures unchanged { OnErr result (point.new ≡ point.old) }
     ensures greeted { (config : Config) → IsOwn config own.now
         → IfOk result (λ greeted. IfSome (hello_of hello.now).handshake (λ shake.

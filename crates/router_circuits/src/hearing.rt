@@ -1,5 +1,5 @@
 //! Hellos that are heard on a circuit.
-ghost use Rattle.std.specs.Prelude.{◌≡◌, true, false, Bool, if◌then◌else◌, not, IfOk, IfSome, OnErr};
+ghost use Rattle.std.specs.Prelude.{◌≡◌, true, false, Bool, if◌then◌else◌, not, IfOk, IfSome, IsSome, OnErr};
 ghost use Rattle.isis_model.specs.Adjacencies as model;
 ghost use Rattle.isis_model.specs.Both.{alone, at, with_at};
 ghost use Rattle.isis_model.specs.Configs.{Config};
@@ -30,6 +30,7 @@ impl Circuit {
         ensures kind { self.new.lan ≡ false }
         ensures tested { (config : Config) → IsOwn config own.now
             → IsTested result (point_drop config own.now.id (hello_of hello.now)) }
+        ensures shaken { IfOk result (λ _. IsSome hello.now.three_way) }
         ensures unchanged { OnErr result (self.new ≡ self.old) }
         ensures heard { (config : Config) → IsOwn config own.now
             → IfOk result (λ _. IfSome (hello_of hello.now).handshake (λ shake.
@@ -82,6 +83,7 @@ impl Medium {
         requires { is_lan self.old ≡ false }
         ensures tested { (config : Config) → IsOwn config own.now
             → IsTested result (point_drop config own.now.id (hello_of hello.now)) }
+        ensures shaken { IfOk result (λ _. IsSome hello.now.three_way) }
         ensures unchanged { OnErr result (self.new ≡ self.old) }
         ensures lan { is_lan self.new ≡ false }
         ensures greeted { (config : Config) → IsOwn config own.now

@@ -1,9 +1,9 @@
-use Rattle.std.proofs.Common.{◌∙◌, ap, sym}
+use Rattle.std.proofs.Common.{◌∙◌, ap, refl, sym}
 use Rattle.isis_model.specs.Adjacencies as model
 use Rattle.isis_model.specs.HelloTests.{point_drop}
 use Rattle.adjacency.specs.Views as views
 use Rattle.router_circuits.specs.Hellos.{hello_of}
-use Rattle.router_circuits.proofs.ChangeLemmas.{greeted-words, same-common, same-point}
+use Rattle.router_circuits.proofs.ChangeLemmas.{greeted-words, shaken, same-common, same-point}
 use Rattle.router_circuits.proofs.greeting.greet.Goals as goal
 
 pub returns-in-Err-clause-tested : goal.returns-in-Err-clause-tested
@@ -25,3 +25,7 @@ returns-clause-greeted c config is =
     let words = c.hello_sizes.ensures.same in
     let common = ap (λ (h : model.Hello). model.common_of own h) words ∙ same-common own config (hello_of c.args.hello.now) (c.own_words.ensures config is) in
     greeted-words c.args.point.now c.hear_hello.new.self _ _ _ _ c.args.hello.now.three_way c.in-Ok.change c.greeted.result common words c.in-Ok.ensures.heard c.in-Ok.ensures.change done.anew done.moved done.one done.two
+
+pub returns-clause-shaken : goal.returns-clause-shaken
+returns-clause-shaken c =
+    shaken (views.config_of c.args.own.now) c.args.own.now.id (views.hello_of c.args.hello.now) c.args.hello.now.three_way refl c.in-Ok.ensures.tested
