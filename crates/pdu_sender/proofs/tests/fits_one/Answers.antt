@@ -3,6 +3,6 @@ use Rattle.pdu_sender.proofs.tests.fits_one.Goals as goal
 
 pub returns : goal.returns
 returns c =
-    let sized = c.octets.ensures.sized.1 in
+    let sized = c.octets-octets.ensures.sized.1 in
     let whole = ap length (append-nil c.args.area.now) in
     omega (arith, sized, whole)
