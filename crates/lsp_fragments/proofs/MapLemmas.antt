@@ -1,10 +1,11 @@
 -- What is found, put and erased at a place of a list in order.
-use Rattle.std.proofs.Common.{◌≡◌, ℕ, zero, suc, ◌+◌, ◌<◌, ◌≤◌, true, false, Bool, eqb, nat_lt, List, [], ◌∷◌, get_or, set, Some, None, if◌then◌else◌, refl, ap, subst, arith}
+use Rattle.std.proofs.Common.{◌≡◌, ℕ, zero, suc, ◌+◌, ◌<◌, ◌≤◌, true, false, Bool, eqb, nat_lt, List, [], ◌∷◌, drop, get_or, set, Some, None, if◌then◌else◌, refl, ap, subst, arith}
 use Rattle.std.specs.List.{insert, remove}
 use Rattle.std.proofs.lemmas.Bool.Decides.{nat_tests}
 use Rattle.isis_model.specs.Maps.{find, put, erase}
 use Rattle.isis_model.specs.Sorted.{RisesFrom}
 use Rattle.lsp_fragments.specs.Keyed.{keyed, AllAbove, IsPlace, IsGap}
+use Rattle.lsp_fragments.specs.Kept.{issued_from}
 
 -- by a test's two answers
 pub choose : (P : Bool → Type 0) (t : Bool) → P true → P false → P t
@@ -103,3 +104,24 @@ module _ {X : Type 0} (key : X → ℕ) where
       let h = gap.low.0 in
       let rest : IsGap key xs n i = record { inside = (let k = gap.inside in omega (arith, k)); low = gap.low.1; high = gap.high } in
       grind (arith, nat_tests, h, put-gap xs n i v e rest)
+
+  from-above : (xs : List X) (n : ℕ) → AllAbove key n xs → issued_from n (keyed key xs) ≡ keyed key xs
+  from-above [] n a = refl
+  from-above (x ∷ xs) n a = let h = a.0 in grind (arith, nat_tests, h)
+
+  pub from-place : (xs : List X) (n i : ℕ) → IsPlace key xs n i → issued_from n (keyed key xs) ≡ keyed key (drop i xs)
+  from-place [] n i at = absurd (let h = at.inside in omega (arith, h))
+  from-place (x ∷ xs) n zero at = let h = at.here x in grind (arith, nat_tests, h)
+  from-place (x ∷ xs) n (suc i) at =
+      let h = at.low.0 in
+      let rest : IsPlace key xs n i = record { inside = (let k = at.inside in omega (arith, k)); low = at.low.1; here = at.here; high = at.high } in
+      grind (arith, nat_tests, h, from-place xs n i rest)
+
+  pub from-gap : (xs : List X) (n i : ℕ) → IsGap key xs n i → issued_from n (keyed key xs) ≡ keyed key (drop i xs)
+  from-gap [] n zero gap = refl
+  from-gap [] n (suc i) gap = refl
+  from-gap (x ∷ xs) n zero gap = from-above (x ∷ xs) n gap.high
+  from-gap (x ∷ xs) n (suc i) gap =
+      let h = gap.low.0 in
+      let rest : IsGap key xs n i = record { inside = (let k = gap.inside in omega (arith, k)); low = gap.low.1; high = gap.high } in
+      grind (arith, nat_tests, h, from-gap xs n i rest)

@@ -5,8 +5,8 @@ use Rattle.std.specs.Option.{option_map, IsSome}
 use Rattle.isis_model.specs.Maps.{find, put, erase, each}
 use Rattle.isis_model.specs.Routers.{Issued}
 use Rattle.lsp_fragments.specs.declared.kept.Kept.{Kept}
-use Rattle.lsp_fragments.specs.Kept.{kept_id, by_id, issued_of, issued_pairs, all_issued, older_kept}
-use Rattle.lsp_fragments.specs.Issues.{older_issued}
+use Rattle.lsp_fragments.specs.Kept.{kept_id, by_id, issued_of, issued_pairs, all_issued, issued_from, older_kept}
+use Rattle.isis_model.specs.Seconds.{older}
 use Rattle.isis_model.specs.Sorted.{RisesFrom}
 
 -- by a test's two answers
@@ -33,10 +33,18 @@ unfolding erase
 erase-shown [] n = refl
 erase-shown (p ∷ m) n = grind (arith, nat_tests, erase-shown m n)
 
-pub each-shown : (xs : List Kept) → all_issued (map older_kept xs) ≡ each (λ (_ : ℕ) (i : Issued). older_issued i) (all_issued xs)
+pub from-shown : (m : List (ℕ × Kept)) (n : ℕ) → issued_from n (issued_pairs m) ≡ issued_pairs (issued_from n m)
+from-shown [] n = refl
+from-shown (p ∷ m) n = grind (arith, nat_tests, from-shown m n)
+
+pub issued-rises : (m : List (ℕ × Kept)) (least : ℕ) → RisesFrom least m → RisesFrom least (issued_pairs m)
+issued-rises [] least r = tt
+issued-rises (p ∷ m) least r = (r.0, issued-rises m (p.0 + 1) r.1)
+
+pub each-shown : (xs : List Kept) → all_issued (map older_kept xs) ≡ each (λ (_ : ℕ) (i : Issued). older i) (all_issued xs)
 unfolding each
 each-shown [] = refl
-each-shown (x ∷ xs) = ap (λ (rest : List (ℕ × Issued)). (kept_id x, older_issued (issued_of x)) ∷ rest) (each-shown xs)
+each-shown (x ∷ xs) = ap (λ (rest : List (ℕ × Issued)). (kept_id x, older (issued_of x)) ∷ rest) (each-shown xs)
 
 pub older-rises : (xs : List Kept) (least : ℕ) → RisesFrom least (by_id xs) → RisesFrom least (by_id (map older_kept xs))
 older-rises [] least r = tt

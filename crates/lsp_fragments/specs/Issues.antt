@@ -3,7 +3,6 @@
 use Rattle.std.specs.Prelude.{ℕ, ◌+◌, ◌==◌, nat_le, Bool, true, ◌&&◌, ◌||◌, not, Option, Some, None, if◌then◌else◌}
 use Rattle.isis_base.specs.declared.level.Level.{Level}
 use Rattle.isis_model.specs.Ranks.{number_of}
-use Rattle.isis_model.specs.Books.{risen}
 use Rattle.isis_model.specs.Cells.{Cell}
 use Rattle.isis_model.specs.Givens.{Given}
 use Rattle.isis_model.specs.Routers.{Contents, Issued, LevelState, Router}
@@ -38,10 +37,6 @@ abbrev pub next_of : Issue → Next
 next_of (Number number) = own.Number number
 next_of Exhausted = own.Exhaust
 next_of Wait = own.Wait
-
--- what is issued, a second older; the age stands still at the end of 64 bits (7.3.5)
-abbrev pub older_issued : Issued → Issued
-older_issued i = record i { age = risen i.age }
 
 -- a level after an own LSP is outbid, by the answer; `last` is the purge at the last number
 -- (7.3.16.1)

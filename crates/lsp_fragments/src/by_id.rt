@@ -1,9 +1,10 @@
 //! Own LSPs in a list by LSP ID: where one is, and how one is put, taken out and aged.
-ghost use Rattle.std.specs.Prelude.{◌≡◌, map, OnOk, OnErr, IfOk, IsOk, IsSome, MatchOption, None, Some};
+ghost use Rattle.std.specs.Prelude.{◌≡◌, ◌+◌, ◌<◌, ◌≤◌, length, map, OnOk, OnErr, IfOk, IsOk, IsSome, MatchOption, None, Some, vec_capacity};
+ghost use Rattle.std.specs.Option.{option_map};
 ghost use Rattle.isis_base.specs.Identifiers.{lsp_number};
 ghost use Rattle.isis_model.specs.Maps.{find, put, erase};
 ghost use Rattle.isis_model.specs.Sorted.{RisesFrom};
-ghost use Rattle.lsp_fragments.specs.Kept.{kept_id, by_id, issued_of, all_issued, older_kept, IsIdAt};
+ghost use Rattle.lsp_fragments.specs.Kept.{kept_id, by_id, issued_of, all_issued, issued_from, first_id, older_kept, IsIdAt};
 
 use crate::kept::Kept;
 use isis_base::{LspId, OutOfMemory};
@@ -30,7 +31,30 @@ pub(crate) fn kept_of(list: &[Kept], id: LspId) -> Option<&Kept>
     }
 }
 
-/// Puts one in at its place. Where it takes the place of another, it takes no memory.
+/// The first LSP ID from one on that is kept.
+pub(crate) fn id_from(list: &[Kept], start: LspId) -> Option<LspId>
+    requires { RisesFrom 0 (by_id list.now) }
+    ensures { option_map lsp_number result
+        ≡ first_id (issued_from (lsp_number start) (all_issued list.now)) }
+{
+    match place_of(list, start) {
+        Ok(at) => id_at(&list[at..]),
+        Err(at) => id_at(&list[at..]),
+    }
+}
+
+/// The first LSP ID of a list.
+fn id_at(list: &[Kept]) -> Option<LspId>
+    ensures { option_map lsp_number result ≡ first_id (all_issued list.now) }
+{
+    match list {
+        [kept, ..] => Some(kept.id),
+        [] => None,
+    }
+}
+
+/// Puts one in at its place. Where it takes the place of another, or room is spare, it takes no
+/// memory.
 pub(crate) fn put_at(
     list: &mut Vec<Kept>,
     place: Result<usize, usize>,
@@ -41,8 +65,12 @@ pub(crate) fn put_at(
     ensures ok { OnOk result (by_id list.new.items
         ≡ put (by_id list.old.items) (kept_id kept) kept) }
     ensures err { OnErr result (list.new.items ≡ list.old.items) }
+    ensures err_room { OnErr result (vec_capacity list.new ≡ vec_capacity list.old) }
     ensures rises { RisesFrom 0 (by_id list.new.items) }
     ensures held { IsSome (find (by_id list.old.items) (kept_id kept)) → IsOk result }
+    ensures room { length list.old.items < vec_capacity list.old → IsOk result }
+    ensures len { OnOk result (length list.new.items ≤ length list.old.items + 1) }
+    ensures capacity { vec_capacity list.old ≤ vec_capacity list.new }
 {
     match place {
         Ok(at) => {
@@ -50,10 +78,11 @@ pub(crate) fn put_at(
             Ok(())
         }
         Err(at) => {
-            match list.insert(at, kept) {
+            match list.reserve(1) {
                 Ok(()) => {}
                 Err(_) => return Err(OutOfMemory),
             }
+            list.insert(at, kept).unwrap();
             Ok(())
         }
     }
@@ -64,6 +93,8 @@ pub(crate) fn take_out(list: &mut Vec<Kept>, id: LspId)
     requires { RisesFrom 0 (by_id list.old.items) }
     ensures items { by_id list.new.items ≡ erase (by_id list.old.items) (lsp_number id) }
     ensures rises { RisesFrom 0 (by_id list.new.items) }
+    ensures len { length list.new.items ≤ length list.old.items }
+    ensures capacity { vec_capacity list.new ≡ vec_capacity list.old }
 {
     if let Ok(at) = place_of(list, id) {
         list.remove(at);
@@ -75,6 +106,7 @@ pub(crate) fn age_all(list: &mut Vec<Kept>)
     requires { RisesFrom 0 (by_id list.old.items) }
     ensures items { list.new.items ≡ map older_kept list.old.items }
     ensures rises { RisesFrom 0 (by_id list.new.items) }
+    ensures capacity { vec_capacity list.new ≡ vec_capacity list.old }
 {
     age(list);
 }

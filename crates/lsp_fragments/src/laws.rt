@@ -1,18 +1,17 @@
 //! Laws: which split is made, and what the answers on own LSPs are in the router's model.
 //! Functions without a body, whose contracts hold for all values.
-ghost use Rattle.std.specs.Prelude.{◌≡◌, ℕ, ◌<◌, ◌≤◌, ◌-◌, ◌^◌, ◌++◌, map, length, Bool, false, true, List, Option, Some, None};
+ghost use Rattle.std.specs.Prelude.{◌≡◌, ℕ, ◌≤◌, ◌++◌, map, length, Bool, false, true, List, Option, Some, None};
 ghost use Rattle.std.specs.List.{AllByRecursion};
 ghost use Rattle.isis_base.specs.declared.level.Level.{Level};
 ghost use Rattle.isis_base.specs.Identifiers.{IsId};
 ghost use Rattle.isis_tlv.specs.declared.neighbour.NeighbourItem.{NeighbourItem};
 ghost use Rattle.isis_tlv.specs.declared.prefix.PrefixItem.{PrefixItem};
 ghost use Rattle.isis_tlv.specs.Spelling.{area_tlv, protocol_tlv};
-ghost use Rattle.isis_model.specs.Maps.{put, erase, each};
+ghost use Rattle.isis_model.specs.Maps.{put, erase};
 ghost use Rattle.isis_model.specs.Books.{rank_of};
 ghost use Rattle.isis_model.specs.Cells.{Cell};
 ghost use Rattle.isis_model.specs.Routers.{Contents, Issued, LevelState, Router};
 ghost use Rattle.isis_model.specs.Givens.{Given};
-ghost use Rattle.isis_model.specs.Seconds as seconds;
 ghost use Rattle.isis_model.specs.OwnLsps as own;
 ghost use Rattle.isis_model.specs.Splits as splits;
 ghost use Rattle.isis_model.specs.SplitLaws.{IsSmall};
@@ -21,7 +20,7 @@ ghost use Rattle.isis_model.specs.LspPrefixes.{reach_items};
 ghost use Rattle.isis_model.specs.Wanted.{first_tlvs, addresses_of};
 ghost use Rattle.lsp_fragments.specs.Entries.{neighbour_entry, prefix_entry, address_tlvs, node_and_metric, reach_pair};
 ghost use Rattle.lsp_fragments.specs.GoodSplits.{IsGoodSplit};
-ghost use Rattle.lsp_fragments.specs.Issues.{issue_next, issue_above, says_same, next_of, outbid_by, older_issued};
+ghost use Rattle.lsp_fragments.specs.Issues.{issue_next, issue_above, says_same, next_of, outbid_by};
 
 /// The split of the router's model is a good one: where each entry fits a TLV and a fragment alone,
 /// the fragments say the entries in order, each once; no TLV and no fragment but the first fragment
@@ -50,8 +49,7 @@ pub fn next_laws()
 {}
 
 /// `outbid` answers what becomes of an own LSP that is outbid in the router's model; `issued` and
-/// `drop_id` do with own LSPs what an issue and a purge do there, and `second` what a second does,
-/// up to the end of 64 bits.
+/// `drop_id` do with own LSPs what an issue and a purge do there.
 pub fn own_laws()
     ensures outbid { (given : Given) (r : Router) (level : Level) (state : LevelState)
         (id above : ℕ) (contents : Contents) (last : Cell)
@@ -64,10 +62,6 @@ pub fn own_laws()
         → (own.retire state id purge).own ≡ erase state.own id }
     ensures dropped_held { (state : LevelState) (id : ℕ) (held : Option Cell)
         → (own.retire_held state id held).own ≡ erase state.own id }
-    ensures second { (all : List (ℕ × Issued))
-        → AllByRecursion (λ pair. pair.1.age < 2 ^ 64 - 1) all
-        → each (λ (_ : ℕ) (i : Issued). older_issued i) all
-        ≡ each (λ (_ : ℕ) (i : Issued). seconds.older i) all }
 {}
 
 /// A content says what the router's model has an LSP say: the same first TLVs, and the same entries

@@ -1,14 +1,17 @@
 //! The own LSPs that are issued.
-ghost use Rattle.std.specs.Prelude.{◌≡◌, ℕ, [], OnOk, OnErr, IfOk, IsOk, IsSome, is_some, MatchOption, None, Some};
+ghost use Rattle.std.specs.Prelude.{◌≡◌, ◌+◌, ◌<◌, ◌≤◌, ℕ, [], OnOk, OnErr, IfOk, IsOk, IsSome, is_some, MatchOption, None, Some};
 ghost use Rattle.std.specs.Option.{option_map};
 ghost use Rattle.isis_base.specs.Identifiers.{lsp_number};
 ghost use Rattle.isis_base.specs.Keys.{rank};
 ghost use Rattle.isis_model.specs.Maps.{find, put, erase, each};
 ghost use Rattle.isis_model.specs.Ranks.{number_of};
 ghost use Rattle.isis_model.specs.Routers.{Issued};
-ghost use Rattle.lsp_fragments.specs.Issues.{issue_next, issue_above, older_issued};
+ghost use Rattle.isis_model.specs.Seconds.{older};
+ghost use Rattle.isis_model.specs.Sorted.{RisesFrom};
+ghost use Rattle.lsp_fragments.specs.Issues.{issue_next, issue_above};
+ghost use Rattle.lsp_fragments.specs.Kept.{issued_from, first_id};
 
-use crate::by_id::{age_all, copy_of, kept_of, place_of, put_at, take_out};
+use crate::by_id::{age_all, copy_of, id_from, kept_of, place_of, put_at, take_out};
 use crate::issue::Issue;
 use crate::kept::Kept;
 use isis_base::{Key, LspId, Octets, OutOfMemory};
@@ -29,15 +32,15 @@ pub struct OwnLsps {
 }
 
 impl Model for OwnLsps {
-    ghost use Rattle.std.specs.Prelude.{ℕ, List};
-    ghost use Rattle.isis_model.specs.Routers.{Issued};
+    ghost use Rattle.std.specs.Prelude.{vec_capacity};
     ghost use Rattle.isis_model.specs.Sorted.{RisesFrom};
+    ghost use Rattle.lsp_fragments.specs.Kept.{OwnState};
 
-    ghost Value = { List (ℕ × Issued) };
+    ghost Value = { OwnState };
 
-    ghost use Rattle.lsp_fragments.specs.Kept.{by_id, all_issued};
+    ghost use Rattle.lsp_fragments.specs.Kept.{by_id, own_state};
 
-    ghost view = { λ o. all_issued o.list.items };
+    ghost view = { λ o. own_state o.list.items (vec_capacity o.list) };
 
     ghost invariant = { λ o. RisesFrom 0 (by_id o.list.items) };
 }
@@ -45,7 +48,7 @@ impl Model for OwnLsps {
 impl OwnLsps {
     /// None is issued. It takes no memory.
     pub fn new(alloc: Global) -> OwnLsps
-        ensures { result ≡ [] }
+        ensures { result.issued ≡ [] }
     {
         OwnLsps {
             list: Vec::new(alloc),
@@ -58,7 +61,7 @@ impl OwnLsps {
     /// least 5 seconds ago, and where it was issued at least 900 seconds ago; else it waits. At the
     /// last number it is `Exhausted`.
     pub fn next_issue(&self, id: LspId, held: Option<Key>, same: bool) -> Issue
-        ensures { result ≡ issue_next (find self.now (lsp_number id)) (rank held) same }
+        ensures { result ≡ issue_next (find self.now.issued (lsp_number id)) (rank held) same }
     {
         let due = match kept_of(&self.list, id) {
             Some(kept) => (kept.age >= CHANGED && !same) || kept.age >= REFRESH,
@@ -78,13 +81,25 @@ impl OwnLsps {
         issue_at(above)
     }
 
-    /// Keeps what an LSP ID was issued with, just now. Where it was issued before, it takes no
-    /// memory. At `OutOfMemory` all is as before.
-    pub fn issued(&mut self, id: LspId, tlvs: Octets, flags: u8) -> Result<(), OutOfMemory>
-        ensures ok { OnOk result (self.new ≡ put self.old (lsp_number id)
-            (record { contents = record { flags = flags; tlvs = tlvs }; age = 0 })) }
+    /// Takes the memory for so many more own LSPs. At `OutOfMemory` all is as before.
+    pub fn reserve(&mut self, more: usize) -> Result<(), OutOfMemory>
+        ensures issued { self.new.issued ≡ self.old.issued }
+        ensures room { OnOk result (more ≤ self.new.spare) }
         ensures err { OnErr result (self.new ≡ self.old) }
-        ensures held { IsSome (find self.old (lsp_number id)) → IsOk result }
+    {
+        self.list.reserve(more)?;
+        Ok(())
+    }
+
+    /// Keeps what an LSP ID was issued with, just now. Where it was issued before, or room is
+    /// spare, it takes no memory. At `OutOfMemory` all is as before.
+    pub fn issued(&mut self, id: LspId, tlvs: Octets, flags: u8) -> Result<(), OutOfMemory>
+        ensures ok { OnOk result (self.new.issued ≡ put self.old.issued (lsp_number id)
+            (record { contents = record { flags = flags; tlvs = tlvs }; age = 0 })) }
+        ensures spare { OnOk result (self.old.spare ≤ self.new.spare + 1) }
+        ensures err { OnErr result (self.new ≡ self.old) }
+        ensures held { IsSome (find self.old.issued (lsp_number id)) → IsOk result }
+        ensures room { 0 < self.old.spare → IsOk result }
     {
         let place = place_of(&self.list, id);
         let kept = Kept {
@@ -98,23 +113,33 @@ impl OwnLsps {
 
     /// The LSP ID isn't issued any longer.
     pub fn drop_id(&mut self, id: LspId)
-        ensures { self.new ≡ erase self.old (lsp_number id) }
+        ensures issued { self.new.issued ≡ erase self.old.issued (lsp_number id) }
+        ensures spare { self.old.spare ≤ self.new.spare }
     {
         take_out(&mut self.list, id);
     }
 
     /// Whether the LSP ID is issued.
     pub fn is_issued(&self, id: LspId) -> bool
-        ensures { result ≡ is_some (find self.now (lsp_number id)) }
+        ensures { result ≡ is_some (find self.now.issued (lsp_number id)) }
     {
         kept_of(&self.list, id).is_some()
+    }
+
+    /// The first LSP ID from one on that is issued.
+    pub fn next_from(&self, start: LspId) -> Option<LspId>
+        ensures first { option_map lsp_number result
+            ≡ first_id (issued_from (lsp_number start) self.now.issued) }
+        ensures rises { RisesFrom 0 self.now.issued }
+    {
+        id_from(&self.list, start)
     }
 
     /// The TLVs and the flags octet of the last issue; `None` exactly where the LSP ID isn't
     /// issued.
     pub fn contents(&self, id: LspId) -> Option<(&[u8], u8)>
-        ensures { MatchOption result (find self.now (lsp_number id) ≡ None)
-            (λ said. option_map (λ i. i.contents) (find self.now (lsp_number id))
+        ensures { MatchOption result (find self.now.issued (lsp_number id) ≡ None)
+            (λ said. option_map (λ i. i.contents) (find self.now.issued (lsp_number id))
             ≡ Some (record { flags = said.1; tlvs = said.0.now })) }
     {
         match kept_of(&self.list, id) {
@@ -125,14 +150,16 @@ impl OwnLsps {
 
     /// A second more since each issue.
     pub fn second(&mut self)
-        ensures { self.new ≡ each (λ (_ : ℕ) (i : Issued). older_issued i) self.old }
+        ensures issued { self.new.issued
+            ≡ each (λ (_ : ℕ) (i : Issued). older i) self.old.issued }
+        ensures spare { self.old.spare ≤ self.new.spare }
     {
         age_all(&mut self.list);
     }
 
-    /// An equal value.
+    /// One with the same own LSPs.
     pub fn copy(&self) -> Result<OwnLsps, OutOfMemory>
-        ensures { IfOk result (λ copy. copy ≡ self.now) }
+        ensures { IfOk result (λ copy. copy.issued ≡ self.now.issued) }
     {
         let list = copy_of(*self.list.allocator(), &self.list)?;
         Ok(OwnLsps { list })

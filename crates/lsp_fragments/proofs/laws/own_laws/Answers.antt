@@ -1,28 +1,13 @@
-use Rattle.std.proofs.Common.{◌≡◌, ◌==◌, ℕ, ◌+◌, ◌-◌, ◌^◌, ◌<◌, List, [], ◌∷◌, Some, None, if◌then◌else◌, refl, ap, ◌∙◌, arith}
+use Rattle.std.proofs.Common.{◌≡◌, ◌==◌, ◌+◌, Some, None, if◌then◌else◌, refl}
 use Rattle.isis_model.specs.Cells.{purged}
-use Rattle.isis_model.specs.Routers.{LevelState, Issued}
+use Rattle.isis_model.specs.Routers.{LevelState}
 use Rattle.isis_model.specs.Ranks.{is_live}
-use Rattle.isis_model.specs.Maps.{erase, each}
+use Rattle.isis_model.specs.Maps.{erase}
 use Rattle.isis_model.specs.OwnLsps.{outbid, install, retire, last_number, issue_cell}
 use Rattle.isis_model.proofs.BookLemmas.{choose, test}
 use Rattle.lsp_fragments.specs.declared.issue.Issue.TheVariants.{Number, Exhausted}
-use Rattle.lsp_fragments.specs.Issues.{outbid_by, older_issued}
-use Rattle.isis_model.specs.Seconds as seconds
-use Rattle.isis_model.specs.Books.{risen}
-use Rattle.std.proofs.lemmas.Bool.Decides.{nat_tests}
-use Rattle.std.specs.List.{AllByRecursion}
+use Rattle.lsp_fragments.specs.Issues.{outbid_by}
 use Rattle.lsp_fragments.proofs.laws.own_laws.Goals as goal
-
-same-second : (all : List (ℕ × Issued)) → AllByRecursion (λ (pair : ℕ × Issued). pair.1.age < 2 ^ 64 - 1) all → each (λ (_ : ℕ) (i : Issued). older_issued i) all ≡ each (λ (_ : ℕ) (i : Issued). seconds.older i) all
-unfolding each
-same-second [] less = refl
-same-second (pair ∷ all) less =
-    let age : risen pair.1.age ≡ pair.1.age + 1 = (let h = less.0 in grind (arith, nat_tests, h)) in
-    ap (λ (n : ℕ). (pair.0, record pair.1 { age = n }) ∷ each (λ (_ : ℕ) (i : Issued). older_issued i) all) age
-    ∙ ap (λ (rest : List (ℕ × Issued)). (pair.0, seconds.older pair.1) ∷ rest) (same-second all less.1)
-
-pub returns-clause-second : goal.returns-clause-second
-returns-clause-second c = same-second
 
 pub returns-clause-outbid : goal.returns-clause-outbid
 unfolding outbid

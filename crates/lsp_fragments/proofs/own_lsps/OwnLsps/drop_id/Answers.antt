@@ -1,12 +1,11 @@
-use Rattle.std.proofs.Common.{◌∙◌, ap, ℕ, List}
+use Rattle.std.proofs.Common.{◌∙◌, ap}
 use Rattle.isis_base.specs.Identifiers.{lsp_number}
 use Rattle.isis_model.specs.Maps.{erase}
-use Rattle.isis_model.specs.Routers.{Issued}
-use Rattle.lsp_fragments.specs.Kept.{by_id, issued_pairs}
+use Rattle.lsp_fragments.specs.Kept.{OwnState, by_id, issued_pairs}
 use Rattle.lsp_fragments.proofs.ShownLemmas.{erase-shown}
 use Rattle.lsp_fragments.proofs.own_lsps.OwnLsps.drop_id.Goals as goal
 
-pub returns : goal.returns
-returns c =
+pub returns-clause-issued : goal.returns-clause-issued
+returns-clause-issued c =
     ap issued_pairs c.take_out.ensures.items ∙ erase-shown (by_id c.self.inside.list.items) (lsp_number c.args.id)
-    ∙ ap (λ (m : List (ℕ × Issued)). erase m (lsp_number c.args.id)) c.self.view_is
+    ∙ ap (λ (s : OwnState). erase s.issued (lsp_number c.args.id)) c.self.view_is
