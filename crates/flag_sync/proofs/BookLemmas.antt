@@ -1,5 +1,5 @@
 -- What a call does to entries and rows, as what it does to the book of the definitions.
-use Rattle.std.proofs.Common.{◌≡◌, Bool, true, false, if◌then◌else◌, ℕ, ◌+◌, ◌-◌, ◌*◌, ◌/◌, ◌^◌, ◌<◌, eqb, nat_lt, inl, inr, List, [], ◌∷◌, length, Option, Some, None, refl, sym, ap, ap₂, ◌∙◌, subst, arith}
+use Rattle.std.proofs.Common.{◌≡◌, Bool, true, false, if◌then◌else◌, ℕ, ◌+◌, ◌-◌, ◌*◌, ◌/◌, ◌^◌, ◌<◌, eqb, nat_lt, inl, inr, List, [], ◌∷◌, length, Option, Some, None, IsSome, is_some, refl, sym, ap, ap₂, ◌∙◌, subst, arith}
 use Rattle.std.proofs.lemmas.Bool.Decides.{nat_tests}
 use Rattle.std.specs.Option.{option_map}
 use Rattle.isis_base.specs.declared.identifiers.LspId.{LspId}
@@ -233,8 +233,22 @@ module _ (s : BookState) (b : AreBeside s.store.entries s.rows) (up : RisesFrom 
   ]
 
   -- an LSP ID that is asked for
-  full-is : is_full (book_of s) ≡ eqb (length s.store.entries) 65536
+  pub full-is : is_full (book_of s) ≡ eqb (length s.store.entries) 65536
   full-is = ap (λ (k : ℕ). eqb k 65536) (length-cells s.store.entries s.rows b)
+
+  -- whether there is an entry
+  pub held-some : (n : ℕ) → is_some (find s.store.entries n) ≡ is_some (cell_at (book_of s) n)
+  held-some n = elim (both-or-none s.store.entries s.rows n b) [
+    | inl h ↦ ap is_some h.0 ∙ sym (ap is_some (held n ∙ ap₂ pair_up h.0 h.1))
+    | inr h ↦ ap is_some h.2 ∙ sym (ap is_some (held n ∙ ap₂ pair_up h.2 h.3))
+  ]
+
+  -- where an entry finds room
+  pub held-found : (n : ℕ) → IsSome (cell_at (book_of s) n) → find s.store.entries n ≡ None → ⊥
+  held-found n some none =
+      let cell : cell_at (book_of s) n ≡ None = held n ∙ ap (λ (o : Option Entry). pair_up o (find s.rows n)) none in
+      let h = subst (λ (o : Option Cell). IsSome o) cell some in
+      absurd (grind (arith, h))
 
   pub asked-found : (n place : ℕ) (entry : Entry) → find s.store.entries n ≡ Some entry → option_map (λ (c : Cell). ssn_on c place) (cell_at (book_of s) n) ≡ asked (is_full (book_of s)) place (cell_at (book_of s) n)
   asked-found n place entry e = elim (both-or-none s.store.entries s.rows n b) [

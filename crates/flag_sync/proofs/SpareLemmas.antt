@@ -13,23 +13,27 @@ pub room-same : (old new : BookState) → new.store ≡ old.store → KeepsRoom 
 room-same old new e =
     let spare = ap (λ (d : Database). d.spare) e in
     let held = ap (λ (d : Database). length d.entries) e in
-    record { spare = omega (arith, spare); held = omega (arith, held) }
+    record { spare = omega (arith, spare); held = omega (arith, held); made = omega (arith, spare, held) }
 
 pub room-change : (f : Entry → Entry) (n : ℕ) (old new : BookState) → new.store ≡ with_change old.store n f → KeepsRoom old new
 room-change f n old new e =
     let spare = ap (λ (d : Database). d.spare) e in
     let held = ap (λ (d : Database). length d.entries) e ∙ length-change_at f n old.store.entries in
-    record { spare = omega (arith, spare); held = omega (arith, held) }
+    record { spare = omega (arith, spare); held = omega (arith, held); made = omega (arith, spare, held) }
 
 pub room-put : (id : LspId) (entry : Entry) (old new : BookState) → RisesFrom 0 old.store.entries → new.store ≡ with_entry old.store id entry → KeepsRoom old new
 room-put id entry old new up e =
     let spare = ap (λ (d : Database). d.spare) e in
     let held = ap (λ (d : Database). length d.entries) e ∙ length-put old.store.entries 0 id entry up in
-    record { spare = rw spare (less (is_some (find old.store.entries (lsp_number id)))); held = rw held (more (is_some (find old.store.entries (lsp_number id)))) }
+    record { spare = rw spare (less (is_some (find old.store.entries (lsp_number id)))); held = rw held (more (is_some (find old.store.entries (lsp_number id)))); made = rw (spare, held) (both (is_some (find old.store.entries (lsp_number id)))) }
   where
     less : (t : Bool) → old.store.spare ≤ (if t then old.store.spare else old.store.spare - 1) + 1
     less true = omega arith
     less false = omega arith
+
+    both : (t : Bool) → old.store.spare + length old.store.entries ≤ (if t then old.store.spare else old.store.spare - 1) + (if t then length old.store.entries else length old.store.entries + 1)
+    both true = omega arith
+    both false = omega arith
 
     more : (t : Bool) → length old.store.entries ≤ (if t then length old.store.entries else length old.store.entries + 1)
     more true = omega arith

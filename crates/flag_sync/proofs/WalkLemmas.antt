@@ -17,7 +17,7 @@ use Rattle.flag_sync.specs.BookStates.{cells_of, AreBeside}
 no-wait : (a b c : ℕ) (s : Bool) → a < 2 → b < 2 → c < 2 → (s && not (a == 1) && not (b == 1) && not (c == 1)) ≡ (s && (a + 2 * b + 4 * c == 0))
 no-wait a b c s x y z = grind (arith, nat_tests, x, y, z)
 
-due-row : (place : ℕ) (entry : Entry) (row : FlagRow) → row_due place row ≡ srm_due place (cell_of entry row)
+pub due-row : (place : ℕ) (entry : Entry) (row : FlagRow) → row_due place row ≡ srm_due place (cell_of entry row)
 unfolding has
 due-row place entry row =
     no-wait (bit_at (slice_index row.waits 0) place) (bit_at (slice_index row.waits 1) place) (bit_at (slice_index row.waits 2) place) (has row.srm place) (bit_at-lt (slice_index row.waits 0) place) (bit_at-lt (slice_index row.waits 1) place) (bit_at-lt (slice_index row.waits 2) place)

@@ -64,10 +64,12 @@ pub record SameCircuits (old new : BookState) : Type 0 where
   pub points : new.points ≡ old.points
   pub circuits : new.circuits ≡ old.circuits
 
--- at most one entry's room is used up, and no entry is given up
+-- at most one entry's room is used up, by an entry that is made, and no entry is given up
 pub record KeepsRoom (old new : BookState) : Type 0 where
   pub spare : old.store.spare ≤ new.store.spare + 1
   pub held : length old.store.entries ≤ length new.store.entries
+  pub made : old.store.spare + length old.store.entries
+      ≤ new.store.spare + length new.store.entries
 
 -- no entry of a number is held, and 65,536 others are
 abbrev pub IsFullFor : BookState → ℕ → Type 0

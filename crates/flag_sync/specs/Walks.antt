@@ -4,7 +4,9 @@ use Rattle.isis_base.specs.declared.identifiers.LspId.{LspId}
 use Rattle.isis_base.specs.Identifiers.{lsp_number}
 use Rattle.isis_model.specs.Sets.{has}
 use Rattle.isis_model.specs.Cells.{Cell}
+use Rattle.flag_sync.specs.declared.deed.Deed.{Deed}
 use Rattle.flag_sync.specs.declared.flag_row.FlagRow.{FlagRow}
+use Rattle.flag_sync.specs.FlagRows.{done}
 
 -- whether SRM stands and waits no more
 abbrev pub row_due : ℕ → FlagRow → Bool
@@ -13,6 +15,10 @@ row_due place row =
     && not (has (slice_index row.waits 0) place)
     && not (has (slice_index row.waits 1) place)
     && not (has (slice_index row.waits 2) place)
+
+-- a row after a deed where SRM is due on its circuit
+abbrev pub done_due : Deed → FlagRow → FlagRow
+done_due deed row = if row_due deed.place row then done deed row else row
 
 abbrev pub due_of : ℕ → List (LspId × FlagRow) → List LspId
 due_of place [] = []

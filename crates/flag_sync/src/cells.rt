@@ -1,9 +1,9 @@
 //! What is held of one LSP ID: asked, replaced and given up.
-ghost use Rattle.std.specs.Prelude.{◌≡◌, ℕ, ◌≤◌, ◌<◌, ◌-◌, length, Some, None, IfOk, IfErr, OnOk, OnErr};
+ghost use Rattle.std.specs.Prelude.{◌≡◌, ℕ, ◌≤◌, ◌<◌, ◌-◌, length, false, Some, None, IsSome, IfOk, IfErr, IsOk, OnOk, OnErr};
 ghost use Rattle.std.specs.Option.{option_map};
 ghost use Rattle.isis_base.specs.Identifiers.{lsp_number};
 ghost use Rattle.isis_model.specs.Cells.{Cell, flagged, purged};
-ghost use Rattle.isis_model.specs.Books.{cell_at, rank_at, set_cell, srm_at, ssn_at};
+ghost use Rattle.isis_model.specs.Books.{cell_at, rank_at, is_full, set_cell, srm_at, ssn_at};
 ghost use Rattle.lsp_store.specs.Maps.{find, put, erase, change_at};
 ghost use Rattle.lsp_store.specs.Databases.{PutCause, with_entry, without_entry, with_change};
 ghost use Rattle.flag_sync.specs.FlagRows.{cell_of, entry_cell, done};
@@ -62,7 +62,12 @@ impl Book {
         ensures cause { IfErr result (λ back. PutCause self.old.store (lsp_number id) back.1) }
         ensures full { find self.old.store.entries (lsp_number id) ≡ None
             → 65536 ≤ length self.old.store.entries → IfOk result (λ _. ⊥) }
+        ensures held { IsSome (cell_at (book_of self.old) (lsp_number id)) → IsOk result }
+        ensures fits { is_full (book_of self.old) ≡ false → 0 < self.old.store.spare
+            → IsOk result }
+        ensures room { OnOk result (KeepsRoom self.old self.new) }
     {
+        let _most = self.store.len();
         let row = FlagRow::new(self.opened, 0);
         self.keep(id, entry, row)
     }

@@ -7,7 +7,7 @@ ghost use Rattle.isis_model.specs.Sets.{has};
 ghost use Rattle.isis_model.specs.Cells.{Cell, srm_sent, srm_off};
 ghost use Rattle.isis_model.specs.Books.{Book as TheBook, cell_at, set_cell};
 ghost use Rattle.isis_model.specs.Ageing.{wait_less};
-ghost use Rattle.isis_model.specs.Pulls.{answered};
+ghost use Rattle.isis_model.specs.Pulls.{sent, answered};
 ghost use Rattle.flag_sync.specs.Deeds.{deed_cell};
 ghost use Rattle.flag_sync.specs.Circuits.{cleared, open_or_close, sent_on};
 ghost use Rattle.flag_sync.specs.BookStates.{BookState, book_of, IsCircuit, SameCircuits};
@@ -15,7 +15,7 @@ ghost use Rattle.flag_sync.specs.BookStates.{BookState, book_of, IsCircuit, Same
 use crate::bits::{has_bit, with_bit, without_bit};
 use crate::book::Book;
 use crate::deed::{Deed, SrmDeed, SsnDeed};
-use crate::row_edits::SecondLess;
+use crate::row_edits::{SecondLess, WhereDue};
 use isis_base::LspId;
 
 impl Book {
@@ -66,6 +66,19 @@ impl Book {
         self.flag(id, &deed);
     }
 
+    /// The LSPs that are due on the circuit were sent (ISO 10589 7.3.15.5): on a LAN their SRM is
+    /// cleared, else it waits five seconds.
+    pub fn sent_due(&mut self, circuit: u8)
+        requires { IsCircuit circuit self.old.circuits }
+        ensures book { book_of self.new ≡ sent (book_of self.old) (circuit - 1) }
+        ensures store { self.new.store ≡ self.old.store }
+        ensures rest { SameCircuits self.old self.new }
+    {
+        let place = self.place(circuit);
+        let deed = sent_deed(self.points, place);
+        self.flags.change_all(&WhereDue { deed });
+    }
+
     /// The sequence number PDUs that were owed on the circuit are sent: its SSN flags are cleared.
     pub fn answered(&mut self, circuit: u8)
         requires { IsCircuit circuit self.old.circuits }
@@ -106,7 +119,8 @@ impl Book {
 /// SRM after it was sent: cleared on a LAN, waiting five seconds on a point-to-point circuit.
 fn sent_deed(points: u64, place: u8) -> Deed
     requires { place < 64 }
-    ensures { (cell : Cell) → deed_cell result cell ≡ sent_on points place cell }
+    ensures deed { (cell : Cell) → deed_cell result cell ≡ sent_on points place cell }
+    ensures place { result.place ≡ place }
 {
     let ssn = SsnDeed::Keep;
     if has_bit(points, place) {

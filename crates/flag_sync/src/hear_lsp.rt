@@ -93,8 +93,9 @@ impl Book {
         let _opened = self.opened;
     }
 
-    /// One's own LSP that isn't issued is kept as its purge, and flooded.
-    fn keep_purge(&mut self, lsp: &LspHeard<'_>) -> Result<(), StoreFault>
+    /// An LSP is kept as its purge, with SRM set and SSN clear on all open circuits (ISO 10589
+    /// 7.3.16.4).
+    pub fn keep_purge(&mut self, lsp: &LspHeard<'_>) -> Result<(), StoreFault>
         requires number { 0 < lsp.now.entry.number }
         requires octets { 27 ≤ length lsp.now.octets.now }
         ensures book { (place : ℕ) → OnOk result (book_of self.new

@@ -11,6 +11,7 @@
 //! - `lsp_rows.rt`, `snp_rows.rt`: which row is met; `hear_lsp.rt`, `hear_entry.rt`: what it does
 //! - `range.rt`: what a CSNP misses, and marks; `walks.rt`: what is due and owed; `said.rt`: what
 //!   sequence number PDUs say
+//! - `readers.rt`: what a router asks of circuits, of room and of rows
 //! - `cells.rt`: one LSP ID; `circuits.rt`: one circuit, and seconds; `ages.rt`: what is left
 //! - `deed.rt`, `row_edits.rt`: flags changed in place; `headers.rt`: entries kept, and purges
 //! - `laws.rt`: the opening of a circuit, by two calls
@@ -31,6 +32,7 @@ mod known;
 mod laws;
 mod lsp_rows;
 mod range;
+mod readers;
 mod row_edits;
 mod said;
 mod sides;

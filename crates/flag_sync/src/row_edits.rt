@@ -5,11 +5,18 @@ ghost use Rattle.flag_sync.specs.FlagRows.{at_once, five, srm_done, ssn_done, fa
 use crate::bits::{with_bit, without_bit};
 use crate::deed::{Deed, SrmDeed, SsnDeed};
 use crate::flag_row::FlagRow;
+use crate::walks::is_due;
 use lsp_store::Change;
 
 /// A second less of what each set SRM flag waits.
 #[derive(Drop)]
 pub(crate) struct SecondLess;
+
+/// A deed where SRM is due on its circuit.
+#[derive(Drop)]
+pub(crate) struct WhereDue {
+    pub(crate) deed: Deed,
+}
 
 impl Change<FlagRow> for Deed {
     ghost use Rattle.flag_sync.specs.FlagRows.{done};
@@ -18,6 +25,18 @@ impl Change<FlagRow> for Deed {
 
     fn change(&self, row: &mut FlagRow) {
         *row = after_ssn(self.ssn, self.place, after_srm(self.srm, self.place, *row));
+    }
+}
+
+impl Change<FlagRow> for WhereDue {
+    ghost use Rattle.flag_sync.specs.Walks.{done_due};
+
+    ghost changed = { λ due row. done_due due.deed row };
+
+    fn change(&self, row: &mut FlagRow) {
+        if is_due(row, self.deed.place) {
+            self.deed.change(row);
+        }
     }
 }
 

@@ -144,8 +144,10 @@ fn after_lsp(
         flags: 3,
         octets: octets.as_slice(),
     };
+    let foreseen = book.would_meet(&lsp, whose);
     match book.hear_lsp(circuit, &lsp, whose) {
-        Ok(answer) => Some((answer, now_held(&book))),
+        Ok(answer) if answer == foreseen => Some((answer, now_held(&book))),
+        Ok(_) => None,
         Err(_) => None,
     }
 }
@@ -412,6 +414,8 @@ fn flags_over_time(rt: HostRuntime) -> Result<(), Fail> {
     book.answered(2);
     book.sent(3, id);
     assert_eq!(rt; now_held(&book), cell(2, false, ONE, THREE));
+    book.sent_due(1);
+    assert_eq!(rt; book.due(1).next(), None);
     Ok(())
 }
 
@@ -431,6 +435,7 @@ fn circuits_of_a_book(rt: HostRuntime) -> Result<(), Fail> {
     );
     book.mark_all(3);
     book.set_open(1, false);
+    assert!(rt; !book.is_open(1) && book.is_open(3) && book.is_point(1) && !book.is_point(3));
     assert_eq!(rt;
         now_held(&book),
         cell(2, false, TWO_THREE, [false, true, false])
@@ -445,6 +450,7 @@ fn entry_of_a_book(rt: HostRuntime) -> Result<(), Fail> {
     let mut book = held(rt.alloc())?;
     let copy = book.copy()?;
     assert_eq!(rt; copy.flag_pages().len(), 1usize);
+    assert!(rt; copy.is_held(id) && !copy.is_full());
     book.set_left(id, 17);
     assert_eq!(rt; book.store().get(id).map(|entry| entry.left), Some(17));
     book.erase(id);

@@ -114,7 +114,7 @@ impl Book {
 }
 
 /// Whether a row's SRM is due on a circuit: one test of a word, with the bit planes of what waits.
-fn is_due(row: &FlagRow, place: u8) -> bool
+pub(crate) fn is_due(row: &FlagRow, place: u8) -> bool
     requires { place < 64 }
     ensures { result ≡ row_due place row.now }
 {
