@@ -1,0 +1,56 @@
+-- What own LSPs' drafts are for: the answer to another's copy, and what is wanted (ISO 10589 7.3.6,
+-- 7.3.16.1; that drafts are made beforehand: own).
+use Rattle.std.specs.Prelude.{◌≡◌, ℕ, Bool, List, [], ◌∷◌, map, is_some, Option, Some, None, IfSome}
+use Rattle.isis_base.specs.declared.level.Level.{Level}
+use Rattle.isis_base.specs.declared.entry.LspEntry.{LspEntry}
+use Rattle.isis_base.specs.Identifiers.{lsp_number}
+use Rattle.isis_model.specs.Both.{at}
+use Rattle.isis_model.specs.Maps.{find}
+use Rattle.isis_model.specs.Routers.{Contents, Issued, Router}
+use Rattle.isis_model.specs.Takes.{Scene, answer_of}
+use Rattle.isis_datagram.specs.Lsps.{given_octets}
+use Rattle.lsp_octets.specs.Drafts.{DraftView}
+
+-- what a step knows, where own LSPs are written as octets (own)
+abbrev pub scene_with : (Router → Level → List (ℕ × ℕ)) → (Router → Bool) → Router → Level → Scene
+scene_with leaks attached r level =
+    record { given = given_octets leaks attached; router = r; level = level }
+
+-- a draft of a router's level, under its key there (RFC 5304 2)
+pub record IsUnder (key : Option (List ℕ)) (r : Router) (level : Level) (draft : DraftView)
+    : Type 0 where
+  pub keyed : at r.config.keys level ≡ key
+  pub on : draft.level ≡ level
+
+-- a draft is the answer where a copy of an own LSP is heard: it says what is wanted of it (7.3.16.1)
+pub record IsAnswer (key : Option (List ℕ)) (scene : Scene) (n : ℕ) (draft : DraftView)
+    : Type 0 where
+  pub under : IsUnder key scene.router scene.level draft
+  pub named : lsp_number draft.id ≡ n
+  pub says : draft.contents ≡ answer_of scene n
+
+-- ---- the entries of a sequence number PDU, and a draft or none for each
+
+-- a draft where the LSP ID is issued
+abbrev pub IsReady : Bool → List (ℕ × Issued) → LspEntry → Option DraftView → Type 0
+IsReady keyed own entry None = find own (lsp_number entry.id) ≡ None
+IsReady keyed own entry (Some draft) = keyed ≡ draft.keyed
+
+abbrev pub AreReady : Bool → List (ℕ × Issued) → List LspEntry → List (Option DraftView) → Type 0
+AreReady keyed own [] drafts = Unit {0}
+AreReady keyed own (entry ∷ entries) [] = ⊥
+AreReady keyed own (entry ∷ entries) (draft ∷ drafts) =
+    IsReady keyed own entry draft × AreReady keyed own entries drafts
+
+-- each draft is the answer for its entry
+abbrev pub AreAnswers : Option (List ℕ) → Scene → List LspEntry → List (Option DraftView) → Type 0
+AreAnswers key scene [] drafts = Unit {0}
+AreAnswers key scene (entry ∷ entries) [] = Unit {0}
+AreAnswers key scene (entry ∷ entries) (draft ∷ drafts) =
+    IfSome draft (IsAnswer key scene (lsp_number entry.id)) × AreAnswers key scene entries drafts
+
+-- ---- what is wanted
+
+-- the fragments that drafts say, with their LSP IDs
+abbrev pub wants_of : List DraftView → List (ℕ × Contents)
+wants_of drafts = map (λ (d : DraftView). (lsp_number d.id, d.contents)) drafts
