@@ -66,6 +66,8 @@ impl Book {
         ensures fits { is_full (book_of self.old) ≡ false → 0 < self.old.store.spare
             → IsOk result }
         ensures room { OnOk result (KeepsRoom self.old self.new) }
+        ensures held_room { IsSome (cell_at (book_of self.old) (lsp_number id))
+            → OnOk result (self.new.store.spare ≡ self.old.store.spare) }
     {
         let _most = self.store.len();
         let row = FlagRow::new(self.opened, 0);

@@ -10,7 +10,7 @@ use Rattle.lsp_store.specs.Maps.{find, RisesFrom}
 use Rattle.lsp_store.specs.Databases.{Database, PutCause}
 use Rattle.flag_sync.specs.BookStates.{BookState, book_of}
 use Rattle.flag_sync.proofs.CellLemmas.{has-header}
-use Rattle.flag_sync.proofs.BookLemmas.{held-found, full-is}
+use Rattle.flag_sync.proofs.BookLemmas.{held-found, held-some, full-is}
 use Rattle.flag_sync.proofs.SpareLemmas.{room-put}
 use Rattle.flag_sync.proofs.book.Book.install.Goals as goal
 
@@ -66,3 +66,17 @@ pub returns-clause-room : goal.returns-clause-room
 returns-clause-room c =
     let up = subst (λ (t : BookState). RisesFrom 0 t.store.entries) c.self.view_is c.self.invariant.rises in
     on_ok_weaker c.keep.result (λ e. room-put c.args.id _ c.args.self.now c.keep.new.self up e) c.keep.ensures.store
+
+pub returns-clause-held_room : goal.returns-clause-held_room
+returns-clause-held_room c some =
+    let s : BookState = record {
+      store = c.self.inside.store;
+      rows = c.self.inside.flags.entries;
+      opened = c.self.inside.opened;
+      points = c.self.inside.points;
+      circuits = c.self.inside.circuits;
+    } in
+    let i = c.self.invariant in
+    let n = lsp_number c.args.id in
+    let there = subst (λ (t : BookState). IsSome (find t.store.entries n)) c.self.view_is (held-some s i.beside i.rises n ∙ subst (λ (t : BookState). IsSome (cell_at (book_of t) n)) (sym c.self.view_is) some) in
+    on_ok_weaker c.keep.result (λ e. ap (λ (d : Database). d.spare) e ∙ rw there refl) c.keep.ensures.store
