@@ -1,4 +1,5 @@
--- What the check doesn't find alone: sets of circuits, LSP IDs of a system, circuits that open, and
--- own LSPs.
+-- What the check doesn't find alone: sets of circuits, LSP IDs of a system, circuits that open,
+-- own LSPs, and the rows of the tables.
 mod PointLemmas
 mod IssueLemmas
+mod TakeLemmas

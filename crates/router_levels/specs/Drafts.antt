@@ -34,7 +34,7 @@ pub record IsAnswer (key : Option (List ℕ)) (scene : Scene) (n : ℕ) (draft :
 -- a draft where the LSP ID is issued
 abbrev pub IsReady : Bool → List (ℕ × Issued) → LspEntry → Option DraftView → Type 0
 IsReady keyed own entry None = find own (lsp_number entry.id) ≡ None
-IsReady keyed own entry (Some draft) = keyed ≡ draft.keyed
+IsReady keyed own entry (Some draft) = (draft.id ≡ entry.id) × (keyed ≡ draft.keyed)
 
 abbrev pub AreReady : Bool → List (ℕ × Issued) → List LspEntry → List (Option DraftView) → Type 0
 AreReady keyed own [] drafts = Unit {0}

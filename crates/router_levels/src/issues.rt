@@ -37,6 +37,8 @@ impl LevelParts {
             (lsp_number draft.id) draft.contents (model.issue_cell (given_octets leaks attached) r
             level (lsp_number draft.id) number draft.contents)) }
         ensures keeps { OnOk result (Keeps self.old self.new) }
+        ensures held_room { IsSome (cell_at (state_of self.old).book (lsp_number draft.id))
+            → OnOk result (self.new.book.store.spare ≡ self.old.book.store.spare) }
         ensures err { OnErr result (self.new ≡ self.old) }
         ensures held { IsSome (cell_at (state_of self.old).book (lsp_number draft.id))
             → IsOk result }

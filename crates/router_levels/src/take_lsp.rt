@@ -7,6 +7,7 @@ ghost use Rattle.isis_base.specs.Keys.{entry_rank};
 ghost use Rattle.isis_model.specs.declared.lsp_case.LspCase.TheVariants as case;
 ghost use Rattle.isis_model.specs.Maps.{find};
 ghost use Rattle.isis_model.specs.Books.{cell_at};
+ghost use Rattle.isis_model.specs.LetGos.{let_go};
 ghost use Rattle.isis_model.specs.LspTable as table;
 ghost use Rattle.isis_model.specs.Routers.{Contents, Router};
 ghost use Rattle.isis_model.specs.OwnLsps as model;
@@ -68,13 +69,32 @@ impl LevelParts {
                 Some(draft) => self.outbid_by(lsp, above, key, draft)?,
                 None => {}
             },
-            LspAnswer::AckPurge => {
-                self.hear(circuit, lsp, whose)?;
-                self.gone.add(lsp.entry.id);
-            }
+            LspAnswer::AckPurge => self.acknowledge(circuit, lsp, whose)?,
             _ => self.hear(circuit, lsp, whose)?,
         }
         Ok(row)
+    }
+
+    /// A purge is acknowledged that isn't held, and its LSP ID let go.
+    fn acknowledge(
+        &mut self,
+        circuit: u8,
+        lsp: &LspHeard<'_>,
+        whose: Whose,
+    ) -> Result<(), OutOfMemory>
+        requires circuit { IsCircuit circuit self.old.book.circuits }
+        requires number { 0 < lsp.now.entry.number }
+        requires octets { 27 ≤ length lsp.now.octets.now }
+        ensures state { OnOk result (state_of self.new ≡ record (state_of self.old) {
+          book = table.hear_lsp (state_of self.old).book (circuit - 1) whose (heard_of lsp.now);
+          gone = let_go (state_of self.old).gone (lsp_number lsp.now.entry.id);
+        }) }
+        ensures circuits { self.new.book.circuits ≡ self.old.book.circuits }
+        ensures err { OnErr result (self.new ≡ self.old) }
+    {
+        self.hear(circuit, lsp, whose)?;
+        self.gone.add(lsp.entry.id);
+        Ok(())
     }
 
     /// What a row of the table does to the database.

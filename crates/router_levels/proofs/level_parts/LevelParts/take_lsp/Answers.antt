@@ -1,0 +1,62 @@
+use Rattle.std.proofs.Common.{◌≡◌, ℕ, ◌-◌, IsSome, subst, sym, ap, ap₂, ◌∙◌}
+use Rattle.isis_base.specs.Identifiers.{lsp_number}
+use Rattle.isis_model.specs.declared.whose.Whose.{Whose}
+use Rattle.isis_model.specs.declared.lsp_case.LspCase.TheVariants as case
+use Rattle.isis_model.specs.Maps.{find}
+use Rattle.isis_model.specs.LetGos.{let_go}
+use Rattle.isis_model.specs.Books.{cell_at}
+use Rattle.isis_model.specs.LspTable.{met, hear_lsp}
+use Rattle.isis_model.specs.Routers.{Contents, LevelState}
+use Rattle.isis_model.specs.OwnLsps.{outbid}
+use Rattle.isis_model.specs.Takes.{whose_of, last_purge, take_lsp}
+use Rattle.isis_datagram.specs.Numbers.{system_number}
+use Rattle.isis_datagram.specs.Lsps.{given_octets}
+use Rattle.flag_sync.specs.declared.heard.LspAnswer.TheVariants as row
+use Rattle.flag_sync.specs.Heard.{heard_of, answer_of}
+use Rattle.router_levels.specs.Views.{LevelView, state_of}
+use Rattle.router_levels.specs.Drafts.{scene_with, IsAnswer}
+use Rattle.router_levels.proofs.TakeLemmas.{outbid-case, outbid-above, ack-case, taken-outbid, taken-ack, taken-else, outbid-issued, heard-number}
+use Rattle.router_levels.proofs.level_parts.LevelParts.take_lsp.Goals as goal
+
+pub outbid_by-requires-clause-own : goal.outbid_by-requires-clause-own
+outbid_by-requires-clause-own c =
+    let h = heard_of c.args.lsp.now in
+    let s = state_of c.args.self.now in
+    let w = whose_of (system_number c.args.system) s h.id in
+    let same = c.would_meet-row.ensures ∙ ap₂ (λ (v : LevelView) (x : Whose). answer_of (met (state_of v).book x h) c.args.lsp.now) c.self.view_is c.whose-whose.ensures in
+    outbid-issued (system_number c.args.system) s h (outbid-case (met s.book w h) c.args.lsp.now c.in-Outbid.above (sym same ∙ c.in-Outbid.is))
+
+pub returns-in_ok-outbid_by-in-Some-clause-state : goal.returns-in_ok-outbid_by-in-Some-clause-state
+returns-in_ok-outbid_by-in-Some-clause-state c leaks attached r level are =
+    let h = heard_of c.args.lsp.now in
+    let s = state_of c.args.self.now in
+    let w = whose_of (system_number c.args.system) s h.id in
+    let scene = scene_with leaks attached r level in
+    let same = c.would_meet-row.ensures ∙ ap₂ (λ (v : LevelView) (x : Whose). answer_of (met (state_of v).book x h) c.args.lsp.now) c.self.view_is c.whose-whose.ensures in
+    let told = sym same ∙ c.in-Outbid.is in
+    let above = sym (outbid-above (met s.book w h) c.args.lsp.now c.in-Outbid.above told) ∙ sym (heard-number c.args.lsp.now.entry) in
+    let says : IsAnswer _ scene h.id c.in-Some.draft = rw c.in-Some.is at are in
+    let last = last_purge (cell_at s.book h.id) h in
+    c.in_ok-outbid_by-in-Some.ensures.state leaks attached r level says.under
+    ∙ ap₂ (λ (k : ℕ) (contents : Contents). outbid (given_octets leaks attached) r level s h.id k contents last) above says.says
+    ∙ sym (taken-outbid scene s (c.args.circuit - 1) w h (outbid-case (met s.book w h) c.args.lsp.now c.in-Outbid.above told))
+
+pub returns-in_ok-acknowledge-in-AckPurge-clause-state : goal.returns-in_ok-acknowledge-in-AckPurge-clause-state
+returns-in_ok-acknowledge-in-AckPurge-clause-state c leaks attached r level are =
+    let h = heard_of c.args.lsp.now in
+    let s = state_of c.args.self.now in
+    let w = whose_of (system_number c.args.system) s h.id in
+    let same = c.would_meet-row.ensures ∙ ap₂ (λ (v : LevelView) (x : Whose). answer_of (met (state_of v).book x h) c.args.lsp.now) c.self.view_is c.whose-whose.ensures in
+    c.in_ok-acknowledge-in-AckPurge.ensures.state
+    ∙ ap (λ (x : Whose). let t : LevelState = record s { book = hear_lsp s.book (c.args.circuit - 1) x h; gone = let_go s.gone h.id } in t) c.whose-whose.ensures
+    ∙ sym (taken-ack (scene_with leaks attached r level) s (c.args.circuit - 1) w h (ack-case (met s.book w h) c.args.lsp.now (sym same ∙ c.in-AckPurge.is)))
+
+pub returns-in_ok-hear-in_default-clause-state : goal.returns-in_ok-hear-in_default-clause-state
+returns-in_ok-hear-in_default-clause-state c leaks attached r level are =
+    let h = heard_of c.args.lsp.now in
+    let s = state_of c.args.self.now in
+    let w = whose_of (system_number c.args.system) s h.id in
+    let same = c.would_meet-row.ensures ∙ ap₂ (λ (v : LevelView) (x : Whose). answer_of (met (state_of v).book x h) c.args.lsp.now) c.self.view_is c.whose-whose.ensures in
+    c.in_ok-hear-in_default.ensures.state
+    ∙ ap (λ (x : Whose). let t : LevelState = record s { book = hear_lsp s.book (c.args.circuit - 1) x h } in t) c.whose-whose.ensures
+    ∙ sym (taken-else (scene_with leaks attached r level) s (c.args.circuit - 1) w c.args.lsp.now (λ above e. c.in_default.not-Outbid above (same ∙ e)) (λ e. c.in_default.not-AckPurge (same ∙ e)))
