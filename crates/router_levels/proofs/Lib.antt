@@ -3,3 +3,4 @@
 mod PointLemmas
 mod IssueLemmas
 mod TakeLemmas
+mod EntryLemmas

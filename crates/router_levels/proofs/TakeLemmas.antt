@@ -76,7 +76,7 @@ taken-else scene state place w l out ack = cases (met state.book w (heard_of l))
 
 -- ---- what is outbid is issued
 
-issued-find : (system : ℕ) (state : LevelState) (id : ℕ) → is_issued (whose_of system state id) ≡ true → IsSome (find state.own id)
+pub issued-find : (system : ℕ) (state : LevelState) (id : ℕ) → is_issued (whose_of system state id) ≡ true → IsSome (find state.own id)
 issued-find system state id = cases (not (id / 65536 == system)) (is_some (find state.own id)) refl
   where
     cases : (t u : Bool) → is_some (find state.own id) ≡ u → is_issued (if t then whose.Other else (if u then whose.Issued else whose.Unissued)) ≡ true → is_some (find state.own id) ≡ true

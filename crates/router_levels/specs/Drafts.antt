@@ -1,6 +1,7 @@
 -- What own LSPs' drafts are for: the answer to another's copy, and what is wanted (ISO 10589 7.3.6,
 -- 7.3.16.1; that drafts are made beforehand: own).
 use Rattle.std.specs.Prelude.{◌≡◌, ℕ, Bool, List, [], ◌∷◌, map, is_some, Option, Some, None, IfSome}
+use Rattle.isis_base.specs.declared.identifiers.LspId.{LspId}
 use Rattle.isis_base.specs.declared.level.Level.{Level}
 use Rattle.isis_base.specs.declared.entry.LspEntry.{LspEntry}
 use Rattle.isis_base.specs.Identifiers.{lsp_number}
@@ -48,6 +49,16 @@ AreAnswers key scene [] drafts = Unit {0}
 AreAnswers key scene (entry ∷ entries) [] = Unit {0}
 AreAnswers key scene (entry ∷ entries) (draft ∷ drafts) =
     IfSome draft (IsAnswer key scene (lsp_number entry.id)) × AreAnswers key scene entries drafts
+
+-- the first of what is left is taken
+abbrev pub IsNext : List (Option DraftView) → Option DraftView → List (Option DraftView) → Type 0
+IsNext [] draft rest = (draft ≡ None) × (rest ≡ [])
+IsNext (d ∷ drafts) draft rest = (draft ≡ d) × (rest ≡ drafts)
+
+-- a CSNP's range in numbers; a PSNP has none
+abbrev pub range_of : Option (LspId × LspId) → Option (ℕ × ℕ)
+range_of None = None
+range_of (Some range) = Some (lsp_number range.0, lsp_number range.1)
 
 -- ---- what is wanted
 

@@ -3,7 +3,7 @@ ghost use Rattle.std.specs.Prelude.{◌≡◌, ℕ, ◌<◌, ◌⊎◌, List, Bo
 ghost use Rattle.std.specs.Option.{option_copied};
 ghost use Rattle.isis_base.specs.declared.level.Level.{Level};
 ghost use Rattle.isis_base.specs.Identifiers.{lsp_number};
-ghost use Rattle.isis_model.specs.Maps.{find};
+ghost use Rattle.isis_model.specs.Maps.{find, put, erase};
 ghost use Rattle.isis_model.specs.Books.{cell_at, rank_at, is_full};
 ghost use Rattle.isis_model.specs.Routers.{Router};
 ghost use Rattle.isis_model.specs.Takes.{held_purge};
@@ -37,6 +37,8 @@ impl LevelParts {
             (lsp_number draft.id) draft.contents (model.issue_cell (given_octets leaks attached) r
             level (lsp_number draft.id) number draft.contents)) }
         ensures keeps { OnOk result (Keeps self.old self.new) }
+        ensures own { OnOk result (self.new.own.issued ≡ put self.old.own.issued
+            (lsp_number draft.id) (record { contents = draft.contents; age = 0 })) }
         ensures held_room { IsSome (cell_at (state_of self.old).book (lsp_number draft.id))
             → OnOk result (self.new.book.store.spare ≡ self.old.book.store.spare) }
         ensures err { OnErr result (self.new ≡ self.old) }
@@ -61,6 +63,8 @@ impl LevelParts {
         ensures state { state_of self.new ≡ model.retire (state_of self.old) (lsp_number id)
             (held_purge (cell_at (state_of self.old).book (lsp_number id))) }
         ensures keeps { Keeps self.old self.new }
+        ensures spare { self.new.book.store.spare ≡ self.old.book.store.spare }
+        ensures own { self.new.own.issued ≡ erase self.old.own.issued (lsp_number id) }
     {
         self.book.purge(id);
         self.own.drop_id(id);

@@ -18,7 +18,7 @@ mod level_parts;
 //mod renew;
 mod second;
 mod take_lsp;
-//mod take_snp;
+mod take_snp;
 //mod wants;
 
 pub use level_parts::LevelParts;
