@@ -1,5 +1,5 @@
 -- Own LSPs that are followed: what is wanted, and what isn't wanted any longer.
-use Rattle.std.proofs.Common.{◌≡◌, ℕ, zero, suc, ◌+◌, ◌<◌, ◌≤◌, eqb, nat_lt, Bool, true, false, not, ◌||◌, List, [], ◌∷◌, length, map, Option, Some, None, IsSome, is_some, ◌⊎◌, inl, inr, if◌then◌else◌, refl, ap, ap₂, sym, ◌∙◌, subst, arith, zero-le}
+use Rattle.std.proofs.Common.{◌≡◌, ℕ, ◌+◌, ◌<◌, ◌≤◌, eqb, nat_lt, Bool, true, false, not, ◌||◌, List, [], ◌∷◌, length, map, Option, Some, None, IsSome, is_some, ◌⊎◌, inl, inr, if◌then◌else◌, refl, ap, sym, ◌∙◌, subst, arith, zero-le}
 use Rattle.std.proofs.lemmas.Bool.Decides.{nat_tests}
 use Rattle.std.specs.List.{AllByRecursion}
 use Rattle.std.specs.Option.{option_map}
@@ -14,9 +14,8 @@ use Rattle.isis_model.specs.Routers.{Contents, Issued, LevelState, Router}
 use Rattle.isis_base.specs.declared.level.Level.{Level}
 use Rattle.isis_model.specs.Givens.{Given}
 use Rattle.isis_model.specs.OwnLsps.{Next, next, do_next, look, look_all, withdraw_one, withdraw_all}
-use Rattle.lsp_fragments.specs.declared.issue.Issue.{Issue}
 use Rattle.lsp_fragments.specs.declared.issue.Issue.TheVariants as issue
-use Rattle.lsp_fragments.specs.Issues.{issue_above, issue_next, says_same, next_of}
+use Rattle.lsp_fragments.specs.Issues.{issue_next, says_same, next_of}
 use Rattle.lsp_fragments.specs.Kept.{issued_from, first_id}
 use Rattle.flag_sync.specs.Walks.{numbers_of}
 use Rattle.purge_ageing.specs.Ids.{Rises}

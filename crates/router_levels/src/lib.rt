@@ -23,6 +23,3 @@ mod wants;
 
 pub use level_parts::LevelParts;
 pub use wants::Wants;
-
-//#[cfg(test)]
-//mod tests;

@@ -1,4 +1,4 @@
-use Rattle.std.proofs.Common.{◌≡◌, ℕ, Bool, true, false, not, ◌||◌, Option, Some, None, is_some, sym, ap, ap₂, subst, ◌∙◌}
+use Rattle.std.proofs.Common.{◌≡◌, ℕ, Bool, true, false, not, ◌||◌, Option, is_some, sym, ap, ap₂, ◌∙◌}
 use Rattle.isis_base.specs.declared.identifiers.LspId.{LspId}
 use Rattle.isis_base.specs.Identifiers.{lsp_number}
 use Rattle.isis_base.specs.Keys.{rank}
@@ -7,9 +7,7 @@ use Rattle.isis_model.specs.Cells.{Cell}
 use Rattle.isis_model.specs.Books.{cell_at, rank_at, is_full}
 use Rattle.isis_model.specs.Routers.{Issued}
 use Rattle.isis_model.specs.OwnLsps.{next}
-use Rattle.lsp_fragments.specs.declared.issue.Issue.{Issue}
-use Rattle.lsp_fragments.specs.declared.issue.Issue.TheVariants as issue
-use Rattle.lsp_fragments.specs.Issues.{issue_next, says_same, next_of}
+use Rattle.lsp_fragments.specs.Issues.{issue_next, next_of}
 use Rattle.router_levels.specs.Views.{LevelView, state_of}
 use Rattle.router_levels.proofs.RenewLemmas.{next-place, no-place, some-place, next-number}
 use Rattle.router_levels.proofs.level_parts.LevelParts.next.Goals as goal

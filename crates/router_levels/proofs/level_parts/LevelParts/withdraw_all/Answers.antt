@@ -1,11 +1,10 @@
-use Rattle.std.proofs.Common.{◌≡◌, ◌<◌, ◌+◌, ℕ, List, Option, Some, length, sym, ap, ap₂, subst, ◌∙◌, refl, arith}
+use Rattle.std.proofs.Common.{◌≡◌, ◌<◌, ◌+◌, ℕ, List, Option, Some, length, sym, ap, ap₂, subst, ◌∙◌, refl}
 use Rattle.std.specs.Option.{option_map}
 use Rattle.isis_base.specs.declared.identifiers.LspId.{LspId}
 use Rattle.isis_base.specs.Identifiers.{lsp_number}
-use Rattle.isis_model.specs.Maps.{find}
 use Rattle.isis_model.specs.Sorted.{RisesFrom}
-use Rattle.isis_model.specs.Routers.{Contents, Issued, LevelState}
-use Rattle.isis_model.specs.OwnLsps.{withdraw_one, withdraw_all}
+use Rattle.isis_model.specs.Routers.{Issued, LevelState}
+use Rattle.isis_model.specs.OwnLsps.{withdraw_all}
 use Rattle.lsp_fragments.specs.Kept.{issued_from, first_id}
 use Rattle.router_levels.specs.Views.{LevelView, state_of}
 use Rattle.router_levels.proofs.RenewLemmas.{behind, behind-is, from-zero, left-rises, turn-withdraws, turn-shorter}
@@ -18,7 +17,7 @@ loop-next-init c =
     let next = c.next_from-next.result in
     let up = subst (λ (v : LevelView). RisesFrom 0 v.own.issued) c.self.view_is c.next_from-next.ensures.rises in
     let first : option_map lsp_number next ≡ first_id (issued_from 0 own) =
-        c.next_from-next.ensures.first ∙ ap₂ (λ (n : ℕ) (v : LevelView). first_id (issued_from n v.own.issued)) c.from_number.ensures c.self.view_is in
+    c.next_from-next.ensures.first ∙ ap₂ (λ (n : ℕ) (v : LevelView). first_id (issued_from n v.own.issued)) c.from_number.ensures c.self.view_is in
     let same = behind-is own 0 next up first in
     record {
       head = first ∙ ap first_id (sym same);
