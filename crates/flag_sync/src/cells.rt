@@ -10,7 +10,7 @@ ghost use Rattle.flag_sync.specs.FlagRows.{cell_of, entry_cell, done};
 ghost use Rattle.flag_sync.specs.Entries.{HasHeader, purged_entry};
 ghost use Rattle.flag_sync.specs.Deeds.{deed_cell};
 ghost use Rattle.flag_sync.specs.Known.{Knows};
-ghost use Rattle.flag_sync.specs.BookStates.{book_of, IsCircuit, KeepsRoom, SameCircuits};
+ghost use Rattle.flag_sync.specs.BookStates.{book_of, HasRoom, IsCircuit, KeepsRoom, SameCircuits};
 
 use crate::bits::has_bit;
 use crate::book::Book;
@@ -63,8 +63,7 @@ impl Book {
         ensures full { find self.old.store.entries (lsp_number id) ≡ None
             → 65536 ≤ length self.old.store.entries → IfOk result (λ _. ⊥) }
         ensures held { IsSome (cell_at (book_of self.old) (lsp_number id)) → IsOk result }
-        ensures fits { is_full (book_of self.old) ≡ false → 0 < self.old.store.spare
-            → IsOk result }
+        ensures fits { is_full (book_of self.old) ≡ false → HasRoom self.old → IsOk result }
         ensures room { OnOk result (KeepsRoom self.old self.new) }
         ensures held_room { IsSome (cell_at (book_of self.old) (lsp_number id))
             → OnOk result (self.new.store.spare ≡ self.old.store.spare) }

@@ -1,11 +1,13 @@
 -- Own LSPs as the router's model has them.
-use Rattle.std.proofs.Common.{◌≡◌, ℕ, ◌+◌, ◌==◌, Bool, true, false, List, [], ◌∷◌, map, Some, if◌then◌else◌, refl, ap, arith}
+use Rattle.std.proofs.Common.{◌≡◌, ℕ, ◌+◌, ◌==◌, Bool, true, false, ◌-◌, List, [], ◌∷◌, length, take, drop, map, Some, if◌then◌else◌, refl, ap, sym, ◌∙◌, arith}
+use Rattle.std.proofs.lemmas.List.{length-drop}
+use Rattle.std.proofs.Math.Seq.{take-length}
 use Rattle.std.proofs.lemmas.Bool.Decides.{nat_tests}
 use Rattle.std.specs.Option.{option_map, IsSome}
 use Rattle.isis_model.specs.Maps.{find, put, erase, each}
 use Rattle.isis_model.specs.Routers.{Issued}
 use Rattle.lsp_fragments.specs.declared.kept.Kept.{Kept}
-use Rattle.lsp_fragments.specs.Kept.{kept_id, by_id, issued_of, issued_pairs, all_issued, issued_from, older_kept}
+use Rattle.lsp_fragments.specs.Kept.{kept_id, by_id, issued_of, issued_pairs, all_issued, issued_from, first_id, older_kept}
 use Rattle.isis_model.specs.Seconds.{older}
 use Rattle.isis_model.specs.Sorted.{RisesFrom}
 
@@ -49,3 +51,13 @@ each-shown (x ∷ xs) = ap (λ (rest : List (ℕ × Issued)). (kept_id x, older 
 pub older-rises : (xs : List Kept) (least : ℕ) → RisesFrom least (by_id xs) → RisesFrom least (by_id (map older_kept xs))
 older-rises [] least r = tt
 older-rises (x ∷ xs) least r = (r.0, older-rises xs (kept_id x + 1) r.1)
+
+-- what is behind a place, as an index gives it
+rest : (i : ℕ) (xs : List Kept) → take (length xs - i) (drop i xs) ≡ drop i xs
+rest i xs = rw (← length-drop i xs) (take-length (drop i xs))
+
+pub first-behind : (xs : List Kept) (n i : ℕ) → issued_from n (by_id xs) ≡ by_id (drop i xs) → first_id (all_issued (take (length xs - i) (drop i xs))) ≡ first_id (issued_from n (all_issued xs))
+first-behind xs n i e =
+    ap (λ (ys : List Kept). first_id (all_issued ys)) (rest i xs)
+    ∙ ap (λ (m : List _). first_id (issued_pairs m)) (sym e)
+    ∙ ap first_id (sym (from-shown (by_id xs) n))

@@ -43,6 +43,18 @@ pub(crate) fn id_from(list: &[Kept], start: LspId) -> Option<LspId>
     }
 }
 
+/// The first LSP ID above one that is kept.
+pub(crate) fn id_above(list: &[Kept], id: LspId) -> Option<LspId>
+    requires { RisesFrom 0 (by_id list.now) }
+    ensures { option_map lsp_number result
+        ≡ first_id (issued_from (lsp_number id + 1) (all_issued list.now)) }
+{
+    match place_of(list, id) {
+        Ok(at) => id_at(&list[at + 1..]),
+        Err(at) => id_at(&list[at..]),
+    }
+}
+
 /// The first LSP ID of a list.
 fn id_at(list: &[Kept]) -> Option<LspId>
     ensures { option_map lsp_number result ≡ first_id (all_issued list.now) }

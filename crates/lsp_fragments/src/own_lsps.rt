@@ -11,7 +11,7 @@ ghost use Rattle.isis_model.specs.Sorted.{RisesFrom};
 ghost use Rattle.lsp_fragments.specs.Issues.{issue_next, issue_above};
 ghost use Rattle.lsp_fragments.specs.Kept.{issued_from, first_id};
 
-use crate::by_id::{age_all, copy_of, id_from, kept_of, place_of, put_at, take_out};
+use crate::by_id::{age_all, copy_of, id_above, id_from, kept_of, place_of, put_at, take_out};
 use crate::issue::Issue;
 use crate::kept::Kept;
 use isis_base::{Key, LspId, Octets, OutOfMemory};
@@ -133,6 +133,14 @@ impl OwnLsps {
         ensures rises { RisesFrom 0 self.now.issued }
     {
         id_from(&self.list, start)
+    }
+
+    /// The first LSP ID above one that is issued.
+    pub fn next_above(&self, id: LspId) -> Option<LspId>
+        ensures { option_map lsp_number result
+            ≡ first_id (issued_from (lsp_number id + 1) self.now.issued) }
+    {
+        id_above(&self.list, id)
     }
 
     /// The TLVs and the flags octet of the last issue; `None` exactly where the LSP ID isn't

@@ -204,6 +204,7 @@ fn issues(rt: HostRuntime) -> Result<(), Fail> {
     assert!(rt; own.reserve(1).is_ok());
     assert!(rt; own.issued(ID, tlvs, 3).is_ok());
     assert!(rt; own.is_issued(ID) && own.next_from(ID) == Some(ID));
+    assert!(rt; own.next_above(ID).is_none());
     assert!(rt; own.contents(ID) == Some((&[7u8][..], 3)));
     assert!(rt; first_other(&mut own).is_none());
     assert!(rt; own.next_issue(ID, live(u32::MAX), true) == Issue::Exhausted);

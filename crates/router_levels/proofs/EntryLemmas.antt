@@ -1,5 +1,5 @@
 -- What the rows of the table for entries of sequence number PDUs do to a level.
-use Rattle.std.proofs.Common.{◌≡◌, ◌≢◌, ℕ, ◌+◌, ◌<◌, ◌≤◌, eqb, nat_lt, Bool, true, false, not, ◌⊎◌, inl, inr, List, [], ◌∷◌, length, take, drop, get_or, ◌-◌, suc, zero, IfSome, Option, Some, None, IsSome, is_some, if◌then◌else◌, refl, ap, ap₂, sym, ◌∙◌, subst, arith, ◌==◌, ◌&&◌}
+use Rattle.std.proofs.Common.{◌≡◌, ℕ, ◌+◌, ◌<◌, ◌≤◌, eqb, Bool, true, false, ◌⊎◌, inl, inr, List, [], ◌∷◌, length, take, drop, get_or, ◌-◌, suc, zero, IfSome, Option, Some, None, IsSome, if◌then◌else◌, refl, ap, ap₂, sym, ◌∙◌, subst, arith}
 use Rattle.std.proofs.lemmas.Bool.Decides.{nat_tests}
 use Rattle.std.proofs.Math.Seq.{take-length}
 use Rattle.isis_base.specs.declared.entry.LspEntry.{LspEntry}
@@ -15,7 +15,6 @@ use Rattle.isis_model.specs.LspTable.{is_issued}
 use Rattle.isis_model.specs.SnpTable.{SnpEntry, snp_case, snp_row, hear_entry, hear_range}
 use Rattle.isis_model.specs.Routers.{Issued, LevelState}
 use Rattle.isis_model.specs.Takes.{Scene, whose_of, answer, held_purge, entry_taken, take_entry, take_entries, take_snp}
-use Rattle.isis_model.proofs.BookLemmas.{choose}
 use Rattle.isis_model.proofs.MapLemmas.{find-put, find-erase}
 use Rattle.isis_model.proofs.FloodLemmas.{each-snp}
 use Rattle.flag_sync.specs.Heard.{entry_of, outbid_of}

@@ -1,5 +1,5 @@
 -- Own LSPs issued and purged, as the router's model has it.
-use Rattle.std.proofs.Common.{◌≡◌, ℕ, ◌+◌, ◌<◌, ◌≤◌, ◌==◌, false, true, List, Option, Some, None, refl, ap, sym, ◌∙◌, arith}
+use Rattle.std.proofs.Common.{◌≡◌, ℕ, ◌+◌, ◌<◌, ◌≤◌, ◌==◌, false, true, List, Option, Some, None, refl, ap, arith}
 use Rattle.std.proofs.lemmas.Bool.Decides.{nat_tests}
 use Rattle.std.specs.Option.{option_map}
 use Rattle.isis_model.specs.Maps.{put, erase}
@@ -9,7 +9,7 @@ use Rattle.isis_model.specs.Routers.{Contents, Issued, LevelState, Router}
 use Rattle.isis_model.specs.Takes.{held_purge}
 use Rattle.isis_base.specs.declared.level.Level.{Level}
 use Rattle.isis_model.specs.Givens.{Given}
-use Rattle.isis_model.specs.OwnLsps.{last_number, install, retire, issue_cell, outbid}
+use Rattle.isis_model.specs.OwnLsps.{install, retire, issue_cell, outbid}
 
 purge-is : (held : Option Cell) (opened : ℕ) → 0 < rank_of held → option_map (λ (cell : Cell). flagged (purged cell) opened 0) held ≡ Some (flagged (held_purge held) opened 0)
 purge-is None opened some = absurd (omega (arith, some))

@@ -4,3 +4,4 @@ mod PointLemmas
 mod IssueLemmas
 mod TakeLemmas
 mod EntryLemmas
+mod RenewLemmas

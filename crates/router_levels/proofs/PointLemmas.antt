@@ -1,5 +1,5 @@
 -- The set of point-to-point circuits, and circuits that open.
-use Rattle.std.proofs.Common.{◌≡◌, ℕ, zero, suc, ◌+◌, ◌*◌, ◌/◌, ◌%◌, ◌<◌, ◌≤◌, eqb, ◌==◌, ◌||◌, Bool, true, false, List, [], ◌∷◌, Some, None, if◌then◌else◌, refl, ap, sym, ◌∙◌, subst, arith}
+use Rattle.std.proofs.Common.{◌≡◌, ℕ, zero, suc, ◌+◌, ◌/◌, ◌%◌, ◌<◌, ◌≤◌, ◌==◌, Bool, true, false, List, [], ◌∷◌, if◌then◌else◌, refl, ap, sym, ◌∙◌, subst, arith}
 use Rattle.std.proofs.lemmas.Bool.Decides.{nat_tests}
 use Rattle.std.proofs.lemmas.Nat.Bits.{bit_at-lt, bit_at_lowest, bit_at-suc}
 use Rattle.std.specs.Int.{bit_at}
@@ -15,7 +15,7 @@ use Rattle.isis_model.specs.Routers.{Circuit}
 use Rattle.isis_model.specs.Starts.{points_of}
 use Rattle.isis_model.proofs.SetLemmas.{has-with_one, has-none}
 use Rattle.flag_sync.specs.Circuits.{is_point}
-use Rattle.router_levels.specs.Views.{is_lan, AreOfKinds}
+use Rattle.router_levels.specs.Views.{AreOfKinds}
 
 -- ---- sets with the same circuits are one
 

@@ -1,5 +1,5 @@
 -- What the rows of the table for LSPs do to a level.
-use Rattle.std.proofs.Common.{◌≡◌, ◌≢◌, ℕ, ◌+◌, ◌*◌, ◌/◌, ◌<◌, ◌==◌, nat_lt, Bool, true, false, not, Option, Some, None, IsSome, is_some, if◌then◌else◌, refl, ap, sym, ◌∙◌, subst, arith}
+use Rattle.std.proofs.Common.{◌≡◌, ◌≢◌, ℕ, ◌+◌, ◌*◌, ◌/◌, ◌<◌, ◌==◌, nat_lt, Bool, true, false, not, Option, Some, None, IsSome, is_some, if◌then◌else◌, refl, ap, arith}
 use Rattle.std.proofs.lemmas.Bool.Decides.{nat_tests}
 use Rattle.isis_base.specs.declared.entry.LspEntry.{LspEntry}
 use Rattle.isis_base.specs.Keys.{entry_rank}
@@ -7,18 +7,16 @@ use Rattle.isis_model.specs.declared.whose.Whose.{Whose}
 use Rattle.isis_model.specs.declared.whose.Whose.TheVariants as whose
 use Rattle.isis_model.specs.declared.lsp_case.LspCase.{LspCase}
 use Rattle.isis_model.specs.declared.lsp_case.LspCase.TheVariants as case
-use Rattle.isis_model.specs.Maps.{find, erase}
+use Rattle.isis_model.specs.Maps.{find}
 use Rattle.isis_model.specs.Ranks.{number_of}
-use Rattle.isis_model.specs.Cells.{Cell, Heard, purged, purge_of, flagged}
-use Rattle.isis_model.specs.Books.{Book, cell_at, rank_of, set_cell}
-use Rattle.isis_model.specs.LspTable.{is_issued, lsp_case, lsp_row, met, hear_lsp}
+use Rattle.isis_model.specs.Cells.{Cell, Heard, purge_of}
+use Rattle.isis_model.specs.Books.{cell_at, rank_of}
+use Rattle.isis_model.specs.LspTable.{is_issued, met, hear_lsp}
 use Rattle.isis_model.specs.LetGos.{let_go}
 use Rattle.isis_model.specs.Routers.{LevelState}
-use Rattle.isis_model.specs.OwnLsps.{retire}
 use Rattle.isis_model.specs.Takes.{Scene, whose_of, answer, last_purge, held_purge, lsp_taken, take_lsp}
 use Rattle.isis_model.proofs.FloodLemmas.{each-row}
 use Rattle.flag_sync.specs.declared.heard.LspHeard.{LspHeard}
-use Rattle.flag_sync.specs.declared.heard.LspAnswer.{LspAnswer}
 use Rattle.flag_sync.specs.declared.heard.LspAnswer.TheVariants as row
 use Rattle.flag_sync.specs.Heard.{heard_of, answer_of}
 

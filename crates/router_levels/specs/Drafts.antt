@@ -1,6 +1,6 @@
 -- What own LSPs' drafts are for: the answer to another's copy, and what is wanted (ISO 10589 7.3.6,
 -- 7.3.16.1; that drafts are made beforehand: own).
-use Rattle.std.specs.Prelude.{◌≡◌, ℕ, Bool, List, [], ◌∷◌, map, is_some, Option, Some, None, IfSome}
+use Rattle.std.specs.Prelude.{◌≡◌, ℕ, Bool, List, [], ◌∷◌, Option, Some, None, IfSome}
 use Rattle.isis_base.specs.declared.identifiers.LspId.{LspId}
 use Rattle.isis_base.specs.declared.level.Level.{Level}
 use Rattle.isis_base.specs.declared.entry.LspEntry.{LspEntry}
@@ -64,4 +64,15 @@ range_of (Some range) = Some (lsp_number range.0, lsp_number range.1)
 
 -- the fragments that drafts say, with their LSP IDs
 abbrev pub wants_of : List DraftView → List (ℕ × Contents)
-wants_of drafts = map (λ (d : DraftView). (lsp_number d.id, d.contents)) drafts
+wants_of [] = []
+wants_of (draft ∷ drafts) = (lsp_number draft.id, draft.contents) ∷ wants_of drafts
+
+-- their LSP IDs
+abbrev pub numbers_wanted : List (ℕ × Contents) → List ℕ
+numbers_wanted [] = []
+numbers_wanted (pair ∷ wants) = pair.0 ∷ numbers_wanted wants
+
+-- all drafts are of a router's level, under its key there
+abbrev pub AreUnder : Option (List ℕ) → Router → Level → List DraftView → Type 0
+AreUnder key r level [] = Unit {0}
+AreUnder key r level (draft ∷ drafts) = IsUnder key r level draft × AreUnder key r level drafts

@@ -9,7 +9,7 @@ ghost use Rattle.isis_model.specs.Routers.{Router};
 ghost use Rattle.isis_model.specs.Takes.{held_purge};
 ghost use Rattle.isis_model.specs.OwnLsps as model;
 ghost use Rattle.isis_datagram.specs.Lsps.{given_octets};
-ghost use Rattle.flag_sync.specs.BookStates.{KeepsRoom};
+ghost use Rattle.flag_sync.specs.BookStates.{HasRoom};
 ghost use Rattle.router_levels.specs.Views.{state_of, Keeps};
 ghost use Rattle.router_levels.specs.Drafts.{IsUnder};
 
@@ -44,7 +44,7 @@ impl LevelParts {
         ensures err { OnErr result (self.new ≡ self.old) }
         ensures held { IsSome (cell_at (state_of self.old).book (lsp_number draft.id))
             → IsOk result }
-        ensures fits { is_full (state_of self.old).book ≡ false → 0 < self.old.book.store.spare
+        ensures fits { is_full (state_of self.old).book ≡ false → HasRoom self.old.book
             → IsOk result }
     {
         let (id, flags) = (draft.id(), draft.flags());
@@ -76,6 +76,7 @@ impl LevelParts {
         ensures state { state_of self.new ≡ model.retire_held (state_of self.old) (lsp_number id)
             (cell_at (state_of self.old).book (lsp_number id)) }
         ensures keeps { Keeps self.old self.new }
+        ensures own { self.new.own.issued ≡ erase self.old.own.issued (lsp_number id) }
     {
         match self.book.key(id) {
             Some(key) => {

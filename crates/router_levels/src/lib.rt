@@ -15,14 +15,11 @@ mod asked;
 mod circuits;
 mod issues;
 mod level_parts;
-//mod renew;
+mod renew;
 mod second;
 mod take_lsp;
 mod take_snp;
-//mod wants;
+mod wants;
 
 pub use level_parts::LevelParts;
-//pub use wants::Wants;
-
-//#[cfg(test)]
-//mod tests;
+pub use wants::Wants;

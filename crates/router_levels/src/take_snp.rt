@@ -1,5 +1,5 @@
 //! A sequence number PDU is taken.
-ghost use Rattle.std.specs.Prelude.{◌≡◌, ℕ, ◌-◌, ◌<◌,  List, Bool, length, is_some, IsSome, IfSome, None};
+ghost use Rattle.std.specs.Prelude.{◌≡◌, ℕ, ◌-◌, ◌<◌, List, Bool, length, is_some, IsSome, IfSome, None};
 ghost use Rattle.std.specs.Option.{option_copied};
 ghost use Rattle.std.specs.Vec.Iter.{into_iter_items};
 ghost use Rattle.isis_base.specs.declared.level.Level.{Level};

@@ -1,5 +1,5 @@
 -- What is heard as the message of the router's model.
-use Rattle.std.specs.Prelude.{ℕ, ◌<◌, false, List, Option, Some, None}
+use Rattle.std.specs.Prelude.{ℕ, ◌<◌, false, List, Option, None}
 use Rattle.std.specs.Option.{option_map}
 use Rattle.std.specs.Result.{ok_prefix}
 use Rattle.isis_base.specs.declared.identifiers.SystemId.{SystemId}

@@ -1,5 +1,5 @@
 -- The items of the TLVs of a code that a walk has left.
-use Rattle.std.specs.Prelude.{ℕ, List, ◌++◌, Result}
+use Rattle.std.specs.Prelude.{ℕ, List, Result}
 use Rattle.std.specs.List.{flat_map}
 use Rattle.std.specs.Result.{ok_prefix}
 use Rattle.isis_tlv.specs.declared.fault.ValueFault.{ValueFault}

@@ -7,12 +7,15 @@
 //!
 //! - `heard.rt`: what is heard; `reading.rt`: a PDU as such a value
 //! - `items.rt`: the items of the TLVs of a code
+//! - `laws.rt`: that what a desk found may be heard: a function without a body, whose contract is
+//!   the law
 //! - `twins.rt`: identifiers have the same numbers in the definitions of all crates: functions that
 //!   do nothing, whose contracts are the laws
 #![tactic(auto)]
 
 mod heard;
 mod items;
+pub mod laws;
 mod reading;
 pub mod twins;
 

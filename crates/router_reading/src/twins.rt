@@ -22,8 +22,7 @@ pub(crate) fn are_six(octets: [u8; 6])
 /// An octet.
 fn is_octet(octet: u8)
     ensures { octet < 256 }
-{
-}
+{}
 
 /// A system ID has one number.
 pub fn system_twins(system: SystemId)

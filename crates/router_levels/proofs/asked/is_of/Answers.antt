@@ -1,4 +1,4 @@
-use Rattle.std.proofs.Common.{◌≡◌, ◌==◌, ◌/◌, ◌<◌, ℕ, List, [], ◌∷◌, length, ap₂, ap, ◌∙◌, arith}
+use Rattle.std.proofs.Common.{◌≡◌, ◌==◌, ◌/◌, ℕ, List, [], ◌∷◌, length, ap₂, ap, ◌∙◌, arith}
 use Rattle.isis_base.specs.Identifiers.{lsp_number}
 use Rattle.isis_datagram.specs.Numbers.{u48_of}
 use Rattle.router_levels.proofs.asked.is_of.Goals as goal

@@ -1,5 +1,4 @@
 use Rattle.std.proofs.Common.{◌≡◌, ℕ, List, [], ◌∷◌}
-use Rattle.std.specs.Result.{ok_prefix}
 use Rattle.isis_tlv.specs.Items.{three_way_of}
 use Rattle.isis_datagram.specs.Values.{handshakes_in}
 use Rattle.router_reading.specs.Left.{items_left}

@@ -1,4 +1,4 @@
-use Rattle.std.proofs.Common.{◌≡◌, ℕ, ◌<◌, ◌≤◌, eqb, length, false, Result, Ok, Err, None, IsSome, IsOk, IfErr, refl, sym, ap, ◌∙◌, subst, arith}
+use Rattle.std.proofs.Common.{◌≡◌, ℕ, ◌<◌, ◌≤◌, eqb, length, false, inl, inr, Result, Ok, Err, None, IsSome, IsOk, IfErr, refl, sym, ap, ◌∙◌, subst, arith}
 use Rattle.std.proofs.lemmas.Bool.Decides.{nat_tests}
 use Rattle.std.proofs.lemmas.Result.{on_ok_weaker}
 use Rattle.isis_base.specs.Identifiers.{lsp_number}
@@ -46,7 +46,7 @@ returns-clause-held c some =
     no-cause c.keep.result c.args.self.now.store n c.keep.ensures.cause (held-none c.args.self.now.store n (λ none. held-found s i.beside i.rises n there (subst (λ (d : Database). find d.entries n ≡ None) (sym store) none)))
 
 pub returns-clause-fits : goal.returns-clause-fits
-returns-clause-fits c few some =
+returns-clause-fits c few room =
     let s : BookState = record {
       store = c.self.inside.store;
       rows = c.self.inside.flags.entries;
@@ -60,7 +60,9 @@ returns-clause-fits c few some =
     let not : eqb (length s.store.entries) 65536 ≡ false = sym (full-is s i.beside i.rises) ∙ subst (λ (t : BookState). is_full (book_of t) ≡ false) (sym c.self.view_is) few in
     let most : length s.store.entries ≤ 65536 = (let l = c.len-most.ensures.same in let m = c.len-most.ensures.most in omega (arith, l, m)) in
     let less : length s.store.entries < 65536 = grind (arith, nat_tests, not, most) in
-    no-cause c.keep.result c.args.self.now.store n c.keep.ensures.cause (room-none c.args.self.now.store n (subst (λ (d : Database). length d.entries < 65536) store less) some)
+    let fewer : length c.args.self.now.store.entries < 65536 = subst (λ (d : Database). length d.entries < 65536) store less in
+    let some : 0 < c.args.self.now.store.spare = elim room [ | inl h ↦ h | inr h ↦ absurd (omega (arith, h, fewer)) ] in
+    no-cause c.keep.result c.args.self.now.store n c.keep.ensures.cause (room-none c.args.self.now.store n fewer some)
 
 pub returns-clause-room : goal.returns-clause-room
 returns-clause-room c =

@@ -1,10 +1,9 @@
-use Rattle.std.proofs.Common.{◌≡◌, ◌-◌, ℕ, Option, None, IsSome, subst, sym, ap, ◌∙◌}
-use Rattle.isis_base.specs.Identifiers.{lsp_number}
+use Rattle.std.proofs.Common.{◌≡◌, ◌-◌, None, IsSome, subst, sym, ap, ◌∙◌}
 use Rattle.isis_model.specs.declared.whose.Whose.{Whose}
 use Rattle.isis_model.specs.Books.{Book, cell_at}
 use Rattle.isis_model.specs.SnpTable.{snp_case, hear_entry}
 use Rattle.isis_model.specs.Routers.{LevelState}
-use Rattle.isis_model.specs.Takes.{Scene, whose_of, take_entry}
+use Rattle.isis_model.specs.Takes.{whose_of, take_entry}
 use Rattle.isis_datagram.specs.Numbers.{system_number}
 use Rattle.flag_sync.specs.declared.heard.EntryAnswer.{EntryAnswer}
 use Rattle.flag_sync.specs.Heard.{entry_of, outbid_of}
@@ -31,7 +30,7 @@ returns-clause-heard c none scene =
     let w = whose_of system (state_of t) h.id in
     let whose : c.whose-whose.result ≡ w = c.whose-whose.ensures ∙ ap (λ (v : LevelView). whose_of system (state_of v) h.id) (sym c.self.view_is) in
     let out : outbid_of (snp_case w (cell_at (book_of t.book) h.id) h) e ≡ None =
-        sym (ap (λ (x : Whose). outbid_of (snp_case x (cell_at (book_of t.book) h.id) h) e) whose) ∙ sym (ap (λ (a : EntryAnswer). a.outbid) c.hear_entry.ensures.answer) ∙ none in
+    sym (ap (λ (x : Whose). outbid_of (snp_case x (cell_at (book_of t.book) h.id) h) e) whose) ∙ sym (ap (λ (a : EntryAnswer). a.outbid) c.hear_entry.ensures.answer) ∙ none in
     ap (λ (b : Book). let s : LevelState = record { book = b; own = t.own.issued; gone = t.gone } in s) (c.hear_entry.ensures.book ∙ ap (λ (x : Whose). hear_entry (book_of t.book) (c.args.circuit - 1) x h) whose)
     ∙ sym (entry-else scene (state_of t) system (c.args.circuit - 1) e out)
     ∙ ap (λ (v : LevelView). take_entry scene (state_of v) system (c.args.circuit - 1) h) c.self.view_is

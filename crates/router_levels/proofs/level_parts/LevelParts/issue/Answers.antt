@@ -1,4 +1,4 @@
-use Rattle.std.proofs.Common.{◌≡◌, ℕ, List, Some, subst, sym, ap, ap₂, ◌∙◌}
+use Rattle.std.proofs.Common.{◌≡◌, Some, subst, ap₂, ◌∙◌}
 use Rattle.std.specs.Option.{option_copied}
 use Rattle.isis_base.specs.declared.identifiers.LspId.{LspId}
 use Rattle.isis_base.specs.declared.level.Level.{Level}
@@ -6,8 +6,7 @@ use Rattle.isis_base.specs.Identifiers.{lsp_number}
 use Rattle.isis_model.specs.Both.{at}
 use Rattle.isis_model.specs.Maps.{put}
 use Rattle.isis_model.specs.Cells.{Cell, flagged}
-use Rattle.isis_model.specs.Books.{Book, set_cell}
-use Rattle.isis_model.specs.Routers.{Contents}
+use Rattle.isis_model.specs.Books.{set_cell}
 use Rattle.isis_model.specs.OwnLsps.{install, issue_cell}
 use Rattle.isis_datagram.specs.Lsps.{given_octets}
 use Rattle.flag_sync.specs.FlagRows.{no_flags, entry_cell}
@@ -24,8 +23,8 @@ returns-clause-state c leaks attached r level under =
     let after : LevelView = record { book = c.install.new.self; own = c.issued.new.self; gone = c.self.inside.gone } in
     let cell = issue_cell (given_octets leaks attached) r level n c.args.number draft.contents in
     let issued : entry_cell c.issue-entry.result.entry ≡ cell =
-        subst (λ (l : Level). at r.config.keys l ≡ option_copied c.args.key → entry_cell c.issue-entry.result.entry ≡ issue_cell (given_octets leaks attached) r l n c.args.number draft.contents) under.on
-        (λ keyed. c.issue-entry.ensures.cell leaks attached r no_flags keyed) under.keyed in
+    subst (λ (l : Level). at r.config.keys l ≡ option_copied c.args.key → entry_cell c.issue-entry.result.entry ≡ issue_cell (given_octets leaks attached) r l n c.args.number draft.contents) under.on
+    (λ keyed. c.issue-entry.ensures.cell leaks attached r no_flags keyed) under.keyed in
     let book : book_of c.install.new.self ≡ set_cell (book_of t.book) n (Some (flagged cell t.book.opened 0)) = c.in-Ok.ensures.book ∙ ap₂ (λ (id : LspId) (k : Cell). set_cell (book_of t.book) (lsp_number id) (Some (flagged k t.book.opened 0))) c.id-id.ensures issued in
     let own : c.issued.new.self.issued ≡ put t.own.issued n (record { contents = draft.contents; age = 0 }) = rw (c.id-id.ensures, c.flags-flags.ensures, c.issue-entry.ensures.tlvs) at (rw c.unwrap.ensures at c.issued.ensures.ok) in
     subst (λ (v : LevelView). state_of after ≡ install (state_of v) n draft.contents cell) c.self.view_is

@@ -1,7 +1,4 @@
-use Rattle.std.proofs.Common.{◌≡◌, ℕ, [], ap, ap₂, sym, ◌∙◌, refl, Some, List}
-use Rattle.isis_model.specs.Routers.{LevelState}
-use Rattle.isis_model.specs.Books.{Book}
-use Rattle.flag_sync.specs.BookStates.{BookState, book_of, cells_of}
+use Rattle.std.proofs.Common.{refl}
 use Rattle.router_levels.proofs.PointLemmas.{points-are}
 use Rattle.router_levels.proofs.level_parts.LevelParts.new.Goals as goal
 

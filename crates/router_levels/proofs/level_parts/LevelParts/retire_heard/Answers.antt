@@ -1,8 +1,7 @@
-use Rattle.std.proofs.Common.{◌≡◌, ◌<◌, ◌≤◌, ℕ, Some, nat_lt, false, List, subst, sym, ap, ◌∙◌, arith}
+use Rattle.std.proofs.Common.{◌≡◌, ◌<◌, Some, nat_lt, false, subst, sym, ap, ◌∙◌, arith}
 use Rattle.std.proofs.lemmas.Bool.Decides.{nat_tests}
-use Rattle.isis_base.specs.Identifiers.{lsp_number}
 use Rattle.isis_base.specs.Keys.{rank}
-use Rattle.isis_model.specs.Cells.{Cell, Heard, flagged}
+use Rattle.isis_model.specs.Cells.{Cell, flagged}
 use Rattle.isis_model.specs.Books.{cell_at, rank_of, rank_at, set_cell}
 use Rattle.isis_model.specs.OwnLsps.{retire}
 use Rattle.isis_model.specs.Takes.{last_purge}

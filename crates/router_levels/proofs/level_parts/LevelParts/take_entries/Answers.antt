@@ -1,4 +1,4 @@
-use Rattle.std.proofs.Common.{◌≡◌, ◌-◌, ◌∷◌, ℕ, List, [], Bool, length, take, drop, get_or, is_some, sym, ap, subst, ◌∙◌}
+use Rattle.std.proofs.Common.{◌≡◌, ◌-◌, ◌∷◌, List, [], length, take, drop, get_or, is_some, sym, ap, ◌∙◌}
 use Rattle.std.specs.Option.{option_copied}
 use Rattle.std.specs.Vec.Iter.{into_iter_items}
 use Rattle.isis_base.specs.declared.entry.LspEntry.{LspEntry}
@@ -35,9 +35,10 @@ loop-left-preserved c =
       state = λ leaks attached r level are.
           let scene = scene_with leaks attached r level in
           let now = i.state leaks attached r level are in
-          let more = answers-next e left rest is (option_copied c.args.key) scene drafts behind draft now.0 next in
-          (more.1,
-          ap (λ (s : LevelState). take_entries scene s system p (entries_of rest)) (c.take_entry.ensures.state leaks attached r level more.0)
-          ∙ ap (λ (es : List LspEntry). take_entries scene (state_of old) system p (entries_of es)) (sym is)
-          ∙ now.1);
+          let more = answers-next e left rest is (option_copied c.args.key) scene drafts behind draft now.0 next in (
+            more.1,
+            ap (λ (s : LevelState). take_entries scene s system p (entries_of rest)) (c.take_entry.ensures.state leaks attached r level more.0)
+                ∙ ap (λ (es : List LspEntry). take_entries scene (state_of old) system p (entries_of es)) (sym is)
+                ∙ now.1,
+          );
     }

@@ -9,11 +9,11 @@ use Rattle.isis_model.specs.Books.{cell_at, rank_at}
 use Rattle.isis_model.specs.SnpTable.{snp_case}
 use Rattle.isis_model.specs.Routers.{Contents, Issued, LevelState}
 use Rattle.isis_model.specs.OwnLsps.{outbid}
-use Rattle.isis_model.specs.Takes.{whose_of, held_purge, take_entry}
+use Rattle.isis_model.specs.Takes.{whose_of, held_purge}
 use Rattle.isis_datagram.specs.Numbers.{system_number}
 use Rattle.isis_datagram.specs.Lsps.{given_octets}
 use Rattle.flag_sync.specs.Heard.{entry_of, outbid_of}
-use Rattle.router_levels.specs.Views.{LevelView, state_of}
+use Rattle.router_levels.specs.Views.{state_of}
 use Rattle.router_levels.specs.Drafts.{IsReady, IsAnswer, scene_with}
 use Rattle.router_levels.proofs.EntryLemmas.{some-outbid, entry-outbid, entry-issued, entry-held}
 use Rattle.router_levels.proofs.TakeLemmas.{heard-number}
@@ -21,7 +21,6 @@ use Rattle.router_levels.proofs.level_parts.LevelParts.take_entry.Goals as goal
 
 some-above : {a b : ℕ} {o : Option ℕ} → Some a ≡ o → o ≡ Some b → a ≡ b
 some-above e f = let h = e ∙ f in grind (arith, h)
-
 
 pub outbid_entry-requires-clause-held : goal.outbid_entry-requires-clause-held
 outbid_entry-requires-clause-held c =
