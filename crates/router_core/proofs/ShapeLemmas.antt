@@ -1,6 +1,8 @@
 -- A list of circuits where one changes but for its kind and key.
 use Rattle.std.proofs.Common.{◌≡◌, ℕ, zero, suc, ◌+◌, ◌-◌, ◌<◌, ◌≤◌, eqb, List, [], ◌∷◌, map, get_or, length, Option, Some, None, Bool, true, false, not, ◌&&◌, IfSome, Result, Ok, Err, IfOk, OnOk, OnErr, refl, sym, ap, ◌∙◌, subst, arith}
 use Rattle.std.specs.Prelude.{slice_set}
+use Rattle.std.specs.List.{AllByRecursion}
+use Rattle.router_core.specs.Machines.{IsFit}
 use Rattle.isis_model.specs.Places.{nth, with_nth}
 use Rattle.isis_model.specs.Both.{Both}
 use Rattle.isis_model.specs.Configs.{Config}
@@ -50,12 +52,12 @@ pub has-shake : (a : Option DropName) (cause : DropName) → or_else a (Some cau
 has-shake None cause e = cc
 has-shake (Some b) cause e = cc
 
-pub point-keeps : (config : Config) (extended : ℕ) (h : Hello) (common : Both Bool) (x y : Circuit) → point_drop config extended h ≡ None → IfSome h.handshake (λ s. y ≡ point_circuit x common h s) → desk_circuit y ≡ desk_circuit x
-point-keeps config extended h common x y = of h.handshake
+pub point-keeps : (P : Circuit → Type 0) (config : Config) (extended : ℕ) (h : Hello) (common : Both Bool) (x y : Circuit) → point_drop config extended h ≡ None → IfSome h.handshake (λ s. y ≡ point_circuit x common h s) → ((s : Handshake) → y ≡ point_circuit x common h s → P y) → P y
+point-keeps P config extended h common x y t k f = of h.handshake t k
   where
-    of : (o : Option Handshake) → or_else (hello_drop config (common_of config h) (config.runs.one && h.runs.one) h) (shake_drop config extended o) ≡ None → IfSome o (λ s. y ≡ point_circuit x common h s) → desk_circuit y ≡ desk_circuit x
+    of : (o : Option Handshake) → or_else (hello_drop config (common_of config h) (config.runs.one && h.runs.one) h) (shake_drop config extended o) ≡ None → IfSome o (λ s. y ≡ point_circuit x common h s) → P y
     of None e s = absurd (has-shake (hello_drop config (common_of config h) (config.runs.one && h.runs.one) h) NoThreeWay e)
-    of (Some shake) e s = ap desk_circuit s
+    of (Some shake) e s = f shake s
 
 -- the same, of a place that is named in another way
 pub lan-into : {A R E : Type 0} (r : Result R E) (f : A → A) (xs : List A) (i j : ℕ) → i ≡ j → (x y : A) → i < length xs → x ≡ get_or xs i x → IfOk r (λ _. y ≡ f x) → IfOk r (λ _. IfSome (nth xs j) (λ c. slice_set xs i y ≡ with_nth xs j (f c)))
@@ -90,3 +92,12 @@ point-set {E} res o f g place items r s e h = subst (λ (t : Router). IfOk res (
     on : (q : Result Bool E) → IfOk q (λ v. IfSome (nth r.circuits place) (λ c. IfSome o (λ sh. (items ≡ with_nth r.circuits place (f r.config c sh)) × (v ≡ g r.config c sh)))) → IfOk q (λ v. IfSome (nth r.circuits place) (λ c. IfSome o (λ sh. (record r { circuits = items } ≡ with_circuit r place (f r.config c sh)) × (v ≡ g r.config c sh))))
     on (Ok v) h = at v (nth r.circuits place) h
     on (Err b) h = h
+
+-- what holds of all circuits holds where one changed that keeps it
+pub set-all : {A : Type 0} (P : A → Type 0) (xs : List A) (i : ℕ) (x y : A) → i < length xs → x ≡ get_or xs i x → (P x → P y) → AllByRecursion P xs → AllByRecursion P (slice_set xs i y)
+set-all P [] i x y h e f a = absurd (omega (arith, h))
+set-all P (z ∷ xs) zero x y h e f a = (f (subst P (sym e) a.0), a.1)
+set-all P (z ∷ xs) (suc i) x y h e f a = (a.0, set-all P xs i x y (omega (arith, h)) e f a.1)
+
+pub fit-same : (x y z : Circuit) → y ≡ z → z.metric ≡ x.metric → z.priority ≡ x.priority → IsFit x → IsFit y
+fit-same x y z e m p f = subst IsFit (sym e) (record { metric = omega (arith, m, f.metric); priority = omega (arith, p, f.priority) })

@@ -1,6 +1,7 @@
 -- How a router's parts lie in memory, as the router's model has them (own).
 use Rattle.std.specs.Prelude.{◌≡◌, ℕ, ◌≤◌, List, length, map}
-use Rattle.isis_model.specs.Routers.{Router}
+use Rattle.std.specs.List.{AllByRecursion}
+use Rattle.isis_model.specs.Routers.{Circuit, Router}
 use Rattle.router_desk.specs.Desks.{desk_circuit}
 use Rattle.router_levels.specs.Views.{state_of}
 use Rattle.router_core.specs.declared.machine.Machine.TheInside.{Inside}
@@ -23,9 +24,17 @@ machine_of m = record {
   drops = m.drops;
 }
 
--- the desk has the router's circuits, at most 64, and so have both levels
+-- a metric of three octets (RFC 5305 3), and a priority of seven bits (ISO 10589 9.5)
+pub record IsFit (c : Circuit) : Type 0 where
+  pub metric : c.metric ≤ 16777215
+  pub priority : c.priority ≤ 127
+
+-- the desk has the router's circuits, at most 64, and so have both
+-- levels; there are at most three areas (ISO 10589 7.1.5)
 pub record IsLaid (m : Inside) : Type 0 where
   pub desk : m.desk.circuits ≡ map desk_circuit m.circuits.items
   pub few : length m.circuits.items ≤ 64
+  pub fit : AllByRecursion IsFit m.circuits.items
+  pub areas : length m.areas ≤ 3
   pub one : m.one.book.circuits ≡ length m.circuits.items
   pub two : m.two.book.circuits ≡ length m.circuits.items

@@ -1,5 +1,6 @@
 //! One circuit of a list, by its number: what changes on it, and that its kind and key stay.
 ghost use Rattle.std.specs.Prelude.{◌≡◌, ◌≤◌, ◌-◌, ◌+◌, map, length, true, false, not, if◌then◌else◌, Some, IfSome, IfOk, OnErr};
+ghost use Rattle.std.specs.List.{AllByRecursion};
 ghost use Rattle.isis_model.specs.Adjacencies as model;
 ghost use Rattle.isis_model.specs.Both.{alone, at};
 ghost use Rattle.isis_model.specs.Places.{nth, with_nth};
@@ -12,6 +13,7 @@ ghost use Rattle.isis_datagram.specs.Numbers.{system_number};
 ghost use Rattle.adjacency.specs.Changes.{IsTested};
 ghost use Rattle.router_circuits.specs.Hellos.{hello_of, IsOwn};
 ghost use Rattle.router_desk.specs.Desks.{desk_circuit};
+ghost use Rattle.router_core.specs.Machines.{IsFit};
 
 use adjacency::{HelloDrop, HelloFields, Own};
 use isis_base::{Level, SystemId};
@@ -24,6 +26,7 @@ pub(crate) fn idle_at(circuits: &mut Vec<Circuit>, system: SystemId, circuit: u8
         → IfSome (nth circuits.old.items (circuit - 1)) (λ c. circuits.new.items
         ≡ with_nth circuits.old.items (circuit - 1) (idle config (circuit - 1) c)) }
     ensures same { map desk_circuit circuits.new.items ≡ map desk_circuit circuits.old.items }
+    ensures fit { AllByRecursion IsFit circuits.old.items → AllByRecursion IsFit circuits.new.items }
 {
     circuits[usize::from(circuit) - 1].idle(system, circuit);
 }
@@ -34,6 +37,7 @@ pub(crate) fn hello_sent_at(circuits: &mut Vec<Circuit>, circuit: u8)
     ensures state { IfSome (nth circuits.old.items (circuit - 1)) (λ c. circuits.new.items
         ≡ with_nth circuits.old.items (circuit - 1) (record c { hello = 10 })) }
     ensures same { map desk_circuit circuits.new.items ≡ map desk_circuit circuits.old.items }
+    ensures fit { AllByRecursion IsFit circuits.old.items → AllByRecursion IsFit circuits.new.items }
 {
     circuits[usize::from(circuit) - 1].hello_sent();
 }
@@ -45,6 +49,7 @@ pub(crate) fn csnp_sent_at(circuits: &mut Vec<Circuit>, circuit: u8, level: Leve
         ≡ with_nth circuits.old.items (circuit - 1)
         (pulls.with_part c level (pulls.csnp_sent c.lan (at c.levels level)))) }
     ensures same { map desk_circuit circuits.new.items ≡ map desk_circuit circuits.old.items }
+    ensures fit { AllByRecursion IsFit circuits.old.items → AllByRecursion IsFit circuits.new.items }
 {
     circuits[usize::from(circuit) - 1].csnp_sent(level);
 }
@@ -56,16 +61,19 @@ pub(crate) fn answer_sent_at(circuits: &mut Vec<Circuit>, circuit: u8, level: Le
         ≡ with_nth circuits.old.items (circuit - 1)
         (pulls.with_part c level (record (at c.levels level) { psnp = 2 }))) }
     ensures same { map desk_circuit circuits.new.items ≡ map desk_circuit circuits.old.items }
+    ensures fit { AllByRecursion IsFit circuits.old.items → AllByRecursion IsFit circuits.new.items }
 {
     circuits[usize::from(circuit) - 1].answer_sent(level);
 }
 
 /// The metric of a circuit.
 pub(crate) fn set_metric_at(circuits: &mut Vec<Circuit>, circuit: u8, metric: u32)
-    requires { (1 ≤ circuit) × (circuit ≤ length circuits.old.items) }
+    requires there { (1 ≤ circuit) × (circuit ≤ length circuits.old.items) }
+    requires metric { metric ≤ 16777215 }
     ensures state { IfSome (nth circuits.old.items (circuit - 1)) (λ c. circuits.new.items
         ≡ with_nth circuits.old.items (circuit - 1) (record c { metric = metric })) }
     ensures same { map desk_circuit circuits.new.items ≡ map desk_circuit circuits.old.items }
+    ensures fit { AllByRecursion IsFit circuits.old.items → AllByRecursion IsFit circuits.new.items }
 {
     circuits[usize::from(circuit) - 1].set_metric(metric);
 }
@@ -90,6 +98,7 @@ pub(crate) fn hear_point_at(
         × (anew ≡ not (model.is_same c.point.neighbour
         (model.common_of config (hello_of hello.now)) (hello_of hello.now) shake.extended))))) }
     ensures same { map desk_circuit circuits.new.items ≡ map desk_circuit circuits.old.items }
+    ensures fit { AllByRecursion IsFit circuits.old.items → AllByRecursion IsFit circuits.new.items }
 {
     circuits[usize::from(circuit) - 1].hear_point(own, hello)
 }
@@ -113,6 +122,7 @@ pub(crate) fn hear_lan_at(
         ≡ with_nth circuits.old.items (circuit - 1) (hellos.lan_circuit c level
         (alone level (model.common_of config (hello_of hello.now))) (hello_of hello.now)))) }
     ensures same { map desk_circuit circuits.new.items ≡ map desk_circuit circuits.old.items }
+    ensures fit { AllByRecursion IsFit circuits.old.items → AllByRecursion IsFit circuits.new.items }
 {
     circuits[usize::from(circuit) - 1].hear_lan(own, level, hello)
 }
