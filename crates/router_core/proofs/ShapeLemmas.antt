@@ -1,5 +1,5 @@
 -- A list of circuits where one changes but for its kind and key.
-use Rattle.std.proofs.Common.{◌≡◌, ℕ, zero, suc, ◌+◌, ◌-◌, ◌<◌, ◌≤◌, eqb, List, [], ◌∷◌, map, get_or, length, Option, Some, None, Bool, true, false, not, ◌&&◌, IfSome, Result, Ok, Err, IfOk, OnOk, OnErr, refl, sym, ap, ◌∙◌, subst, arith}
+use Rattle.std.proofs.Common.{◌≡◌, ℕ, zero, suc, ◌+◌, ◌-◌, ◌<◌, ◌≤◌, eqb, List, [], ◌∷◌, map, get_or, length, Option, Some, None, Bool, true, false, Bor, is_some, option_copied, not, ◌&&◌, IfSome, Result, Ok, Err, IfOk, OnOk, OnErr, refl, sym, ap, ◌∙◌, subst, arith}
 use Rattle.std.specs.Prelude.{slice_set}
 use Rattle.std.specs.List.{AllByRecursion}
 use Rattle.router_core.specs.Machines.{IsFit}
@@ -101,3 +101,11 @@ set-all P (z ∷ xs) (suc i) x y h e f a = (a.0, set-all P xs i x y (omega (arit
 
 pub fit-same : (x y z : Circuit) → y ≡ z → z.metric ≡ x.metric → z.priority ≡ x.priority → IsFit x → IsFit y
 fit-same x y z e m p f = subst IsFit (sym e) (record { metric = omega (arith, m, f.metric); priority = omega (arith, p, f.priority) })
+
+copied-some : {T : Type 0} (o : Option (Bor T)) → is_some (option_copied o) ≡ is_some o
+copied-some None = refl
+copied-some (Some x) = refl
+
+-- whether there is a key
+pub signed-by : {T : Type 0} (o : Option (Bor T)) (key : Option T) (b : Bool) → option_copied o ≡ key → b ≡ is_some o → is_some key ≡ b
+signed-by o key b e f = ap is_some (sym e) ∙ (copied-some o ∙ sym f)

@@ -4,5 +4,4 @@ pub mod Givens
 pub mod Events
 pub mod Replies
 pub mod Reached
-pub mod Prefixes
 pub mod Machines

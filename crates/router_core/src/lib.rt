@@ -21,6 +21,7 @@ mod event;
 
 mod prefixes;
 mod reply;
+mod wanted;
 
 pub use datagrams::Datagrams;
 pub use event::NodeEvent;
