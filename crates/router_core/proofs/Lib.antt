@@ -1,2 +1,3 @@
 mod ShapeLemmas
 mod IdleLemmas
+mod WantedLemmas
