@@ -16,7 +16,7 @@ use lsp_store::Entry;
 /// The number of octets of a purge's header with its authentication.
 const SIGNED: usize = 46;
 
-/// What such a purge has behind its header before the digest is known (RFC 5304 2).
+/// Such a purge before its header and its digest are written (RFC 5304 2).
 const UNSIGNED: [u8; SIGNED] = [
     0, 0, 0, 0, 0, 0, 0, 0, 0, 0, 0, 0, 0, 0, 0, 0, 0, 0, 0, 0, 0, 0, 0, 0, 0, 0, 0, 10, 17, 54, 0,
     0, 0, 0, 0, 0, 0, 0, 0, 0, 0, 0, 0, 0, 0, 0,

@@ -10,19 +10,22 @@
 //! - `blank.rt`: its octets before the number is known; `places.rt`: the fields that are written
 //!   later
 //! - `held.rt`: what is held, as it is sent
-//! - `laws.rt`: that what may be sent by the definitions may be put: a function without a body,
-//!   whose contract is the law
+//! - `lent.rt`: a key's octets, lent
+//! - `laws.rt`: that what may be sent by the definitions may be put, and that an LSP ID is the one
+//!   of its number: functions that do nothing, whose contracts are the laws
 #![tactic(auto)]
 
 mod blank;
 mod draft;
 mod held;
 pub mod laws;
+mod lent;
 mod places;
 
 pub use blank::BLANK_AUTH;
 pub use draft::{Draft, Issued};
 pub use held::put_lsp;
+pub use lent::lent_key;
 
 #[cfg(test)]
 mod tests;

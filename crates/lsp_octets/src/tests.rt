@@ -3,7 +3,7 @@
 ghost use Rattle.std.specs.Prelude.{◌≡◌, IsTrue};
 ghost use Rattle.lsp_octets.specs.Held.{IsHeader};
 
-use crate::{Draft, Issued, put_lsp};
+use crate::{Draft, Issued, lent_key, put_lsp};
 use isis_base::{Key, Level, LspId, NodeId, Octets, OutOfMemory, PduKind, SystemId};
 use isis_tlv::are_tlvs;
 use lsp_store::Entry;
@@ -145,7 +145,10 @@ fn issues_and_sends(rt: HostRuntime) -> Result<(), Fail> {
     let alloc = rt.alloc();
     assert_eq!(rt; wrong_issue(alloc)?, None);
     for (key, want) in PURGES {
-        let octets = sent(alloc, key_of(key), true, 60, PURGES[0].1)?;
+        let mut held = Octets::new(alloc);
+        held.extend(key)?;
+        let key = if key.is_empty() { None } else { Some(&held) };
+        let octets = sent(alloc, lent_key(key), true, 60, PURGES[0].1)?;
         assert_eq!(rt; octets.as_slice(), want);
     }
     let octets = sent(alloc, None, false, 600, ISSUES[0].3)?;

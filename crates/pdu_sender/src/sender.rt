@@ -24,9 +24,10 @@ pub struct Sender<'a> {
 impl<'a> Sender<'a> {
     /// The key of a level's LSPs and sequence number PDUs.
     pub(crate) fn level_key(&self, level: Level) -> Option<&'a [u8]>
-        ensures { option_copied result ≡ at
-            (record { one = option_copied self.now.area_key; two = option_copied self.now.domain_key })
-            level }
+        ensures { option_copied result ≡ at (record {
+          one = option_copied self.now.area_key;
+          two = option_copied self.now.domain_key;
+        }) level }
     {
         match level {
             Level::One => self.area_key,
