@@ -6,7 +6,7 @@ use Rattle.isis_model.specs.Good.{IsIssuable}
 use Rattle.isis_model.specs.Maps.{find}
 use Rattle.lsp_wanted.specs.declared.wanted.Wanted.{Wanted}
 use Rattle.lsp_wanted.specs.Views.{contents_of, wanted_of}
-use Rattle.router_core.proofs.WantedLemmas.{find-next}
+use Rattle.router_core.proofs.WantedLemmas.{find-next, eq-other}
 use Rattle.router_core.proofs.wanted.said_of.Goals as goal
 
 -- src/wanted.rt
@@ -27,4 +27,4 @@ loop-wanted-preserved c = record {
 }
   where
     other : (lsp_number c.in-Some.wanted.id == lsp_number c.args.id) ≡ false
-    other = ?other
+    other = eq-other _ _ (λ e. c.if-to_number.false (c.to_number.ensures ∙ (e ∙ sym c.to_number-in-Some.ensures)))
