@@ -13,6 +13,7 @@
 
 mod at;
 mod hellos;
+mod levels;
 mod machine;
 mod own;
 mod datagrams;
