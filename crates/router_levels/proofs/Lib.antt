@@ -5,3 +5,4 @@ mod IssueLemmas
 mod TakeLemmas
 mod EntryLemmas
 mod RenewLemmas
+mod WantedLemmas

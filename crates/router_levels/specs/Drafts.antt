@@ -23,7 +23,8 @@ pub record IsUnder (key : Option (List ℕ)) (r : Router) (level : Level) (draft
   pub keyed : at r.config.keys level ≡ key
   pub on : draft.level ≡ level
 
--- a draft is the answer where a copy of an own LSP is heard: it says what is wanted of it (7.3.16.1)
+-- a draft is the answer where a copy of an own LSP is heard: it says what is wanted of it
+-- (7.3.16.1)
 pub record IsAnswer (key : Option (List ℕ)) (scene : Scene) (n : ℕ) (draft : DraftView)
     : Type 0 where
   pub under : IsUnder key scene.router scene.level draft
