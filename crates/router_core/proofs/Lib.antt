@@ -1,3 +1,0 @@
-mod ShapeLemmas
-mod IdleLemmas
-mod WantedLemmas
