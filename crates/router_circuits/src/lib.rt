@@ -37,6 +37,7 @@ mod timers;
 pub use circuit::Circuit;
 pub use designated::Designated;
 pub use laws::word_laws;
+pub use sizes::hello_sizes;
 
 #[cfg(test)]
 mod tests;

@@ -12,7 +12,7 @@ use adjacency::{HelloFields, Neighbour, Own, P2pAdj};
 use isis_tlv::ThreeWay;
 
 /// A hello's fields have the standard's sizes, and both ways to see it as the model's are one.
-pub(crate) fn hello_sizes(hello: &HelloFields<'_>)
+pub fn hello_sizes(hello: &HelloFields<'_>)
     ensures same { views.hello_of hello.now ≡ hello_of hello.now }
     ensures sized { (common : Both Bool) (extended : ℕ) → extended < 2 ^ 32
         → IsSized (model.neighbour_of (hello_of hello.now) common extended) }

@@ -61,7 +61,7 @@ returns-clause-fits c few room =
     let most : length s.store.entries ≤ 65536 = (let l = c.len-most.ensures.same in let m = c.len-most.ensures.most in omega (arith, l, m)) in
     let less : length s.store.entries < 65536 = grind (arith, nat_tests, not, most) in
     let fewer : length c.args.self.now.store.entries < 65536 = subst (λ (d : Database). length d.entries < 65536) store less in
-    let some : 0 < c.args.self.now.store.spare = elim room [ | inl h ↦ h | inr h ↦ absurd (omega (arith, h, fewer)) ] in
+    let some : 0 < c.args.self.now.store.spare = elim room [ inl h ↦ h | inr h ↦ absurd (omega (arith, h, fewer)) ] in
     no-cause c.keep.result c.args.self.now.store n c.keep.ensures.cause (room-none c.args.self.now.store n fewer some)
 
 pub returns-clause-room : goal.returns-clause-room
