@@ -1,0 +1,20 @@
+use Rattle.std.proofs.Common.{List, ◌++◌, Option, length, is_some}
+use Rattle.isis_model.specs.Both.{at}
+use Rattle.isis_model.specs.Receiving.{scene_of}
+use Rattle.isis_model.specs.Routers.{level_of}
+use Rattle.lsp_octets.specs.Drafts.{DraftView}
+use Rattle.router_levels.specs.Drafts.{AreAnswers, AreReady}
+use Rattle.router_core.specs.Givens.{given}
+use Rattle.router_core.proofs.machine.Machine.answers.Given as goal
+
+-- drafts of what is left, behind those that are made, are drafts of all
+abbrev pub invariant-loop-left : goal.invariant-loop-left
+invariant-loop-left l = record {
+  ready : (rest : List (Option DraftView)) → AreReady (is_some (at l.fn.self.config.keys l.fn.level)) (level_of l.fn.self l.fn.level).own l.left rest
+      → AreReady (is_some (at l.fn.self.config.keys l.fn.level)) (level_of l.fn.self l.fn.level).own l.fn.entries (l.drafts.items ++ rest);
+  said : (rest : List (Option DraftView)) → AreAnswers (at l.fn.self.config.keys l.fn.level) (scene_of given l.fn.self l.fn.level) l.left rest
+      → AreAnswers (at l.fn.self.config.keys l.fn.level) (scene_of given l.fn.self l.fn.level) l.fn.entries (l.drafts.items ++ rest);
+}
+
+abbrev pub decreases-loop-left : goal.decreases-loop-left
+decreases-loop-left l = length l.left

@@ -1,0 +1,44 @@
+use Rattle.std.proofs.Common.{◌≡◌, ℕ, ◌-◌, map, Option, IfSome, sym, ap, subst}
+use Rattle.isis_model.specs.Places.{nth}
+use Rattle.isis_model.specs.Routers.{Circuit, Router}
+use Rattle.isis_model.specs.Datagrams.{Sent}
+use Rattle.isis_datagram.specs.Datagrams.{datagram}
+use Rattle.flag_sync.specs.BookStates.{book_of}
+use Rattle.pdu_sender.specs.Sends.{Sends}
+use Rattle.router_core.specs.Sending.{all_due}
+use Rattle.router_core.proofs.IdleLemmas.{from-some}
+use Rattle.isis_base.specs.declared.level.Level.TheVariants as level
+use Rattle.isis_model.specs.Good.{IsGoodBook}
+use Rattle.router_core.proofs.SendingLemmas.{may-of, all-out}
+use Rattle.router_core.proofs.machine.Machine.due.Goals as goal
+
+-- src/pull.rt
+pub put_level-requires-clause-good : goal.put_level-requires-clause-good
+put_level-requires-clause-good c = subst IsGoodBook (sym c.book.ensures.book) (c.requires.reached.speaking.good.on level.One)
+
+-- src/pull.rt
+pub put_level-requires-clause-may : goal.put_level-requires-clause-may
+put_level-requires-clause-may c = may-of c.args.self.now level.One _ c.book.result.now c.book.ensures.book c.requires.reached.speaking c.sendable_law.ensures
+
+-- src/pull.rt
+pub put_level-requires-2-clause-good : goal.put_level-requires-2-clause-good
+put_level-requires-2-clause-good c = subst IsGoodBook (sym c.book-2.ensures.book) (c.requires.reached.speaking.good.on level.Two)
+
+-- src/pull.rt
+pub put_level-requires-2-clause-may : goal.put_level-requires-2-clause-may
+put_level-requires-2-clause-may c = may-of c.args.self.now level.Two _ c.book-2.result.now c.book-2.ensures.book c.requires.reached.speaking c.sendable_law.ensures
+
+-- src/pull.rt
+pub returns : goal.returns
+returns c =
+    subst (λ (o : Option Circuit). IfSome o (λ x. c.put_level-2.new.out ≡ map (λ (says : Sent). datagram c.args.self.now.config (c.args.circuit - 1) x says) (all_due c.args.self.now (c.args.circuit - 1) x))) (sym c.on-on.ensures)
+    (subst (λ (n : ℕ). c.put_level-2.new.out ≡ map (λ (says : Sent). datagram c.args.self.now.config (n - 1) c.on-on.result.now says) (all_due c.args.self.now (n - 1) c.on-on.result.now)) c.sender-sender.ensures.circuit
+    (all-out c.sender-sender.result c.args.self.now c.on-on.result.now (book_of c.book.result.now) (book_of c.book-2.result.now)
+    c.new-out.result c.put_due_hellos.new.out c.put_level.new.out c.put_level-2.new.out sends c.book.ensures.book c.book-2.ensures.book c.new-out.ensures
+    (c.in_ok-put_due_hellos.ensures c.args.self.now sends (sym (ap (λ (r : Router). r.boot) c.self.view_is)))
+    (c.in_ok-put_level.ensures c.args.self.now.config sends)
+    (c.in_ok-put_level-2.ensures c.args.self.now.config sends)))
+  where
+    sends : Sends c.sender-sender.result c.args.self.now.config (c.sender-sender.result.circuit - 1) c.on-on.result.now
+    sends = subst (λ (n : ℕ). Sends c.sender-sender.result c.args.self.now.config (n - 1) c.on-on.result.now) (sym c.sender-sender.ensures.circuit)
+        (from-some (λ x. Sends c.sender-sender.result c.args.self.now.config (c.args.circuit - 1) x) (nth c.args.self.now.circuits (c.args.circuit - 1)) c.on-on.result.now c.on-on.ensures c.sender-sender.ensures.sends)

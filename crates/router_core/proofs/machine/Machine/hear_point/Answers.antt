@@ -1,0 +1,32 @@
+use Rattle.std.proofs.Common.{◌≡◌, ℕ, ◌-◌, ◌+◌, ◌*◌, not, refl, sym, subst, ◌∙◌, arith}
+use Rattle.isis_model.specs.Adjacencies.{common_of, is_same}
+use Rattle.isis_model.specs.Hellos.{point_circuit}
+use Rattle.isis_model.specs.HelloTests.{point_drop}
+use Rattle.isis_model.specs.Routers.{Router, extended_of}
+use Rattle.adjacency.specs.Changes.{IsTested}
+use Rattle.router_circuits.specs.Hellos.{hello_of}
+use Rattle.router_core.specs.Machines.{machine_of}
+use Rattle.router_core.proofs.ShapeLemmas.{point-set}
+use Rattle.router_core.proofs.machine.Machine.hear_point.Goals as goal
+
+-- src/hellos.rt
+pub returns-clause-tested : goal.returns-clause-tested
+returns-clause-tested c =
+    subst (λ (r : Router). IsTested c.hear_point_at.result (point_drop r.config (extended_of r.boot (c.args.circuit - 1)) (hello_of c.args.hello.now))) c.self.view_is
+    (subst (λ (id : ℕ). IsTested c.hear_point_at.result (point_drop (machine_of c.self.inside).config id (hello_of c.args.hello.now)))
+    (c.own_of-own.ensures.id ∙ number)
+    (c.hear_point_at.ensures.tested (machine_of c.self.inside).config
+    (c.own_of-own.ensures.own (machine_of c.self.inside).config refl (sym c.as_slice.ensures) refl)))
+  where
+    number : 256 * c.self.inside.boot + c.args.circuit ≡ extended_of c.self.inside.boot (c.args.circuit - 1)
+    number = omega (arith, c.requires.there)
+
+-- src/hellos.rt
+pub returns-clause-state : goal.returns-clause-state
+returns-clause-state c =
+    point-set c.hear_point_at.result (hello_of c.args.hello.now).handshake
+    (λ config x shake. point_circuit x (common_of config (hello_of c.args.hello.now)) (hello_of c.args.hello.now) shake)
+    (λ config x shake. not (is_same x.point.neighbour (common_of config (hello_of c.args.hello.now)) (hello_of c.args.hello.now) shake.extended))
+    (c.args.circuit - 1) c.hear_point_at.new.circuits.items (machine_of c.self.inside) c.args.self.now c.self.view_is
+    (c.hear_point_at.ensures.state (machine_of c.self.inside).config
+    (c.own_of-own.ensures.own (machine_of c.self.inside).config refl (sym c.as_slice.ensures) refl))

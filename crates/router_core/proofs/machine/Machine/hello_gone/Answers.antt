@@ -1,0 +1,24 @@
+use Rattle.std.proofs.Common.{◌-◌, ◌==◌, arith}
+use Rattle.isis_model.specs.Routers.{with_circuit}
+use Rattle.router_core.specs.Pulled.{after_hello}
+use Rattle.router_core.proofs.PullLemmas.{gone-then, gone-else}
+use Rattle.router_core.proofs.machine.Machine.hello_gone.Goals as goal
+
+-- src/pull_parts.rt
+pub returns-then-hello_is_due : goal.returns-then-hello_is_due
+unfolding after_hello
+returns-then-hello_is_due c =
+    gone-then c.args.self.now c.hello_sent.new.self (c.args.circuit - 1) c.hello_is_due.result
+    (λ x. x.hello == 0)
+    (λ x. with_circuit c.args.self.now (c.args.circuit - 1) (record x { hello = 10 }))
+    (omega (arith, c.requires)) c.if-hello_is_due.true c.hello_is_due.ensures
+    c.hello_sent.ensures
+
+-- src/pull_parts.rt
+pub returns-else-hello_is_due : goal.returns-else-hello_is_due
+unfolding after_hello
+returns-else-hello_is_due c =
+    gone-else c.args.self.now (c.args.circuit - 1) c.hello_is_due.result
+    (λ x. x.hello == 0)
+    (λ x. with_circuit c.args.self.now (c.args.circuit - 1) (record x { hello = 10 }))
+    (omega (arith, c.requires)) c.if-hello_is_due.false c.hello_is_due.ensures

@@ -1,0 +1,9 @@
+use Rattle.std.proofs.Common.{ℕ, nat_eq, ap}
+use Rattle.std.proofs.lemmas.Nat.Bits.{shr_and_one}
+use Rattle.isis_model.specs.Sets.{has}
+use Rattle.router_core.proofs.sending.has_bit.Goals as goal
+
+-- src/sending.rt
+pub returns : goal.returns
+unfolding has
+returns c = ap (λ (n : ℕ). nat_eq n 1) (shr_and_one c.args.set c.args.place)

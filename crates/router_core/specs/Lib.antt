@@ -1,0 +1,12 @@
+-- The definitions: what a step is given, what an event and an answer are to the model's router, how
+-- its parts lie, and what always holds.
+pub mod Givens
+pub mod Events
+pub mod Replies
+pub mod Reached
+pub mod Machines
+pub mod Sending
+pub mod Pulled
+pub mod PrefixLists
+pub mod Heard
+pub mod Seconds

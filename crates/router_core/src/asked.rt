@@ -1,0 +1,71 @@
+//! What is asked of a router.
+ghost use Rattle.std.specs.Prelude.{◌≡◌, ◌-◌, length, is_some};
+ghost use Rattle.isis_model.specs.AdjacencyLaws.{opens};
+ghost use Rattle.isis_model.specs.Drops.{drops_of};
+ghost use Rattle.isis_model.specs.Maps.{find};
+ghost use Rattle.isis_model.specs.Both.{at};
+ghost use Rattle.router_desk.specs.Desks.{desk_of};
+ghost use Rattle.isis_model.specs.Places.{nth};
+ghost use Rattle.router_desk.specs.Configs.{prefix_number};
+ghost use Rattle.router_core.specs.Events.{IsThere};
+
+use crate::machine::{Machine, place_of};
+use isis_base::{Level, LevelSet, Prefix};
+use isis_model::DropName;
+use router_desk::Desk;
+
+impl Machine {
+    /// How often a cause of a drop was met.
+    pub(crate) fn drops(&self, cause: DropName) -> u64
+        ensures { result ≡ drops_of self.now.drops cause }
+    {
+        let place = place_of(cause);
+        self.drops[place]
+    }
+
+    /// The boot.
+    pub(crate) fn boot(&self) -> u32
+        ensures { result ≡ self.now.boot }
+    {
+        self.boot
+    }
+
+    /// Whether it has a prefix of its own.
+    pub(crate) fn has_prefix(&self, prefix: Prefix) -> bool
+        ensures { result ≡ is_some (find self.now.config.prefixes (prefix_number prefix)) }
+    {
+        self.prefixes.has(prefix)
+    }
+
+    /// The number of its own prefixes.
+    pub(crate) fn prefix_count(&self) -> usize
+        ensures { result ≡ length self.now.config.prefixes }
+    {
+        self.prefixes.len()
+    }
+
+    /// Whether a circuit has an up adjacency of a level.
+    pub(crate) fn up(&self, circuit: u8, level: Level) -> bool
+        requires { IsThere self.now circuit }
+        ensures { result ≡ opens (nth self.now.circuits (circuit - 1)) level }
+    {
+        self.circuits[usize::from(circuit) - 1].is_open(level)
+    }
+
+    /// What never changes of its configuration.
+    pub(crate) fn desk(&self) -> &Desk
+        ensures { result.now ≡ desk_of self.now.config self.now.circuits }
+    {
+        &self.desk
+    }
+
+    /// Whether a level is run.
+    pub(crate) fn runs(&self, level: Level) -> bool
+        ensures { result ≡ at self.now.config.runs level }
+    {
+        match level {
+            Level::One => matches!(self.desk.levels(), LevelSet::One | LevelSet::Both),
+            Level::Two => matches!(self.desk.levels(), LevelSet::Two | LevelSet::Both),
+        }
+    }
+}

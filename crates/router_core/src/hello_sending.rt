@@ -1,0 +1,175 @@
+//! The hellos of a circuit, as datagrams.
+ghost use Rattle.std.specs.Prelude.{◌≡◌, ◌≤◌, ◌<◌, ◌-◌, ◌+◌, ◌*◌, ◌^◌, ◌++◌, ◌∷◌, [], length, map, OnOk};
+ghost use Rattle.isis_model.specs.Both.{at};
+ghost use Rattle.isis_model.specs.Datagrams as sent;
+ghost use Rattle.isis_model.specs.Pulls as pulls;
+ghost use Rattle.isis_model.specs.Routers.{Router, extended_of};
+ghost use Rattle.isis_datagram.specs.Numbers as datagram;
+ghost use Rattle.isis_datagram.specs.Reading.{runs_of};
+ghost use Rattle.designated_is.specs.Numbers as own;
+ghost use Rattle.adjacency.specs.Inside.{snpa_of};
+ghost use Rattle.adjacency.specs.Views.{point_of};
+ghost use Rattle.pdu_sender.specs.Sends.{Sends, FitAreas, names_of, snpas_of};
+ghost use Rattle.router_core.specs.Sending.{octets_of, all_octets};
+
+use crate::datagrams::Datagrams;
+use adjacency::{Neighbour, P2pAdj};
+use isis_base::{Level, LevelSet, OutOfMemory, Snpa, SystemId};
+use pdu_sender::{Sender, lan_hello, point_hello};
+use router_circuits::{Circuit, word_laws};
+use std::alloc::Global;
+
+/// Adds the hellos of a circuit (ISO 10589 8.2.3, 8.4.1).
+pub(crate) fn put_hellos(
+    out: &mut Datagrams,
+    alloc: Global,
+    sender: &Sender<'_>,
+    on: &Circuit,
+    boot: u32,
+) -> Result<(), OutOfMemory>
+    requires here { 1 ≤ sender.now.circuit }
+    requires areas { FitAreas sender.now }
+    requires priority { sender.now.priority ≤ 127 }
+    requires boot { boot < 2 ^ 24 }
+    ensures { (r : Router) → Sends sender.now r.config (sender.now.circuit - 1) on.now
+        → r.boot ≡ boot → OnOk result (out.new ≡ out.old
+        ++ all_octets sender.now (pulls.hellos r (sender.now.circuit - 1) on.now)) }
+{
+    match on.point() {
+        Some(point) => put_point(out, alloc, sender, point, boot),
+        None => {
+            put_lan(out, alloc, sender, on, Level::One)?;
+            put_lan(out, alloc, sender, on, Level::Two)
+        }
+    }
+}
+
+/// Adds the hello of a point-to-point circuit (ISO 10589 8.2.3, RFC 5303 3.2).
+fn put_point(
+    out: &mut Datagrams,
+    alloc: Global,
+    sender: &Sender<'_>,
+    point: &P2pAdj,
+    boot: u32,
+) -> Result<(), OutOfMemory>
+    requires here { 1 ≤ sender.now.circuit }
+    requires areas { FitAreas sender.now }
+    requires boot { boot < 2 ^ 24 }
+    ensures { OnOk result (out.new ≡ out.old ++ octets_of sender.now (sent.PointHello
+        (point_of point.now).state (extended_of boot (sender.now.circuit - 1))
+        (pulls.names_of (point_of point.now).neighbour)) ∷ []) }
+{
+    let extended = extended(boot, sender.circuit);
+    let octets = point_hello(alloc, sender, point.state(), extended, named(point))?;
+    out.push(octets)
+}
+
+/// The extended circuit ID: the boot and the circuit's number (own).
+fn extended(boot: u32, circuit: u8) -> u32
+    requires { boot < 2 ^ 24 }
+    ensures { result ≡ 256 * boot + circuit }
+{
+    256 * boot + u32::from(circuit)
+}
+
+/// The system and extended circuit ID that an adjacency keeps (RFC 5303 3.1).
+fn named(point: &P2pAdj) -> Option<(SystemId, u32)>
+    ensures { names_of result ≡ pulls.names_of (point_of point.now).neighbour }
+{
+    match point.neighbour() {
+        Some(neighbour) => {
+            system_law(neighbour.system);
+            Some((neighbour.system, neighbour.id))
+        }
+        None => None,
+    }
+}
+
+/// Adds the hello of a level on a LAN, where the level is run (ISO 10589 8.4.1).
+fn put_lan(
+    out: &mut Datagrams,
+    alloc: Global,
+    sender: &Sender<'_>,
+    on: &Circuit,
+    level: Level,
+) -> Result<(), OutOfMemory>
+    requires here { 1 ≤ sender.now.circuit }
+    requires areas { FitAreas sender.now }
+    requires priority { sender.now.priority ≤ 127 }
+    ensures { (r : Router) → Sends sender.now r.config (sender.now.circuit - 1) on.now
+        → OnOk result (out.new ≡ out.old ++ all_octets sender.now
+        (pulls.lan_hello r (sender.now.circuit - 1) on.now level)) }
+{
+    if runs(sender.levels, level) {
+        return put_run(out, alloc, sender, on, level);
+    }
+    Ok(())
+}
+
+/// Adds the hello of a level that is run (ISO 10589 8.4.1).
+fn put_run(
+    out: &mut Datagrams,
+    alloc: Global,
+    sender: &Sender<'_>,
+    on: &Circuit,
+    level: Level,
+) -> Result<(), OutOfMemory>
+    requires here { 1 ≤ sender.now.circuit }
+    requires areas { FitAreas sender.now }
+    requires priority { sender.now.priority ≤ 127 }
+    ensures { (r : Router) → Sends sender.now r.config (sender.now.circuit - 1) on.now
+        → OnOk result (out.new ≡ out.old ++ octets_of sender.now (sent.LanHello level
+        (pulls.lan_of r (sender.now.circuit - 1) on.now level)
+        (pulls.snpas_of (at on.now.levels level).heard)) ∷ []) }
+{
+    let heard = on.heard(level);
+    snpas_law(heard);
+    let lan = on.lan_id(sender.system, sender.circuit, level);
+    let octets = lan_hello(alloc, sender, level, lan, heard)?;
+    out.push(octets)
+}
+
+/// Whether a set of levels has a level.
+fn runs(levels: LevelSet, level: Level) -> bool
+    ensures { result ≡ at (runs_of levels) level }
+{
+    match level {
+        Level::One => matches!(levels, LevelSet::One | LevelSet::Both),
+        Level::Two => matches!(levels, LevelSet::Two | LevelSet::Both),
+    }
+}
+
+/// Six octets.
+fn are_six(octets: [u8; 6])
+    ensures { length octets ≡ 6 }
+{
+    let [_a, _b, _c, _d, _e, _f] = octets;
+}
+
+/// A system ID has one number.
+fn system_law(system: SystemId)
+    ensures { own.system_number system ≡ datagram.system_number system }
+{
+    word_laws();
+    are_six(system.0);
+}
+
+/// A neighbour's SNPA has one number.
+fn snpa_law(neighbour: &Neighbour)
+    ensures { datagram.snpa_number neighbour.now.snpa ≡ snpa_of neighbour.now }
+{
+    let Snpa(octets) = neighbour.snpa;
+    word_laws();
+    are_six(octets);
+}
+
+/// So have those of neighbours.
+fn snpas_law(heard: &[Neighbour])
+    ensures { snpas_of heard.now ≡ map snpa_of heard.now }
+{
+    let mut left = heard;
+    while let [neighbour, more @ ..] = left {
+        snpa_law(neighbour);
+        left = more;
+    }
+}

@@ -1,0 +1,120 @@
+//! Hellos that are taken.
+ghost use Rattle.std.specs.Prelude.{◌≡◌, ◌<◌, ◌^◌, ◌-◌, true, false, not, IfSome, IfOk, OnOk, OnErr};
+ghost use Rattle.isis_model.specs.Adjacencies as model;
+ghost use Rattle.isis_model.specs.Both.{alone, at};
+ghost use Rattle.isis_model.specs.Places.{nth};
+ghost use Rattle.isis_model.specs.Hellos as hellos;
+ghost use Rattle.isis_model.specs.HelloTests.{lan_drop, point_drop};
+ghost use Rattle.isis_model.specs.Routers.{extended_of, with_circuit};
+ghost use Rattle.isis_model.specs.AdjacencyLaws.{AreIdle};
+ghost use Rattle.isis_model.specs.Events.{Done, settled};
+ghost use Rattle.isis_model.specs.Receiving.{greeted};
+ghost use Rattle.adjacency.specs.Changes.{IsTested};
+ghost use Rattle.router_circuits.specs.Hellos.{hello_of};
+ghost use Rattle.router_core.specs.Events.{IsThere};
+
+use crate::at::{hear_lan_at, hear_point_at};
+use crate::machine::Machine;
+use crate::own::own_of;
+use adjacency::{HelloDrop, HelloFields};
+use isis_base::Level;
+
+impl Machine {
+    /// A circuit hears a point-to-point hello: whether it isn't from the neighbour that was kept.
+    pub(crate) fn hear_point(
+        &mut self,
+        circuit: u8,
+        hello: &HelloFields<'_>,
+    ) -> Result<bool, HelloDrop>
+        requires there { IsThere self.old circuit }
+        requires kind { IfSome (nth self.old.circuits (circuit - 1)) (λ c. c.lan ≡ false) }
+        requires boot { self.old.boot < 2 ^ 24 }
+        ensures tested { IsTested result (point_drop self.old.config
+            (extended_of self.old.boot (circuit - 1)) (hello_of hello.now)) }
+        ensures unchanged { OnErr result (self.new ≡ self.old) }
+        ensures state { IfOk result (λ anew. IfSome (nth self.old.circuits (circuit - 1)) (λ c.
+            IfSome (hello_of hello.now).handshake (λ shake. (self.new
+            ≡ with_circuit self.old (circuit - 1) (hellos.point_circuit c
+            (model.common_of self.old.config (hello_of hello.now)) (hello_of hello.now) shake))
+            × (anew ≡ not (model.is_same c.point.neighbour
+            (model.common_of self.old.config (hello_of hello.now)) (hello_of hello.now)
+            shake.extended))))) }
+    {
+        let own = own_of(&self.desk, self.areas.as_slice(), self.boot, circuit);
+        hear_point_at(&mut self.circuits, circuit, &own, hello)
+    }
+
+    /// A circuit hears a hello of a level on a LAN.
+    pub(crate) fn hear_lan(
+        &mut self,
+        circuit: u8,
+        level: Level,
+        hello: &HelloFields<'_>,
+    ) -> Result<(), HelloDrop>
+        requires there { IsThere self.old circuit }
+        requires kind { IfSome (nth self.old.circuits (circuit - 1)) (λ c. c.lan ≡ true) }
+        requires boot { self.old.boot < 2 ^ 24 }
+        ensures tested { IfSome (nth self.old.circuits (circuit - 1)) (λ c. IsTested result
+            (lan_drop self.old.config level (at c.levels level).heard (hello_of hello.now))) }
+        ensures unchanged { OnErr result (self.new ≡ self.old) }
+        ensures state { OnOk result (IfSome (nth self.old.circuits (circuit - 1)) (λ c.
+            self.new ≡ with_circuit self.old (circuit - 1) (hellos.lan_circuit c level
+            (alone level (model.common_of self.old.config (hello_of hello.now)))
+            (hello_of hello.now)))) }
+    {
+        let own = own_of(&self.desk, self.areas.as_slice(), self.boot, circuit);
+        hear_lan_at(&mut self.circuits, circuit, &own, level, hello)
+    }
+
+    /// A point-to-point hello is taken.
+    pub(crate) fn take_point(
+        &mut self,
+        circuit: u8,
+        hello: &HelloFields<'_>,
+    ) -> Result<(), HelloDrop>
+        requires there { IsThere self.old circuit }
+        requires kind { IfSome (nth self.old.circuits (circuit - 1)) (λ c. c.lan ≡ false) }
+        requires boot { self.old.boot < 2 ^ 24 }
+        requires idle { AreIdle self.old }
+        ensures tested { IsTested result (point_drop self.old.config
+            (extended_of self.old.boot (circuit - 1)) (hello_of hello.now)) }
+        ensures unchanged { OnErr result (self.new ≡ self.old) }
+        ensures state { OnOk result (IfSome (nth self.old.circuits (circuit - 1)) (λ c.
+            self.new ≡ (settled (record {
+              router = greeted self.old (circuit - 1) c (hello_of hello.now)
+                  (hello_of hello.now).handshake;
+              reply = Done;
+            })).router)) }
+    {
+        let anew = self.hear_point(circuit, hello)?;
+        self.follow(circuit, anew);
+        self.settle(circuit);
+        Ok(())
+    }
+
+    /// A hello of a level is taken on a LAN.
+    pub(crate) fn take_lan(
+        &mut self,
+        circuit: u8,
+        level: Level,
+        hello: &HelloFields<'_>,
+    ) -> Result<(), HelloDrop>
+        requires there { IsThere self.old circuit }
+        requires kind { IfSome (nth self.old.circuits (circuit - 1)) (λ c. c.lan ≡ true) }
+        requires boot { self.old.boot < 2 ^ 24 }
+        requires idle { AreIdle self.old }
+        ensures tested { IfSome (nth self.old.circuits (circuit - 1)) (λ c. IsTested result
+            (lan_drop self.old.config level (at c.levels level).heard (hello_of hello.now))) }
+        ensures unchanged { OnErr result (self.new ≡ self.old) }
+        ensures state { OnOk result (IfSome (nth self.old.circuits (circuit - 1)) (λ c.
+            self.new ≡ (settled (record {
+              router = hellos.take_lan self.old (circuit - 1) c level (hello_of hello.now);
+              reply = Done;
+            })).router)) }
+    {
+        self.hear_lan(circuit, level, hello)?;
+        self.follow(circuit, false);
+        self.settle(circuit);
+        Ok(())
+    }
+}

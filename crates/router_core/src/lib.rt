@@ -1,0 +1,53 @@
+//! One router: its state, and what becomes of it and is answered at each event.
+//!
+//! ISO 10589 7.3 and 8, RFC 5303 and RFC 5304, as isis_model has them: `step` is the model's step,
+//! state and answer, and what is sent are the datagrams of isis_datagram. What a step can need
+//! memory for is made before its first change, so a step that wants memory leaves the router as it
+//! was (own).
+//!
+//! - `router.rt`: the router; `event.rt`, `reply.rt`, `datagrams.rt`: events and answers
+//! - `machine.rt`: its parts, and what they have in common; `stepping.rt`: one event of them
+//! - `making.rt`, `changes.rt`, `asked.rt`: how it starts, changes of its configuration, and what is
+//!   asked of it; `prefixes.rt`, `prefix_list.rt`: its own prefixes, in order
+//! - `opening.rt`, `taking.rt`: an opened datagram is taken, or dropped; `hellos.rt`, `own.rt`:
+//!   hellos; `levels.rt`, `take.rt`: LSPs; `snps.rt`: sequence number PDUs
+//! - `wanted.rt`: drafts of own LSPs that are wanted
+//! - `second.rt`, `renewal.rt`, `quiet.rt`: a second
+//! - `pull.rt`, `pull_parts.rt`, `hello_sending.rt`, `sending.rt`: what is due is sent
+//! - `at.rt`: one circuit of a list changes
+//! - `reached.rt`: what always holds, as laws
+#![tactic(auto)]
+
+mod asked;
+mod at;
+mod changes;
+mod datagrams;
+mod event;
+mod hello_sending;
+mod hellos;
+mod levels;
+mod machine;
+mod making;
+mod opening;
+mod own;
+mod prefix_list;
+mod prefixes;
+mod pull;
+mod pull_parts;
+mod quiet;
+mod reached;
+mod renewal;
+mod reply;
+mod router;
+mod second;
+mod sending;
+mod snps;
+mod stepping;
+mod take;
+mod taking;
+mod wanted;
+
+pub use datagrams::Datagrams;
+pub use event::NodeEvent;
+pub use reply::Reply;
+pub use router::Router;

@@ -1,0 +1,106 @@
+//! The parts of a router, and what they have in common.
+ghost use Rattle.std.specs.Prelude.{◌≡◌, ◌-◌, ◌<◌, length, Some, None, IfSome};
+ghost use Rattle.isis_model.specs.Places.{nth, with_nth};
+ghost use Rattle.isis_model.specs.Drops.{count_drop, drop_place, drops_of};
+ghost use Rattle.isis_model.specs.Hellos.{follow};
+ghost use Rattle.isis_model.specs.Elections.{idle};
+ghost use Rattle.isis_model.specs.Routers.{with_circuit};
+ghost use Rattle.router_core.specs.Events.{IsThere};
+
+use crate::at::idle_at;
+use crate::prefixes::OwnPrefixes;
+use isis_base::{Level, OutOfMemory};
+use isis_model::DropName;
+use router_circuits::Circuit;
+use router_desk::{Areas, Desk};
+use router_levels::LevelParts;
+use std::alloc::Global;
+use std::marker::Model;
+
+/// The parts of a router. Contracts see them as the router's model has them.
+#[derive(Drop)]
+pub(crate) struct Machine {
+    pub(crate) alloc: Global,
+    pub(crate) desk: Desk,
+    pub(crate) areas: Areas,
+    pub(crate) leak: bool,
+    pub(crate) overload: bool,
+    pub(crate) prefixes: OwnPrefixes,
+    pub(crate) boot: u32,
+    pub(crate) circuits: Vec<Circuit>,
+    pub(crate) one: LevelParts,
+    pub(crate) two: LevelParts,
+    pub(crate) drops: [u64; 19],
+}
+
+impl Model for Machine {
+    ghost use Rattle.isis_model.specs.Routers as model;
+    ghost use Rattle.router_core.specs.Machines.{machine_of, IsLaid};
+
+    ghost Value = { model.Router };
+
+    ghost view = { machine_of };
+
+    ghost invariant = { IsLaid };
+}
+
+impl Machine {
+    /// One more datagram is dropped for a cause; the count stands still at its type's end.
+    pub(crate) fn count_drop(&mut self, cause: DropName)
+        ensures { self.new ≡ record self.old { drops = count_drop self.old.drops cause } }
+    {
+        let place = place_of(cause);
+        self.drops[place] = self.drops[place].saturating_add(1);
+    }
+
+    /// Both levels follow a circuit, which closes first where its hello is of another neighbour than
+    /// the one that was kept.
+    pub(crate) fn follow(&mut self, circuit: u8, anew: bool)
+        requires { IsThere self.old circuit }
+        ensures { IfSome (nth self.old.circuits (circuit - 1)) (λ c.
+            self.new ≡ follow self.old anew (circuit - 1) c) }
+    {
+        let at = &self.circuits[usize::from(circuit) - 1];
+        let (one, two) = (at.is_open(Level::One), at.is_open(Level::Two));
+        self.one.follow(circuit, anew, one);
+        self.two.follow(circuit, anew, two);
+    }
+
+    /// The CSNP counters of a circuit stand at 0 where the router isn't designated.
+    pub(crate) fn settle(&mut self, circuit: u8)
+        requires { IsThere self.old circuit }
+        ensures { IfSome (nth self.old.circuits (circuit - 1)) (λ c. self.new
+            ≡ with_circuit self.old (circuit - 1) (idle self.old.config (circuit - 1) c)) }
+    {
+        let system = self.desk.system();
+        idle_at(&mut self.circuits, system, circuit);
+    }
+}
+
+/// The place of a cause's counter.
+pub(crate) fn place_of(cause: DropName) -> usize
+    ensures place { result ≡ drop_place cause }
+    ensures few { result < 19 }
+{
+    match cause {
+        DropName::Frame => 0,
+        DropName::Pdu => 1,
+        DropName::TooLong => 2,
+        DropName::WrongKind => 3,
+        DropName::WrongLevel => 4,
+        DropName::Auth => 5,
+        DropName::Value => 6,
+        DropName::ZeroNumber => 7,
+        DropName::BadChecksum => 8,
+        DropName::OwnId => 9,
+        DropName::OtherSnpa => 10,
+        DropName::NoLevel => 11,
+        DropName::NoArea => 12,
+        DropName::NoThreeWay => 13,
+        DropName::OtherNeighbour => 14,
+        DropName::TooMany => 15,
+        DropName::NoAdjacency => 16,
+        DropName::NotDesignated => 17,
+        DropName::StoreFull => 18,
+    }
+}

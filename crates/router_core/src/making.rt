@@ -1,0 +1,158 @@
+//! Routers at their start.
+ghost use Rattle.std.specs.Prelude.{◌≡◌, ◌≤◌, length, map, IfOk};
+ghost use Rattle.isis_model.specs.Starts.{start, started, empty_level, points_of};
+ghost use Rattle.router_desk.specs.Configs.{config_of, circuit_of, circuits_of};
+ghost use Rattle.router_desk.specs.Desks.{is_lan, kind_of_circuit};
+ghost use Rattle.router_desk.specs.Limits.{IsValid};
+ghost use Rattle.router_levels.specs.Views.{state_of};
+
+use crate::machine::Machine;
+use crate::prefixes::OwnPrefixes;
+use isis_base::{CircuitKind, Octets, OutOfMemory};
+use router_circuits::Circuit;
+use router_desk::{CircuitConfig, Config, Desk};
+use router_levels::LevelParts;
+use std::alloc::Global;
+
+impl Machine {
+    /// The router of a configuration at its start, in a boot.
+    pub(crate) fn new(alloc: Global, config: &Config, boot: u32) -> Result<Machine, OutOfMemory>
+        requires valid { IsValid config.now }
+        ensures { IfOk result (λ machine.
+            machine ≡ start (config_of config.now) boot (circuits_of config.now)) }
+    {
+        let circuits = circuits_of(alloc, config.circuits.as_slice())?;
+        Ok(Machine {
+            alloc,
+            desk: Desk::new(alloc, config)?,
+            areas: config.areas.copy()?,
+            leak: config.leak,
+            overload: config.overload,
+            prefixes: OwnPrefixes::of(alloc, config.prefixes.as_slice())?,
+            boot,
+            one: level_of(alloc, &circuits)?,
+            two: level_of(alloc, &circuits)?,
+            circuits,
+            drops: [0; 19],
+        })
+    }
+
+    /// The opening state of another boot, of the configuration as changed so far.
+    pub(crate) fn restarted(&self, boot: u32) -> Result<Machine, OutOfMemory>
+        ensures { IfOk result (λ machine.
+            machine ≡ start self.now.config boot self.now.circuits) }
+    {
+        Ok(Machine {
+            alloc: self.alloc,
+            desk: self.desk.copy()?,
+            areas: self.areas.copy()?,
+            leak: self.leak,
+            overload: self.overload,
+            prefixes: self.prefixes.copy()?,
+            boot,
+            circuits: fresh_circuits(self.alloc, &self.circuits)?,
+            one: level_of(self.alloc, &self.circuits)?,
+            two: level_of(self.alloc, &self.circuits)?,
+            drops: [0; 19],
+        })
+    }
+}
+
+/// The circuits of a configuration.
+fn circuits_of(alloc: Global, configs: &[CircuitConfig]) -> Result<Vec<Circuit>, OutOfMemory>
+    ensures { IfOk result (λ list. list.items ≡ map circuit_of configs.now) }
+{
+    let mut list = Vec::with_capacity(alloc, configs.len())?;
+    for place in 0..configs.len() {
+        let circuit = match Circuit::new(alloc, &configs[place]) {
+            Ok(circuit) => circuit,
+            Err(error) => return Err(error),
+        };
+        list.push(circuit)?;
+    }
+    Ok(list)
+}
+
+/// Circuits at the start, of the configuration of these.
+fn fresh_circuits(alloc: Global, circuits: &[Circuit]) -> Result<Vec<Circuit>, OutOfMemory>
+    ensures { IfOk result (λ list. list.items ≡ map started circuits.now) }
+{
+    let mut list = Vec::with_capacity(alloc, circuits.len())?;
+    for place in 0..circuits.len() {
+        let circuit = match fresh(alloc, &circuits[place]) {
+            Ok(circuit) => circuit,
+            Err(error) => return Err(error),
+        };
+        list.push(circuit)?;
+    }
+    Ok(list)
+}
+
+/// A circuit at the start, of the configuration of this one.
+fn fresh(alloc: Global, circuit: &Circuit) -> Result<Circuit, OutOfMemory>
+    ensures { IfOk result (λ made. made ≡ started circuit.now) }
+{
+    let config = config_of(alloc, circuit)?;
+    Circuit::new(alloc, &config)
+}
+
+/// The configuration of a circuit.
+fn config_of(alloc: Global, circuit: &Circuit) -> Result<CircuitConfig, OutOfMemory>
+    ensures { IfOk result (λ config. circuit_of config ≡ started circuit.now) }
+{
+    Ok(CircuitConfig {
+        kind: kind_of(circuit),
+        metric: circuit.metric(),
+        priority: circuit.priority(),
+        address: circuit.address(),
+        key: key_of(alloc, circuit)?,
+    })
+}
+
+/// A copy of the key of a circuit.
+fn key_of(alloc: Global, circuit: &Circuit) -> Result<Option<Octets>, OutOfMemory>
+    ensures { IfOk result (λ key. key ≡ circuit.now.key) }
+{
+    match circuit.key() {
+        None => Ok(None),
+        Some(key) => {
+            let mut copy = Octets::new(alloc);
+            copy.extend(key)?;
+            Ok(Some(copy))
+        }
+    }
+}
+
+/// The kind of a circuit.
+fn kind_of(circuit: &Circuit) -> CircuitKind
+    ensures lan { is_lan result ≡ circuit.now.lan }
+    ensures value { result ≡ kind_of_circuit circuit.now.lan }
+{
+    if circuit.is_lan() {
+        return CircuitKind::Lan;
+    }
+    CircuitKind::PointToPoint
+}
+
+/// A level at the start, of these circuits.
+fn level_of(alloc: Global, circuits: &[Circuit]) -> Result<LevelParts, OutOfMemory>
+    requires { length circuits.now ≤ 64 }
+    ensures state { IfOk result (λ level. state_of level
+        ≡ empty_level (points_of 0 circuits.now)) }
+    ensures circuits { IfOk result (λ level. level.book.circuits ≡ length circuits.now) }
+{
+    let kinds = kinds_of(alloc, circuits)?;
+    LevelParts::new(alloc, &kinds)
+}
+
+/// The kinds of circuits.
+fn kinds_of(alloc: Global, circuits: &[Circuit]) -> Result<Vec<CircuitKind>, OutOfMemory>
+    ensures { IfOk result (λ kinds. kinds.items
+        ≡ map (λ c. kind_of_circuit c.lan) circuits.now) }
+{
+    let mut kinds = Vec::with_capacity(alloc, circuits.len())?;
+    for place in 0..circuits.len() {
+        kinds.push(kind_of(&circuits[place]))?;
+    }
+    Ok(kinds)
+}

@@ -1,0 +1,185 @@
+//! What is due on a circuit is sent.
+ghost use Rattle.std.specs.Prelude.{◌≡◌, ◌≤◌, ◌<◌, ◌-◌, ◌^◌, ◌++◌, map, Some, OnOk, OnErr, IfOk, IfSome};
+ghost use Rattle.isis_model.specs.Configs.{Config};
+ghost use Rattle.isis_model.specs.Events.{settled};
+ghost use Rattle.isis_model.specs.Good.{IsGoodBook};
+ghost use Rattle.isis_model.specs.Places.{nth};
+ghost use Rattle.isis_model.specs.Pulls as model;
+ghost use Rattle.isis_model.specs.Routers.{Router};
+ghost use Rattle.isis_model.specs.Steps.{sent_all};
+ghost use Rattle.isis_datagram.specs.Datagrams.{datagram};
+ghost use Rattle.flag_sync.specs.BookStates.{book_of, IsCircuit};
+ghost use Rattle.pdu_sender.specs.Sends.{Sends, FitAreas};
+ghost use Rattle.router_core.specs.Events.{IsThere};
+ghost use Rattle.router_core.specs.Pulled as pulled;
+ghost use Rattle.router_core.specs.Reached.{IsReached};
+ghost use Rattle.router_core.specs.Replies.{datagrams_of};
+ghost use Rattle.router_core.specs.Sending.{all_octets, csnps_due, psnps_due, open_due, all_due, hellos_due, MaySend};
+
+use crate::datagrams::Datagrams;
+use crate::hello_sending::put_hellos;
+use crate::machine::Machine;
+use crate::sending::{put_csnps, put_lsps, put_psnps};
+use flag_sync::Book;
+use isis_base::{Level, OutOfMemory};
+use lsp_octets::laws::sendable_law;
+use pdu_sender::Sender;
+use router_circuits::Circuit;
+use std::alloc::Global;
+
+impl Machine {
+    /// What is due on a circuit is sent (ISO 10589 7.3.15.3 to 7.3.15.5, 7.3.17, 8.2.3, 8.4.1): the
+    /// hello, and for each level that is open there the CSNP set, LSPs and PSNPs.
+    pub(crate) fn pull(&mut self, circuit: u8) -> Result<Datagrams, OutOfMemory>
+        requires there { IsThere self.old circuit }
+        requires reached { IsReached self.old }
+        ensures state { OnOk result (self.new
+            ≡ (settled (sent_all (model.pull self.old (circuit - 1)))).router) }
+        ensures sent { IfOk result (λ out. out
+            ≡ datagrams_of self.new (circuit - 1) (model.pull self.old (circuit - 1)).out) }
+        ensures err { OnErr result (self.new ≡ self.old) }
+    {
+        let out = self.due(circuit)?;
+        self.all_gone(circuit);
+        self.settle(circuit);
+        Ok(out)
+    }
+
+    /// What is due on a circuit was sent.
+    fn all_gone(&mut self, circuit: u8)
+        requires { IsThere self.old circuit }
+        ensures { self.new ≡ pulled.after_all self.old (circuit - 1) }
+    {
+        self.hello_gone(circuit);
+        self.level_gone(circuit, Level::One);
+        self.level_gone(circuit, Level::Two);
+    }
+
+    /// The circuit of a number.
+    fn on(&self, circuit: u8) -> &Circuit
+        requires { IsThere self.now circuit }
+        ensures { nth self.now.circuits (circuit - 1) ≡ Some result.now }
+    {
+        &self.circuits[usize::from(circuit) - 1]
+    }
+
+    /// What is due on a circuit, as datagrams.
+    fn due(&self, circuit: u8) -> Result<Datagrams, OutOfMemory>
+        requires there { IsThere self.now circuit }
+        requires reached { IsReached self.now }
+        ensures { IfOk result (λ out. IfSome (nth self.now.circuits (circuit - 1)) (λ c. out
+            ≡ map (λ says. datagram self.now.config (circuit - 1) c says)
+            (all_due self.now (circuit - 1) c))) }
+    {
+        let mut out = Datagrams::new(self.alloc);
+        let sender = self.sender(circuit);
+        let on = self.on(circuit);
+        sendable_law();
+        put_due_hellos(&mut out, self.alloc, &sender, on, self.boot)?;
+        put_level(
+            &mut out,
+            self.alloc,
+            &sender,
+            on,
+            Level::One,
+            self.book(Level::One),
+        )?;
+        put_level(
+            &mut out,
+            self.alloc,
+            &sender,
+            on,
+            Level::Two,
+            self.book(Level::Two),
+        )?;
+        Ok(out)
+    }
+}
+
+/// Adds the hellos of a circuit, where they are due (ISO 10589 8.2.3, 8.4.1).
+fn put_due_hellos(
+    out: &mut Datagrams,
+    alloc: Global,
+    sender: &Sender<'_>,
+    on: &Circuit,
+    boot: u32,
+) -> Result<(), OutOfMemory>
+    requires here { 1 ≤ sender.now.circuit }
+    requires areas { FitAreas sender.now }
+    requires priority { sender.now.priority ≤ 127 }
+    requires boot { boot < 2 ^ 24 }
+    ensures { (r : Router) → Sends sender.now r.config (sender.now.circuit - 1) on.now
+        → r.boot ≡ boot → OnOk result (out.new ≡ out.old
+        ++ all_octets sender.now (hellos_due r (sender.now.circuit - 1) on.now)) }
+{
+    if on.hello_is_due() {
+        return put_hellos(out, alloc, sender, on, boot);
+    }
+    Ok(())
+}
+
+/// Adds what is due of a level, where the circuit is open on it (ISO 10589 7.3.15.3 to 7.3.15.5).
+fn put_level(
+    out: &mut Datagrams,
+    alloc: Global,
+    sender: &Sender<'_>,
+    on: &Circuit,
+    level: Level,
+    book: &Book,
+) -> Result<(), OutOfMemory>
+    requires here { IsCircuit sender.now.circuit book.now.circuits }
+    requires few { sender.now.circuit ≤ 64 }
+    requires good { IsGoodBook (book_of book.now) }
+    requires may { MaySend (sender.now.circuit - 1) book.now.store.entries book.now.rows }
+    ensures { (config : Config) → Sends sender.now config (sender.now.circuit - 1) on.now
+        → OnOk result (out.new ≡ out.old ++ all_octets sender.now
+        (open_due config (sender.now.circuit - 1) on.now level (book_of book.now))) }
+{
+    if book.is_open(sender.circuit) {
+        put_due_csnps(out, alloc, sender, on, level, book)?;
+        put_lsps(out, alloc, sender, level, book)?;
+        return put_due_psnps(out, alloc, sender, on, level, book);
+    }
+    Ok(())
+}
+
+/// Adds a level's CSNP set, where it is due (ISO 10589 7.3.15.3, 7.3.17).
+fn put_due_csnps(
+    out: &mut Datagrams,
+    alloc: Global,
+    sender: &Sender<'_>,
+    on: &Circuit,
+    level: Level,
+    book: &Book,
+) -> Result<(), OutOfMemory>
+    requires here { 1 ≤ sender.now.circuit }
+    requires good { IsGoodBook (book_of book.now) }
+    ensures { (config : Config) → Sends sender.now config (sender.now.circuit - 1) on.now
+        → OnOk result (out.new ≡ out.old ++ all_octets sender.now
+        (csnps_due config (sender.now.circuit - 1) on.now level (book_of book.now))) }
+{
+    if on.is_csnp_due(sender.system, sender.circuit, level) {
+        return put_csnps(out, alloc, sender, level, book);
+    }
+    Ok(())
+}
+
+/// Adds a level's PSNPs, where they are due (ISO 10589 7.3.15.4).
+fn put_due_psnps(
+    out: &mut Datagrams,
+    alloc: Global,
+    sender: &Sender<'_>,
+    on: &Circuit,
+    level: Level,
+    book: &Book,
+) -> Result<(), OutOfMemory>
+    requires here { IsCircuit sender.now.circuit book.now.circuits }
+    requires good { IsGoodBook (book_of book.now) }
+    ensures { OnOk result (out.new ≡ out.old ++ all_octets sender.now
+        (psnps_due (sender.now.circuit - 1) on.now level (book_of book.now))) }
+{
+    if on.may_answer(level) {
+        return put_psnps(out, alloc, sender, level, book);
+    }
+    Ok(())
+}

@@ -1,0 +1,165 @@
+//! What becomes of a router as it sends what is due on a circuit.
+ghost use Rattle.std.specs.Prelude.{◌≡◌, ◌-◌, ◌==◌, ◌&&◌, nat_lt, length, IfSome};
+ghost use Rattle.isis_model.specs.Both.{at};
+ghost use Rattle.isis_model.specs.Places.{nth};
+ghost use Rattle.isis_model.specs.Pulls as pulls;
+ghost use Rattle.isis_model.specs.Routers.{book_of, with_book, with_circuit};
+ghost use Rattle.isis_model.specs.SnpLists.{owed};
+ghost use Rattle.flag_sync.specs.BookStates as books;
+ghost use Rattle.router_core.specs.Events.{IsThere};
+ghost use Rattle.router_core.specs.Pulled as pulled;
+
+use crate::at::{answer_sent_at, csnp_sent_at, hello_sent_at};
+use crate::machine::Machine;
+use flag_sync::Book;
+use isis_base::Level;
+
+impl Machine {
+    /// What is held of a level with its flags.
+    pub(crate) fn book(&self, level: Level) -> &Book
+        ensures book { books.book_of result.now ≡ book_of self.now level }
+        ensures circuits { result.now.circuits ≡ length self.now.circuits }
+    {
+        match level {
+            Level::One => self.one.book(),
+            Level::Two => self.two.book(),
+        }
+    }
+
+    /// A hello was sent.
+    fn hello_sent(&mut self, circuit: u8)
+        requires { IsThere self.old circuit }
+        ensures { IfSome (nth self.old.circuits (circuit - 1)) (λ c. self.new
+            ≡ with_circuit self.old (circuit - 1) (record c { hello = 10 })) }
+    {
+        hello_sent_at(&mut self.circuits, circuit);
+    }
+
+    /// A level's CSNP set was sent.
+    fn csnps_sent(&mut self, circuit: u8, level: Level)
+        requires { IsThere self.old circuit }
+        ensures { IfSome (nth self.old.circuits (circuit - 1)) (λ c. self.new
+            ≡ with_circuit self.old (circuit - 1)
+            (pulls.with_part c level (pulls.csnp_sent c.lan (at c.levels level)))) }
+    {
+        csnp_sent_at(&mut self.circuits, circuit, level);
+    }
+
+    /// A level's PSNPs were sent.
+    fn answer_sent(&mut self, circuit: u8, level: Level)
+        requires { IsThere self.old circuit }
+        ensures { IfSome (nth self.old.circuits (circuit - 1)) (λ c. self.new
+            ≡ with_circuit self.old (circuit - 1)
+            (pulls.with_part c level (record (at c.levels level) { psnp = 2 }))) }
+    {
+        answer_sent_at(&mut self.circuits, circuit, level);
+    }
+
+    /// The LSPs of a level that were due are sent.
+    fn lsps_sent(&mut self, circuit: u8, level: Level)
+        requires { IsThere self.old circuit }
+        ensures { self.new
+            ≡ with_book self.old level (pulls.sent (book_of self.old level) (circuit - 1)) }
+    {
+        match level {
+            Level::One => self.one.sent(circuit),
+            Level::Two => self.two.sent(circuit),
+        }
+    }
+
+    /// What was owed of a level is said.
+    fn answered(&mut self, circuit: u8, level: Level)
+        requires { IsThere self.old circuit }
+        ensures { self.new ≡ with_book self.old level
+            (pulls.answered (book_of self.old level) (circuit - 1)) }
+    {
+        match level {
+            Level::One => self.one.answered(circuit),
+            Level::Two => self.two.answered(circuit),
+        }
+    }
+
+    /// Whether PSNPs of a level are due on a circuit (ISO 10589 7.3.15.4).
+    pub(crate) fn psnps_are_due(&self, circuit: u8, level: Level) -> bool
+        requires { IsThere self.now circuit }
+        ensures { IfSome (nth self.now.circuits (circuit - 1)) (λ c. result
+            ≡ (nat_lt 0 (length (owed (circuit - 1) (book_of self.now level)))
+            && (at c.levels level).psnp == 0)) }
+    {
+        is_owed(self.book(level), circuit)
+            && self.circuits[usize::from(circuit) - 1].may_answer(level)
+    }
+
+    /// Whether a CSNP set of a level is due on a circuit (ISO 10589 7.3.15.3, 7.3.17).
+    pub(crate) fn csnps_are_due(&self, circuit: u8, level: Level) -> bool
+        requires { IsThere self.now circuit }
+        ensures { IfSome (nth self.now.circuits (circuit - 1)) (λ c. result
+            ≡ pulls.is_csnp_due self.now.config (circuit - 1) c level) }
+    {
+        let system = self.desk.system();
+        self.circuits[usize::from(circuit) - 1].is_csnp_due(system, circuit, level)
+    }
+
+    /// Whether a hello is due on a circuit (ISO 10589 8.2.3, 8.4.1).
+    pub(crate) fn hello_is_due(&self, circuit: u8) -> bool
+        requires { IsThere self.now circuit }
+        ensures { IfSome (nth self.now.circuits (circuit - 1)) (λ c. result ≡ (c.hello == 0)) }
+    {
+        self.circuits[usize::from(circuit) - 1].hello_is_due()
+    }
+
+    /// A hello was sent, where one was due.
+    pub(crate) fn hello_gone(&mut self, circuit: u8)
+        requires { IsThere self.old circuit }
+        ensures { self.new ≡ pulled.after_hello self.old (circuit - 1) }
+    {
+        if self.hello_is_due(circuit) {
+            self.hello_sent(circuit);
+        }
+    }
+
+    /// A level's CSNP set was sent, where it was due.
+    fn csnps_gone(&mut self, circuit: u8, level: Level)
+        requires { IsThere self.old circuit }
+        ensures { self.new ≡ pulled.after_csnps self.old (circuit - 1) level }
+    {
+        if self.csnps_are_due(circuit, level) {
+            self.csnps_sent(circuit, level);
+        }
+    }
+
+    /// A level's PSNPs were sent, where they were due.
+    fn psnps_gone(&mut self, circuit: u8, level: Level)
+        requires { IsThere self.old circuit }
+        ensures { self.new ≡ pulled.after_psnps self.old (circuit - 1) level }
+    {
+        if self.psnps_are_due(circuit, level) {
+            self.answer_sent(circuit, level);
+            self.answered(circuit, level);
+        }
+    }
+
+    /// What was due of a level on a circuit was sent, where the circuit is open on it.
+    pub(crate) fn level_gone(&mut self, circuit: u8, level: Level)
+        requires { IsThere self.old circuit }
+        ensures { self.new ≡ pulled.after_level self.old (circuit - 1) level }
+    {
+        if self.book(level).is_open(circuit) {
+            self.csnps_gone(circuit, level);
+            self.lsps_sent(circuit, level);
+            self.psnps_gone(circuit, level);
+        }
+    }
+}
+
+/// Whether something is owed on a circuit.
+fn is_owed(book: &Book, circuit: u8) -> bool
+    requires { books.IsCircuit circuit book.now.circuits }
+    ensures { result ≡ nat_lt 0 (length (owed (circuit - 1) (books.book_of book.now))) }
+{
+    let mut owed = book.said_owed(circuit);
+    match owed.next() {
+        Some(_) => true,
+        None => false,
+    }
+}

@@ -1,0 +1,88 @@
+//! A second of a router.
+ghost use Rattle.std.specs.Prelude.{◌≡◌, ◌≤◌, length, map, IfOk, OnOk, OnErr};
+ghost use Rattle.std.specs.List.{AllByRecursion};
+ghost use Rattle.isis_model.specs.Configs.{Config};
+ghost use Rattle.isis_model.specs.Elections as elections;
+ghost use Rattle.isis_model.specs.Events.{Done, settled};
+ghost use Rattle.isis_model.specs.Seconds.{second};
+ghost use Rattle.isis_datagram.specs.Numbers.{system_number};
+ghost use Rattle.router_desk.specs.Desks.{desk_circuit};
+ghost use Rattle.router_core.specs.Givens.{given};
+ghost use Rattle.router_core.specs.Machines.{IsFit};
+ghost use Rattle.router_core.specs.Reached.{IsReached};
+ghost use Rattle.router_core.specs.Seconds.{later};
+
+use crate::at::idle_at;
+use crate::machine::Machine;
+use crate::renewal::pass;
+use isis_base::{Level, OutOfMemory, SystemId};
+use router_circuits::Circuit;
+use std::alloc::Global;
+
+impl Machine {
+    /// A second (ISO 10589 7.3.5, 7.3.15.3 to 7.3.15.5, 7.3.16.3, 8.2.3 to 8.2.5, 8.4.1, 8.4.2). At
+    /// `OutOfMemory` the router is as it was.
+    pub(crate) fn second(&mut self) -> Result<(), OutOfMemory>
+        requires reached { IsReached self.old }
+        ensures state { OnOk result (self.new ≡ (settled
+            (record { router = second given self.old; reply = Done })).router) }
+        ensures err { OnErr result (self.new ≡ self.old) }
+    {
+        let mut circuits = circuits_later(self.alloc, &self.circuits)?;
+        let one = self.level_renewed(&circuits, Level::One)?;
+        let two = self.level_renewed(&circuits, Level::Two)?;
+        pass(&mut self.one, one, &circuits, Level::One);
+        pass(&mut self.two, two, &circuits, Level::Two);
+        idle_all(&mut circuits, self.desk.system());
+        self.circuits = circuits;
+        Ok(())
+    }
+}
+
+/// Circuits a second later.
+fn circuits_later(alloc: Global, circuits: &[Circuit]) -> Result<Vec<Circuit>, OutOfMemory>
+    ensures state { IfOk result (λ list. list.items ≡ map later circuits.now) }
+    ensures count { IfOk result (λ list. length list.items ≡ length circuits.now) }
+    ensures same { IfOk result
+        (λ list. map desk_circuit list.items ≡ map desk_circuit circuits.now) }
+    ensures fit { IfOk result (λ list. AllByRecursion IsFit circuits.now
+        → AllByRecursion IsFit list.items) }
+{
+    let mut list = Vec::new(alloc);
+    for place in 0..circuits.len() {
+        let circuit = match circuit_later(&circuits[place]) {
+            Ok(circuit) => circuit,
+            Err(error) => return Err(error),
+        };
+        match list.push(circuit) {
+            Ok(()) => {}
+            Err(_) => return Err(OutOfMemory),
+        }
+    }
+    Ok(list)
+}
+
+/// A circuit a second later.
+fn circuit_later(circuit: &Circuit) -> Result<Circuit, OutOfMemory>
+    ensures { IfOk result (λ circuit_later. circuit_later ≡ later circuit.now) }
+{
+    let mut circuit = circuit.copy()?;
+    circuit.count();
+    circuit.hold();
+    Ok(circuit)
+}
+
+/// The CSNP counters of all circuits stand at 0 where the router isn't designated.
+fn idle_all(circuits: &mut Vec<Circuit>, system: SystemId)
+    requires { length circuits.old.items ≤ 64 }
+    ensures state { (config : Config) → config.system ≡ system_number system
+        → circuits.new.items ≡ elections.idle_all config 0 circuits.old.items }
+    ensures count { length circuits.new.items ≡ length circuits.old.items }
+    ensures same { map desk_circuit circuits.new.items ≡ map desk_circuit circuits.old.items }
+    ensures fit { AllByRecursion IsFit circuits.old.items
+        → AllByRecursion IsFit circuits.new.items }
+{
+    for place in 0..circuits.len() {
+        idle_at(circuits, system, place as u8 + 1);
+    }
+}

@@ -1,0 +1,171 @@
+//! Datagrams that are taken.
+ghost use Rattle.std.specs.Prelude.{◌≡◌, ◌<◌, ◌≤◌, ◌-◌, ◌∷◌, [], false, not, length, IfSome, IfOk, OnOk, OnErr};
+ghost use Rattle.isis_base.specs.Identifiers.{lsp_number};
+ghost use Rattle.isis_base.specs.Keys.{entry_rank};
+ghost use Rattle.isis_model.specs.Datagrams as sent;
+ghost use Rattle.isis_model.specs.Drops.{count_drop};
+ghost use Rattle.isis_model.specs.LspTable as table;
+ghost use Rattle.isis_model.specs.declared.lsp_case.LspCase.TheVariants as case;
+ghost use Rattle.isis_model.specs.Places.{nth};
+ghost use Rattle.isis_model.specs.Routers.{level_of, with_level};
+ghost use Rattle.isis_model.specs.Takes as takes;
+ghost use Rattle.isis_model.specs.Takes.{whose_of};
+ghost use Rattle.isis_model.specs.Receiving.{acks, no_room, scene_of};
+ghost use Rattle.flag_sync.specs.Heard.{answer_of, entries_of, heard_of};
+ghost use Rattle.pdu_sender.specs.Sends.{Sends};
+ghost use Rattle.router_desk.specs.Causes.{name_of};
+ghost use Rattle.router_levels.specs.Drafts.{range_of};
+ghost use Rattle.router_core.specs.declared.reply.Reply.TheVariants as reply;
+ghost use Rattle.router_core.specs.Events.{IsThere};
+ghost use Rattle.router_core.specs.Givens.{given};
+ghost use Rattle.router_core.specs.Replies.{Answers, datagrams_of};
+
+use crate::datagrams::Datagrams;
+use crate::machine::Machine;
+use crate::reply::Reply;
+use flag_sync::{LspAnswer, LspHeard};
+use isis_base::{Level, LspEntry, LspId, OutOfMemory};
+use pdu_sender::{Sender, psnp};
+use router_desk::DropCause;
+
+impl Machine {
+    /// A datagram is dropped.
+    pub(crate) fn refuse(&mut self, cause: DropCause) -> Reply
+        ensures state { self.new
+            ≡ record self.old { drops = count_drop self.old.drops (name_of cause) } }
+        ensures reply { result ≡ reply.Dropped cause }
+    {
+        self.count_drop(cause.name());
+        Reply::Dropped(cause)
+    }
+
+    /// An LSP that isn't dropped is taken (ISO 10589 7.3.15.1).
+    pub(crate) fn take_lsp(
+        &mut self,
+        circuit: u8,
+        level: Level,
+        lsp: &LspHeard<'_>,
+    ) -> Result<Reply, OutOfMemory>
+        requires there { IsThere self.old circuit }
+        requires number { 0 < lsp.now.entry.number }
+        requires octets { 27 ≤ length lsp.now.octets.now }
+        requires room { no_room (level_of self.old level) self.old.config.system (heard_of lsp.now)
+            ≡ false }
+        ensures state { OnOk result (self.new ≡ with_level self.old level
+            (takes.take_lsp (scene_of given self.old level) (level_of self.old level) (circuit - 1)
+            (whose_of self.old.config.system (level_of self.old level) (lsp_number lsp.now.entry.id))
+            (heard_of lsp.now))) }
+        ensures reply { IfOk result (λ reply. IfSome (nth self.old.circuits (circuit - 1)) (λ c.
+            Answers self.old (circuit - 1) (acks c level (heard_of lsp.now)
+            (table.met (level_of self.old level).book
+            (whose_of self.old.config.system (level_of self.old level) (lsp_number lsp.now.entry.id))
+            (heard_of lsp.now))) reply)) }
+        ensures err { OnErr result (self.new ≡ self.old) }
+    {
+        let row = self.level(level).lsp_case(self.desk.system(), lsp);
+        let answer = match row {
+            LspAnswer::Outbid { .. } => Some(self.draft(level, lsp.entry.id)?),
+            _ => None,
+        };
+        let reply = self.acknowledged(circuit, level, lsp, row)?;
+        self.hear_lsp(circuit, level, lsp, answer)?;
+        Ok(reply)
+    }
+
+    /// What is answered to an LSP that meets a row: a purge that isn't held is acknowledged at once on a
+    /// point-to-point circuit (ISO 10589 7.3.16.4).
+    fn acknowledged(
+        &self,
+        circuit: u8,
+        level: Level,
+        lsp: &LspHeard<'_>,
+        row: LspAnswer,
+    ) -> Result<Reply, OutOfMemory>
+        requires there { IsThere self.now circuit }
+        requires row { row ≡ answer_of (table.met (level_of self.now level).book
+            (whose_of self.now.config.system (level_of self.now level) (lsp_number lsp.now.entry.id))
+            (heard_of lsp.now)) lsp.now }
+        ensures { IfOk result (λ reply. IfSome (nth self.now.circuits (circuit - 1)) (λ c.
+            Answers self.now (circuit - 1) (acks c level (heard_of lsp.now)
+            (table.met (level_of self.now level).book
+            (whose_of self.now.config.system (level_of self.now level) (lsp_number lsp.now.entry.id))
+            (heard_of lsp.now))) reply)) }
+    {
+        match row {
+            LspAnswer::AckPurge if self.is_point(circuit) => {
+                let out = self.ack(circuit, level, lsp.entry)?;
+                Ok(Reply::Send(out))
+            }
+            _ => Ok(Reply::Done),
+        }
+    }
+
+    /// Whether a circuit is point-to-point.
+    fn is_point(&self, circuit: u8) -> bool
+        requires { IsThere self.now circuit }
+        ensures { IfSome (nth self.now.circuits (circuit - 1)) (λ c. result ≡ not c.lan) }
+    {
+        !self.circuits[usize::from(circuit) - 1].is_lan()
+    }
+
+    /// The acknowledgement of a purge, as a PSNP.
+    fn ack(&self, circuit: u8, level: Level, purge: LspEntry) -> Result<Datagrams, OutOfMemory>
+        requires { IsThere self.now circuit }
+        ensures { IfOk result (λ out. out ≡ datagrams_of self.now (circuit - 1)
+            (sent.Psnp level (record {
+              id = lsp_number purge.id;
+              rank = entry_rank (record purge { lifetime = 0; checksum = 0 });
+              lifetime = 0;
+              checksum = 0;
+            } ∷ []) ∷ [])) }
+    {
+        let entry = LspEntry {
+            lifetime: 0,
+            checksum: 0,
+            ..purge
+        };
+        let octets = psnp(self.alloc, &self.sender(circuit), level, &[entry])?;
+        let mut out = Datagrams::new(self.alloc);
+        out.push(octets)?;
+        Ok(out)
+    }
+
+    /// The router as it sends on a circuit.
+    pub(crate) fn sender(&self, circuit: u8) -> Sender<'_>
+        requires { IsThere self.now circuit }
+        ensures sends { IfSome (nth self.now.circuits (circuit - 1)) (λ c.
+            Sends result self.now.config (circuit - 1) c) }
+        ensures circuit { result.circuit ≡ circuit }
+    {
+        let on = &self.circuits[usize::from(circuit) - 1];
+        Sender {
+            system: self.desk.system(),
+            levels: self.desk.levels(),
+            areas: self.areas.as_slice(),
+            area_key: self.level_key(Level::One),
+            domain_key: self.level_key(Level::Two),
+            circuit,
+            priority: on.priority(),
+            address: on.address(),
+            key: on.key(),
+        }
+    }
+
+    /// A sequence number PDU that isn't dropped is taken (ISO 10589 7.3.15.2).
+    pub(crate) fn take_snp(
+        &mut self,
+        circuit: u8,
+        level: Level,
+        range: Option<(LspId, LspId)>,
+        entries: &[LspEntry],
+    ) -> Result<(), OutOfMemory>
+        requires there { IsThere self.old circuit }
+        ensures state { OnOk result (self.new ≡ with_level self.old level
+            (takes.take_snp (scene_of given self.old level) (level_of self.old level)
+            self.old.config.system (circuit - 1) (range_of range) (entries_of entries.now))) }
+        ensures err { OnErr result (self.new ≡ self.old) }
+    {
+        let drafts = self.answers(level, entries)?;
+        self.hear_snp(circuit, level, range, entries, drafts)
+    }
+}
