@@ -51,3 +51,6 @@ pub use datagrams::Datagrams;
 pub use event::NodeEvent;
 pub use reply::Reply;
 pub use router::Router;
+
+#[cfg(test)]
+mod tests;
