@@ -9,9 +9,10 @@ ghost use Rattle.isis_model.specs.Places.{nth};
 ghost use Rattle.router_desk.specs.Configs.{prefix_number};
 ghost use Rattle.router_core.specs.Events.{IsThere};
 
-use crate::machine::{Machine, place_of};
+use crate::machine::Machine;
 use isis_base::{Level, LevelSet, Prefix};
 use isis_model::DropName;
+use isis_model::laws::states::count_laws;
 use router_desk::Desk;
 
 impl Machine {
@@ -19,8 +20,8 @@ impl Machine {
     pub(crate) fn drops(&self, cause: DropName) -> u64
         ensures { result ≡ drops_of self.now.drops cause }
     {
-        let place = place_of(cause);
-        self.drops[place]
+        count_laws();
+        self.drops[cause.place()]
     }
 
     /// The boot.

@@ -1,7 +1,7 @@
 //! The parts of a router, and what they have in common.
 ghost use Rattle.std.specs.Prelude.{◌≡◌, ◌-◌, ◌<◌, length, Some, None, IfSome};
 ghost use Rattle.isis_model.specs.Places.{nth, with_nth};
-ghost use Rattle.isis_model.specs.Drops.{count_drop, drop_place, drops_of};
+ghost use Rattle.isis_model.specs.Drops.{count_drop, drops_of};
 ghost use Rattle.isis_model.specs.Hellos.{follow};
 ghost use Rattle.isis_model.specs.Elections.{idle};
 ghost use Rattle.isis_model.specs.Routers.{with_circuit};
@@ -11,6 +11,7 @@ use crate::at::idle_at;
 use crate::prefixes::OwnPrefixes;
 use isis_base::{Level, OutOfMemory};
 use isis_model::DropName;
+use isis_model::laws::states::count_laws;
 use router_circuits::Circuit;
 use router_desk::{Areas, Desk};
 use router_levels::LevelParts;
@@ -49,7 +50,8 @@ impl Machine {
     pub(crate) fn count_drop(&mut self, cause: DropName)
         ensures { self.new ≡ record self.old { drops = count_drop self.old.drops cause } }
     {
-        let place = place_of(cause);
+        count_laws();
+        let place = cause.place();
         self.drops[place] = self.drops[place].saturating_add(1);
     }
 
@@ -74,33 +76,5 @@ impl Machine {
     {
         let system = self.desk.system();
         idle_at(&mut self.circuits, system, circuit);
-    }
-}
-
-/// The place of a cause's counter.
-pub(crate) fn place_of(cause: DropName) -> usize
-    ensures place { result ≡ drop_place cause }
-    ensures few { result < 19 }
-{
-    match cause {
-        DropName::Frame => 0,
-        DropName::Pdu => 1,
-        DropName::TooLong => 2,
-        DropName::WrongKind => 3,
-        DropName::WrongLevel => 4,
-        DropName::Auth => 5,
-        DropName::Value => 6,
-        DropName::ZeroNumber => 7,
-        DropName::BadChecksum => 8,
-        DropName::OwnId => 9,
-        DropName::OtherSnpa => 10,
-        DropName::NoLevel => 11,
-        DropName::NoArea => 12,
-        DropName::NoThreeWay => 13,
-        DropName::OtherNeighbour => 14,
-        DropName::TooMany => 15,
-        DropName::NoAdjacency => 16,
-        DropName::NotDesignated => 17,
-        DropName::StoreFull => 18,
     }
 }

@@ -7,5 +7,5 @@ use Rattle.router_core.proofs.machine.Machine.drops.Goals as goal
 -- src/asked.rt
 pub returns : goal.returns
 returns c =
-    ap (λ (i : ℕ). get_or c.self.inside.drops i 0) c.place_of-place.ensures.place
+    ap (λ (i : ℕ). get_or c.self.inside.drops i 0) c.place.ensures
     ∙ (index-nth c.self.inside.drops (drop_place c.args.cause) ∙ ap (λ (r : Router). drops_of r.drops c.args.cause) c.self.view_is)
