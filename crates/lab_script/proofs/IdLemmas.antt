@@ -49,7 +49,7 @@ misfit-short (Octet ∷ parts) [] h e = cc
 misfit-short (Octet ∷ parts) (c ∷ []) h e = absurd (never (ltb (digit_value c) 16) e)
 misfit-short (Octet ∷ parts) (c ∷ l ∷ text) h e = pair-short (misfit_of parts text) c l _ text (misfit-short parts text h) (ltb (digit_value c) 16) (ltb (digit_value l) 16) refl refl e
 
-octets-none : (parts : List Part) (text : List ℕ) → HasPlainMarks parts → (IsUtf8 text → ⊥) → (o : Option ℕ) → misfit_of parts text ≡ o → unless_misfit o (octets_of parts text) ≡ None
+pub octets-none : (parts : List Part) (text : List ℕ) → HasPlainMarks parts → (IsUtf8 text → ⊥) → (o : Option ℕ) → misfit_of parts text ≡ o → unless_misfit o (octets_of parts text) ≡ None
 octets-none parts text h bad None e = absurd (bad (IsUtf8-from_ascii text (misfit-short parts text h e)))
 octets-none parts text h bad (Some place) e = refl
 

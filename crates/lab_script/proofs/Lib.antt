@@ -1,11 +1,15 @@
 pub mod CutLemmas
 pub mod FieldLemmas
+pub mod HexLemmas
 pub mod IdLemmas
 pub mod KeyLemmas
+pub mod LabIndexLemmas
+pub mod LabLemmas
 pub mod LinkLemmas
 pub mod NameLemmas
 pub mod ReadLemmas
 pub mod SoundLemmas
+pub mod TextLemmas
 pub mod LineLemmas
 pub mod NameTexts
 pub mod PrintLemmas

@@ -1,5 +1,6 @@
 -- What forms of lines are made of. A form takes the words of a line one after another.
 use Rattle.std.specs.Prelude.{ℕ, Bool, true, false, List, [], ◌∷◌, Option, Some, None, option_and_then, if◌then◌else◌}
+use Rattle.std.specs.Option.{option_map}
 use Rattle.std.specs.Str.{bytes_eq}
 
 -- a form reads the words that are left of a line
@@ -50,3 +51,7 @@ option mark read rest words = option_at read rest (marked mark words).0 (marked 
 abbrev pub given : {X : Type 0} → X → Option X → X
 given default None = default
 given default (Some x) = x
+
+-- what the last words say, and what is made of it
+abbrev pub last : {X Y : Type 0} → Form X → (X → Y) → Form Y
+last form made words = option_map made (form words)

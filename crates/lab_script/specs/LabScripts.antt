@@ -1,6 +1,6 @@
 -- What a lab script says, with its routers, links and circuits numbered (own).
-use Rattle.std.specs.Prelude.{ℕ, ◌+◌, ◌==◌, ◌||◌, Bool, false, List, [], ◌∷◌, map, Option, Some, None, option_and_then, if◌then◌else◌}
-use Rattle.std.specs.List.{slice_get}
+use Rattle.std.specs.Prelude.{ℕ, ◌==◌, ◌||◌, Bool, List, [], map, Option, Some, None, option_and_then, if◌then◌else◌}
+use Rattle.std.specs.List.{count_by, list_any, slice_get}
 use Rattle.std.specs.Str.{bytes_eq}
 use Rattle.isis_base.specs.declared.identifiers.SystemId.{SystemId}
 use Rattle.lab_script.specs.declared.setup.LabRouter.{LabRouter}
@@ -26,8 +26,7 @@ link_names links = map (λ link. link.name) links
 
 -- some router has this system ID
 abbrev pub has_system : List LabRouter → SystemId → Bool
-has_system [] system = false
-has_system (router ∷ routers) system = bytes_eq router.system.0 system.0 || has_system routers system
+has_system routers system = list_any (λ router. bytes_eq router.system.0 system.0) routers
 
 -- whether a router is an end of a link
 abbrev pub is_end : LabLink → ℕ → Bool
@@ -35,9 +34,7 @@ is_end link router = link.first.router == router || link.second.router == router
 
 -- how many circuits a router has on these links, one on each that it is an end of
 abbrev pub circuit_count : List LabLink → ℕ → ℕ
-circuit_count [] router = 0
-circuit_count (link ∷ links) router =
-    (if is_end link router then 1 else 0) + circuit_count links router
+circuit_count links router = count_by (λ link. is_end link router) links
 
 -- the place of a router's circuit on a link; none where it isn't an end
 abbrev pub place_on : LabLink → ℕ → Option ℕ

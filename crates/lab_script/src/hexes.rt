@@ -36,6 +36,7 @@ impl<'a> Hex<'a> {
     }
 
     /// The octets, in a list of their own.
+    #[tactic(auto, unfolding(crate::specs::HexTexts::octets_in))]
     pub fn octets(&self, alloc: Global) -> Result<Octets, OutOfMemory>
         ensures { IfOk result (λ octets. octets ≡ self.now) }
     {

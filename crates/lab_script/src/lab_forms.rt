@@ -1,5 +1,5 @@
 //! The line of a lab script that some words are, a reader for each form.
-ghost use Rattle.std.specs.Prelude.{◌≡◌, IfSome};
+ghost use Rattle.std.specs.Prelude.{◌≡◌, ◌≤◌, IfSome};
 ghost use Rattle.lab_script.specs.LabLines as form;
 ghost use Rattle.lab_script.specs.LabLines.{IsInRange, has_word};
 ghost use Rattle.lab_script.specs.Words.{words_of};
@@ -98,11 +98,7 @@ fn router<'a>(mut words: Words<'a>) -> Option<NamedLine<'a>>
     let system = read_system_id(words.next()?)?;
     let area = read_area_address(words.next()?)?;
     let levels = read_level_set(words.next()?)?;
-    let mut priority = 64;
-    if words.mark(b"priority") {
-        priority = read_priority(words.next()?)?;
-    }
-    words.end()?;
+    let priority = priority(words)?;
     let router = LabRouter {
         name,
         system,
@@ -111,6 +107,19 @@ fn router<'a>(mut words: Words<'a>) -> Option<NamedLine<'a>>
         priority,
     };
     Some(NamedLine::Router { router })
+}
+
+/// The priority of a router, which may be given at the end of its line.
+fn priority(mut words: Words<'_>) -> Option<u8>
+    ensures value { result ≡ form.priority_form words.entry }
+    ensures within { IfSome result (λ priority. priority ≤ 127) }
+{
+    let mut priority = 64;
+    if words.mark(b"priority") {
+        priority = read_priority(words.next()?)?;
+    }
+    words.end()?;
+    Some(priority)
 }
 
 fn link<'a>(mut words: Words<'a>) -> Option<NamedLine<'a>>

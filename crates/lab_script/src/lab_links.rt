@@ -1,5 +1,5 @@
 //! The links of a lab script so far, and their look-ups.
-ghost use Rattle.std.specs.Prelude.{◌≡◌, ◌≢◌, ◌<◌, ℕ, None, ◌+◌, [], ◌∷◌, ◌++◌, length, slice_index_or, slice_set, IfSome, OnOk, OnErr};
+ghost use Rattle.std.specs.Prelude.{◌≡◌, ◌≢◌, ◌<◌, ◌≤◌, ℕ, None, ◌+◌, [], ◌∷◌, ◌++◌, length, slice_index_or, slice_set, IfSome, OnOk, OnErr};
 ghost use Rattle.lab_script.specs.Counts.{CountsSame};
 ghost use Rattle.lab_script.specs.LabScripts as script;
 ghost use Rattle.lab_script.specs.LabScripts.{link_names, circuit_count, place_at, link_between};
@@ -141,6 +141,7 @@ fn place_on(link: &LabLink<'_>, router: usize) -> Option<usize>
 /// Makes the counts reach to a router; a count more is 0.
 fn make_room(counts: &mut Vec<usize>, router: usize) -> Result<(), AllocError>
     ensures same { CountsSame counts.old.items counts.new.items }
+    ensures longer { length counts.old.items ≤ length counts.new.items }
     ensures ok { OnOk result (router < length counts.new.items) }
 {
     while counts.len() <= router {

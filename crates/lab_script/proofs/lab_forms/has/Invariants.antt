@@ -4,7 +4,7 @@ use Rattle.lab_script.proofs.lab_forms.has.Given as goal
 
 abbrev pub invariant-loop-word : goal.invariant-loop-word
 invariant-loop-word l = record {
-  among : has_word l.mark l.left ≡ has_word l.mark l.words;
+  among : has_word l.mark l.left ≡ has_word l.mark l.fn.words;
 }
 
 abbrev pub decreases-loop-word : goal.decreases-loop-word
