@@ -12,4 +12,6 @@ pub mod SoundLemmas
 pub mod TextLemmas
 pub mod LineLemmas
 pub mod NameTexts
+pub mod NumberTexts
 pub mod PrintLemmas
+pub mod LabPrintLemmas

@@ -14,6 +14,7 @@ pub mod LabFields
 pub mod LabJudged
 pub mod LabLines
 pub mod LabLinkIndex
+pub mod LabPrinted
 pub mod LabScripts
 pub mod LabSound
 pub mod Links
