@@ -122,7 +122,7 @@ IsSoundLab-router s router h few priority new early =
       laid = λ i d lt. laid-more (length s.routers) (length (s.routers ++ router ∷ [])) (take i s.links) (get_or s.links i d) le (h.laid i d lt);
       circuits = h.circuits;
       keys = all-map (λ key. IsLabKey (length s.routers) s.links key) (λ key. IsLabKey (length (s.routers ++ router ∷ [])) s.links key) s.keys
-      (λ key k. key-more (length s.routers) (length (s.routers ++ router ∷ [])) s.links s.links key le (λ r. omega arith) k) h.keys;
+          (λ key k. key-more (length s.routers) (length (s.routers ++ router ∷ [])) s.links s.links key le (λ r. omega arith) k) h.keys;
       lines = subst (λ (lines : List _). AllByRecursion (λ line. IsDeed (length (s.routers ++ router ∷ [])) s.links line.deed) lines) (sym early) tt;
     }
 
@@ -146,7 +146,7 @@ IsSoundLab-link s link h few new first second early = record {
       ];
   circuits = λ router. few-push s.links link router (h.circuits router) first second;
   keys = all-map (λ key. IsLabKey (length s.routers) s.links key) (λ key. IsLabKey (length s.routers) (s.links ++ link ∷ []) key) s.keys
-  (λ key k. key-more (length s.routers) (length s.routers) s.links (s.links ++ link ∷ []) key (omega arith) (λ r. count-more s.links link r) k) h.keys;
+      (λ key k. key-more (length s.routers) (length s.routers) s.links (s.links ++ link ∷ []) key (omega arith) (λ r. count-more s.links link r) k) h.keys;
   lines = subst (λ (lines : List _). AllByRecursion (λ line. IsDeed (length s.routers) (s.links ++ link ∷ []) line.deed) lines) (sym early) tt;
 }
 

@@ -8,13 +8,23 @@ use network_model::PduWord;
 #[derive(Drop)]
 pub enum LabDeed<'a> {
     /// A second passes at a router.
-    Tick { router: usize },
+    Tick {
+        router: usize,
+    },
     /// A router is asked what it sends on a link.
-    Pull { router: usize, link: usize },
+    Pull {
+        router: usize,
+        link: usize,
+    },
     /// A router takes a datagram that was sent.
-    Deliver { datagram: usize, router: usize },
+    Deliver {
+        datagram: usize,
+        router: usize,
+    },
     /// A router starts anew, with its next boot number.
-    Restart { router: usize },
+    Restart {
+        router: usize,
+    },
     /// A router's own prefix has this metric, or is gone.
     Prefix {
         router: usize,
@@ -28,7 +38,10 @@ pub enum LabDeed<'a> {
         metric: u32,
     },
     /// A router is overloaded, or isn't any more.
-    Overload { router: usize, on: bool },
+    Overload {
+        router: usize,
+        on: bool,
+    },
     /// A router takes octets that nobody sent, on its circuit of a link.
     Inject {
         router: usize,
@@ -36,7 +49,9 @@ pub enum LabDeed<'a> {
         octets: Hex<'a>,
     },
     /// A datagram is told in the report.
-    Dump { datagram: usize },
+    Dump {
+        datagram: usize,
+    },
     /// So many seconds pass in which all that is sent is delivered at once, but for this kind of PDUs, and to all but this
     /// router.
     Run {

@@ -6,9 +6,9 @@ ghost use Rattle.lab_script.specs.LabScripts.{link_names, circuit_count, place_a
 ghost use Rattle.lab_script.specs.Names.{number_of_name};
 ghost use Rattle.lab_script.specs.Words.{texts};
 
+use crate::name::Name;
 use crate::names::Names;
 use crate::setup::{End, LabLink};
-use crate::name::Name;
 use std::alloc::{AllocError, Global};
 use std::marker::Model;
 

@@ -38,12 +38,20 @@ impl<'a> Model for LabScript<'a> {
     ghost Value = { Said };
 
     ghost view = { λ a. record {
-      routers = a.routers; links = a.links; keys = a.keys.items; lines = a.lines.items } };
+      routers = a.routers;
+      links = a.links;
+      keys = a.keys.items;
+      lines = a.lines.items;
+    } };
 
     ghost use Rattle.lab_script.specs.LabSound.{IsSoundLab};
 
     ghost invariant = { λ a. IsSoundLab (record {
-      routers = a.routers; links = a.links; keys = a.keys.items; lines = a.lines.items }) };
+      routers = a.routers;
+      links = a.links;
+      keys = a.keys.items;
+      lines = a.lines.items;
+    }) };
 }
 
 impl<'a> LabScript<'a> {

@@ -40,6 +40,8 @@ mod reason;
 mod routers;
 mod script;
 mod setup;
+#[cfg(test)]
+mod tests;
 mod words;
 
 pub use cuts::cut;

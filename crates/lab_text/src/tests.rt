@@ -38,42 +38,8 @@ fn scripts_are_reported_as_worked(rt: HostRuntime) -> Result<(), Fail> {
     Ok(())
 }
 
-/// The lines before those of the table.
-const START: &str = "isis-keys 1\nrouter A\nrouter B\nrouter C\nlink A B\n";
-
-/// Line 6, and why it is refused when it is read.
-const REFUSED: [(&str, Reason); 14] = [
-    ("routers", Reason::Form),
-    ("router D ", Reason::Form),
-    ("router abcdefghijklmnopq", Reason::Form),
-    ("router 1a", Reason::Form),
-    ("link A Z/", Reason::Form),
-    ("issue A 0000.0000.0001.00-00 0 live", Reason::Form),
-    ("issue A 0000.0000.0001.00-00 4294967296 live", Reason::Form),
-    ("pass 01 A B", Reason::Form),
-    ("link A Z", Reason::Name),
-    ("issue Z 0000.0000.0001.00-00 1 live", Reason::Name),
-    ("router C", Reason::Again),
-    ("link Z Z", Reason::Name),
-    ("link A A", Reason::Again),
-    ("pass 1 A C", Reason::NotOn),
-];
-
 #[test]
-fn lines_are_refused_as_worked(rt: HostRuntime) -> Result<(), Fail> {
-    for (line, reason) in REFUSED {
-        let mut text = String::from_str(rt.alloc(), START)?;
-        text.push_str(line)?;
-        match read_script(rt.alloc(), text.as_bytes()) {
-            Ok(_) => return Err("a refused line")?,
-            Err(fault) => assert_eq!(rt; fault, ScriptFault::Refused { line: 6, reason }, "{line}"),
-        }
-    }
-    Ok(())
-}
-
-#[test]
-fn routers_are_found_by_name(rt: HostRuntime) -> Result<(), Fail> {
+fn refused_runs_are_told(rt: HostRuntime) -> Result<(), Fail> {
     let text =
         "isis-keys 1\nrouter A\nrouter B\nlink A B\nissue A 0000.0000.0001.00-00 1 live\npass 1 B A\n";
     let Ok(script) = read_script(rt.alloc(), text.as_bytes()) else {
@@ -89,6 +55,14 @@ fn routers_are_found_by_name(rt: HostRuntime) -> Result<(), Fail> {
     };
     assert_eq!(rt; run_script(rt.alloc(), &script, &mut sink), Err(refused));
     assert!(rt; sink.octets().is_empty());
+    let Ok(lab) = read_script(rt.alloc(), b"isis-lab 1\n") else {
+        return Err("a lab script")?;
+    };
+    let unbuilt = RunFault::Refused {
+        line: 1,
+        reason: Reason::NotBuilt,
+    };
+    assert_eq!(rt; run_script(rt.alloc(), &lab, &mut sink), Err(unbuilt));
     let mut word = String::new(rt.alloc());
     for reason in [Reason::Head, Reason::NotBuilt, Reason::Late, Reason::Stale] {
         write!(word, " {reason}")?;
