@@ -1,8 +1,8 @@
 -- The words of a lab script's line are read as that line.
-use Rattle.std.proofs.Common.{◌≡◌, ◌∙◌, ℕ, ◌+◌, ◌*◌, ◌/◌, ◌%◌, ◌<◌, ◌≤◌, ◌^◌, Bool, true, false, cond, List, [], ◌∷◌, ◌++◌, length, Option, Some, None, refl, ap, subst, arith, rules, inl, inr}
+use Rattle.std.proofs.Common.{◌≡◌, ◌∙◌, ℕ, ◌+◌, ◌*◌, ◌/◌, ◌%◌, ◌<◌, ◌≤◌, ◌^◌, Bool, true, false, cond, List, [], ◌∷◌, length, Option, Some, None, refl, ap, subst, arith, rules, inl, inr}
 use Rattle.std.specs.Prelude.{decimal, codes, option_and_then, ◌==◌, ◌&&◌, nat_lt, nat_le, IfSome}
 use Rattle.std.specs.Char.{digit_char, digit_value, is_ascii_digit, is_ascii_hexdigit}
-use Rattle.std.specs.List.{list_all, AllByRecursion}
+use Rattle.std.specs.List.{list_all}
 use Rattle.std.specs.Option.{option_map}
 use Rattle.std.specs.Str.{bytes_eq}
 use Rattle.std.proofs.lemmas.Bool.{cases_Bool, le-leb, false≢true}
@@ -12,7 +12,6 @@ use Rattle.std.proofs.lemmas.Bool.Decides.{nat_tests}
 use Rattle.isis_base.specs.AreaTexts.{area_of, area_text}
 use Rattle.isis_base.specs.Identifiers.{system_from}
 use Rattle.isis_base.specs.Levels.{levels_of, levels_text}
-use Rattle.isis_base.specs.PrefixFronts.{prefix_parts}
 use Rattle.isis_base.specs.PrefixTexts.{prefix_text}
 use Rattle.isis_base.specs.Prefixes.{prefix_from}
 use Rattle.isis_base.specs.Texts.{system_text}
@@ -33,9 +32,8 @@ use Rattle.lab_script.specs.declared.named.NamedLine.{NamedLine}
 use Rattle.lab_script.specs.declared.named.NamedLine.TheVariants.{Router, Link, Key, Event}
 use Rattle.lab_script.specs.declared.named.NamedScope.{NamedScope}
 use Rattle.lab_script.specs.declared.named.NamedScope.TheVariants as scope
-use Rattle.lab_script.specs.declared.setup.LabRouter.{LabRouter}
-use Rattle.lab_script.specs.Fields.{name_of, numeral_of, copy_of}
-use Rattle.lab_script.specs.Forms.{Form, field, last, option, done}
+use Rattle.lab_script.specs.Fields.{name_of}
+use Rattle.lab_script.specs.Forms.{field, last, done}
 use Rattle.lab_script.specs.HexTexts.{is_hex, hex_of, key_octets_of, octets_in}
 use Rattle.lab_script.specs.LabFields.{number_to, metric_of, prefix_metric_of, seconds_of, system_of, prefix_of, pdus_of, scope_of}
 use Rattle.lab_script.specs.LabLines.{lab_line_of, priority_form}

@@ -1,11 +1,8 @@
 -- The words of a line are read as that line.
-use Rattle.std.proofs.Common.{◌≡◌, ◌∙◌, ℕ, zero, suc, ◌+◌, ◌/◌, ◌%◌, ◌<◌, ◌^◌, Bool, true, false, cond, ltb, List, [], ◌∷◌, ◌++◌, length, get_or, Option, Some, None, refl, sym, ap, arith, rules}
-use Rattle.std.specs.Prelude.{decimal, codes, option_and_then}
+use Rattle.std.proofs.Common.{◌≡◌, ◌∙◌, ℕ, ◌<◌, ◌^◌, Bool, true, false, List, [], ◌∷◌, ◌++◌, Option, Some, refl, ap, arith, rules}
+use Rattle.std.specs.Prelude.{decimal, option_and_then}
 use Rattle.std.specs.Option.{option_map}
-use Rattle.std.proofs.lemmas.Fmt.{decimal_is_IsNumeral_wide, decimal_by_steps_wide}
 use Rattle.std.proofs.lemmas.List.{length-append}
-use Rattle.std.proofs.lemmas.Bool.{lt-ltb}
-use Rattle.std.proofs.lemmas.Bool.Decides.{nat_tests}
 use Rattle.isis_base.specs.declared.identifiers.LspId.{LspId}
 use Rattle.isis_base.specs.declared.key.Key.{Key}
 use Rattle.isis_base.specs.declared.texts.TheConstants.{LSP_TEXT}
@@ -15,7 +12,7 @@ use Rattle.isis_base.proofs.ArrayLemmas.{lsp_from-octets}
 use Rattle.isis_base.proofs.SpellingLemmas.{Spells-spelled, text_octets-spelled}
 use Rattle.lab_script.specs.declared.line.KeysLine.{KeysLine}
 use Rattle.lab_script.specs.declared.line.KeysLine.TheVariants.{Router, Link, Issue, Pass}
-use Rattle.lab_script.specs.Fields.{has_plain_lead, name_of, numeral_of, copy_of, id_of, mark_of, key_from, key_of}
+use Rattle.lab_script.specs.Fields.{name_of, id_of, mark_of, key_from, key_of}
 use Rattle.lab_script.specs.Forms.{field, field_of_two, done}
 use Rattle.lab_script.specs.KeysLines.{line_of}
 use Rattle.lab_script.specs.Printed.{IsLine, mark_text, words_in}

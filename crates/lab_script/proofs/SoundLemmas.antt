@@ -4,11 +4,10 @@ use Rattle.network_lab.specs.KeysNet.{ordered}
 use Rattle.lab_script.specs.declared.events.KeyEvent.{KeyEvent}
 use Rattle.lab_script.specs.declared.events.KeyEvent.TheVariants.{Issue, Pass}
 use Rattle.lab_script.specs.declared.events.EventLine.{EventLine}
-use Rattle.std.specs.Prelude.{◌≤◌, ◌+◌, ◌==◌, ◌&&◌, nat_lt, Bool, cond}
+use Rattle.std.specs.Prelude.{◌+◌, ◌==◌, ◌&&◌, nat_lt, Bool, cond}
 use Rattle.std.specs.List.{AllByRecursion}
 use Rattle.std.proofs.lemmas.Bool.Decides.{nat_tests}
 use Rattle.lab_script.specs.Links.{has_link}
-use Rattle.lab_script.specs.KeysJudged.{KeysScript}
 use Rattle.lab_script.specs.KeysSound.{IsInScript, IsSound}
 use Rattle.lab_script.proofs.LinkLemmas.{has_link-push}
 

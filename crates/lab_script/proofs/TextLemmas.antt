@@ -1,5 +1,5 @@
 -- Words that may be no text: none of them is an identifier, an area address or a prefix.
-use Rattle.std.proofs.Common.{◌≡◌, ◌∙◌, ℕ, zero, suc, ◌+◌, ◌<◌, ◌≤◌, ◌-◌, ◌/◌, Bool, true, false, cond, eqb, List, [], ◌∷◌, length, take, get_or, Option, Some, None, refl, sym, ap, arith, rules, inl, inr}
+use Rattle.std.proofs.Common.{◌≡◌, ℕ, zero, suc, ◌+◌, ◌<◌, ◌-◌, ◌/◌, Bool, true, false, cond, List, [], ◌∷◌, length, take, Option, Some, None, refl, ap, arith, rules, inl, inr}
 use Rattle.std.specs.Prelude.{option_and_then, ◌==◌, ◌&&◌, nat_lt}
 use Rattle.std.specs.Char.{is_ascii_digit}
 use Rattle.std.specs.Option.{option_map}
@@ -15,7 +15,7 @@ use Rattle.isis_base.specs.declared.prefix.Prefix.{Prefix}
 use Rattle.isis_base.specs.declared.parts.Part.TheVariants.{Octet, Mark}
 use Rattle.isis_base.specs.declared.texts.TheConstants.{SYSTEM_TEXT}
 use Rattle.isis_base.specs.Misfit.{misfit_of, text_octets}
-use Rattle.isis_base.specs.PrefixFronts.{after_byte, after_digit, after_mark, after_text, with_octet, mark_behind, parts_of_front, no_front, prefix_parts}
+use Rattle.isis_base.specs.PrefixFronts.{after_byte, after_digit, after_mark, after_text, with_octet, mark_behind, parts_of_front, no_front}
 use Rattle.isis_base.specs.Prefixes.{prefix_from}
 use Rattle.isis_base.proofs.PrefixValues.{prefix_from-prefix}
 use Rattle.isis_base.proofs.SpellingLemmas.{HasPlainMarks}

@@ -1,7 +1,5 @@
 -- The reasons for which a line of a lab script is refused where it stands, its limits, and what it says else (own).
-use Rattle.std.specs.Prelude.{ℕ, ◌==◌, ◌&&◌, ◌||◌, nat_le, Bool, true, false, List, [], ◌∷◌, ◌++◌, length, Option, Some, None, is_some, Result, Ok, Err, if◌then◌else◌}
-use Rattle.std.specs.Str.{bytes_eq}
-use Rattle.network_lab.specs.declared.faults.LimitName.{LimitName}
+use Rattle.std.specs.Prelude.{ℕ, ◌==◌, ◌||◌, nat_le, Bool, List, [], ◌∷◌, ◌++◌, length, Option, Some, None, is_some, Result, Ok, Err, if◌then◌else◌}
 use Rattle.network_lab.specs.declared.faults.LimitName.TheVariants.{Routers, Links, Circuits}
 use Rattle.network_lab.specs.declared.key_net.TheConstants.{ROUTER_LIMIT, LINK_LIMIT}
 use Rattle.lab_script.specs.declared.setup.TheConstants.{CIRCUIT_LIMIT}

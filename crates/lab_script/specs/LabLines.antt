@@ -1,5 +1,5 @@
 -- The lines of a lab script, a table of forms (own).
-use Rattle.std.specs.Prelude.{ℕ, ◌≤◌, ◌&&◌, ◌||◌, Bool, true, false, List, [], ◌∷◌, length, codes, IfSome}
+use Rattle.std.specs.Prelude.{ℕ, ◌≤◌, ◌&&◌, ◌||◌, Bool, false, List, [], ◌∷◌, length, codes, IfSome}
 use Rattle.std.specs.List.{list_any}
 use Rattle.std.specs.Str.{bytes_eq}
 use Rattle.isis_base.specs.AreaTexts.{area_of}

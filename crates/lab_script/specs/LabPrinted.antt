@@ -6,7 +6,6 @@ use Rattle.isis_base.specs.AreaTexts.{area_text}
 use Rattle.isis_base.specs.Levels.{levels_text}
 use Rattle.isis_base.specs.PrefixTexts.{prefix_text}
 use Rattle.isis_base.specs.Texts.{hex_pair, system_text}
-use Rattle.isis_base.specs.declared.prefix.Prefix.{Prefix}
 use Rattle.network_model.specs.declared.word.PduWord.{PduWord}
 use Rattle.network_model.specs.declared.word.PduWord.TheVariants.{Hello, Lsp, Csnp, Psnp}
 use Rattle.lab_script.specs.declared.named.NamedDeed.{NamedDeed}

@@ -1,5 +1,5 @@
 -- What holds of every lab script that was read.
-use Rattle.std.specs.Prelude.{◌≡◌, ◌≢◌, ℕ, ◌<◌, ◌≤◌, List, map, length, take, slice_index_or, Option, IfSome, IsSome}
+use Rattle.std.specs.Prelude.{◌≡◌, ◌≢◌, ℕ, ◌<◌, ◌≤◌, List, map, length, take, slice_index_or, IfSome, IsSome}
 use Rattle.std.specs.List.{AllByRecursion}
 use Rattle.lab_script.specs.declared.setup.KeyScope.{KeyScope}
 use Rattle.lab_script.specs.declared.setup.KeyScope.TheVariants as scope

@@ -1,6 +1,5 @@
 -- Lines of keys scripts as words, of fields in their ranges.
 use Rattle.std.specs.Prelude.{◌≡◌, ℕ, ◌<◌, ◌^◌, Bool, true, false, List, [], ◌∷◌, codes, decimal}
-use Rattle.isis_base.specs.declared.key.Key.{Key}
 use Rattle.isis_base.specs.Identifiers.{IsId}
 use Rattle.isis_base.specs.Texts.{lsp_text}
 use Rattle.lab_script.specs.declared.line.KeysLine.{KeysLine}

@@ -1,4 +1,4 @@
-use Rattle.std.proofs.Common.{◌≡◌, ◌∙◌, ℕ, List, sym, ap}
+use Rattle.std.proofs.Common.{◌∙◌, ℕ, List, sym, ap}
 use Rattle.std.specs.Prelude.{Option, option_and_then}
 use Rattle.std.specs.Result.{result_ok}
 use Rattle.isis_base.specs.PrefixFronts.{prefix_parts}

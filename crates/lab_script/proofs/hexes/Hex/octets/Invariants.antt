@@ -1,4 +1,4 @@
-use Rattle.std.proofs.Common.{◌≡◌, ◌++◌, true, length}
+use Rattle.std.proofs.Common.{◌≡◌, ◌++◌, length}
 use Rattle.lab_script.specs.HexTexts.{AreDigits, octets_in}
 use Rattle.lab_script.proofs.hexes.Hex.octets.Given as goal
 

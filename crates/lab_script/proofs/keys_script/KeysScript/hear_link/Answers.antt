@@ -1,4 +1,4 @@
-use Rattle.std.proofs.Common.{◌<◌, ◌++◌, ◌∷◌, [], List, ℕ, length, sym, subst, ap, arith}
+use Rattle.std.proofs.Common.{◌<◌, List, ℕ, length, sym, subst, ap, arith}
 use Rattle.network_lab.specs.KeysNet.{ordered}
 use Rattle.lab_script.specs.KeysJudged.{KeysScript}
 use Rattle.lab_script.specs.KeysSound.{IsSound}

@@ -1,5 +1,5 @@
-use Rattle.std.proofs.Common.{◌≡◌, ◌∙◌, ◌<◌, ◌+◌, ℕ, List, [], ◌∷◌, ◌++◌, length, get_or, set, sym, ap, subst, arith}
-use Rattle.std.proofs.lemmas.List.{map-append, length-set}
+use Rattle.std.proofs.Common.{◌≡◌, ◌∙◌, ◌<◌, ◌+◌, ℕ, List, [], ◌∷◌, ◌++◌, length, get_or, set, sym, ap, arith}
+use Rattle.std.proofs.lemmas.List.{map-append}
 use Rattle.lab_script.specs.declared.setup.LabLink.{LabLink}
 use Rattle.lab_script.specs.LabScripts.{circuit_count, link_names}
 use Rattle.lab_script.proofs.LabIndexLemmas.{counted-push}

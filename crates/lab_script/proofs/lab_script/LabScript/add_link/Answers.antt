@@ -1,7 +1,7 @@
-use Rattle.std.proofs.Common.{◌≡◌, ◌∙◌, ◌<◌, ◌∷◌, ◌++◌, [], ℕ, Bool, false, List, length, refl, sym, subst, ap, arith}
+use Rattle.std.proofs.Common.{◌≡◌, ◌∙◌, ℕ, false, List, length, refl, sym, subst, ap, arith}
 use Rattle.lab_script.specs.declared.setup.LabLink.{LabLink}
 use Rattle.lab_script.specs.LabJudged.{is_full}
-use Rattle.lab_script.specs.LabScripts.{LabScript, link_between, circuit_count}
+use Rattle.lab_script.specs.LabScripts.{LabScript, link_between}
 use Rattle.lab_script.specs.LabSound.{IsSoundLab}
 use Rattle.lab_script.proofs.LabLemmas.{IsSoundLab-link, early, room-left}
 use Rattle.lab_script.proofs.lab_script.LabScript.add_link.Goals as goal

@@ -1,4 +1,4 @@
-use Rattle.std.proofs.Common.{◌∙◌, ◌≡◌, ◌<◌, ℕ, Some, length, refl, sym, ap, subst, arith}
+use Rattle.std.proofs.Common.{◌∙◌, ◌≡◌, ℕ, Some, refl, sym, ap, subst, arith}
 use Rattle.std.specs.Prelude.{Option, IsSome}
 use Rattle.lab_script.specs.LabScripts.{LabScript, place_at, circuit_count}
 use Rattle.lab_script.proofs.LabLemmas.{place_at-counted}
