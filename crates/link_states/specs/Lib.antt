@@ -1,0 +1,3 @@
+pub mod Joined
+pub mod Parents
+pub mod Tags
