@@ -1,0 +1,4 @@
+pub mod ParentLemmas
+pub mod LabelLemmas
+pub mod TagLemmas
+pub mod GroupLemmas

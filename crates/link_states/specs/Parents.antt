@@ -38,3 +38,9 @@ pub record AreLabels (runs : List Bool) (pairs : List (ℕ × ℕ)) (labels : Li
   pub below : (r : ℕ) → r < length runs → slice_index labels r ≤ r
   pub leads : (r : ℕ) → r < length runs → Leads runs pairs r (slice_index labels r)
   pub same : (a b : ℕ) → AreJoined runs pairs a b → slice_index labels a ≡ slice_index labels b
+
+-- the roots of a forest are labels
+pub record AreRooted (runs : List Bool) (pairs : List (ℕ × ℕ)) (parents : List ℕ) : Type 0 where
+  pub roots : List ℕ
+  pub have : HaveRoots parents roots (length runs)
+  pub labels : AreLabels runs pairs roots

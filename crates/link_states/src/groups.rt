@@ -1,6 +1,7 @@
 //! Lists of groups of routers.
-ghost use Rattle.std.specs.Prelude.{◌≡◌, ◌==◌, [], ◌∷◌, ◌++◌, ◌<◌, length, slice_get, slice_index_or, set, OnOk, OnErr, IfOk};
+ghost use Rattle.std.specs.Prelude.{◌≡◌, ◌==◌, [], ◌∷◌, ◌++◌, ◌<◌, length, slice_get, OnOk, OnErr, IfOk};
 ghost use Rattle.std.specs.Option.{option_map};
+ghost use Rattle.link_states.specs.Tags.{with_router};
 
 use isis_base::OutOfMemory;
 use std::alloc::Global;
@@ -18,6 +19,24 @@ impl Model for Group {
     ghost Value = { List ℕ };
 
     ghost view = { λ g. g.routers.items };
+}
+
+impl Group {
+    /// Adds a router at the end.
+    fn push(&mut self, router: usize) -> Result<(), OutOfMemory>
+        ensures { OnOk result (self.new ≡ self.old ++ router ∷ []) }
+    {
+        self.routers.push(router)?;
+        Ok(())
+    }
+
+    /// An equal group.
+    fn copy(&self) -> Result<Group, OutOfMemory>
+        ensures { IfOk result (λ copy. copy ≡ self.now) }
+    {
+        let routers = self.routers.clone()?;
+        Ok(Group { routers })
+    }
 }
 
 /// Groups of routers, in order. Contracts see them as lists of routers.
@@ -73,17 +92,24 @@ impl Groups {
         ensures ok { OnOk result (self.new ≡ self.old ++ item.items ∷ []) }
         ensures err { OnErr result (self.new ≡ self.old) }
     {
-        self.items.push(Group { routers: item })?;
+        self.push_group(Group { routers: item })
+    }
+
+    /// Adds a group at the end.
+    fn push_group(&mut self, group: Group) -> Result<(), OutOfMemory>
+        ensures ok { OnOk result (self.new ≡ self.old ++ group ∷ []) }
+        ensures err { OnErr result (self.new ≡ self.old) }
+    {
+        self.items.push(group)?;
         Ok(())
     }
 
     /// Adds a router at the end of the group at a place.
     pub(crate) fn add(&mut self, place: usize, router: usize) -> Result<(), OutOfMemory>
         requires { place < length self.old }
-        ensures { OnOk result (self.new
-            ≡ set self.old place (slice_index_or self.old place [] ++ router ∷ [])) }
+        ensures { OnOk result (self.new ≡ with_router self.old place router) }
     {
-        add_router(&mut self.items[place], router)
+        self.items[place].push(router)
     }
 
     /// Equal groups.
@@ -93,11 +119,11 @@ impl Groups {
         let alloc = *self.items.allocator();
         let mut copies = Groups::new(alloc);
         for place in 0..self.items.len() {
-            let routers = match self.items[place].routers.clone() {
-                Ok(routers) => routers,
-                Err(_) => return Err(OutOfMemory),
+            let group = match self.items[place].copy() {
+                Ok(group) => group,
+                Err(error) => return Err(error),
             };
-            match copies.push(routers) {
+            match copies.push_group(group) {
                 Ok(()) => {}
                 Err(error) => return Err(error),
             }
@@ -106,10 +132,3 @@ impl Groups {
     }
 }
 
-/// Adds a router to a group.
-fn add_router(group: &mut Group, router: usize) -> Result<(), OutOfMemory>
-    ensures { OnOk result (group.new ≡ group.old ++ router ∷ []) }
-{
-    group.routers.push(router)?;
-    Ok(())
-}

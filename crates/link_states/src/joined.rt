@@ -1,7 +1,7 @@
 //! The groups of routers that joined pairs connect.
-ghost use Rattle.std.specs.Prelude.{◌≡◌, length, slice_get, IfOk};
+ghost use Rattle.std.specs.Prelude.{◌≡◌, ◌<◌, ◌+◌, length, slice_get, IfOk, OnOk};
 ghost use Rattle.link_states.specs.Joined.{AreGroups};
-ghost use Rattle.link_states.specs.Tags.{AreTags, is_on, labelled_groups};
+ghost use Rattle.link_states.specs.Tags.{AreGrouped, AreTags, is_on, labelled_groups};
 
 use crate::groups::Groups;
 use crate::parents::labels_of;
@@ -30,18 +30,41 @@ fn grouped(alloc: Global, runs: &[bool], labels: &[usize]) -> Result<Groups, Out
     let mut groups = Groups::new(alloc);
     let mut places = vec![in alloc; 0; runs.len()]?;
     for router in 0..runs.len() {
-        if !takes_part(runs, router) {
-            continue;
-        }
-        let label = labels[router];
-        if label == router {
-            places[router] = groups.len();
-            groups.push(vec![in alloc; router]?)?;
-        } else {
-            groups.add(places[label], router)?;
+        match add_router(alloc, &mut groups, &mut places, runs, labels, router) {
+            Ok(()) => {}
+            Err(fault) => return Err(fault),
         }
     }
     Ok(groups)
+}
+
+/// Adds the next router, where it takes part: to the group of its label, or as a new group, whose
+/// place is kept.
+fn add_router(
+    alloc: Global,
+    groups: &mut Groups,
+    places: &mut [usize],
+    runs: &[bool],
+    labels: &[usize],
+    router: usize,
+) -> Result<(), OutOfMemory>
+    requires tags { AreTags runs.now labels.now }
+    requires here { router < length runs.now }
+    requires groups { AreGrouped runs.now labels.now router groups.old places.old }
+    ensures size { length places.new ≡ length places.old }
+    ensures groups { OnOk result
+        (AreGrouped runs.now labels.now (router + 1) groups.new places.new) }
+{
+    if !takes_part(runs, router) {
+        return Ok(());
+    }
+    let label = labels[router];
+    if label == router {
+        places[router] = groups.len();
+        let group = vec![in alloc; router]?;
+        return groups.push(group);
+    }
+    groups.add(places[label], router)
 }
 
 /// Whether a router takes part.

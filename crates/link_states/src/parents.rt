@@ -1,6 +1,6 @@
 //! Classes of routers that are merged, as a forest: each router has a parent.
-ghost use Rattle.std.specs.Prelude.{◌≡◌, ◌<◌, ℕ, List, length, slice_index, IfOk};
-ghost use Rattle.link_states.specs.Parents.{AreOwn, AreParents, HaveRoots, AreLabels, merged};
+ghost use Rattle.std.specs.Prelude.{◌≡◌, ◌<◌, ◌++◌, ◌∷◌, [], ℕ, List, length, slice_index, IfOk};
+ghost use Rattle.link_states.specs.Parents.{AreOwn, AreParents, HaveRoots, AreLabels, AreRooted, merged};
 
 use crate::joined::takes_part;
 use isis_base::OutOfMemory;
@@ -15,14 +15,37 @@ pub(crate) fn labels_of(
     ensures { IfOk result (λ labels. AreLabels runs.now pairs.now labels.items) }
 {
     let mut parents = each_its_own(alloc, runs.len())?;
+    merge_pairs(&mut parents, runs, pairs);
+    Ok(parents)
+}
+
+/// Merges the classes of the routers of each pair, and makes each router's root its parent.
+fn merge_pairs(parents: &mut [usize], runs: &[bool], pairs: &[(usize, usize)])
+    requires { AreOwn parents.old (length runs.now) }
+    ensures size { length parents.new ≡ length parents.old }
+    ensures labels { AreLabels runs.now pairs.now parents.new }
+{
     for place in 0..pairs.len() {
         let (near, far) = pairs[place];
-        if takes_part(runs, near) && takes_part(runs, far) {
-            merge(&mut parents, near, far);
-        }
+        merge_pair(parents, runs, near, far);
     }
-    flatten(&mut parents);
-    Ok(parents)
+    flatten(parents);
+}
+
+/// Merges the classes of two routers, where both take part.
+fn merge_pair(parents: &mut [usize], runs: &[bool], near: usize, far: usize)
+    requires { AreParents parents.old (length runs.now) }
+    ensures parents { AreParents parents.new (length runs.now) }
+    ensures labels { (pairs : List (ℕ × ℕ)) → AreRooted runs.now pairs parents.old
+        → AreRooted runs.now (pairs ++ (near, far) ∷ []) parents.new }
+{
+    if !takes_part(runs, near) {
+        return;
+    }
+    if !takes_part(runs, far) {
+        return;
+    }
+    merge(parents, near, far);
 }
 
 /// Each router as its own parent.
