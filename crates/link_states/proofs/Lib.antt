@@ -2,3 +2,5 @@ pub mod ParentLemmas
 pub mod LabelLemmas
 pub mod TagLemmas
 pub mod GroupLemmas
+pub mod CellLemmas
+pub mod StateLemmas

@@ -1,5 +1,5 @@
 //! What is counted at the ends of a link.
-ghost use Rattle.std.specs.Prelude.{◌≡◌, ◌<◌, ℕ, List, ◌&&◌, ◌||◌, not, nat_lt, length, Some, if◌then◌else◌};
+ghost use Rattle.std.specs.Prelude.{◌≡◌, ◌<◌, ◌≤◌, ℕ, List, ◌&&◌, ◌||◌, not, nat_lt, length, Some, if◌then◌else◌};
 ghost use Rattle.isis_base.specs.Identifiers.{lsp_number};
 ghost use Rattle.isis_base.specs.Keys.{rank};
 ghost use Rattle.isis_model.specs.Sets.{has};
@@ -57,6 +57,8 @@ pub(crate) fn excepted(gone: &LetGo, other_gone: &LetGo, own: &Book, other: &Boo
     let Some(other_ids) = other_gone.list() else {
         return held_count(own) + held_beyond(own, other);
     };
+    gone.few_law();
+    other_gone.few_law();
     ids.len() + listed_beyond(gone, other_ids)
 }
 
@@ -88,8 +90,10 @@ fn one_if(passes: bool) -> usize
 }
 
 /// How many LSP IDs have an entry.
+#[tactic(auto, using(crate::proofs::CellLemmas::ids_count))]
 fn held_count(book: &Book) -> usize
-    ensures { result ≡ length (ids_of (book_of book.now).cells) }
+    ensures count { result ≡ length (ids_of (book_of book.now).cells) }
+    ensures few { result ≤ 65536 }
 {
     let mut count = 0usize;
     let mut cells = Cells::new(book);
@@ -100,9 +104,11 @@ fn held_count(book: &Book) -> usize
 }
 
 /// How many LSP IDs have an entry in the other book alone.
+#[tactic(auto, using(crate::proofs::CellLemmas::held_is))]
 fn held_beyond(own: &Book, other: &Book) -> usize
-    ensures { result ≡ count_beyond (ids_of (book_of own.now).cells)
+    ensures count { result ≡ count_beyond (ids_of (book_of own.now).cells)
         (ids_of (book_of other.now).cells) }
+    ensures few { result ≤ 65536 }
 {
     let mut count = 0usize;
     let mut cells = Cells::new(other);
@@ -113,12 +119,16 @@ fn held_beyond(own: &Book, other: &Book) -> usize
 }
 
 /// How many of these were let go by the other end alone.
+#[tactic(auto, using(crate::proofs::CellLemmas::gone_is))]
 fn listed_beyond(gone: &LetGo, ids: &[LspId]) -> usize
-    ensures { (listed : List ℕ) → gone.now ≡ Some listed → result ≡ count_beyond listed (numbers_of ids.now) }
+    ensures count { (listed : List ℕ) → gone.now ≡ Some listed
+        → result ≡ count_beyond listed (numbers_of ids.now) }
+    ensures few { result ≤ length ids.now }
 {
-    let mut count = 0usize;
-    for id in ids {
+    let (mut count, mut left) = (0usize, ids);
+    while let [id, more @ ..] = left {
         count += one_if(!gone.has(*id));
+        left = more;
     }
     count
 }

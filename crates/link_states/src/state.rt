@@ -1,5 +1,7 @@
 //! How the two ends of a link stand to each other at a level.
-ghost use Rattle.std.specs.Prelude.{◌≡◌, ◌-◌};
+ghost use Rattle.std.specs.Prelude.{◌≡◌, ◌-◌, ◌&&◌};
+ghost use Rattle.isis_model.specs.Places.{nth};
+ghost use Rattle.isis_model.specs.AdjacencyLaws.{opens};
 ghost use Rattle.router_core.specs.Events.{IsThere};
 ghost use Rattle.link_states.specs.LinkStates.{state_of, no_state};
 
@@ -44,11 +46,21 @@ pub fn link_state(
     let near_end = count_end(near_book, near_circuit - 1, far_book, near_gone, far_gone);
     let far_end = count_end(far_book, far_circuit - 1, near_book, far_gone, near_gone);
     LinkState {
-        up: near.up(near_circuit, level) && far.up(far_circuit, level),
+        up: are_up(near, near_circuit, far, far_circuit, level),
         flags: [near_end.flags, far_end.flags],
         ahead: [near_end.ahead, far_end.ahead],
         excepted: excepted(near_gone, far_gone, near_book, far_book),
     }
+}
+
+/// Whether both ends have an up adjacency of a level.
+fn are_up(near: &Router, near_circuit: u8, far: &Router, far_circuit: u8, level: Level) -> bool
+    requires near { IsThere near.now near_circuit }
+    requires far { IsThere far.now far_circuit }
+    ensures { result ≡ (opens (nth near.now.circuits (near_circuit - 1)) level
+        && opens (nth far.now.circuits (far_circuit - 1)) level) }
+{
+    near.up(near_circuit, level) && far.up(far_circuit, level)
 }
 
 /// The state where an end doesn't run the level.
