@@ -1,5 +1,5 @@
 //! The LSP IDs that a level let go.
-ghost use Rattle.std.specs.Prelude.{◌≡◌, ◌≤◌, length, [], IfOk, MatchOption, Some, None, vec_capacity};
+ghost use Rattle.std.specs.Prelude.{◌≡◌, ◌≤◌, length, [], IfOk, IfSome, MatchOption, Some, None, vec_capacity};
 ghost use Rattle.isis_base.specs.Identifiers.{lsp_number};
 ghost use Rattle.isis_model.specs.LetGos.{let_go, lets_go};
 ghost use Rattle.flag_sync.specs.Walks.{numbers_of};
@@ -80,6 +80,13 @@ impl LetGo {
             return None;
         }
         Some(&self.ids)
+    }
+
+    /// At most 4,096 are listed. It does nothing.
+    pub fn few_law(&self)
+        ensures { IfSome self.now (λ ids. length ids ≤ 4096) }
+    {
+        let _all = self.all;
     }
 
     /// An equal one, with the room for 4,096 too.

@@ -1,0 +1,6 @@
+pub mod ParentLemmas
+pub mod LabelLemmas
+pub mod TagLemmas
+pub mod GroupLemmas
+pub mod CellLemmas
+pub mod StateLemmas

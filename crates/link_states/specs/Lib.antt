@@ -1,0 +1,6 @@
+pub mod Joined
+pub mod Parents
+pub mod Tags
+pub mod Excepted
+pub mod Tallies
+pub mod LinkStates
