@@ -4,3 +4,7 @@ pub mod Inside
 pub mod KeysNet
 pub mod Limits
 pub mod KeysHeld
+pub mod LabNets
+pub mod LabEvents
+pub mod LabCauses
+pub mod Claims
