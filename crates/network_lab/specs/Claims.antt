@@ -1,18 +1,19 @@
 -- What is claimed of the links of a network (ISO 10589 7.3.17, RFC 5303 3.2; the words: own).
-use Rattle.std.specs.Prelude.{◌≡◌, ℕ, ◌≤◌, true, [], ◌∷◌, Some}
+use Rattle.std.specs.Prelude.{◌≡◌, ◌≢◌, ℕ, true, [], ◌∷◌, Some}
 use Rattle.isis_base.specs.declared.level.Level.{Level}
 use Rattle.isis_model.specs.Places.{nth}
 use Rattle.isis_model.specs.Routers.{Router}
 use Rattle.isis_model.specs.AdjacencyLaws.{is_point}
 use Rattle.network_model.specs.Ports.{Port}
-use Rattle.network_model.specs.Links.{IsUp, Claim}
-use Rattle.network_model.specs.Counts.{ahead, flags}
+use Rattle.network_model.specs.Links.{IsUp}
+use Rattle.network_model.specs.Kept.{IsClaimedOf}
 use Rattle.network_lab.specs.LabNets.{Seen}
 
 -- a point-to-point link of two routers that is up at a level (own)
 pub record IsUpLink (s : Seen) (link : ℕ) (e f : Port) (a b : Router) (level : Level) : Type 0 where
   pub ends : nth s.links link ≡ Some (record { router = e.router; place = e.place }
       ∷ record { router = f.router; place = f.place } ∷ [])
+  pub apart : e.router ≢ f.router
   pub near : nth s.routers e.router ≡ Some a
   pub far : nth s.routers f.router ≡ Some b
   pub near_system : e.system ≡ a.config.system
@@ -21,14 +22,9 @@ pub record IsUpLink (s : Seen) (link : ℕ) (e f : Port) (a b : Router) (level :
   pub far_point : is_point (nth b.circuits f.place) ≡ true
   pub up : IsUp e a f b level
 
--- each end names the other, and what one end holds the other holds as new or newer, or its SRM flag
--- stands; so no end is ahead in more LSP IDs than its flags (own)
-pub record IsHeld (e f : Port) (a b : Router) (level : Level) : Type 0 where
-  pub claim : Claim e a f b level
-  pub near : ahead a b level ≤ flags a e.place level
-  pub far : ahead b a level ≤ flags b f.place level
-
--- where nothing was injected, it is so of every link that is up (own)
+-- where nothing was injected, each end of every link that is up names the other, and what one end
+-- holds the other holds as new or newer, or its SRM flag stands; so no end is ahead in more LSP IDs
+-- than its flags (own)
 abbrev pub IsClaimed : Seen → Type 0
 IsClaimed s = s.injected ≡ 0 → (link : ℕ) (e f : Port) (a b : Router) (level : Level)
-    → IsUpLink s link e f a b level → IsHeld e f a b level
+    → IsUpLink s link e f a b level → IsClaimedOf e f a b level
