@@ -1,9 +1,11 @@
 -- What is claimed of the links of a network (ISO 10589 7.3.17, RFC 5303 3.2; the words: own).
-use Rattle.std.specs.Prelude.{◌≡◌, ◌≢◌, ℕ, true, [], ◌∷◌, Some}
+use Rattle.std.specs.Prelude.{◌≡◌, ◌≢◌, ℕ, ◌<◌, true, List, [], ◌∷◌, length, Some}
+use Rattle.std.specs.List.{AllByRecursion}
 use Rattle.isis_base.specs.declared.level.Level.{Level}
 use Rattle.isis_model.specs.Places.{nth}
 use Rattle.isis_model.specs.Routers.{Router}
 use Rattle.isis_model.specs.AdjacencyLaws.{is_point}
+use Rattle.network_model.specs.declared.end.End.{End}
 use Rattle.network_model.specs.Ports.{Port}
 use Rattle.network_model.specs.Links.{IsUp}
 use Rattle.network_model.specs.Kept.{IsClaimedOf}
@@ -28,3 +30,14 @@ pub record IsUpLink (s : Seen) (link : ℕ) (e f : Port) (a b : Router) (level :
 abbrev pub IsClaimed : Seen → Type 0
 IsClaimed s = s.injected ≡ 0 → (link : ℕ) (e f : Port) (a b : Router) (level : Level)
     → IsUpLink s link e f a b level → IsClaimedOf e f a b level
+
+-- an end of a link is there: its router, and the router's circuit (own)
+pub record IsEndIn (routers : List Router) (e : End) : Type 0 where
+  pub r : Router
+  pub at : nth routers e.router ≡ Some r
+  pub there : e.place < length r.circuits
+
+-- each end of each link is there (own)
+abbrev pub AreEnds : Seen → Type 0
+AreEnds s = (link : ℕ) (ends : List End) → nth s.links link ≡ Some ends
+    → AllByRecursion (IsEndIn s.routers) ends

@@ -8,3 +8,4 @@ pub mod LabNets
 pub mod LabEvents
 pub mod LabCauses
 pub mod Claims
+pub mod LinkStates

@@ -19,5 +19,6 @@ mod tests;
 pub use event::LabEvent;
 pub use faults::{LabFault, LimitName};
 pub use key_net::{KeyNet, LINK_LIMIT, ROUTER_LIMIT};
+pub use link_states::{Groups, LinkState};
 pub use network::Network;
 pub use sent::SentDatagram;

@@ -12,11 +12,13 @@ ghost use Rattle.network_lab.specs.declared.faults.LimitName.TheVariants.{Router
 ghost use Rattle.network_lab.specs.LabNets.{StandsFor, empty_lab, next_place, with_router, with_link, with_key, with_priority};
 ghost use Rattle.network_lab.specs.LabEvents.{happening_of, IsEvent, refusal, after, ApplyCause};
 ghost use Rattle.network_lab.specs.LabCauses.{RouterCause, LinkCause, IsStop, RunCause, HasCircuit};
-ghost use Rattle.network_lab.specs.Claims.{IsClaimed};
+ghost use Rattle.network_lab.specs.LinkStates.{state_at, AreAgreed};
+ghost use Rattle.network_lab.specs.Claims.{IsClaimed, AreEnds};
 
 use crate::event::LabEvent;
 use crate::faults::LabFault;
-use isis_base::Octets;
+use isis_base::{Level, Octets, OutOfMemory};
+use link_states::{Groups, LinkState};
 use network_model::{End, PduWord};
 use router_core::Router;
 use router_desk::Config;
@@ -166,11 +168,12 @@ impl Network {
         match self.never {}
     }
 
-    /// What always holds of a network: at most 262,144 datagrams were sent, and, where none was
-    /// injected, on each point-to-point link that is up at a level each end names the other and
+    /// What always holds of a network: at most 262,144 datagrams were sent; the ends of links are
+    /// there; and, where no datagram was injected, on each point-to-point link that is up at a level each end names the other and
     /// stands to it. It does nothing.
     pub fn facts(&self)
         ensures few { length self.now.seen.sent ≤ 262144 }
+        ensures ends { AreEnds self.now.seen }
         ensures claim { IsClaimed self.now.seen }
     {
         match self.never {}
@@ -212,6 +215,24 @@ impl Network {
         requires { router < length self.now.seen.routers }
         requires number { 1 ≤ circuit }
         ensures { result ≡ link_at router (circuit - 1) 0 self.now.seen.links }
+    {
+        match self.never {}
+    }
+
+    /// How the two ends of a point-to-point link stand at a level. All its numbers are 0 where an
+    /// end doesn't run the level.
+    pub fn link_state(&self, link: usize, level: Level) -> LinkState
+        requires { link < length self.now.seen.links }
+        ensures { IfSome (nth self.now.seen.links link)
+            (λ ends. result ≡ state_at self.now.seen.routers ends level) }
+    {
+        match self.never {}
+    }
+
+    /// The groups of the routers that run a level: those that are joined by links that are up and
+    /// without flags.
+    pub fn agreed(&self, level: Level) -> Result<Groups, OutOfMemory>
+        ensures { IfOk result (λ groups. AreAgreed self.now.seen level groups) }
     {
         match self.never {}
     }

@@ -1,0 +1,262 @@
+//! The lines of a router in a report.
+ghost use Rattle.std.specs.Prelude.{◌≡◌, ◌++◌, OnOk};
+ghost use Rattle.isis_base.specs.Identifiers.{lsp_number};
+ghost use Rattle.isis_base.specs.Keys.{rank};
+ghost use Rattle.isis_base.specs.Levels.{level_text};
+ghost use Rattle.std.specs.Prelude.{codes, Some};
+ghost use Rattle.isis_model.specs.Routers.{level_of};
+ghost use Rattle.isis_model.specs.LetGos as model;
+ghost use Rattle.flag_sync.specs.BookStates.{book_of};
+ghost use Rattle.flag_sync.specs.Walks.{numbers_of};
+ghost use Rattle.std.specs.List.{flat_map};
+ghost use Rattle.lab_report.specs.RouterLines as lines;
+ghost use Rattle.lab_report.specs.EntryLines.{entry_lines};
+
+use flag_sync::Book;
+use isis_base::{Key, Level, LspId, Octets, OutOfMemory, add_lsp_id, add_number, add_system_id};
+use lsp_octets::laws::id_law;
+use lsp_store::Store;
+use purge_ageing::LetGo;
+use router_core::Router;
+use router_desk::DropName;
+
+/// The causes of a drop, in the order of their lines.
+const CAUSES: [DropName; 19] = [
+    DropName::Frame,
+    DropName::Pdu,
+    DropName::TooLong,
+    DropName::WrongKind,
+    DropName::WrongLevel,
+    DropName::Auth,
+    DropName::Value,
+    DropName::ZeroNumber,
+    DropName::BadChecksum,
+    DropName::OwnId,
+    DropName::OtherSnpa,
+    DropName::NoLevel,
+    DropName::NoArea,
+    DropName::NoThreeWay,
+    DropName::OtherNeighbour,
+    DropName::TooMany,
+    DropName::NoAdjacency,
+    DropName::NotDesignated,
+    DropName::StoreFull,
+];
+
+/// Adds a router's block: its system and boot, the LSPs that it holds, those that it let go, and
+/// what it dropped.
+pub(crate) fn add_router(page: &mut Octets, name: &str, router: &Router) -> Result<(), OutOfMemory>
+    ensures { OnOk result (page.new ≡ page.old ++ lines.router_lines name.now router.now) }
+{
+    add_router_line(page, name, router)?;
+    add_level(page, name, router, Level::One)?;
+    add_level(page, name, router, Level::Two)?;
+    add_drops(page, name, router)
+}
+
+/// `router NAME SYSTEM boot B`.
+fn add_router_line(page: &mut Octets, name: &str, router: &Router) -> Result<(), OutOfMemory>
+    ensures { OnOk result (page.new ≡ page.old ++ lines.router_line name.now router.now) }
+{
+    page.extend(b"router ")?;
+    page.extend(name.as_bytes())?;
+    add_system_id(page, b" ", router.desk().system())?;
+    add_number(page, b" boot ", u64::from(router.boot()))?;
+    page.extend(b"\n")
+}
+
+/// The lines of a level, where the router runs it.
+fn add_level(
+    page: &mut Octets,
+    name: &str,
+    router: &Router,
+    level: Level,
+) -> Result<(), OutOfMemory>
+    ensures { OnOk result (page.new ≡ page.old ++ lines.level_lines name.now router.now level) }
+{
+    match router.book(level) {
+        Some(book) => {
+            add_lsps(page, name, level, book)?;
+            add_gone(page, name, level, router.let_go(level))
+        }
+        None => Ok(()),
+    }
+}
+
+/// The lines of the LSPs that have a key.
+fn add_lsps(
+    page: &mut Octets,
+    name: &str,
+    level: Level,
+    book: &Book,
+) -> Result<(), OutOfMemory>
+    ensures { OnOk result (page.new
+        ≡ page.old ++ lines.lsp_lines name.now level (book_of book.now).cells) }
+{
+    book.beside_law();
+    add_entries(page, name, level, book.store())
+}
+
+fn add_entries(
+    page: &mut Octets,
+    name: &str,
+    level: Level,
+    store: &Store,
+) -> Result<(), OutOfMemory>
+    ensures { OnOk result (page.new
+        ≡ page.old ++ entry_lines name.now level store.now.entries) }
+{
+    let mut entries = store.pages().pairs();
+    while let Some((id, entry)) = entries.next() {
+        match add_entry(page, name, level, id, entry.key) {
+            Ok(()) => {}
+            Err(error) => return Err(error),
+        }
+    }
+    Ok(())
+}
+
+/// The line of an LSP, where it has a key.
+fn add_entry(
+    page: &mut Octets,
+    name: &str,
+    level: Level,
+    id: LspId,
+    key: Option<Key>,
+) -> Result<(), OutOfMemory>
+    ensures { OnOk result (page.new
+        ≡ page.old ++ lines.line_of name.now level (lsp_number id) (rank key)) }
+{
+    match key {
+        Some(key) => add_lsp(page, name, level, id, key),
+        None => Ok(()),
+    }
+}
+
+/// `lsp NAME LEVEL LSPID NUMBER live|purged`.
+fn add_lsp(
+    page: &mut Octets,
+    name: &str,
+    level: Level,
+    id: LspId,
+    key: Key,
+) -> Result<(), OutOfMemory>
+    ensures { OnOk result (page.new
+        ≡ page.old ++ lines.lsp_line name.now level (lsp_number id) (rank (Some key))) }
+{
+    page.extend(b"lsp ")?;
+    add_lsp_words(page, name, level, id)?;
+    add_number(page, b" ", u64::from(key.number))?;
+    if key.purged {
+        page.extend(b" purged\n")
+    } else {
+        page.extend(b" live\n")
+    }
+}
+
+/// A name, a level and an LSP ID.
+fn add_lsp_words(
+    page: &mut Octets,
+    name: &str,
+    level: Level,
+    id: LspId,
+) -> Result<(), OutOfMemory>
+    ensures { OnOk result (page.new
+        ≡ page.old ++ lines.lsp_words name.now level (lsp_number id)) }
+{
+    id_law(id);
+    page.extend(name.as_bytes())?;
+    page.extend(b" ")?;
+    page.extend(level_word(level))?;
+    add_lsp_id(page, b" ", id)
+}
+
+/// A level's word.
+pub(crate) fn level_word(level: Level) -> &'static [u8]
+    ensures { result.now ≡ level_text level }
+{
+    match level {
+        Level::One => b"L1",
+        Level::Two => b"L2",
+    }
+}
+
+/// The lines of what was let go.
+fn add_gone(page: &mut Octets, name: &str, level: Level, gone: &LetGo) -> Result<(), OutOfMemory>
+    ensures { OnOk result (page.new ≡ page.old ++ lines.gone_lines name.now level gone.now) }
+{
+    match gone.list() {
+        Some(ids) => add_gone_ids(page, name, level, ids),
+        None => {
+            page.extend(b"letgo ")?;
+            page.extend(name.as_bytes())?;
+            page.extend(b" ")?;
+            page.extend(level_word(level))?;
+            page.extend(b" all\n")
+        }
+    }
+}
+
+/// A line for each LSP ID that was let go.
+fn add_gone_ids(
+    page: &mut Octets,
+    name: &str,
+    level: Level,
+    ids: &[LspId],
+) -> Result<(), OutOfMemory>
+    ensures { OnOk result (page.new
+        ≡ page.old ++ flat_map (lines.gone_line name.now level) (numbers_of ids.now)) }
+{
+    for id in ids {
+        match add_gone_id(page, name, level, *id) {
+            Ok(()) => {}
+            Err(error) => return Err(error),
+        }
+    }
+    Ok(())
+}
+
+/// `letgo NAME LEVEL LSPID`.
+fn add_gone_id(page: &mut Octets, name: &str, level: Level, id: LspId) -> Result<(), OutOfMemory>
+    ensures { OnOk result (page.new
+        ≡ page.old ++ lines.gone_line name.now level (lsp_number id)) }
+{
+    page.extend(b"letgo ")?;
+    add_lsp_words(page, name, level, id)?;
+    page.extend(b"\n")
+}
+
+/// A line for each cause that was met.
+fn add_drops(page: &mut Octets, name: &str, router: &Router) -> Result<(), OutOfMemory>
+    ensures { OnOk result (page.new
+        ≡ page.old ++ flat_map (lines.drop_line name.now router.now) lines.causes) }
+{
+    for cause in CAUSES {
+        match add_drop(page, name, router, cause) {
+            Ok(()) => {}
+            Err(error) => return Err(error),
+        }
+    }
+    Ok(())
+}
+
+/// `drop NAME WORD COUNT`, where the count isn't 0.
+fn add_drop(
+    page: &mut Octets,
+    name: &str,
+    router: &Router,
+    cause: DropName,
+) -> Result<(), OutOfMemory>
+    ensures { OnOk result (page.new ≡ page.old ++ lines.drop_line name.now router.now cause) }
+{
+    let count = router.drops(cause);
+    if count == 0 {
+        return Ok(());
+    }
+    page.extend(b"drop ")?;
+    page.extend(name.as_bytes())?;
+    page.extend(b" ")?;
+    page.extend(cause.word().as_bytes())?;
+    add_number(page, b" ", count)?;
+    page.extend(b"\n")
+}
