@@ -6,7 +6,7 @@ ghost use Rattle.isis_model.specs.Sorted.{RisesFrom};
 ghost use Rattle.isis_model.specs.Books.{cell_at, is_full};
 ghost use Rattle.isis_model.specs.LspTable.{met};
 ghost use Rattle.flag_sync.specs.Heard.{heard_of, answer_of};
-ghost use Rattle.flag_sync.specs.BookStates.{book_of, IsCircuit, AreBeside};
+ghost use Rattle.flag_sync.specs.BookStates.{book_of, IsCircuit};
 
 use crate::bits::has_bit;
 use crate::book::Book;
@@ -59,13 +59,6 @@ impl Book {
     /// A book's entries are by LSP ID. It does nothing.
     pub fn order_law(&self)
         ensures { RisesFrom 0 (book_of self.now).cells }
-    {
-        let _opened = self.opened;
-    }
-
-    /// A book's entries and rows of flags have the same LSP IDs, in one order. It does nothing.
-    pub fn beside_law(&self)
-        ensures { AreBeside self.now.store.entries self.now.rows }
     {
         let _opened = self.opened;
     }

@@ -1,5 +1,5 @@
 -- The lines of links in a report, and of the routers that agree (own).
-use Rattle.std.specs.Prelude.{ℕ, ◌+◌, Bool, ◌&&◌, List, [], ◌∷◌, ◌++◌, Option, Some, None, codes, decimal, slice_index, if◌then◌else◌}
+use Rattle.std.specs.Prelude.{ℕ, Bool, false, ◌&&◌, List, [], ◌∷◌, ◌++◌, Option, Some, None, codes, decimal, slice_index, if◌then◌else◌}
 use Rattle.isis_base.specs.declared.level.Level.{Level}
 use Rattle.isis_base.specs.declared.level.Level.TheVariants as level
 use Rattle.isis_base.specs.Levels.{level_text}
@@ -11,17 +11,20 @@ use Rattle.link_states.specs.declared.link_state.LinkState.{LinkState}
 use Rattle.network_lab.specs.LabNets.{Seen}
 use Rattle.network_lab.specs.LinkStates.{state_at, runs_at, runs_of}
 
--- `link NAME LEVEL up flags F G ahead P Q excepted E`, or `link NAME LEVEL down`
-abbrev pub link_line : List ℕ → Level → LinkState → List ℕ
-link_line name level state =
-    codes "link " ++ name ++ codes " " ++ level_text level
-    ++ (if state.up
-    then codes " up flags " ++ decimal (slice_index state.flags 0)
+-- ` up flags F G ahead P Q excepted E`
+unfoldable pub up_words : LinkState → List ℕ
+up_words state =
+    codes " up flags " ++ decimal (slice_index state.flags 0)
     ++ codes " " ++ decimal (slice_index state.flags 1)
     ++ codes " ahead " ++ decimal (slice_index state.ahead 0)
     ++ codes " " ++ decimal (slice_index state.ahead 1)
     ++ codes " excepted " ++ decimal state.excepted ++ codes "\n"
-    else codes " down\n")
+
+-- `link NAME LEVEL up flags F G ahead P Q excepted E`, or `link NAME LEVEL down`
+unfoldable pub link_line : List ℕ → Level → LinkState → List ℕ
+link_line name level state =
+    codes "link " ++ name ++ codes " " ++ level_text level
+    ++ (if state.up then up_words state else codes " down\n")
 
 -- whether both ends of a link run a level
 abbrev pub both_run : List Router → List End → Level → Bool
@@ -29,18 +32,17 @@ both_run routers (e ∷ f ∷ []) level = runs_at routers e.router level && runs
 both_run routers ends level = false
 
 -- a link whose two ends run the level has a line of it
-abbrev pub link_at : List ℕ → Seen → List End → Level → List ℕ
-link_at name s ends level =
+unfoldable pub link_at : List ℕ → Seen → Option (List End) → Level → List ℕ
+link_at name s None level = []
+link_at name s (Some ends) level =
     if both_run s.routers ends level then link_line name level (state_at s.routers ends level)
     else []
 
 abbrev pub link_lines : List ℕ → Seen → Option (List End) → List ℕ
-link_lines name s None = []
-link_lines name s (Some ends) =
-    link_at name s ends level.One ++ link_at name s ends level.Two
+link_lines name s ends = link_at name s ends level.One ++ link_at name s ends level.Two
 
 -- `agree LEVEL routers R groups G`
-abbrev pub agree_line : Level → ℕ → ℕ → List ℕ
+unfoldable pub agree_line : Level → ℕ → ℕ → List ℕ
 agree_line level routers groups =
     codes "agree " ++ level_text level ++ codes " routers " ++ decimal routers
     ++ codes " groups " ++ decimal groups ++ codes "\n"

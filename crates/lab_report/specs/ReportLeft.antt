@@ -13,7 +13,7 @@ abbrev pub lines_left : LabReport → List ℕ
 lines_left left =
     left.head.now ++ (router_blocks left.net.now.seen left.router (texts left.router_names.now)
     ++ (link_blocks left.net.now.seen left.link (texts left.link_names.now)
-    ++ ((if left.is_open then net_lines left.net.now.seen left.groups.one left.groups.two else [])
+    ++ ((if left.is_open then net_lines left.net.now.seen else [])
     ++ datagram_lines (texts left.routers.now) (texts left.links.now) left.net.now.seen
     left.dumps.now)))
 

@@ -1,6 +1,7 @@
 -- The lines of a router in a report (own).
 use Rattle.std.specs.Prelude.{ℕ, nat_lt, List, [], ◌∷◌, ◌++◌, Option, Some, None, codes, decimal, if◌then◌else◌}
 use Rattle.std.specs.List.{flat_map}
+use Rattle.isis_base.specs.declared.identifiers.SystemId.{SystemId}
 use Rattle.isis_base.specs.declared.level.Level.{Level}
 use Rattle.isis_base.specs.declared.level.Level.TheVariants as level
 use Rattle.isis_base.specs.Levels.{level_text}
@@ -16,20 +17,23 @@ use Rattle.isis_model.specs.Routers.{Router, level_of, book_of}
 use Rattle.isis_datagram.specs.Numbers.{system_id, lsp_id}
 
 -- `router NAME SYSTEM boot B`
+unfoldable pub router_words : List ℕ → SystemId → ℕ → List ℕ
+router_words name system boot =
+    codes "router " ++ name ++ codes " " ++ system_text system ++ codes " boot " ++ decimal boot
+    ++ codes "\n"
+
 abbrev pub router_line : List ℕ → Router → List ℕ
-router_line name r =
-    codes "router " ++ name ++ codes " " ++ system_text (system_id r.config.system)
-    ++ codes " boot " ++ decimal r.boot ++ codes "\n"
+router_line name r = router_words name (system_id r.config.system) r.boot
 
 -- ---- what a level holds, and what it let go
 
 -- a name, a level and an LSP ID
-abbrev pub lsp_words : List ℕ → Level → ℕ → List ℕ
+unfoldable pub lsp_words : List ℕ → Level → ℕ → List ℕ
 lsp_words name level id =
     name ++ codes " " ++ level_text level ++ codes " " ++ lsp_text (lsp_id id)
 
 -- `lsp NAME LEVEL LSPID NUMBER live|purged`
-abbrev pub lsp_line : List ℕ → Level → ℕ → ℕ → List ℕ
+unfoldable pub lsp_line : List ℕ → Level → ℕ → ℕ → List ℕ
 lsp_line name level id rank =
     codes "lsp " ++ lsp_words name level id ++ codes " " ++ decimal (number_of rank)
     ++ (if is_purge rank then codes " purged\n" else codes " live\n")
@@ -45,17 +49,17 @@ lsp_lines name level (pair ∷ cells) =
     line_of name level pair.0 pair.1.rank ++ lsp_lines name level cells
 
 -- `letgo NAME LEVEL LSPID`
-abbrev pub gone_line : List ℕ → Level → ℕ → List ℕ
+unfoldable pub gone_line : List ℕ → Level → ℕ → List ℕ
 gone_line name level id = codes "letgo " ++ lsp_words name level id ++ codes "\n"
 
 -- `letgo NAME LEVEL all`, or a line for each LSP ID
-abbrev pub gone_lines : List ℕ → Level → LetGo → List ℕ
+unfoldable pub gone_lines : List ℕ → Level → LetGo → List ℕ
 gone_lines name level None =
     codes "letgo " ++ name ++ codes " " ++ level_text level ++ codes " all\n"
 gone_lines name level (Some ids) = flat_map (gone_line name level) ids
 
 -- a level that is run
-abbrev pub level_lines : List ℕ → Router → Level → List ℕ
+unfoldable pub level_lines : List ℕ → Router → Level → List ℕ
 level_lines name r level =
     if at r.config.runs level
     then lsp_lines name level (book_of r level).cells ++ gone_lines name level (level_of r level).gone
@@ -64,7 +68,7 @@ level_lines name r level =
 -- ---- what was dropped
 
 -- `drop NAME WORD COUNT`; a cause that wasn't met has no line
-abbrev pub drop_line : List ℕ → Router → DropName → List ℕ
+unfoldable pub drop_line : List ℕ → Router → DropName → List ℕ
 drop_line name r cause =
     let count = drops_of r.drops cause in
     if nat_lt 0 count
@@ -80,7 +84,7 @@ causes =
     ∷ drop.NoAdjacency ∷ drop.NotDesignated ∷ drop.StoreFull ∷ []
 
 -- a router's block
-abbrev pub router_lines : List ℕ → Router → List ℕ
+unfoldable pub router_lines : List ℕ → Router → List ℕ
 router_lines name r =
-    router_line name r ++ level_lines name r level.One ++ level_lines name r level.Two
-    ++ flat_map (drop_line name r) causes
+    router_line name r ++ (level_lines name r level.One ++ (level_lines name r level.Two
+    ++ flat_map (drop_line name r) causes))

@@ -1,5 +1,7 @@
 //! What is still to come of a report.
 ghost use Rattle.std.specs.Prelude.{◌≤◌, ◌+◌, ◌≡◌, length};
+ghost use Rattle.isis_base.specs.declared.level.Level.TheVariants as level;
+ghost use Rattle.network_lab.specs.LinkStates.{groups_at};
 
 use network_lab::Network;
 
@@ -32,4 +34,8 @@ pub struct LabReport<'n, 't> {
     pub(crate) ghost some_routers: { router + length router_names.now
         ≤ length net.now.seen.routers },
     pub(crate) ghost some_links: { link + length link_names.now ≤ length net.now.seen.links },
+    pub(crate) ghost few_routers: { router + length router_names.now ≤ 1024 },
+    pub(crate) ghost few_links: { link + length link_names.now ≤ 4096 },
+    pub(crate) ghost one: { groups.one ≡ length (groups_at net.now.seen level.One) },
+    pub(crate) ghost two: { groups.two ≡ length (groups_at net.now.seen level.Two) },
 }

@@ -1,11 +1,11 @@
 //! The lines of links in a report, and of the routers that agree.
-ghost use Rattle.std.specs.Prelude.{◌≡◌, ◌++◌, ◌<◌, length, IfSome, OnOk, Some};
+ghost use Rattle.std.specs.Prelude.{◌≡◌, ◌++◌, ◌<◌, length, OnOk};
 ghost use Rattle.isis_model.specs.Places.{nth};
-ghost use Rattle.network_lab.specs.LinkStates.{runs_at, runs_of};
+ghost use Rattle.network_lab.specs.LinkStates.{runs_at};
 ghost use Rattle.lab_report.specs.LinkLines as lines;
 
 use crate::router_lines::level_word;
-use isis_base::{Level, LevelSet, Octets, OutOfMemory, add_number};
+use isis_base::{Level, Octets, OutOfMemory, add_number};
 use network_lab::{LinkState, Network};
 use network_model::End;
 
@@ -25,6 +25,7 @@ pub(crate) fn add_link(
 }
 
 /// The line of a link's level, where its two ends run it.
+#[tactic(auto, unfolding(crate::specs::LinkLines::link_at))]
 fn add_level(
     page: &mut Octets,
     name: &str,
@@ -33,8 +34,8 @@ fn add_level(
     level: Level,
 ) -> Result<(), OutOfMemory>
     requires { link < length net.now.seen.links }
-    ensures { IfSome (nth net.now.seen.links link) (λ ends. OnOk result (page.new ≡ page.old
-        ++ lines.link_at name.now net.now.seen ends level)) }
+    ensures { OnOk result (page.new ≡ page.old
+        ++ lines.link_at name.now net.now.seen (nth net.now.seen.links link) level) }
 {
     if !both_run(net, net.ends(link), level) {
         return Ok(());
@@ -46,10 +47,10 @@ fn add_level(
 fn both_run(net: &Network, ends: &[End], level: Level) -> bool
     ensures { result ≡ lines.both_run net.now.seen.routers ends.now level }
 {
-    match ends {
-        [near, far] => runs(net, near.router, level) && runs(net, far.router, level),
-        _ => false,
-    }
+    let [near, far] = ends else {
+        return false;
+    };
+    runs(net, near.router, level) && runs(net, far.router, level)
 }
 
 /// Whether a router runs a level.
@@ -63,6 +64,7 @@ pub(crate) fn runs(net: &Network, router: usize, level: Level) -> bool
 }
 
 /// `link NAME LEVEL up ..`, or `link NAME LEVEL down`.
+#[tactic(auto, unfolding(crate::specs::LinkLines::link_line))]
 fn add_state(
     page: &mut Octets,
     name: &str,
@@ -78,6 +80,14 @@ fn add_state(
     if !state.up {
         return page.extend(b" down\n");
     }
+    add_up(page, state)
+}
+
+/// ` up flags F G ahead P Q excepted E`.
+#[tactic(auto, unfolding(crate::specs::LinkLines::up_words))]
+fn add_up(page: &mut Octets, state: LinkState) -> Result<(), OutOfMemory>
+    ensures { OnOk result (page.new ≡ page.old ++ lines.up_words state) }
+{
     let [near, far] = state.flags;
     add_number(page, b" up flags ", near as u64)?;
     add_number(page, b" ", far as u64)?;

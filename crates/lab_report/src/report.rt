@@ -1,13 +1,13 @@
 //! The report of a network of routers, made as it is written.
-ghost use Rattle.std.specs.Prelude.{◌≡◌, ◌≤◌, ◌<◌, ◌+◌, ◌++◌, length, OnOk, IfOk};
+ghost use Rattle.std.specs.Prelude.{◌≡◌, ◌≤◌, ◌<◌, ◌+◌, ◌++◌, length, if◌then◌else◌, OnOk, IfOk};
 ghost use Rattle.std.specs.List.{flat_map};
 ghost use Rattle.isis_base.specs.Texts.{hex_pair};
-ghost use Rattle.isis_model.specs.Places.{nth};
+ghost use Rattle.isis_base.specs.declared.level.Level.TheVariants as level;
 ghost use Rattle.network_model.specs.Networks.{numbered};
-ghost use Rattle.network_lab.specs.LinkStates.{runs_of, AreAgreed};
+ghost use Rattle.network_lab.specs.LinkStates.{runs_of, groups_at};
 ghost use Rattle.lab_report.specs.LinkLines.{agree_line};
 ghost use Rattle.lab_report.specs.Reports as lines;
-ghost use Rattle.lab_report.specs.Reports.{IsReport};
+ghost use Rattle.lab_report.specs.Reports.{report_text};
 ghost use Rattle.lab_report.specs.ReportLeft.{texts, lines_left, calls_left};
 
 use crate::left::{GroupCounts, LabReport};
@@ -28,12 +28,14 @@ impl<'n, 't> LabReport<'n, 't> {
     ) -> Result<LabReport<'n, 't>, OutOfMemory>
         requires routers { length routers.now ≤ length net.now.seen.routers }
         requires links { length links.now ≤ length net.now.seen.links }
-        ensures { IfOk result (λ report. IsReport (texts routers.now) (texts links.now) dumps.now
-            net.now.seen (lines_left report)) }
+        requires few_routers { length routers.now ≤ 1024 }
+        requires few_links { length links.now ≤ 4096 }
+        ensures { IfOk result (λ report. lines_left report ≡ report_text (texts routers.now)
+            (texts links.now) dumps.now net.now.seen) }
     {
         let groups = GroupCounts {
-            one: net.agreed(Level::One)?.len(),
-            two: net.agreed(Level::Two)?.len(),
+            one: group_count(net, Level::One)?,
+            two: group_count(net, Level::Two)?,
         };
         Ok(LabReport {
             net,
@@ -85,13 +87,30 @@ impl<'n, 't> Text for LabReport<'n, 't> {
     }
 }
 
+/// In how many groups the routers of a level agree.
+fn group_count(net: &Network, level: Level) -> Result<usize, OutOfMemory>
+    ensures { IfOk result (λ count. count ≡ length (groups_at net.now.seen level)) }
+{
+    let groups = net.agreed(level)?;
+    Ok(groups.len())
+}
+
 /// The lines of the network: which routers agree, and how much was injected and sent.
 fn add_net(page: &mut Octets, net: &Network, groups: GroupCounts) -> Result<(), OutOfMemory>
-    ensures { OnOk result (page.new
-        ≡ page.old ++ lines.net_lines net.now.seen groups.one groups.two) }
+    requires one { groups.one ≡ length (groups_at net.now.seen level.One) }
+    requires two { groups.two ≡ length (groups_at net.now.seen level.Two) }
+    ensures { OnOk result (page.new ≡ page.old ++ lines.net_lines net.now.seen) }
 {
     add_agree(page, Level::One, count(net, Level::One), groups.one)?;
     add_agree(page, Level::Two, count(net, Level::Two), groups.two)?;
+    add_totals(page, net)
+}
+
+/// `injected N` and `datagrams N`.
+#[tactic(auto, unfolding(crate::specs::Reports::total_lines))]
+fn add_totals(page: &mut Octets, net: &Network) -> Result<(), OutOfMemory>
+    ensures { OnOk result (page.new ≡ page.old ++ lines.total_lines net.now.seen) }
+{
     add_number(page, b"injected ", net.injected())?;
     add_number(page, b"\ndatagrams ", net.datagrams() as u64)?;
     page.extend(b"\n")
@@ -103,14 +122,21 @@ fn count(net: &Network, level: Level) -> usize
 {
     let mut count = 0usize;
     for router in 0..net.routers() {
-        if runs(net, router, level) {
-            count += 1;
-        }
+        count += one_if(runs(net, router, level));
     }
     count
 }
 
+/// 1 or 0.
+fn one_if(is: bool) -> usize
+    ensures value { result ≡ (if is then 1 else 0) }
+    ensures few { result ≤ 1 }
+{
+    if is { 1 } else { 0 }
+}
+
 /// `agree LEVEL routers R groups G`.
+#[tactic(auto, unfolding(crate::specs::LinkLines::agree_line))]
 fn add_agree(
     page: &mut Octets,
     level: Level,
@@ -143,17 +169,47 @@ fn add_datagram(
     let Some(octets) = net.datagram(number) else {
         return Ok(());
     };
-    add_number(page, b"datagram ", number as u64)?;
+    let told = Told {
+        number,
+        sender,
+        link,
+        octets,
+    };
+    add_told(page, routers, links, &told)
+}
+
+/// A datagram that is told.
+#[derive(Drop)]
+struct Told<'n> {
+    number: usize,
+    sender: usize,
+    link: usize,
+    octets: &'n [u8],
+}
+
+/// `datagram K ROUTER LINK HEX`.
+#[tactic(auto, unfolding(crate::specs::Reports::datagram_line))]
+fn add_told(
+    page: &mut Octets,
+    routers: &[&str],
+    links: &[&str],
+    told: &Told<'_>,
+) -> Result<(), OutOfMemory>
+    ensures { OnOk result (page.new ≡ page.old ++ lines.datagram_line (texts routers.now)
+        (texts links.now) told.now.number told.now.sender told.now.link told.now.octets.now) }
+{
+    add_number(page, b"datagram ", told.number as u64)?;
     page.extend(b" ")?;
-    add_name(page, routers, sender)?;
+    add_name(page, routers, told.sender)?;
     page.extend(b" ")?;
-    add_name(page, links, link)?;
+    add_name(page, links, told.link)?;
     page.extend(b" ")?;
-    add_octets(page, octets)?;
+    add_octets(page, told.octets)?;
     page.extend(b"\n")
 }
 
 /// A name, by its number.
+#[tactic(auto, unfolding(crate::specs::Reports::name_at))]
 fn add_name(page: &mut Octets, names: &[&str], number: usize) -> Result<(), OutOfMemory>
     ensures { OnOk result (page.new ≡ page.old ++ lines.name_at (texts names.now) number) }
 {

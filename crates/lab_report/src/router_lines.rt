@@ -1,50 +1,26 @@
 //! The lines of a router in a report.
-ghost use Rattle.std.specs.Prelude.{◌≡◌, ◌++◌, OnOk};
+ghost use Rattle.std.specs.Prelude.{◌≡◌, ◌<◌, ◌++◌, length, Some, OnOk};
+ghost use Rattle.std.specs.List.{AllByRecursion, flat_map};
 ghost use Rattle.isis_base.specs.Identifiers.{lsp_number};
 ghost use Rattle.isis_base.specs.Keys.{rank};
 ghost use Rattle.isis_base.specs.Levels.{level_text};
-ghost use Rattle.std.specs.Prelude.{codes, Some};
-ghost use Rattle.isis_model.specs.Routers.{level_of};
-ghost use Rattle.isis_model.specs.LetGos as model;
+ghost use Rattle.isis_datagram.specs.Numbers.{system_id, system_number};
 ghost use Rattle.flag_sync.specs.BookStates.{book_of};
 ghost use Rattle.flag_sync.specs.Walks.{numbers_of};
-ghost use Rattle.std.specs.List.{flat_map};
 ghost use Rattle.lab_report.specs.RouterLines as lines;
-ghost use Rattle.lab_report.specs.EntryLines.{entry_lines};
 
 use flag_sync::Book;
-use isis_base::{Key, Level, LspId, Octets, OutOfMemory, add_lsp_id, add_number, add_system_id};
+use isis_base::{
+    Key, Level, LspId, Octets, OutOfMemory, SystemId, add_lsp_id, add_number, add_system_id,
+};
 use lsp_octets::laws::id_law;
-use lsp_store::Store;
 use purge_ageing::LetGo;
 use router_core::Router;
 use router_desk::DropName;
 
-/// The causes of a drop, in the order of their lines.
-const CAUSES: [DropName; 19] = [
-    DropName::Frame,
-    DropName::Pdu,
-    DropName::TooLong,
-    DropName::WrongKind,
-    DropName::WrongLevel,
-    DropName::Auth,
-    DropName::Value,
-    DropName::ZeroNumber,
-    DropName::BadChecksum,
-    DropName::OwnId,
-    DropName::OtherSnpa,
-    DropName::NoLevel,
-    DropName::NoArea,
-    DropName::NoThreeWay,
-    DropName::OtherNeighbour,
-    DropName::TooMany,
-    DropName::NoAdjacency,
-    DropName::NotDesignated,
-    DropName::StoreFull,
-];
-
 /// Adds a router's block: its system and boot, the LSPs that it holds, those that it let go, and
 /// what it dropped.
+#[tactic(auto, unfolding(crate::specs::RouterLines::router_lines))]
 pub(crate) fn add_router(page: &mut Octets, name: &str, router: &Router) -> Result<(), OutOfMemory>
     ensures { OnOk result (page.new ≡ page.old ++ lines.router_lines name.now router.now) }
 {
@@ -58,14 +34,27 @@ pub(crate) fn add_router(page: &mut Octets, name: &str, router: &Router) -> Resu
 fn add_router_line(page: &mut Octets, name: &str, router: &Router) -> Result<(), OutOfMemory>
     ensures { OnOk result (page.new ≡ page.old ++ lines.router_line name.now router.now) }
 {
+    add_router_words(page, name, system_of(router), router.boot())
+}
+
+#[tactic(auto, unfolding(crate::specs::RouterLines::router_words))]
+fn add_router_words(
+    page: &mut Octets,
+    name: &str,
+    system: SystemId,
+    boot: u32,
+) -> Result<(), OutOfMemory>
+    ensures { OnOk result (page.new ≡ page.old ++ lines.router_words name.now system boot) }
+{
     page.extend(b"router ")?;
     page.extend(name.as_bytes())?;
-    add_system_id(page, b" ", router.desk().system())?;
-    add_number(page, b" boot ", u64::from(router.boot()))?;
+    add_system_id(page, b" ", system)?;
+    add_number(page, b" boot ", u64::from(boot))?;
     page.extend(b"\n")
 }
 
 /// The lines of a level, where the router runs it.
+#[tactic(auto, unfolding(crate::specs::RouterLines::level_lines))]
 fn add_level(
     page: &mut Octets,
     name: &str,
@@ -84,30 +73,16 @@ fn add_level(
 }
 
 /// The lines of the LSPs that have a key.
-fn add_lsps(
-    page: &mut Octets,
-    name: &str,
-    level: Level,
-    book: &Book,
-) -> Result<(), OutOfMemory>
+fn add_lsps(page: &mut Octets, name: &str, level: Level, book: &Book) -> Result<(), OutOfMemory>
     ensures { OnOk result (page.new
         ≡ page.old ++ lines.lsp_lines name.now level (book_of book.now).cells) }
 {
-    book.beside_law();
-    add_entries(page, name, level, book.store())
-}
-
-fn add_entries(
-    page: &mut Octets,
-    name: &str,
-    level: Level,
-    store: &Store,
-) -> Result<(), OutOfMemory>
-    ensures { OnOk result (page.new
-        ≡ page.old ++ entry_lines name.now level store.now.entries) }
-{
-    let mut entries = store.pages().pairs();
+    let mut entries = book.store().pages().pairs();
+    let mut rows = book.flag_pages().pairs();
     while let Some((id, entry)) = entries.next() {
+        let Some(_) = rows.next() else {
+            return Ok(());
+        };
         match add_entry(page, name, level, id, entry.key) {
             Ok(()) => {}
             Err(error) => return Err(error),
@@ -134,6 +109,7 @@ fn add_entry(
 }
 
 /// `lsp NAME LEVEL LSPID NUMBER live|purged`.
+#[tactic(auto, unfolding(crate::specs::RouterLines::lsp_line))]
 fn add_lsp(
     page: &mut Octets,
     name: &str,
@@ -155,6 +131,7 @@ fn add_lsp(
 }
 
 /// A name, a level and an LSP ID.
+#[tactic(auto, unfolding(crate::specs::RouterLines::lsp_words))]
 fn add_lsp_words(
     page: &mut Octets,
     name: &str,
@@ -182,6 +159,7 @@ pub(crate) fn level_word(level: Level) -> &'static [u8]
 }
 
 /// The lines of what was let go.
+#[tactic(auto, unfolding(crate::specs::RouterLines::gone_lines))]
 fn add_gone(page: &mut Octets, name: &str, level: Level, gone: &LetGo) -> Result<(), OutOfMemory>
     ensures { OnOk result (page.new ≡ page.old ++ lines.gone_lines name.now level gone.now) }
 {
@@ -217,6 +195,7 @@ fn add_gone_ids(
 }
 
 /// `letgo NAME LEVEL LSPID`.
+#[tactic(auto, unfolding(crate::specs::RouterLines::gone_line))]
 fn add_gone_id(page: &mut Octets, name: &str, level: Level, id: LspId) -> Result<(), OutOfMemory>
     ensures { OnOk result (page.new
         ≡ page.old ++ lines.gone_line name.now level (lsp_number id)) }
@@ -226,13 +205,47 @@ fn add_gone_id(page: &mut Octets, name: &str, level: Level, id: LspId) -> Result
     page.extend(b"\n")
 }
 
-/// A line for each cause that was met.
+/// A line for each cause that was met, in the order in which they are tested.
 fn add_drops(page: &mut Octets, name: &str, router: &Router) -> Result<(), OutOfMemory>
     ensures { OnOk result (page.new
         ≡ page.old ++ flat_map (lines.drop_line name.now router.now) lines.causes) }
 {
-    for cause in CAUSES {
-        match add_drop(page, name, router, cause) {
+    let causes = [
+        DropName::Frame,
+        DropName::Pdu,
+        DropName::TooLong,
+        DropName::WrongKind,
+        DropName::WrongLevel,
+        DropName::Auth,
+        DropName::Value,
+        DropName::ZeroNumber,
+        DropName::BadChecksum,
+        DropName::OwnId,
+        DropName::OtherSnpa,
+        DropName::NoLevel,
+        DropName::NoArea,
+        DropName::NoThreeWay,
+        DropName::OtherNeighbour,
+        DropName::TooMany,
+        DropName::NoAdjacency,
+        DropName::NotDesignated,
+        DropName::StoreFull,
+    ];
+    add_causes(page, name, router, &causes)
+}
+
+/// A line for each of these causes that was met.
+fn add_causes(
+    page: &mut Octets,
+    name: &str,
+    router: &Router,
+    causes: &[DropName],
+) -> Result<(), OutOfMemory>
+    ensures { OnOk result (page.new
+        ≡ page.old ++ flat_map (lines.drop_line name.now router.now) causes.now) }
+{
+    for cause in causes {
+        match add_drop(page, name, router, *cause) {
             Ok(()) => {}
             Err(error) => return Err(error),
         }
@@ -241,6 +254,7 @@ fn add_drops(page: &mut Octets, name: &str, router: &Router) -> Result<(), OutOf
 }
 
 /// `drop NAME WORD COUNT`, where the count isn't 0.
+#[tactic(auto, unfolding(crate::specs::RouterLines::drop_line))]
 fn add_drop(
     page: &mut Octets,
     name: &str,
@@ -259,4 +273,28 @@ fn add_drop(
     page.extend(cause.word().as_bytes())?;
     add_number(page, b" ", count)?;
     page.extend(b"\n")
+}
+
+/// A router's system ID.
+fn system_of(router: &Router) -> SystemId
+    ensures { system_id router.now.config.system ≡ result }
+{
+    let system = router.desk().system();
+    system_law(system);
+    system
+}
+
+/// Six octets.
+fn are_six(octets: [u8; 6])
+    ensures six { length octets ≡ 6 }
+    ensures small { AllByRecursion (λ octet. octet < 256) octets }
+{
+    let [_a, _b, _c, _d, _e, _f] = octets;
+}
+
+/// A system ID is that of its number. It does nothing.
+fn system_law(system: SystemId)
+    ensures { system_id (system_number system) ≡ system }
+{
+    are_six(system.0);
 }

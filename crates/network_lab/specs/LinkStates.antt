@@ -8,7 +8,7 @@ use Rattle.isis_model.specs.Routers.{Router}
 use Rattle.network_model.specs.declared.end.End.{End}
 use Rattle.link_states.specs.declared.link_state.LinkState.{LinkState}
 use Rattle.link_states.specs.LinkStates.{state_of, no_state}
-use Rattle.link_states.specs.Joined.{AreGroups}
+use Rattle.link_states.specs.Grouped.{groups_of}
 use Rattle.network_lab.specs.LabNets.{Seen}
 
 -- whether a router runs a level
@@ -49,5 +49,5 @@ abbrev pub pairs_of : Seen → Level → List (ℕ × ℕ)
 pairs_of s level = flat_map (joined_by s.routers level) s.links
 
 -- the groups of the routers that run a level, which its clean links join
-abbrev pub AreAgreed : Seen → Level → List (List ℕ) → Type 0
-AreAgreed s level groups = AreGroups (runs_of s.routers level) (pairs_of s level) groups
+abbrev pub groups_at : Seen → Level → List (List ℕ)
+groups_at s level = groups_of (runs_of s.routers level) (pairs_of s level)

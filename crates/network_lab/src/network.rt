@@ -12,7 +12,7 @@ ghost use Rattle.network_lab.specs.declared.faults.LimitName.TheVariants.{Router
 ghost use Rattle.network_lab.specs.LabNets.{StandsFor, empty_lab, next_place, with_router, with_link, with_key, with_priority};
 ghost use Rattle.network_lab.specs.LabEvents.{happening_of, IsEvent, refusal, after, ApplyCause};
 ghost use Rattle.network_lab.specs.LabCauses.{RouterCause, LinkCause, IsStop, RunCause, HasCircuit};
-ghost use Rattle.network_lab.specs.LinkStates.{state_at, AreAgreed};
+ghost use Rattle.network_lab.specs.LinkStates.{state_at, groups_at};
 ghost use Rattle.network_lab.specs.Claims.{IsClaimed, AreEnds};
 
 use crate::event::LabEvent;
@@ -242,7 +242,7 @@ impl Network {
     /// The groups of the routers that run a level: those that are joined by links that are up and
     /// without flags.
     pub fn agreed(&self, level: Level) -> Result<Groups, OutOfMemory>
-        ensures { IfOk result (λ groups. AreAgreed self.now.seen level groups) }
+        ensures { IfOk result (λ groups. groups ≡ groups_at self.now.seen level) }
     {
         let _ = &self.alloc;
         Err(OutOfMemory)
