@@ -1,0 +1,10 @@
+//! Lab scripts are played: a network is laid out by the setup lines, and its events come one after
+//! another.
+//!
+//! - `lay_out.rt`: the network before its events; `play.rt`: the event lines
+#![tactic(auto)]
+
+mod lay_out;
+mod play;
+
+pub use play::play;
