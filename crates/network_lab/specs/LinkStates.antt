@@ -6,7 +6,7 @@ use Rattle.isis_model.specs.Both.{at}
 use Rattle.isis_model.specs.Places.{nth}
 use Rattle.isis_model.specs.Routers.{Router}
 use Rattle.network_model.specs.declared.end.End.{End}
-use Rattle.link_states.specs.declared.link_state.LinkState.{LinkState}
+use Rattle.link_states.specs.declared.state.LinkState.{LinkState}
 use Rattle.link_states.specs.LinkStates.{state_of, no_state}
 use Rattle.link_states.specs.Grouped.{groups_of}
 use Rattle.network_lab.specs.LabNets.{Seen}
