@@ -1,10 +1,10 @@
 -- A network laid out as a script says.
-use Rattle.std.proofs.Common.{◌≡◌, ◌∙◌, ℕ, zero, suc, ◌+◌, ◌<◌, ◌≤◌, Bool, true, false, cond, eqb, List, [], ◌∷◌, ◌++◌, length, get_or, take, drop, ◌⊎◌, inl, inr, refl, sym, ap, subst, arith}
-use Rattle.std.specs.Prelude.{◌==◌, ◌&&◌, ◌||◌}
+use Rattle.std.proofs.Common.{◌≡◌, ◌∙◌, ℕ, zero, suc, ◌+◌, ◌<◌, true, List, [], ◌∷◌, ◌++◌, length, get_or, inl, inr, refl, sym, ap, subst, arith}
+use Rattle.std.specs.Prelude.{◌==◌, ◌&&◌}
 use Rattle.std.specs.Borrow.{Bor}
 use Rattle.std.specs.List.{AllByRecursion}
 use Rattle.std.proofs.lemmas.Bool.{eqb-true, and_parts, or_cases}
-use Rattle.network_lab.specs.KeysNet.{Net, with_link, has_pair, ordered, is_joined}
+use Rattle.network_lab.specs.KeysNet.{Net, with_link, has_pair, ordered}
 use Rattle.network_lab.proofs.PairLemmas.{has_pair-new, has_pair-kept}
 use Rattle.lab_script.specs.declared.events.EventLine.{EventLine}
 use Rattle.lab_script.specs.declared.events.KeyEvent.{KeyEvent}

@@ -1,17 +1,11 @@
 -- What holds of scripts with a line more, and of networks that are laid out as they say.
-use Rattle.std.proofs.Common.{◌≡◌, ◌∙◌, ℕ, zero, suc, ◌<◌, true, false, List, [], ◌∷◌, ◌++◌, length, get_or, refl, sym, ap, subst, arith, length-append}
+use Rattle.std.proofs.Common.{◌≡◌, ◌∙◌, ℕ, zero, suc, ◌<◌, true, List, [], ◌∷◌, ◌++◌, length, get_or, sym, subst, arith}
 use Rattle.network_lab.specs.KeysNet.{Net, with_router, with_link, has_pair, ordered}
 use Rattle.network_lab.proofs.PairLemmas.{has_pair-kept}
 use Rattle.lab_script.specs.declared.events.KeyEvent.{KeyEvent}
 use Rattle.lab_script.specs.declared.events.KeyEvent.TheVariants.{Issue, Pass}
 use Rattle.lab_script.specs.declared.events.EventLine.{EventLine}
-use Rattle.std.specs.Prelude.{◌≤◌, ◌+◌, ◌==◌, ◌&&◌, nat_lt, Bool, cond}
-use Rattle.std.specs.List.{AllByRecursion}
-use Rattle.std.proofs.lemmas.Bool.Decides.{nat_tests}
-use Rattle.lab_script.specs.Links.{has_link}
-use Rattle.lab_script.specs.KeysJudged.{KeysScript}
 use Rattle.lab_text.specs.KeysInNet.{IsInNet, AreInNet, IsLaidOut}
-use Rattle.lab_script.proofs.LinkLemmas.{has_link-push}
 
 router-kept : (net : Net) (event : KeyEvent) → IsInNet net event → IsInNet (with_router net) event
 router-kept net (Issue router id key) h = omega arith

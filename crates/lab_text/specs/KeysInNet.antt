@@ -1,5 +1,5 @@
 -- The events of a keys script in its network.
-use Rattle.std.specs.Prelude.{◌≡◌, ℕ, ◌<◌, true, List}
+use Rattle.std.specs.Prelude.{◌≡◌, ◌<◌, true, List}
 use Rattle.std.specs.List.{AllByRecursion}
 use Rattle.network_lab.specs.KeysNet.{Net, is_joined}
 use Rattle.lab_script.specs.declared.events.KeyEvent.{KeyEvent}

@@ -16,7 +16,7 @@ mod tests;
 
 pub use fault::RunFault;
 pub use lab_script::{
-    CIRCUIT_LIMIT, End, Hex, KeyScope, LabDeed, LabKey, LabLine, LabLink, LabRouter, LabScript, Name,
-    Reason, Script, ScriptFault, cut, read_script,
+    CIRCUIT_LIMIT, End, Hex, KeyScope, LabDeed, LabKey, LabLine, LabLink, LabRouter, LabScript,
+    Name, Reason, Script, ScriptFault, cut, read_script,
 };
 pub use run::run_script;
