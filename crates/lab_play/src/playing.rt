@@ -25,7 +25,9 @@ use std::alloc::Global;
 /// The network at the end of a lab script. The first line whose event is refused, or which passes
 /// a limit, is told.
 pub fn play(alloc: Global, script: &LabScript<'_>) -> Result<Network, ScriptFault>
-    ensures { Played result (end_of script.now) }
+    ensures value { Played result (end_of script.now) }
+    ensures laid { IfOk result (λ net.
+        IsLaid (length script.now.routers) script.now.links net.seen) }
 {
     let mut net = match lay_out(alloc, script) {
         Ok(net) => net,
@@ -45,8 +47,10 @@ fn play_lines(
 ) -> Result<(), ScriptFault>
     requires laid { IsLaid (length script.now.routers) script.now.links net.old.seen }
     requires goes_on { net.old.stopped ≡ None }
-    ensures { (m : ModelNetwork) → StandsFor m net.old
+    ensures value { (m : ModelNetwork) → StandsFor m net.old
         → Plays result net.new (play_all m script.now.lines) }
+    ensures links { net.new.seen.links ≡ net.old.seen.links }
+    ensures routers { length net.new.seen.routers ≡ length net.old.seen.routers }
 {
     for line in script.lines() {
         match play_line(alloc, net, line) {

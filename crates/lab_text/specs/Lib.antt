@@ -5,3 +5,4 @@ pub mod KeysRuns
 pub mod ReportLeft
 pub mod RunFaults
 pub mod Runs
+pub mod LabReports

@@ -1,7 +1,6 @@
 -- The report of a script, and how its run ends (own).
 use Rattle.std.specs.Prelude.{◌≡◌, List, [], ℕ, Option, Result, Ok, Err, IsOkAnd}
 use Rattle.isis_edge.specs.Told.{Wrote, WrotePrefix, TellsSame}
-use Rattle.lab_script.specs.declared.reason.Reason.TheVariants.{NotBuilt}
 use Rattle.lab_script.specs.declared.reason.ScriptFault.{ScriptFault}
 use Rattle.lab_script.specs.declared.reason.ScriptFault.TheVariants.{Refused, Limit}
 use Rattle.lab_script.specs.declared.script.Script.{Script}
@@ -9,11 +8,12 @@ use Rattle.lab_script.specs.declared.script.Script.TheVariants.{Keys, Lab}
 use Rattle.lab_text.specs.declared.fault.RunFault.{RunFault}
 use Rattle.lab_text.specs.declared.fault.RunFault.TheVariants as run
 use Rattle.lab_text.specs.KeysRuns.{keys_report}
+use Rattle.lab_text.specs.LabReports.{lab_report}
 
--- the report of a script, or what refuses it while it runs; lab scripts aren't played yet
+-- the report of a script, or what refuses it while it runs
 abbrev pub report_of : Script → Result (List ℕ) ScriptFault
 report_of (Keys script) = keys_report script
-report_of (Lab script) = Err (Refused 1 NotBuilt)
+report_of (Lab script) = lab_report script
 
 -- a report; none of a script that is refused
 abbrev pub told : Result (List ℕ) ScriptFault → List ℕ

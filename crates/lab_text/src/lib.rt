@@ -1,13 +1,14 @@
 //! Scripts of the lab: played, and reported.
 //!
-//! So far keys scripts, of a plain network that passes numbered copies of LSPs' keys; lab scripts, of whole networks of
-//! routers, are read (lab_script) but refused as not built when they are run. The report is this project's own.
+//! Keys scripts, of a plain network that passes numbered copies of LSPs' keys, and lab scripts, of whole networks of
+//! routers (lab_script, lab_play, lab_report). The reports are this project's own.
 //!
-//! - `run.rt`: the run of a script; `report.rt`: its report, made as it is written, and `left.rt` what is still to come of it
+//! - `run.rt`: the run of a script; `lab_run.rt`: that of a lab script; `report.rt`: its report, made as it is written, and `left.rt` what is still to come of it
 //! - `fault.rt`: why a script can't be run
 #![tactic(auto)]
 
 mod fault;
+mod lab_run;
 mod left;
 mod report;
 mod run;

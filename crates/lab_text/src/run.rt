@@ -9,6 +9,7 @@ ghost use Rattle.lab_text.specs.Runs.{ReportEnds, RunEnds};
 ghost use Rattle.lab_text.specs.KeysInNet.{IsInNet, AreInNet, IsLaidOut};
 
 use crate::fault::RunFault;
+use crate::lab_run::run_lab;
 use crate::left::KeysReport;
 use isis_base::OutOfMemory;
 use isis_edge::{Sink, TextFailed, write_text};
@@ -16,8 +17,7 @@ use lab_script::{EventLine, KeyEvent, KeysScript, Reason, Script, ScriptFault};
 use network_lab::{KeyNet, LabFault};
 use std::alloc::Global;
 
-/// Runs a script and writes its whole report. Nothing is written before the run has come to its end. Lab scripts aren't
-/// played yet: they are refused in line 1.
+/// Runs a script and writes its whole report. Nothing is written before the run has come to its end.
 pub fn run_script<O: Sink>(alloc: Global, script: &Script<'_>, out: &mut O) -> Result<(), RunFault>
     ensures ends { RunEnds script.now (O.held out.old) (O.held out.new) result }
     ensures cause { result ≡ Err RunFault.Write → Rose (O.faults out.old) (O.faults out.new) }
@@ -25,10 +25,7 @@ pub fn run_script<O: Sink>(alloc: Global, script: &Script<'_>, out: &mut O) -> R
 {
     match script {
         Script::Keys(script) => run_keys(alloc, script, out),
-        Script::Lab(_) => Err(RunFault::Refused {
-            line: 1,
-            reason: Reason::NotBuilt,
-        }),
+        Script::Lab(script) => run_lab(alloc, script, out),
     }
 }
 
