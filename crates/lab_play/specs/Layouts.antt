@@ -1,10 +1,10 @@
 -- The network that a lab script lays out before its events (own).
 use Rattle.std.specs.Prelude.{ℕ, ◌+◌, ◌==◌, ◌&&◌, Bool, true, false, List, [], ◌∷◌, Option, Some, None, if◌then◌else◌}
-use Rattle.isis_model.specs.Places.{nth}
+use Rattle.isis_base.specs.declared.level.Level.{Level}
+use Rattle.isis_base.specs.declared.level.Level.TheVariants as level
 use Rattle.router_desk.specs.declared.config.Config.{Config}
 use Rattle.network_model.specs.Networks.{Network}
-use Rattle.network_lab.specs.LabNets.{LabNet, empty_lab, with_router, with_link, with_key, with_priority}
-use Rattle.lab_script.specs.declared.setup.End.{End}
+use Rattle.network_lab.specs.LabNets.{LabNet, empty_lab, with_router, with_link, with_key}
 use Rattle.lab_script.specs.declared.setup.KeyScope.{KeyScope}
 use Rattle.lab_script.specs.declared.setup.KeyScope.TheVariants as scope
 use Rattle.lab_script.specs.declared.setup.LabKey.{LabKey}
@@ -14,29 +14,28 @@ use Rattle.lab_script.specs.LabScripts.{LabScript}
 
 -- ---- keys: of several that are given for one purpose the last counts
 
-abbrev pub is_area : KeyScope → Bool
-is_area scope.Area = true
-is_area scope.Domain = false
-is_area (scope.Circuit place) = false
-
-abbrev pub is_domain : KeyScope → Bool
-is_domain scope.Area = false
-is_domain scope.Domain = true
-is_domain (scope.Circuit place) = false
+-- the scope of the key of a level: area of L1, domain of L2 (RFC 5304 3)
+abbrev pub is_of : Level → KeyScope → Bool
+is_of level.One scope.Area = true
+is_of level.One scope.Domain = false
+is_of level.One (scope.Circuit place) = false
+is_of level.Two scope.Area = false
+is_of level.Two scope.Domain = true
+is_of level.Two (scope.Circuit place) = false
 
 -- the key that this line gives, or else the one before it
-abbrev pub later_key : (KeyScope → Bool) → ℕ → LabKey → Option (List ℕ) → Option (List ℕ)
-later_key is router key before =
-    if key.router == router && is key.scope then Some key.key else before
+abbrev pub later_key : Level → ℕ → LabKey → Option (List ℕ) → Option (List ℕ)
+later_key level router key before =
+    if key.router == router && is_of level key.scope then Some key.key else before
 
 -- a router's key of a level, after those that it had before
-abbrev pub key_behind : (KeyScope → Bool) → ℕ → List LabKey → Option (List ℕ) → Option (List ℕ)
-key_behind is router [] before = before
-key_behind is router (key ∷ keys) before =
-    key_behind is router keys (later_key is router key before)
+abbrev pub key_behind : Level → ℕ → List LabKey → Option (List ℕ) → Option (List ℕ)
+key_behind level router [] before = before
+key_behind level router (key ∷ keys) before =
+    key_behind level router keys (later_key level router key before)
 
-abbrev pub key_of : (KeyScope → Bool) → ℕ → List LabKey → Option (List ℕ)
-key_of is router keys = key_behind is router keys None
+abbrev pub key_of : Level → ℕ → List LabKey → Option (List ℕ)
+key_of level router keys = key_behind level router keys None
 
 -- ---- routers
 
@@ -50,8 +49,8 @@ config_of keys number router = record {
   overload = false;
   circuits = [];
   prefixes = [];
-  area_key = key_of is_area number keys;
-  domain_key = key_of is_domain number keys;
+  area_key = key_of level.One number keys;
+  domain_key = key_of level.Two number keys;
 }
 
 -- the routers from this number on
@@ -60,7 +59,7 @@ with_routers keys number [] a = a
 with_routers keys number (router ∷ routers) a =
     with_routers keys (number + 1) routers (with_router a (config_of keys number router))
 
--- ---- links, keys of circuits, and priorities
+-- ---- links, and keys of circuits
 
 abbrev pub with_links : List LabLink → LabNet → LabNet
 with_links [] a = a
@@ -76,26 +75,12 @@ abbrev pub with_keys : List LabKey → LabNet → LabNet
 with_keys [] a = a
 with_keys (key ∷ keys) a = with_keys keys (with_scope key.router key.scope key.key a)
 
-abbrev pub priority_at : Option LabRouter → ℕ
-priority_at None = 64
-priority_at (Some router) = router.priority
-
--- the circuit of a link's end has its router's priority
-abbrev pub with_end : List LabRouter → End → LabNet → LabNet
-with_end routers e a =
-    with_priority a e.router (e.place + 1) (priority_at (nth routers e.router))
-
-abbrev pub with_priorities : List LabRouter → List LabLink → LabNet → LabNet
-with_priorities routers [] a = a
-with_priorities routers (link ∷ links) a =
-    with_priorities routers links
-    (with_end routers link.second (with_end routers link.first a))
-
--- what the setup lines of a script lay out
+-- what the setup lines of a script lay out; a priority is that of circuits on LANs, of which there
+-- are none yet
 abbrev pub laid_out : LabScript → LabNet
 laid_out script =
-    with_priorities script.routers script.links (with_keys script.keys
-    (with_links script.links (with_routers script.keys 0 script.routers empty_lab)))
+    with_keys script.keys (with_links script.links (with_routers script.keys 0 script.routers
+    empty_lab))
 
 -- the network of the model that it is before its events
 abbrev pub opened : LabNet → Network

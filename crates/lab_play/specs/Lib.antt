@@ -2,3 +2,4 @@
 pub mod Layouts
 pub mod LabRuns
 pub mod Played
+pub mod Setups

@@ -40,7 +40,15 @@ Plays (Err (Limit which)) after expected = expected ≡ Err (Limit which)
 
 -- the same of a network that is answered
 abbrev pub Played : Result LabNet ScriptFault → Result Network ScriptFault → Type 0
-Played (Ok net) expected = Plays (Ok tt) net expected
-Played (Err fault) expected = Plays (Err fault) (record {
-  configs = []; seen = record { routers = []; links = []; sent = []; injected = 0 };
-  begun = false; stopped = None }) expected
+Played (Ok after) expected =
+    (net : Network) × (expected ≡ Ok net) × StandsFor net after × (after.stopped ≡ None)
+Played (Err OutOfMemory) expected = Unit {0}
+Played (Err (Refused line reason)) expected = expected ≡ Err (Refused line reason)
+Played (Err (Limit which)) expected = expected ≡ Err (Limit which)
+
+-- where a network stands before some of its lines: for each network that it stood for at the
+-- beginning, it stands for one from which the lines that are left lead to the same end
+abbrev pub Leads : LabNet → List LabLine → LabNet → List LabLine → Type 0
+Leads start lines now left =
+    (net : Network) → StandsFor net start
+    → (next : Network) × (play_all net lines ≡ play_all next left) × StandsFor next now

@@ -1,6 +1,5 @@
 //! A lab script is played.
-ghost use Rattle.std.specs.Prelude.{◌≡◌, ◌<◌, ◌≤◌, ℕ, length, None, OnOk, IfOk, IfSome};
-ghost use Rattle.std.specs.List.{AllByRecursion};
+ghost use Rattle.std.specs.Prelude.{◌≡◌, ◌<◌, ◌≤◌, ◌+◌, ℕ, length, None, OnOk, IfOk, IfSome};
 ghost use Rattle.network_model.specs.Networks.{Network as ModelNetwork};
 ghost use Rattle.network_lab.specs.LabNets.{StandsFor};
 ghost use Rattle.network_lab.specs.LabEvents.{IsEvent};
@@ -8,14 +7,15 @@ ghost use Rattle.network_lab.specs.declared.event.LabEvent.TheVariants as event;
 ghost use Rattle.network_model.specs.RunLines.{run_line};
 ghost use Rattle.router_core.specs.Givens.{given};
 ghost use Rattle.lab_script.specs.declared.deeds.LabDeed.TheVariants as deed;
-ghost use Rattle.lab_script.specs.LabSound.{IsDeed};
+ghost use Rattle.isis_model.specs.Places.{nth};
+ghost use Rattle.router_desk.specs.declared.config.Change.TheVariants as change;
+ghost use Rattle.lab_script.specs.LabSound.{IsDeed, IsCircuit, IsEnd};
 ghost use Rattle.lab_play.specs.LabRuns as run;
 ghost use Rattle.lab_play.specs.LabRuns.{play_deed, play_all, end_of};
 ghost use Rattle.lab_play.specs.Played.{Plays, Played, IsLaid};
-ghost use Rattle.lab_script.specs.declared.setup.LabLink.{LabLink};
 
 use crate::lay_out::lay_out;
-use isis_base::OutOfMemory;
+use isis_base::{Octets, OutOfMemory};
 use lab_script::{LabDeed, LabLine, LabScript, Reason, ScriptFault};
 use network_lab::{LabEvent, LabFault, Network};
 use network_model::PduWord;
@@ -52,8 +52,9 @@ fn play_lines(
     ensures links { net.new.seen.links ≡ net.old.seen.links }
     ensures routers { length net.new.seen.routers ≡ length net.old.seen.routers }
 {
-    for line in script.lines() {
-        match play_line(alloc, net, line) {
+    let lines = script.lines();
+    for line in lines {
+        match play_line(alloc, net, script, line) {
             Ok(()) => {}
             Err(fault) => return Err(fault),
         }
@@ -62,14 +63,20 @@ fn play_lines(
 }
 
 /// One event line.
-fn play_line(alloc: Global, net: &mut Network, line: &LabLine<'_>) -> Result<(), ScriptFault>
+fn play_line(
+    alloc: Global,
+    net: &mut Network,
+    script: &LabScript<'_>,
+    line: &LabLine<'_>,
+) -> Result<(), ScriptFault>
     requires goes_on { net.old.stopped ≡ None }
-    requires there { (links : List LabLink) × IsLaid (length net.old.seen.routers) links net.old.seen
-        × IsDeed (length net.old.seen.routers) links line.now.deed }
+    requires laid { IsLaid (length script.now.routers) script.now.links net.old.seen }
+    requires deed { IsDeed (length script.now.routers) script.now.links line.now.deed }
     ensures value { (m : ModelNetwork) → StandsFor m net.old
         → Plays result net.new (play_deed m line.now.line line.now.deed) }
     ensures links { net.new.seen.links ≡ net.old.seen.links }
     ensures routers { length net.new.seen.routers ≡ length net.old.seen.routers }
+    ensures goes_on { OnOk result (net.new.stopped ≡ None) }
 {
     let number = line.line;
     match &line.deed {
@@ -108,15 +115,7 @@ fn play_line(alloc: Global, net: &mut Network, line: &LabLine<'_>) -> Result<(),
             router,
             place,
             metric,
-        } => play_change(
-            net,
-            number,
-            *router,
-            Change::Metric {
-                circuit: *place as u8 + 1,
-                metric: *metric,
-            },
-        ),
+        } => play_metric(net, script, number, *router, *place, *metric),
         LabDeed::Overload { router, on } => {
             play_change(net, number, *router, Change::Overload { on: *on })
         }
@@ -125,15 +124,7 @@ fn play_line(alloc: Global, net: &mut Network, line: &LabLine<'_>) -> Result<(),
             link,
             octets,
         } => match octets.octets(alloc) {
-            Ok(octets) => play_event(
-                net,
-                number,
-                LabEvent::Inject {
-                    router: *router,
-                    link: *link,
-                    octets,
-                },
-            ),
+            Ok(octets) => play_injection(net, script, number, *router, *link, octets),
             Err(OutOfMemory) => Err(ScriptFault::OutOfMemory),
         },
         LabDeed::Dump { datagram } => tell(net, number, *datagram),
@@ -143,6 +134,71 @@ fn play_line(alloc: Global, net: &mut Network, line: &LabLine<'_>) -> Result<(),
             except,
         } => play_run(net, *seconds, *without, *except),
     }
+}
+
+/// Another metric of a router's circuit.
+fn play_metric(
+    net: &mut Network,
+    script: &LabScript<'_>,
+    line: usize,
+    router: usize,
+    place: usize,
+    metric: u32,
+) -> Result<(), ScriptFault>
+    requires goes_on { net.old.stopped ≡ None }
+    requires laid { IsLaid (length script.now.routers) script.now.links net.old.seen }
+    requires there { IsCircuit (length script.now.routers) script.now.links router place }
+    requires metric { metric ≤ 16777215 }
+    ensures value { (m : ModelNetwork) → StandsFor m net.old → Plays result net.new
+        (run.play_event m line (event.Change router (change.Metric (place + 1) metric))) }
+    ensures links { net.new.seen.links ≡ net.old.seen.links }
+    ensures routers { length net.new.seen.routers ≡ length net.old.seen.routers }
+    ensures goes_on { OnOk result (net.new.stopped ≡ None) }
+{
+    let _links = script.links();
+    net.facts();
+    let circuit = circuit_of(net, router, place);
+    play_change(net, line, router, Change::Metric { circuit, metric })
+}
+
+/// The number of a router's circuit at a place.
+fn circuit_of(net: &Network, router: usize, place: usize) -> u8
+    requires router { router < length net.now.seen.routers }
+    requires there { IfSome (nth net.now.seen.routers router)
+        (λ r. place < length r.circuits) }
+    ensures { result ≡ place + 1 }
+{
+    net.router(router).facts();
+    place as u8 + 1
+}
+
+/// Octets are injected.
+fn play_injection(
+    net: &mut Network,
+    script: &LabScript<'_>,
+    line: usize,
+    router: usize,
+    link: usize,
+    octets: Octets,
+) -> Result<(), ScriptFault>
+    requires goes_on { net.old.stopped ≡ None }
+    requires laid { IsLaid (length script.now.routers) script.now.links net.old.seen }
+    requires there { IsEnd (length script.now.routers) script.now.links router link }
+    ensures value { (m : ModelNetwork) → StandsFor m net.old
+        → Plays result net.new (run.play_event m line (event.Inject router link octets)) }
+    ensures links { net.new.seen.links ≡ net.old.seen.links }
+    ensures routers { length net.new.seen.routers ≡ length net.old.seen.routers }
+    ensures goes_on { OnOk result (net.new.stopped ≡ None) }
+{
+    play_event(
+        net,
+        line,
+        LabEvent::Inject {
+            router,
+            link,
+            octets,
+        },
+    )
 }
 
 /// A change of a router's configuration.
@@ -158,6 +214,7 @@ fn play_change(
         → Plays result net.new (run.play_event m line (event.Change router change)) }
     ensures links { net.new.seen.links ≡ net.old.seen.links }
     ensures routers { length net.new.seen.routers ≡ length net.old.seen.routers }
+    ensures goes_on { OnOk result (net.new.stopped ≡ None) }
 {
     play_event(net, line, LabEvent::Change { router, change })
 }
@@ -170,6 +227,7 @@ fn play_event(net: &mut Network, line: usize, event: LabEvent) -> Result<(), Scr
         → Plays result net.new (run.play_event m line event) }
     ensures links { net.new.seen.links ≡ net.old.seen.links }
     ensures routers { length net.new.seen.routers ≡ length net.old.seen.routers }
+    ensures goes_on { OnOk result (net.new.stopped ≡ None) }
 {
     let answer = net.apply(event);
     net.facts();
@@ -230,6 +288,7 @@ fn play_run(
         → Plays result net.new (run.within (run_line given without except seconds m)) }
     ensures links { net.new.seen.links ≡ net.old.seen.links }
     ensures routers { length net.new.seen.routers ≡ length net.old.seen.routers }
+    ensures goes_on { OnOk result (net.new.stopped ≡ None) }
 {
     let answer = net.run(seconds, without, except);
     net.facts();
