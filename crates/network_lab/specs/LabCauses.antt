@@ -27,7 +27,8 @@ LinkCause a i j fault = ⊥
 -- a router has the circuit of this number, counted from 1
 abbrev pub HasCircuit : LabNet → ℕ → ℕ → Type 0
 HasCircuit a router circuit =
-    IfSome (nth a.configs router)
+    (router < length a.configs)
+    × IfSome (nth a.configs router)
     (λ config. (1 ≤ circuit) × (circuit ≤ length config.circuits))
 
 -- a fault after which the run stands still

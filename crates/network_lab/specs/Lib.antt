@@ -8,3 +8,6 @@ pub mod LabNets
 pub mod LabEvents
 pub mod LabCauses
 pub mod Claims
+pub mod LabInside
+pub mod LabSteps
+pub mod LabRuns
