@@ -2,3 +2,15 @@ pub mod HeldLemmas
 pub mod NetLemmas
 pub mod PairLemmas
 pub mod KeysLemmas
+pub mod PlaceLemmas
+pub mod SentLemmas
+pub mod EventLemmas
+pub mod LabLemmas
+pub mod LinkLemmas
+pub mod RunLemmas
+pub mod StepLemmas
+pub mod TakeLemmas
+pub mod LoopLemmas
+pub mod ConfigLemmas
+pub mod ReadLemmas
+pub mod SetupLemmas

@@ -9,3 +9,6 @@ pub mod LabEvents
 pub mod LabCauses
 pub mod Claims
 pub mod LinkStates
+pub mod LabInside
+pub mod LabSteps
+pub mod LabRuns

@@ -3,6 +3,7 @@ ghost use Rattle.std.specs.Prelude.{◌≡◌, Some};
 ghost use Rattle.network_lab.specs.Limits.{limit_word, fault_line};
 ghost use Rattle.network_lab.specs.declared.faults.LabFault.TheVariants.{OutOfMemory};
 
+use isis_base::OutOfMemory;
 use std::alloc::{AllocError, AllocFailed};
 use std::error::Error;
 use std::fmt;
@@ -74,6 +75,14 @@ impl From<AllocError> for LabFault {
     ghost from_gives = { λ _ fault. fault ≡ OutOfMemory };
 
     fn from(_error: AllocError) -> LabFault {
+        LabFault::OutOfMemory
+    }
+}
+
+impl From<OutOfMemory> for LabFault {
+    ghost from_gives = { λ _ fault. fault ≡ OutOfMemory };
+
+    fn from(_error: OutOfMemory) -> LabFault {
         LabFault::OutOfMemory
     }
 }

@@ -6,13 +6,22 @@
 //! - `held.rt`: the newest keys of one router, by LSP ID
 #![tactic(auto)]
 
+mod applying;
+mod ends;
 mod event;
+mod facts;
 mod faults;
 mod held;
 mod key_net;
 pub mod laws;
 mod network;
+mod places;
+mod row;
+mod running;
 mod sent;
+mod states;
+mod setup;
+mod taking;
 #[cfg(test)]
 mod tests;
 

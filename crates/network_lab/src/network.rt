@@ -1,25 +1,16 @@
-//! A network of routers.
-ghost use Rattle.std.specs.Prelude.{◌≡◌, ◌≢◌, ℕ, ◌<◌, ◌≤◌, ◌-◌, ◌⊎◌, true, false, None, [], length, Err, Some, IfSome, IfOk, IfErr, OnOk, OnErr, slice_index};
+//! A network of routers, and what is read of it.
+ghost use Rattle.std.specs.Prelude.{◌≡◌, ◌<◌, ◌≤◌, ◌-◌, length, Some};
 ghost use Rattle.std.specs.Option.{option_map};
-ghost use Rattle.std.specs.List.{AllByRecursion};
 ghost use Rattle.isis_model.specs.Places.{nth};
-ghost use Rattle.router_desk.specs.Limits.{IsValid, IsKey};
-ghost use Rattle.router_core.specs.Givens.{given};
-ghost use Rattle.network_model.specs.Networks.{Network as ModelNetwork, numbered};
-ghost use Rattle.network_model.specs.RunLines.{run_line, link_of as link_at};
-ghost use Rattle.network_lab.specs.declared.faults.LabFault.TheVariants.{Limit};
-ghost use Rattle.network_lab.specs.declared.faults.LimitName.TheVariants.{Routers, Links, Circuits};
-ghost use Rattle.network_lab.specs.LabNets.{StandsFor, empty_lab, next_place, with_router, with_link, with_key, with_priority};
-ghost use Rattle.network_lab.specs.LabEvents.{happening_of, IsEvent, refusal, after, ApplyCause};
-ghost use Rattle.network_lab.specs.LabCauses.{RouterCause, LinkCause, IsStop, RunCause, HasCircuit};
-ghost use Rattle.network_lab.specs.LinkStates.{state_at, groups_at};
-ghost use Rattle.network_lab.specs.Claims.{IsClaimed, AreEnds};
+ghost use Rattle.network_model.specs.Networks.{numbered};
+ghost use Rattle.network_model.specs.RunLines.{link_of as link_at};
+ghost use Rattle.network_lab.specs.LabNets.{empty_lab};
 
-use crate::event::LabEvent;
 use crate::faults::LabFault;
-use isis_base::{Level, Octets, OutOfMemory};
-use link_states::{Groups, LinkState};
-use network_model::{End, PduWord};
+use crate::places::sent_at;
+use crate::row::Row;
+use crate::sent::SentDatagram;
+use network_model::End;
 use router_core::Router;
 use router_desk::Config;
 use std::alloc::Global;
@@ -30,15 +21,29 @@ use std::marker::Model;
 /// order, and how often.
 #[derive(Drop)]
 pub struct Network {
-    alloc: Global,
+    pub(crate) alloc: Global,
+    pub(crate) configs: Vec<Config>,
+    pub(crate) routers: Vec<Router>,
+    pub(crate) links: Vec<Row<End>>,
+    // of each link its ends in order of their routers
+    pub(crate) ordered: Vec<Row<End>>,
+    // of each router the links of its circuits
+    pub(crate) ports: Vec<Row<usize>>,
+    pub(crate) sent: Vec<SentDatagram>,
+    pub(crate) injected: u64,
+    pub(crate) begun: bool,
+    pub(crate) stopped: Option<LabFault>,
 }
 
 impl Model for Network {
-    ghost use Rattle.network_lab.specs.LabNets.{LabNet, empty_lab};
+    ghost use Rattle.network_lab.specs.LabNets.{LabNet};
+    ghost use Rattle.network_lab.specs.LabInside.{lab_of, IsSoundLab};
 
     ghost Value = { LabNet };
 
-    ghost view = { λ _. empty_lab };
+    ghost view = { lab_of };
+
+    ghost invariant = { IsSoundLab };
 }
 
 impl Network {
@@ -46,141 +51,18 @@ impl Network {
     pub fn new(alloc: Global) -> Network
         ensures { result ≡ empty_lab }
     {
-        Network { alloc }
-    }
-
-    /// Adds a router and answers its number, counted from 0. `Limit(Routers)` exactly where 1,024
-    /// are there.
-    pub fn add_router(&mut self, config: Config) -> Result<usize, LabFault>
-        requires valid { IsValid config }
-        requires bare { config.circuits ≡ [] }
-        requires fresh { AllByRecursion (λ other. other.system ≢ config.system) self.old.configs }
-        requires setup { self.old.begun ≡ false }
-        ensures number { IfOk result (λ router. router ≡ length self.old.configs) }
-        ensures ok { OnOk result (self.new ≡ with_router self.old config) }
-        ensures cause { IfErr result (RouterCause self.old) }
-        ensures limit { 1024 ≤ length self.old.configs → result ≡ Err (Limit Routers) }
-        ensures err { OnErr result (self.new ≡ self.old) }
-    {
-        let _ = &self.alloc;
-        Err(LabFault::OutOfMemory)
-    }
-
-    /// Adds a point-to-point link between two routers and answers its number, counted from 0. Each
-    /// end gets its next circuit. `Limit(Links)` exactly where 4,096 links are there, or else
-    /// `Limit(Circuits)` exactly where an end has 64 circuits.
-    pub fn add_link(&mut self, ends: [usize; 2], metric: u32) -> Result<usize, LabFault>
-        requires there { (slice_index ends 0 < length self.old.configs)
-            × (slice_index ends 1 < length self.old.configs) }
-        requires apart { slice_index ends 0 ≢ slice_index ends 1 }
-        requires metric { metric ≤ 16777215 }
-        requires setup { self.old.begun ≡ false }
-        ensures number { IfOk result (λ link. link ≡ length self.old.seen.links) }
-        ensures ok { OnOk result (self.new
-            ≡ with_link self.old (slice_index ends 0) (slice_index ends 1) metric) }
-        ensures cause { IfErr result (λ fault. LinkCause self.old (slice_index ends 0)
-            (slice_index ends 1) fault) }
-        ensures links { 4096 ≤ length self.old.seen.links → result ≡ Err (Limit Links) }
-        ensures circuits { length self.old.seen.links < 4096
-            → (64 ≤ next_place self.old (slice_index ends 0))
-            ⊎ (64 ≤ next_place self.old (slice_index ends 1))
-            → result ≡ Err (Limit Circuits) }
-        ensures err { OnErr result (self.new ≡ self.old) }
-    {
-        let _ = &self.alloc;
-        unreachable!()
-    }
-
-    /// Sets the key of the hellos of a router's circuit, counted from 1. It answers `OutOfMemory`
-    /// alone.
-    pub fn set_key(&mut self, router: usize, circuit: u8, key: Octets) -> Result<(), LabFault>
-        requires there { HasCircuit self.old router circuit }
-        requires key { IsKey key }
-        requires setup { self.old.begun ≡ false }
-        ensures ok { OnOk result (self.new ≡ with_key self.old router circuit key) }
-        ensures cause { IfErr result (λ fault. fault ≡ LabFault.OutOfMemory) }
-        ensures err { OnErr result (self.new ≡ self.old) }
-    {
-        let _ = &self.alloc;
-        unreachable!()
-    }
-
-    /// Sets the priority of a router's circuit, counted from 1. It answers `OutOfMemory` alone.
-    pub fn set_priority(
-        &mut self,
-        router: usize,
-        circuit: u8,
-        priority: u8,
-    ) -> Result<(), LabFault>
-        requires there { HasCircuit self.old router circuit }
-        requires priority { priority ≤ 127 }
-        requires setup { self.old.begun ≡ false }
-        ensures ok { OnOk result (self.new ≡ with_priority self.old router circuit priority) }
-        ensures cause { IfErr result (λ fault. fault ≡ LabFault.OutOfMemory) }
-        ensures err { OnErr result (self.new ≡ self.old) }
-    {
-        let _ = &self.alloc;
-        unreachable!()
-    }
-
-    /// One event. Whatever network of the model this network stood for, it then stands for that
-    /// network after the event. `NotSent`, `Stale`, `NotOn`, `Limit(Prefixes)` and `Limit(Boots)`
-    /// come exactly where the event is refused, which changes nothing; `Limit(Datagrams)` where it
-    /// sends past 262,144 datagrams. After `Limit(Datagrams)` or `OutOfMemory` each later call
-    /// answers the same.
-    pub fn apply(&mut self, event: LabEvent) -> Result<(), LabFault>
-        requires there { IsEvent self.old.seen event }
-        ensures run { OnOk result ((net : ModelNetwork) → StandsFor net self.old
-            → StandsFor (after net event) self.new) }
-        ensures refused { (net : ModelNetwork) → StandsFor net self.old → self.old.stopped ≡ None
-            → IfSome (refusal net event)
-            (λ fault. (result ≡ Err fault) × (self.new ≡ self.old)) }
-        ensures cause { IfErr result (λ fault. (net : ModelNetwork) → StandsFor net self.old
-            → ApplyCause net self.old.stopped event fault) }
-        ensures stopped { IfSome self.old.stopped
-            (λ fault. (result ≡ Err fault) × (self.new ≡ self.old)) }
-        ensures stops { IfErr result (λ fault. IsStop fault → self.new.stopped ≡ Some fault) }
-        ensures goes_on { OnOk result (self.new.stopped ≡ None) }
-        ensures links { self.new.seen.links ≡ self.old.seen.links }
-        ensures routers { length self.new.seen.routers ≡ length self.old.seen.routers }
-    {
-        let _ = &self.alloc;
-        unreachable!()
-    }
-
-    /// So many seconds in which what is sent is delivered at once: the events of a line `run`. It
-    /// answers `Limit(Datagrams)`, as `apply` does, or `OutOfMemory`, and nothing else.
-    pub fn run(
-        &mut self,
-        seconds: u32,
-        without: Option<PduWord>,
-        except: Option<usize>,
-    ) -> Result<(), LabFault>
-        requires seconds { seconds ≤ 86400 }
-        requires except { IfSome except (λ router. router < length self.old.seen.routers) }
-        ensures run { OnOk result ((net : ModelNetwork) → StandsFor net self.old
-            → StandsFor (run_line given without except seconds net) self.new) }
-        ensures cause { IfErr result (λ fault. (net : ModelNetwork) → StandsFor net self.old
-            → RunCause net self.old.stopped without except seconds fault) }
-        ensures stopped { IfSome self.old.stopped
-            (λ fault. (result ≡ Err fault) × (self.new ≡ self.old)) }
-        ensures goes_on { OnOk result (self.new.stopped ≡ None) }
-        ensures links { self.new.seen.links ≡ self.old.seen.links }
-        ensures routers { length self.new.seen.routers ≡ length self.old.seen.routers }
-    {
-        let _ = &self.alloc;
-        Err(LabFault::OutOfMemory)
-    }
-
-    /// What always holds of a network: at most 262,144 datagrams were sent; the ends of links are
-    /// there; and, where no datagram was injected, on each point-to-point link that is up at a level each end names the other and
-    /// stands to it. It does nothing.
-    pub fn facts(&self)
-        ensures few { length self.now.seen.sent ≤ 262144 }
-        ensures ends { AreEnds self.now.seen }
-        ensures claim { IsClaimed self.now.seen }
-    {
-        let _ = &self.alloc;
+        Network {
+            alloc,
+            configs: Vec::new(alloc),
+            routers: Vec::new(alloc),
+            links: Vec::new(alloc),
+            ordered: Vec::new(alloc),
+            ports: Vec::new(alloc),
+            sent: Vec::new(alloc),
+            injected: 0,
+            begun: false,
+            stopped: None,
+        }
     }
 
     /// A router, by its number.
@@ -188,24 +70,21 @@ impl Network {
         requires { router < length self.now.seen.routers }
         ensures { nth self.now.seen.routers router ≡ Some result.now }
     {
-        let _ = &self.alloc;
-        unreachable!()
+        &self.routers[router]
     }
 
     /// The number of routers.
     pub fn routers(&self) -> usize
         ensures { result ≡ length self.now.seen.routers }
     {
-        let _ = &self.alloc;
-        0
+        self.routers.len()
     }
 
     /// The number of links and LANs.
     pub fn links(&self) -> usize
         ensures { result ≡ length self.now.seen.links }
     {
-        let _ = &self.alloc;
-        0
+        self.links.len()
     }
 
     /// The ends of a link or LAN.
@@ -213,8 +92,7 @@ impl Network {
         requires { link < length self.now.seen.links }
         ensures { nth self.now.seen.links link ≡ Some result.now }
     {
-        let _ = &self.alloc;
-        unreachable!()
+        self.links[link].as_slice()
     }
 
     /// The link or LAN of a router's circuit, counted from 1; `None` exactly where the router has
@@ -224,28 +102,7 @@ impl Network {
         requires number { 1 ≤ circuit }
         ensures { result ≡ link_at router (circuit - 1) 0 self.now.seen.links }
     {
-        let _ = &self.alloc;
-        unreachable!()
-    }
-
-    /// How the two ends of a point-to-point link stand at a level. All its numbers are 0 where an
-    /// end doesn't run the level.
-    pub fn link_state(&self, link: usize, level: Level) -> LinkState
-        requires { link < length self.now.seen.links }
-        ensures { IfSome (nth self.now.seen.links link)
-            (λ ends. result ≡ state_at self.now.seen.routers ends level) }
-    {
-        let _ = &self.alloc;
-        unreachable!()
-    }
-
-    /// The groups of the routers that run a level: those that are joined by links that are up and
-    /// without flags.
-    pub fn agreed(&self, level: Level) -> Result<Groups, OutOfMemory>
-        ensures { IfOk result (λ groups. groups ≡ groups_at self.now.seen level) }
-    {
-        let _ = &self.alloc;
-        Err(OutOfMemory)
+        self.port(router, usize::from(circuit) - 1)
     }
 
     /// The octets of a datagram, counted from 1; `None` exactly at 0 and past the last one.
@@ -253,8 +110,8 @@ impl Network {
         ensures { option_map (λ octets. octets.now) result
             ≡ option_map (λ d. d.octets) (numbered self.now.seen.sent number) }
     {
-        let _ = &self.alloc;
-        None
+        let datagram = sent_at(&self.sent, number)?;
+        Some(datagram.octets.as_slice())
     }
 
     /// The sender and the link of a datagram, counted from 1; `None` exactly at 0 and past the last
@@ -263,23 +120,21 @@ impl Network {
         ensures { result ≡ option_map (λ d. (d.sender, d.link))
             (numbered self.now.seen.sent number) }
     {
-        let _ = &self.alloc;
-        None
+        let datagram = sent_at(&self.sent, number)?;
+        Some((datagram.sender, datagram.link))
     }
 
     /// How many datagrams were sent.
     pub fn datagrams(&self) -> usize
         ensures { result ≡ length self.now.seen.sent }
     {
-        let _ = &self.alloc;
-        0
+        self.sent.len()
     }
 
     /// How many datagrams were injected.
     pub fn injected(&self) -> u64
         ensures { result ≡ self.now.seen.injected }
     {
-        let _ = &self.alloc;
-        0
+        self.injected
     }
 }

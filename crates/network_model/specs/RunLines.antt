@@ -66,7 +66,7 @@ deliver_one given without except number d net =
     (by_router (ends_of (nth net.links d.link))) net
 
 -- the most datagrams that a network sends (own)
-abbrev pub datagram_limit : ℕ
+unfoldable pub datagram_limit : ℕ
 datagram_limit = 262144
 
 -- own

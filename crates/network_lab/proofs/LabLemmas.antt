@@ -1,0 +1,119 @@
+-- What holds of a network's parts, as it is set up and goes on.
+use Rattle.std.proofs.Common.{◌≡◌, ◌≢◌, ℕ, zero, suc, ◌+◌, ◌<◌, ◌≤◌, ◌==◌, ◌||◌, ◌&&◌, Bool, true, false, List, [], ◌∷◌, ◌++◌, map, length, Option, Some, None, unwrap_or, if◌then◌else◌, refl, sym, ap, ◌∙◌, subst, arith, length-append}
+use Rattle.std.specs.List.{AllByRecursion}
+use Rattle.std.proofs.lemmas.Bool.Decides.{nat_tests}
+use Rattle.std.proofs.lemmas.List.{map-append, length-map}
+use Rattle.isis_model.specs.Places.{nth, with_nth}
+use Rattle.isis_model.specs.Routers.{Router}
+use Rattle.isis_model.proofs.ListLemmas.{all-map, all-append}
+use Rattle.isis_model.proofs.BookLemmas.{same-or}
+use Rattle.network_model.specs.declared.end.End.{End}
+use Rattle.network_model.specs.RunLines.{is_end, link_of}
+use Rattle.router_desk.specs.declared.config.Config.{Config}
+use Rattle.router_desk.specs.Limits.{IsValid}
+use Rattle.network_lab.specs.declared.sent.SentDatagram.{SentDatagram}
+use Rattle.network_lab.specs.declared.faults.LabFault.{LabFault}
+use Rattle.network_lab.specs.LabNets.{LabNet, router_of, with_router, with_link, with_config, link_circuit, with_circuit}
+use Rattle.network_lab.specs.LabInside.{counts_of, IsEndThere, AreEndsThere, ArePorts, IsSetUp, IsNet}
+use Rattle.network_lab.proofs.PlaceLemmas.{if-yes, if-no, self, differ, nth-set, nth-other, some-same, nth-there, nth-less, nth-map, map-with, length-with}
+
+-- ---- a run
+
+pub net-goes : (ports : List (List ℕ)) (ordered : List (List End)) (old : LabNet) (rs : List Router) (ds : List SentDatagram) (n : ℕ) (stop : Option LabFault) → IsNet ports ordered old → counts_of rs ≡ counts_of old.seen.routers → length ds ≤ 262144
+    → IsNet ports ordered (record { configs = old.configs; seen = record { routers = rs; links = old.seen.links; sent = ds; injected = n }; begun = true; stopped = stop })
+net-goes ports ordered old rs ds n stop h same few = record {
+  routers = same ∙ h.routers;
+  configs = h.configs;
+  ends = h.ends;
+  ported = h.ported;
+  sorted = h.sorted;
+  few = few;
+  setup = λ e. absurd (cc);
+}
+
+-- ---- lists with an item more
+
+abbrev pub first_of : {A : Type 0} → Option A → Option A → Option A
+first_of None b = b
+first_of (Some a) b = Some a
+
+eqb-suc : (a b : ℕ) → (suc a == suc b) ≡ (a == b)
+eqb-suc a b = same-or (λ t. (suc a == suc b) ≡ t) a b (λ e. ap (λ (n : ℕ). suc a == suc n) (sym e) ∙ self (suc a)) (λ n. differ (suc a) (suc b) (λ q. n (omega (arith, q))))
+
+pub nth-snoc : {A : Type 0} (xs : List A) (x : A) (i : ℕ) → nth (xs ++ (x ∷ [])) i ≡ first_of (nth xs i) (if length xs == i then Some x else None)
+nth-snoc [] x zero = refl
+nth-snoc [] x (suc i) = sym (if-no _ _ _ (differ 0 (suc i) (λ q. omega (arith, q))))
+nth-snoc (y ∷ xs) x zero = refl
+nth-snoc (y ∷ xs) x (suc i) = nth-snoc xs x i ∙ ap (λ (b : Bool). first_of (nth xs i) (if b then Some x else None)) (sym (eqb-suc (length xs) i))
+
+pub link-snoc : (router place from : ℕ) (links : List (List End)) (ends : List End) → link_of router place from (links ++ (ends ∷ [])) ≡ first_of (link_of router place from links) (if is_end router place ends then Some (from + length links) else None)
+link-snoc router place from [] ends = ap (λ (n : ℕ). if is_end router place ends then Some n else None) (omega arith)
+link-snoc router place from (x ∷ links) ends = of (is_end router place x) (link-snoc router place (from + 1) links ends)
+  where
+    of : (b : Bool) → link_of router place (from + 1) (links ++ (ends ∷ [])) ≡ first_of (link_of router place (from + 1) links) (if is_end router place ends then Some (from + 1 + length links) else None) → (if b then Some from else link_of router place (from + 1) (links ++ (ends ∷ []))) ≡ first_of (if b then Some from else link_of router place (from + 1) links) (if is_end router place ends then Some (from + length (x ∷ links)) else None)
+    of true r = refl
+    of false r = r ∙ ap (λ (n : ℕ). first_of (link_of router place (from + 1) links) (if is_end router place ends then Some n else None)) (omega arith)
+
+-- ---- ends
+
+pub end-less : (counts : List ℕ) (i place : ℕ) → place < unwrap_or (nth counts i) 0 → i < length counts
+end-less [] i place h = absurd (omega (arith, h))
+end-less (c ∷ counts) zero place h = omega arith
+end-less (c ∷ counts) (suc i) place h = let k = end-less counts i place h in omega (arith, k)
+
+pub ends-more : (counts more : List ℕ) → ((i : ℕ) → unwrap_or (nth counts i) 0 ≤ unwrap_or (nth more i) 0) → (links : List (List End)) → AllByRecursion (AreEndsThere counts) links → AllByRecursion (AreEndsThere more) links
+ends-more counts more m links h = all-map (AreEndsThere counts) (AreEndsThere more) links (λ ends t. all-map (IsEndThere counts) (IsEndThere more) ends (λ e k. let n = m e.router in omega (arith, k, n)) t) h
+
+not-end : (counts : List ℕ) (ends : List End) → AllByRecursion (IsEndThere counts) ends → (router place : ℕ) → length counts ≤ router → is_end router place ends ≡ false
+not-end counts [] h router place past = refl
+not-end counts (e ∷ ends) h router place past =
+    let inside = end-less counts e.router e.place h.0 in
+    ap (λ (b : Bool). (b && e.place == place) || is_end router place ends) (differ e.router router (λ q. omega (arith, inside, past, q))) ∙ not-end counts ends h.1 router place past
+
+no-link : (counts : List ℕ) (links : List (List End)) → AllByRecursion (AreEndsThere counts) links → (router place from : ℕ) → length counts ≤ router → link_of router place from links ≡ None
+no-link counts [] h router place from past = refl
+no-link counts (ends ∷ links) h router place from past = if-no _ _ _ (not-end counts ends h.0 router place past) ∙ no-link counts links h.1 router place (from + 1) past
+
+-- ---- a router more
+
+ports-router : (ports : List (List ℕ)) (links : List (List End)) → AllByRecursion (AreEndsThere (map length ports)) links → ArePorts ports links → ArePorts (ports ++ ([] ∷ [])) links
+ports-router ports links there h = record {
+  each = λ router list e place. of router list place (nth ports router) refl (length ports == router) refl (sym (nth-snoc ports [] router) ∙ e);
+}
+  where
+    of : (router : ℕ) (list : List ℕ) (place : ℕ) (o : Option (List ℕ)) → nth ports router ≡ o → (b : Bool) → (length ports == router) ≡ b → first_of o (if b then Some [] else None) ≡ Some list → link_of router place 0 links ≡ nth list place
+    of router list place (Some old) q b t e = h.each router list (q ∙ e) place
+    of router list place None q true t e =
+        let same : length ports ≡ router = grind (arith, nat_tests, t) in
+        no-link (map length ports) links there router place 0 (let n = length-map ports length in omega (arith, n, same)) ∙ ap (λ (xs : List ℕ). nth xs place) (some-same [] list e)
+    of router list place None q false t e = absurd (cc)
+
+counts-snoc : (counts : List ℕ) (n i : ℕ) → unwrap_or (nth counts i) 0 ≤ unwrap_or (nth (counts ++ (n ∷ [])) i) 0
+counts-snoc [] n i = omega arith
+counts-snoc (c ∷ counts) n zero = omega arith
+counts-snoc (c ∷ counts) n (suc i) = counts-snoc counts n i
+
+pub router-count : (config : Config) → length (router_of config).circuits ≡ length config.circuits
+router-count config = length-map _ _ ∙ length-map _ _
+
+pub net-router : (ports : List (List ℕ)) (ordered : List (List End)) (old : LabNet) (config : Config) → IsNet ports ordered old → old.begun ≡ false → IsValid config → config.circuits ≡ [] → IsNet (ports ++ ([] ∷ [])) ordered (with_router old config)
+net-router ports ordered old config h begun valid bare = record {
+  routers = map-append _ old.seen.routers (router_of config ∷ []) ∙ (two h.routers (router-count config ∙ ap length bare) ∙ sym (map-append length ports ([] ∷ [])));
+  configs = map-append _ old.configs (config ∷ []) ∙ (two h.configs (ap length bare) ∙ sym (map-append length ports ([] ∷ [])));
+  ends = subst (λ (counts : List ℕ). AllByRecursion (AreEndsThere counts) old.seen.links) (sym (map-append length ports ([] ∷ []))) (ends-more (map length ports) (map length ports ++ (0 ∷ [])) (counts-snoc (map length ports) 0) old.seen.links h.ends);
+  ported = ports-router ports old.seen.links h.ends h.ported;
+  sorted = h.sorted;
+  few = h.few;
+  setup = λ e. record {
+    valid = all-append IsValid old.configs (config ∷ []) s.valid (valid, tt);
+    routers = ap (λ (rs : List Router). rs ++ (router_of config ∷ [])) s.routers ∙ sym (map-append router_of old.configs (config ∷ []));
+    nothing = s.nothing;
+    none = s.none;
+  };
+}
+  where
+    s : IsSetUp old.configs old.seen
+    s = h.setup begun
+
+    two : {xs ys : List ℕ} {m n : ℕ} → xs ≡ ys → m ≡ n → xs ++ (m ∷ []) ≡ ys ++ (n ∷ [])
+    two e f = cc

@@ -1,0 +1,273 @@
+-- How each event of a network ends.
+use Rattle.std.proofs.Common.{◌≡◌, ℕ, zero, suc, ◌-◌, ◌+◌, ◌<◌, ◌≤◌, ◌==◌, ◌&&◌, not, nat_le, is_some, Bool, true, false, List, [], ◌∷◌, ◌++◌, get_or, unwrap_or, map, length, Option, Some, None, Result, Ok, Err, IfSome, IfErr, OnOk, OnErr, if◌then◌else◌, refl, sym, ap, ◌∙◌, subst, arith, length-append}
+use Rattle.std.specs.Option.{option_map}
+use Rattle.std.specs.Result.{result_err}
+use Rattle.std.proofs.lemmas.List.{length-map}
+use Rattle.isis_model.proofs.BookLemmas.{same-or}
+use Rattle.isis_model.specs.Places.{nth, with_nth}
+use Rattle.isis_model.specs.Books.{risen}
+use Rattle.isis_model.specs.Routers.{Router}
+use Rattle.isis_model.specs.Events.{Second, Pull}
+use Rattle.isis_model.specs.Steps.{step}
+use Rattle.router_desk.specs.declared.config.Config.{Config}
+use Rattle.isis_model.specs.Maps.{find}
+use Rattle.router_desk.specs.Configs.{prefix_number}
+use Rattle.router_desk.specs.declared.config.Change.{Change}
+use Rattle.router_desk.specs.declared.config.Change.TheVariants as change
+use Rattle.router_core.specs.declared.event.NodeEvent.{NodeEvent}
+use Rattle.router_core.specs.Events as core
+use Rattle.router_core.specs.Events.{event_of}
+use Rattle.router_core.specs.Givens.{given}
+use Rattle.network_model.specs.declared.end.End.{End}
+use Rattle.network_model.specs.Networks.{Network, place_on, place_in, numbered, restarted}
+use Rattle.network_model.specs.Runs.{taking, boot_of}
+use Rattle.network_lab.specs.declared.sent.SentDatagram.{SentDatagram}
+use Rattle.network_lab.specs.declared.event.LabEvent.{LabEvent}
+use Rattle.network_lab.specs.declared.event.LabEvent.TheVariants as event
+use Rattle.network_lab.specs.declared.faults.LabFault.{LabFault}
+use Rattle.network_lab.specs.declared.faults.LabFault.TheVariants as fault
+use Rattle.network_lab.specs.declared.faults.LimitName.TheVariants as limit
+use Rattle.network_lab.specs.LabNets.{Seen, LabNet, StandsFor, seen_of}
+use Rattle.network_lab.specs.LabEvents.{refusal, after, unless_changes}
+use Rattle.network_lab.specs.LabCauses.{IsStop}
+use Rattle.network_lab.specs.LabInside.{counts_of, AreEndsThere, IsNet}
+use Rattle.network_lab.specs.LabSteps.{moved_in, posted_in, StopCause, delivered_on, SameSize, Taken, Ending, Done, Refused, Stopped}
+use Rattle.network_lab.proofs.PlaceLemmas.{nth-there, nth-less, nth-get, nth-map, of-place, some-same, length-with}
+use Rattle.network_lab.proofs.LinkLemmas.{all-at}
+use Rattle.network_lab.proofs.EventLemmas.{tick-done, pull-off, pull-done, deliver-off, deliver-none, deliver-on, deliver-done, inject-off, inject-done, restart-off, restart-done, change-off, change-done, taken-ends}
+
+-- ---- a router takes an event
+
+view : List Config → List Router → List (List End) → List SentDatagram → ℕ → Bool → Option LabFault → LabNet
+view configs rs links ds n begun stopped = record {
+  configs = configs;
+  seen = record { routers = rs; links = links; sent = ds; injected = n };
+  begun = begun;
+  stopped = stopped;
+}
+
+taken-of : (configs : List Config) (rs now : List Router) (links : List (List End)) (ds sent : List SentDatagram) (n : ℕ) (begun : Bool) (i : ℕ) (link : Option ℕ) (event : NodeEvent) (res : Result (Unit {0}) LabFault) (r : Router)
+    → OnOk res (now ≡ with_nth rs i (step given r (event_of r event)).router) → OnOk res (sent ≡ ds ++ posted_in i link (event_of r event) r) → IfErr res (StopCause (length ds + length (posted_in i link (event_of r event) r))) → counts_of now ≡ counts_of rs
+    → Taken (view configs rs links ds n begun None) (view configs now links sent n true (result_err res)) (moved_in (view configs rs links ds n begun None).seen i link (event_of r event) r) res
+unfolding view
+taken-of configs rs now links ds sent n begun i link event (Ok u) r a b c k = record {
+  done = both a b;
+  stop = tt;
+  cause = tt;
+  size = record { links = refl; routers = sym (length-map now (λ (r : Router). length r.circuits)) ∙ (ap length k ∙ length-map rs (λ (r : Router). length r.circuits)) };
+}
+  where
+    both : {x y : List Router} {v w : List SentDatagram} → x ≡ y → v ≡ w → view configs x links v n true None ≡ view configs y links w n true None
+    both e f = cc
+taken-of configs rs now links ds sent n begun i link event (Err f) r a b c k = record {
+  done = tt;
+  stop = refl;
+  cause = subst (λ (m : ℕ). StopCause m f) (sym (length-append ds (posted_in i link (event_of r event) r))) c;
+  size = record { links = refl; routers = sym (length-map now (λ (r : Router). length r.circuits)) ∙ (ap length k ∙ length-map rs (λ (r : Router). length r.circuits)) };
+}
+
+pub take-ends : (configs : List Config) (rs now : List Router) (links : List (List End)) (ds sent : List SentDatagram) (n : ℕ) (begun : Bool) (stopped stop : Option LabFault) (old : LabNet) (i : ℕ) (link : Option ℕ) (event : NodeEvent) (res : Result (Unit {0}) LabFault)
+    → (record { configs = configs; seen = record { routers = rs; links = links; sent = ds; injected = n }; begun = begun; stopped = stopped }) ≡ old → old.stopped ≡ None
+    → OnOk res (IfSome (nth rs i) (λ r. now ≡ with_nth rs i (step given r (event_of r event)).router)) → OnOk res (IfSome (nth rs i) (λ r. sent ≡ ds ++ posted_in i link (event_of r event) r)) → IfErr res (λ f. IfSome (nth rs i) (λ r. StopCause (length ds + length (posted_in i link (event_of r event) r)) f))
+    → counts_of now ≡ counts_of rs → stop ≡ result_err res
+    → IfSome (nth old.seen.routers i) (λ r. Taken old (record { configs = configs; seen = record { routers = now; links = links; sent = sent; injected = n }; begun = true; stopped = stop }) (moved_in old.seen i link (event_of r event) r) res)
+unfolding view
+take-ends configs rs now links ds sent n begun stopped stop old i link event res is running a b c k s =
+    subst (λ (old : LabNet). IfSome (nth old.seen.routers i) (λ r. Taken old (record { configs = configs; seen = record { routers = now; links = links; sent = sent; injected = n }; begun = true; stopped = stop }) (moved_in old.seen i link (event_of r event) r) res)) (none ∙ is)
+    (subst (λ (stop : Option LabFault). IfSome (nth rs i) (λ r. Taken (view configs rs links ds n begun None) (view configs now links sent n true stop) (moved_in (view configs rs links ds n begun None).seen i link (event_of r event) r) res)) (sym s) (of (nth rs i) refl res a b c))
+  where
+    none : view configs rs links ds n begun None ≡ view configs rs links ds n begun stopped
+    none = ap (λ (x : Option LabFault). view configs rs links ds n begun x) (sym (ap (λ (l : LabNet). l.stopped) is ∙ running))
+
+    of : (o : Option Router) → nth rs i ≡ o → (res : Result (Unit {0}) LabFault) → OnOk res (IfSome o (λ r. now ≡ with_nth rs i (step given r (event_of r event)).router)) → OnOk res (IfSome o (λ r. sent ≡ ds ++ posted_in i link (event_of r event) r)) → IfErr res (λ f. IfSome o (λ r. StopCause (length ds + length (posted_in i link (event_of r event) r)) f))
+        → IfSome o (λ r. Taken (view configs rs links ds n begun None) (view configs now links sent n true (result_err res)) (moved_in (view configs rs links ds n begun None).seen i link (event_of r event) r) res)
+    of None q res a b c = tt
+    of (Some r) q (Ok u) a b c = taken-of configs rs now links ds sent n begun i link event (Ok u) r a b c k
+    of (Some r) q (Err f) a b c = taken-of configs rs now links ds sent n begun i link event (Err f) r a b c k
+
+-- ---- seconds and pulls
+
+pub tick-ends : (old new : LabNet) (i : ℕ) (res : Result (Unit {0}) LabFault) → i < length old.seen.routers → old.stopped ≡ None → IfSome (nth old.seen.routers i) (λ r. Taken old new (moved_in old.seen i None Second r) res) → Ending (event.Tick i) old new res
+tick-ends old new i res h running t =
+    let there = nth-there old.seen.routers i h in
+    taken-ends (event.Tick i) old new (moved_in old.seen i None Second there.0) res running (of-place (λ r. Taken old new (moved_in old.seen i None Second r) res) (nth old.seen.routers i) there.0 there.1 t) (tick-done old.seen i there.0 there.1)
+
+pub pull-off-ends : (old : LabNet) (i link : ℕ) (o : Option ℕ) → o ≡ None → option_map (λ circuit. circuit - 1) o ≡ place_in (nth old.seen.links link) i → Ending (event.Pull i link) old old (Err fault.NotOn)
+pull-off-ends old i link o q e = Refused fault.NotOn refl refl (λ s. s) (λ net s. pull-off old.seen link i (sym e ∙ ap (option_map (λ circuit. circuit - 1)) q) net s.seen)
+
+pub pull-ends : (old new : LabNet) (i link circuit : ℕ) (o : Option ℕ) (res : Result (Unit {0}) LabFault) → i < length old.seen.routers → old.stopped ≡ None → o ≡ Some circuit → option_map (λ circuit. circuit - 1) o ≡ place_in (nth old.seen.links link) i
+    → IfSome (nth old.seen.routers i) (λ r. Taken old new (moved_in old.seen i (Some link) (Pull (circuit - 1)) r) res) → Ending (event.Pull i link) old new res
+pull-ends old new i link circuit o res h running q e t =
+    let there = nth-there old.seen.routers i h in
+    taken-ends (event.Pull i link) old new (moved_in old.seen i (Some link) (Pull (circuit - 1)) there.0) res running (of-place (λ r. Taken old new (moved_in old.seen i (Some link) (Pull (circuit - 1)) r) res) (nth old.seen.routers i) there.0 there.1 t)
+    (pull-done old.seen link i (circuit - 1) there.0 (sym e ∙ ap (option_map (λ circuit. circuit - 1)) q) there.1)
+
+-- ---- deliveries
+
+calm-delivery : (a : Seen) (o : Option SentDatagram) (i : ℕ) → IfErr (delivered_on a o i) (λ f. IsStop f → ⊥)
+calm-delivery a None i = λ s. s
+calm-delivery a (Some d) i = by (boot_of (nth a.routers d.sender) == d.boot) (d.sender == i)
+  where
+    by : (b c : Bool) → IfErr (if not b then Err (fault.Stale (boot_of (nth a.routers d.sender))) else (if c then Err fault.NotOn else Ok d.link)) (λ f. IsStop f → ⊥)
+    by false c = λ s. s
+    by true true = λ s. s
+    by true false = tt
+
+pub deliver-off-ends : (old : LabNet) (n i : ℕ) (f : LabFault) → delivered_on old.seen (numbered old.seen.sent n) i ≡ Err f → Ending (event.Deliver n i) old old (Err f)
+deliver-off-ends old n i f h = Refused f refl refl (subst (λ (r : Result ℕ LabFault). IfErr r (λ f. IsStop f → ⊥)) h (calm-delivery old.seen (numbered old.seen.sent n) i)) (λ net s. deliver-off old.seen n i f h net s.seen)
+
+-- a datagram that is delivered is there
+heard : (a : Seen) (o : Option SentDatagram) (i link : ℕ) → delivered_on a o i ≡ Ok link → (x : SentDatagram) × (o ≡ Some x)
+heard a None i link h = absurd (cc)
+heard a (Some x) i link h = (x, refl)
+
+pub deliver-none-ends : (old : LabNet) (n i link : ℕ) (o : Option ℕ) → delivered_on old.seen (numbered old.seen.sent n) i ≡ Ok link → o ≡ None → option_map (λ circuit. circuit - 1) o ≡ place_in (nth old.seen.links link) i → Ending (event.Deliver n i) old old (Err fault.NotOn)
+deliver-none-ends old n i link o h q e =
+    let x = heard old.seen (numbered old.seen.sent n) i link h in
+    Refused fault.NotOn refl refl (λ s. s) (λ net s. deliver-none old.seen n i link x.0 x.1 h (sym e ∙ ap (option_map (λ circuit. circuit - 1)) q) net s.seen)
+
+pub deliver-stops : (old new : LabNet) (n i link circuit : ℕ) (o : Option ℕ) (res : Result (Unit {0}) LabFault) → delivered_on old.seen (numbered old.seen.sent n) i ≡ Ok link → o ≡ Some circuit → option_map (λ circuit. circuit - 1) o ≡ place_in (nth old.seen.links link) i
+    → res ≡ Err fault.OutOfMemory → new ≡ record old { begun = true; stopped = Some fault.OutOfMemory } → Ending (event.Deliver n i) old new res
+deliver-stops old new n i link circuit o res h q e bad is =
+    let x = heard old.seen (numbered old.seen.sent n) i link h in
+    Stopped fault.OutOfMemory bad (ap (λ (a : LabNet). a.stopped) is) (record { links = ap (λ (a : LabNet). a.seen.links) is; routers = ap (λ (a : LabNet). length a.seen.routers) is })
+    (λ net s. (deliver-on old.seen n i link (circuit - 1) x.0 x.1 h (sym e ∙ ap (option_map (λ circuit. circuit - 1)) q) net s.seen, tt))
+
+pub deliver-ends : (old new : LabNet) (n i link circuit : ℕ) (o : Option ℕ) (octets : List ℕ) (res : Result (Unit {0}) LabFault) → i < length old.seen.routers → old.stopped ≡ None → delivered_on old.seen (numbered old.seen.sent n) i ≡ Ok link → o ≡ Some circuit → option_map (λ circuit. circuit - 1) o ≡ place_in (nth old.seen.links link) i
+    → ((x : SentDatagram) → numbered old.seen.sent n ≡ Some x → octets ≡ x.octets)
+    → IfSome (nth old.seen.routers i) (λ r. Taken old new (moved_in old.seen i (Some link) (taking r (circuit - 1) octets) r) res) → Ending (event.Deliver n i) old new res
+deliver-ends old new n i link circuit o octets res h running d q e same t =
+    let there = nth-there old.seen.routers i h in
+    let x = heard old.seen (numbered old.seen.sent n) i link d in
+    taken-ends (event.Deliver n i) old new (moved_in old.seen i (Some link) (taking there.0 (circuit - 1) octets) there.0) res running (of-place (λ r. Taken old new (moved_in old.seen i (Some link) (taking r (circuit - 1) octets) r) res) (nth old.seen.routers i) there.0 there.1 t)
+    (deliver-done old.seen n i link (circuit - 1) x.0 octets there.0 (same x.0 x.1) x.1 d (sym e ∙ ap (option_map (λ circuit. circuit - 1)) q) there.1)
+
+-- ---- injections
+
+pub inject-off-ends : (old : LabNet) (i link : ℕ) (octets : List ℕ) (o : Option ℕ) → o ≡ None → option_map (λ circuit. circuit - 1) o ≡ place_in (nth old.seen.links link) i → Ending (event.Inject i link octets) old old (Err fault.NotOn)
+inject-off-ends old i link octets o q e = Refused fault.NotOn refl refl (λ s. s) (λ net s. inject-off old.seen link i octets (sym e ∙ ap (option_map (λ circuit. circuit - 1)) q) net s.seen)
+
+pub inject-ends : (old mid new : LabNet) (i link circuit : ℕ) (octets : List ℕ) (o : Option ℕ) (res : Result (Unit {0}) LabFault) → i < length old.seen.routers → old.stopped ≡ None → o ≡ Some circuit → option_map (λ circuit. circuit - 1) o ≡ place_in (nth old.seen.links link) i
+    → mid ≡ record old { seen = record old.seen { injected = risen old.seen.injected }; begun = true }
+    → IfSome (nth mid.seen.routers i) (λ r. Taken mid new (moved_in mid.seen i (Some link) (taking r (circuit - 1) octets) r) res) → Ending (event.Inject i link octets) old new res
+inject-ends old mid new i link circuit octets o res h running q e m t =
+    ends-of (taken-ends-of res (of-place (λ r. Taken (risen-of) new (moved_in (risen-of).seen i (Some link) (taking r (circuit - 1) octets) r) res) (nth old.seen.routers i) there.0 there.1 (subst (λ (m : LabNet). IfSome (nth m.seen.routers i) (λ r. Taken m new (moved_in m.seen i (Some link) (taking r (circuit - 1) octets) r) res)) m t)))
+  where
+    there : (x : Router) × (nth old.seen.routers i ≡ Some x)
+    there = nth-there old.seen.routers i h
+
+    risen-of : LabNet
+    risen-of = record old { seen = record old.seen { injected = risen old.seen.injected }; begun = true }
+
+    seen : Seen
+    seen = moved_in (risen-of).seen i (Some link) (taking there.0 (circuit - 1) octets) there.0
+
+    -- the same from the network before
+    taken-ends-of : (res : Result (Unit {0}) LabFault) → Taken risen-of new seen res → Taken old new seen res
+    taken-ends-of (Ok u) t = record { done = t.done; stop = tt; cause = tt; size = record { links = t.size.links; routers = t.size.routers } }
+    taken-ends-of (Err f) t = record { done = tt; stop = t.stop; cause = t.cause; size = record { links = t.size.links; routers = t.size.routers } }
+
+    ends-of : Taken old new seen res → Ending (event.Inject i link octets) old new res
+    ends-of t = taken-ends (event.Inject i link octets) old new seen res running t (inject-done old.seen link i (circuit - 1) octets there.0 (sym e ∙ ap (option_map (λ circuit. circuit - 1)) q) there.1)
+
+-- ---- restarts
+
+pub restart-off-ends : (old : LabNet) (i : ℕ) (r : Router) → nth old.seen.routers i ≡ Some r → 16777215 ≤ r.boot → Ending (event.Restart i) old old (Err (fault.Limit limit.Boots))
+restart-off-ends old i r q h = Refused (fault.Limit limit.Boots) refl refl (λ s. s) (λ net s. restart-off old.seen i r q h net s.seen)
+
+pub restart-stops : (old new : LabNet) (i : ℕ) (r : Router) (res : Result (Unit {0}) LabFault) → nth old.seen.routers i ≡ Some r → r.boot < 16777215 → res ≡ Err fault.OutOfMemory → new ≡ record old { begun = true; stopped = Some fault.OutOfMemory } → Ending (event.Restart i) old new res
+restart-stops old new i r res q h bad is =
+    Stopped fault.OutOfMemory bad (ap (λ (a : LabNet). a.stopped) is) (record { links = ap (λ (a : LabNet). a.seen.links) is; routers = ap (λ (a : LabNet). length a.seen.routers) is })
+    (λ net s. ((restart-done old.seen i r q h net s.seen).0, tt))
+
+pub restart-ends : (old new : LabNet) (i : ℕ) (r : Router) → old.stopped ≡ None → nth old.seen.routers i ≡ Some r → r.boot < 16777215 → new ≡ record old { seen = record old.seen { routers = with_nth old.seen.routers i (restarted r) }; begun = true } → Ending (event.Restart i) old new (Ok tt)
+restart-ends old new i r running q h is = Done refl (ap (λ (a : LabNet). a.stopped) is ∙ running)
+    (record { links = ap (λ (a : LabNet). a.seen.links) is; routers = ap (λ (a : LabNet). length a.seen.routers) is ∙ length-with old.seen.routers i (restarted r) })
+    (λ net s. let d = restart-done old.seen i r q h net s.seen in (d.0, record { seen = d.1 ∙ sym (ap (λ (a : LabNet). a.seen) is) }))
+
+-- ---- changes
+
+calm-change : (r : Router) (c : Change) → IfSome (unless_changes (Some r) c) (λ f. IsStop f → ⊥)
+calm-change r (change.Metric circuit metric) = tt
+calm-change r (change.Prefix prefix None) = tt
+calm-change r (change.Prefix prefix (Some metric)) = by (not (is_some (find r.config.prefixes (prefix_number prefix))) && nat_le 4096 (length r.config.prefixes))
+  where
+    by : (b : Bool) → IfSome (if b then Some (fault.Limit limit.Prefixes) else None) (λ f. IsStop f → ⊥)
+    by true = λ s. s
+    by false = tt
+calm-change r (change.Overload on) = tt
+
+pub change-off-ends : (old : LabNet) (i : ℕ) (c : Change) (r : Router) (f : LabFault) → nth old.seen.routers i ≡ Some r → unless_changes (Some r) c ≡ Some f → Ending (event.Change i c) old old (Err f)
+change-off-ends old i c r f q h = Refused f refl refl (subst (λ (o : Option LabFault). IfSome o (λ f. IsStop f → ⊥)) h (calm-change r c)) (λ net s. change-off old.seen i c r f q h net s.seen)
+
+pub change-ends : (old new : LabNet) (i : ℕ) (c : Change) (r : Router) (res : Result (Unit {0}) LabFault) → old.stopped ≡ None → nth old.seen.routers i ≡ Some r → unless_changes (Some r) c ≡ None
+    → IfSome (nth old.seen.routers i) (λ r. Taken old new (moved_in old.seen i None (core.change_of c) r) res) → Ending (event.Change i c) old new res
+change-ends old new i c r res running q h t =
+    taken-ends (event.Change i c) old new (moved_in old.seen i None (core.change_of c) r) res running (of-place (λ r. Taken old new (moved_in old.seen i None (core.change_of c) r) res) (nth old.seen.routers i) r q t) (change-done old.seen i c r q h)
+
+-- ---- what an answer is made of
+
+pub ending-stops : (ev : LabEvent) (old new : LabNet) (res : Result (Unit {0}) LabFault) → Ending ev old new res → IfErr res (λ f. IsStop f → new.stopped ≡ Some f)
+ending-stops ev old new res (Done ok still size f) = subst (λ (r : Result (Unit {0}) LabFault). IfErr r (λ f. IsStop f → new.stopped ≡ Some f)) (sym ok) tt
+ending-stops ev old new res (Refused fault bad same calm f) = subst (λ (r : Result (Unit {0}) LabFault). IfErr r (λ f. IsStop f → new.stopped ≡ Some f)) (sym bad) (λ s. absurd (calm s))
+ending-stops ev old new res (Stopped fault bad at size f) = subst (λ (r : Result (Unit {0}) LabFault). IfErr r (λ f. IsStop f → new.stopped ≡ Some f)) (sym bad) (λ s. at)
+
+numbered-nth : {A : Type 0} (xs : List A) (n : ℕ) (x : A) → numbered xs n ≡ Some x → nth xs (n - 1) ≡ Some x
+numbered-nth xs zero x e = absurd (cc)
+numbered-nth xs (suc n) x e = ap (nth xs) (less n) ∙ e
+  where
+    less : (n : ℕ) → suc n - 1 ≡ n
+    less n = omega arith
+
+pub delivered-there : (a : Seen) (n i link : ℕ) → delivered_on a (numbered a.sent n) i ≡ Ok link → n - 1 < length a.sent
+delivered-there a n i link h = let x = heard a (numbered a.sent n) i link h in nth-less a.sent (n - 1) x.0 (numbered-nth a.sent n x.0 x.1)
+
+-- the octets of the datagram that an index gives
+pub octets-same : (xs sent : List SentDatagram) (n : ℕ) (y : SentDatagram) (octets : List ℕ) → xs ≡ sent → y ≡ get_or xs (n - 1) y → octets ≡ y.octets → (x : SentDatagram) → numbered sent n ≡ Some x → octets ≡ x.octets
+octets-same xs sent n y octets same e o x q =
+    let there : nth xs (n - 1) ≡ Some x = numbered-nth xs n x (ap (λ (s : List SentDatagram). numbered s n) same ∙ q) in
+    o ∙ ap (λ (d : SentDatagram). d.octets) (some-same y x (sym (nth-get xs (n - 1) y (nth-less xs (n - 1) x there) e) ∙ there))
+
+-- a router by its place
+pub here : (rs : List Router) (old : LabNet) (i : ℕ) (r : Router) → rs ≡ old.seen.routers → i < length old.seen.routers → r ≡ get_or rs i r → nth old.seen.routers i ≡ Some r
+here rs old i r same h e = ap (λ (xs : List Router). nth xs i) (sym same) ∙ nth-get rs i r (subst (λ (xs : List Router). i < length xs) (sym same) h) e
+
+pub restart-is : (configs : List Config) (rs now : List Router) (links : List (List End)) (ds : List SentDatagram) (n : ℕ) (begun : Bool) (stopped : Option LabFault) (old : LabNet) (i : ℕ) (r : Router)
+    → (record { configs = configs; seen = record { routers = rs; links = links; sent = ds; injected = n }; begun = begun; stopped = stopped }) ≡ old → now ≡ with_nth rs i (restarted r)
+    → (record { configs = configs; seen = record { routers = now; links = links; sent = ds; injected = n }; begun = true; stopped = stopped }) ≡ record old { seen = record old.seen { routers = with_nth old.seen.routers i (restarted r) }; begun = true }
+unfolding view
+restart-is configs rs now links ds n begun stopped old i r is e =
+    ap (λ (xs : List Router). view configs xs links ds n true stopped) e ∙ ap (λ (l : LabNet). record l { seen = record l.seen { routers = with_nth l.seen.routers i (restarted r) }; begun = true }) is
+
+pub stop-is : (configs : List Config) (rs now : List Router) (links : List (List End)) (ds : List SentDatagram) (n : ℕ) (begun : Bool) (stopped : Option LabFault) (old new : LabNet)
+    → (record { configs = configs; seen = record { routers = rs; links = links; sent = ds; injected = n }; begun = begun; stopped = stopped }) ≡ old → now ≡ rs
+    → new ≡ record { configs = configs; seen = record { routers = now; links = links; sent = ds; injected = n }; begun = true; stopped = Some fault.OutOfMemory }
+    → new ≡ record old { begun = true; stopped = Some fault.OutOfMemory }
+unfolding view
+stop-is configs rs now links ds n begun stopped old new is e q =
+    q ∙ (ap (λ (xs : List Router). view configs xs links ds n true (Some fault.OutOfMemory)) e ∙ ap (λ (l : LabNet). record l { begun = true; stopped = Some fault.OutOfMemory }) is)
+
+pub inject-is : (configs : List Config) (rs : List Router) (links : List (List End)) (ds : List SentDatagram) (n m : ℕ) (begun : Bool) (stopped : Option LabFault) (old : LabNet)
+    → (record { configs = configs; seen = record { routers = rs; links = links; sent = ds; injected = n }; begun = begun; stopped = stopped }) ≡ old → m ≡ risen n
+    → (record { configs = configs; seen = record { routers = rs; links = links; sent = ds; injected = m }; begun = true; stopped = stopped }) ≡ record old { seen = record old.seen { injected = risen old.seen.injected }; begun = true }
+unfolding view
+inject-is configs rs links ds n m begun stopped old is e =
+    ap (λ (k : ℕ). view configs rs links ds k true stopped) e ∙ ap (λ (l : LabNet). record l { seen = record l.seen { injected = risen l.seen.injected }; begun = true }) is
+
+-- ---- a circuit of a link
+
+on-there : (counts : List ℕ) (ends : List End) (i place : ℕ) → AreEndsThere counts ends → place_on ends i ≡ Some place → place < unwrap_or (nth counts i) 0
+on-there counts [] i place h e = absurd (cc)
+on-there counts (x ∷ ends) i place h e = same-or (λ t. (if t then Some x.place else place_on ends i) ≡ Some place → place < unwrap_or (nth counts i) 0) x.router i
+    (λ s q. subst (λ (p : ℕ). p < unwrap_or (nth counts i) 0) (some-same x.place place q) (subst (λ (k : ℕ). x.place < unwrap_or (nth counts k) 0) s h.0))
+    (λ _ q. on-there counts ends i place h.1 q) e
+
+pub circuit-less : (ports : List (List ℕ)) (ordered : List (List End)) (old : LabNet) (link i place : ℕ) (r : Router) → IsNet ports ordered old → Some place ≡ place_in (nth old.seen.links link) i → nth old.seen.routers i ≡ Some r → place < length r.circuits
+circuit-less ports ordered old link i place r h e q = by (nth old.seen.links link) refl e
+  where
+    count : unwrap_or (nth (map length ports) i) 0 ≡ length r.circuits
+    count = ap (λ (xs : List ℕ). unwrap_or (nth xs i) 0) (sym h.routers) ∙ ap (λ (o : Option ℕ). unwrap_or o 0) (nth-map (λ (r : Router). length r.circuits) old.seen.routers i ∙ ap (option_map (λ (r : Router). length r.circuits)) q)
+
+    by : (o : Option (List End)) → nth old.seen.links link ≡ o → Some place ≡ place_in o i → place < length r.circuits
+    by None k e = absurd (cc)
+    by (Some ends) k e = subst (λ (n : ℕ). place < n) count (on-there (map length ports) ends i place (all-at (AreEndsThere (map length ports)) old.seen.links link ends h.ends k) (sym e))

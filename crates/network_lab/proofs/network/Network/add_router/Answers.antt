@@ -1,0 +1,18 @@
+use Rattle.std.proofs.Common.{◌≡◌, List, [], ◌∷◌, ◌++◌, ap, ◌∙◌}
+use Rattle.isis_model.specs.Routers.{Router}
+use Rattle.router_desk.specs.declared.config.Config.{Config}
+use Rattle.network_lab.specs.LabNets.{LabNet, router_of}
+use Rattle.network_lab.proofs.SetupLemmas.{router-more}
+use Rattle.network_lab.proofs.network.Network.add_router.Goals as goal
+
+snoc : {A : Type 0} {xs ys : List A} {x y : A} → xs ≡ ys → x ≡ y → xs ++ (x ∷ []) ≡ ys ++ (y ∷ [])
+snoc e f = cc
+
+pub invariant_of-self-2 : goal.invariant_of-self-2
+invariant_of-self-2 c =
+    let i = c.self.inside in
+    router-more i.ports.items _ i.ordered.items i.links.items i.configs.items _ i.routers.items _ i.sent.items i.injected i.begun i.stopped c.args.config
+    c.self.invariant (ap (λ (l : LabNet). l.begun) c.self.view_is ∙ c.requires.setup) c.requires.valid c.requires.bare
+    (c.push_reserved.ensures.items ∙ snoc c.make_room.ensures.configs c.in_ok-setup.ensures.config)
+    (c.push_reserved-2.ensures.items ∙ snoc c.make_room.ensures.routers c.in_ok-setup.ensures.router)
+    (c.push_reserved-3.ensures.items ∙ snoc c.make_room.ensures.ports c.new.ensures)

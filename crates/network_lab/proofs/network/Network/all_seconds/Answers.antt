@@ -1,0 +1,34 @@
+use Rattle.std.proofs.Common.{◌≡◌, ◌==◌, ◌||◌, ◌-◌, ◌+◌, ◌<◌, ◌≤◌, ℕ, [], Some, None, List, IfSome, drop, length, ap, sym, ◌∙◌, refl, subst, arith}
+use Rattle.isis_model.specs.Places.{nth}
+use Rattle.router_core.specs.Givens.{given}
+use Rattle.network_model.specs.declared.end.End.{End}
+use Rattle.network_model.specs.Networks.{Network as Net, numbered}
+use Rattle.network_model.specs.Runs.{Tick, PullOn, Deliver, apply}
+use Rattle.network_model.specs.RunLines as line
+use Rattle.network_lab.specs.LabNets.{LabNet}
+use Rattle.network_lab.specs.LabRuns.{tick_unless, pull_unless, deliver_unless, pull_links_of, deliver_numbered}
+use Rattle.network_lab.proofs.RunLemmas.{starts, goes, ends, stops, renames, each-grows, behind-grows, ticks-grow, pulls-grow, all-pulls-grow, line-grows}
+use Rattle.network_lab.proofs.LoopLemmas.{skips-one, takes-one, place-none, place-some, numbered-get, zero-less, idles, left-grows, tick-step, tick-end, pull-step, pull-end, second-step, second-end, links_in, links-start, links-step, links-end, each-step, each-end, one-out, one-in, second-ends, second-breaks, pull-one-ends, pull-one-breaks, behind-step, behind-end, sent-count, fuel, fuel-start}
+use Rattle.network_lab.proofs.network.Network.all_seconds.Goals as goal
+
+pub loop-second-init : goal.loop-second-init
+loop-second-init c = starts (line.run_line given c.args.out.without c.args.out.except (c.args.seconds - 0)) (line.run_line given c.args.out.without c.args.out.except c.args.seconds) c.args.self.now c.requires.running
+    (λ net s. ap (λ (n : ℕ). line.run_line given c.args.out.without c.args.out.except n net) (zero-less c.args.seconds c.args.seconds refl))
+
+pub loop-second-preserved : goal.loop-second-preserved
+loop-second-preserved c =
+    goes (line.run_line given c.args.out.without c.args.out.except (c.args.seconds - c.loop-second.second)) (line.run_line given c.args.out.without c.args.out.except (c.args.seconds - (c.loop-second.second + 1))) (line.run_line given c.args.out.without c.args.out.except c.args.seconds) (line.run_second given c.args.out.without c.args.out.except)
+    c.args.self.now c.loop-second.self c.second.new.self c.loop-second.invariant c.in-Ok.ensures
+    (λ net s. second-step c.args.out.without c.args.out.except c.loop-second.second c.args.seconds c.loop-second-test.true net)
+
+pub returns-in-Err : goal.returns-in-Err
+returns-in-Err c =
+    stops (line.run_line given c.args.out.without c.args.out.except (c.args.seconds - c.loop-second.second)) (line.run_line given c.args.out.without c.args.out.except c.args.seconds) (line.run_second given c.args.out.without c.args.out.except)
+    c.args.self.now c.loop-second.self c.second.new.self c.in-Err.fault c.loop-second.invariant c.in-Err.ensures
+    (λ net s. left-grows (line.run_line given c.args.out.without c.args.out.except (c.args.seconds - c.loop-second.second)) (line.run_line given c.args.out.without c.args.out.except (c.args.seconds - (c.loop-second.second + 1))) (line.run_second given c.args.out.without c.args.out.except) net
+    (second-step c.args.out.without c.args.out.except c.loop-second.second c.args.seconds c.loop-second-test.true net) (line-grows given c.args.out.without c.args.out.except (c.args.seconds - (c.loop-second.second + 1))))
+
+pub returns : goal.returns
+returns c = ends (line.run_line given c.args.out.without c.args.out.except (c.args.seconds - c.loop-second.second)) (line.run_line given c.args.out.without c.args.out.except c.args.seconds) c.args.self.now c.loop-second.self c.loop-second.invariant
+    (λ net s. second-end c.args.out.without c.args.out.except c.loop-second.second c.args.seconds c.loop-second-test.false net)
+

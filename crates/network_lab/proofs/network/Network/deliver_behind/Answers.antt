@@ -1,0 +1,47 @@
+use Rattle.std.proofs.Common.{◌≡◌, ◌==◌, ◌||◌, ◌-◌, ◌+◌, ◌<◌, ◌≤◌, ℕ, [], Some, None, List, IfSome, drop, length, ap, sym, ◌∙◌, refl, subst, arith}
+use Rattle.isis_model.specs.Places.{nth}
+use Rattle.router_core.specs.Givens.{given}
+use Rattle.network_model.specs.declared.end.End.{End}
+use Rattle.network_model.specs.Networks.{Network as Net, numbered}
+use Rattle.network_model.specs.Runs.{Tick, PullOn, Deliver, apply}
+use Rattle.network_model.specs.RunLines as line
+use Rattle.network_lab.specs.LabNets.{LabNet}
+use Rattle.network_lab.specs.LabRuns.{tick_unless, pull_unless, deliver_unless, pull_links_of, deliver_numbered}
+use Rattle.network_lab.proofs.RunLemmas.{starts, goes, ends, stops, renames, each-grows, behind-grows, ticks-grow, pulls-grow, all-pulls-grow, line-grows}
+use Rattle.network_lab.proofs.LoopLemmas.{skips-one, takes-one, place-none, place-some, numbered-get, zero-less, idles, left-grows, tick-step, tick-end, pull-step, pull-end, second-step, second-end, links_in, links-start, links-step, links-end, each-step, each-end, one-out, one-in, second-ends, second-breaks, pull-one-ends, pull-one-breaks, behind-step, behind-end, sent-count, fuel, fuel-start}
+use Rattle.network_lab.proofs.network.Network.deliver_behind.Goals as goal
+
+pub loop-count-init : goal.loop-count-init
+loop-count-init c = record {
+  rises = omega arith;
+  goes = starts (line.deliver_behind given c.args.out.without c.args.out.except (line.datagram_limit - (c.args.first - c.args.first)) c.args.first) (line.deliver_behind given c.args.out.without c.args.out.except line.datagram_limit c.args.first) c.args.self.now c.requires.running
+      (λ net s. ap (λ (n : ℕ). line.deliver_behind given c.args.out.without c.args.out.except n c.args.first net) (fuel-start c.args.first));
+}
+
+pub loop-count-preserved : goal.loop-count-preserved
+loop-count-preserved c = record {
+  rises = let r = c.loop-count.invariant.rises in omega (arith, r);
+  goes = goes (line.deliver_behind given c.args.out.without c.args.out.except (line.datagram_limit - (c.loop-count.count - c.args.first)) c.loop-count.count) (line.deliver_behind given c.args.out.without c.args.out.except (line.datagram_limit - (c.loop-count.count + 1 - c.args.first)) (c.loop-count.count + 1)) (line.deliver_behind given c.args.out.without c.args.out.except line.datagram_limit c.args.first) (deliver_numbered c.args.out.without c.args.out.except (c.loop-count.count + 1))
+      c.args.self.now c.loop-count.self c.deliver_one.new.self c.loop-count.invariant.goes c.in-Ok.ensures
+      (λ net s. behind-step c.args.out.without c.args.out.except (line.datagram_limit - (c.loop-count.count - c.args.first)) (line.datagram_limit - (c.loop-count.count + 1 - c.args.first)) c.loop-count.count
+      (fuel c.args.first c.loop-count.count c.loop-count.invariant.rises (let t = c.loop-count-test.true in let f = c.sent_count.ensures.few in omega (arith, t, f))) net
+      (let t = c.loop-count-test.true in let f = c.sent_count.ensures.count in let m = sent-count net c.loop-count.self s in omega (arith, t, f, m)));
+}
+
+pub loop-count-smaller : goal.loop-count-smaller
+loop-count-smaller c = let t = c.loop-count-test.true in let f = c.sent_count.ensures.few in omega (arith, t, f)
+
+pub returns-in-Err : goal.returns-in-Err
+returns-in-Err c =
+    stops (line.deliver_behind given c.args.out.without c.args.out.except (line.datagram_limit - (c.loop-count.count - c.args.first)) c.loop-count.count) (line.deliver_behind given c.args.out.without c.args.out.except line.datagram_limit c.args.first) (deliver_numbered c.args.out.without c.args.out.except (c.loop-count.count + 1))
+    c.args.self.now c.loop-count.self c.deliver_one.new.self c.in-Err.fault c.loop-count.invariant.goes c.in-Err.ensures
+    (λ net s. left-grows (line.deliver_behind given c.args.out.without c.args.out.except (line.datagram_limit - (c.loop-count.count - c.args.first)) c.loop-count.count) (line.deliver_behind given c.args.out.without c.args.out.except (line.datagram_limit - (c.loop-count.count + 1 - c.args.first)) (c.loop-count.count + 1)) (deliver_numbered c.args.out.without c.args.out.except (c.loop-count.count + 1)) net
+    (behind-step c.args.out.without c.args.out.except (line.datagram_limit - (c.loop-count.count - c.args.first)) (line.datagram_limit - (c.loop-count.count + 1 - c.args.first)) c.loop-count.count
+      (fuel c.args.first c.loop-count.count c.loop-count.invariant.rises (let t = c.loop-count-test.true in let f = c.sent_count.ensures.few in omega (arith, t, f))) net
+      (let t = c.loop-count-test.true in let f = c.sent_count.ensures.count in let m = sent-count net c.loop-count.self s in omega (arith, t, f, m)))
+    (behind-grows given c.args.out.without c.args.out.except (line.datagram_limit - (c.loop-count.count + 1 - c.args.first)) (c.loop-count.count + 1)))
+
+pub returns : goal.returns
+returns c = ends (line.deliver_behind given c.args.out.without c.args.out.except (line.datagram_limit - (c.loop-count.count - c.args.first)) c.loop-count.count) (line.deliver_behind given c.args.out.without c.args.out.except line.datagram_limit c.args.first) c.args.self.now c.loop-count.self c.loop-count.invariant.goes
+    (λ net s. behind-end c.args.out.without c.args.out.except (line.datagram_limit - (c.loop-count.count - c.args.first)) c.loop-count.count net
+    (let t = c.loop-count-test.false in let f = c.sent_count.ensures.count in let m = sent-count net c.loop-count.self s in omega (arith, t, f, m)))

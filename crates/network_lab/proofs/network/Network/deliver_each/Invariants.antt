@@ -1,0 +1,10 @@
+use Rattle.std.proofs.Common.{◌-◌, drop}
+use Rattle.isis_model.specs.Places.{nth}
+use Rattle.router_core.specs.Givens.{given}
+use Rattle.network_model.specs.RunLines as line
+use Rattle.network_lab.specs.LabRuns.{GoesOn, pull_links_of}
+use Rattle.network_lab.proofs.LoopLemmas.{links_in}
+use Rattle.network_lab.proofs.network.Network.deliver_each.Given as goal
+
+abbrev pub invariant-loop-place : goal.invariant-loop-place
+invariant-loop-place l = GoesOn (line.deliver_each given l.out.except l.number l.sender (drop l.place (line.by_router (line.ends_of (nth l.initial.self.seen.links l.link))))) (line.deliver_each given l.out.except l.number l.sender (line.by_router (line.ends_of (nth l.initial.self.seen.links l.link)))) l.initial.self l.self

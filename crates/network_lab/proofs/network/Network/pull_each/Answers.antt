@@ -1,0 +1,34 @@
+use Rattle.std.proofs.Common.{◌≡◌, ◌==◌, ◌||◌, ◌-◌, ◌+◌, ◌<◌, ◌≤◌, ℕ, [], Some, None, List, IfSome, drop, length, ap, sym, ◌∙◌, refl, subst, arith}
+use Rattle.isis_model.specs.Places.{nth}
+use Rattle.router_core.specs.Givens.{given}
+use Rattle.network_model.specs.declared.end.End.{End}
+use Rattle.network_model.specs.Networks.{Network as Net, numbered}
+use Rattle.network_model.specs.Runs.{Tick, PullOn, Deliver, apply}
+use Rattle.network_model.specs.RunLines as line
+use Rattle.network_lab.specs.LabNets.{LabNet}
+use Rattle.network_lab.specs.LabRuns.{tick_unless, pull_unless, deliver_unless, pull_links_of, deliver_numbered}
+use Rattle.network_lab.proofs.RunLemmas.{starts, goes, ends, stops, renames, each-grows, behind-grows, ticks-grow, pulls-grow, all-pulls-grow, line-grows}
+use Rattle.network_lab.proofs.LoopLemmas.{skips-one, takes-one, place-none, place-some, numbered-get, zero-less, idles, left-grows, tick-step, tick-end, pull-step, pull-end, second-step, second-end, links_in, links-start, links-step, links-end, each-step, each-end, one-out, one-in, second-ends, second-breaks, pull-one-ends, pull-one-breaks, behind-step, behind-end, sent-count, fuel, fuel-start}
+use Rattle.network_lab.proofs.network.Network.pull_each.Goals as goal
+
+pub loop-router-init : goal.loop-router-init
+loop-router-init c = starts (line.pull_each given c.args.out.without c.args.out.except 0 (c.routers-count.result - 0)) (line.pull_each given c.args.out.without c.args.out.except 0 (length c.args.self.now.seen.routers)) c.args.self.now c.requires.running
+    (λ net s. ap (λ (n : ℕ). line.pull_each given c.args.out.without c.args.out.except 0 n net) (zero-less c.routers-count.result (length c.args.self.now.seen.routers) c.routers-count.ensures))
+
+pub loop-router-preserved : goal.loop-router-preserved
+loop-router-preserved c =
+    goes (line.pull_each given c.args.out.without c.args.out.except c.loop-router.router (c.routers-count.result - c.loop-router.router)) (line.pull_each given c.args.out.without c.args.out.except (c.loop-router.router + 1) (c.routers-count.result - (c.loop-router.router + 1))) (line.pull_each given c.args.out.without c.args.out.except 0 (length c.args.self.now.seen.routers)) (pull_unless c.args.out.without c.args.out.except c.loop-router.router)
+    c.args.self.now c.loop-router.self c.pull_router.new.self c.loop-router.invariant c.in-Ok.ensures
+    (λ net s. pull-step c.args.out.without c.args.out.except c.loop-router.router c.routers-count.result c.loop-router-test.true net)
+
+pub returns-in-Err : goal.returns-in-Err
+returns-in-Err c =
+    stops (line.pull_each given c.args.out.without c.args.out.except c.loop-router.router (c.routers-count.result - c.loop-router.router)) (line.pull_each given c.args.out.without c.args.out.except 0 (length c.args.self.now.seen.routers)) (pull_unless c.args.out.without c.args.out.except c.loop-router.router)
+    c.args.self.now c.loop-router.self c.pull_router.new.self c.in-Err.fault c.loop-router.invariant c.in-Err.ensures
+    (λ net s. left-grows (line.pull_each given c.args.out.without c.args.out.except c.loop-router.router (c.routers-count.result - c.loop-router.router)) (line.pull_each given c.args.out.without c.args.out.except (c.loop-router.router + 1) (c.routers-count.result - (c.loop-router.router + 1))) (pull_unless c.args.out.without c.args.out.except c.loop-router.router) net
+    (pull-step c.args.out.without c.args.out.except c.loop-router.router c.routers-count.result c.loop-router-test.true net) (all-pulls-grow given c.args.out.without c.args.out.except (c.loop-router.router + 1) (c.routers-count.result - (c.loop-router.router + 1))))
+
+pub returns : goal.returns
+returns c = ends (line.pull_each given c.args.out.without c.args.out.except c.loop-router.router (c.routers-count.result - c.loop-router.router)) (line.pull_each given c.args.out.without c.args.out.except 0 (length c.args.self.now.seen.routers)) c.args.self.now c.loop-router.self c.loop-router.invariant
+    (λ net s. pull-end c.args.out.without c.args.out.except c.loop-router.router c.routers-count.result c.loop-router-test.false net)
+

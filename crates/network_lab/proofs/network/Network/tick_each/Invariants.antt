@@ -1,0 +1,10 @@
+use Rattle.std.proofs.Common.{◌-◌, drop, length}
+use Rattle.isis_model.specs.Places.{nth}
+use Rattle.router_core.specs.Givens.{given}
+use Rattle.network_model.specs.RunLines as line
+use Rattle.network_lab.specs.LabRuns.{GoesOn, pull_links_of}
+use Rattle.network_lab.proofs.LoopLemmas.{links_in}
+use Rattle.network_lab.proofs.network.Network.tick_each.Given as goal
+
+abbrev pub invariant-loop-router : goal.invariant-loop-router
+invariant-loop-router l = GoesOn (line.tick_each given l.out.except l.router (l.count - l.router)) (line.tick_each given l.out.except 0 (length l.initial.self.seen.routers)) l.initial.self l.self

@@ -1,0 +1,20 @@
+use Rattle.std.proofs.Common.{length, ◌≡◌, ◌+◌, Some, IfSome, ℕ, List, ap, sym, subst, ◌∙◌, arith}
+use Rattle.isis_model.specs.Places.{with_nth}
+use Rattle.network_model.specs.Networks.{restarted}
+use Rattle.isis_model.specs.Places.{nth}
+use Rattle.isis_model.specs.Routers.{Router}
+use Rattle.network_lab.specs.LabInside.{counts_of}
+use Rattle.network_lab.proofs.PlaceLemmas.{nth-get}
+use Rattle.network_lab.proofs.StepLemmas.{counts-with, start-kept, restart-state}
+use Rattle.network_lab.proofs.taking.restart_at.Goals as goal
+
+pub returns-clause-counts : goal.returns-clause-counts
+returns-clause-counts c =
+    ap counts_of c.put_at.ensures
+    ∙ counts-with (λ (r : Router). length r.circuits) c.args.routers.now.items c.args.router c.index-old.result.now c.in_ok-fresh.fresh
+    (nth-get c.args.routers.now.items c.args.router c.index-old.result.now c.requires.there c.index-old.ensures) (start-kept c.index-old.result.now c.in_ok-fresh.fresh _ c.in_ok-fresh.ensures.start)
+
+pub returns-clause-state : goal.returns-clause-state
+returns-clause-state c =
+    subst (λ (rs : List Router). IfSome (nth c.args.routers.now.items c.args.router) (λ r. rs ≡ with_nth c.args.routers.now.items c.args.router (restarted r))) (sym c.put_at.ensures)
+    (restart-state c.args.routers.now.items c.args.router c.index-old.result.now c.in_ok-fresh.fresh _ c.requires.there c.index-old.ensures c.in_ok-fresh.ensures.start (ap (λ (n : ℕ). n + 1) c.boot.ensures))

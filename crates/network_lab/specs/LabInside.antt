@@ -1,0 +1,67 @@
+-- How a network of routers lies in memory.
+use Rattle.std.specs.Prelude.{◌≡◌, ℕ, ◌≤◌, ◌<◌, Bool, false, List, [], map, length, unwrap_or, Some}
+use Rattle.std.specs.List.{AllByRecursion}
+use Rattle.isis_model.specs.Places.{nth}
+use Rattle.isis_model.specs.Routers.{Router}
+use Rattle.router_desk.specs.declared.config.Config.{Config}
+use Rattle.router_desk.specs.Limits.{IsValid}
+use Rattle.network_model.specs.declared.end.End.{End}
+use Rattle.network_model.specs.RunLines.{by_router, link_of}
+use Rattle.network_lab.specs.declared.network.Network.TheInside.{Inside}
+use Rattle.network_lab.specs.LabNets.{Seen, LabNet, router_of}
+
+-- what is seen of the fields
+abbrev pub seen_in : Inside → Seen
+seen_in a = record {
+  routers = a.routers.items;
+  links = a.links.items;
+  sent = a.sent.items;
+  injected = a.injected;
+}
+
+-- the network that the fields stand for
+abbrev pub lab_of : Inside → LabNet
+lab_of a = record {
+  configs = a.configs.items;
+  seen = seen_in a;
+  begun = a.begun;
+  stopped = a.stopped;
+}
+
+-- how many circuits each router has
+abbrev pub counts_of : List Router → List ℕ
+counts_of routers = map (λ (r : Router). length r.circuits) routers
+
+-- an end's place is one of its router's circuits, of which there are so many
+abbrev pub IsEndThere : List ℕ → End → Type 0
+IsEndThere counts e = e.place < unwrap_or (nth counts e.router) 0
+
+-- own
+abbrev pub AreEndsThere : List ℕ → List End → Type 0
+AreEndsThere counts ends = AllByRecursion (IsEndThere counts) ends
+
+-- each router's list has the links of its circuits, by their places
+pub record ArePorts (ports : List (List ℕ)) (links : List (List End)) : Type 0 where
+  pub each : (router : ℕ) (list : List ℕ) → nth ports router ≡ Some list
+      → (place : ℕ) → link_of router place 0 links ≡ nth list place
+
+-- before an event the routers are at their start, of valid configurations, and nothing was sent
+pub record IsSetUp (configs : List Config) (seen : Seen) : Type 0 where
+  pub valid : AllByRecursion IsValid configs
+  pub routers : seen.routers ≡ map router_of configs
+  pub nothing : seen.sent ≡ []
+  pub none : seen.injected ≡ 0
+
+-- Routers, configurations and links have the same circuits; the ends of each link are at hand in
+-- order of their routers too; not too much was sent.
+pub record IsNet (ports : List (List ℕ)) (ordered : List (List End)) (net : LabNet) : Type 0 where
+  pub routers : counts_of net.seen.routers ≡ map length ports
+  pub configs : map (λ (c : Config). length c.circuits) net.configs ≡ map length ports
+  pub ends : AllByRecursion (AreEndsThere (map length ports)) net.seen.links
+  pub ported : ArePorts ports net.seen.links
+  pub sorted : ordered ≡ map by_router net.seen.links
+  pub few : length net.seen.sent ≤ 262144
+  pub setup : net.begun ≡ false → IsSetUp net.configs net.seen
+
+abbrev pub IsSoundLab : Inside → Type 0
+IsSoundLab a = IsNet a.ports.items a.ordered.items (lab_of a)

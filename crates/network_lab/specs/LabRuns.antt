@@ -1,0 +1,67 @@
+-- How a part of a line `run` ends (own).
+use Rattle.std.specs.Prelude.{◌≡◌, ℕ, ◌==◌, ◌||◌, length, Option, None, Result, IfErr, OnOk, if◌then◌else◌}
+use Rattle.router_core.specs.Givens.{given}
+use Rattle.network_model.specs.declared.word.PduWord.{PduWord}
+use Rattle.network_model.specs.Networks.{Network, numbered}
+use Rattle.network_model.specs.Runs.{Tick, Deliver, apply}
+use Rattle.network_model.specs.RunLines.{is_excepted, where_found, deliver_one, pull_links, links_at}
+use Rattle.network_lab.specs.declared.event.LabEvent.{LabEvent}
+use Rattle.network_lab.specs.declared.event.LabEvent.TheVariants as event
+use Rattle.network_lab.specs.declared.faults.LabFault.{LabFault}
+use Rattle.network_lab.specs.LabNets.{LabNet, StandsFor}
+use Rattle.network_lab.specs.LabSteps.{SameSize, StopCause}
+
+-- a second of a router that isn't left out
+abbrev pub tick_unless : Option ℕ → ℕ → Network → Network
+tick_unless except router net =
+    if is_excepted except router then net else apply given net (Tick router)
+
+-- the pulls of a router that isn't left out
+abbrev pub pull_unless : Option PduWord → Option ℕ → ℕ → Network → Network
+pull_unless without except router net =
+    if is_excepted except router then net
+    else pull_links given without except router (links_at net router) net
+
+-- a delivery to a router that isn't the sender and isn't left out
+abbrev pub deliver_unless : Option ℕ → ℕ → ℕ → ℕ → Network → Network
+deliver_unless except number sender router net =
+    if router == sender || is_excepted except router then net
+    else apply given net (Deliver number router)
+
+-- the pulls of a router's circuits
+abbrev pub pull_links_of : Option PduWord → Option ℕ → ℕ → Network → Network
+pull_links_of without except router net =
+    pull_links given without except router (links_at net router) net
+
+-- the delivery of the datagram of a number, counted from 1
+abbrev pub deliver_numbered : Option PduWord → Option ℕ → ℕ → Network → Network
+deliver_numbered without except number net =
+    where_found (numbered net.datagrams number) net
+    (λ d. deliver_one given without except number d net)
+
+-- the events of a line `run`: seconds, pulls and deliveries
+abbrev pub IsOfRun : LabEvent → Type 0
+IsOfRun (event.Tick router) = Unit {0}
+IsOfRun (event.Pull router link) = Unit {0}
+IsOfRun (event.Deliver datagram router) = Unit {0}
+IsOfRun (event.Restart router) = ⊥
+IsOfRun (event.Change router change) = ⊥
+IsOfRun (event.Inject router link octets) = ⊥
+
+-- a part of a run ends: it is carried out on each network that was stood for; or the network is
+-- stopped
+pub record RunEnding (part : Network → Network) (old new : LabNet)
+    (result : Result (Unit {0}) LabFault) : Type 0 where
+  pub done : OnOk result ((net : Network) → StandsFor net old → StandsFor (part net) new)
+  pub running : OnOk result (new.stopped ≡ None)
+  pub cause : IfErr result (λ fault. (net : Network) → StandsFor net old
+      → StopCause (length (part net).datagrams) fault)
+  pub size : SameSize old new
+
+-- so far a run was carried out: what is left of it from here gives what the whole gives
+pub record GoesOn (left whole : Network → Network) (old now : LabNet) : Type 0 where
+  pub here : (net : Network) → StandsFor net old → Network
+  pub stands : (net : Network) (s : StandsFor net old) → StandsFor (here net s) now
+  pub left_is : (net : Network) (s : StandsFor net old) → left (here net s) ≡ whole net
+  pub running : now.stopped ≡ None
+  pub size : SameSize old now

@@ -1,0 +1,90 @@
+-- What an event does to what is seen of a network, and how a call that carries it out ends (own).
+use Rattle.std.specs.Prelude.{◌≡◌, ℕ, ◌<◌, ◌==◌, not, true, List, [], ◌∷◌, ◌++◌, map, length, Option, Some, None, Result, Ok, Err, IfErr, OnOk, if◌then◌else◌}
+use Rattle.isis_model.specs.Places.{nth, with_nth}
+use Rattle.isis_model.specs.Routers.{Router}
+use Rattle.isis_model.specs.Events.{Event}
+use Rattle.isis_model.specs.Steps.{step}
+use Rattle.isis_model.specs.AdjacencyLaws.{place_of}
+use Rattle.router_desk.specs.declared.circuit_config.CircuitConfig.{CircuitConfig}
+use Rattle.router_desk.specs.declared.config.Config.{Config}
+use Rattle.router_core.specs.Givens.{given}
+use Rattle.network_model.specs.declared.end.End.{End}
+use Rattle.network_model.specs.Networks.{Datagram, Network}
+use Rattle.network_model.specs.Runs.{posted, boot_of}
+use Rattle.network_lab.specs.declared.sent.SentDatagram.{SentDatagram}
+use Rattle.network_lab.specs.declared.event.LabEvent.{LabEvent}
+use Rattle.network_lab.specs.declared.faults.LabFault.{LabFault}
+use Rattle.network_lab.specs.declared.faults.LabFault.TheVariants as fault
+use Rattle.network_lab.specs.declared.faults.LimitName.TheVariants as limit
+use Rattle.network_lab.specs.LabNets.{Seen, LabNet, StandsFor, sent_of}
+use Rattle.network_lab.specs.LabEvents.{refusal, after}
+use Rattle.network_lab.specs.LabCauses.{IsStop}
+
+-- the ends of a link, by their routers and places
+abbrev pub two_ends : ℕ → ℕ → ℕ → ℕ → List End
+two_ends i m j n = record { router = i; place = m } ∷ record { router = j; place = n } ∷ []
+
+-- a configuration with another circuit at a place
+abbrev pub with_circuit_at : Config → ℕ → CircuitConfig → Config
+with_circuit_at config place c =
+    record config { circuits = with_nth config.circuits place c }
+
+-- a datagram of a router in a boot, on a link
+abbrev pub sent_by : ℕ → ℕ → ℕ → List ℕ → SentDatagram
+sent_by sender boot link octets =
+    record { sender = sender; boot = boot; link = link; octets = octets }
+
+-- what a router sends in an event, as it is seen
+abbrev pub posted_in : ℕ → Option ℕ → Event → Router → List SentDatagram
+posted_in i link event r =
+    let o = step given r event in
+    map sent_of (posted i link o.router (place_of event) o.reply)
+
+-- a router takes an event, and what it sends on the link joins the datagrams
+abbrev pub moved_in : Seen → ℕ → Option ℕ → Event → Router → Seen
+moved_in a i link event r = record a {
+  routers = with_nth a.routers i (step given r event).router;
+  sent = a.sent ++ posted_in i link event r;
+}
+
+-- why what is sent isn't kept: there are so many datagrams then, or memory was wanting
+abbrev pub StopCause : ℕ → LabFault → Type 0
+StopCause count fault.OutOfMemory = Unit {0}
+StopCause count (fault.Limit limit.Datagrams) = 262144 < count
+StopCause count fault = ⊥
+
+-- the link on which a datagram is delivered, or why it isn't: it isn't there yet, its sender restarted
+-- since, or the router sent it itself
+abbrev pub delivered_on : Seen → Option SentDatagram → ℕ → Result ℕ LabFault
+delivered_on a None router = Err (fault.NotSent (length a.sent))
+delivered_on a (Some d) router =
+    let boot = boot_of (nth a.routers d.sender) in
+    if not (boot == d.boot) then Err (fault.Stale boot)
+    else (if d.sender == router then Err fault.NotOn else Ok d.link)
+
+-- the links and the number of routers stay
+pub record SameSize (old new : LabNet) : Type 0 where
+  pub links : new.seen.links ≡ old.seen.links
+  pub routers : length new.seen.routers ≡ length old.seen.routers
+
+-- how a network ends that is to be seen so: it is; or it is stopped
+pub record Taken (old new : LabNet) (seen : Seen) (result : Result (Unit {0}) LabFault) : Type 0 where
+  pub done : OnOk result (new ≡ record old { seen = seen; begun = true })
+  pub stop : IfErr result (λ fault. new.stopped ≡ Some fault)
+  pub cause : IfErr result (StopCause (length seen.sent))
+  pub size : SameSize old new
+
+-- How an event of a network that wasn't stopped ends: it is carried out; it is refused, and nothing
+-- changes; or the network is stopped.
+pub data Ending (event : LabEvent) (old new : LabNet) (result : Result (Unit {0}) LabFault) : Type 0 where
+  Done : result ≡ Ok tt → new.stopped ≡ None → SameSize old new
+      → ((net : Network) → StandsFor net old
+      → (refusal net event ≡ None) × StandsFor (after net event) new)
+      → Ending event old new result
+  Refused : (fault : LabFault) → result ≡ Err fault → new ≡ old → (IsStop fault → ⊥)
+      → ((net : Network) → StandsFor net old → refusal net event ≡ Some fault)
+      → Ending event old new result
+  Stopped : (fault : LabFault) → result ≡ Err fault → new.stopped ≡ Some fault → SameSize old new
+      → ((net : Network) → StandsFor net old
+      → (refusal net event ≡ None) × StopCause (length (after net event).datagrams) fault)
+      → Ending event old new result

@@ -1,0 +1,345 @@
+//! How a network of routers is set up.
+ghost use Rattle.std.specs.Prelude.{◌≡◌, ◌≢◌, ◌<◌, ◌≤◌, ◌⊎◌, false, [], length, Some, Err, vec_len, vec_capacity, IfOk, IfErr, OnOk, OnErr, slice_index};
+ghost use Rattle.std.specs.List.{AllByRecursion};
+ghost use Rattle.isis_model.specs.Places.{nth, with_nth};
+ghost use Rattle.router_desk.specs.Limits.{IsCircuit, IsKey, IsValid};
+ghost use Rattle.network_lab.specs.declared.faults.LabFault.TheVariants.{Limit};
+ghost use Rattle.network_lab.specs.declared.faults.LimitName.TheVariants.{Routers, Links, Circuits};
+ghost use Rattle.network_lab.specs.LabNets.{next_place, with_router, with_link, with_key, with_priority, router_of, link_circuit, with_circuit};
+ghost use Rattle.network_model.specs.RunLines.{by_router};
+ghost use Rattle.network_lab.specs.LabSteps.{two_ends, with_circuit_at};
+ghost use Rattle.network_lab.specs.LabCauses.{RouterCause, LinkCause, HasCircuit};
+
+use crate::faults::{LabFault, LimitName};
+use crate::key_net::{LINK_LIMIT, ROUTER_LIMIT};
+use crate::network::Network;
+use crate::places::put_at;
+use crate::row::Row;
+use isis_base::{CircuitKind, Octets, OutOfMemory};
+use network_model::End;
+use router_core::Router;
+use router_desk::{CircuitConfig, Circuits, Config};
+use std::alloc::{AllocError, Global};
+
+/// The most circuits of a router.
+const CIRCUIT_LIMIT: usize = 64;
+
+impl Network {
+    /// Adds a router and answers its number, counted from 0. `Limit(Routers)` exactly where 1,024
+    /// are there.
+    pub fn add_router(&mut self, config: Config) -> Result<usize, LabFault>
+        requires valid { IsValid config }
+        requires bare { config.circuits ≡ [] }
+        requires fresh { AllByRecursion (λ other. other.system ≢ config.system) self.old.configs }
+        requires setup { self.old.begun ≡ false }
+        ensures number { IfOk result (λ router. router ≡ length self.old.configs) }
+        ensures ok { OnOk result (self.new ≡ with_router self.old config) }
+        ensures cause { IfErr result (RouterCause self.old) }
+        ensures limit { 1024 ≤ length self.old.configs → result ≡ Err (Limit Routers) }
+        ensures err { OnErr result (self.new ≡ self.old) }
+    {
+        let router = self.configs.len();
+        if router >= ROUTER_LIMIT {
+            return Err(LabFault::Limit(LimitName::Routers));
+        }
+        make_room(&mut self.configs, &mut self.routers, &mut self.ports)?;
+        let setup = setup_of(self.alloc, config)?;
+        self.configs.push_reserved(setup.config);
+        self.routers.push_reserved(setup.router);
+        self.ports.push_reserved(Row::new(self.alloc));
+        Ok(router)
+    }
+
+    /// Adds a point-to-point link between two routers and answers its number, counted from 0. Each
+    /// end gets its next circuit. `Limit(Links)` exactly where 4,096 links are there, or else
+    /// `Limit(Circuits)` exactly where an end has 64 circuits.
+    pub fn add_link(&mut self, ends: [usize; 2], metric: u32) -> Result<usize, LabFault>
+        requires there { (slice_index ends 0 < length self.old.configs)
+            × (slice_index ends 1 < length self.old.configs) }
+        requires apart { slice_index ends 0 ≢ slice_index ends 1 }
+        requires metric { metric ≤ 16777215 }
+        requires setup { self.old.begun ≡ false }
+        ensures number { IfOk result (λ link. link ≡ length self.old.seen.links) }
+        ensures ok { OnOk result (self.new
+            ≡ with_link self.old (slice_index ends 0) (slice_index ends 1) metric) }
+        ensures cause { IfErr result (λ fault. LinkCause self.old (slice_index ends 0)
+            (slice_index ends 1) fault) }
+        ensures links { 4096 ≤ length self.old.seen.links → result ≡ Err (Limit Links) }
+        ensures circuits { length self.old.seen.links < 4096
+            → (64 ≤ next_place self.old (slice_index ends 0))
+            ⊎ (64 ≤ next_place self.old (slice_index ends 1))
+            → result ≡ Err (Limit Circuits) }
+        ensures err { OnErr result (self.new ≡ self.old) }
+    {
+        let link = self.links.len();
+        if link >= LINK_LIMIT {
+            return Err(LabFault::Limit(LimitName::Links));
+        }
+        let [near, far] = ends;
+        let places = [self.next_place(near), self.next_place(far)];
+        if places[0] >= CIRCUIT_LIMIT || places[1] >= CIRCUIT_LIMIT {
+            return Err(LabFault::Limit(LimitName::Circuits));
+        }
+        let near_ports = self.ports[near].with(link)?;
+        let far_ports = self.ports[far].with(link)?;
+        let row = link_row(self.alloc, ends, places)?;
+        let ordered = ordered_row(self.alloc, ends, places)?;
+        self.links.reserve(1)?;
+        self.ordered.reserve(1)?;
+        let setups = joined(self.alloc, &self.configs[near], &self.configs[far], metric)?;
+        self.links.push_reserved(row);
+        self.ordered.push_reserved(ordered);
+        put_at(&mut self.ports, near, near_ports);
+        put_at(&mut self.ports, far, far_ports);
+        put_setup(&mut self.configs, &mut self.routers, near, setups.near);
+        put_setup(&mut self.configs, &mut self.routers, far, setups.far);
+        Ok(link)
+    }
+
+    /// Sets the key of the hellos of a router's circuit, counted from 1. It answers `OutOfMemory`
+    /// alone.
+    pub fn set_key(&mut self, router: usize, circuit: u8, key: Octets) -> Result<(), LabFault>
+        requires there { HasCircuit self.old router circuit }
+        requires key { IsKey key }
+        requires setup { self.old.begun ≡ false }
+        ensures ok { OnOk result (self.new ≡ with_key self.old router circuit key) }
+        ensures cause { IfErr result (λ fault. fault ≡ LabFault.OutOfMemory) }
+        ensures err { OnErr result (self.new ≡ self.old) }
+    {
+        let place = usize::from(circuit) - 1;
+        let mut changed = self.configs[router].circuits.as_slice()[place].copy()?;
+        changed.key = Some(key);
+        let setup = changed_at(self.alloc, &self.configs[router], place, &changed)?;
+        put_setup(&mut self.configs, &mut self.routers, router, setup);
+        Ok(())
+    }
+
+    /// Sets the priority of a router's circuit, counted from 1. It answers `OutOfMemory` alone.
+    pub fn set_priority(
+        &mut self,
+        router: usize,
+        circuit: u8,
+        priority: u8,
+    ) -> Result<(), LabFault>
+        requires there { HasCircuit self.old router circuit }
+        requires priority { priority ≤ 127 }
+        requires setup { self.old.begun ≡ false }
+        ensures ok { OnOk result (self.new ≡ with_priority self.old router circuit priority) }
+        ensures cause { IfErr result (λ fault. fault ≡ LabFault.OutOfMemory) }
+        ensures err { OnErr result (self.new ≡ self.old) }
+    {
+        let place = usize::from(circuit) - 1;
+        let mut changed = self.configs[router].circuits.as_slice()[place].copy()?;
+        changed.priority = priority;
+        let setup = changed_at(self.alloc, &self.configs[router], place, &changed)?;
+        put_setup(&mut self.configs, &mut self.routers, router, setup);
+        Ok(())
+    }
+
+    /// The place of a router's next circuit.
+    fn next_place(&self, router: usize) -> usize
+        requires { router < length self.now.configs }
+        ensures { result ≡ next_place self.now router }
+    {
+        self.configs[router].circuits.len()
+    }
+}
+
+/// Makes room for one more router.
+fn make_room(
+    configs: &mut Vec<Config>,
+    routers: &mut Vec<Router>,
+    ports: &mut Vec<Row<usize>>,
+) -> Result<(), AllocError>
+    ensures configs { configs.new.items ≡ configs.old.items }
+    ensures routers { routers.new.items ≡ routers.old.items }
+    ensures ports { ports.new.items ≡ ports.old.items }
+    ensures room { OnOk result ((vec_len configs.new < vec_capacity configs.new)
+        × (vec_len routers.new < vec_capacity routers.new)
+        × (vec_len ports.new < vec_capacity ports.new)) }
+{
+    configs.reserve(1)?;
+    routers.reserve(1)?;
+    ports.reserve(1)
+}
+
+/// A configuration, and the router of it at its start.
+#[derive(Drop)]
+struct Setup {
+    config: Config,
+    router: Router,
+}
+
+/// The router of a configuration at its start, with the configuration.
+fn setup_of(alloc: Global, config: Config) -> Result<Setup, OutOfMemory>
+    requires { IsValid config }
+    ensures config { IfOk result (λ setup. setup.config ≡ config) }
+    ensures router { IfOk result (λ setup. setup.router ≡ router_of config) }
+{
+    let copy = config.copy()?;
+    match Router::new(alloc, copy, 1) {
+        Ok(router) => Ok(Setup { config, router }),
+        Err((_, error)) => Err(error),
+    }
+}
+
+/// A configuration with another circuit at a place.
+fn changed_at(
+    alloc: Global,
+    config: &Config,
+    place: usize,
+    circuit: &CircuitConfig,
+) -> Result<Setup, OutOfMemory>
+    requires valid { IsValid config.now }
+    requires circuit { IsCircuit circuit.now }
+    ensures config { IfOk result (λ setup. setup.config
+        ≡ with_circuit_at config.now place circuit.now) }
+    ensures router { IfOk result (λ setup. setup.router
+        ≡ router_of (with_circuit_at config.now place circuit.now)) }
+{
+    let circuits = replaced(alloc, &config.circuits, place, circuit)?;
+    let mut copy = config.copy()?;
+    copy.circuits = circuits;
+    setup_of(alloc, copy)
+}
+
+/// Circuits with another one at a place.
+fn replaced(
+    alloc: Global,
+    circuits: &Circuits,
+    place: usize,
+    circuit: &CircuitConfig,
+) -> Result<Circuits, OutOfMemory>
+    ensures { IfOk result (λ copies. copies ≡ with_nth circuits.now place circuit.now) }
+{
+    let mut copies = Circuits::new(alloc);
+    let list = circuits.as_slice();
+    let count = list.len();
+    for at in 0..count {
+        let copy = match copy_of(list, at, place, circuit) {
+            Ok(copy) => copy,
+            Err(error) => return Err(error),
+        };
+        match copies.push(copy) {
+            Ok(()) => {}
+            Err(error) => return Err(error),
+        }
+    }
+    Ok(copies)
+}
+
+/// An equal circuit, or another one at a place.
+fn copy_of(
+    list: &[CircuitConfig],
+    at: usize,
+    place: usize,
+    circuit: &CircuitConfig,
+) -> Result<CircuitConfig, OutOfMemory>
+    requires { at < length list.now }
+    ensures { IfOk result (λ copy. nth (with_nth list.now place circuit.now) at ≡ Some copy) }
+{
+    if at == place {
+        return circuit.copy();
+    }
+    list[at].copy()
+}
+
+/// The setups of both ends of a link.
+#[derive(Drop)]
+struct Setups {
+    near: Setup,
+    far: Setup,
+}
+
+/// Two configurations, each with a point-to-point circuit more.
+fn joined(
+    alloc: Global,
+    near: &Config,
+    far: &Config,
+    metric: u32,
+) -> Result<Setups, OutOfMemory>
+    requires valid { IsValid near.now × IsValid far.now }
+    requires room { (length near.now.circuits < 64) × (length far.now.circuits < 64) }
+    requires metric { metric ≤ 16777215 }
+    ensures near { IfOk result (λ setups. setups.near.config
+        ≡ with_circuit (link_circuit metric) near.now) }
+    ensures near_router { IfOk result (λ setups. setups.near.router
+        ≡ router_of (with_circuit (link_circuit metric) near.now)) }
+    ensures far { IfOk result (λ setups. setups.far.config
+        ≡ with_circuit (link_circuit metric) far.now) }
+    ensures far_router { IfOk result (λ setups. setups.far.router
+        ≡ router_of (with_circuit (link_circuit metric) far.now)) }
+{
+    let far = joined_one(alloc, far, metric)?;
+    match joined_one(alloc, near, metric) {
+        Ok(near) => Ok(Setups { near, far }),
+        Err(error) => Err(error),
+    }
+}
+
+/// A configuration with a point-to-point circuit more.
+fn joined_one(alloc: Global, config: &Config, metric: u32) -> Result<Setup, OutOfMemory>
+    requires valid { IsValid config.now }
+    requires room { length config.now.circuits < 64 }
+    requires metric { metric ≤ 16777215 }
+    ensures config { IfOk result (λ setup. setup.config
+        ≡ with_circuit (link_circuit metric) config.now) }
+    ensures router { IfOk result (λ setup. setup.router
+        ≡ router_of (with_circuit (link_circuit metric) config.now)) }
+{
+    let mut copy = config.copy()?;
+    copy.circuits.push(CircuitConfig {
+        kind: CircuitKind::PointToPoint,
+        metric,
+        priority: 64,
+        address: None,
+        key: None,
+    })?;
+    setup_of(alloc, copy)
+}
+
+/// The ends of a link.
+fn link_row(
+    alloc: Global,
+    routers: [usize; 2],
+    places: [usize; 2],
+) -> Result<Row<End>, OutOfMemory>
+    ensures { IfOk result (λ row. row ≡ two_ends (slice_index routers 0) (slice_index places 0)
+        (slice_index routers 1) (slice_index places 1)) }
+{
+    let near = End {
+        router: routers[0],
+        place: places[0],
+    };
+    let far = End {
+        router: routers[1],
+        place: places[1],
+    };
+    let row = Row::new(alloc).with(near)?;
+    row.with(far)
+}
+
+/// The ends of a link in order of their routers.
+fn ordered_row(
+    alloc: Global,
+    routers: [usize; 2],
+    places: [usize; 2],
+) -> Result<Row<End>, OutOfMemory>
+    ensures { IfOk result (λ row. row ≡ by_router (two_ends (slice_index routers 0)
+        (slice_index places 0) (slice_index routers 1) (slice_index places 1))) }
+{
+    if routers[0] < routers[1] {
+        return link_row(alloc, routers, places);
+    }
+    link_row(alloc, [routers[1], routers[0]], [places[1], places[0]])
+}
+
+/// Another configuration of a router before the run, with the router of it.
+fn put_setup(configs: &mut Vec<Config>, routers: &mut Vec<Router>, router: usize, setup: Setup)
+    requires there { (router < length configs.old.items) × (router < length routers.old.items) }
+    ensures configs { configs.new.items ≡ with_nth configs.old.items router setup.config }
+    ensures routers { routers.new.items ≡ with_nth routers.old.items router setup.router }
+{
+    put_at(configs, router, setup.config);
+    put_at(routers, router, setup.router);
+}

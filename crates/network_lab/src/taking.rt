@@ -1,0 +1,189 @@
+//! A router of a list takes an event, and what it sends joins what was sent.
+ghost use Rattle.std.specs.Prelude.{◌≡◌, ℕ, ◌+◌, ◌-◌, ◌<◌, ◌≤◌, ◌++◌, map, length, Some, IfSome, IfOk, IfErr, OnOk, OnErr};
+ghost use Rattle.isis_model.specs.Places.{nth, with_nth};
+ghost use Rattle.isis_model.specs.Routers as model;
+ghost use Rattle.isis_model.specs.Events as events;
+ghost use Rattle.isis_model.specs.Steps.{step};
+ghost use Rattle.isis_model.specs.AdjacencyLaws.{place_of};
+ghost use Rattle.router_core.specs.Events.{event_of, Fits, IsThere};
+ghost use Rattle.router_core.specs.Givens.{given};
+ghost use Rattle.router_core.specs.Replies.{Answers};
+ghost use Rattle.network_model.specs.Networks.{restarted};
+ghost use Rattle.network_model.specs.Runs.{taking, boot_of, posted};
+ghost use Rattle.network_lab.specs.LabNets.{sent_of};
+ghost use Rattle.network_lab.specs.LabInside.{counts_of};
+ghost use Rattle.network_lab.specs.LabSteps.{sent_by, posted_in, StopCause};
+
+use crate::faults::{LabFault, LimitName};
+use crate::places::{boot_at, put_at};
+use crate::sent::SentDatagram;
+use isis_base::{Octets, OutOfMemory};
+use isis_model::laws::adjacencies::step_bonds;
+use router_core::{NodeEvent, Reply, Router};
+use router_desk::laws::reading_law;
+
+/// The most datagrams of a network.
+pub(crate) const SENT_LIMIT: usize = 262144;
+
+/// A router takes an event, and what it sends on the link joins what was sent.
+pub(crate) fn take_at(
+    routers: &mut Vec<Router>,
+    sent: &mut Vec<SentDatagram>,
+    router: usize,
+    link: Option<usize>,
+    event: NodeEvent,
+) -> Result<(), LabFault>
+    requires there { router < length routers.old.items }
+    requires fits { IfSome (nth routers.old.items router) (λ r. Fits r event) }
+    requires few { length sent.old.items ≤ 262144 }
+    ensures routers { OnOk result (IfSome (nth routers.old.items router) (λ r. routers.new.items
+        ≡ with_nth routers.old.items router (step given r (event_of r event)).router)) }
+    ensures sent { OnOk result (IfSome (nth routers.old.items router) (λ r. sent.new.items
+        ≡ sent.old.items ++ posted_in router link (event_of r event) r)) }
+    ensures cause { IfErr result (λ fault. IfSome (nth routers.old.items router) (λ r.
+        StopCause (length sent.old.items + length (posted_in router link (event_of r event) r))
+        fault)) }
+    ensures counts { counts_of routers.new.items ≡ counts_of routers.old.items }
+    ensures few { length sent.new.items ≤ 262144 }
+{
+    let reply = match step_at(routers, router, event) {
+        Ok(reply) => reply,
+        Err(_) => return Err(LabFault::OutOfMemory),
+    };
+    let boot = boot_at(routers, router);
+    send(sent, router, boot, link, reply)
+}
+
+/// What a router answers in a boot joins what was sent, where it sends on a link.
+fn send(
+    sent: &mut Vec<SentDatagram>,
+    sender: usize,
+    boot: u32,
+    link: Option<usize>,
+    reply: Reply,
+) -> Result<(), LabFault>
+    requires { length sent.old.items ≤ 262144 }
+    ensures ok { OnOk result ((r : model.Router) (place : ℕ) (m : events.Reply)
+        → Answers r place m reply → boot ≡ r.boot
+        → sent.new.items ≡ sent.old.items ++ map sent_of (posted sender link r place m)) }
+    ensures cause { IfErr result (λ fault. (r : model.Router) (place : ℕ) (m : events.Reply)
+        → Answers r place m reply → boot ≡ r.boot
+        → StopCause (length sent.old.items + length (map sent_of (posted sender link r place m)))
+        fault) }
+    ensures few { length sent.new.items ≤ 262144 }
+{
+    match (link, reply) {
+        (Some(link), Reply::Send(datagrams)) => {
+            post(sent, sender, boot, link, datagrams.into_items())
+        }
+        (Some(_), Reply::Done) => Ok(()),
+        (Some(_), Reply::Dropped(_)) => Ok(()),
+        (None, _) => Ok(()),
+    }
+}
+
+/// A router takes an event. At `OutOfMemory` it is as it was.
+fn step_at(
+    routers: &mut Vec<Router>,
+    router: usize,
+    event: NodeEvent,
+) -> Result<Reply, OutOfMemory>
+    requires there { router < length routers.old.items }
+    requires fits { IfSome (nth routers.old.items router) (λ r. Fits r event) }
+    ensures state { OnOk result (IfSome (nth routers.old.items router) (λ r. routers.new.items
+        ≡ with_nth routers.old.items router (step given r (event_of r event)).router)) }
+    ensures reply { IfOk result (λ reply. IfSome (nth routers.old.items router) (λ r.
+        Answers (step given r (event_of r event)).router (place_of (event_of r event))
+        (step given r (event_of r event)).reply reply)) }
+    ensures counts { counts_of routers.new.items ≡ counts_of routers.old.items }
+    ensures err { OnErr result (routers.new.items ≡ routers.old.items) }
+{
+    step_bonds();
+    routers[router].step(event)
+}
+
+/// What a router sends in a boot on a link joins what was sent: past the limit the first of it.
+fn post(
+    sent: &mut Vec<SentDatagram>,
+    sender: usize,
+    boot: u32,
+    link: usize,
+    items: Vec<Octets>,
+) -> Result<(), LabFault>
+    requires { length sent.old.items ≤ 262144 }
+    ensures ok { OnOk result (sent.new.items
+        ≡ sent.old.items ++ map (sent_by sender boot link) items.items) }
+    ensures cause { IfErr result (StopCause (length sent.old.items + length items.items)) }
+    ensures few { length sent.new.items ≤ 262144 }
+{
+    let room = SENT_LIMIT - sent.len();
+    let past = items.len() > room;
+    let mut kept = items;
+    kept.truncate(room);
+    post_all(sent, sender, boot, link, kept)?;
+    if past {
+        return Err(LabFault::Limit(LimitName::Datagrams));
+    }
+    Ok(())
+}
+
+/// All of what a router sends in a boot on a link joins what was sent. It answers `OutOfMemory`
+/// alone.
+fn post_all(
+    sent: &mut Vec<SentDatagram>,
+    sender: usize,
+    boot: u32,
+    link: usize,
+    items: Vec<Octets>,
+) -> Result<(), OutOfMemory>
+    ensures ok { OnOk result (sent.new.items
+        ≡ sent.old.items ++ map (sent_by sender boot link) items.items) }
+    ensures few { length sent.new.items ≤ length sent.old.items + length items.items }
+{
+    for octets in items {
+        let datagram = SentDatagram {
+            sender,
+            boot,
+            link,
+            octets,
+        };
+        match sent.push(datagram) {
+            Ok(()) => {}
+            Err(_) => return Err(OutOfMemory),
+        }
+    }
+    Ok(())
+}
+
+/// A router restarts in its next boot. At `OutOfMemory` it is as it was.
+pub(crate) fn restart_at(routers: &mut Vec<Router>, router: usize) -> Result<(), OutOfMemory>
+    requires there { router < length routers.old.items }
+    requires boot { boot_of (nth routers.old.items router) < 16777215 }
+    ensures state { OnOk result (IfSome (nth routers.old.items router) (λ r. routers.new.items
+        ≡ with_nth routers.old.items router (restarted r))) }
+    ensures counts { counts_of routers.new.items ≡ counts_of routers.old.items }
+    ensures err { OnErr result (routers.new.items ≡ routers.old.items) }
+{
+    let old = &routers[router];
+    let fresh = old.restarted(old.boot() + 1)?;
+    put_at(routers, router, fresh);
+    Ok(())
+}
+
+/// The event in which a router takes octets on a circuit, counted from 1.
+pub(crate) fn taking_at(
+    routers: &[Router],
+    router: usize,
+    circuit: u8,
+    octets: Octets,
+) -> NodeEvent
+    requires there { router < length routers.now }
+    requires circuit { IfSome (nth routers.now router) (λ r. IsThere r circuit) }
+    ensures fits { IfSome (nth routers.now router) (λ r. Fits r result) }
+    ensures event { IfSome (nth routers.now router) (λ r. event_of r result
+        ≡ taking r (circuit - 1) octets) }
+{
+    reading_law();
+    let opened = routers[router].desk().open(circuit, octets);
+    NodeEvent::Take(opened)
+}
