@@ -14,3 +14,4 @@ pub mod LoopLemmas
 pub mod ConfigLemmas
 pub mod ReadLemmas
 pub mod SetupLemmas
+pub mod StateLemmas

@@ -29,21 +29,36 @@ state_between None p b q level = no_state
 state_between (Some a) p None q level = no_state
 state_between (Some a) p (Some b) q level = state_of a p b q level
 
--- how the two ends of a link stand; a LAN has no such state
+-- the two ends of a link; a LAN has no such pair
+abbrev pub pair_of : List End → Option (End × End)
+pair_of [] = None
+pair_of (e ∷ []) = None
+pair_of (e ∷ f ∷ []) = Some (e, f)
+pair_of (e ∷ f ∷ g ∷ ends) = None
+
+abbrev pub state_of_pair : List Router → Level → Option (End × End) → LinkState
+state_of_pair routers level None = no_state
+state_of_pair routers level (Some pair) =
+    state_between (nth routers pair.0.router) pair.0.place (nth routers pair.1.router) pair.1.place
+    level
+
+-- how the two ends of a link stand
 abbrev pub state_at : List Router → List End → Level → LinkState
-state_at routers (e ∷ f ∷ []) level =
-    state_between (nth routers e.router) e.place (nth routers f.router) f.place level
-state_at routers ends level = no_state
+state_at routers ends level = state_of_pair routers level (pair_of ends)
 
 -- a link is up, and no SRM flag stands on it
 abbrev pub is_clean : LinkState → Bool
 is_clean state = state.up && slice_index state.flags 0 == 0 && slice_index state.flags 1 == 0
 
+abbrev pub joined_pair : List Router → Level → Option (End × End) → List (ℕ × ℕ)
+joined_pair routers level None = []
+joined_pair routers level (Some pair) =
+    if is_clean (state_of_pair routers level (Some pair))
+    then (pair.0.router, pair.1.router) ∷ [] else []
+
 -- the two routers that a link joins at a level
 abbrev pub joined_by : List Router → Level → List End → List (ℕ × ℕ)
-joined_by routers level (e ∷ f ∷ []) =
-    if is_clean (state_at routers (e ∷ f ∷ []) level) then (e.router, f.router) ∷ [] else []
-joined_by routers level ends = []
+joined_by routers level ends = joined_pair routers level (pair_of ends)
 
 abbrev pub pairs_of : Seen → Level → List (ℕ × ℕ)
 pairs_of s level = flat_map (joined_by s.routers level) s.links

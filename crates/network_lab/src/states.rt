@@ -1,7 +1,9 @@
 //! How the links of a network stand, and which routers agree.
-ghost use Rattle.std.specs.Prelude.{◌≡◌, ◌<◌, ◌≤◌, ◌+◌, length, IfSome, IfOk};
+ghost use Rattle.std.specs.Prelude.{◌≡◌, ◌<◌, ◌≤◌, ◌+◌, length, ◌++◌, IfSome, IfOk, OnOk};
 ghost use Rattle.isis_model.specs.Places.{nth};
-ghost use Rattle.network_lab.specs.Claims.{AreEnds};
+ghost use Rattle.router_core.specs.Events.{IsThere};
+ghost use Rattle.link_states.specs.LinkStates.{no_state as no_link_state};
+ghost use Rattle.network_lab.specs.Claims.{IsEndIn};
 ghost use Rattle.network_lab.specs.LinkStates as state;
 ghost use Rattle.network_lab.specs.LinkStates.{state_at, groups_at};
 
@@ -18,7 +20,10 @@ impl Network {
         ensures { IfSome (nth self.now.seen.links link)
             (λ ends. result ≡ state_at self.now.seen.routers ends level) }
     {
-        self.state_of(self.ends(link), level)
+        match self.pair(link) {
+            Some((near, far)) => self.pair_state(near, far, level),
+            None => no_state(),
+        }
     }
 
     /// The groups of the routers that run a level: those that are joined by links that are up and
@@ -31,20 +36,46 @@ impl Network {
         joined_groups(self.alloc, &runs, &pairs)
     }
 
-    /// How the ends of a link stand at a level.
-    fn state_of(&self, ends: &[End], level: Level) -> LinkState
-        ensures { result ≡ state_at self.now.seen.routers ends.now level }
+    /// The two ends of a link; none of a LAN.
+    fn pair(&self, link: usize) -> Option<(End, End)>
+        requires { link < length self.now.seen.links }
+        ensures pair { IfSome (nth self.now.seen.links link) (λ ends. result ≡ state.pair_of ends) }
+        ensures there { IfSome result (λ pair. IsEndIn self.now.seen.routers pair.0
+            × IsEndIn self.now.seen.routers pair.1) }
     {
-        let [near, far] = ends else {
-            return no_state();
+        let [near, far] = self.links[link].as_slice() else {
+            return None;
         };
+        Some((*near, *far))
+    }
+
+    /// How two ends stand at a level.
+    fn pair_state(&self, near: End, far: End, level: Level) -> LinkState
+        requires near { IsEndIn self.now.seen.routers near }
+        requires far { IsEndIn self.now.seen.routers far }
+        ensures { result ≡ state.state_between (nth self.now.seen.routers near.router) near.place
+            (nth self.now.seen.routers far.router) far.place level }
+    {
+        let near_circuit = self.circuit_of(near);
+        let far_circuit = self.circuit_of(far);
         link_state(
             &self.routers[near.router],
-            near.place as u8 + 1,
+            near_circuit,
             &self.routers[far.router],
-            far.place as u8 + 1,
+            far_circuit,
             level,
         )
+    }
+
+    /// The number of an end's circuit, counted from 1.
+    fn circuit_of(&self, end: End) -> u8
+        requires { IsEndIn self.now.seen.routers end }
+        ensures number { result ≡ end.place + 1 }
+        ensures there { IfSome (nth self.now.seen.routers end.router)
+            (λ r. IsThere r result) }
+    {
+        self.routers[end.router].facts();
+        end.place as u8 + 1
     }
 
     /// For each router, whether it runs a level.
@@ -52,8 +83,11 @@ impl Network {
         ensures { IfOk result (λ runs. runs.items ≡ state.runs_of self.now.seen.routers level) }
     {
         let mut runs = Vec::with_capacity(self.alloc, self.routers.len())?;
-        for router in 0..self.routers.len() {
-            runs.push(self.routers[router].book(level).is_some())?;
+        for router in &self.routers {
+            match runs.push(router.book(level).is_some()) {
+                Ok(()) => {}
+                Err(_) => return Err(OutOfMemory),
+            }
         }
         Ok(runs)
     }
@@ -62,28 +96,49 @@ impl Network {
     fn pairs(&self, level: Level) -> Result<Vec<(usize, usize)>, OutOfMemory>
         ensures { IfOk result (λ pairs. pairs.items ≡ state.pairs_of self.now.seen level) }
     {
-        let mut pairs = Vec::with_capacity(self.alloc, self.links.len())?;
+        let mut pairs = Vec::new(self.alloc);
         for link in 0..self.links.len() {
-            let ends = self.ends(link);
-            if let [near, far] = ends {
-                if is_clean(self.state_of(ends, level)) {
-                    pairs.push((near.router, far.router))?;
-                }
+            match self.add_pair(&mut pairs, link, level) {
+                Ok(()) => {}
+                Err(error) => return Err(error),
             }
         }
         Ok(pairs)
     }
+
+    /// Adds the pair of routers that a link joins at a level, where it is clean.
+    fn add_pair(
+        &self,
+        pairs: &mut Vec<(usize, usize)>,
+        link: usize,
+        level: Level,
+    ) -> Result<(), OutOfMemory>
+        requires { link < length self.now.seen.links }
+        ensures { IfSome (nth self.now.seen.links link) (λ ends. OnOk result (pairs.new.items
+            ≡ pairs.old.items ++ state.joined_by self.now.seen.routers level ends)) }
+    {
+        let Some((near, far)) = self.pair(link) else {
+            return Ok(());
+        };
+        if is_clean(self.pair_state(near, far, level)) {
+            pairs.push((near.router, far.router))?;
+        }
+        Ok(())
+    }
 }
 
 /// Whether a link is up, and no SRM flag stands on it (ISO 10589 7.3.15).
-fn is_clean(state: LinkState) -> bool
-    ensures { result ≡ state.is_clean state }
+fn is_clean(link: LinkState) -> bool
+    ensures { result ≡ state.is_clean link }
 {
-    let [near, far] = state.flags;
-    state.up && near == 0 && far == 0
+    let [near, far] = link.flags;
+    link.up && near == 0 && far == 0
 }
 
-fn no_state() -> LinkState {
+/// The state of what is no point-to-point link.
+fn no_state() -> LinkState
+    ensures { result ≡ no_link_state }
+{
     LinkState {
         up: false,
         flags: [0, 0],
