@@ -105,9 +105,10 @@ pub change-setup : (change : CircuitConfig → CircuitConfig) (ports : List (Lis
     → first ≡ get_or configs i first → config ≡ get_or configs i config → slice ≡ first.circuits → from ≡ circuit → item ≡ get_or slice (from - 1) item → changed ≡ item → (IsCircuit item → IsCircuit (change item))
     → setup_config ≡ with_circuit_at config (from - 1) (change changed) → setup_router ≡ router_of (with_circuit_at config (from - 1) (change changed)) → configs_now ≡ with_nth configs i setup_config → rs_now ≡ with_nth rs i setup_router
     → IsNet ports ordered (lab configs_now rs_now links ds n begun stopped) × (lab configs_now rs_now links ds n begun stopped ≡ reconfigured old i (with_changed change circuit))
-change-setup change ports ordered links configs configs_now rs rs_now ds n begun stopped old i circuit from first config setup_config setup_router slice item changed is h b there e1 e2 sl fr it ch fits sc sr cn rn =
-    (config-new ports ordered links configs configs_now rs rs_now ds n begun stopped i config new h begun_is at valid (length-with config.circuits (circuit - 1) (change item)) configs_are routers_are,
-    config-view links configs configs_now rs rs_now ds n begun stopped old i new is configs_are routers_are ∙ sym (config-is old i circuit change config item (ap (λ (l : LabNet). nth l.configs i) (sym is) ∙ at) here))
+change-setup change ports ordered links configs configs_now rs rs_now ds n begun stopped old i circuit from first config setup_config setup_router slice item changed is h b there e1 e2 sl fr it ch fits sc sr cn rn = (
+  config-new ports ordered links configs configs_now rs rs_now ds n begun stopped i config new h begun_is at valid (length-with config.circuits (circuit - 1) (change item)) configs_are routers_are,
+  config-view links configs configs_now rs rs_now ds n begun stopped old i new is configs_are routers_are ∙ sym (config-is old i circuit change config item (ap (λ (l : LabNet). nth l.configs i) (sym is) ∙ at) here),
+)
   where
     inside : i < length configs
     inside = let l = ap (λ (l : LabNet). length l.configs) is in let t = there.0 in omega (arith, l, t)
@@ -182,20 +183,21 @@ pub join-setup : (ports mid_ports ports_now : List (List ℕ)) (ordered ordered_
     → configs_now ≡ with_nth mid_configs j far_config → rs_now ≡ with_nth mid_rs j far_router
     → IsNet ports_now ordered_now (lab configs_now rs_now links_now ds n begun stopped) × (lab configs_now rs_now links_now ds n begun stopped ≡ with_link old i j metric)
 join-setup ports mid_ports ports_now ordered ordered_now links links_now configs mid_configs configs_now rs mid_rs rs_now ds n begun stopped old i j metric link m k p q p_new q_new row row_ordered near far near_config far_config near_router far_router
-    is h b there apart room fits link_is m_is k_is p_at q_at near_at far_at p_is q_is row_is ordered_is ls os mp pn nc nr fc fr mc mr cn rn =
-    (link-more ports ports_now ordered ordered_now links links_now configs configs_now rs rs_now ds n begun stopped i j metric p q near far h (ap (λ (x : LabNet). x.begun) is ∙ b) apart
-    (port-at ports ordered whole i p h (let s = ap (λ (x : LabNet). length x.configs) is in let t = there.0 in omega (arith, s, t)) p_at)
-    (port-at ports ordered whole j q h (let s = ap (λ (x : LabNet). length x.configs) is in let t = there.1 in omega (arith, s, t)) q_at)
-    on_i on_j (room-get whole old i near is room.0 there.0 near_at) (room-get whole old j far is room.1 there.1 far_at) fits
-    (pn ∙ two_nth (mp ∙ ap (with_nth ports i) (p_is ∙ ap (λ (l : ℕ). p ++ (l ∷ [])) link_is)) (q_is ∙ ap (λ (l : ℕ). q ++ (l ∷ [])) link_is))
-    (os ∙ ap (λ (e : List End). ordered ++ (e ∷ [])) (ordered_is ∙ ap by_router ends_are))
-    (ls ∙ ap (λ (e : List End). links ++ (e ∷ [])) (row_is ∙ ends_are))
-    (cn ∙ two_nth (mc ∙ ap (with_nth configs i) nc) fc)
-    (rn ∙ two_nth (mr ∙ ap (with_nth rs i) nr) fr),
-    link-view links links_now configs configs_now rs rs_now ds n begun stopped old i j metric near far is apart on_i on_j
-    (ls ∙ ap (λ (e : List End). links ++ (e ∷ [])) (row_is ∙ ends_are))
-    (cn ∙ two_nth (mc ∙ ap (with_nth configs i) nc) fc)
-    (rn ∙ two_nth (mr ∙ ap (with_nth rs i) nr) fr))
+    is h b there apart room fits link_is m_is k_is p_at q_at near_at far_at p_is q_is row_is ordered_is ls os mp pn nc nr fc fr mc mr cn rn = (
+      link-more ports ports_now ordered ordered_now links links_now configs configs_now rs rs_now ds n begun stopped i j metric p q near far h (ap (λ (x : LabNet). x.begun) is ∙ b) apart
+          (port-at ports ordered whole i p h (let s = ap (λ (x : LabNet). length x.configs) is in let t = there.0 in omega (arith, s, t)) p_at)
+          (port-at ports ordered whole j q h (let s = ap (λ (x : LabNet). length x.configs) is in let t = there.1 in omega (arith, s, t)) q_at)
+          on_i on_j (room-get whole old i near is room.0 there.0 near_at) (room-get whole old j far is room.1 there.1 far_at) fits
+          (pn ∙ two_nth (mp ∙ ap (with_nth ports i) (p_is ∙ ap (λ (l : ℕ). p ++ (l ∷ [])) link_is)) (q_is ∙ ap (λ (l : ℕ). q ++ (l ∷ [])) link_is))
+          (os ∙ ap (λ (e : List End). ordered ++ (e ∷ [])) (ordered_is ∙ ap by_router ends_are))
+          (ls ∙ ap (λ (e : List End). links ++ (e ∷ [])) (row_is ∙ ends_are))
+          (cn ∙ two_nth (mc ∙ ap (with_nth configs i) nc) fc)
+          (rn ∙ two_nth (mr ∙ ap (with_nth rs i) nr) fr),
+      link-view links links_now configs configs_now rs rs_now ds n begun stopped old i j metric near far is apart on_i on_j
+          (ls ∙ ap (λ (e : List End). links ++ (e ∷ [])) (row_is ∙ ends_are))
+          (cn ∙ two_nth (mc ∙ ap (with_nth configs i) nc) fc)
+          (rn ∙ two_nth (mr ∙ ap (with_nth rs i) nr) fr),
+    )
   where
     whole : LabNet
     whole = lab configs rs links ds n begun stopped

@@ -105,12 +105,7 @@ impl Network {
     }
 
     /// Sets the priority of a router's circuit, counted from 1. It answers `OutOfMemory` alone.
-    pub fn set_priority(
-        &mut self,
-        router: usize,
-        circuit: u8,
-        priority: u8,
-    ) -> Result<(), LabFault>
+    pub fn set_priority(&mut self, router: usize, circuit: u8, priority: u8) -> Result<(), LabFault>
         requires there { HasCircuit self.old router circuit }
         requires priority { priority ≤ 127 }
         requires setup { self.old.begun ≡ false }
@@ -268,12 +263,7 @@ struct Setups {
 }
 
 /// Two configurations, each with a point-to-point circuit more.
-fn joined(
-    alloc: Global,
-    near: &Config,
-    far: &Config,
-    metric: u32,
-) -> Result<Setups, OutOfMemory>
+fn joined(alloc: Global, near: &Config, far: &Config, metric: u32) -> Result<Setups, OutOfMemory>
     requires valid { IsValid near.now × IsValid far.now }
     requires room { (length near.now.circuits < 64) × (length far.now.circuits < 64) }
     requires metric { metric ≤ 16777215 }
@@ -315,10 +305,7 @@ fn joined_one(alloc: Global, config: &Config, metric: u32) -> Result<Setup, OutO
 }
 
 /// Makes room for one more link.
-fn make_link_room(
-    links: &mut Vec<Row<End>>,
-    ordered: &mut Vec<Row<End>>,
-) -> Result<(), AllocError>
+fn make_link_room(links: &mut Vec<Row<End>>, ordered: &mut Vec<Row<End>>) -> Result<(), AllocError>
     ensures links { links.new.items ≡ links.old.items }
     ensures ordered { ordered.new.items ≡ ordered.old.items }
     ensures room { OnOk result ((vec_len links.new < vec_capacity links.new)
@@ -336,11 +323,7 @@ struct Rows {
 }
 
 /// The ends of a link, both ways.
-fn rows_of(
-    alloc: Global,
-    routers: [usize; 2],
-    places: [usize; 2],
-) -> Result<Rows, OutOfMemory>
+fn rows_of(alloc: Global, routers: [usize; 2], places: [usize; 2]) -> Result<Rows, OutOfMemory>
     ensures ends { IfOk result (λ rows. rows.ends ≡ two_ends (slice_index routers 0)
         (slice_index places 0) (slice_index routers 1) (slice_index places 1)) }
     ensures ordered { IfOk result (λ rows. rows.ordered ≡ by_router (two_ends
@@ -353,11 +336,7 @@ fn rows_of(
 }
 
 /// The ends of a link.
-fn link_row(
-    alloc: Global,
-    routers: [usize; 2],
-    places: [usize; 2],
-) -> Result<Row<End>, OutOfMemory>
+fn link_row(alloc: Global, routers: [usize; 2], places: [usize; 2]) -> Result<Row<End>, OutOfMemory>
     ensures { IfOk result (λ row. row ≡ two_ends (slice_index routers 0) (slice_index places 0)
         (slice_index routers 1) (slice_index places 1)) }
 {

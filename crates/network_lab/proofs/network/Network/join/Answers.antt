@@ -5,14 +5,16 @@ use Rattle.network_lab.proofs.SetupLemmas.{both-there, ports-there, valid-get, r
 use Rattle.network_lab.proofs.network.Network.join.Goals as goal
 
 pub joined-requires-clause-valid : goal.joined-requires-clause-valid
-joined-requires-clause-valid c =
-    (valid-get c.self.inside.ports.items c.self.inside.ordered.items _ c.args.self.now c.args.near c.index-3.result.now c.self.view_is c.self.invariant c.requires.setup c.requires.there.0 c.index-3.ensures,
-    valid-get c.self.inside.ports.items c.self.inside.ordered.items _ c.args.self.now c.args.far c.index-4.result.now c.self.view_is c.self.invariant c.requires.setup c.requires.there.1 c.index-4.ensures)
+joined-requires-clause-valid c = (
+  valid-get c.self.inside.ports.items c.self.inside.ordered.items _ c.args.self.now c.args.near c.index-3.result.now c.self.view_is c.self.invariant c.requires.setup c.requires.there.0 c.index-3.ensures,
+  valid-get c.self.inside.ports.items c.self.inside.ordered.items _ c.args.self.now c.args.far c.index-4.result.now c.self.view_is c.self.invariant c.requires.setup c.requires.there.1 c.index-4.ensures,
+)
 
 pub joined-requires-clause-room : goal.joined-requires-clause-room
-joined-requires-clause-room c =
-    (room-get _ c.args.self.now c.args.near c.index-3.result.now c.self.view_is c.requires.room.0 c.requires.there.0 c.index-3.ensures,
-    room-get _ c.args.self.now c.args.far c.index-4.result.now c.self.view_is c.requires.room.1 c.requires.there.1 c.index-4.ensures)
+joined-requires-clause-room c = (
+  room-get _ c.args.self.now c.args.near c.index-3.result.now c.self.view_is c.requires.room.0 c.requires.there.0 c.index-3.ensures,
+  room-get _ c.args.self.now c.args.far c.index-4.result.now c.self.view_is c.requires.room.1 c.requires.there.1 c.index-4.ensures,
+)
 
 pub put_at-requires : goal.put_at-requires
 put_at-requires c = ports-there c.self.inside.ports.items c.self.inside.ordered.items _ c.args.self.now c.args.near c.self.view_is c.self.invariant c.requires.there.0
