@@ -128,12 +128,13 @@ pub deliver-done : (s : Seen) (n i link place : ℕ) (x : SentDatagram) (octets 
 unfolding apply
 deliver-done s n i link place x octets r o g h p k net e =
     let l = lands-of net s e n i link x (numbered net.datagrams n) refl g h in
-    let says : octets_of l.d ≡ octets = l.says ∙ sym o in
-    (deliver-on s n i link place x g h p net e,
-    ap (λ (a : _). seen_of (arrive given net i a)) (l.arrives ∙ ap (on_place l.d) (place-seen net s e link i ∙ p))
-    ∙ (ap (λ (k : ℕ). seen_of (arrive_at given net i k place (octets_of l.d) (nth net.routers i))) l.on
-    ∙ (ap (λ (b : List ℕ). seen_of (arrive_at given net i link place b (nth net.routers i))) says
-    ∙ arrived net s e i link place octets r k)))
+    let says : octets_of l.d ≡ octets = l.says ∙ sym o in (
+      deliver-on s n i link place x g h p net e,
+      ap (λ (a : _). seen_of (arrive given net i a)) (l.arrives ∙ ap (on_place l.d) (place-seen net s e link i ∙ p))
+          ∙ (ap (λ (k : ℕ). seen_of (arrive_at given net i k place (octets_of l.d) (nth net.routers i))) l.on
+          ∙ (ap (λ (b : List ℕ). seen_of (arrive_at given net i link place b (nth net.routers i))) says
+          ∙ arrived net s e i link place octets r k)),
+    )
 
 -- ---- injections
 
@@ -185,9 +186,10 @@ change-after net i (change.Overload on) = refl
 
 pub change-done : (s : Seen) (i : ℕ) (c : Change) (r : Router) → nth s.routers i ≡ Some r → unless_changes (Some r) c ≡ None → (net : Network) → seen_of net ≡ s
     → (refusal net (event.Change i c) ≡ None) × (seen_of (after net (event.Change i c)) ≡ moved_in s i None (core.change_of c) r)
-change-done s i c r h u net e =
-    (ap (λ (o : Option Router). unless_changes o c) (ap (λ (s : Seen). nth s.routers i) e ∙ h) ∙ u,
-    ap seen_of (change-after net i c) ∙ moved-at net s e i None (core.change_of c) r h)
+change-done s i c r h u net e = (
+  ap (λ (o : Option Router). unless_changes o c) (ap (λ (s : Seen). nth s.routers i) e ∙ h) ∙ u,
+  ap seen_of (change-after net i c) ∙ moved-at net s e i None (core.change_of c) r h,
+)
 
 pub fits-change : (r : Router) (c : Change) → IsChange r c → unless_changes (Some r) c ≡ None → core.FitsChange r c
 fits-change r (change.Metric circuit metric) h u = h

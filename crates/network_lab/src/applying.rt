@@ -211,12 +211,7 @@ impl Network {
     }
 
     /// A router takes an event, and what it sends goes out on the link.
-    fn take(
-        &mut self,
-        router: usize,
-        link: Option<usize>,
-        event: NodeEvent,
-    ) -> Result<(), LabFault>
+    fn take(&mut self, router: usize, link: Option<usize>, event: NodeEvent) -> Result<(), LabFault>
         requires there { router < length self.old.seen.routers }
         requires fits { IfSome (nth self.old.seen.routers router) (λ r. Fits r event) }
         requires running { self.old.stopped ≡ None }

@@ -7,15 +7,28 @@ use router_desk::Change;
 #[derive(Drop, Debug)]
 pub enum LabEvent {
     /// A second of a router.
-    Tick { router: usize },
+    Tick {
+        router: usize,
+    },
     /// A router is asked for what is due on its circuit of a link.
-    Pull { router: usize, link: usize },
+    Pull {
+        router: usize,
+        link: usize,
+    },
     /// A datagram is delivered to a router.
-    Deliver { datagram: usize, router: usize },
+    Deliver {
+        datagram: usize,
+        router: usize,
+    },
     /// A router restarts in its next boot.
-    Restart { router: usize },
+    Restart {
+        router: usize,
+    },
     /// A router's configuration changes.
-    Change { router: usize, change: Change },
+    Change {
+        router: usize,
+        change: Change,
+    },
     /// A router is given octets on its circuit of a link.
     Inject {
         router: usize,

@@ -1,4 +1,4 @@
-//! Why a call on a plain network isn't carried out.
+//! Why a call on a network isn't carried out.
 ghost use Rattle.std.specs.Prelude.{◌≡◌, Some};
 ghost use Rattle.network_lab.specs.Limits.{limit_word, fault_line};
 ghost use Rattle.network_lab.specs.declared.faults.LabFault.TheVariants.{OutOfMemory};

@@ -1,9 +1,14 @@
-//! Networks under a schedule. So far the plain network of numbered copies: routers pass keys along links, and
-//! each router holds, of each LSP ID, the newest key that reached it (ISO 10589 7.3.16).
+//! Networks under a schedule. The plain network of numbered copies: routers pass keys along links, and each
+//! router holds, of each LSP ID, the newest key that reached it (ISO 10589 7.3.16). And the network of
+//! routers: an event steps one router, what that sends joins the datagrams, and any datagram is delivered at
+//! any later moment, any number of times. It stands for the run of network_model (own).
 //!
 //! - `faults.rt`: why a call is refused
 //! - `key_net.rt`: the plain network; `laws.rt`: its limits, pinned by laws
 //! - `held.rt`: the newest keys of one router, by LSP ID
+//! - `network.rt`: the network of routers, and what is read of it; `event.rt`, `sent.rt`: its events and datagrams
+//! - `setup.rt`: how it is set up; `applying.rt`: one event; `running.rt`: a line `run`
+//! - `taking.rt`: a router of a list takes an event; `ends.rt`, `places.rt`, `row.rt`: circuits, ends, places
 #![tactic(auto)]
 
 mod applying;

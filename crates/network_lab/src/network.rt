@@ -65,6 +65,13 @@ impl Network {
         }
     }
 
+    /// What always holds of a network: at most 262,144 datagrams were sent. It does nothing.
+    pub fn facts(&self)
+        ensures few { length self.now.seen.sent ≤ 262144 }
+    {
+        let _ = &self.alloc;
+    }
+
     /// A router, by its number.
     pub fn router(&self, router: usize) -> &Router
         requires { router < length self.now.seen.routers }

@@ -76,23 +76,13 @@ impl Network {
             return Err(LabFault::Limit(LimitName::Links));
         }
         let [near, far] = ends;
-        let places = [self.next_place(near), self.next_place(far)];
-        if places[0] >= CIRCUIT_LIMIT || places[1] >= CIRCUIT_LIMIT {
+        if self.next_place(near) >= CIRCUIT_LIMIT {
             return Err(LabFault::Limit(LimitName::Circuits));
         }
-        let near_ports = self.ports[near].with(link)?;
-        let far_ports = self.ports[far].with(link)?;
-        let row = link_row(self.alloc, ends, places)?;
-        let ordered = ordered_row(self.alloc, ends, places)?;
-        self.links.reserve(1)?;
-        self.ordered.reserve(1)?;
-        let setups = joined(self.alloc, &self.configs[near], &self.configs[far], metric)?;
-        self.links.push_reserved(row);
-        self.ordered.push_reserved(ordered);
-        put_at(&mut self.ports, near, near_ports);
-        put_at(&mut self.ports, far, far_ports);
-        put_setup(&mut self.configs, &mut self.routers, near, setups.near);
-        put_setup(&mut self.configs, &mut self.routers, far, setups.far);
+        if self.next_place(far) >= CIRCUIT_LIMIT {
+            return Err(LabFault::Limit(LimitName::Circuits));
+        }
+        self.join(near, far, metric)?;
         Ok(link)
     }
 
@@ -115,12 +105,7 @@ impl Network {
     }
 
     /// Sets the priority of a router's circuit, counted from 1. It answers `OutOfMemory` alone.
-    pub fn set_priority(
-        &mut self,
-        router: usize,
-        circuit: u8,
-        priority: u8,
-    ) -> Result<(), LabFault>
+    pub fn set_priority(&mut self, router: usize, circuit: u8, priority: u8) -> Result<(), LabFault>
         requires there { HasCircuit self.old router circuit }
         requires priority { priority ≤ 127 }
         requires setup { self.old.begun ≡ false }
@@ -133,6 +118,32 @@ impl Network {
         changed.priority = priority;
         let setup = changed_at(self.alloc, &self.configs[router], place, &changed)?;
         put_setup(&mut self.configs, &mut self.routers, router, setup);
+        Ok(())
+    }
+
+    /// A link between two routers that have room for it.
+    fn join(&mut self, near: usize, far: usize, metric: u32) -> Result<(), OutOfMemory>
+        requires there { (near < length self.old.configs) × (far < length self.old.configs) }
+        requires apart { near ≢ far }
+        requires room { (next_place self.old near < 64) × (next_place self.old far < 64) }
+        requires metric { metric ≤ 16777215 }
+        requires setup { self.old.begun ≡ false }
+        ensures ok { OnOk result (self.new ≡ with_link self.old near far metric) }
+        ensures err { OnErr result (self.new ≡ self.old) }
+    {
+        let link = self.links.len();
+        let places = [self.next_place(near), self.next_place(far)];
+        let near_ports = self.ports[near].with(link)?;
+        let far_ports = self.ports[far].with(link)?;
+        let rows = rows_of(self.alloc, [near, far], places)?;
+        make_link_room(&mut self.links, &mut self.ordered)?;
+        let setups = joined(self.alloc, &self.configs[near], &self.configs[far], metric)?;
+        self.links.push_reserved(rows.ends);
+        self.ordered.push_reserved(rows.ordered);
+        put_at(&mut self.ports, near, near_ports);
+        put_at(&mut self.ports, far, far_ports);
+        put_setup(&mut self.configs, &mut self.routers, near, setups.near);
+        put_setup(&mut self.configs, &mut self.routers, far, setups.far);
         Ok(())
     }
 
@@ -252,12 +263,7 @@ struct Setups {
 }
 
 /// Two configurations, each with a point-to-point circuit more.
-fn joined(
-    alloc: Global,
-    near: &Config,
-    far: &Config,
-    metric: u32,
-) -> Result<Setups, OutOfMemory>
+fn joined(alloc: Global, near: &Config, far: &Config, metric: u32) -> Result<Setups, OutOfMemory>
     requires valid { IsValid near.now × IsValid far.now }
     requires room { (length near.now.circuits < 64) × (length far.now.circuits < 64) }
     requires metric { metric ≤ 16777215 }
@@ -298,12 +304,39 @@ fn joined_one(alloc: Global, config: &Config, metric: u32) -> Result<Setup, OutO
     setup_of(alloc, copy)
 }
 
+/// Makes room for one more link.
+fn make_link_room(links: &mut Vec<Row<End>>, ordered: &mut Vec<Row<End>>) -> Result<(), AllocError>
+    ensures links { links.new.items ≡ links.old.items }
+    ensures ordered { ordered.new.items ≡ ordered.old.items }
+    ensures room { OnOk result ((vec_len links.new < vec_capacity links.new)
+        × (vec_len ordered.new < vec_capacity ordered.new)) }
+{
+    links.reserve(1)?;
+    ordered.reserve(1)
+}
+
+/// The ends of a link, as they were given and in order of their routers.
+#[derive(Drop)]
+struct Rows {
+    ends: Row<End>,
+    ordered: Row<End>,
+}
+
+/// The ends of a link, both ways.
+fn rows_of(alloc: Global, routers: [usize; 2], places: [usize; 2]) -> Result<Rows, OutOfMemory>
+    ensures ends { IfOk result (λ rows. rows.ends ≡ two_ends (slice_index routers 0)
+        (slice_index places 0) (slice_index routers 1) (slice_index places 1)) }
+    ensures ordered { IfOk result (λ rows. rows.ordered ≡ by_router (two_ends
+        (slice_index routers 0) (slice_index places 0) (slice_index routers 1)
+        (slice_index places 1))) }
+{
+    let ends = link_row(alloc, routers, places)?;
+    let ordered = ordered_row(alloc, routers, places)?;
+    Ok(Rows { ends, ordered })
+}
+
 /// The ends of a link.
-fn link_row(
-    alloc: Global,
-    routers: [usize; 2],
-    places: [usize; 2],
-) -> Result<Row<End>, OutOfMemory>
+fn link_row(alloc: Global, routers: [usize; 2], places: [usize; 2]) -> Result<Row<End>, OutOfMemory>
     ensures { IfOk result (λ row. row ≡ two_ends (slice_index routers 0) (slice_index places 0)
         (slice_index routers 1) (slice_index places 1)) }
 {

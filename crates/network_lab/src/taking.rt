@@ -83,11 +83,7 @@ fn send(
 }
 
 /// A router takes an event. At `OutOfMemory` it is as it was.
-fn step_at(
-    routers: &mut Vec<Router>,
-    router: usize,
-    event: NodeEvent,
-) -> Result<Reply, OutOfMemory>
+fn step_at(routers: &mut Vec<Router>, router: usize, event: NodeEvent) -> Result<Reply, OutOfMemory>
     requires there { router < length routers.old.items }
     requires fits { IfSome (nth routers.old.items router) (λ r. Fits r event) }
     ensures state { OnOk result (IfSome (nth routers.old.items router) (λ r. routers.new.items
@@ -171,12 +167,7 @@ pub(crate) fn restart_at(routers: &mut Vec<Router>, router: usize) -> Result<(),
 }
 
 /// The event in which a router takes octets on a circuit, counted from 1.
-pub(crate) fn taking_at(
-    routers: &[Router],
-    router: usize,
-    circuit: u8,
-    octets: Octets,
-) -> NodeEvent
+pub(crate) fn taking_at(routers: &[Router], router: usize, circuit: u8, octets: Octets) -> NodeEvent
     requires there { router < length routers.now }
     requires circuit { IfSome (nth routers.now router) (λ r. IsThere r circuit) }
     ensures fits { IfSome (nth routers.now router) (λ r. Fits r result) }

@@ -31,4 +31,3 @@ returns-in-Err c =
 pub returns : goal.returns
 returns c = ends (line.run_line given c.args.out.without c.args.out.except (c.args.seconds - c.loop-second.second)) (line.run_line given c.args.out.without c.args.out.except c.args.seconds) c.args.self.now c.loop-second.self c.loop-second.invariant
     (λ net s. second-end c.args.out.without c.args.out.except c.loop-second.second c.args.seconds c.loop-second-test.false net)
-

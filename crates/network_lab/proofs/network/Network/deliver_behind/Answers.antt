@@ -37,8 +37,8 @@ returns-in-Err c =
     c.args.self.now c.loop-count.self c.deliver_one.new.self c.in-Err.fault c.loop-count.invariant.goes c.in-Err.ensures
     (λ net s. left-grows (line.deliver_behind given c.args.out.without c.args.out.except (line.datagram_limit - (c.loop-count.count - c.args.first)) c.loop-count.count) (line.deliver_behind given c.args.out.without c.args.out.except (line.datagram_limit - (c.loop-count.count + 1 - c.args.first)) (c.loop-count.count + 1)) (deliver_numbered c.args.out.without c.args.out.except (c.loop-count.count + 1)) net
     (behind-step c.args.out.without c.args.out.except (line.datagram_limit - (c.loop-count.count - c.args.first)) (line.datagram_limit - (c.loop-count.count + 1 - c.args.first)) c.loop-count.count
-      (fuel c.args.first c.loop-count.count c.loop-count.invariant.rises (let t = c.loop-count-test.true in let f = c.sent_count.ensures.few in omega (arith, t, f))) net
-      (let t = c.loop-count-test.true in let f = c.sent_count.ensures.count in let m = sent-count net c.loop-count.self s in omega (arith, t, f, m)))
+    (fuel c.args.first c.loop-count.count c.loop-count.invariant.rises (let t = c.loop-count-test.true in let f = c.sent_count.ensures.few in omega (arith, t, f))) net
+    (let t = c.loop-count-test.true in let f = c.sent_count.ensures.count in let m = sent-count net c.loop-count.self s in omega (arith, t, f, m)))
     (behind-grows given c.args.out.without c.args.out.except (line.datagram_limit - (c.loop-count.count + 1 - c.args.first)) (c.loop-count.count + 1)))
 
 pub returns : goal.returns

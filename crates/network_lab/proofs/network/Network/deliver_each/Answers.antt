@@ -31,4 +31,3 @@ returns-in-Err c =
 pub returns : goal.returns
 returns c = ends (line.deliver_each given c.args.out.except c.args.number c.args.sender (drop c.loop-place.place (line.by_router (line.ends_of (nth c.args.self.now.seen.links c.args.link))))) (line.deliver_each given c.args.out.except c.args.number c.args.sender (line.by_router (line.ends_of (nth c.args.self.now.seen.links c.args.link)))) c.args.self.now c.loop-place.self c.loop-place.invariant
     (λ net s. each-end c.args.out.except c.args.number c.args.sender (line.by_router (line.ends_of (nth c.args.self.now.seen.links c.args.link))) c.loop-place.place (let t = c.loop-place-test.false in let n = c.ends_count-count.ensures in omega (arith, t, n)) net)
-

@@ -10,7 +10,6 @@ use Rattle.network_lab.proofs.ReadLemmas.{ends-is, end-is, end-there}
 use Rattle.network_lab.proofs.network.Network.end_router.Goals as goal
 use Rattle.network_lab.proofs.network.Network.end_router.Goals.{After-as_slice}
 
-
 at : (c : After-as_slice) → nth (by_router (ends_of (nth c.self.inside.links.items c.args.link))) c.args.place ≡ Some (get_or c.as_slice.result.now c.args.place (record { router = 0; place = 0 }))
 at c =
     let h = subst (λ (l : LabNet). c.args.place < length (by_router (ends_of (nth l.seen.links c.args.link)))) (sym c.self.view_is) c.requires in

@@ -31,4 +31,3 @@ returns-in-Err c =
 pub returns : goal.returns
 returns c = ends (line.pull_each given c.args.out.without c.args.out.except c.loop-router.router (c.routers-count.result - c.loop-router.router)) (line.pull_each given c.args.out.without c.args.out.except 0 (length c.args.self.now.seen.routers)) c.args.self.now c.loop-router.self c.loop-router.invariant
     (λ net s. pull-end c.args.out.without c.args.out.except c.loop-router.router c.routers-count.result c.loop-router-test.false net)
-

@@ -31,4 +31,3 @@ returns-in-Err c =
 pub returns : goal.returns
 returns c = ends (line.pull_links given c.args.out.without c.args.out.except c.args.router (links_in c.args.self.now.seen.links c.args.router c.loop-place.place (c.circuits-count.result - c.loop-place.place))) (pull_links_of c.args.out.without c.args.out.except c.args.router) c.args.self.now c.loop-place.self c.loop-place.invariant
     (λ net s. links-end c.args.out.without c.args.out.except c.args.self.now.seen.links c.args.router c.loop-place.place c.circuits-count.result c.loop-place-test.false net)
-
