@@ -1,3 +1,0 @@
-pub mod PlayLemmas
-pub mod EndLemmas
-pub mod SetupLemmas

@@ -1,3 +1,4 @@
 pub mod PlayLemmas
 pub mod SoundLemmas
 pub mod LayLemmas
+pub mod LabLemmas

@@ -14,7 +14,6 @@
 mod applying;
 mod ends;
 mod event;
-mod facts;
 mod faults;
 mod held;
 mod key_net;
