@@ -1,6 +1,5 @@
 -- Another configuration of a router before the run.
-use Rattle.std.proofs.Common.{◌≡◌, ℕ, zero, suc, ◌+◌, ◌-◌, ◌<◌, ◌≤◌, List, [], ◌∷◌, ◌++◌, map, take, length, Bool, true, false, Option, Some, None, IfSome, refl, sym, ap, ◌∙◌, subst, arith}
-use Rattle.std.specs.List.{AllByRecursion}
+use Rattle.std.proofs.Common.{◌≡◌, ℕ, zero, suc, ◌+◌, ◌-◌, ◌≤◌, List, [], ◌∷◌, ◌++◌, map, take, length, false, Option, Some, sym, ap, ◌∙◌, arith}
 use Rattle.isis_model.specs.Places.{nth, with_nth}
 use Rattle.isis_model.specs.Routers.{Router}
 use Rattle.network_model.specs.declared.end.End.{End}
@@ -11,7 +10,7 @@ use Rattle.network_lab.specs.LabNets.{LabNet, router_of, reconfigured, configure
 use Rattle.network_lab.specs.LabInside.{counts_of, IsSetUp, IsNet}
 use Rattle.network_lab.specs.LabSteps.{with_circuit_at}
 use Rattle.network_lab.proofs.PlaceLemmas.{some-same, map-with, length-with}
-use Rattle.network_lab.proofs.LinkLemmas.{all-with, all-at, setup-counts}
+use Rattle.network_lab.proofs.LinkLemmas.{all-with, setup-counts}
 use Rattle.network_lab.proofs.StepLemmas.{counts-with}
 
 pub valid-with : (config : Config) (place : ℕ) (c : CircuitConfig) → IsValid config → IsCircuit c → IsValid (with_circuit_at config place c)

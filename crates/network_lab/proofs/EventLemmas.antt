@@ -1,12 +1,12 @@
 -- What an event of the model does to what is seen of a network.
-use Rattle.std.proofs.Common.{◌≡◌, ℕ, ◌-◌, ◌+◌, ◌<◌, ◌≤◌, ◌==◌, ◌&&◌, not, nat_le, Bool, true, false, List, map, length, Option, Some, None, Result, Ok, Err, IfSome, IfErr, OnOk, is_some, if◌then◌else◌, refl, sym, ap, ◌∙◌, subst, arith}
+use Rattle.std.proofs.Common.{◌≡◌, ℕ, ◌<◌, ◌≤◌, ◌==◌, ◌&&◌, not, nat_le, Bool, true, false, List, length, Option, Some, None, Result, Ok, Err, is_some, if◌then◌else◌, refl, sym, ap, ◌∙◌, subst, arith}
 use Rattle.std.specs.Option.{option_map}
 use Rattle.std.proofs.lemmas.List.{map-append, length-map}
 use Rattle.isis_model.specs.Places.{nth, with_nth}
 use Rattle.isis_model.specs.Maps.{find}
 use Rattle.isis_model.specs.Books.{risen}
 use Rattle.isis_model.specs.Routers.{Router}
-use Rattle.isis_model.specs.Events.{Event, Second, Take, Pull}
+use Rattle.isis_model.specs.Events.{Event, Second, Pull}
 use Rattle.isis_model.specs.Steps.{step}
 use Rattle.isis_model.specs.AdjacencyLaws.{place_of}
 use Rattle.router_desk.specs.declared.config.Change.{Change}
@@ -23,9 +23,9 @@ use Rattle.network_lab.specs.declared.event.LabEvent.TheVariants as event
 use Rattle.network_lab.specs.declared.faults.LabFault.{LabFault}
 use Rattle.network_lab.specs.declared.faults.LabFault.TheVariants as fault
 use Rattle.network_lab.specs.declared.faults.LimitName.TheVariants as limit
-use Rattle.network_lab.specs.LabNets.{Seen, LabNet, StandsFor, sent_of, seen_of}
+use Rattle.network_lab.specs.LabNets.{Seen, LabNet, sent_of, seen_of}
 use Rattle.network_lab.specs.LabEvents.{refusal, after, unless_on, unless_arrives, past_boots, unless_changes, IsChange, change_of}
-use Rattle.network_lab.specs.LabSteps.{moved_in, StopCause, delivered_on, SameSize, Taken, Ending, Done, Refused, Stopped}
+use Rattle.network_lab.specs.LabSteps.{moved_in, StopCause, delivered_on, Taken, Ending, Done, Stopped}
 use Rattle.network_lab.proofs.PlaceLemmas.{some-same, numbered-map}
 
 moved-is : (net : Network) (i : ℕ) (link : Option ℕ) (ev : Event) (r : Router) → seen_of (moved given net i link ev r) ≡ moved_in (seen_of net) i link ev r

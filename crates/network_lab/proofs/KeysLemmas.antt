@@ -11,7 +11,7 @@ use Rattle.isis_base.proofs.ArrayLemmas.{lsp_number-one}
 use Rattle.isis_base.proofs.KeyLemmas.{rank-same}
 use Rattle.network_lab.specs.Held.{IsRising, entry_number, HoldsAsNew}
 use Rattle.network_lab.specs.KeysHeld.{join_of_two, joined, join_of_copies}
-use Rattle.network_lab.specs.KeysNet.{has_pair, IsCopyAt, IsHeldAt}
+use Rattle.network_lab.specs.KeysNet.{has_pair, IsHeldAt}
 
 abbrev Entry : Type 0
 Entry = LspId × Key

@@ -1,9 +1,9 @@
 -- What holds of a network's parts, as it is set up and goes on.
-use Rattle.std.proofs.Common.{◌≡◌, ◌≢◌, ℕ, zero, suc, ◌+◌, ◌<◌, ◌≤◌, ◌==◌, ◌||◌, ◌&&◌, Bool, true, false, List, [], ◌∷◌, ◌++◌, map, length, Option, Some, None, unwrap_or, if◌then◌else◌, refl, sym, ap, ◌∙◌, subst, arith, length-append}
+use Rattle.std.proofs.Common.{◌≡◌, ℕ, zero, suc, ◌+◌, ◌<◌, ◌≤◌, ◌==◌, ◌||◌, ◌&&◌, Bool, true, false, List, [], ◌∷◌, ◌++◌, map, length, Option, Some, None, unwrap_or, if◌then◌else◌, refl, sym, ap, ◌∙◌, subst, arith}
 use Rattle.std.specs.List.{AllByRecursion}
 use Rattle.std.proofs.lemmas.Bool.Decides.{nat_tests}
 use Rattle.std.proofs.lemmas.List.{map-append, length-map}
-use Rattle.isis_model.specs.Places.{nth, with_nth}
+use Rattle.isis_model.specs.Places.{nth}
 use Rattle.isis_model.specs.Routers.{Router}
 use Rattle.isis_model.proofs.ListLemmas.{all-map, all-append}
 use Rattle.isis_model.proofs.BookLemmas.{same-or}
@@ -13,9 +13,9 @@ use Rattle.router_desk.specs.declared.config.Config.{Config}
 use Rattle.router_desk.specs.Limits.{IsValid}
 use Rattle.network_lab.specs.declared.sent.SentDatagram.{SentDatagram}
 use Rattle.network_lab.specs.declared.faults.LabFault.{LabFault}
-use Rattle.network_lab.specs.LabNets.{LabNet, router_of, with_router, with_link, with_config, link_circuit, with_circuit}
+use Rattle.network_lab.specs.LabNets.{LabNet, router_of, with_router}
 use Rattle.network_lab.specs.LabInside.{counts_of, IsEndThere, AreEndsThere, ArePorts, IsSetUp, IsNet}
-use Rattle.network_lab.proofs.PlaceLemmas.{if-yes, if-no, self, differ, nth-set, nth-other, some-same, nth-there, nth-less, nth-map, map-with, length-with}
+use Rattle.network_lab.proofs.PlaceLemmas.{if-no, self, differ, some-same}
 
 -- ---- a run
 

@@ -1,9 +1,9 @@
 -- A link more in a network that is set up.
-use Rattle.std.proofs.Common.{◌≡◌, ◌≢◌, ℕ, zero, suc, ◌+◌, ◌<◌, ◌≤◌, ◌==◌, ◌||◌, ◌&&◌, Bool, true, false, List, [], ◌∷◌, ◌++◌, map, length, Option, Some, None, unwrap_or, IfSome, if◌then◌else◌, refl, sym, ap, ◌∙◌, subst, arith, length-append}
+use Rattle.std.proofs.Common.{◌≡◌, ◌≢◌, ℕ, zero, suc, ◌+◌, ◌<◌, ◌≤◌, ◌==◌, ◌||◌, ◌&&◌, Bool, true, false, List, [], ◌∷◌, ◌++◌, map, length, Option, Some, None, unwrap_or, if◌then◌else◌, refl, sym, ap, ◌∙◌, subst, arith, length-append}
 use Rattle.std.specs.List.{AllByRecursion}
 use Rattle.std.specs.Option.{option_map}
 use Rattle.std.proofs.lemmas.Bool.Decides.{nat_tests}
-use Rattle.std.proofs.lemmas.List.{map-append, length-map}
+use Rattle.std.proofs.lemmas.List.{map-append}
 use Rattle.isis_model.specs.Places.{nth, with_nth}
 use Rattle.isis_model.specs.Routers.{Router}
 use Rattle.isis_model.proofs.ListLemmas.{all-append}
@@ -12,8 +12,8 @@ use Rattle.network_model.specs.RunLines.{by_router, is_end, link_of}
 use Rattle.router_desk.specs.declared.circuit_config.CircuitConfig.{CircuitConfig}
 use Rattle.router_desk.specs.declared.config.Config.{Config}
 use Rattle.router_desk.specs.Limits.{IsCircuit, IsValid}
-use Rattle.network_lab.specs.LabNets.{LabNet, router_of, configured, reconfigured, with_config, circuit_count, with_link, link_circuit, with_circuit}
-use Rattle.network_lab.specs.LabInside.{counts_of, IsEndThere, AreEndsThere, ArePorts, IsSetUp, IsNet}
+use Rattle.network_lab.specs.LabNets.{LabNet, router_of, configured, with_config, circuit_count, with_link, link_circuit, with_circuit}
+use Rattle.network_lab.specs.LabInside.{counts_of, AreEndsThere, ArePorts, IsSetUp, IsNet}
 use Rattle.network_lab.specs.LabSteps.{two_ends}
 use Rattle.network_lab.proofs.PlaceLemmas.{self, differ, nth-set, nth-other, some-same, nth-map, map-with}
 use Rattle.network_lab.proofs.LabLemmas.{first_of, nth-snoc, link-snoc, ends-more, router-count}

@@ -1,25 +1,21 @@
 -- The loops of a line `run`, and what an event of it does.
-use Rattle.std.proofs.Common.{◌≡◌, ℕ, zero, suc, ◌+◌, ◌-◌, ◌<◌, ◌≤◌, ◌==◌, ◌||◌, get_or, Bool, true, false, List, [], ◌∷◌, drop, length, Option, Some, None, Result, Ok, Err, IfSome, if◌then◌else◌, refl, sym, ap, ◌∙◌, subst, arith, le_trans}
+use Rattle.std.proofs.Common.{◌≡◌, ℕ, zero, suc, ◌+◌, ◌-◌, ◌<◌, ◌≤◌, get_or, Bool, true, false, List, [], ◌∷◌, drop, length, Option, Some, None, Result, Ok, Err, IfSome, if◌then◌else◌, refl, sym, ap, ◌∙◌, subst, arith}
 use Rattle.std.specs.Option.{option_map}
 use Rattle.std.proofs.lemmas.List.{length-map}
 use Rattle.isis_model.specs.Places.{nth}
-use Rattle.isis_model.specs.Routers.{Router}
 use Rattle.router_core.specs.Givens.{given}
 use Rattle.network_model.specs.declared.word.PduWord.{PduWord}
 use Rattle.network_model.specs.declared.end.End.{End}
-use Rattle.network_model.specs.Networks.{Datagram, octets_of, Network, numbered}
-use Rattle.network_model.specs.Runs.{Tick, PullOn, Deliver, apply}
+use Rattle.network_model.specs.Networks.{Datagram, Network, numbered}
+use Rattle.network_model.specs.Runs.{PullOn, apply}
 use Rattle.network_model.specs.RunLines as line
 use Rattle.network_lab.specs.declared.sent.SentDatagram.{SentDatagram}
-use Rattle.network_lab.specs.declared.event.LabEvent.{LabEvent}
 use Rattle.network_lab.specs.declared.faults.LabFault.{LabFault}
-use Rattle.network_lab.specs.LabNets.{Seen, LabNet, StandsFor, sent_of, seen_of}
-use Rattle.network_lab.specs.LabEvents.{after}
-use Rattle.network_lab.specs.LabSteps.{SameSize, StopCause, Ending, Done, Refused, Stopped}
-use Rattle.network_lab.specs.LabRuns.{RunEnding, GoesOn, IsOfRun, tick_unless, pull_unless, deliver_unless, pull_links_of, deliver_numbered}
+use Rattle.network_lab.specs.LabNets.{Seen, LabNet, StandsFor, sent_of}
+use Rattle.network_lab.specs.LabRuns.{RunEnding, tick_unless, pull_unless, deliver_unless, pull_links_of, deliver_numbered}
 use Rattle.network_lab.proofs.PlaceLemmas.{some-same, nth-there, nth-get}
 use Rattle.network_lab.proofs.EventLemmas.{numbered-seen}
-use Rattle.network_lab.proofs.RunLemmas.{apply-grows, each-grows, one-grows, behind-grows, ticks-grow, pulls-grow, all-pulls-grow, second-grows, line-grows, renames, follows, breaks}
+use Rattle.network_lab.proofs.RunLemmas.{behind-grows, all-pulls-grow, renames, follows, breaks}
 
 -- a part that does nothing
 pub idles : (part : Network → Network) (old : LabNet) → old.stopped ≡ None → ((net : Network) → StandsFor net old → part net ≡ net) → RunEnding part old old (Ok tt)

@@ -1,6 +1,6 @@
 -- A line `run`: what is sent is never lost, and its parts follow one another.
-use Rattle.std.proofs.Common.{◌≡◌, ℕ, zero, suc, ◌+◌, ◌<◌, ◌≤◌, ◌==◌, ◌||◌, not, Bool, true, false, List, [], ◌∷◌, ◌++◌, length, Option, Some, None, Result, Ok, Err, IfErr, OnOk, if◌then◌else◌, refl, sym, ap, ◌∙◌, subst, arith, le_trans, length-append}
-use Rattle.isis_model.specs.Places.{nth, with_nth}
+use Rattle.std.proofs.Common.{◌≡◌, ℕ, zero, suc, ◌+◌, ◌≤◌, ◌==◌, ◌||◌, Bool, true, false, List, [], ◌∷◌, ◌++◌, length, Option, Some, None, Result, Ok, Err, if◌then◌else◌, refl, sym, ap, ◌∙◌, subst, arith, le_trans, length-append}
+use Rattle.isis_model.specs.Places.{nth}
 use Rattle.isis_model.specs.Givens.{Given}
 use Rattle.isis_model.specs.Routers.{Router}
 use Rattle.isis_model.specs.Events.{Event, Second, Pull, Metric, Overload, Prefix}
@@ -8,15 +8,14 @@ use Rattle.router_core.specs.Givens.{given}
 use Rattle.network_model.specs.declared.word.PduWord.{PduWord}
 use Rattle.network_model.specs.declared.end.End.{End}
 use Rattle.network_model.specs.Networks.{Datagram, octets_of, Network, place_at, numbered}
-use Rattle.network_model.specs.Runs as model
-use Rattle.network_model.specs.Runs.{Happening, Tick, PullOn, Deliver, Restart, SetMetric, SetOverload, SetPrefix, Inject, Arrival, NotSent, Stale, NotOn, Arrives, moved_if, arrival, arrive, arrive_at, pull_at, restart_at, inject_at, boot_of, on_place, apply}
+use Rattle.network_model.specs.Runs.{Happening, Tick, PullOn, Deliver, Restart, SetMetric, SetOverload, SetPrefix, Inject, Arrival, NotSent, Stale, NotOn, Arrives, moved_if, arrival, arrive, arrive_at, pull_at, restart_at, inject_at, apply}
 use Rattle.network_model.specs.RunLines as line
 use Rattle.network_lab.specs.declared.event.LabEvent.{LabEvent}
 use Rattle.network_lab.specs.declared.event.LabEvent.TheVariants as event
 use Rattle.network_lab.specs.declared.faults.LabFault.{LabFault}
 use Rattle.network_lab.specs.declared.faults.LabFault.TheVariants as fault
 use Rattle.network_lab.specs.declared.faults.LimitName.TheVariants as limit
-use Rattle.network_lab.specs.LabNets.{LabNet, StandsFor, seen_of}
+use Rattle.network_lab.specs.LabNets.{LabNet, StandsFor}
 use Rattle.network_lab.specs.LabEvents.{refusal, after, unless_on, unless_arrives}
 use Rattle.network_lab.specs.LabSteps.{SameSize, StopCause, Ending, Done, Refused, Stopped}
 use Rattle.network_lab.specs.LabRuns.{RunEnding, GoesOn, IsOfRun}

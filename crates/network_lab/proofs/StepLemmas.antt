@@ -1,13 +1,12 @@
 -- A router of a list takes an event.
-use Rattle.std.proofs.Common.{◌≡◌, ℕ, ◌+◌, ◌<◌, get_or, List, ◌++◌, map, length, Option, Some, None, Result, Ok, Err, IfSome, IfOk, IfErr, OnOk, OnErr, refl, sym, ap, ◌∙◌, subst, arith}
+use Rattle.std.proofs.Common.{◌≡◌, ℕ, ◌+◌, ◌<◌, get_or, List, ◌++◌, map, length, Option, Some, None, Result, Ok, Err, IfSome, IfErr, OnOk, OnErr, refl, sym, ap, ◌∙◌}
 use Rattle.std.proofs.lemmas.List.{length-map}
 use Rattle.isis_model.specs.Places.{nth, with_nth}
-use Rattle.isis_model.specs.Routers.{Circuit, Router}
-use Rattle.isis_model.specs.Configs.{Config}
+use Rattle.isis_model.specs.Routers.{Router}
 use Rattle.isis_model.specs.Events as model
 use Rattle.isis_model.specs.Starts.{started, start}
 use Rattle.isis_model.specs.Steps.{step}
-use Rattle.isis_model.specs.AdjacencyLaws.{place_of, Stays}
+use Rattle.isis_model.specs.AdjacencyLaws.{place_of}
 use Rattle.isis_model.proofs.BondLemmas.{step-stays}
 use Rattle.router_core.specs.declared.event.NodeEvent.{NodeEvent}
 use Rattle.router_core.specs.declared.reply.Reply.{Reply}
@@ -21,7 +20,7 @@ use Rattle.network_lab.specs.declared.sent.SentDatagram.{SentDatagram}
 use Rattle.network_lab.specs.declared.faults.LabFault.{LabFault}
 use Rattle.network_lab.specs.LabNets.{sent_of}
 use Rattle.network_lab.specs.LabSteps.{posted_in, StopCause}
-use Rattle.network_lab.proofs.PlaceLemmas.{nth-set, nth-get, nth-map, map-with, with-same, at-place}
+use Rattle.network_lab.proofs.PlaceLemmas.{nth-set, nth-map, map-with, with-same, at-place}
 
 pub step-kept : {R E : Type 0} (res : Result R E) (old new : Router) (ev : model.Event) → OnOk res (new ≡ (step given old ev).router) → OnErr res (new ≡ old) → length new.circuits ≡ length old.circuits
 step-kept (Ok a) old new ev h k = ap (λ (r : Router). length r.circuits) h ∙ (step-stays given old ev).circuits

@@ -1,5 +1,5 @@
 -- How each event of a network ends.
-use Rattle.std.proofs.Common.{◌≡◌, ℕ, zero, suc, ◌-◌, ◌+◌, ◌<◌, ◌≤◌, ◌==◌, ◌&&◌, not, nat_le, is_some, Bool, true, false, List, [], ◌∷◌, ◌++◌, get_or, unwrap_or, map, length, Option, Some, None, Result, Ok, Err, IfSome, IfErr, OnOk, OnErr, if◌then◌else◌, refl, sym, ap, ◌∙◌, subst, arith, length-append}
+use Rattle.std.proofs.Common.{◌≡◌, ℕ, zero, suc, ◌-◌, ◌+◌, ◌<◌, ◌≤◌, ◌==◌, ◌&&◌, not, nat_le, is_some, Bool, true, false, List, [], ◌∷◌, ◌++◌, get_or, unwrap_or, map, length, Option, Some, None, Result, Ok, Err, IfSome, IfErr, OnOk, if◌then◌else◌, refl, sym, ap, ◌∙◌, subst, arith, length-append}
 use Rattle.std.specs.Option.{option_map}
 use Rattle.std.specs.Result.{result_err}
 use Rattle.std.proofs.lemmas.List.{length-map}
@@ -19,7 +19,7 @@ use Rattle.router_core.specs.Events as core
 use Rattle.router_core.specs.Events.{event_of}
 use Rattle.router_core.specs.Givens.{given}
 use Rattle.network_model.specs.declared.end.End.{End}
-use Rattle.network_model.specs.Networks.{Network, place_on, place_in, numbered, restarted}
+use Rattle.network_model.specs.Networks.{place_on, place_in, numbered, restarted}
 use Rattle.network_model.specs.Runs.{taking, boot_of}
 use Rattle.network_lab.specs.declared.sent.SentDatagram.{SentDatagram}
 use Rattle.network_lab.specs.declared.event.LabEvent.{LabEvent}
@@ -27,11 +27,11 @@ use Rattle.network_lab.specs.declared.event.LabEvent.TheVariants as event
 use Rattle.network_lab.specs.declared.faults.LabFault.{LabFault}
 use Rattle.network_lab.specs.declared.faults.LabFault.TheVariants as fault
 use Rattle.network_lab.specs.declared.faults.LimitName.TheVariants as limit
-use Rattle.network_lab.specs.LabNets.{Seen, LabNet, StandsFor, seen_of}
-use Rattle.network_lab.specs.LabEvents.{refusal, after, unless_changes}
+use Rattle.network_lab.specs.LabNets.{Seen, LabNet}
+use Rattle.network_lab.specs.LabEvents.{unless_changes}
 use Rattle.network_lab.specs.LabCauses.{IsStop}
 use Rattle.network_lab.specs.LabInside.{counts_of, AreEndsThere, IsNet}
-use Rattle.network_lab.specs.LabSteps.{moved_in, posted_in, StopCause, delivered_on, SameSize, Taken, Ending, Done, Refused, Stopped}
+use Rattle.network_lab.specs.LabSteps.{moved_in, posted_in, StopCause, delivered_on, Taken, Ending, Done, Refused, Stopped}
 use Rattle.network_lab.proofs.PlaceLemmas.{nth-there, nth-less, nth-get, nth-map, of-place, some-same, length-with}
 use Rattle.network_lab.proofs.LinkLemmas.{all-at}
 use Rattle.network_lab.proofs.EventLemmas.{tick-done, pull-off, pull-done, deliver-off, deliver-none, deliver-on, deliver-done, inject-off, inject-done, restart-off, restart-done, change-off, change-done, taken-ends}

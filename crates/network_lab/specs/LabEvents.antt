@@ -1,6 +1,6 @@
 -- Events of a network of routers: what each does to the network that it stands for, and when it is
 -- refused (own).
-use Rattle.std.specs.Prelude.{◌≡◌, ℕ, ◌-◌, ◌<◌, ◌≤◌, ◌&&◌, not, nat_le, Bool, true, false, List, length, Option, Some, None, is_some, IfSome, if◌then◌else◌}
+use Rattle.std.specs.Prelude.{◌≡◌, ℕ, ◌-◌, ◌<◌, ◌≤◌, ◌&&◌, not, nat_le, length, Option, Some, None, is_some, IfSome, if◌then◌else◌}
 use Rattle.isis_model.specs.Places.{nth}
 use Rattle.isis_model.specs.Maps.{find}
 use Rattle.isis_model.specs.Routers.{Router}
@@ -9,7 +9,7 @@ use Rattle.router_desk.specs.declared.config.Change.TheVariants as change
 use Rattle.router_desk.specs.Configs.{prefix_number}
 use Rattle.router_core.specs.Events.{IsThere}
 use Rattle.router_core.specs.Givens.{given}
-use Rattle.network_model.specs.Networks.{Datagram, Network, place_at, numbered}
+use Rattle.network_model.specs.Networks.{Network, place_at, numbered}
 use Rattle.network_model.specs.Runs as model
 use Rattle.network_model.specs.Runs.{Happening, Arrival, NotSent, Stale, NotOn, Arrives, arrival, apply}
 use Rattle.network_lab.specs.declared.faults.LabFault.{LabFault}

@@ -1,5 +1,5 @@
 -- What a network of routers is seen as: what it was set up with, and where its run stands (own).
-use Rattle.std.specs.Prelude.{◌≡◌, ℕ, ◌+◌, ◌-◌, Bool, false, List, [], ◌∷◌, ◌++◌, map, length, Option, Some, None}
+use Rattle.std.specs.Prelude.{◌≡◌, ℕ, ◌-◌, Bool, false, List, [], ◌∷◌, ◌++◌, map, length, Option, Some, None}
 use Rattle.isis_base.specs.declared.level.CircuitKind.TheVariants.{PointToPoint}
 use Rattle.isis_model.specs.Places.{nth, with_nth}
 use Rattle.isis_model.specs.Routers.{Router}

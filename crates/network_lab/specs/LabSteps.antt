@@ -9,7 +9,7 @@ use Rattle.router_desk.specs.declared.circuit_config.CircuitConfig.{CircuitConfi
 use Rattle.router_desk.specs.declared.config.Config.{Config}
 use Rattle.router_core.specs.Givens.{given}
 use Rattle.network_model.specs.declared.end.End.{End}
-use Rattle.network_model.specs.Networks.{Datagram, Network}
+use Rattle.network_model.specs.Networks.{Network}
 use Rattle.network_model.specs.Runs.{posted, boot_of}
 use Rattle.network_lab.specs.declared.sent.SentDatagram.{SentDatagram}
 use Rattle.network_lab.specs.declared.event.LabEvent.{LabEvent}

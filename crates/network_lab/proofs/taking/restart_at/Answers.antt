@@ -1,4 +1,4 @@
-use Rattle.std.proofs.Common.{length, ◌≡◌, ◌+◌, Some, IfSome, ℕ, List, ap, sym, subst, ◌∙◌, arith}
+use Rattle.std.proofs.Common.{length, ◌≡◌, ◌+◌, IfSome, ℕ, List, ap, sym, subst, ◌∙◌}
 use Rattle.isis_model.specs.Places.{with_nth}
 use Rattle.network_model.specs.Networks.{restarted}
 use Rattle.isis_model.specs.Places.{nth}

@@ -1,4 +1,4 @@
-use Rattle.std.proofs.Common.{◌≡◌, ◌<◌, length, get_or, ap, ◌∙◌, arith}
+use Rattle.std.proofs.Common.{◌<◌, length, get_or, ap, ◌∙◌, arith}
 use Rattle.network_lab.specs.KeysNet.{Net}
 use Rattle.network_lab.specs.KeysHeld.{keys_at}
 use Rattle.network_lab.proofs.KeysLemmas.{held-joined}

@@ -1,7 +1,5 @@
 use Rattle.std.proofs.Common.{◌≡◌, List, [], ◌∷◌, ◌++◌, ap, ◌∙◌}
-use Rattle.isis_model.specs.Routers.{Router}
-use Rattle.router_desk.specs.declared.config.Config.{Config}
-use Rattle.network_lab.specs.LabNets.{LabNet, router_of}
+use Rattle.network_lab.specs.LabNets.{LabNet}
 use Rattle.network_lab.proofs.SetupLemmas.{router-more}
 use Rattle.network_lab.proofs.network.Network.add_router.Goals as goal
 

@@ -1,4 +1,4 @@
-use Rattle.std.proofs.Common.{◌≡◌, ap, sym, ◌∙◌}
+use Rattle.std.proofs.Common.{ap, sym, ◌∙◌}
 use Rattle.isis_model.specs.Places.{nth}
 use Rattle.isis_model.specs.Routers.{Router}
 use Rattle.router_core.specs.Events.{FitsChange}

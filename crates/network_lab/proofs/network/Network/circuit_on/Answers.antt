@@ -1,4 +1,4 @@
-use Rattle.std.proofs.Common.{◌≡◌, ◌+◌, ◌-◌, ◌<◌, ℕ, List, length, Some, ap, sym, ◌∙◌, arith}
+use Rattle.std.proofs.Common.{◌≡◌, ◌+◌, ◌-◌, ◌<◌, List, length, Some, ap, sym, ◌∙◌, arith}
 use Rattle.isis_model.specs.Places.{nth}
 use Rattle.isis_model.specs.Routers.{Router}
 use Rattle.network_model.specs.declared.end.End.{End}
@@ -6,7 +6,7 @@ use Rattle.network_model.specs.Networks.{place_in}
 use Rattle.router_core.specs.Events.{IsThere}
 use Rattle.network_lab.specs.LabNets.{LabNet}
 use Rattle.network_lab.proofs.PlaceLemmas.{nth-get, to-place}
-use Rattle.network_lab.proofs.TakeLemmas.{here, circuit-less}
+use Rattle.network_lab.proofs.TakeLemmas.{circuit-less}
 use Rattle.network_lab.proofs.network.Network.circuit_on.Goals as goal
 use Rattle.network_lab.proofs.network.Network.circuit_on.Goals.{After-facts}
 

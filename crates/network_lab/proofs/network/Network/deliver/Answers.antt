@@ -1,4 +1,4 @@
-use Rattle.std.proofs.Common.{◌≡◌, ◌-◌, ◌<◌, length, vec_len, ap, sym, ◌∙◌, arith}
+use Rattle.std.proofs.Common.{◌≡◌, length, vec_len, ap, sym, ◌∙◌, arith}
 use Rattle.network_lab.specs.LabNets.{LabNet}
 use Rattle.network_lab.proofs.TakeLemmas.{deliver-off-ends, deliver-none-ends, deliver-stops, deliver-ends, delivered-there, octets-same}
 use Rattle.network_lab.proofs.network.Network.deliver.Goals as goal

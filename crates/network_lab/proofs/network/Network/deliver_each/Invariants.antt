@@ -1,9 +1,8 @@
-use Rattle.std.proofs.Common.{◌-◌, drop}
+use Rattle.std.proofs.Common.{drop}
 use Rattle.isis_model.specs.Places.{nth}
 use Rattle.router_core.specs.Givens.{given}
 use Rattle.network_model.specs.RunLines as line
-use Rattle.network_lab.specs.LabRuns.{GoesOn, pull_links_of}
-use Rattle.network_lab.proofs.LoopLemmas.{links_in}
+use Rattle.network_lab.specs.LabRuns.{GoesOn}
 use Rattle.network_lab.proofs.network.Network.deliver_each.Given as goal
 
 abbrev pub invariant-loop-place : goal.invariant-loop-place

@@ -1,15 +1,11 @@
-use Rattle.std.proofs.Common.{◌≡◌, ◌==◌, ◌||◌, ◌-◌, ◌+◌, ◌<◌, ◌≤◌, ℕ, [], Some, None, List, IfSome, drop, length, ap, sym, ◌∙◌, refl, subst, arith}
-use Rattle.isis_model.specs.Places.{nth}
-use Rattle.router_core.specs.Givens.{given}
-use Rattle.network_model.specs.declared.end.End.{End}
-use Rattle.network_model.specs.Networks.{Network as Net, numbered}
-use Rattle.network_model.specs.Runs.{Tick, PullOn, Deliver, apply}
+use Rattle.std.proofs.Common.{◌≤◌, ℕ, List, length, ap, sym, ◌∙◌, subst}
+use Rattle.network_model.specs.Networks.{numbered}
 use Rattle.network_model.specs.RunLines as line
 use Rattle.network_lab.specs.declared.sent.SentDatagram.{SentDatagram}
 use Rattle.network_lab.specs.LabNets.{LabNet}
-use Rattle.network_lab.specs.LabRuns.{tick_unless, pull_unless, deliver_unless, pull_links_of, deliver_numbered}
-use Rattle.network_lab.proofs.RunLemmas.{starts, goes, ends, stops, renames, each-grows, behind-grows, ticks-grow, pulls-grow, all-pulls-grow, line-grows}
-use Rattle.network_lab.proofs.LoopLemmas.{skips-one, takes-one, place-none, place-some, numbered-get, zero-less, idles, left-grows, tick-step, tick-end, pull-step, pull-end, second-step, second-end, links_in, links-start, links-step, links-end, each-step, each-end, one-out, one-in, second-ends, second-breaks, pull-one-ends, pull-one-breaks, behind-step, behind-end, sent-count, fuel, fuel-start}
+use Rattle.network_lab.specs.LabRuns.{deliver_numbered}
+use Rattle.network_lab.proofs.RunLemmas.{renames}
+use Rattle.network_lab.proofs.LoopLemmas.{numbered-get, idles, one-out, one-in}
 use Rattle.network_lab.proofs.network.Network.deliver_one.Goals as goal
 
 pub returns-then-is_left_out : goal.returns-then-is_left_out

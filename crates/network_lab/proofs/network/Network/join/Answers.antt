@@ -1,4 +1,4 @@
-use Rattle.std.proofs.Common.{◌≡◌, ◌<◌, ◌++◌, ◌∷◌, [], List, length, vec_len, ap, ◌∙◌, arith}
+use Rattle.std.proofs.Common.{◌≡◌, ◌++◌, ◌∷◌, [], List, length, vec_len, ap, ◌∙◌, arith}
 use Rattle.network_model.specs.declared.end.End.{End}
 use Rattle.network_lab.proofs.PlaceLemmas.{length-with}
 use Rattle.network_lab.proofs.SetupLemmas.{both-there, ports-there, valid-get, room-get, join-setup}

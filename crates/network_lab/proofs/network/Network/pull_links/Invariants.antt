@@ -1,5 +1,4 @@
-use Rattle.std.proofs.Common.{◌-◌, drop}
-use Rattle.isis_model.specs.Places.{nth}
+use Rattle.std.proofs.Common.{◌-◌}
 use Rattle.router_core.specs.Givens.{given}
 use Rattle.network_model.specs.RunLines as line
 use Rattle.network_lab.specs.LabRuns.{GoesOn, pull_links_of}

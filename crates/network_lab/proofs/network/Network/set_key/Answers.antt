@@ -1,7 +1,7 @@
 use Rattle.std.proofs.Common.{Some}
 use Rattle.router_desk.specs.declared.circuit_config.CircuitConfig.{CircuitConfig}
 use Rattle.router_desk.specs.Limits.{IsCircuit}
-use Rattle.network_lab.proofs.ConfigLemmas.{priority-fits, key-fits}
+use Rattle.network_lab.proofs.ConfigLemmas.{key-fits}
 use Rattle.network_lab.proofs.SetupLemmas.{both-there, change-setup}
 use Rattle.network_lab.proofs.network.Network.set_key.Goals as goal
 

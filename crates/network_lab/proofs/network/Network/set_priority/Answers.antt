@@ -1,7 +1,6 @@
-use Rattle.std.proofs.Common.{Some}
 use Rattle.router_desk.specs.declared.circuit_config.CircuitConfig.{CircuitConfig}
 use Rattle.router_desk.specs.Limits.{IsCircuit}
-use Rattle.network_lab.proofs.ConfigLemmas.{priority-fits, key-fits}
+use Rattle.network_lab.proofs.ConfigLemmas.{priority-fits}
 use Rattle.network_lab.proofs.SetupLemmas.{change-setup}
 use Rattle.network_lab.proofs.network.Network.set_priority.Goals as goal
 
