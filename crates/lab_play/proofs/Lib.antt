@@ -1,0 +1,4 @@
+pub mod PlayLemmas
+pub mod EndLemmas
+pub mod SetupLemmas
+pub mod TurnLemmas

@@ -1,20 +1,14 @@
 -- What a network is while a lab script is played on it (own).
-use Rattle.std.specs.Prelude.{◌≡◌, ℕ, ◌+◌, ◌<◌, ◌≤◌, List, [], ◌∷◌, map, length, Result, Ok, Err, None, IfSome, IsSome}
-use Rattle.std.specs.List.{AllByRecursion}
-use Rattle.isis_model.specs.Places.{nth}
+use Rattle.std.specs.Prelude.{◌≡◌, ℕ, List, [], ◌∷◌, map, length, Result, Ok, Err, None}
 use Rattle.network_model.specs.declared.end.End as model
-use Rattle.network_model.specs.Networks.{Network, place_in}
-use Rattle.network_lab.specs.LabNets.{LabNet, Seen, StandsFor, next_place}
-use Rattle.network_lab.specs.Claims.{IsEndIn}
+use Rattle.network_model.specs.Networks.{Network}
+use Rattle.network_lab.specs.LabNets.{LabNet, Seen, StandsFor}
 use Rattle.lab_script.specs.declared.setup.End.{End}
 use Rattle.lab_script.specs.declared.setup.LabLink.{LabLink}
 use Rattle.lab_script.specs.declared.deeds.LabLine.{LabLine}
-use Rattle.lab_script.specs.declared.deeds.LabDeed.{LabDeed}
-use Rattle.lab_script.specs.declared.deeds.LabDeed.TheVariants as deed
 use Rattle.lab_script.specs.declared.reason.ScriptFault.{ScriptFault}
 use Rattle.lab_script.specs.declared.reason.ScriptFault.TheVariants.{Refused, Limit, OutOfMemory}
-use Rattle.lab_script.specs.LabScripts.{LabScript, circuit_count}
-use Rattle.lab_play.specs.LabRuns.{play_deed, play_all, end_of}
+use Rattle.lab_play.specs.LabRuns.{play_all}
 
 -- a link's ends in the network
 abbrev pub end_in : End → model.End

@@ -50,15 +50,19 @@ state_at routers ends level = state_of_pair routers level (pair_of ends)
 abbrev pub is_clean : LinkState → Bool
 is_clean state = state.up && slice_index state.flags 0 == 0 && slice_index state.flags 1 == 0
 
-abbrev pub joined_pair : List Router → Level → Option (End × End) → List (ℕ × ℕ)
-joined_pair routers level None = []
+abbrev pub joined_pair : List Router → Level → Option (End × End) → Option (ℕ × ℕ)
+joined_pair routers level None = None
 joined_pair routers level (Some pair) =
     if is_clean (state_of_pair routers level (Some pair))
-    then (pair.0.router, pair.1.router) ∷ [] else []
+    then Some (pair.0.router, pair.1.router) else None
+
+abbrev pub listed : Option (ℕ × ℕ) → List (ℕ × ℕ)
+listed None = []
+listed (Some pair) = pair ∷ []
 
 -- the two routers that a link joins at a level
 abbrev pub joined_by : List Router → Level → List End → List (ℕ × ℕ)
-joined_by routers level ends = joined_pair routers level (pair_of ends)
+joined_by routers level ends = listed (joined_pair routers level (pair_of ends))
 
 abbrev pub pairs_of : Seen → Level → List (ℕ × ℕ)
 pairs_of s level = flat_map (joined_by s.routers level) s.links

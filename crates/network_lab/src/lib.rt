@@ -8,6 +8,7 @@
 //! - `held.rt`: the newest keys of one router, by LSP ID
 //! - `network.rt`: the network of routers, and what is read of it; `event.rt`, `sent.rt`: its events and datagrams
 //! - `setup.rt`: how it is set up; `applying.rt`: one event; `running.rt`: a line `run`
+//! - `states.rt`: how links stand, and which routers agree
 //! - `taking.rt`: a router of a list takes an event; `ends.rt`, `places.rt`, `row.rt`: circuits, ends, places
 #![tactic(auto)]
 
@@ -23,8 +24,8 @@ mod places;
 mod row;
 mod running;
 mod sent;
-mod states;
 mod setup;
+mod states;
 mod taking;
 #[cfg(test)]
 mod tests;

@@ -5,6 +5,7 @@ ghost use Rattle.isis_model.specs.Places.{nth};
 ghost use Rattle.network_model.specs.Networks.{numbered};
 ghost use Rattle.network_model.specs.RunLines.{link_of as link_at};
 ghost use Rattle.network_lab.specs.LabNets.{empty_lab};
+ghost use Rattle.network_lab.specs.Claims.{AreEnds};
 
 use crate::faults::LabFault;
 use crate::places::sent_at;
@@ -65,9 +66,11 @@ impl Network {
         }
     }
 
-    /// What always holds of a network: at most 262,144 datagrams were sent. It does nothing.
+    /// What always holds of a network: at most 262,144 datagrams were sent, and the ends of links are
+    /// there. It does nothing.
     pub fn facts(&self)
         ensures few { length self.now.seen.sent ≤ 262144 }
+        ensures ends { AreEnds self.now.seen }
     {
         let _ = &self.alloc;
     }

@@ -1,5 +1,6 @@
 //! How the links of a network stand, and which routers agree.
-ghost use Rattle.std.specs.Prelude.{◌≡◌, ◌<◌, ◌≤◌, ◌+◌, length, ◌++◌, IfSome, IfOk, OnOk};
+ghost use Rattle.std.specs.Prelude.{◌≡◌, ◌<◌, ◌+◌, ◌++◌, drop, length, Some, IfSome, IfOk, OnOk};
+ghost use Rattle.std.specs.List.{flat_map};
 ghost use Rattle.isis_model.specs.Places.{nth};
 ghost use Rattle.router_core.specs.Events.{IsThere};
 ghost use Rattle.link_states.specs.LinkStates.{no_state as no_link_state};
@@ -11,6 +12,7 @@ use crate::network::Network;
 use isis_base::{Level, OutOfMemory};
 use link_states::{Groups, LinkState, joined_groups, link_state};
 use network_model::End;
+use router_core::Router;
 
 impl Network {
     /// How the two ends of a point-to-point link stand at a level. All its numbers are 0 where an
@@ -43,10 +45,8 @@ impl Network {
         ensures there { IfSome result (λ pair. IsEndIn self.now.seen.routers pair.0
             × IsEndIn self.now.seen.routers pair.1) }
     {
-        let [near, far] = self.links[link].as_slice() else {
-            return None;
-        };
-        Some((*near, *far))
+        self.facts();
+        pair_of(self.ends(link))
     }
 
     /// How two ends stand at a level.
@@ -58,23 +58,26 @@ impl Network {
     {
         let near_circuit = self.circuit_of(near);
         let far_circuit = self.circuit_of(far);
-        link_state(
-            &self.routers[near.router],
-            near_circuit,
-            &self.routers[far.router],
-            far_circuit,
-            level,
-        )
+        let near_router = self.router_of(near);
+        let far_router = self.router_of(far);
+        link_state(near_router, near_circuit, far_router, far_circuit, level)
+    }
+
+    /// The router of an end.
+    fn router_of(&self, end: End) -> &Router
+        requires { IsEndIn self.now.seen.routers end }
+        ensures { nth self.now.seen.routers end.router ≡ Some result.now }
+    {
+        self.router(end.router)
     }
 
     /// The number of an end's circuit, counted from 1.
     fn circuit_of(&self, end: End) -> u8
         requires { IsEndIn self.now.seen.routers end }
         ensures number { result ≡ end.place + 1 }
-        ensures there { IfSome (nth self.now.seen.routers end.router)
-            (λ r. IsThere r result) }
+        ensures there { IfSome (nth self.now.seen.routers end.router) (λ r. IsThere r result) }
     {
-        self.routers[end.router].facts();
+        self.router_of(end).facts();
         end.place as u8 + 1
     }
 
@@ -82,14 +85,38 @@ impl Network {
     fn runs(&self, level: Level) -> Result<Vec<bool>, OutOfMemory>
         ensures { IfOk result (λ runs. runs.items ≡ state.runs_of self.now.seen.routers level) }
     {
-        let mut runs = Vec::with_capacity(self.alloc, self.routers.len())?;
-        for router in &self.routers {
-            match runs.push(router.book(level).is_some()) {
+        let mut runs = Vec::new(self.alloc);
+        for router in 0..self.routers() {
+            match self.add_run(&mut runs, router, level) {
                 Ok(()) => {}
-                Err(_) => return Err(OutOfMemory),
+                Err(error) => return Err(error),
             }
         }
         Ok(runs)
+    }
+
+    /// Adds whether a router runs a level.
+    fn add_run(
+        &self,
+        runs: &mut Vec<bool>,
+        router: usize,
+        level: Level,
+    ) -> Result<(), OutOfMemory>
+        requires { router < length self.now.seen.routers }
+        ensures { OnOk result (runs.new.items
+            ++ state.runs_of (drop (router + 1) self.now.seen.routers) level
+            ≡ runs.old.items ++ state.runs_of (drop router self.now.seen.routers) level) }
+    {
+        runs.push(self.runs_at(router, level))?;
+        Ok(())
+    }
+
+    /// Whether a router runs a level.
+    fn runs_at(&self, router: usize, level: Level) -> bool
+        requires { router < length self.now.seen.routers }
+        ensures { result ≡ state.runs_at self.now.seen.routers router level }
+    {
+        self.router(router).book(level).is_some()
     }
 
     /// The pairs of routers that clean links join at a level.
@@ -97,7 +124,7 @@ impl Network {
         ensures { IfOk result (λ pairs. pairs.items ≡ state.pairs_of self.now.seen level) }
     {
         let mut pairs = Vec::new(self.alloc);
-        for link in 0..self.links.len() {
+        for link in 0..self.links() {
             match self.add_pair(&mut pairs, link, level) {
                 Ok(()) => {}
                 Err(error) => return Err(error),
@@ -106,7 +133,7 @@ impl Network {
         Ok(pairs)
     }
 
-    /// Adds the pair of routers that a link joins at a level, where it is clean.
+    /// Adds the pair of routers that a link joins at a level, if any.
     fn add_pair(
         &self,
         pairs: &mut Vec<(usize, usize)>,
@@ -114,17 +141,43 @@ impl Network {
         level: Level,
     ) -> Result<(), OutOfMemory>
         requires { link < length self.now.seen.links }
-        ensures { IfSome (nth self.now.seen.links link) (λ ends. OnOk result (pairs.new.items
-            ≡ pairs.old.items ++ state.joined_by self.now.seen.routers level ends)) }
+        ensures { OnOk result (pairs.new.items
+            ++ flat_map (state.joined_by self.now.seen.routers level)
+            (drop (link + 1) self.now.seen.links)
+            ≡ pairs.old.items ++ flat_map (state.joined_by self.now.seen.routers level)
+            (drop link self.now.seen.links)) }
     {
-        let Some((near, far)) = self.pair(link) else {
-            return Ok(());
-        };
-        if is_clean(self.pair_state(near, far, level)) {
-            pairs.push((near.router, far.router))?;
+        match self.joined_by(link, level) {
+            Some(pair) => {
+                pairs.push(pair)?;
+                Ok(())
+            }
+            None => Ok(()),
         }
-        Ok(())
     }
+
+    /// The pair of routers that a link joins at a level, if any.
+    fn joined_by(&self, link: usize, level: Level) -> Option<(usize, usize)>
+        requires { link < length self.now.seen.links }
+        ensures { IfSome (nth self.now.seen.links link) (λ ends. result
+            ≡ state.joined_pair self.now.seen.routers level (state.pair_of ends)) }
+    {
+        let (near, far) = self.pair(link)?;
+        if is_clean(self.pair_state(near, far, level)) {
+            return Some((near.router, far.router));
+        }
+        None
+    }
+}
+
+/// The two ends of a link.
+fn pair_of(ends: &[End]) -> Option<(End, End)>
+    ensures { result ≡ state.pair_of ends.now }
+{
+    if ends.len() != 2 {
+        return None;
+    }
+    Some((ends[0], ends[1]))
 }
 
 /// Whether a link is up, and no SRM flag stands on it (ISO 10589 7.3.15).
