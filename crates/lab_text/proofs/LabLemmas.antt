@@ -1,17 +1,31 @@
 -- The report of a lab script is that of the network at its end.
-use Rattle.std.proofs.Common.{◌≡◌, ℕ, ◌<◌, ◌≤◌, List, length, map, Result, Ok, Err, refl, sym, ap, ◌∙◌, subst, arith, length-map}
+use Rattle.std.proofs.Common.{◌≡◌, ℕ, List, length, Result, Ok, Err, sym, ap, ◌∙◌, length-map}
 use Rattle.std.specs.Borrow.{Bor}
 use Rattle.network_model.specs.Networks.{Network}
-use Rattle.network_lab.specs.LabNets.{LabNet, seen_of, StandsFor, Seen}
+use Rattle.network_lab.specs.LabNets.{Seen, LabNet, seen_of}
 use Rattle.lab_script.specs.declared.reason.ScriptFault.{ScriptFault}
+use Rattle.lab_script.specs.declared.reason.ScriptFault.TheVariants.{Refused, Limit, OutOfMemory}
+use Rattle.lab_script.specs.declared.setup.LabLink.{LabLink}
+use Rattle.lab_script.specs.declared.setup.LabRouter.{LabRouter}
 use Rattle.lab_script.specs.LabScripts.{LabScript, router_names, link_names}
 use Rattle.lab_script.specs.Scripts.{◌>>=◌}
-use Rattle.lab_report.specs.Reports.{report_text}
-use Rattle.lab_play.specs.LabRuns.{end_of, dumps_of}
-use Rattle.lab_text.specs.LabReports.{lab_report}
+use Rattle.lab_script.specs.Words.{texts}
+use Rattle.lab_play.specs.LabRuns.{end_of}
+use Rattle.lab_play.specs.Played.{Played}
+use Rattle.lab_text.specs.LabReports.{report_by, lab_report, Tells}
 
-pub report-is : (script : LabScript) (net : Network) (seen : Seen) → end_of script ≡ Ok net → seen_of net ≡ seen
-    → lab_report script ≡ Ok (report_text (router_names script.routers) (link_names script.links) (dumps_of script.lines) seen)
-report-is script net seen e s =
-    ap (λ (r : Result Network ScriptFault). r >>= λ net. Ok (report_text (router_names script.routers) (link_names script.links) (dumps_of script.lines) (seen_of net))) e
-    ∙ ap (λ (x : Seen). Ok (report_text (router_names script.routers) (link_names script.links) (dumps_of script.lines) x)) s
+next : LabScript → Result Network ScriptFault → Result (List ℕ) ScriptFault
+next script r = r >>= λ net. Ok (report_by script (seen_of net))
+
+pub played-tells : (script : LabScript) (r : Result LabNet ScriptFault) → Played r (end_of script) → Tells script r
+unfolding next
+played-tells script (Ok net) p = ap (next script) p.1 ∙ ap (λ (s : Seen). Ok (report_by script s)) p.2.seen
+played-tells script (Err OutOfMemory) p = tt
+played-tells script (Err (Refused line reason)) p = ap (next script) p
+played-tells script (Err (Limit which)) p = ap (next script) p
+
+pub names-count : (names : List (Bor (List ℕ))) (routers : List LabRouter) → texts names ≡ router_names routers → length names ≡ length routers
+names-count names routers e = sym (length-map names (λ (n : Bor (List ℕ)). n.now)) ∙ ap (λ (xs : List (List ℕ)). length xs) e ∙ length-map routers (λ (r : LabRouter). r.name)
+
+pub links-count : (names : List (Bor (List ℕ))) (links : List LabLink) → texts names ≡ link_names links → length names ≡ length links
+links-count names links e = sym (length-map names (λ (n : Bor (List ℕ)). n.now)) ∙ ap (λ (xs : List (List ℕ)). length xs) e ∙ length-map links (λ (l : LabLink). l.name)

@@ -1,8 +1,12 @@
 //! The run of a lab script.
-ghost use Rattle.std.specs.Prelude.{◌≡◌, ◌≤◌, ◌++◌, ℕ, List, Err, IfOk, OnOk};
+ghost use Rattle.std.specs.Prelude.{◌≡◌, ◌≤◌, ◌++◌, ℕ, List, length, map, Err, IfOk, OnOk};
 ghost use Rattle.isis_edge.specs.Faults.{Rose};
+ghost use Rattle.lab_script.specs.LabScripts.{router_names, link_names};
+ghost use Rattle.lab_script.specs.Words.{texts};
+ghost use Rattle.lab_report.specs.ReportLeft.{lines_left};
 ghost use Rattle.lab_play.specs.LabRuns as run;
-ghost use Rattle.lab_text.specs.LabReports.{lab_report};
+ghost use Rattle.lab_play.specs.Played.{ends_of};
+ghost use Rattle.lab_text.specs.LabReports.{lab_report, report_by, Tells};
 ghost use Rattle.lab_text.specs.Runs.{ReportEnds};
 
 use crate::fault::RunFault;
@@ -10,7 +14,8 @@ use isis_base::OutOfMemory;
 use isis_edge::{Sink, TextFailed, write_text};
 use lab_play::play;
 use lab_report::LabReport;
-use lab_script::{LabDeed, LabLine, LabScript};
+use lab_script::{LabDeed, LabLine, LabScript, ScriptFault};
+use network_lab::Network;
 use std::alloc::Global;
 
 /// Plays a lab script and writes its whole report.
@@ -23,15 +28,15 @@ pub(crate) fn run_lab<O: Sink>(
     ensures cause { result ≡ Err RunFault.Write → Rose (O.faults out.old) (O.faults out.new) }
     ensures later { O.faults out.old ≤ O.faults out.new }
 {
-    let net = match play(alloc, script) {
+    let net = match play_lab(alloc, script) {
         Ok(net) => net,
         Err(fault) => return Err(RunFault::from(fault)),
     };
-    let dumps = match dumps_of(alloc, script.lines()) {
+    let dumps = match dumps_of(alloc, script) {
         Ok(dumps) => dumps,
         Err(OutOfMemory) => return Err(RunFault::OutOfMemory),
     };
-    let mut report = match LabReport::new(&net, script.names(), script.link_names(), &dumps) {
+    let mut report = match begin(&net, script, &dumps) {
         Ok(report) => report,
         Err(OutOfMemory) => return Err(RunFault::OutOfMemory),
     };
@@ -42,11 +47,57 @@ pub(crate) fn run_lab<O: Sink>(
     }
 }
 
-/// The numbers of the datagrams that lines tell, in order.
-fn dumps_of(alloc: Global, lines: &[LabLine<'_>]) -> Result<Vec<usize>, OutOfMemory>
-    ensures { IfOk result (λ dumps. dumps.items ≡ run.dumps_of lines.now) }
+/// The network at the end of a lab script.
+fn play_lab(alloc: Global, script: &LabScript<'_>) -> Result<Network, ScriptFault>
+    ensures tells { Tells script.now result }
+    ensures routers { IfOk result (λ net.
+        length net.seen.routers ≡ length script.now.routers) }
+    ensures links { IfOk result (λ net. net.seen.links ≡ map ends_of script.now.links) }
+{
+    play(alloc, script)
+}
+
+/// The report of a network that a script laid out, of which nothing is written yet.
+#[tactic(auto, unfolding(crate::specs::LabReports::report_by))]
+fn begin<'n>(
+    net: &'n Network,
+    script: &'n LabScript<'_>,
+    dumps: &'n [usize],
+) -> Result<LabReport<'n, 'n>, OutOfMemory>
+    requires routers { length net.now.seen.routers ≡ length script.now.routers }
+    requires links { net.now.seen.links ≡ map ends_of script.now.links }
+    requires dumps { dumps.now ≡ run.dumps_of script.now.lines }
+    ensures { IfOk result (λ report. lines_left report ≡ report_by script.now net.now.seen) }
+{
+    LabReport::new(net, router_names_of(script), link_names_of(script), dumps)
+}
+
+/// The routers' names.
+fn router_names_of<'s, 'a>(script: &'s LabScript<'a>) -> &'s [&'a str]
+    ensures names { texts result.now ≡ router_names script.now.routers }
+    ensures count { length result.now ≡ length script.now.routers }
+    ensures few { length result.now ≤ 1024 }
+{
+    let _routers = script.routers();
+    script.names()
+}
+
+/// The links' names.
+fn link_names_of<'s, 'a>(script: &'s LabScript<'a>) -> &'s [&'a str]
+    ensures names { texts result.now ≡ link_names script.now.links }
+    ensures count { length result.now ≡ length script.now.links }
+    ensures few { length result.now ≤ 4096 }
+{
+    let _links = script.links();
+    script.link_names()
+}
+
+/// The numbers of the datagrams that a script's lines tell, in order.
+fn dumps_of(alloc: Global, script: &LabScript<'_>) -> Result<Vec<usize>, OutOfMemory>
+    ensures { IfOk result (λ dumps. dumps.items ≡ run.dumps_of script.now.lines) }
 {
     let mut dumps = Vec::new(alloc);
+    let lines = script.lines();
     for line in lines {
         match add_dump(&mut dumps, line) {
             Ok(()) => {}
@@ -56,7 +107,7 @@ fn dumps_of(alloc: Global, lines: &[LabLine<'_>]) -> Result<Vec<usize>, OutOfMem
     Ok(dumps)
 }
 
-/// The number of the datagram that a line tells, if any.
+/// Adds the number of the datagram that a line tells, if any.
 fn add_dump(dumps: &mut Vec<usize>, line: &LabLine<'_>) -> Result<(), OutOfMemory>
     ensures { OnOk result ((behind : List ℕ) → dumps.new.items ++ behind
         ≡ dumps.old.items ++ run.told_by line.now.deed behind) }

@@ -1,4 +1,4 @@
-use Rattle.std.proofs.Common.{◌++◌, Bool, List, drop, ap, ◌∙◌}
+use Rattle.std.proofs.Common.{◌+◌, ◌++◌, Bool, List, drop, ap, ◌∙◌}
 use Rattle.network_lab.specs.LinkStates.{runs_of}
 use Rattle.network_lab.proofs.StateLemmas.{runs-step}
 use Rattle.network_lab.proofs.network.Network.add_run.Goals as goal
