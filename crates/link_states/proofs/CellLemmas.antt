@@ -1,5 +1,5 @@
 -- Cells of a book: their number, and which LSP IDs they have.
-use Rattle.std.proofs.Common.{◌≡◌, ℕ, ◌+◌, ◌-◌, ◌≤◌, ◌==◌, ◌||◌, Bool, true, false, not, is_some, IfSome, List, [], ◌∷◌, length, take, drop, get_or, Option, Some, None, if◌then◌else◌, refl, sym, ap, ap₂, ◌∙◌, subst, arith, zero-le}
+use Rattle.std.proofs.Common.{◌≡◌, ℕ, ◌+◌, ◌-◌, ◌≤◌, ◌==◌, ◌||◌, Bool, true, false, not, is_some, IfSome, List, [], ◌∷◌, length, take, drop, get_or, Some, if◌then◌else◌, refl, sym, ap, ap₂, ◌∙◌, subst, arith, zero-le}
 use Rattle.std.proofs.lemmas.List.{take_all}
 use Rattle.isis_base.specs.declared.identifiers.LspId.{LspId}
 use Rattle.isis_base.specs.Identifiers.{lsp_number}

@@ -1,10 +1,9 @@
 -- Groups by labels are the groups that chains of pairs connect.
-use Rattle.std.proofs.Common.{◌≡◌, ℕ, zero, suc, ◌+◌, ◌<◌, ◌≤◌, ⊎_elim, inl, inr, Bool, true, List, [], ◌∷◌, ◌++◌, length, map, slice_get, slice_index, refl, sym, ap, ◌∙◌, subst, arith, zero-le}
-use Rattle.std.proofs.lemmas.Bool.{cases_eq}
+use Rattle.std.proofs.Common.{◌≡◌, ℕ, ◌+◌, ◌≤◌, ⊎_elim, inl, inr, Bool, true, List, [], ◌∷◌, length, map, slice_index, refl, sym, ap, ◌∙◌, subst, arith}
 use Rattle.link_states.specs.Joined.{In, TakesPart, Leads, Rises, AreOrdered, AreGroups}
 use Rattle.link_states.specs.Parents.{AreLabels}
 use Rattle.link_states.specs.Tags.{is_on, has_label, labelled, firsts, labelled_groups, AreTags}
-use Rattle.link_states.proofs.LabelLemmas.{in-left, in-right, part-from, part-within, leads-on, leads-back, leads-part, leads-same}
+use Rattle.link_states.proofs.LabelLemmas.{part-from, part-within, leads-on, leads-back, leads-part, leads-same}
 use Rattle.link_states.proofs.TagLemmas.{rises-in, label-on, label-is, label-from, in-labelled, labelled-in, rises-labelled, in-firsts, firsts-in, rises-firsts}
 
 -- ---- labels

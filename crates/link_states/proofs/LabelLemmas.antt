@@ -1,5 +1,5 @@
 -- Labels of routers: chains, and one pair more.
-use Rattle.std.proofs.Common.{◌≡◌, ℕ, ◌+◌, ◌<◌, ◌≤◌, ◌⊎◌, ⊎_elim, inl, inr, Bool, true, false, List, [], ◌∷◌, ◌++◌, length, get_or, map, max, min, slice_get, slice_index, Option, Some, None, refl, sym, ap, ◌∙◌, subst, arith}
+use Rattle.std.proofs.Common.{◌≡◌, ℕ, ◌<◌, ◌≤◌, ◌⊎◌, ⊎_elim, inl, inr, Bool, true, false, List, [], ◌∷◌, ◌++◌, length, max, min, slice_get, slice_index, Option, Some, None, refl, sym, ap, ◌∙◌, subst, arith}
 use Rattle.std.proofs.lemmas.Bool.{cases_eq, cases_lt, false≢true}
 use Rattle.std.proofs.lemmas.Bool.Decides.{nat_tests}
 use Rattle.std.proofs.lemmas.Option.{slice_get_within}
@@ -7,7 +7,7 @@ use Rattle.std.proofs.lemmas.List.{length-map, get_or-map}
 use Rattle.link_states.specs.Joined.{In, TakesPart, AreJoined, IsChain, Leads}
 use Rattle.link_states.specs.Parents.{AreOwn, HaveRoots, AreLabels, AreRooted, replaced, merged}
 use Rattle.link_states.specs.Tags.{is_on}
-use Rattle.link_states.proofs.ParentLemmas.{replaced-old, replaced-new, replaced-other}
+use Rattle.link_states.proofs.ParentLemmas.{replaced-old, replaced-other}
 
 -- ---- lists
 

@@ -1,11 +1,11 @@
 -- Routers by their labels, one router more.
-use Rattle.std.proofs.Common.{◌≡◌, ℕ, zero, suc, ◌+◌, ◌<◌, ◌≤◌, ◌==◌, ◌&&◌, ◌⊎◌, ⊎_elim, inl, inr, Bool, true, false, List, [], ◌∷◌, ◌++◌, length, get_or, map, set, slice_get, slice_index, slice_index_or, Option, Some, None, if◌then◌else◌, refl, sym, ap, ap₂, ◌∙◌, subst, arith, add-one, append-nil, zero-le}
-use Rattle.std.proofs.lemmas.Bool.{cases_eq, cases_lt, cases_Bool, false≢true}
+use Rattle.std.proofs.Common.{◌≡◌, ℕ, zero, suc, ◌+◌, ◌<◌, ◌≤◌, ◌==◌, ◌&&◌, ◌⊎◌, ⊎_elim, inl, inr, Bool, true, false, List, [], ◌∷◌, ◌++◌, length, map, set, slice_get, slice_index, Some, if◌then◌else◌, refl, sym, ap, ap₂, ◌∙◌, subst, arith, add-one, append-nil, zero-le}
+use Rattle.std.proofs.lemmas.Bool.{cases_eq, false≢true}
 use Rattle.std.proofs.lemmas.Bool.Decides.{nat_tests}
 use Rattle.std.proofs.lemmas.List.{length-map, length-set, get_or-set_same, get_or-set_other}
 use Rattle.std.proofs.lemmas.Option.{none-some, same_Some, slice_get_within}
 use Rattle.link_states.specs.Joined.{In, Rises}
-use Rattle.link_states.specs.Tags.{is_on, has_label, labelled, firsts, labelled_groups, with_router, AreTags, AreGrouped}
+use Rattle.link_states.specs.Tags.{is_on, has_label, labelled, firsts, with_router, AreTags, AreGrouped}
 use Rattle.link_states.proofs.LabelLemmas.{in-left, in-right, in-last}
 
 -- ---- lists

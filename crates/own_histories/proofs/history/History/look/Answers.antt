@@ -1,5 +1,4 @@
-use Rattle.std.proofs.Common.{◌≡◌, List, ℕ, sym, ap, ◌∙◌}
-use Rattle.isis_model.specs.Routers.{Contents}
+use Rattle.std.proofs.Common.{sym, ap, ◌∙◌}
 use Rattle.own_histories.specs.Sightings.{Memory}
 use Rattle.own_histories.specs.Entries.{contents_of}
 use Rattle.own_histories.proofs.SightingLemmas.{kept-some, kept-none}

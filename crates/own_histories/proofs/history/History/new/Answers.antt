@@ -1,7 +1,5 @@
-use Rattle.std.proofs.Common.{ℕ, List, ap}
-use Rattle.isis_base.specs.declared.identifiers.LspId.{LspId}
+use Rattle.std.proofs.Common.{ap}
 use Rattle.flag_sync.specs.Walks.{numbers_of}
-use Rattle.own_histories.specs.declared.said.Said.{Said}
 use Rattle.own_histories.specs.Entries.{kept_of}
 use Rattle.own_histories.proofs.SightingLemmas.{remembers-none}
 use Rattle.own_histories.proofs.history.History.new.Goals as goal

@@ -1,9 +1,4 @@
-use Rattle.std.proofs.Common.{◌≡◌, ℕ, ◌==◌, Bool, Option, Some, List, ap, sym, ◌∙◌, if◌then◌else◌}
 use Rattle.std.proofs.lemmas.Result.{on_ok_weaker}
-use Rattle.isis_base.specs.Identifiers.{lsp_number}
-use Rattle.isis_model.specs.Maps.{find}
-use Rattle.isis_model.specs.Routers.{Contents}
-use Rattle.own_histories.specs.Sightings.{Sighting}
 use Rattle.own_histories.proofs.SightingLemmas.{seen-new, seen-same, seen-other}
 use Rattle.own_histories.proofs.history.History.see.Goals as goal
 
