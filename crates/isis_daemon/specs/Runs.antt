@@ -1,11 +1,10 @@
 -- How a run of the program ends (own).
 use Rattle.std.specs.Prelude.{◌≡◌, ℕ, ◌<◌, ◌≤◌, List, [], length, Option, Some, IfSome, Result, Ok, Err, IsOk, IsOkAnd, ◌⊎◌}
 use Rattle.isis_edge.specs.Told.{Wrote, WrotePrefix, TellsSame}
-use Rattle.lab_text.specs.declared.reason.ScriptFault.{ScriptFault}
-use Rattle.lab_text.specs.declared.reason.ScriptFault.TheVariants.{Refused, Limit}
-use Rattle.lab_text.specs.KeysScripts.{◌>>=◌, script_of}
-use Rattle.lab_text.specs.KeysReport.{report_of_net}
-use Rattle.lab_text.specs.KeysRuns.{end_of}
+use Rattle.lab_script.specs.declared.reason.ScriptFault.{ScriptFault}
+use Rattle.lab_script.specs.declared.reason.ScriptFault.TheVariants.{Refused, Limit}
+use Rattle.lab_script.specs.Scripts.{◌>>=◌, script_of}
+use Rattle.lab_text.specs.Runs.{report_of}
 use Rattle.isis_daemon.specs.declared.command.Command.{Command}
 use Rattle.isis_daemon.specs.declared.command.Command.TheVariants.{Lab, Show}
 use Rattle.isis_daemon.specs.declared.status.Status.{Status}
@@ -19,8 +18,7 @@ input_limit = 16777216
 -- the text that a command makes of an input, or what refuses it: of a script its report, and of other input the fields
 -- of its PDUs
 abbrev pub text_of : Command → List ℕ → Result (List ℕ) ScriptFault
-text_of Lab input =
-    script_of input >>= λ script. end_of script >>= λ net. Ok (report_of_net script.routers net)
+text_of Lab input = script_of input >>= λ script. report_of script
 text_of Show input = Ok (shown_text input)
 
 -- the text, where there is one

@@ -5,13 +5,13 @@ use Rattle.isis_edge.specs.declared.reading.WholeFault.TheVariants as whole
 use Rattle.isis_edge.specs.declared.text.TextFailed.{TextFailed}
 use Rattle.isis_edge.specs.declared.text.TextFailed.TheVariants as text
 use Rattle.network_lab.specs.Limits.{limit_word}
-use Rattle.lab_text.specs.declared.reason.ScriptFault.{ScriptFault}
-use Rattle.lab_text.specs.declared.reason.ScriptFault.TheVariants as script
-use Rattle.lab_text.specs.declared.reason.RunFault.{RunFault}
-use Rattle.lab_text.specs.declared.reason.RunFault.TheVariants as run
+use Rattle.lab_script.specs.declared.reason.ScriptFault.{ScriptFault}
+use Rattle.lab_script.specs.declared.reason.ScriptFault.TheVariants as script
+use Rattle.lab_text.specs.declared.fault.RunFault.{RunFault}
+use Rattle.lab_text.specs.declared.fault.RunFault.TheVariants as run
 use Rattle.isis_daemon.specs.declared.status.Status.{Status}
 use Rattle.isis_daemon.specs.declared.status.Status.TheVariants.{Done, Usage, ScriptRefused, ReadFault, WriteFault, TooLong, OutOfMemory, LabLimit}
-use Rattle.lab_text.specs.Reasons.{reason_word}
+use Rattle.lab_script.specs.Reasons.{reason_word}
 
 -- what ends a run whose script can't be read (own)
 abbrev pub script_status : ScriptFault → Status

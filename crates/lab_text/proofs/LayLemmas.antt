@@ -1,20 +1,21 @@
 -- A network laid out as a script says.
-use Rattle.std.proofs.Common.{◌≡◌, ◌∙◌, ℕ, zero, suc, ◌+◌, ◌<◌, ◌≤◌, Bool, true, false, cond, eqb, List, [], ◌∷◌, ◌++◌, length, get_or, take, drop, ◌⊎◌, inl, inr, refl, sym, ap, subst, arith}
-use Rattle.std.specs.Prelude.{◌==◌, ◌&&◌, ◌||◌}
+use Rattle.std.proofs.Common.{◌≡◌, ◌∙◌, ℕ, zero, suc, ◌+◌, ◌<◌, true, List, [], ◌∷◌, ◌++◌, length, get_or, inl, inr, refl, sym, ap, subst, arith}
+use Rattle.std.specs.Prelude.{◌==◌, ◌&&◌}
 use Rattle.std.specs.Borrow.{Bor}
 use Rattle.std.specs.List.{AllByRecursion}
 use Rattle.std.proofs.lemmas.Bool.{eqb-true, and_parts, or_cases}
-use Rattle.network_lab.specs.KeysNet.{Net, with_link, has_pair, ordered, is_joined}
+use Rattle.network_lab.specs.KeysNet.{Net, with_link, has_pair, ordered}
 use Rattle.network_lab.proofs.PairLemmas.{has_pair-new, has_pair-kept}
-use Rattle.lab_text.specs.declared.events.EventLine.{EventLine}
-use Rattle.lab_text.specs.declared.events.KeyEvent.{KeyEvent}
-use Rattle.lab_text.specs.declared.events.KeyEvent.TheVariants.{Issue, Pass}
-use Rattle.lab_text.specs.Links.{has_link}
-use Rattle.lab_text.specs.Words.{texts}
-use Rattle.lab_text.proofs.NameLemmas.{length-texts}
-use Rattle.lab_text.specs.KeysJudged.{KeysScript}
+use Rattle.lab_script.specs.declared.events.EventLine.{EventLine}
+use Rattle.lab_script.specs.declared.events.KeyEvent.{KeyEvent}
+use Rattle.lab_script.specs.declared.events.KeyEvent.TheVariants.{Issue, Pass}
+use Rattle.lab_script.specs.Links.{has_link}
+use Rattle.lab_script.specs.Words.{texts}
+use Rattle.lab_script.proofs.NameLemmas.{length-texts}
+use Rattle.lab_script.specs.KeysJudged.{KeysScript}
 use Rattle.lab_text.specs.KeysRuns.{routers_only, with_links, laid_out}
-use Rattle.lab_text.specs.KeysSound.{IsInScript, IsInNet, AreInNet, IsSound}
+use Rattle.lab_text.specs.KeysInNet.{IsInNet, AreInNet}
+use Rattle.lab_script.specs.KeysSound.{IsInScript, IsSound}
 
 -- links add no router
 pub with_links-routers : (net : Net) (links : List (ℕ × ℕ)) → (with_links net links).routers ≡ net.routers

@@ -1,13 +1,3 @@
-pub mod CutLemmas
-pub mod FieldLemmas
-pub mod IdLemmas
-pub mod KeyLemmas
-pub mod LinkLemmas
-pub mod NameLemmas
 pub mod PlayLemmas
-pub mod ReadLemmas
 pub mod SoundLemmas
-pub mod LineLemmas
-pub mod NameTexts
-pub mod PrintLemmas
 pub mod LayLemmas

@@ -2,9 +2,9 @@
 use Rattle.std.proofs.Common.{◌≡◌, ℕ, ◌+◌, ◌<◌, List, length, get_or, drop, Result, Ok, Err, sym, ap, ◌∙◌, arith}
 use Rattle.std.proofs.lemmas.List.{at_drop_more, at_drop_all}
 use Rattle.network_lab.specs.KeysNet.{Net}
-use Rattle.lab_text.specs.declared.events.EventLine.{EventLine}
-use Rattle.lab_text.specs.declared.reason.ScriptFault.{ScriptFault}
-use Rattle.lab_text.specs.KeysScripts.{◌>>=◌}
+use Rattle.lab_script.specs.declared.events.EventLine.{EventLine}
+use Rattle.lab_script.specs.declared.reason.ScriptFault.{ScriptFault}
+use Rattle.lab_script.specs.Scripts.{◌>>=◌}
 use Rattle.lab_text.specs.KeysRuns.{play_line, play_all}
 
 -- the next event is played before those behind it

@@ -1,25 +1,8 @@
--- What is printed of faults of scripts and runs (own).
-use Rattle.std.specs.Prelude.{ℕ, List, ◌++◌, codes, decimal}
-use Rattle.network_lab.specs.declared.faults.LimitName.{LimitName}
-use Rattle.network_lab.specs.Limits.{limit_word}
-use Rattle.lab_text.specs.declared.reason.Reason.{Reason}
-use Rattle.lab_text.specs.declared.reason.ScriptFault.{ScriptFault}
-use Rattle.lab_text.specs.declared.reason.ScriptFault.TheVariants as script
-use Rattle.lab_text.specs.declared.reason.RunFault.{RunFault}
-use Rattle.lab_text.specs.declared.reason.RunFault.TheVariants as run
-use Rattle.lab_text.specs.Reasons.{reason_word}
-
-abbrev pub refused_text : ℕ → Reason → List ℕ
-refused_text line reason = codes "line " ++ decimal line ++ codes " " ++ reason_word reason
-
-abbrev pub limit_text : LimitName → List ℕ
-limit_text which = codes "limit " ++ limit_word which
-
--- why a script can't be read, in words
-abbrev pub script_fault_text : ScriptFault → List ℕ
-script_fault_text (script.Refused line reason) = refused_text line reason
-script_fault_text (script.Limit which) = limit_text which
-script_fault_text script.OutOfMemory = codes "out of memory"
+-- What is printed of faults of runs (own).
+use Rattle.std.specs.Prelude.{ℕ, List, codes}
+use Rattle.lab_script.specs.FaultTexts.{refused_text, limit_text}
+use Rattle.lab_text.specs.declared.fault.RunFault.{RunFault}
+use Rattle.lab_text.specs.declared.fault.RunFault.TheVariants as run
 
 -- why a run didn't come to the end of its report, in words
 abbrev pub run_fault_text : RunFault → List ℕ

@@ -1,18 +1,15 @@
 -- The run of a keys script: its network, its events one after another, and its report (own).
-use Rattle.std.specs.Prelude.{◌≡◌, ℕ, List, [], ◌∷◌, length, Option, Result, Ok, Err, IsOk, if◌then◌else◌}
-use Rattle.isis_edge.specs.Told.{Wrote, WrotePrefix, TellsSame}
+use Rattle.std.specs.Prelude.{ℕ, List, [], ◌∷◌, length, Result, Ok, Err, if◌then◌else◌}
 use Rattle.network_lab.specs.KeysNet.{Net, empty_net, with_link, with_copy, with_pass, is_at}
-use Rattle.lab_text.specs.declared.events.EventLine.{EventLine}
-use Rattle.lab_text.specs.declared.events.KeyEvent.{KeyEvent}
-use Rattle.lab_text.specs.declared.events.KeyEvent.TheVariants.{Issue, Pass}
-use Rattle.lab_text.specs.declared.reason.Reason.TheVariants.{NotSent}
-use Rattle.lab_text.specs.declared.reason.ScriptFault.{ScriptFault}
-use Rattle.lab_text.specs.declared.reason.ScriptFault.TheVariants.{Refused, Limit}
-use Rattle.lab_text.specs.declared.reason.RunFault.{RunFault}
-use Rattle.lab_text.specs.declared.reason.RunFault.TheVariants as run
-use Rattle.lab_text.specs.KeysJudged.{KeysScript}
+use Rattle.lab_script.specs.declared.events.EventLine.{EventLine}
+use Rattle.lab_script.specs.declared.events.KeyEvent.{KeyEvent}
+use Rattle.lab_script.specs.declared.events.KeyEvent.TheVariants.{Issue, Pass}
+use Rattle.lab_script.specs.declared.reason.Reason.TheVariants.{NotSent}
+use Rattle.lab_script.specs.declared.reason.ScriptFault.{ScriptFault}
+use Rattle.lab_script.specs.declared.reason.ScriptFault.TheVariants.{Refused}
+use Rattle.lab_script.specs.KeysJudged.{KeysScript}
 use Rattle.lab_text.specs.KeysReport.{report_of_net}
-use Rattle.lab_text.specs.KeysScripts.{◌>>=◌}
+use Rattle.lab_script.specs.Scripts.{◌>>=◌}
 
 -- a network of so many routers, without links
 abbrev pub routers_only : ℕ → Net
@@ -44,24 +41,6 @@ play_all net (line ∷ events) = play_line net line >>= λ more. play_all more e
 abbrev pub end_of : KeysScript → Result Net ScriptFault
 end_of script = play_all (laid_out script) script.events
 
--- the report of a network at its end; a script that is refused has none
-abbrev pub report_at : List (List ℕ) → Result Net ScriptFault → List ℕ
-report_at names (Ok net) = report_of_net names net
-report_at names (Err fault) = []
-
--- the report of a script
-abbrev pub report_of : KeysScript → List ℕ
-report_of script = report_at script.routers (end_of script)
-
--- how the run of a script ends: the answer has its cause in the script, and the sink holds the report, a prefix of it, or
--- no more than before
-abbrev pub RunEnds : KeysScript → Option (List ℕ) → Option (List ℕ) → Result (Unit {0}) RunFault
-    → Type 0
-RunEnds script before now (Ok done) = IsOk (end_of script) × Wrote before now (report_of script)
-RunEnds script before now (Err (run.Refused line reason)) =
-    (end_of script ≡ Err (Refused line reason)) × TellsSame before now
-RunEnds script before now (Err (run.Limit which)) =
-    (end_of script ≡ Err (Limit which)) × TellsSame before now
-RunEnds script before now (Err run.Write) =
-    IsOk (end_of script) × WrotePrefix before now (report_of script)
-RunEnds script before now (Err run.OutOfMemory) = WrotePrefix before now (report_of script)
+-- the report of a keys script, or the line that is refused
+abbrev pub keys_report : KeysScript → Result (List ℕ) ScriptFault
+keys_report script = end_of script >>= λ net. Ok (report_of_net script.routers net)

@@ -1,8 +1,8 @@
 -- What ends a run whose script is refused or has no memory.
-use Rattle.lab_text.specs.declared.reason.ScriptFault.{ScriptFault}
-use Rattle.lab_text.specs.declared.reason.ScriptFault.TheVariants as script
-use Rattle.lab_text.specs.declared.reason.RunFault.{RunFault}
-use Rattle.lab_text.specs.declared.reason.RunFault.TheVariants.{Refused, Limit, OutOfMemory}
+use Rattle.lab_script.specs.declared.reason.ScriptFault.{ScriptFault}
+use Rattle.lab_script.specs.declared.reason.ScriptFault.TheVariants as script
+use Rattle.lab_text.specs.declared.fault.RunFault.{RunFault}
+use Rattle.lab_text.specs.declared.fault.RunFault.TheVariants.{Refused, Limit, OutOfMemory}
 
 abbrev pub run_fault_of : ScriptFault → RunFault
 run_fault_of (script.Refused line reason) = Refused line reason

@@ -3,22 +3,35 @@ ghost use Rattle.std.specs.Prelude.{◌≡◌, ◌≤◌, ◌<◌, ℕ, List, le
 ghost use Rattle.std.specs.List.{AllByRecursion};
 ghost use Rattle.isis_edge.specs.Faults.{Rose};
 ghost use Rattle.network_lab.specs.KeysNet.{with_link};
-ghost use Rattle.lab_text.specs.Gives.{Gives, Answers};
-ghost use Rattle.lab_text.specs.KeysRuns.{routers_only, with_links, laid_out, play_line, play_all, end_of, RunEnds};
-ghost use Rattle.lab_text.specs.KeysSound.{IsInNet, AreInNet, IsLaidOut};
+ghost use Rattle.lab_script.specs.Gives.{Gives, Answers};
+ghost use Rattle.lab_text.specs.KeysRuns.{routers_only, with_links, laid_out, play_line, play_all, end_of, keys_report};
+ghost use Rattle.lab_text.specs.Runs.{ReportEnds, RunEnds};
+ghost use Rattle.lab_text.specs.KeysInNet.{IsInNet, AreInNet, IsLaidOut};
 
-use crate::events::{EventLine, KeyEvent};
+use crate::fault::RunFault;
+use crate::lab_run::run_lab;
 use crate::left::KeysReport;
-use crate::reason::{Reason, RunFault, ScriptFault};
-use crate::script::Script;
 use isis_base::OutOfMemory;
 use isis_edge::{Sink, TextFailed, write_text};
+use lab_script::{EventLine, KeyEvent, KeysScript, Reason, Script, ScriptFault};
 use network_lab::{KeyNet, LabFault};
 use std::alloc::Global;
 
 /// Runs a script and writes its whole report. Nothing is written before the run has come to its end.
 pub fn run_script<O: Sink>(alloc: Global, script: &Script<'_>, out: &mut O) -> Result<(), RunFault>
     ensures ends { RunEnds script.now (O.held out.old) (O.held out.new) result }
+    ensures cause { result ≡ Err RunFault.Write → Rose (O.faults out.old) (O.faults out.new) }
+    ensures later { O.faults out.old ≤ O.faults out.new }
+{
+    match script {
+        Script::Keys(script) => run_keys(alloc, script, out),
+        Script::Lab(script) => run_lab(alloc, script, out),
+    }
+}
+
+/// Runs a keys script and writes its whole report.
+fn run_keys<O: Sink>(alloc: Global, script: &KeysScript<'_>, out: &mut O) -> Result<(), RunFault>
+    ensures ends { ReportEnds (keys_report script.now) (O.held out.old) (O.held out.new) result }
     ensures cause { result ≡ Err RunFault.Write → Rose (O.faults out.old) (O.faults out.new) }
     ensures later { O.faults out.old ≤ O.faults out.new }
 {
@@ -35,7 +48,7 @@ pub fn run_script<O: Sink>(alloc: Global, script: &Script<'_>, out: &mut O) -> R
 }
 
 /// The network at the end of a script.
-fn play(alloc: Global, script: &Script<'_>) -> Result<KeyNet, ScriptFault>
+fn play(alloc: Global, script: &KeysScript<'_>) -> Result<KeyNet, ScriptFault>
     ensures value { Answers result (end_of script.now) }
     ensures named { IfOk result (λ net. length script.now.routers ≤ net.routers) }
 {
@@ -50,7 +63,7 @@ fn play(alloc: Global, script: &Script<'_>) -> Result<KeyNet, ScriptFault>
 }
 
 /// The network of a script before its events.
-fn lay_out(alloc: Global, script: &Script<'_>) -> Result<KeyNet, OutOfMemory>
+fn lay_out(alloc: Global, script: &KeysScript<'_>) -> Result<KeyNet, OutOfMemory>
     ensures laid { IfOk result (λ net. net ≡ laid_out script.now) }
     ensures sound { IfOk result (λ net. AreInNet net script.now.events) }
     ensures named { IfOk result (λ net. net.routers ≡ length script.now.routers) }

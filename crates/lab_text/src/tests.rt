@@ -2,6 +2,7 @@
 use super::*;
 use isis_edge::MemorySink;
 use network_lab::LimitName;
+use std::alloc::Global;
 use std::test::Fail;
 
 /// Scripts, each with its report. The newest copy that reached a router is told, whatever the order in which copies came.
@@ -24,71 +25,45 @@ const REPORTS: [(&str, &str); 5] = [
 
 #[test]
 fn scripts_are_reported_as_worked(rt: HostRuntime) -> Result<(), Fail> {
-    let alloc = rt.alloc();
-    for (text, report) in REPORTS {
-        let Ok(script) = read_script(alloc, text.as_bytes()) else {
-            return Err("a script")?;
-        };
-        assert!(rt; !script.is_lab());
-        let failing = Vec::new(alloc);
-        let mut sink = MemorySink::new(alloc, 4096, 64, failing)?;
-        assert_eq!(rt; run_script(alloc, &script, &mut sink), Ok(()), "{text}");
-        assert_eq!(rt; sink.octets(), report.as_bytes(), "{text}");
-    }
+    assert_eq!(rt; first_wrong(rt.alloc())?, None);
     Ok(())
 }
 
-/// The lines before those of the table.
-const START: &str = "isis-keys 1\nrouter A\nrouter B\nrouter C\nlink A B\n";
-
-/// Line 6, and why it is refused when it is read.
-const REFUSED: [(&str, Reason); 14] = [
-    ("routers", Reason::Form),
-    ("router D ", Reason::Form),
-    ("router abcdefghijklmnopq", Reason::Form),
-    ("router 1a", Reason::Form),
-    ("link A Z/", Reason::Form),
-    ("issue A 0000.0000.0001.00-00 0 live", Reason::Form),
-    ("issue A 0000.0000.0001.00-00 4294967296 live", Reason::Form),
-    ("pass 01 A B", Reason::Form),
-    ("link A Z", Reason::Name),
-    ("issue Z 0000.0000.0001.00-00 1 live", Reason::Name),
-    ("router C", Reason::Again),
-    ("link Z Z", Reason::Name),
-    ("link A A", Reason::Again),
-    ("pass 1 A C", Reason::NotOn),
-];
-
-#[test]
-fn lines_are_refused_as_worked(rt: HostRuntime) -> Result<(), Fail> {
-    for (line, reason) in REFUSED {
-        let mut text = String::from_str(rt.alloc(), START)?;
-        text.push_str(line)?;
-        match read_script(rt.alloc(), text.as_bytes()) {
-            Ok(_) => return Err("a refused line")?,
-            Err(fault) => assert_eq!(rt; fault, ScriptFault::Refused { line: 6, reason }, "{line}"),
+/// The first script that isn't reported as worked, counted from 0.
+fn first_wrong(alloc: Global) -> Result<Option<usize>, Fail> {
+    for (row, (text, report)) in REPORTS.iter().enumerate() {
+        if !ends(alloc, text, Ok(()), report)? {
+            return Ok(Some(row));
         }
     }
-    Ok(())
+    Ok(None)
+}
+
+/// Whether a script is read, and its run ends so and writes this.
+fn ends(alloc: Global, text: &str, end: Result<(), RunFault>, report: &str) -> Result<bool, Fail> {
+    let Ok(script) = read_script(alloc, text.as_bytes()) else {
+        return Ok(false);
+    };
+    let mut sink = MemorySink::new(alloc, 4096, 64, Vec::new(alloc))?;
+    let ended = run_script(alloc, &script, &mut sink);
+    Ok(ended == end && sink.octets() == report.as_bytes())
 }
 
 #[test]
-fn routers_are_found_by_name(rt: HostRuntime) -> Result<(), Fail> {
+fn refused_runs_are_told(rt: HostRuntime) -> Result<(), Fail> {
     let text =
         "isis-keys 1\nrouter A\nrouter B\nlink A B\nissue A 0000.0000.0001.00-00 1 live\npass 1 B A\n";
-    let Ok(script) = read_script(rt.alloc(), text.as_bytes()) else {
-        return Err("a script")?;
-    };
-    assert_eq!(rt; (script.router("B"), script.router("C")), (Some(1), None));
-    assert_eq!(rt; (script.name(0), script.name(2)), (Some("A"), None));
-    let failing = Vec::new(rt.alloc());
-    let mut sink = MemorySink::new(rt.alloc(), 4096, 64, failing)?;
-    let refused = RunFault::Refused {
-        line: 6,
-        reason: Reason::NotSent,
-    };
-    assert_eq!(rt; run_script(rt.alloc(), &script, &mut sink), Err(refused));
-    assert!(rt; sink.octets().is_empty());
+    assert!(rt; ends(rt.alloc(), text, refused(6, Reason::NotSent), "")?);
+    assert!(rt; ends(rt.alloc(), "isis-lab 1", refused(1, Reason::NotBuilt), "")?);
+    Ok(())
+}
+
+fn refused(line: usize, reason: Reason) -> Result<(), RunFault> {
+    Err(RunFault::Refused { line, reason })
+}
+
+#[test]
+fn reasons_print_their_words(rt: HostRuntime) -> Result<(), Fail> {
     let mut word = String::new(rt.alloc());
     for reason in [Reason::Head, Reason::NotBuilt, Reason::Late, Reason::Stale] {
         write!(word, " {reason}")?;

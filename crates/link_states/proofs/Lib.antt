@@ -4,3 +4,4 @@ pub mod TagLemmas
 pub mod GroupLemmas
 pub mod CellLemmas
 pub mod StateLemmas
+pub mod GroupedLemmas

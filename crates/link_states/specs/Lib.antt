@@ -4,3 +4,4 @@ pub mod Tags
 pub mod Excepted
 pub mod Tallies
 pub mod LinkStates
+pub mod Grouped

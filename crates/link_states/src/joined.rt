@@ -1,5 +1,6 @@
 //! The groups of routers that joined pairs connect.
 ghost use Rattle.std.specs.Prelude.{◌≡◌, ◌<◌, ◌+◌, length, slice_get, IfOk, OnOk};
+ghost use Rattle.link_states.specs.Grouped.{groups_of};
 ghost use Rattle.link_states.specs.Joined.{AreGroups};
 ghost use Rattle.link_states.specs.Tags.{AreGrouped, AreTags, is_on, labelled_groups};
 
@@ -15,7 +16,8 @@ pub fn joined_groups(
     runs: &[bool],
     pairs: &[(usize, usize)],
 ) -> Result<Groups, OutOfMemory>
-    ensures { IfOk result (λ groups. AreGroups runs.now pairs.now groups) }
+    ensures groups { IfOk result (λ groups. AreGroups runs.now pairs.now groups) }
+    ensures value { IfOk result (λ groups. groups ≡ groups_of runs.now pairs.now) }
 {
     let labels = labels_of(alloc, runs, pairs)?;
     grouped(alloc, runs, &labels)

@@ -4,3 +4,8 @@ pub mod Inside
 pub mod KeysNet
 pub mod Limits
 pub mod KeysHeld
+pub mod LabNets
+pub mod LabEvents
+pub mod LabCauses
+pub mod Claims
+pub mod LinkStates

@@ -6,12 +6,19 @@
 //! - `held.rt`: the newest keys of one router, by LSP ID
 #![tactic(auto)]
 
+mod event;
 mod faults;
 mod held;
 mod key_net;
 pub mod laws;
+mod network;
+mod sent;
 #[cfg(test)]
 mod tests;
 
+pub use event::LabEvent;
 pub use faults::{LabFault, LimitName};
 pub use key_net::{KeyNet, LINK_LIMIT, ROUTER_LIMIT};
+pub use link_states::{Groups, LinkState};
+pub use network::Network;
+pub use sent::SentDatagram;

@@ -9,3 +9,4 @@ mod RestartLemmas
 mod NetLemmas
 mod ClaimLemmas
 mod CountLemmas
+mod KeptLemmas

@@ -23,7 +23,8 @@ use Rattle.isis_datagram.proofs.KeptLemmas.{kept-tells}
 use Rattle.isis_datagram.proofs.SendLemmas.{step-reads}
 use Rattle.isis_datagram.specs.Speakers.{IsSpeaking}
 use Rattle.network_model.specs.Speakers.{AreSpeaking, AreOctets, IsLegible}
-use Rattle.network_model.specs.Networks.{End, Datagram, octets_of, Network, place_on, place_in, place_at, restarted}
+use Rattle.network_model.specs.declared.end.End.{End}
+use Rattle.network_model.specs.Networks.{Datagram, octets_of, Network, place_on, place_in, place_at, restarted}
 use Rattle.network_model.specs.Runs.{read_on, post, posts, posted, moved, Happening, is_injection, restart_at, apply}
 use Rattle.network_model.specs.Ports.{Port, In}
 use Rattle.network_model.specs.Links.{LinkHolds, IsWired, Joins, Holds}

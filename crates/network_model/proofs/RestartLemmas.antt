@@ -14,12 +14,12 @@ use Rattle.network_model.specs.Ports.{Port, name_of, Hellos}
 use Rattle.network_model.specs.Links.{IsSound, EndHolds}
 use Rattle.network_model.proofs.PortLemmas.{told, hellos-none, hellos-later}
 
-quiet-bond : (cs : List Circuit) (place : ℕ) → bond_of (nth (map started cs) place) ≡ no_bond
+pub quiet-bond : (cs : List Circuit) (place : ℕ) → bond_of (nth (map started cs) place) ≡ no_bond
 quiet-bond [] place = refl
 quiet-bond (c ∷ cs) zero = refl
 quiet-bond (c ∷ cs) (suc place) = quiet-bond cs place
 
-quiet-point : (cs : List Circuit) (place : ℕ) → is_point (nth (map started cs) place) ≡ is_point (nth cs place)
+pub quiet-point : (cs : List Circuit) (place : ℕ) → is_point (nth (map started cs) place) ≡ is_point (nth cs place)
 quiet-point [] place = refl
 quiet-point (c ∷ cs) zero = refl
 quiet-point (c ∷ cs) (suc place) = quiet-point cs place

@@ -7,3 +7,4 @@ pub mod Ports
 pub mod Links
 pub mod Starts
 pub mod Counts
+pub mod Kept

@@ -6,11 +6,7 @@ use Rattle.isis_model.specs.Routers.{Circuit, Router}
 use Rattle.isis_model.specs.Datagrams.{Sent}
 use Rattle.isis_model.specs.Starts.{start}
 use Rattle.isis_datagram.specs.Datagrams.{datagram}
-
--- an end of a link or LAN: a router, and the place of its circuit there (own)
-pub record End : Type 0 where
-  pub router : ℕ
-  pub place : ℕ
+use Rattle.network_model.specs.declared.end.End.{End}
 
 -- A datagram that was sent: by which router, in which of its boots, on which link or LAN, and what
 -- it says, by a sender of this configuration on the circuit at this place (own).

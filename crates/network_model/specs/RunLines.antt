@@ -6,7 +6,8 @@ use Rattle.isis_model.specs.Givens.{Given}
 use Rattle.isis_model.specs.Routers.{Router}
 use Rattle.network_model.specs.declared.word.PduWord.{PduWord}
 use Rattle.network_model.specs.declared.word.PduWord.TheVariants as word
-use Rattle.network_model.specs.Networks.{End, Datagram, octets_of, Network}
+use Rattle.network_model.specs.declared.end.End.{End}
+use Rattle.network_model.specs.Networks.{Datagram, octets_of, Network}
 use Rattle.network_model.specs.Runs.{Tick, PullOn, Deliver, apply}
 
 -- ---- what isn't delivered, and to whom

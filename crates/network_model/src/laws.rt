@@ -2,7 +2,10 @@
 ghost use Rattle.std.specs.Prelude.{◌≡◌, ℕ, ◌≤◌, List, Bool, Some, false};
 ghost use Rattle.isis_base.specs.declared.level.Level.{Level};
 ghost use Rattle.isis_model.specs.Places.{nth};
-ghost use Rattle.isis_model.specs.Routers.{Router};
+ghost use Rattle.isis_model.specs.Configs.{Config};
+ghost use Rattle.isis_model.specs.Routers.{Circuit, Router};
+ghost use Rattle.isis_model.specs.AdjacencyLaws.{bond_at, no_bond};
+ghost use Rattle.isis_model.specs.Starts.{start};
 ghost use Rattle.isis_datagram.specs.Lsps.{given_octets};
 ghost use Rattle.network_model.specs.Networks.{Network, Datagram};
 ghost use Rattle.network_model.specs.Runs.{Happening, apply, is_injection};
@@ -11,6 +14,7 @@ ghost use Rattle.network_model.specs.Ports.{Port};
 ghost use Rattle.network_model.specs.Links.{IsWired, Joins, LinkHolds, Holds, IsUp, Claim};
 ghost use Rattle.network_model.specs.Starts.{Opens};
 ghost use Rattle.network_model.specs.Counts.{ahead, flags};
+ghost use Rattle.network_model.specs.Kept.{AreFollowing, IsKeptNet, IsFreshNet, IsUpIn, IsClaimedOf};
 
 /// What is kept of a link holds when its ends open, and is kept by each event that injects nothing,
 /// where each router is one that can be reached. An event leaves the links as they are.
@@ -38,4 +42,22 @@ pub fn link_claim()
     ensures far { (e f : Port) (link : ℕ) (a b : Router) (sent : List Datagram) (level : Level)
         → LinkHolds e f link a b sent → IsUp e a f b level
         → ahead b a level ≤ flags b f.place level }
+{}
+
+/// What is kept of a whole network holds before its run, and is kept by each event, injections
+/// included, where each router is one that can be reached. From it the claim follows of each
+/// point-to-point link that is up, where nothing was injected.
+pub fn network_keeps()
+    ensures start { (net : Network) → IsFreshNet net → IsKeptNet net }
+    ensures event { (leaks : Router → Level → List (ℕ × ℕ)) (attached : Router → Bool)
+        (net : Network) (h : Happening) → IsKeptNet net
+        → AreOctets (apply (given_octets leaks attached) net h)
+        → AreSpeaking (apply (given_octets leaks attached) net h)
+        → AreFollowing (apply (given_octets leaks attached) net h)
+        → IsKeptNet (apply (given_octets leaks attached) net h) }
+    ensures claim { (net : Network) (e f : Port) (link : ℕ) (a b : Router) (level : Level)
+        → IsKeptNet net → net.injected ≡ 0 → IsUpIn net e f link a b level
+        → IsClaimedOf e f a b level }
+    ensures alone { (config : Config) (boot : ℕ) (circuits : List Circuit) (place : ℕ)
+        → bond_at (start config boot circuits) place ≡ no_bond }
 {}

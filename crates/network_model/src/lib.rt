@@ -7,11 +7,13 @@
 //! what one end holds the other holds as new or newer unless its SRM flag stands. It uses a step
 //! through its laws alone. The words are this project's own.
 //!
-//! - `word.rt`: the kinds of PDUs that a line `run` may leave undelivered
+//! - `end.rt`: the ends of links; `word.rt`: the kinds of PDUs that a line `run` may leave undelivered
 //! - `laws.rt`: the laws, functions without a body whose contracts hold for whatever is given
 #![tactic(auto)]
 
+mod end;
 pub mod laws;
 mod word;
 
+pub use end::End;
 pub use word::PduWord;

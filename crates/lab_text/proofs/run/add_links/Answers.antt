@@ -1,4 +1,4 @@
-use Rattle.std.proofs.Common.{◌≡◌, ◌<◌, ◌≤◌, ◌+◌, ◌∙◌, ℕ, List, length, take, get_or, sym, ap, subst, arith}
+use Rattle.std.proofs.Common.{◌∙◌, take, get_or, sym, ap, arith}
 use Rattle.std.proofs.lemmas.List.{take_more, length-take-le}
 use Rattle.network_lab.specs.KeysNet.{Net, with_link}
 use Rattle.lab_text.specs.KeysRuns.{with_links}

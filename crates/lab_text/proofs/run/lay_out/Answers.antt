@@ -1,7 +1,7 @@
-use Rattle.std.proofs.Common.{◌≡◌, ◌∙◌, ℕ, List, length, sym, ap, subst}
+use Rattle.std.proofs.Common.{◌∙◌, length, sym, ap, subst}
 use Rattle.network_lab.specs.KeysNet.{Net}
-use Rattle.lab_text.specs.KeysRuns.{routers_only, with_links, laid_out}
-use Rattle.lab_text.specs.KeysSound.{AreInNet}
+use Rattle.lab_text.specs.KeysRuns.{routers_only, with_links}
+use Rattle.lab_text.specs.KeysInNet.{AreInNet}
 use Rattle.lab_text.proofs.LayLemmas.{laid_out-sound, with_links-routers, laid-as}
 use Rattle.lab_text.proofs.run.lay_out.Goals as goal
 

@@ -1,6 +1,6 @@
 use Rattle.std.proofs.Common.{◌≡◌, drop}
 use Rattle.lab_text.specs.KeysRuns.{play_all}
-use Rattle.lab_text.specs.KeysSound.{IsLaidOut}
+use Rattle.lab_text.specs.KeysInNet.{IsLaidOut}
 use Rattle.lab_text.proofs.run.play_events.Given as goal
 
 abbrev pub invariant-loop-event : goal.invariant-loop-event

@@ -1,0 +1,5 @@
+-- The definitions: the lines of a report of a network of routers.
+pub mod RouterLines
+pub mod LinkLines
+pub mod Reports
+pub mod ReportLeft

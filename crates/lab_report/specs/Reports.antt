@@ -1,0 +1,91 @@
+-- The report of a network of routers (own).
+use Rattle.std.specs.Prelude.{ℕ, ◌+◌, Bool, List, [], ◌∷◌, ◌++◌, length, Option, Some, None, codes, decimal, if◌then◌else◌}
+use Rattle.std.specs.List.{flat_map}
+use Rattle.isis_base.specs.Texts.{hex_pair}
+use Rattle.isis_base.specs.declared.level.Level.{Level}
+use Rattle.isis_base.specs.declared.level.Level.TheVariants as level
+use Rattle.isis_model.specs.Places.{nth}
+use Rattle.isis_model.specs.Routers.{Router}
+use Rattle.network_model.specs.Networks.{numbered}
+use Rattle.network_lab.specs.declared.sent.SentDatagram.{SentDatagram}
+use Rattle.network_lab.specs.LabNets.{Seen}
+use Rattle.network_lab.specs.LinkStates.{runs_of, groups_at}
+use Rattle.lab_report.specs.RouterLines.{router_lines}
+use Rattle.lab_report.specs.LinkLines.{link_lines, agree_line}
+
+abbrev pub head_line : List ℕ
+head_line = codes "isis-report 1\n"
+
+-- ---- routers and links
+
+abbrev pub router_block : List ℕ → Option Router → List ℕ
+router_block name None = []
+router_block name (Some r) = router_lines name r
+
+-- the blocks of the routers from this number on, whose names these are
+abbrev pub router_blocks : Seen → ℕ → List (List ℕ) → List ℕ
+router_blocks s router [] = []
+router_blocks s router (name ∷ names) =
+    router_block name (nth s.routers router) ++ router_blocks s (router + 1) names
+
+-- the lines of the links from this number on, whose names these are
+abbrev pub link_blocks : Seen → ℕ → List (List ℕ) → List ℕ
+link_blocks s link [] = []
+link_blocks s link (name ∷ names) =
+    link_lines name s (nth s.links link) ++ link_blocks s (link + 1) names
+
+-- ---- the network
+
+-- how many routers run a level
+abbrev pub count_on : List Bool → ℕ
+count_on [] = 0
+count_on (on ∷ runs) = (if on then 1 else 0) + count_on runs
+
+-- which routers run a level, and in how many groups they agree
+abbrev pub agree_lines : Seen → Level → List ℕ
+agree_lines s level =
+    agree_line level (count_on (runs_of s.routers level)) (length (groups_at s level))
+
+-- how many datagrams were injected, and how many were sent
+unfoldable pub total_lines : Seen → List ℕ
+total_lines s =
+    codes "injected " ++ decimal s.injected ++ codes "\ndatagrams " ++ decimal (length s.sent)
+    ++ codes "\n"
+
+abbrev pub net_lines : Seen → List ℕ
+net_lines s = agree_lines s level.One ++ (agree_lines s level.Two ++ total_lines s)
+
+-- ---- datagrams that are told
+
+abbrev pub or_nothing : Option (List ℕ) → List ℕ
+or_nothing None = []
+or_nothing (Some name) = name
+
+unfoldable pub name_at : List (List ℕ) → ℕ → List ℕ
+name_at names n = or_nothing (nth names n)
+
+-- `datagram K ROUTER LINK HEX`
+unfoldable pub datagram_line : List (List ℕ) → List (List ℕ) → ℕ → ℕ → ℕ → List ℕ → List ℕ
+datagram_line routers links number sender link octets =
+    codes "datagram " ++ decimal number ++ codes " " ++ name_at routers sender
+    ++ codes " " ++ name_at links link ++ codes " " ++ flat_map hex_pair octets ++ codes "\n"
+
+abbrev pub datagram_at : List (List ℕ) → List (List ℕ) → ℕ → Option SentDatagram → List ℕ
+datagram_at routers links number None = []
+datagram_at routers links number (Some d) =
+    datagram_line routers links number d.sender d.link d.octets
+
+abbrev pub datagram_lines : List (List ℕ) → List (List ℕ) → Seen → List ℕ → List ℕ
+datagram_lines routers links s [] = []
+datagram_lines routers links s (number ∷ numbers) =
+    datagram_at routers links number (numbered s.sent number)
+    ++ datagram_lines routers links s numbers
+
+-- ---- the whole
+
+-- the report of a network whose routers and links have these names, with the datagrams of these
+-- numbers
+abbrev pub report_text : List (List ℕ) → List (List ℕ) → List ℕ → Seen → List ℕ
+report_text routers links dumps s =
+    head_line ++ (router_blocks s 0 routers ++ (link_blocks s 0 links
+    ++ (net_lines s ++ datagram_lines routers links s dumps)))

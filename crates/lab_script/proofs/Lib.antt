@@ -1,0 +1,17 @@
+pub mod CutLemmas
+pub mod FieldLemmas
+pub mod HexLemmas
+pub mod IdLemmas
+pub mod KeyLemmas
+pub mod LabIndexLemmas
+pub mod LabLemmas
+pub mod LinkLemmas
+pub mod NameLemmas
+pub mod ReadLemmas
+pub mod SoundLemmas
+pub mod TextLemmas
+pub mod LineLemmas
+pub mod NameTexts
+pub mod NumberTexts
+pub mod PrintLemmas
+pub mod LabPrintLemmas

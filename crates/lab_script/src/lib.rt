@@ -1,0 +1,56 @@
+//! Scripts of the lab: read line by line.
+//!
+//! Keys scripts are of a plain network that passes numbered copies of LSPs' keys; lab scripts are of whole networks of
+//! routers. The lines and the order of the reasons are this project's own. A line's form is one row of a table, its words
+//! are taken one after another, and a script borrows the text that it was read from. Names, system IDs and a router's
+//! circuits are found by look-ups, so a line costs what it says, not what came before. Lines of LANs, and of routers that
+//! leak, are refused as not built.
+//!
+//! - `cuts.rt`: a text up to a mark, and what stands behind it; `words.rt`: the words of a line
+//! - `name.rt`, `hexes.rt`: names, and octets in hex; `fields.rt`, `lab_fields.rt`: what a word says
+//! - `line.rt`, `forms.rt`: a line of a keys script, and the line of some words; `named.rt`, `lab_forms.rt`: those of lab
+//!   scripts
+//! - `names.rt`, `links.rt`: names and links so far, and their look-ups; `events.rt`: what waits to be played
+//! - `routers.rt`, `lab_links.rt`, `circuit.rt`: a lab script's routers, links and circuits so far, and their look-ups
+//! - `setup.rt`, `deeds.rt`: what the lines of a lab script say
+//! - `reason.rt`: why a line is refused, and why a script can't be read
+//! - `keys_script.rt`, `lab_script.rt`: a script of each kind, line by line; `script.rt`: a script, read from a text
+//! - `laws.rt`: what holds of all lines: functions without a body, whose contracts are the laws
+#![tactic(auto)]
+
+mod circuit;
+mod cuts;
+mod deeds;
+mod events;
+mod fields;
+mod forms;
+mod hexes;
+mod keys_script;
+mod lab_fields;
+mod lab_forms;
+mod lab_links;
+mod lab_script;
+pub mod laws;
+mod line;
+mod links;
+mod name;
+mod named;
+mod names;
+mod reason;
+mod routers;
+mod script;
+mod setup;
+#[cfg(test)]
+mod tests;
+mod words;
+
+pub use cuts::cut;
+pub use deeds::{LabDeed, LabLine};
+pub use events::{EventLine, KeyEvent};
+pub use hexes::Hex;
+pub use keys_script::KeysScript;
+pub use lab_script::LabScript;
+pub use name::Name;
+pub use reason::{Reason, ScriptFault};
+pub use script::{Script, read_script};
+pub use setup::{CIRCUIT_LIMIT, End, KeyScope, LabKey, LabLink, LabRouter};

@@ -1,0 +1,82 @@
+//! A line of a lab script, whose routers and links are named.
+use crate::hexes::Hex;
+use crate::name::Name;
+use crate::setup::LabRouter;
+use isis_base::Prefix;
+use network_model::PduWord;
+
+/// What a key is for, with the circuit by its link's name.
+#[derive(Drop)]
+pub(crate) enum NamedScope<'a> {
+    Area,
+    Domain,
+    Link { link: Name<'a> },
+}
+
+/// What an event line says.
+#[derive(Drop)]
+pub(crate) enum NamedDeed<'a> {
+    Tick {
+        router: Name<'a>,
+    },
+    Pull {
+        router: Name<'a>,
+        link: Name<'a>,
+    },
+    Deliver {
+        datagram: usize,
+        router: Name<'a>,
+    },
+    Restart {
+        router: Name<'a>,
+    },
+    Prefix {
+        router: Name<'a>,
+        prefix: Prefix,
+        metric: Option<u32>,
+    },
+    Metric {
+        router: Name<'a>,
+        link: Name<'a>,
+        metric: u32,
+    },
+    Overload {
+        router: Name<'a>,
+        on: bool,
+    },
+    Inject {
+        router: Name<'a>,
+        link: Name<'a>,
+        octets: Hex<'a>,
+    },
+    Dump {
+        datagram: usize,
+    },
+    Run {
+        seconds: u32,
+        without: Option<PduWord>,
+        except: Option<Name<'a>>,
+    },
+}
+
+/// A line of a lab script: one of three kinds of setup lines, or an event.
+#[derive(Drop)]
+pub(crate) enum NamedLine<'a> {
+    Router {
+        router: LabRouter<'a>,
+    },
+    Link {
+        name: Name<'a>,
+        first: Name<'a>,
+        second: Name<'a>,
+        metric: u32,
+    },
+    Key {
+        router: Name<'a>,
+        scope: NamedScope<'a>,
+        key: Hex<'a>,
+    },
+    Event {
+        deed: NamedDeed<'a>,
+    },
+}

@@ -1,0 +1,52 @@
+//! What the setup lines of a lab script say: its routers, its links and the keys that they are given.
+use crate::hexes::Hex;
+use crate::name::Name;
+use isis_base::{AreaAddress, LevelSet, SystemId};
+
+/// How many circuits a router may have.
+pub const CIRCUIT_LIMIT: usize = 64;
+
+/// A router of a lab script.
+#[derive(Drop)]
+pub struct LabRouter<'a> {
+    pub name: Name<'a>,
+    pub system: SystemId,
+    pub area: AreaAddress,
+    pub levels: LevelSet,
+    /// The priority of its LAN circuits, up to 127.
+    pub priority: u8,
+}
+
+/// An end of a link: a circuit of a router. Routers are numbered from 0, and so are a router's circuits, in the order in
+/// which lines name them.
+#[derive(Clone, Copy, Debug, PartialEq, Eq)]
+pub struct End {
+    pub router: usize,
+    pub place: usize,
+}
+
+/// A point-to-point link of a lab script.
+#[derive(Drop)]
+pub struct LabLink<'a> {
+    pub name: Name<'a>,
+    pub first: End,
+    pub second: End,
+    pub metric: u32,
+}
+
+/// Which PDUs of a router a key signs: level 1 LSPs and SNPs, those of level 2, or the hellos of one of its circuits.
+#[derive(Clone, Copy, Debug, PartialEq, Eq)]
+pub enum KeyScope {
+    Area,
+    Domain,
+    Circuit { place: usize },
+}
+
+/// A key that a router is given. Where two lines give one for the same, the later one counts.
+#[derive(Drop)]
+pub struct LabKey<'a> {
+    pub router: usize,
+    pub scope: KeyScope,
+    /// 1 to 128 octets.
+    pub key: Hex<'a>,
+}

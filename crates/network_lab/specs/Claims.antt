@@ -1,0 +1,43 @@
+-- What is claimed of the links of a network (ISO 10589 7.3.17, RFC 5303 3.2; the words: own).
+use Rattle.std.specs.Prelude.{◌≡◌, ◌≢◌, ℕ, ◌<◌, true, List, [], ◌∷◌, length, Some}
+use Rattle.std.specs.List.{AllByRecursion}
+use Rattle.isis_base.specs.declared.level.Level.{Level}
+use Rattle.isis_model.specs.Places.{nth}
+use Rattle.isis_model.specs.Routers.{Router}
+use Rattle.isis_model.specs.AdjacencyLaws.{is_point}
+use Rattle.network_model.specs.declared.end.End.{End}
+use Rattle.network_model.specs.Ports.{Port}
+use Rattle.network_model.specs.Links.{IsUp}
+use Rattle.network_model.specs.Kept.{IsClaimedOf}
+use Rattle.network_lab.specs.LabNets.{Seen}
+
+-- a point-to-point link of two routers that is up at a level (own)
+pub record IsUpLink (s : Seen) (link : ℕ) (e f : Port) (a b : Router) (level : Level) : Type 0 where
+  pub ends : nth s.links link ≡ Some (record { router = e.router; place = e.place }
+      ∷ record { router = f.router; place = f.place } ∷ [])
+  pub apart : e.router ≢ f.router
+  pub near : nth s.routers e.router ≡ Some a
+  pub far : nth s.routers f.router ≡ Some b
+  pub near_system : e.system ≡ a.config.system
+  pub far_system : f.system ≡ b.config.system
+  pub near_point : is_point (nth a.circuits e.place) ≡ true
+  pub far_point : is_point (nth b.circuits f.place) ≡ true
+  pub up : IsUp e a f b level
+
+-- where nothing was injected, each end of every link that is up names the other, and what one end
+-- holds the other holds as new or newer, or its SRM flag stands; so no end is ahead in more LSP IDs
+-- than its flags (own)
+abbrev pub IsClaimed : Seen → Type 0
+IsClaimed s = s.injected ≡ 0 → (link : ℕ) (e f : Port) (a b : Router) (level : Level)
+    → IsUpLink s link e f a b level → IsClaimedOf e f a b level
+
+-- an end of a link is there: its router, and the router's circuit (own)
+pub record IsEndIn (routers : List Router) (e : End) : Type 0 where
+  pub r : Router
+  pub at : nth routers e.router ≡ Some r
+  pub there : e.place < length r.circuits
+
+-- each end of each link is there (own)
+abbrev pub AreEnds : Seen → Type 0
+AreEnds s = (link : ℕ) (ends : List End) → nth s.links link ≡ Some ends
+    → AllByRecursion (IsEndIn s.routers) ends

@@ -1,0 +1,47 @@
+-- When each fault of a network of routers comes (own).
+use Rattle.std.specs.Prelude.{◌≡◌, ℕ, ◌≤◌, ◌<◌, ◌⊎◌, length, Option, Some, None, IfSome}
+use Rattle.isis_model.specs.Places.{nth}
+use Rattle.router_core.specs.Givens.{given}
+use Rattle.network_model.specs.declared.word.PduWord.{PduWord}
+use Rattle.network_model.specs.Networks.{Network}
+use Rattle.network_model.specs.RunLines.{run_line}
+use Rattle.network_lab.specs.declared.faults.LabFault.{LabFault}
+use Rattle.network_lab.specs.declared.faults.LabFault.TheVariants as fault
+use Rattle.network_lab.specs.declared.faults.LimitName.TheVariants as limit
+use Rattle.network_lab.specs.LabNets.{LabNet, next_place}
+
+-- when a router isn't added
+abbrev pub RouterCause : LabNet → LabFault → Type 0
+RouterCause a (fault.Limit limit.Routers) = 1024 ≤ length a.configs
+RouterCause a fault.OutOfMemory = Unit {0}
+RouterCause a fault = ⊥
+
+-- when a link isn't added: the links are looked at before the circuits
+abbrev pub LinkCause : LabNet → ℕ → ℕ → LabFault → Type 0
+LinkCause a i j (fault.Limit limit.Links) = 4096 ≤ length a.seen.links
+LinkCause a i j (fault.Limit limit.Circuits) =
+    (length a.seen.links < 4096) × ((64 ≤ next_place a i) ⊎ (64 ≤ next_place a j))
+LinkCause a i j fault.OutOfMemory = Unit {0}
+LinkCause a i j fault = ⊥
+
+-- a router has the circuit of this number, counted from 1
+abbrev pub HasCircuit : LabNet → ℕ → ℕ → Type 0
+HasCircuit a router circuit =
+    (router < length a.configs)
+    × IfSome (nth a.configs router)
+    (λ config. (1 ≤ circuit) × (circuit ≤ length config.circuits))
+
+-- a fault after which the run stands still
+abbrev pub IsStop : LabFault → Type 0
+IsStop (fault.Limit limit.Datagrams) = Unit {0}
+IsStop fault.OutOfMemory = Unit {0}
+IsStop fault = ⊥
+
+-- why a line `run` isn't carried out: the run was stopped before; it sends more than 262,144
+-- datagrams in all; or memory was wanting
+abbrev pub RunCause : Network → Option LabFault → Option PduWord → Option ℕ → ℕ → LabFault → Type 0
+RunCause net (Some stop) without except seconds fault = fault ≡ stop
+RunCause net None without except seconds fault.OutOfMemory = Unit {0}
+RunCause net None without except seconds (fault.Limit limit.Datagrams) =
+    262144 < length (run_line given without except seconds net).datagrams
+RunCause net None without except seconds fault = ⊥

@@ -1,0 +1,137 @@
+-- What a network of routers is seen as: what it was set up with, and where its run stands (own).
+use Rattle.std.specs.Prelude.{◌≡◌, ℕ, ◌+◌, ◌-◌, Bool, false, List, [], ◌∷◌, ◌++◌, map, length, Option, Some, None}
+use Rattle.isis_base.specs.declared.level.CircuitKind.TheVariants.{PointToPoint}
+use Rattle.isis_model.specs.Places.{nth, with_nth}
+use Rattle.isis_model.specs.Routers.{Router}
+use Rattle.isis_model.specs.Starts.{start}
+use Rattle.router_desk.specs.declared.circuit_config.CircuitConfig.{CircuitConfig}
+use Rattle.router_desk.specs.declared.config.Config.{Config}
+use Rattle.router_desk.specs.Configs.{config_of, circuits_of}
+use Rattle.network_model.specs.declared.end.End.{End}
+use Rattle.network_model.specs.Networks.{Datagram, octets_of, Network}
+use Rattle.network_lab.specs.declared.faults.LabFault.{LabFault}
+use Rattle.network_lab.specs.declared.sent.SentDatagram.{SentDatagram}
+
+-- What is seen of a network: the routers, the links and LANs by their ends, the datagrams that were
+-- sent, in order, and how many were injected (own).
+pub record Seen : Type 0 where
+  pub routers : List Router
+  pub links : List (List End)
+  pub sent : List SentDatagram
+  pub injected : ℕ
+
+-- A network in its run: the configurations that it was set up with, what is seen of it, whether an
+-- event was applied, and the fault that stopped it, if any (own).
+pub record LabNet : Type 0 where
+  pub configs : List Config
+  pub seen : Seen
+  pub begun : Bool
+  pub stopped : Option LabFault
+
+-- ---- networks that it stands for
+
+-- a datagram as it was sent: its sender, the sender's boot, its link and its octets (own)
+abbrev pub sent_of : Datagram → SentDatagram
+sent_of d = record { sender = d.sender; boot = d.boot; link = d.link; octets = octets_of d }
+
+-- what is seen of a network of the model (own)
+abbrev pub seen_of : Network → Seen
+seen_of net = record {
+  routers = net.routers;
+  links = net.links;
+  sent = map sent_of net.datagrams;
+  injected = net.injected;
+}
+
+-- it stands for each network that is seen so (own)
+pub record StandsFor (net : Network) (a : LabNet) : Type 0 where
+  pub seen : seen_of net ≡ a.seen
+
+-- ---- how it is set up
+
+abbrev pub nothing_seen : Seen
+nothing_seen = record { routers = []; links = []; sent = []; injected = 0 }
+
+-- no router and no link (own)
+abbrev pub empty_lab : LabNet
+empty_lab = record { configs = []; seen = nothing_seen; begun = false; stopped = None }
+
+-- the router of a configuration at its start, in boot 1 (own)
+abbrev pub router_of : Config → Router
+router_of config = start (config_of config) 1 (circuits_of config)
+
+-- own
+abbrev pub with_router : LabNet → Config → LabNet
+with_router a config = record a {
+  configs = a.configs ++ config ∷ [];
+  seen = record a.seen { routers = a.seen.routers ++ router_of config ∷ [] };
+}
+
+-- another configuration of a router (own)
+abbrev pub with_config : LabNet → ℕ → Config → LabNet
+with_config a i config = record a {
+  configs = with_nth a.configs i config;
+  seen = record a.seen { routers = with_nth a.seen.routers i (router_of config) };
+}
+
+-- own
+abbrev pub configured : LabNet → ℕ → (Config → Config) → Option Config → LabNet
+configured a i change None = a
+configured a i change (Some config) = with_config a i (change config)
+
+-- a router's configuration changes before the run (own)
+abbrev pub reconfigured : LabNet → ℕ → (Config → Config) → LabNet
+reconfigured a i change = configured a i change (nth a.configs i)
+
+-- a point-to-point circuit of this metric: priority 64, no address, no key (own)
+abbrev pub link_circuit : ℕ → CircuitConfig
+link_circuit metric = record {
+  kind = PointToPoint;
+  metric = metric;
+  priority = 64;
+  address = None;
+  key = None;
+}
+
+-- a circuit more (own)
+abbrev pub with_circuit : CircuitConfig → Config → Config
+with_circuit c config = record config { circuits = config.circuits ++ c ∷ [] }
+
+abbrev pub circuit_count : Option Config → ℕ
+circuit_count None = 0
+circuit_count (Some config) = length config.circuits
+
+-- the place of a router's next circuit (own)
+abbrev pub next_place : LabNet → ℕ → ℕ
+next_place a i = circuit_count (nth a.configs i)
+
+-- a link of two routers, each with its next circuit (own)
+abbrev pub with_link : LabNet → ℕ → ℕ → ℕ → LabNet
+with_link a i j metric =
+    let near : End = record { router = i; place = next_place a i } in
+    let far : End = record { router = j; place = next_place a j } in
+    let change = with_circuit (link_circuit metric) in
+    let b = reconfigured (reconfigured a i change) j change in
+    record b { seen = record b.seen { links = b.seen.links ++ (near ∷ far ∷ []) ∷ [] } }
+
+-- own
+abbrev pub at_circuit : (CircuitConfig → CircuitConfig) → ℕ → List CircuitConfig → Option CircuitConfig
+    → List CircuitConfig
+at_circuit change place circuits None = circuits
+at_circuit change place circuits (Some c) = with_nth circuits place (change c)
+
+-- a change of the circuit of this number, counted from 1 (own)
+abbrev pub with_changed : (CircuitConfig → CircuitConfig) → ℕ → Config → Config
+with_changed change circuit config = record config {
+  circuits = at_circuit change (circuit - 1) config.circuits (nth config.circuits (circuit - 1));
+}
+
+-- the key of a circuit's hellos (RFC 5304 3)
+abbrev pub with_key : LabNet → ℕ → ℕ → List ℕ → LabNet
+with_key a i circuit key =
+    reconfigured a i (with_changed (λ c. record c { key = Some key }) circuit)
+
+-- the priority of a circuit (ISO 10589 8.4.5)
+abbrev pub with_priority : LabNet → ℕ → ℕ → ℕ → LabNet
+with_priority a i circuit priority =
+    reconfigured a i (with_changed (λ c. record c { priority = priority }) circuit)

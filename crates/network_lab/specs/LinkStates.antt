@@ -1,0 +1,53 @@
+-- How the links of a network stand, and which routers agree (own).
+use Rattle.std.specs.Prelude.{ℕ, ◌==◌, Bool, false, ◌&&◌, List, [], ◌∷◌, map, slice_index, Option, Some, None, if◌then◌else◌}
+use Rattle.std.specs.List.{flat_map}
+use Rattle.isis_base.specs.declared.level.Level.{Level}
+use Rattle.isis_model.specs.Both.{at}
+use Rattle.isis_model.specs.Places.{nth}
+use Rattle.isis_model.specs.Routers.{Router}
+use Rattle.network_model.specs.declared.end.End.{End}
+use Rattle.link_states.specs.declared.state.LinkState.{LinkState}
+use Rattle.link_states.specs.LinkStates.{state_of, no_state}
+use Rattle.link_states.specs.Grouped.{groups_of}
+use Rattle.network_lab.specs.LabNets.{Seen}
+
+-- whether a router runs a level
+abbrev pub runs_in : Option Router → Level → Bool
+runs_in None level = false
+runs_in (Some r) level = at r.config.runs level
+
+abbrev pub runs_at : List Router → ℕ → Level → Bool
+runs_at routers router level = runs_in (nth routers router) level
+
+abbrev pub runs_of : List Router → Level → List Bool
+runs_of routers level = map (λ r. at r.config.runs level) routers
+
+-- ---- links
+
+abbrev pub state_between : Option Router → ℕ → Option Router → ℕ → Level → LinkState
+state_between None p b q level = no_state
+state_between (Some a) p None q level = no_state
+state_between (Some a) p (Some b) q level = state_of a p b q level
+
+-- how the two ends of a link stand; a LAN has no such state
+abbrev pub state_at : List Router → List End → Level → LinkState
+state_at routers (e ∷ f ∷ []) level =
+    state_between (nth routers e.router) e.place (nth routers f.router) f.place level
+state_at routers ends level = no_state
+
+-- a link is up, and no SRM flag stands on it
+abbrev pub is_clean : LinkState → Bool
+is_clean state = state.up && slice_index state.flags 0 == 0 && slice_index state.flags 1 == 0
+
+-- the two routers that a link joins at a level
+abbrev pub joined_by : List Router → Level → List End → List (ℕ × ℕ)
+joined_by routers level (e ∷ f ∷ []) =
+    if is_clean (state_at routers (e ∷ f ∷ []) level) then (e.router, f.router) ∷ [] else []
+joined_by routers level ends = []
+
+abbrev pub pairs_of : Seen → Level → List (ℕ × ℕ)
+pairs_of s level = flat_map (joined_by s.routers level) s.links
+
+-- the groups of the routers that run a level, which its clean links join
+abbrev pub groups_at : Seen → Level → List (List ℕ)
+groups_at s level = groups_of (runs_of s.routers level) (pairs_of s level)
