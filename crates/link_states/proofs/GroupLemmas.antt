@@ -1,10 +1,9 @@
 -- Groups by labels are the groups that chains of pairs connect.
-use Rattle.std.proofs.Common.{◌≡◌, ℕ, zero, suc, ◌+◌, ◌<◌, ◌≤◌, ⊎_elim, inl, inr, Bool, true, List, [], ◌∷◌, ◌++◌, length, map, slice_get, slice_index, refl, sym, ap, ◌∙◌, subst, arith, zero-le}
-use Rattle.std.proofs.lemmas.Bool.{cases_eq}
+use Rattle.std.proofs.Common.{◌≡◌, ℕ, ◌+◌, ◌≤◌, ⊎_elim, inl, inr, Bool, true, List, [], ◌∷◌, length, map, slice_index, refl, sym, ap, ◌∙◌, subst, arith}
 use Rattle.link_states.specs.Joined.{In, TakesPart, Leads, Rises, AreOrdered, AreGroups}
 use Rattle.link_states.specs.Parents.{AreLabels}
 use Rattle.link_states.specs.Tags.{is_on, has_label, labelled, firsts, labelled_groups, AreTags}
-use Rattle.link_states.proofs.LabelLemmas.{in-left, in-right, part-from, part-within, leads-on, leads-back, leads-part, leads-same}
+use Rattle.link_states.proofs.LabelLemmas.{part-from, part-within, leads-on, leads-back, leads-part, leads-same}
 use Rattle.link_states.proofs.TagLemmas.{rises-in, label-on, label-is, label-from, in-labelled, labelled-in, rises-labelled, in-firsts, firsts-in, rises-firsts}
 
 -- ---- labels
@@ -80,14 +79,19 @@ groups-are runs ps labels l = record {
   where
     of-label : ℕ → List ℕ
     of-label = λ (x : ℕ). labelled runs labels x (length runs)
+
     found : (group : List ℕ) (x r : ℕ) → group ≡ of-label x → In r group → has_label runs labels x r ≡ true
     found group x r e j = (in-labelled runs labels x (length runs) r (subst (λ (g : List ℕ). In r g) e j)).1
+
     part : (group : List ℕ) (r : ℕ) → IsOf of-label (firsts runs labels (length runs)) group → In r group → TakesPart runs r
     part group r (Of x i e) j = part-from runs r (label-on runs labels x r (found group x r e j))
+
     to-label : (group : List ℕ) (x r : ℕ) → group ≡ of-label x → In r group → Leads runs ps r x
     to-label group x r e j = subst (λ (y : ℕ). Leads runs ps r y) (label-is runs labels x r (found group x r e j)) (l.leads r (part-within runs r (part-from runs r (label-on runs labels x r (found group x r e j)))))
+
     across : (group : List ℕ) (a b : ℕ) → IsOf of-label (firsts runs labels (length runs)) group → In a group → In b group → Leads runs ps a b
     across group a b (Of x i e) j k = leads-on runs ps a x b (to-label group x a e j) (leads-back runs ps b x (to-label group x b e k))
+
     stays : (group : List ℕ) (a b : ℕ) → IsOf of-label (firsts runs labels (length runs)) group → In a group → Leads runs ps a b → In b group
     stays group a b (Of x i e) j h =
         let in-a = part-from runs a (label-on runs labels x a (found group x a e j)) in

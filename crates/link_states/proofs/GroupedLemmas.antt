@@ -1,6 +1,5 @@
 -- Labels are one list alone, so groups are a function of the pairs.
 use Rattle.std.proofs.Common.{◌≡◌, ℕ, zero, suc, ◌+◌, ◌<◌, ◌≤◌, Bool, true, false, ◌&&◌, List, [], ◌∷◌, ◌++◌, length, slice_get, slice_index, if◌then◌else◌, refl, sym, ap, ◌∙◌, subst, arith, append_assoc, append-nil}
-use Rattle.link_states.specs.Joined.{TakesPart}
 use Rattle.link_states.specs.Parents.{AreOwn, AreLabels, merged}
 use Rattle.link_states.specs.Tags.{is_on, labelled_groups}
 use Rattle.link_states.specs.Grouped.{with_pair, with_pairs, numbers_from, groups_of}

@@ -1,5 +1,5 @@
 -- Labels of routers: chains, and one pair more.
-use Rattle.std.proofs.Common.{◌≡◌, ℕ, ◌+◌, ◌<◌, ◌≤◌, ◌⊎◌, ⊎_elim, inl, inr, Bool, true, false, List, [], ◌∷◌, ◌++◌, length, get_or, map, max, min, slice_get, slice_index, Option, Some, None, refl, sym, ap, ◌∙◌, subst, arith}
+use Rattle.std.proofs.Common.{◌≡◌, ℕ, ◌<◌, ◌≤◌, ◌⊎◌, ⊎_elim, inl, inr, Bool, true, false, List, [], ◌∷◌, ◌++◌, length, max, min, slice_get, slice_index, Option, Some, None, refl, sym, ap, ◌∙◌, subst, arith}
 use Rattle.std.proofs.lemmas.Bool.{cases_eq, cases_lt, false≢true}
 use Rattle.std.proofs.lemmas.Bool.Decides.{nat_tests}
 use Rattle.std.proofs.lemmas.Option.{slice_get_within}
@@ -7,7 +7,7 @@ use Rattle.std.proofs.lemmas.List.{length-map, get_or-map}
 use Rattle.link_states.specs.Joined.{In, TakesPart, AreJoined, IsChain, Leads}
 use Rattle.link_states.specs.Parents.{AreOwn, HaveRoots, AreLabels, AreRooted, replaced, merged}
 use Rattle.link_states.specs.Tags.{is_on}
-use Rattle.link_states.proofs.ParentLemmas.{replaced-old, replaced-new, replaced-other}
+use Rattle.link_states.proofs.ParentLemmas.{replaced-old, replaced-other}
 
 -- ---- lists
 
@@ -110,8 +110,10 @@ leads-replaced runs ps a b r x ab rx =
   where
     first : (hi lo : ℕ) → hi ≡ a → lo ≡ b → Leads runs ps hi lo
     first hi lo e f = subst (λ (z : ℕ). Leads runs ps z lo) (sym e) (subst (λ (z : ℕ). Leads runs ps a z) (sym f) ab)
+
     second : (hi lo : ℕ) → hi ≡ b → lo ≡ a → Leads runs ps hi lo
     second hi lo e f = subst (λ (z : ℕ). Leads runs ps z lo) (sym e) (subst (λ (z : ℕ). Leads runs ps b z) (sym f) (leads-back runs ps a b ab))
+
     down : Leads runs ps (max a b) (min a b)
     down = ⊎_elim (λ (l : a < b). second (max a b) (min a b) (omega (arith, l)) (omega (arith, l))) (λ (l : b ≤ a). first (max a b) (min a b) (omega (arith, l)) (omega (arith, l))) (cases_lt a b)
 
@@ -126,21 +128,28 @@ labels-merge runs ps p labels l near far = record {
   where
     a : ℕ
     a = slice_index labels p.0
+
     b : ℕ
     b = slice_index labels p.1
+
     new : (r : ℕ) → r < length runs → slice_index (merged labels p.0 p.1) r ≡ replaced (max a b) (min a b) (slice_index labels r)
     new r h = get_or-map (replaced (max a b) (min a b)) labels r 0 0 (subst (λ (n : ℕ). r < n) (sym l.size) h)
+
     joined : AreJoined runs (ps ++ p ∷ []) p.0 p.1
     joined = record { near = near; far = far; pair = inl (in-right (p.0, p.1) ps (p ∷ []) (inl refl)) }
+
     across : Leads runs (ps ++ p ∷ []) a b
     across =
         leads-on runs (ps ++ p ∷ []) a p.0 b
         (leads-back runs (ps ++ p ∷ []) p.0 a (leads-more runs ps p p.0 a (l.leads p.0 (part-within runs p.0 near))))
         (leads-on runs (ps ++ p ∷ []) p.0 p.1 b (leads-one runs (ps ++ p ∷ []) p.0 p.1 joined) (leads-more runs ps p p.1 b (l.leads p.1 (part-within runs p.1 far))))
+
     ends : (x y : ℕ) → (x, y) ≡ p → replaced (max a b) (min a b) (slice_index labels x) ≡ replaced (max a b) (min a b) (slice_index labels y)
     ends x y e = ap (λ (q : ℕ × ℕ). replaced (max a b) (min a b) (slice_index labels q.0)) e ∙ (replaced-first a b ∙ sym (ap (λ (q : ℕ × ℕ). replaced (max a b) (min a b) (slice_index labels q.1)) e ∙ replaced-second a b))
+
     kept : (x y : ℕ) → AreJoined runs ps x y → replaced (max a b) (min a b) (slice_index labels x) ≡ replaced (max a b) (min a b) (slice_index labels y)
     kept x y j = ap (replaced (max a b) (min a b)) (l.same x y j)
+
     one : (x y : ℕ) → AreJoined runs (ps ++ p ∷ []) x y → replaced (max a b) (min a b) (slice_index labels x) ≡ replaced (max a b) (min a b) (slice_index labels y)
     one x y j =
         ⊎_elim

@@ -1,5 +1,5 @@
 -- Forests where one router gets another parent.
-use Rattle.std.proofs.Common.{◌≡◌, ℕ, ◌+◌, ◌<◌, ◌≤◌, ⊎_elim, List, length, get_or, set, map, max, min, slice_index, refl, sym, ap, ◌∙◌, subst, arith}
+use Rattle.std.proofs.Common.{◌≡◌, ℕ, ◌<◌, ◌≤◌, ⊎_elim, List, get_or, set, map, max, min, slice_index, sym, ap, ◌∙◌, subst, arith}
 use Rattle.std.proofs.lemmas.Bool.{cases_eq}
 use Rattle.std.proofs.lemmas.Bool.Decides.{nat_tests}
 use Rattle.std.proofs.lemmas.List.{length-set, length-map, get_or-set_same, get_or-set_other, get_or-map}
@@ -59,8 +59,10 @@ roots-merge parents roots n lo hi p h within-lo within own-lo own-hi = record {
   where
     at-hi : get_or (set parents hi lo) hi 0 ≡ lo
     at-hi = get_or-set_same parents hi lo 0 (subst (λ (k : ℕ). hi < k) (sym p.size) within)
+
     new : (r : ℕ) → r < n → get_or (map (replaced hi lo) roots) r 0 ≡ replaced hi lo (get_or roots r 0)
     new r less = get_or-map (replaced hi lo) roots r 0 0 (subst (λ (k : ℕ). r < k) (sym h.size) less)
+
     below : (r : ℕ) → r < n → get_or parents r 0 < n
     below r less = omega (arith, p.below r less, less)
 
@@ -73,6 +75,7 @@ merge-first parents roots n x y a b p h within-x within-y is-a is-b own-x own-y 
   where
     the-max : x ≡ a → y ≡ b → y ≡ max a b
     the-max e f = omega (arith, e, f, le)
+
     the-min : x ≡ a → y ≡ b → x ≡ min a b
     the-min e f = omega (arith, e, f, le)
 
@@ -84,5 +87,6 @@ merge-second parents roots n x y a b p h within-x within-y is-a is-b own-x own-y
   where
     the-max : x ≡ a → y ≡ b → x ≡ max a b
     the-max e f = omega (arith, e, f, le)
+
     the-min : x ≡ a → y ≡ b → y ≡ min a b
     the-min e f = omega (arith, e, f, le)

@@ -1,5 +1,5 @@
 -- The state of a link, from what is counted at its ends.
-use Rattle.std.proofs.Common.{◌≡◌, ℕ, ◌&&◌, Bool, true, false, [], ◌∷◌, if◌then◌else◌, refl, sym, ap, ap₂, ◌∙◌}
+use Rattle.std.proofs.Common.{◌≡◌, ℕ, ◌&&◌, Bool, true, false, [], ◌∷◌, if◌then◌else◌, sym, ap, ap₂, ◌∙◌}
 use Rattle.isis_base.specs.declared.level.Level.{Level}
 use Rattle.isis_model.specs.Both.{at}
 use Rattle.isis_model.specs.Places.{nth}

@@ -1,11 +1,11 @@
 -- Routers by their labels, one router more.
-use Rattle.std.proofs.Common.{◌≡◌, ℕ, zero, suc, ◌+◌, ◌<◌, ◌≤◌, ◌==◌, ◌&&◌, ◌⊎◌, ⊎_elim, inl, inr, Bool, true, false, List, [], ◌∷◌, ◌++◌, length, get_or, map, set, slice_get, slice_index, slice_index_or, Option, Some, None, if◌then◌else◌, refl, sym, ap, ap₂, ◌∙◌, subst, arith, add-one, append-nil, zero-le}
-use Rattle.std.proofs.lemmas.Bool.{cases_eq, cases_lt, cases_Bool, false≢true}
+use Rattle.std.proofs.Common.{◌≡◌, ℕ, zero, suc, ◌+◌, ◌<◌, ◌≤◌, ◌==◌, ◌&&◌, ◌⊎◌, ⊎_elim, inl, inr, Bool, true, false, List, [], ◌∷◌, ◌++◌, length, map, set, slice_get, slice_index, Some, if◌then◌else◌, refl, sym, ap, ap₂, ◌∙◌, subst, arith, add-one, append-nil, zero-le}
+use Rattle.std.proofs.lemmas.Bool.{cases_eq, false≢true}
 use Rattle.std.proofs.lemmas.Bool.Decides.{nat_tests}
 use Rattle.std.proofs.lemmas.List.{length-map, length-set, get_or-set_same, get_or-set_other}
 use Rattle.std.proofs.lemmas.Option.{none-some, same_Some, slice_get_within}
 use Rattle.link_states.specs.Joined.{In, Rises}
-use Rattle.link_states.specs.Tags.{is_on, has_label, labelled, firsts, labelled_groups, with_router, AreTags, AreGrouped}
+use Rattle.link_states.specs.Tags.{is_on, has_label, labelled, firsts, with_router, AreTags, AreGrouped}
 use Rattle.link_states.proofs.LabelLemmas.{in-left, in-right, in-last}
 
 -- ---- lists
@@ -199,16 +199,22 @@ grouped-new runs labels r groups places tags within g on is = record {
   where
     now : ℕ → List ℕ
     now = λ (l : ℕ). labelled runs labels l (suc r)
+
     own : has_label runs labels r r ≡ true
     own = label-from runs labels r r on is
+
     grown : firsts runs labels (suc r) ≡ firsts runs labels r ++ r ∷ []
     grown = more-one (has_label runs labels r r) (firsts runs labels r) r own
+
     count : length groups ≡ length (firsts runs labels r)
     count = ap length g.groups_are ∙ length-map (firsts runs labels r) (λ (l : ℕ). labelled runs labels l r)
+
     old-ones : groups ≡ map now (firsts runs labels r)
     old-ones = g.groups_are ∙ sym (map-none (λ (l : ℕ). labelled runs labels l r) (λ (l : ℕ). has_label runs labels l r) r (firsts runs labels r) (λ x i. label-not runs labels x r (λ e. let h = in-firsts runs labels r x i in omega (arith, h.0, e, is))))
+
     nobody : labelled runs labels r r ≡ []
     nobody = no-item (labelled runs labels r r) (λ x i. let h = in-labelled runs labels r r x i in omega (arith, h.0, label-is runs labels r x h.1, tags.below x (omega (arith, h.0, within))))
+
     new-one : r ∷ [] ≡ now r
     new-one = sym (more-one (has_label runs labels r r) (labelled runs labels r r) r own ∙ ap (λ (xs : List ℕ). xs ++ r ∷ []) nobody)
 

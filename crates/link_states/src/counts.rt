@@ -3,7 +3,7 @@ ghost use Rattle.std.specs.Prelude.{◌≡◌, ◌<◌, ◌≤◌, ℕ, List, �
 ghost use Rattle.isis_base.specs.Identifiers.{lsp_number};
 ghost use Rattle.isis_base.specs.Keys.{rank};
 ghost use Rattle.isis_model.specs.Sets.{has};
-ghost use Rattle.isis_model.specs.LetGos.{lets_go};
+ghost use Rattle.isis_model.specs.LetGos.{contains, lets_go};
 ghost use Rattle.isis_model.specs.Books.{rank_at};
 ghost use Rattle.flag_sync.specs.BookStates.{book_of};
 ghost use Rattle.flag_sync.specs.Walks.{numbers_of};
@@ -46,8 +46,8 @@ pub(crate) fn count_end(
     EndCounts { flags, ahead }
 }
 
-/// How many LSP IDs were let go by either end, where neither let all go, and else how many have an
-/// entry at either end.
+/// How many LSP IDs were let go by either end, where neither let all go, and else of how many either
+/// end holds a key.
 pub(crate) fn excepted(gone: &LetGo, other_gone: &LetGo, own: &Book, other: &Book) -> usize
     ensures { result ≡ excepted_of gone.now other_gone.now (book_of own.now) (book_of other.now) }
 {
@@ -89,22 +89,20 @@ fn one_if(passes: bool) -> usize
     if passes { 1 } else { 0 }
 }
 
-/// How many LSP IDs have an entry.
-#[tactic(auto, using(crate::proofs::CellLemmas::ids_count))]
+/// Of how many LSP IDs a book holds a key.
 fn held_count(book: &Book) -> usize
     ensures count { result ≡ length (ids_of (book_of book.now).cells) }
     ensures few { result ≤ 65536 }
 {
     let mut count = 0usize;
     let mut cells = Cells::new(book);
-    while let Some(_) = cells.next() {
-        count += 1;
+    while let Some((_, entry, _)) = cells.next() {
+        count += one_if(has_key(entry.key));
     }
     count
 }
 
-/// How many LSP IDs have an entry in the other book alone.
-#[tactic(auto, using(crate::proofs::CellLemmas::held_is))]
+/// Of how many LSP IDs the other book alone holds a key.
 fn held_beyond(own: &Book, other: &Book) -> usize
     ensures count { result ≡ count_beyond (ids_of (book_of own.now).cells)
         (ids_of (book_of other.now).cells) }
@@ -112,10 +110,25 @@ fn held_beyond(own: &Book, other: &Book) -> usize
 {
     let mut count = 0usize;
     let mut cells = Cells::new(other);
-    while let Some((id, _, _)) = cells.next() {
-        count += one_if(!own.is_held(id));
+    while let Some((id, entry, _)) = cells.next() {
+        count += one_if(has_key(entry.key) && !holds(own, id));
     }
     count
+}
+
+/// Whether a book holds a key of an LSP ID.
+fn holds(book: &Book, id: LspId) -> bool
+    ensures { result ≡ contains (ids_of (book_of book.now).cells) (lsp_number id) }
+{
+    book.order_law();
+    has_key(book.key(id))
+}
+
+/// Whether there is a key.
+fn has_key(key: Option<Key>) -> bool
+    ensures { result ≡ nat_lt 0 (rank key) }
+{
+    key.is_some()
 }
 
 /// How many of these were let go by the other end alone.

@@ -131,4 +131,3 @@ impl Groups {
         Ok(copies)
     }
 }
-

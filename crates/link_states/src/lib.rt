@@ -12,6 +12,8 @@ mod groups;
 mod joined;
 mod parents;
 mod state;
+#[cfg(test)]
+mod tests;
 
 pub use groups::Groups;
 pub use joined::joined_groups;

@@ -1,12 +1,13 @@
 use Rattle.std.proofs.Common.{◌≡◌, ◌+◌, ◌≤◌, length}
 use Rattle.flag_sync.specs.BookStates.{book_of}
+use Rattle.link_states.specs.Excepted.{ids_of}
 use Rattle.link_states.proofs.counts.held_count.Given as goal
 
-abbrev pub invariant-loop-count : goal.invariant-loop-count
-invariant-loop-count l = record {
-  count : l.count + length l.cells ≡ length (book_of l.book).cells;
+abbrev pub invariant-loop-entry : goal.invariant-loop-entry
+invariant-loop-entry l = record {
+  count : l.count + length (ids_of l.cells) ≡ length (ids_of (book_of l.book).cells);
   few : l.count + length l.cells ≤ 65536;
 }
 
-abbrev pub decreases-loop-count : goal.decreases-loop-count
-decreases-loop-count l = length l.cells
+abbrev pub decreases-loop-entry : goal.decreases-loop-entry
+decreases-loop-entry l = length l.cells

@@ -1,4 +1,4 @@
-use Rattle.std.proofs.Common.{◌≡◌, ◌≤◌, ◌∙◌, rules}
+use Rattle.std.proofs.Common.{◌∙◌, rules}
 use Rattle.link_states.proofs.CellLemmas.{gone_is, beyond_first}
 use Rattle.link_states.proofs.counts.listed_beyond.Goals as goal
 

@@ -1,4 +1,4 @@
-use Rattle.std.proofs.Common.{◌≡◌, ◌≤◌, ℕ, List, length, slice_index, sym, subst, arith}
+use Rattle.std.proofs.Common.{◌≡◌, ℕ, length, sym, subst, arith}
 use Rattle.link_states.specs.Parents.{AreParents, HaveRoots}
 use Rattle.link_states.proofs.ParentLemmas.{merge-first, merge-second}
 use Rattle.link_states.proofs.parents.merge.Goals as goal

@@ -1,4 +1,4 @@
-use Rattle.std.proofs.Common.{◌≡◌, length, take}
+use Rattle.std.proofs.Common.{length, take}
 use Rattle.link_states.specs.Parents.{AreParents, AreRooted}
 use Rattle.link_states.proofs.parents.merge_pairs.Given as goal
 

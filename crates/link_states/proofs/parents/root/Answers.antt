@@ -1,5 +1,5 @@
-use Rattle.std.proofs.Common.{◌≡◌, ◌<◌, ◌≤◌, ℕ, List, length, get_or, set, sym, ap, ◌∙◌, arith}
-use Rattle.link_states.specs.Parents.{AreParents, HaveRoots}
+use Rattle.std.proofs.Common.{◌≡◌, ◌<◌, ◌≤◌, ℕ, List, length, get_or, ◌∙◌, arith}
+use Rattle.link_states.specs.Parents.{HaveRoots}
 use Rattle.link_states.proofs.ParentLemmas.{parents-set, roots-set}
 use Rattle.link_states.proofs.parents.root.Goals as goal
 

@@ -1,4 +1,4 @@
-use Rattle.std.proofs.Common.{◌≡◌, length, ap, arith}
+use Rattle.std.proofs.Common.{length, ap, arith}
 use Rattle.lsp_store.specs.Databases.{Database}
 use Rattle.link_states.proofs.CellLemmas.{cells_few}
 use Rattle.link_states.proofs.cells.Cells.new.Goals as goal
