@@ -132,12 +132,7 @@ fn add_lsp(
 
 /// A name, a level and an LSP ID.
 #[tactic(auto, unfolding(crate::specs::RouterLines::lsp_words))]
-fn add_lsp_words(
-    page: &mut Octets,
-    name: &str,
-    level: Level,
-    id: LspId,
-) -> Result<(), OutOfMemory>
+fn add_lsp_words(page: &mut Octets, name: &str, level: Level, id: LspId) -> Result<(), OutOfMemory>
     ensures { OnOk result (page.new
         ≡ page.old ++ lines.lsp_words name.now level (lsp_number id)) }
 {

@@ -96,12 +96,7 @@ impl Network {
     }
 
     /// Adds whether a router runs a level.
-    fn add_run(
-        &self,
-        runs: &mut Vec<bool>,
-        router: usize,
-        level: Level,
-    ) -> Result<(), OutOfMemory>
+    fn add_run(&self, runs: &mut Vec<bool>, router: usize, level: Level) -> Result<(), OutOfMemory>
         requires { router < length self.now.seen.routers }
         ensures { OnOk result (runs.new.items
             ++ state.runs_of (drop (router + 1) self.now.seen.routers) level
