@@ -1,5 +1,6 @@
 -- The report of a lab script is that of the network at its end.
-use Rattle.std.proofs.Common.{◌≡◌, ℕ, List, length, Result, Ok, Err, sym, ap, ◌∙◌, length-map}
+use Rattle.std.proofs.Common.{◌≡◌, ℕ, List, length, Result, Ok, Err, sym, ap, ◌∙◌}
+use Rattle.std.proofs.lemmas.List.{length-map}
 use Rattle.std.specs.Borrow.{Bor}
 use Rattle.network_model.specs.Networks.{Network}
 use Rattle.network_lab.specs.LabNets.{Seen, LabNet, seen_of}
