@@ -1,12 +1,12 @@
-mod InLemmas
-mod PortLemmas
+pub mod InLemmas
+pub mod PortLemmas
 mod ReadLemmas
 mod LegibleLemmas
-mod PointReplies
-mod ChangeLemmas
+pub mod PointReplies
+pub mod ChangeLemmas
 mod LinkLemmas
 mod RestartLemmas
-mod NetLemmas
+pub mod NetLemmas
 mod ClaimLemmas
 mod CountLemmas
-mod KeptLemmas
+pub mod KeptLemmas

@@ -115,7 +115,7 @@ legible-out i link t place c [] speaks few n g u d x = absurd x
 legible-out i link t place c (s ∷ out) speaks few n g u d (inl e) = subst IsLegible (sym e) (legible-sent t place c s speaks few n.0 g.0 (λ by on. (u by on).0))
 legible-out i link t place c (s ∷ out) speaks few n g u d (inr x) = legible-out i link t place c out speaks few n.1 g.1 (λ by on. (u by on).1) d x
 
-nth-less : (cs : List Circuit) (place : ℕ) (c : Circuit) → nth cs place ≡ Some c → place < length cs
+pub nth-less : (cs : List Circuit) (place : ℕ) (c : Circuit) → nth cs place ≡ Some c → place < length cs
 nth-less [] place c e = absurd (cc)
 nth-less (x ∷ cs) zero c e = omega arith
 nth-less (x ∷ cs) (suc place) c e = let h = nth-less cs place c e in omega (arith, h)
@@ -128,7 +128,7 @@ legible-on i link t place (Some c) out e speaks n g u d x =
     let few = speaks.good.config.circuits in
     legible-out i link t place c out speaks (omega (arith, there, few)) n g (λ by on. u by on c) d x
 
-legible-each : (i : ℕ) (link : Option ℕ) (t : Router) (place : ℕ) (reply : Reply) → IsSpeaking t → AllSent NotLan reply → IsReplyGreeting t place reply
+pub legible-each : (i : ℕ) (link : Option ℕ) (t : Router) (place : ℕ) (reply : Reply) → IsSpeaking t → AllSent NotLan reply → IsReplyGreeting t place reply
     → ((by : Config) (on c : Circuit) → AllSent (ReadsUpdate by on t.config place c) reply) → (d : Datagram) → In d (posted i link t place reply) → IsLegible d
 legible-each i None t place reply speaks n g u d x = absurd x
 legible-each i (Some link) t place Done speaks n g u d x = absurd x
@@ -137,7 +137,7 @@ legible-each i (Some link) t place (Send out) speaks n g u d x = legible-on i li
 
 -- ---- what a router takes is good
 
-good-event : (event : Event) → ((place : ℕ) (m : Message) → event ≡ Take place m → IsGoodMessage m) → IsGoodEvent event
+pub good-event : (event : Event) → ((place : ℕ) (m : Message) → event ≡ Take place m → IsGoodMessage m) → IsGoodEvent event
 good-event Second f = tt
 good-event (Take place m) f = f place m refl
 good-event (Pull place) f = tt
@@ -145,7 +145,7 @@ good-event (Metric place metric) f = tt
 good-event (Overload on) f = tt
 good-event (Prefix prefix metric) f = tt
 
-tells-event : (by : Config) (event : Event) → ((place : ℕ) (m : Message) → event ≡ Take place m → TellsKept by m) → TellsEvent by event
+pub tells-event : (by : Config) (event : Event) → ((place : ℕ) (m : Message) → event ≡ Take place m → TellsKept by m) → TellsEvent by event
 tells-event by Second f = tt
 tells-event by (Take place m) f = f place m refl
 tells-event by (Pull place) f = tt
@@ -153,15 +153,15 @@ tells-event by (Metric place metric) f = tt
 tells-event by (Overload on) f = tt
 tells-event by (Prefix prefix metric) f = tt
 
-read-good-on : (r : Router) (c : Option Circuit) (octets : List ℕ) → AllByRecursion (λ octet. octet < 256) octets → IsGoodMessage (read_on r c octets)
+pub read-good-on : (r : Router) (c : Option Circuit) (octets : List ℕ) → AllByRecursion (λ octet. octet < 256) octets → IsGoodMessage (read_on r c octets)
 read-good-on r None octets small = tt
 read-good-on r (Some c) octets small = good-read r.config c octets small
 
-read-tells-on : (r : Router) (c : Option Circuit) (octets : List ℕ) → AllByRecursion (λ octet. octet < 256) octets → TellsKept r.config (read_on r c octets)
+pub read-tells-on : (r : Router) (c : Option Circuit) (octets : List ℕ) → AllByRecursion (λ octet. octet < 256) octets → TellsKept r.config (read_on r c octets)
 read-tells-on r None octets small = tt
 read-tells-on r (Some c) octets small = kept-tells r.config c octets small
 
-in-all : (P : Datagram → Type 0) (ds : List Datagram) → AllByRecursion P ds → (d : Datagram) → In d ds → P d
+pub in-all : (P : Datagram → Type 0) (ds : List Datagram) → AllByRecursion P ds → (d : Datagram) → In d ds → P d
 in-all P [] a d i = absurd i
 in-all P (x ∷ ds) a d (inl e) = subst P (sym e) a.0
 in-all P (x ∷ ds) a d (inr i) = in-all P ds a.1 d i

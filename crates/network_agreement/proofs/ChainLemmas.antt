@@ -1,0 +1,82 @@
+-- A clean link joins two routers of one live view, and so does a chain of them.
+use Rattle.std.proofs.Common.{◌≡◌, ℕ, ◌+◌, ◌≤◌, ◌==◌, Bool, true, false, ◌⊎◌, inl, inr, ⊎_elim, List, [], ◌∷◌, Option, Some, if◌then◌else◌, refl, sym, ap, ◌∙◌, subst, arith}
+use Rattle.isis_base.specs.declared.level.Level.{Level}
+use Rattle.isis_model.specs.Maps.{find}
+use Rattle.isis_model.specs.Places.{nth}
+use Rattle.isis_model.specs.Sets.{has}
+use Rattle.isis_model.specs.Cells.{Cell}
+use Rattle.isis_model.specs.Books.{rank_at, srm_of, srm_at}
+use Rattle.isis_model.specs.Routers.{Router, book_of}
+use Rattle.isis_model.specs.Flooding.{IsKept}
+use Rattle.isis_model.proofs.BookLemmas.{test}
+use Rattle.network_model.specs.Networks.{Network}
+use Rattle.network_model.specs.Ports.{Port}
+use Rattle.network_model.specs.Links.{Standing}
+use Rattle.network_model.specs.Counts.{count_where, flags}
+use Rattle.network_model.specs.Kept.{IsKeptNet}
+use Rattle.network_model.proofs.KeptLemmas.{kept-claim}
+use Rattle.network_agreement.specs.LiveViews.{live_rank, live_at}
+use Rattle.network_agreement.specs.Chains.{IsClean, AreJoined, Leads, Stays, Along, IsKeptBy}
+
+-- no flag stands where none is counted
+no-flag : (cells : List (ℕ × Cell)) (place id : ℕ) → count_where (λ (_ : ℕ) (c : Cell). has c.srm place) cells ≡ 0 → srm_of (find cells id) place ≡ false
+no-flag [] place id e = refl
+no-flag (x ∷ cells) place id e = by-flag (has x.1.srm place) refl e (λ k. no-flag cells place id k)
+  where
+    by-flag : (t : Bool) → has x.1.srm place ≡ t → (if t then 1 else 0) + count_where (λ (_ : ℕ) (c : Cell). has c.srm place) cells ≡ 0
+        → (count_where (λ (_ : ℕ) (c : Cell). has c.srm place) cells ≡ 0 → srm_of (find cells id) place ≡ false) → srm_of (find (x ∷ cells) id) place ≡ false
+    by-flag true y k rest = absurd (omega (arith, k))
+    by-flag false y k rest = test (λ t. srm_of (if t then Some x.1 else find cells id) place ≡ false) (x.0 == id) (λ _. y) (λ _. rest (omega (arith, k)))
+
+-- who stands to another without a flag holds nothing newer
+covered-rank : (e : Port) (a b : Router) (l : Level) (id : ℕ) → flags a e.place l ≡ 0 → Standing a e.place b l id → rank_at (book_of a l) id ≤ rank_at (book_of b l) id
+covered-rank e a b l id quiet s =
+    ⊎_elim (λ (f : srm_at (book_of a l) id e.place ≡ true). absurd (let n : srm_at (book_of a l) id e.place ≡ false = no-flag (book_of a l).cells e.place id quiet in cc)) (λ h. h)
+    s
+
+one-rank : (m n : ℕ) → m ≤ n → n ≤ m → m ≡ n
+one-rank m n h k = omega (arith, h, k)
+
+same-router : (a b : Router) → ◌≡◌ {A = Option Router} (Some a) (Some b) → a ≡ b
+same-router a b e = cc
+
+-- the routers of a clean link
+clean-ends : (net : Network) (l : Level) (i j : ℕ) (id : ℕ) → IsKeptNet net → net.injected ≡ 0 → (c : IsClean net l i j) → IsKept c.a l id → IsKept c.b l id → live_at c.a l id ≡ live_at c.b l id
+clean-ends net l i j id kept none c ka kb =
+    let claim = (kept-claim net c.near c.far c.link c.a c.b l kept none c.up).claim in
+    ap live_rank (one-rank _ _
+    (covered-rank c.near c.a c.b l id c.quiet (claim.there id ka kb))
+    (covered-rank c.far c.b c.a l id c.quiet_there (claim.back id ka kb)))
+
+clean-agrees : (net : Network) (l : Level) (i j : ℕ) (a b : Router) (id : ℕ) → IsKeptNet net → net.injected ≡ 0 → IsClean net l i j
+    → nth net.routers i ≡ Some a → nth net.routers j ≡ Some b → IsKept a l id → IsKept b l id → live_at a l id ≡ live_at b l id
+clean-agrees net l i j a b id kept none c x y ka kb =
+    let same_a : c.a ≡ a = same-router c.a a (sym c.up.near ∙ ap (λ (n : ℕ). nth net.routers n) c.here ∙ x) in
+    let same_b : c.b ≡ b = same-router c.b b (sym c.up.far ∙ ap (λ (n : ℕ). nth net.routers n) c.there ∙ y) in
+    let near = subst (λ (r : Router). IsKept r l id) (sym same_a) ka in
+    let far = subst (λ (r : Router). IsKept r l id) (sym same_b) kb in
+    ap (λ (r : Router). live_at r l id) (sym same_a) ∙ clean-ends net l i j id kept none c near far ∙ ap (λ (r : Router). live_at r l id) same_b
+
+-- where a router is joined with another, that one is there
+there-of : (net : Network) (l : Level) (i j : ℕ) → AreJoined net l i j → (r : Router) × (nth net.routers j ≡ Some r)
+there-of net l i j (inl c) = (c.b, ap (λ (n : ℕ). nth net.routers n) (sym c.there) ∙ c.up.far)
+there-of net l i j (inr c) = (c.a, ap (λ (n : ℕ). nth net.routers n) (sym c.here) ∙ c.up.near)
+
+pub chain-agrees : (net : Network) (l : Level) (i j : ℕ) (a b : Router) (id : ℕ) → IsKeptNet net → net.injected ≡ 0 → Leads net l i j → IsKeptBy net l i id
+    → nth net.routers i ≡ Some a → nth net.routers j ≡ Some b → live_at a l id ≡ live_at b l id
+chain-agrees net l i j a b id kept none (Stays _) by x y = ap (λ (r : Router). live_at r l id) (same-router a b (sym x ∙ y))
+chain-agrees net l i k a b id kept none (Along _ j _ joined rest) by x y =
+    first joined ∙ chain-agrees net l j k c.0 b id kept none rest (record { kept = λ m r v q. by.kept m r (Along i j m joined v) q }) c.1 y
+  where
+    c : (r : Router) × (nth net.routers j ≡ Some r)
+    c = there-of net l i j joined
+
+    ka : IsKept a l id
+    ka = by.kept i a (Stays i) x
+
+    kc : IsKept c.0 l id
+    kc = by.kept j c.0 (Along i j j joined (Stays j)) c.1
+
+    first : AreJoined net l i j → live_at a l id ≡ live_at c.0 l id
+    first (inl q) = clean-agrees net l i j a c.0 id kept none q x c.1 ka kc
+    first (inr q) = sym (clean-agrees net l j i c.0 a id kept none q c.1 x kc ka)

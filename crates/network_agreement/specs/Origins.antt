@@ -1,0 +1,74 @@
+-- Where a live LSP that is held comes from: the router of its system (ISO 10589 7.3.7; the words:
+-- own).
+use Rattle.std.specs.Prelude.{◌≡◌, ℕ, ◌/◌, ◌<◌, ◌≤◌, true, ◌⊎◌, List, [], ◌∷◌, length, drop, Some}
+use Rattle.isis_base.specs.declared.level.Level.{Level}
+use Rattle.isis_model.specs.Places.{nth}
+use Rattle.isis_model.specs.Ranks.{is_live}
+use Rattle.isis_model.specs.Cells.{Cell}
+use Rattle.isis_model.specs.Books.{cell_at}
+use Rattle.isis_model.specs.Routers.{Router, book_of}
+use Rattle.isis_model.specs.Datagrams.{Lsp}
+use Rattle.isis_model.specs.AdjacencyLaws.{is_point}
+use Rattle.network_model.specs.Networks.{Datagram, Network}
+use Rattle.network_model.specs.Speakers.{IsLegible}
+use Rattle.network_model.specs.Ports.{In}
+
+-- what an LSP says beside its key: its flags octet, and its TLVs (9.8)
+pub record Body : Type 0 where
+  pub flags : ℕ
+  pub tlvs : List ℕ
+
+abbrev pub body_of : Cell → Body
+body_of cell = record { flags = cell.flags; tlvs = drop 27 cell.octets }
+
+-- a network is one of those of a run so far (own)
+abbrev pub Among : Network → List Network → Type 0
+Among net [] = ⊥
+Among net (x ∷ past) = (net ≡ x) ⊎ Among net past
+
+-- at some moment of a run the router of an LSP ID's system held the LSP with this rank and body
+-- (own)
+pub record WasOwned (past : List Network) (level : Level) (id rank : ℕ) (body : Body) : Type 0 where
+  pub moment : Network
+  pub was : Among moment past
+  pub place : ℕ
+  pub owner : Router
+  pub there : nth moment.routers place ≡ Some owner
+  pub own : id / 65536 ≡ owner.config.system
+  pub cell : Cell
+  pub held : cell_at (book_of owner level) id ≡ Some cell
+  pub rank_is : cell.rank ≡ rank
+  pub body_is : body_of cell ≡ body
+
+-- a datagram is read as what it says, and a live LSP has a header (own)
+pub record IsPlain (d : Datagram) : Type 0 where
+  pub legible : IsLegible d
+  pub header : (level : Level) (id : ℕ) (cell : Cell) → d.says ≡ Lsp level id cell
+      → is_live cell.rank ≡ true → 27 ≤ length cell.octets
+
+-- In a run whose networks are `past`, of which `net` is the last: each live LSP that is held, or
+-- stands in a datagram, was held with its rank and body by the router of its system (own).
+pub record HaveOrigins (past : List Network) (net : Network) : Type 0 where
+  pub held : (i : ℕ) (r : Router) (level : Level) (id : ℕ) (cell : Cell)
+      → nth net.routers i ≡ Some r → cell_at (book_of r level) id ≡ Some cell
+      → is_live cell.rank ≡ true → WasOwned past level id cell.rank (body_of cell)
+  pub said : (d : Datagram) (level : Level) (id : ℕ) (cell : Cell)
+      → In d net.datagrams → d.says ≡ Lsp level id cell
+      → is_live cell.rank ≡ true → WasOwned past level id cell.rank (body_of cell)
+  pub plain : (d : Datagram) → In d net.datagrams → IsPlain d
+
+-- all circuits are point-to-point (own)
+abbrev pub ArePoints : Network → Type 0
+ArePoints net = (i : ℕ) (r : Router) (place : ℕ) → nth net.routers i ≡ Some r
+    → place < length r.circuits → is_point (nth r.circuits place) ≡ true
+
+-- no router holds anything, and nothing was sent (own)
+pub record HoldsNothing (net : Network) : Type 0 where
+  pub empty : (i : ℕ) (r : Router) (level : Level) → nth net.routers i ≡ Some r
+      → (book_of r level).cells ≡ []
+  pub nothing : net.datagrams ≡ []
+
+-- an LSP ID isn't doubled: the router of its system never held two bodies under one rank (own)
+pub record IsSingle (past : List Network) (level : Level) (id : ℕ) : Type 0 where
+  pub one : (rank : ℕ) (a b : Body) → is_live rank ≡ true → WasOwned past level id rank a
+      → WasOwned past level id rank b → a ≡ b

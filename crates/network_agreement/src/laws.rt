@@ -1,0 +1,48 @@
+//! The laws of agreement: functions without a body, whose contracts hold for every network and event.
+ghost use Rattle.std.specs.Prelude.{◌≡◌, ℕ, Bool, true, false, List, [], ◌∷◌, Some};
+ghost use Rattle.isis_base.specs.declared.level.Level.{Level};
+ghost use Rattle.isis_model.specs.Places.{nth};
+ghost use Rattle.isis_model.specs.Ranks.{is_live};
+ghost use Rattle.isis_model.specs.Cells.{Cell};
+ghost use Rattle.isis_model.specs.Books.{cell_at};
+ghost use Rattle.isis_model.specs.Routers.{Router, book_of};
+ghost use Rattle.isis_datagram.specs.Lsps.{given_octets};
+ghost use Rattle.network_model.specs.Networks.{Network};
+ghost use Rattle.network_model.specs.Runs.{Happening, apply, is_injection};
+ghost use Rattle.network_model.specs.Speakers.{AreSpeaking, AreOctets};
+ghost use Rattle.network_model.specs.Kept.{IsKeptNet};
+ghost use Rattle.network_agreement.specs.LiveViews.{live_at};
+ghost use Rattle.network_agreement.specs.Chains.{Leads, IsKeptBy};
+ghost use Rattle.network_agreement.specs.Origins.{body_of, HaveOrigins, ArePoints, HoldsNothing, IsSingle};
+
+/// Where what is kept of a network holds and nothing was injected, two routers that a chain of joined routers connects hold
+/// the same live LSP of each LSP ID that no router so connected let go, or neither holds one.
+pub fn group_claim()
+    ensures { (net : Network) (level : Level) (i j : ℕ) (a b : Router) (id : ℕ)
+        → IsKeptNet net → net.injected ≡ 0 → Leads net level i j → IsKeptBy net level i id
+        → nth net.routers i ≡ Some a → nth net.routers j ≡ Some b
+        → live_at a level id ≡ live_at b level id }
+{}
+
+/// In a run of point-to-point links without injections, each live LSP that is held anywhere, or stands in a datagram, was
+/// held at some moment by the router of its own system, with its rank and body: so at the start, and after each event, where
+/// each router is one that can be reached.
+pub fn origin_claim()
+    ensures start { (net : Network) → HoldsNothing net → HaveOrigins (net ∷ []) net }
+    ensures event { (leaks : Router → Level → List (ℕ × ℕ)) (attached : Router → Bool)
+        (past : List Network) (net : Network) (h : Happening)
+        → is_injection h ≡ false → AreOctets net → AreSpeaking net
+        → AreSpeaking (apply (given_octets leaks attached) net h) → ArePoints net
+        → HaveOrigins past net
+        → HaveOrigins (apply (given_octets leaks attached) net h ∷ past)
+        (apply (given_octets leaks attached) net h) }
+{}
+
+/// Two live LSPs of one LSP ID and rank that are held anywhere have one body, where the LSP ID isn't doubled.
+pub fn body_claim()
+    ensures { (past : List Network) (net : Network) (level : Level) (i j id : ℕ) (a b : Router)
+        (c d : Cell) → HaveOrigins past net → IsSingle past level id
+        → nth net.routers i ≡ Some a → nth net.routers j ≡ Some b
+        → cell_at (book_of a level) id ≡ Some c → cell_at (book_of b level) id ≡ Some d
+        → c.rank ≡ d.rank → is_live c.rank ≡ true → body_of c ≡ body_of d }
+{}
