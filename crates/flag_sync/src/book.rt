@@ -5,7 +5,7 @@ ghost use Rattle.isis_model.specs.Sets.{has, with_one};
 ghost use Rattle.lsp_store.specs.declared.fault.StoreFault.TheVariants.{Full};
 ghost use Rattle.lsp_store.specs.Databases.{ReserveCause};
 ghost use Rattle.flag_sync.specs.Circuits.{is_point};
-ghost use Rattle.flag_sync.specs.BookStates.{no_entries};
+ghost use Rattle.flag_sync.specs.BookStates.{no_entries, AreBeside};
 
 use crate::bits::with_bit;
 use crate::flag_row::FlagRow;
@@ -76,7 +76,8 @@ impl Book {
 
     /// The rows of flags, lent: one for each entry.
     pub fn flag_pages(&self) -> &Pages<FlagRow>
-        ensures { result.now.entries ≡ self.now.rows }
+        ensures rows { result.now.entries ≡ self.now.rows }
+        ensures beside { AreBeside self.now.store.entries result.now.entries }
     {
         &self.flags
     }
