@@ -1,5 +1,5 @@
 -- Each live LSP comes from its system's router: at the start, and after each event.
-use Rattle.std.proofs.Common.{◌≡◌, ℕ, zero, suc, ◌<◌, ◌≤◌, eqb, Bool, true, false, ◌⊎◌, inl, inr, ⊎_elim, List, [], ◌∷◌, map, length, drop, Option, Some, None, if◌then◌else◌, refl, sym, ap, ◌∙◌, subst, arith}
+use Rattle.std.proofs.Common.{◌≡◌, ℕ, ◌<◌, ◌≤◌, eqb, Bool, true, false, ◌⊎◌, inl, inr, ⊎_elim, List, [], ◌∷◌, map, length, drop, Option, Some, None, if◌then◌else◌, refl, sym, ap, ◌∙◌, subst, arith}
 use Rattle.std.proofs.lemmas.Bool.Decides.{nat_tests}
 use Rattle.std.specs.List.{AllByRecursion}
 use Rattle.isis_base.specs.declared.level.Level.{Level}
@@ -10,12 +10,11 @@ use Rattle.isis_model.specs.Places.{nth, with_nth}
 use Rattle.isis_model.specs.Ranks.{is_live, is_purge}
 use Rattle.isis_model.specs.Cells.{Cell, Heard, kept, header_of}
 use Rattle.isis_model.specs.Books.{cell_at}
-use Rattle.isis_model.specs.Configs.{Config}
 use Rattle.isis_model.specs.Routers.{Circuit, Router, level_of, book_of}
 use Rattle.isis_model.specs.Deeds.{Content, content_of}
 use Rattle.isis_model.specs.Datagrams.{Sent, PointHello, LanHello, Lsp, Csnp, Psnp}
 use Rattle.isis_model.specs.Givens.{Given}
-use Rattle.isis_model.specs.Events.{Message, Refused, LspHeard, Event, Take, Reply, Done, Dropped, Send}
+use Rattle.isis_model.specs.Events.{Message, LspHeard, Event, Take, Reply, Done, Dropped, Send}
 use Rattle.isis_model.specs.Steps.{step}
 use Rattle.isis_model.specs.Good.{IsGoodMessage, IsGoodEvent}
 use Rattle.isis_model.specs.Hearings.{Source, Taken, Made, hearing}
@@ -46,10 +45,10 @@ use Rattle.network_model.proofs.ChangeLemmas.{nth-set, nth-other, some-same, Mov
 use Rattle.network_agreement.specs.Origins.{Body, body_of, WasOwned, IsPlain, HaveOrigins, ArePoints, HoldsNothing, IsSingle}
 
 -- what was once, was
-was-more : (net : Network) (past : List Network) (l : Level) (id rank : ℕ) (body : Body) → WasOwned past l id rank body → WasOwned (net ∷ past) l id rank body
-was-more net past l id rank body e = record { moment = e.moment; was = inr e.was; place = e.place; owner = e.owner; there = e.there; own = e.own; cell = e.cell; held = e.held; rank_is = e.rank_is; body_is = e.body_is }
+was-more : (r : Router) (past : List Router) (l : Level) (id rank : ℕ) (body : Body) → WasOwned past l id rank body → WasOwned (r ∷ past) l id rank body
+was-more r past l id rank body e = record { owner = e.owner; was = inr e.was; own = e.own; cell = e.cell; held = e.held; rank_is = e.rank_is; body_is = e.body_is }
 
-was-same : (past : List Network) (l : Level) (id m n : ℕ) (a b : Body) → m ≡ n → a ≡ b → WasOwned past l id m a → WasOwned past l id n b
+was-same : (past : List Router) (l : Level) (id m n : ℕ) (a b : Body) → m ≡ n → a ≡ b → WasOwned past l id m a → WasOwned past l id n b
 was-same past l id m n a b e f w = subst (λ (x : ℕ). WasOwned past l id x b) e (subst (λ (x : Body). WasOwned past l id m x) f w)
 
 live-as : (m n : ℕ) → m ≡ n → is_live m ≡ true → is_live n ≡ true
@@ -157,10 +156,9 @@ module _ (leaks : Router → Level → List (ℕ × ℕ)) (attached : Router →
   given = given_octets leaks attached
 
   -- a live cell after a step
-  step-origin : (past : List Network) (net new : Network) (i : ℕ) (event : Event) (r : Router) → IsSpeaking r → TakesSaid net event → HaveOrigins past net → nth net.routers i ≡ Some r
-      → nth new.routers i ≡ Some (step given r event).router
-      → (l : Level) (id : ℕ) (cell : Cell) → cell_at (book_of (step given r event).router l) id ≡ Some cell → is_live cell.rank ≡ true → WasOwned (new ∷ past) l id cell.rank (body_of cell)
-  step-origin past net new i event r speaks takes h at_r at_t l id cell e live =
+  step-origin : (net : Network) (i : ℕ) (event : Event) (r : Router) → IsSpeaking r → TakesSaid net event → HaveOrigins net → nth net.routers i ≡ Some r
+      → (l : Level) (id : ℕ) (cell : Cell) → cell_at (book_of (step given r event).router l) id ≡ Some cell → is_live cell.rank ≡ true → WasOwned ((step given r event).router ∷ net.past) l id cell.rank (body_of cell)
+  step-origin net i event r speaks takes h at_r l id cell e live =
       from ((subst (λ (o : Option Cell). Comes (Source given r event l id) (cell_at (book_of r l) id) o) e (tells.comes id)) live)
     where
       t : Router
@@ -169,30 +167,27 @@ module _ (leaks : Router → Level → List (ℕ × ℕ)) (attached : Router →
       tells : Tells (Source given r event l) (book_of r l) (book_of t l)
       tells = course-tells (hearing given r event l) (level_of r l) (level_of t l) ((step-course given r event).on l)
 
-      was-held : (o : Option Cell) → cell_at (book_of r l) id ≡ o → WasHeld o cell → WasOwned (new ∷ past) l id cell.rank (body_of cell)
+      was-held : (o : Option Cell) → cell_at (book_of r l) id ≡ o → WasHeld o cell → WasOwned (t ∷ net.past) l id cell.rank (body_of cell)
       was-held None k x = absurd x
       was-held (Some c) k x =
-          was-more new past l id cell.rank (body_of cell)
-          (was-same past l id c.rank cell.rank (body_of c) (body_of cell) x.0 (ap body-in x.1) (h.held i r l id c at_r k (live-as cell.rank c.rank (sym x.0) live)))
+          was-more t net.past l id cell.rank (body_of cell)
+          (was-same net.past l id c.rank cell.rank (body_of c) (body_of cell) x.0 (ap body-in x.1) (h.held i r l id c at_r k (live-as cell.rank c.rank (sym x.0) live)))
 
-      taken : (place snpa : ℕ) (y : Heard) → event ≡ Take place (LspHeard l snpa y) → id ≡ y.id → cell.rank ≡ y.rank → content_of cell ≡ content_of (kept y) → WasOwned (new ∷ past) l id cell.rank (body_of cell)
+      taken : (place snpa : ℕ) (y : Heard) → event ≡ Take place (LspHeard l snpa y) → id ≡ y.id → cell.rank ≡ y.rank → content_of cell ≡ content_of (kept y) → WasOwned (t ∷ net.past) l id cell.rank (body_of cell)
       taken place snpa y q id_is rank_is content_is =
           let found = takes.said place snpa l y q in
           let s = found.2 in
           let alive = live-as cell.rank y.rank rank_is live in
           let old = h.said found.0 l y.id s.cell found.1 s.says (live-as y.rank s.cell.rank (sym s.rank) alive) in
-          was-more new past l id cell.rank (body_of cell)
-          (subst (λ (n : ℕ). WasOwned past l n cell.rank (body_of cell)) (sym id_is)
-          (was-same past l y.id s.cell.rank cell.rank (body_of s.cell) (body_of cell) (s.rank ∙ sym rank_is) (s.body alive ∙ ap body-in (sym content_is)) old))
+          was-more t net.past l id cell.rank (body_of cell)
+          (subst (λ (n : ℕ). WasOwned net.past l n cell.rank (body_of cell)) (sym id_is)
+          (was-same net.past l y.id s.cell.rank cell.rank (body_of s.cell) (body_of cell) (s.rank ∙ sym rank_is) (s.body alive ∙ ap body-in (sym content_is)) old))
 
-      source : Source given r event l id cell.rank (content_of cell) → WasOwned (new ∷ past) l id cell.rank (body_of cell)
+      source : Source given r event l id cell.rank (content_of cell) → WasOwned (t ∷ net.past) l id cell.rank (body_of cell)
       source (Taken place snpa y q id_is rank_is content_is) = taken place snpa y q id_is rank_is content_is
       source (Made old number contents config mine rank_is content_is) = record {
-        moment = new;
-        was = inl refl;
-        place = i;
         owner = t;
-        there = at_t;
+        was = inl refl;
         own = mine.own speaks.good.config ∙ sym (step-stays given r event).system;
         cell = cell;
         held = e;
@@ -200,7 +195,7 @@ module _ (leaks : Router → Level → List (ℕ × ℕ)) (attached : Router →
         body_is = refl;
       }
 
-      from : WasHeld (cell_at (book_of r l) id) cell ⊎ Source given r event l id cell.rank (content_of cell) → WasOwned (new ∷ past) l id cell.rank (body_of cell)
+      from : WasHeld (cell_at (book_of r l) id) cell ⊎ Source given r event l id cell.rank (content_of cell) → WasOwned (t ∷ net.past) l id cell.rank (body_of cell)
       from (inl x) = was-held (cell_at (book_of r l) id) refl x
       from (inr x) = source x
 
@@ -240,9 +235,9 @@ module _ (leaks : Router → Level → List (ℕ × ℕ)) (attached : Router →
 
   -- ---- a router takes an event
 
-  moved-origins : (past : List Network) (net : Network) (i : ℕ) (link : Option ℕ) (event : Event) (r : Router) → AreOctets net → IsSpeaking r → IsSpeaking (step given r event).router → ArePoints net
-      → Moves net i link event r → HaveOrigins past net → HaveOrigins (moved given net i link event r ∷ past) (moved given net i link event r)
-  moved-origins past net i link event r octets speaks speaks_on points m h = record { held = held; said = said-of; plain = plain }
+  moved-origins : (net : Network) (i : ℕ) (link : Option ℕ) (event : Event) (r : Router) → AreOctets net → IsSpeaking r → IsSpeaking (step given r event).router → ArePoints net
+      → Moves net i link event r → HaveOrigins net → HaveOrigins (moved given net i link event r)
+  moved-origins net i link event r octets speaks speaks_on points m h = record { held = held; said = said-of; plain = plain }
     where
       t : Router
       t = (step given r event).router
@@ -256,16 +251,16 @@ module _ (leaks : Router → Level → List (ℕ × ℕ)) (attached : Router →
       at_t : nth new.routers i ≡ Some t
       at_t = nth-set net.routers i r t m.found
 
-      mine : (l : Level) (id : ℕ) (cell : Cell) → cell_at (book_of t l) id ≡ Some cell → is_live cell.rank ≡ true → WasOwned (new ∷ past) l id cell.rank (body_of cell)
-      mine = step-origin past net new i event r speaks (takes-said net i link event r m h.plain) h m.found at_t
+      mine : (l : Level) (id : ℕ) (cell : Cell) → cell_at (book_of t l) id ≡ Some cell → is_live cell.rank ≡ true → WasOwned new.past l id cell.rank (body_of cell)
+      mine = step-origin net i event r speaks (takes-said net i link event r m h.plain) h m.found
 
-      held : (j : ℕ) (s : Router) (l : Level) (id : ℕ) (cell : Cell) → nth new.routers j ≡ Some s → cell_at (book_of s l) id ≡ Some cell → is_live cell.rank ≡ true → WasOwned (new ∷ past) l id cell.rank (body_of cell)
+      held : (j : ℕ) (s : Router) (l : Level) (id : ℕ) (cell : Cell) → nth new.routers j ≡ Some s → cell_at (book_of s l) id ≡ Some cell → is_live cell.rank ≡ true → WasOwned new.past l id cell.rank (body_of cell)
       held j s l id cell at_s e live =
-          test (λ b. eqb i j ≡ b → WasOwned (new ∷ past) l id cell.rank (body_of cell)) (eqb i j)
+          test (λ b. eqb i j ≡ b → WasOwned new.past l id cell.rank (body_of cell)) (eqb i j)
           (λ _ y. let same : i ≡ j = grind (arith, nat_tests) in
           let here : t ≡ s = some-same t s (sym at_t ∙ ap (λ (n : ℕ). nth new.routers n) same ∙ at_s) in
           mine l id cell (ap (λ (x : Router). cell_at (book_of x l) id) here ∙ e) live)
-          (λ _ n. was-more new past l id cell.rank (body_of cell) (h.held j s l id cell (sym (nth-other net.routers i t j (λ q. grind (arith, nat_tests))) ∙ at_s) e live)) refl
+          (λ _ n. was-more t net.past l id cell.rank (body_of cell) (h.held j s l id cell (sym (nth-other net.routers i t j (λ q. grind (arith, nat_tests))) ∙ at_s) e live)) refl
 
       is-good : IsGoodEvent event
       is-good = good-event event (λ place x q. let a = m.hears place x q in
@@ -278,14 +273,14 @@ module _ (leaks : Router → Level → List (ℕ × ℕ)) (attached : Router →
       sent : (d : Datagram) → In d more → IsExact t d.says × IsFine d.says
       sent = exact-each i link t (place_of event) (step given r event).reply (step-exact given r event speaks.sorted) (step-fine given r event speaks.sorted speaks.good is-good)
 
-      was-held : (l : Level) (id : ℕ) (cell : Cell) (o : Option Cell) → cell_at (book_of t l) id ≡ o → WasHeld o cell → is_live cell.rank ≡ true → WasOwned (new ∷ past) l id cell.rank (body_of cell)
+      was-held : (l : Level) (id : ℕ) (cell : Cell) (o : Option Cell) → cell_at (book_of t l) id ≡ o → WasHeld o cell → is_live cell.rank ≡ true → WasOwned new.past l id cell.rank (body_of cell)
       was-held l id cell None k x live = absurd x
       was-held l id cell (Some c) k x live =
-          was-same (new ∷ past) l id c.rank cell.rank (body_of c) (body_of cell) x.0 (ap body-in x.1) (mine l id c k (live-as cell.rank c.rank (sym x.0) live))
+          was-same new.past l id c.rank cell.rank (body_of c) (body_of cell) x.0 (ap body-in x.1) (mine l id c k (live-as cell.rank c.rank (sym x.0) live))
 
-      said-of : (d : Datagram) (l : Level) (id : ℕ) (cell : Cell) → In d new.datagrams → d.says ≡ Lsp l id cell → is_live cell.rank ≡ true → WasOwned (new ∷ past) l id cell.rank (body_of cell)
+      said-of : (d : Datagram) (l : Level) (id : ℕ) (cell : Cell) → In d new.datagrams → d.says ≡ Lsp l id cell → is_live cell.rank ≡ true → WasOwned new.past l id cell.rank (body_of cell)
       said-of d l id cell x q live = ⊎_elim
-          (λ (o : In d net.datagrams). was-more new past l id cell.rank (body_of cell) (h.said d l id cell o q live))
+          (λ (o : In d net.datagrams). was-more t net.past l id cell.rank (body_of cell) (h.said d l id cell o q live))
           (λ (o : In d more). was-held l id cell (cell_at (book_of t l) id) refl (subst (IsExact t) q (sent d o).0) live)
           (in-split d net.datagrams more x)
 
@@ -303,39 +298,32 @@ module _ (leaks : Router → Level → List (ℕ × ℕ)) (attached : Router →
 
   -- ---- each event
 
-  origins-same : (past : List Network) (net : Network) → HaveOrigins past net → HaveOrigins (net ∷ past) net
-  origins-same past net h = record {
-    held = λ i r l id cell q e live. was-more net past l id cell.rank (body_of cell) (h.held i r l id cell q e live);
-    said = λ d l id cell x q live. was-more net past l id cell.rank (body_of cell) (h.said d l id cell x q live);
-    plain = h.plain;
-  }
-
   -- a restarted router holds nothing
   restart-empty : (r : Router) (l : Level) (id : ℕ) (cell : Cell) → cell_at (book_of (restarted r) l) id ≡ Some cell → ⊥
   restart-empty r level.One id cell e = cc
   restart-empty r level.Two id cell e = cc
 
-  restart-origins : (past : List Network) (net : Network) (i : ℕ) (r : Router) → nth net.routers i ≡ Some r → HaveOrigins past net → HaveOrigins (restart_at net i (Some r) ∷ past) (restart_at net i (Some r))
-  restart-origins past net i r q h = record {
+  restart-origins : (net : Network) (i : ℕ) (r : Router) → nth net.routers i ≡ Some r → HaveOrigins net → HaveOrigins (restart_at net i (Some r))
+  restart-origins net i r q h = record {
     held = λ j s l id cell at_s e live.
-        test (λ b. eqb i j ≡ b → WasOwned (restart_at net i (Some r) ∷ past) l id cell.rank (body_of cell)) (eqb i j)
+        test (λ b. eqb i j ≡ b → WasOwned net.past l id cell.rank (body_of cell)) (eqb i j)
         (λ _ y. let same : i ≡ j = grind (arith, nat_tests) in
         let here : restarted r ≡ s = some-same (restarted r) s (sym (nth-set net.routers i r (restarted r) q) ∙ ap (λ (n : ℕ). nth (with_nth net.routers i (restarted r)) n) same ∙ at_s) in
         absurd (restart-empty r l id cell (ap (λ (x : Router). cell_at (book_of x l) id) here ∙ e)))
-        (λ _ n. was-more _ past l id cell.rank (body_of cell) (h.held j s l id cell (sym (nth-other net.routers i (restarted r) j (λ x. grind (arith, nat_tests))) ∙ at_s) e live)) refl;
-    said = λ d l id cell x k live. was-more _ past l id cell.rank (body_of cell) (h.said d l id cell x k live);
+        (λ _ n. h.held j s l id cell (sym (nth-other net.routers i (restarted r) j (λ x. grind (arith, nat_tests))) ∙ at_s) e live) refl;
+    said = h.said;
     plain = h.plain;
   }
 
-  change-origins : (past : List Network) (net new : Network) → AreOctets net → AreSpeaking net → AreSpeaking new → ArePoints net → Change given net new → HaveOrigins past net → HaveOrigins (new ∷ past) new
-  change-origins past net new octets speak speak_on points (Still _) h = origins-same past net h
-  change-origins past net new octets speak speak_on points (Moved i link event r m) h =
-      moved-origins past net i link event r octets (speak i r m.found) (speak_on i (step given r event).router (nth-set net.routers i r (step given r event).router m.found)) points m h
-  change-origins past net new octets speak speak_on points (Restarted i r q) h = restart-origins past net i r q h
+  change-origins : (net new : Network) → AreOctets net → AreSpeaking net → AreSpeaking new → ArePoints net → Change given net new → HaveOrigins net → HaveOrigins new
+  change-origins net new octets speak speak_on points (Still _) h = h
+  change-origins net new octets speak speak_on points (Moved i link event r m) h =
+      moved-origins net i link event r octets (speak i r m.found) (speak_on i (step given r event).router (nth-set net.routers i r (step given r event).router m.found)) points m h
+  change-origins net new octets speak speak_on points (Restarted i r q) h = restart-origins net i r q h
 
-  pub apply-origins : (past : List Network) (net : Network) (h : Happening) → is_injection h ≡ false → AreOctets net → AreSpeaking net → AreSpeaking (apply given net h) → ArePoints net
-      → HaveOrigins past net → HaveOrigins (apply given net h ∷ past) (apply given net h)
-  apply-origins past net h plain octets speak speak_on points o = change-origins past net (apply given net h) octets speak speak_on points (apply-change given net h plain) o
+  pub apply-origins : (net : Network) (h : Happening) → is_injection h ≡ false → AreOctets net → AreSpeaking net → AreSpeaking (apply given net h) → ArePoints net
+      → HaveOrigins net → HaveOrigins (apply given net h)
+  apply-origins net h plain octets speak speak_on points o = change-origins net (apply given net h) octets speak speak_on points (apply-change given net h plain) o
 
 -- ---- the start
 
@@ -347,7 +335,7 @@ no-datagram : (ds : List Datagram) (d : Datagram) → ds ≡ [] → In d ds → 
 no-datagram [] d q i = i
 no-datagram (x ∷ ds) d q i = cc
 
-pub start-origins : (net : Network) → HoldsNothing net → HaveOrigins (net ∷ []) net
+pub start-origins : (net : Network) → HoldsNothing net → HaveOrigins net
 start-origins net n = record {
   held = λ i r l id cell q e live. absurd (nothing-found _ id cell (n.empty i r l q) e);
   said = λ d l id cell x q live. absurd (no-datagram net.datagrams d n.nothing x);
@@ -356,8 +344,8 @@ start-origins net n = record {
 
 -- ---- equal bodies
 
-pub one-body : (past : List Network) (net : Network) (i j : ℕ) (a b : Router) (l : Level) (id : ℕ) (c d : Cell) → HaveOrigins past net → IsSingle past l id
+pub one-body : (net : Network) (i j : ℕ) (a b : Router) (l : Level) (id : ℕ) (c d : Cell) → HaveOrigins net → IsSingle net.past l id
     → nth net.routers i ≡ Some a → nth net.routers j ≡ Some b → cell_at (book_of a l) id ≡ Some c → cell_at (book_of b l) id ≡ Some d → c.rank ≡ d.rank → is_live c.rank ≡ true → body_of c ≡ body_of d
-one-body past net i j a b l id c d h single x y p q same live =
+one-body net i j a b l id c d h single x y p q same live =
     single.one c.rank (body_of c) (body_of d) live (h.held i a l id c x p live)
-    (was-same past l id d.rank c.rank (body_of d) (body_of d) (sym same) refl (h.held j b l id d y q (live-as c.rank d.rank same live)))
+    (was-same net.past l id d.rank c.rank (body_of d) (body_of d) (sym same) refl (h.held j b l id d y q (live-as c.rank d.rank same live)))

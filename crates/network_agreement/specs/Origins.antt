@@ -21,19 +21,15 @@ pub record Body : Type 0 where
 abbrev pub body_of : Cell → Body
 body_of cell = record { flags = cell.flags; tlvs = drop 27 cell.octets }
 
--- a network is one of those of a run so far (own)
-abbrev pub Among : Network → List Network → Type 0
-Among net [] = ⊥
-Among net (x ∷ past) = (net ≡ x) ⊎ Among net past
+-- a router's state is one of those that were (own)
+abbrev pub Among : Router → List Router → Type 0
+Among r [] = ⊥
+Among r (x ∷ past) = (r ≡ x) ⊎ Among r past
 
--- at some moment of a run the router of an LSP ID's system held the LSP with this rank and body
--- (own)
-pub record WasOwned (past : List Network) (level : Level) (id rank : ℕ) (body : Body) : Type 0 where
-  pub moment : Network
-  pub was : Among moment past
-  pub place : ℕ
+-- at some moment the router of an LSP ID's system held the LSP with this rank and body (own)
+pub record WasOwned (past : List Router) (level : Level) (id rank : ℕ) (body : Body) : Type 0 where
   pub owner : Router
-  pub there : nth moment.routers place ≡ Some owner
+  pub was : Among owner past
   pub own : id / 65536 ≡ owner.config.system
   pub cell : Cell
   pub held : cell_at (book_of owner level) id ≡ Some cell
@@ -46,15 +42,15 @@ pub record IsPlain (d : Datagram) : Type 0 where
   pub header : (level : Level) (id : ℕ) (cell : Cell) → d.says ≡ Lsp level id cell
       → is_live cell.rank ≡ true → 27 ≤ length cell.octets
 
--- In a run whose networks are `past`, of which `net` is the last: each live LSP that is held, or
--- stands in a datagram, was held with its rank and body by the router of its system (own).
-pub record HaveOrigins (past : List Network) (net : Network) : Type 0 where
+-- each live LSP that is held, or stands in a datagram, was held with its rank and body by the router
+-- of its system; and datagrams are plain (own)
+pub record HaveOrigins (net : Network) : Type 0 where
   pub held : (i : ℕ) (r : Router) (level : Level) (id : ℕ) (cell : Cell)
       → nth net.routers i ≡ Some r → cell_at (book_of r level) id ≡ Some cell
-      → is_live cell.rank ≡ true → WasOwned past level id cell.rank (body_of cell)
+      → is_live cell.rank ≡ true → WasOwned net.past level id cell.rank (body_of cell)
   pub said : (d : Datagram) (level : Level) (id : ℕ) (cell : Cell)
       → In d net.datagrams → d.says ≡ Lsp level id cell
-      → is_live cell.rank ≡ true → WasOwned past level id cell.rank (body_of cell)
+      → is_live cell.rank ≡ true → WasOwned net.past level id cell.rank (body_of cell)
   pub plain : (d : Datagram) → In d net.datagrams → IsPlain d
 
 -- all circuits are point-to-point (own)
@@ -69,6 +65,6 @@ pub record HoldsNothing (net : Network) : Type 0 where
   pub nothing : net.datagrams ≡ []
 
 -- an LSP ID isn't doubled: the router of its system never held two bodies under one rank (own)
-pub record IsSingle (past : List Network) (level : Level) (id : ℕ) : Type 0 where
+pub record IsSingle (past : List Router) (level : Level) (id : ℕ) : Type 0 where
   pub one : (rank : ℕ) (a b : Body) → is_live rank ≡ true → WasOwned past level id rank a
       → WasOwned past level id rank b → a ≡ b

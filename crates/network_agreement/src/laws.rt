@@ -1,5 +1,5 @@
 //! The laws of agreement: functions without a body, whose contracts hold for every network and event.
-ghost use Rattle.std.specs.Prelude.{◌≡◌, ℕ, Bool, true, false, List, [], ◌∷◌, Some};
+ghost use Rattle.std.specs.Prelude.{◌≡◌, ℕ, Bool, true, false, List, Some};
 ghost use Rattle.isis_base.specs.declared.level.Level.{Level};
 ghost use Rattle.isis_model.specs.Places.{nth};
 ghost use Rattle.isis_model.specs.Ranks.{is_live};
@@ -28,20 +28,18 @@ pub fn group_claim()
 /// held at some moment by the router of its own system, with its rank and body: so at the start, and after each event, where
 /// each router is one that can be reached.
 pub fn origin_claim()
-    ensures start { (net : Network) → HoldsNothing net → HaveOrigins (net ∷ []) net }
+    ensures start { (net : Network) → HoldsNothing net → HaveOrigins net }
     ensures event { (leaks : Router → Level → List (ℕ × ℕ)) (attached : Router → Bool)
-        (past : List Network) (net : Network) (h : Happening)
+        (net : Network) (h : Happening)
         → is_injection h ≡ false → AreOctets net → AreSpeaking net
         → AreSpeaking (apply (given_octets leaks attached) net h) → ArePoints net
-        → HaveOrigins past net
-        → HaveOrigins (apply (given_octets leaks attached) net h ∷ past)
-        (apply (given_octets leaks attached) net h) }
+        → HaveOrigins net → HaveOrigins (apply (given_octets leaks attached) net h) }
 {}
 
 /// Two live LSPs of one LSP ID and rank that are held anywhere have one body, where the LSP ID isn't doubled.
 pub fn body_claim()
-    ensures { (past : List Network) (net : Network) (level : Level) (i j id : ℕ) (a b : Router)
-        (c d : Cell) → HaveOrigins past net → IsSingle past level id
+    ensures { (net : Network) (level : Level) (i j id : ℕ) (a b : Router)
+        (c d : Cell) → HaveOrigins net → IsSingle net.past level id
         → nth net.routers i ≡ Some a → nth net.routers j ≡ Some b
         → cell_at (book_of a level) id ≡ Some c → cell_at (book_of b level) id ≡ Some d
         → c.rank ≡ d.rank → is_live c.rank ≡ true → body_of c ≡ body_of d }

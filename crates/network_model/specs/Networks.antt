@@ -23,13 +23,15 @@ pub record Datagram : Type 0 where
 abbrev pub octets_of : Datagram → List ℕ
 octets_of d = datagram d.config d.place d.circuit d.says
 
--- The routers, the links and LANs by their ends, all datagrams that were sent, in order, and how
--- many were injected (own).
+-- The routers, the links and LANs by their ends, all datagrams that were sent, in order, how many
+-- were injected, and the states that routers were in after the events that they took, the latest
+-- first (own).
 pub record Network : Type 0 where
   pub routers : List Router
   pub links : List (List End)
   pub datagrams : List Datagram
   pub injected : ℕ
+  pub past : List Router
 
 -- ---- look-ups
 

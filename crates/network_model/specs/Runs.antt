@@ -50,13 +50,15 @@ posted i (Some link) r place Done = []
 posted i (Some link) r place (Dropped cause) = []
 posted i (Some link) r place (Send out) = posts i link r place (nth r.circuits place) out
 
--- a router takes an event, and what it sends on the link joins the datagrams (own)
+-- a router takes an event, what it sends on the link joins the datagrams, and its state those that
+-- were (own)
 abbrev pub moved : Given → Network → ℕ → Option ℕ → Event → Router → Network
 moved given net i link event r =
     let o = step given r event in
     record net {
       routers = with_nth net.routers i o.router;
       datagrams = net.datagrams ++ posted i link o.router (place_of event) o.reply;
+      past = o.router ∷ net.past;
     }
 
 -- the same where the router is there (own)
