@@ -1,3 +1,4 @@
--- The lemmas: along a chain of clean links, and where live LSPs come from.
-pub mod ChainLemmas
-pub mod OriginLemmas
+-- The lemmas: along a chain of clean links, what LAN hellos say, and where live LSPs come from.
+mod ChainLemmas
+mod SilentLemmas
+mod OriginLemmas

@@ -10,6 +10,7 @@ use Rattle.isis_model.specs.Places.{nth, with_nth}
 use Rattle.isis_model.specs.Ranks.{is_live, is_purge}
 use Rattle.isis_model.specs.Cells.{Cell, Heard, kept, header_of}
 use Rattle.isis_model.specs.Books.{cell_at}
+use Rattle.isis_model.specs.Configs.{Config}
 use Rattle.isis_model.specs.Routers.{Circuit, Router, level_of, book_of}
 use Rattle.isis_model.specs.Deeds.{Content, content_of}
 use Rattle.isis_model.specs.Datagrams.{Sent, PointHello, LanHello, Lsp, Csnp, Psnp}
@@ -20,7 +21,7 @@ use Rattle.isis_model.specs.Good.{IsGoodMessage, IsGoodEvent}
 use Rattle.isis_model.specs.Hearings.{Source, Taken, Made, hearing}
 use Rattle.isis_model.specs.ContentLaws.{Comes, Tells}
 use Rattle.isis_model.specs.ReplyLaws.{AllSent, WasHeld, IsExact, IsFine}
-use Rattle.isis_model.specs.AdjacencyLaws.{place_of}
+use Rattle.isis_model.specs.AdjacencyLaws.{place_of, IsGreeting, IsReplyGreeting}
 use Rattle.isis_model.proofs.BookLemmas.{test}
 use Rattle.isis_model.proofs.StepWays.{step-course}
 use Rattle.isis_model.proofs.TellLemmas.{course-tells}
@@ -30,7 +31,7 @@ use Rattle.isis_model.proofs.FineLemmas.{step-fine}
 use Rattle.isis_datagram.specs.Lsps.{with_lifetime, signed_purge, lsp_sent, given_octets}
 use Rattle.isis_datagram.specs.Datagrams.{pdu_octets}
 use Rattle.isis_datagram.specs.Said.{said}
-use Rattle.isis_datagram.specs.LspLaws.{TellsKept, TellsEvent}
+use Rattle.isis_datagram.specs.LspLaws.{ReadsUpdate, TellsKept, TellsEvent}
 use Rattle.isis_datagram.specs.Speakers.{IsSpeaking}
 use Rattle.isis_datagram.proofs.ListLemmas.{of-leading}
 use Rattle.isis_datagram.proofs.SendLemmas.{step-reads}
@@ -39,10 +40,12 @@ use Rattle.network_model.specs.Runs.{read_on, post, posts, posted, moved, Happen
 use Rattle.network_model.specs.Speakers.{IsReading, IsLegible, AreSpeaking, AreOctets}
 use Rattle.network_model.specs.Ports.{In}
 use Rattle.network_model.proofs.InLemmas.{in-split}
-use Rattle.network_model.proofs.PointReplies.{point-reply}
-use Rattle.network_model.proofs.NetLemmas.{nth-less, legible-each, good-event, tells-event, read-good-on, read-tells-on, in-all}
+use Rattle.network_model.proofs.LegibleLemmas.{legible-sent}
+use Rattle.network_model.proofs.NetLemmas.{nth-less, good-event, tells-event, read-good-on, read-tells-on, in-all}
 use Rattle.network_model.proofs.ChangeLemmas.{nth-set, nth-other, some-same, Moves, Change, Still, Moved, Restarted, apply-change}
-use Rattle.network_agreement.specs.Origins.{Body, body_of, WasOwned, IsPlain, HaveOrigins, ArePoints, HoldsNothing, IsSingle}
+use Rattle.network_agreement.proofs.SilentLemmas.{lan-silent}
+use Rattle.isis_datagram.specs.Reading.{read}
+use Rattle.network_agreement.specs.Origins.{Body, body_of, IsSilent, IsClear, WasOwned, IsPlain, HaveOrigins, HoldsNothing, IsSingle}
 
 -- what was once, was
 was-more : (r : Router) (past : List Router) (l : Level) (id rank : ℕ) (body : Body) → WasOwned past l id rank body → WasOwned (r ∷ past) l id rank body
@@ -123,7 +126,7 @@ said-lsp own d m id cell e long l snpa h q = record {
         subst (λ (x : Heard). body_of cell ≡ body x.flags x.octets) (sym here)
         (ap (λ (t : List ℕ). with-tlvs t) (sym (sent-tlvs (at d.config.keys m) cell alive (long alive))))
 
--- what a legible datagram is read as, where that is an LSP
+-- what a clear datagram is read as, where that is an LSP
 read-lsp : (own : ℕ) (d : Datagram) (s : Sent) → d.says ≡ s → IsPlain d → (l : Level) (snpa : ℕ) (h : Heard)
     → IsReading (LspHeard l snpa h) (said own d.config d.place d.circuit s) → SaidLsp d l h
 read-lsp own d s e plain l snpa h (inl q) = absurd (let clash = q.1 in cc)
@@ -135,8 +138,10 @@ read-lsp own d (Psnp m entries) e plain l snpa h (inr q) = absurd (cc)
 
 read-on : (r : Router) (c : Option Circuit) (d : Datagram) → IsPlain d → (l : Level) (snpa : ℕ) (h : Heard) → LspHeard l snpa h ≡ read_on r c (octets_of d) → SaidLsp d l h
 read-on r None d plain l snpa h q = absurd (cc)
-read-on r (Some c) d plain l snpa h q =
-    read-lsp r.config.system d d.says refl plain l snpa h (subst (λ (m : Message). IsReading m (said r.config.system d.config d.place d.circuit d.says)) (sym q) (plain.legible r.config c))
+read-on r (Some c) d plain l snpa h q = ⊎_elim
+    (λ (legible : IsLegible d). read-lsp r.config.system d d.says refl plain l snpa h (subst (λ (m : Message). IsReading m (said r.config.system d.config d.place d.circuit d.says)) (sym q) (legible r.config c)))
+    (λ (silent : (by : Config) (on : Circuit) → IsSilent (read by on (octets_of d))). absurd (subst IsSilent (sym q) (silent r.config c)))
+    plain.clear
 
 -- ---- what a step holds
 
@@ -216,16 +221,33 @@ module _ (leaks : Router → Level → List (ℕ × ℕ)) (attached : Router →
   exact-each i (Some link) t place (Dropped cause) h f d x = absurd x
   exact-each i (Some link) t place (Send out) h f d x = exact-on i link t place (nth t.circuits place) out h f d x
 
-  -- where something is posted, the circuit is there
-  circuit-of : (i : ℕ) (link : Option ℕ) (t : Router) (place : ℕ) (reply : Reply) (d : Datagram) → In d (posted i link t place reply) → (c : Circuit) × (nth t.circuits place ≡ Some c)
-  circuit-of i None t place reply d x = absurd x
-  circuit-of i (Some link) t place Done d x = absurd x
-  circuit-of i (Some link) t place (Dropped cause) d x = absurd x
-  circuit-of i (Some link) t place (Send out) d x = on-it (nth t.circuits place) refl x
-    where
-      on-it : (c : Option Circuit) → nth t.circuits place ≡ c → In d (posts i link t place c out) → (c : Circuit) × (nth t.circuits place ≡ Some c)
-      on-it None e y = absurd y
-      on-it (Some c) e y = (c, e)
+  clear-one : (i link : ℕ) (t : Router) (place : ℕ) (c : Circuit) (s : Sent) → IsSpeaking t → place < 255 → IsGreeting t place s → ((by : Config) (on : Circuit) → ReadsUpdate by on t.config place c s) → IsClear (post i link t place c s)
+  clear-one i link t place c (PointHello state extended names) speaks few g u = inl (legible-sent t place c (PointHello state extended names) speaks few tt g u)
+  clear-one i link t place c (LanHello l lan snpas) speaks few g u = inr (λ by on. lan-silent by t.config on c place l lan snpas speaks.sender.system)
+  clear-one i link t place c (Lsp l id cell) speaks few g u = inl (legible-sent t place c (Lsp l id cell) speaks few tt g u)
+  clear-one i link t place c (Csnp l start end entries) speaks few g u = inl (legible-sent t place c (Csnp l start end entries) speaks few tt g u)
+  clear-one i link t place c (Psnp l entries) speaks few g u = inl (legible-sent t place c (Psnp l entries) speaks few tt g u)
+
+  clear-out : (i link : ℕ) (t : Router) (place : ℕ) (c : Circuit) (out : List Sent) → IsSpeaking t → place < 255 → AllByRecursion (IsGreeting t place) out
+      → ((by : Config) (on : Circuit) → AllByRecursion (ReadsUpdate by on t.config place c) out) → (d : Datagram) → In d (map (post i link t place c) out) → IsClear d
+  clear-out i link t place c [] speaks few g u d x = absurd x
+  clear-out i link t place c (s ∷ out) speaks few g u d (inl e) = subst IsClear (sym e) (clear-one i link t place c s speaks few g.0 (λ by on. (u by on).0))
+  clear-out i link t place c (s ∷ out) speaks few g u d (inr x) = clear-out i link t place c out speaks few g.1 (λ by on. (u by on).1) d x
+
+  clear-on : (i link : ℕ) (t : Router) (place : ℕ) (c : Option Circuit) (out : List Sent) → nth t.circuits place ≡ c → IsSpeaking t → AllByRecursion (IsGreeting t place) out
+      → ((by : Config) (on c : Circuit) → AllByRecursion (ReadsUpdate by on t.config place c) out) → (d : Datagram) → In d (posts i link t place c out) → IsClear d
+  clear-on i link t place None out e speaks g u d x = absurd x
+  clear-on i link t place (Some c) out e speaks g u d x =
+      let there = nth-less t.circuits place c e in
+      let few = speaks.good.config.circuits in
+      clear-out i link t place c out speaks (omega (arith, there, few)) g (λ by on. u by on c) d x
+
+  clear-each : (i : ℕ) (link : Option ℕ) (t : Router) (place : ℕ) (reply : Reply) → IsSpeaking t → IsReplyGreeting t place reply
+      → ((by : Config) (on c : Circuit) → AllSent (ReadsUpdate by on t.config place c) reply) → (d : Datagram) → In d (posted i link t place reply) → IsClear d
+  clear-each i None t place reply speaks g u d x = absurd x
+  clear-each i (Some link) t place Done speaks g u d x = absurd x
+  clear-each i (Some link) t place (Dropped cause) speaks g u d x = absurd x
+  clear-each i (Some link) t place (Send out) speaks g u d x = clear-on i link t place (nth t.circuits place) out refl speaks g u d x
 
   has-header : (s : Sent) → IsFine s → (l : Level) (id : ℕ) (cell : Cell) → s ≡ Lsp l id cell → is_live cell.rank ≡ true → 27 ≤ length cell.octets
   has-header s fine l id cell q live = from-fine (subst IsFine q fine)
@@ -235,9 +257,8 @@ module _ (leaks : Router → Level → List (ℕ × ℕ)) (attached : Router →
 
   -- ---- a router takes an event
 
-  moved-origins : (net : Network) (i : ℕ) (link : Option ℕ) (event : Event) (r : Router) → AreOctets net → IsSpeaking r → IsSpeaking (step given r event).router → ArePoints net
-      → Moves net i link event r → HaveOrigins net → HaveOrigins (moved given net i link event r)
-  moved-origins net i link event r octets speaks speaks_on points m h = record { held = held; said = said-of; plain = plain }
+  moved-origins : (net : Network) (i : ℕ) (link : Option ℕ) (event : Event) (r : Router) → AreOctets net → IsSpeaking r → IsSpeaking (step given r event).router → Moves net i link event r → HaveOrigins net → HaveOrigins (moved given net i link event r)
+  moved-origins net i link event r octets speaks speaks_on m h = record { held = held; said = said-of; plain = plain }
     where
       t : Router
       t = (step given r event).router
@@ -284,17 +305,15 @@ module _ (leaks : Router → Level → List (ℕ × ℕ)) (attached : Router →
           (λ (o : In d more). was-held l id cell (cell_at (book_of t l) id) refl (subst (IsExact t) q (sent d o).0) live)
           (in-split d net.datagrams more x)
 
+      updates : (by : Config) (on c : Circuit) → AllSent (ReadsUpdate by on t.config (place_of event) c) (step given r event).reply
+      updates by on c = step-reads leaks attached r event by on c (place_of event) speaks.sorted speaks.good speaks.telling is-good is-told speaks.sendable speaks_on.sender
+
       plain : (d : Datagram) → In d new.datagrams → IsPlain d
-      plain d x = ⊎_elim (λ (o : In d net.datagrams). h.plain d o) (λ (o : In d more). record { legible = legible d o; header = has-header d.says (sent d o).1 }) (in-split d net.datagrams more x)
-        where
-          legible : (d : Datagram) → In d more → IsLegible d
-          legible d o =
-              let c = circuit-of i link t (place_of event) (step given r event).reply d o in
-              let few = nth-less t.circuits (place_of event) c.0 c.1 in
-              let here : place_of event < length r.circuits = subst (λ (n : ℕ). place_of event < n) (step-stays given r event).circuits few in
-              legible-each i link t (place_of event) (step given r event).reply speaks_on
-              (point-reply given r event (points i r (place_of event) m.found here)) (step-greets given r event)
-              (λ by on c. step-reads leaks attached r event by on c (place_of event) speaks.sorted speaks.good speaks.telling is-good is-told speaks.sendable speaks_on.sender) d o
+      plain d x = ⊎_elim (λ (o : In d net.datagrams). h.plain d o)
+          (λ (o : In d more). record {
+            clear = clear-each i link t (place_of event) (step given r event).reply speaks_on (step-greets given r event) updates d o;
+            header = has-header d.says (sent d o).1;
+          }) (in-split d net.datagrams more x)
 
   -- ---- each event
 
@@ -315,15 +334,15 @@ module _ (leaks : Router → Level → List (ℕ × ℕ)) (attached : Router →
     plain = h.plain;
   }
 
-  change-origins : (net new : Network) → AreOctets net → AreSpeaking net → AreSpeaking new → ArePoints net → Change given net new → HaveOrigins net → HaveOrigins new
-  change-origins net new octets speak speak_on points (Still _) h = h
-  change-origins net new octets speak speak_on points (Moved i link event r m) h =
-      moved-origins net i link event r octets (speak i r m.found) (speak_on i (step given r event).router (nth-set net.routers i r (step given r event).router m.found)) points m h
-  change-origins net new octets speak speak_on points (Restarted i r q) h = restart-origins net i r q h
+  change-origins : (net new : Network) → AreOctets net → AreSpeaking net → AreSpeaking new → Change given net new → HaveOrigins net → HaveOrigins new
+  change-origins net new octets speak speak_on (Still _) h = h
+  change-origins net new octets speak speak_on (Moved i link event r m) h =
+      moved-origins net i link event r octets (speak i r m.found) (speak_on i (step given r event).router (nth-set net.routers i r (step given r event).router m.found)) m h
+  change-origins net new octets speak speak_on (Restarted i r q) h = restart-origins net i r q h
 
-  pub apply-origins : (net : Network) (h : Happening) → is_injection h ≡ false → AreOctets net → AreSpeaking net → AreSpeaking (apply given net h) → ArePoints net
+  pub apply-origins : (net : Network) (h : Happening) → is_injection h ≡ false → AreOctets net → AreSpeaking net → AreSpeaking (apply given net h)
       → HaveOrigins net → HaveOrigins (apply given net h)
-  apply-origins net h plain octets speak speak_on points o = change-origins net (apply given net h) octets speak speak_on points (apply-change given net h plain) o
+  apply-origins net h plain octets speak speak_on o = change-origins net (apply given net h) octets speak speak_on (apply-change given net h plain) o
 
 -- ---- the start
 

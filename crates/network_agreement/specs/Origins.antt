@@ -1,15 +1,17 @@
 -- Where a live LSP that is held comes from: the router of its system (ISO 10589 7.3.7; the words:
 -- own).
-use Rattle.std.specs.Prelude.{◌≡◌, ℕ, ◌/◌, ◌<◌, ◌≤◌, true, ◌⊎◌, List, [], ◌∷◌, length, drop, Some}
+use Rattle.std.specs.Prelude.{◌≡◌, ℕ, ◌/◌, ◌≤◌, true, ◌⊎◌, List, [], ◌∷◌, length, drop, Some}
 use Rattle.isis_base.specs.declared.level.Level.{Level}
 use Rattle.isis_model.specs.Places.{nth}
 use Rattle.isis_model.specs.Ranks.{is_live}
 use Rattle.isis_model.specs.Cells.{Cell}
 use Rattle.isis_model.specs.Books.{cell_at}
-use Rattle.isis_model.specs.Routers.{Router, book_of}
+use Rattle.isis_model.specs.Configs.{Config}
+use Rattle.isis_model.specs.Routers.{Circuit, Router, book_of}
 use Rattle.isis_model.specs.Datagrams.{Lsp}
-use Rattle.isis_model.specs.AdjacencyLaws.{is_point}
-use Rattle.network_model.specs.Networks.{Datagram, Network}
+use Rattle.isis_model.specs.Events.{Message, Refused, PointHelloHeard, LanHelloHeard, LspHeard, SnpHeard}
+use Rattle.isis_datagram.specs.Reading.{read}
+use Rattle.network_model.specs.Networks.{Datagram, octets_of, Network}
 use Rattle.network_model.specs.Speakers.{IsLegible}
 use Rattle.network_model.specs.Ports.{In}
 
@@ -36,9 +38,22 @@ pub record WasOwned (past : List Router) (level : Level) (id rank : ℕ) (body :
   pub rank_is : cell.rank ≡ rank
   pub body_is : body_of cell ≡ body
 
--- a datagram is read as what it says, and a live LSP has a header (own)
+-- a message says nothing of LSPs (own)
+abbrev pub IsSilent : Message → Type 0
+IsSilent (Refused cause) = Unit {0}
+IsSilent (PointHelloHeard h) = Unit {0}
+IsSilent (LanHelloHeard level h) = Unit {0}
+IsSilent (LspHeard level snpa h) = ⊥
+IsSilent (SnpHeard level snpa source range entries) = ⊥
+
+-- a datagram is read as what it says, but for LAN hellos, of which nothing is read that says
+-- something of LSPs (own)
+abbrev pub IsClear : Datagram → Type 0
+IsClear d = IsLegible d ⊎ ((by : Config) (on : Circuit) → IsSilent (read by on (octets_of d)))
+
+-- a datagram is clear, and a live LSP has a header (own)
 pub record IsPlain (d : Datagram) : Type 0 where
-  pub legible : IsLegible d
+  pub clear : IsClear d
   pub header : (level : Level) (id : ℕ) (cell : Cell) → d.says ≡ Lsp level id cell
       → is_live cell.rank ≡ true → 27 ≤ length cell.octets
 
@@ -52,11 +67,6 @@ pub record HaveOrigins (net : Network) : Type 0 where
       → In d net.datagrams → d.says ≡ Lsp level id cell
       → is_live cell.rank ≡ true → WasOwned net.past level id cell.rank (body_of cell)
   pub plain : (d : Datagram) → In d net.datagrams → IsPlain d
-
--- all circuits are point-to-point (own)
-abbrev pub ArePoints : Network → Type 0
-ArePoints net = (i : ℕ) (r : Router) (place : ℕ) → nth net.routers i ≡ Some r
-    → place < length r.circuits → is_point (nth r.circuits place) ≡ true
 
 -- no router holds anything, and nothing was sent (own)
 pub record HoldsNothing (net : Network) : Type 0 where

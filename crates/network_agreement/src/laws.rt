@@ -13,7 +13,7 @@ ghost use Rattle.network_model.specs.Speakers.{AreSpeaking, AreOctets};
 ghost use Rattle.network_model.specs.Kept.{IsKeptNet};
 ghost use Rattle.network_agreement.specs.LiveViews.{live_at};
 ghost use Rattle.network_agreement.specs.Chains.{Leads, IsKeptBy};
-ghost use Rattle.network_agreement.specs.Origins.{body_of, HaveOrigins, ArePoints, HoldsNothing, IsSingle};
+ghost use Rattle.network_agreement.specs.Origins.{body_of, HaveOrigins, HoldsNothing, IsSingle};
 
 /// Where what is kept of a network holds and nothing was injected, two routers that a chain of joined routers connects hold
 /// the same live LSP of each LSP ID that no router so connected let go, or neither holds one.
@@ -24,15 +24,15 @@ pub fn group_claim()
         → live_at a level id ≡ live_at b level id }
 {}
 
-/// In a run of point-to-point links without injections, each live LSP that is held anywhere, or stands in a datagram, was
-/// held at some moment by the router of its own system, with its rank and body: so at the start, and after each event, where
-/// each router is one that can be reached.
+/// In a run without injections, each live LSP that is held anywhere, or stands in a datagram, was held at some moment by the
+/// router of its own system, with its rank and body: so at the start, and after each event, where each router is one that can
+/// be reached.
 pub fn origin_claim()
     ensures start { (net : Network) → HoldsNothing net → HaveOrigins net }
     ensures event { (leaks : Router → Level → List (ℕ × ℕ)) (attached : Router → Bool)
         (net : Network) (h : Happening)
         → is_injection h ≡ false → AreOctets net → AreSpeaking net
-        → AreSpeaking (apply (given_octets leaks attached) net h) → ArePoints net
+        → AreSpeaking (apply (given_octets leaks attached) net h)
         → HaveOrigins net → HaveOrigins (apply (given_octets leaks attached) net h) }
 {}
 

@@ -1,8 +1,8 @@
 pub mod InLemmas
-pub mod PortLemmas
+mod PortLemmas
 mod ReadLemmas
-mod LegibleLemmas
-pub mod PointReplies
+pub mod LegibleLemmas
+mod PointReplies
 pub mod ChangeLemmas
 mod LinkLemmas
 mod RestartLemmas

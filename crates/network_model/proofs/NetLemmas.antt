@@ -128,7 +128,7 @@ legible-on i link t place (Some c) out e speaks n g u d x =
     let few = speaks.good.config.circuits in
     legible-out i link t place c out speaks (omega (arith, there, few)) n g (λ by on. u by on c) d x
 
-pub legible-each : (i : ℕ) (link : Option ℕ) (t : Router) (place : ℕ) (reply : Reply) → IsSpeaking t → AllSent NotLan reply → IsReplyGreeting t place reply
+legible-each : (i : ℕ) (link : Option ℕ) (t : Router) (place : ℕ) (reply : Reply) → IsSpeaking t → AllSent NotLan reply → IsReplyGreeting t place reply
     → ((by : Config) (on c : Circuit) → AllSent (ReadsUpdate by on t.config place c) reply) → (d : Datagram) → In d (posted i link t place reply) → IsLegible d
 legible-each i None t place reply speaks n g u d x = absurd x
 legible-each i (Some link) t place Done speaks n g u d x = absurd x

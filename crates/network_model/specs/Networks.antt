@@ -1,5 +1,6 @@
 -- Networks: routers, the links and LANs between them, and the datagrams that were sent (own).
 use Rattle.std.specs.Prelude.{ℕ, zero, suc, ◌+◌, ◌==◌, List, [], ◌∷◌, Option, Some, None, if◌then◌else◌}
+use Rattle.isis_model.specs.Both.{Both}
 use Rattle.isis_model.specs.Places.{nth}
 use Rattle.isis_model.specs.Configs.{Config}
 use Rattle.isis_model.specs.Routers.{Circuit, Router}
@@ -8,11 +9,13 @@ use Rattle.isis_model.specs.Starts.{start}
 use Rattle.isis_datagram.specs.Datagrams.{datagram}
 use Rattle.network_model.specs.declared.end.End.{End}
 
--- A datagram that was sent: by which router, in which of its boots, on which link or LAN, and what
--- it says, by a sender of this configuration on the circuit at this place (own).
+-- A datagram that was sent: by which router, in which of its boots and at which counts of changed
+-- keys, on which link or LAN, and what it says, by a sender of this configuration on the circuit at
+-- this place (own).
 pub record Datagram : Type 0 where
   pub sender : ℕ
   pub boot : ℕ
+  pub changes : Both ℕ
   pub link : ℕ
   pub config : Config
   pub place : ℕ

@@ -1,9 +1,11 @@
 -- Runs of a network: what each event does to it (own).
 use Rattle.std.specs.Prelude.{ℕ, ◌==◌, Bool, true, false, not, List, [], ◌∷◌, ◌++◌, map, Option, Some, None, if◌then◌else◌}
+use Rattle.isis_base.specs.declared.level.Level.TheVariants as level
 use Rattle.isis_model.specs.Places.{nth, with_nth}
+use Rattle.isis_model.specs.Both.{Both}
 use Rattle.isis_model.specs.Books.{risen}
 use Rattle.isis_model.specs.Givens.{Given}
-use Rattle.isis_model.specs.Routers.{Circuit, Router}
+use Rattle.isis_model.specs.Routers.{Circuit, Router, book_of}
 use Rattle.isis_model.specs.Datagrams.{Sent}
 use Rattle.isis_model.specs.Events.{Message, Refused, Event, Second, Take, Pull, Metric, Overload, Prefix, Reply, Done, Dropped, Send}
 use Rattle.isis_model.specs.Steps.{step}
@@ -26,11 +28,19 @@ pub data Happening : Type 0 where
 
 -- ---- what is sent
 
+-- how many changes of keys each level's database has had (own)
+abbrev pub changes_of : Router → Both ℕ
+changes_of r = record {
+  one = (book_of r level.One).changes;
+  two = (book_of r level.Two).changes;
+}
+
 -- what a router sends on a link, by its state after the event (own)
 abbrev pub post : ℕ → ℕ → Router → ℕ → Circuit → Sent → Datagram
 post i link r place c says = record {
   sender = i;
   boot = r.boot;
+  changes = changes_of r;
   link = link;
   config = r.config;
   place = place;
