@@ -1,5 +1,5 @@
--- A clean link joins two routers of one live view, and so does a chain of them.
-use Rattle.std.proofs.Common.{◌≡◌, ℕ, ◌+◌, ◌≤◌, ◌==◌, Bool, true, false, inl, inr, ⊎_elim, List, [], ◌∷◌, Option, Some, if◌then◌else◌, refl, sym, ap, ◌∙◌, subst, arith}
+-- A clean link joins two routers of one live view, and so does a chain of clean links and sweeps.
+use Rattle.std.proofs.Common.{◌≡◌, ℕ, ◌+◌, ◌≤◌, ◌==◌, Bool, true, false, ⊎_elim, List, [], ◌∷◌, Option, Some, if◌then◌else◌, refl, sym, ap, ◌∙◌, subst, arith}
 use Rattle.isis_base.specs.declared.level.Level.{Level}
 use Rattle.isis_model.specs.Maps.{find}
 use Rattle.isis_model.specs.Places.{nth}
@@ -16,7 +16,9 @@ use Rattle.network_model.specs.Counts.{count_where, flags}
 use Rattle.network_model.specs.Kept.{IsKeptNet}
 use Rattle.network_model.proofs.KeptLemmas.{kept-claim}
 use Rattle.network_agreement.specs.LiveViews.{live_rank, live_at}
-use Rattle.network_agreement.specs.Chains.{IsClean, AreJoined, Leads, Stays, Along, IsKeptBy}
+use Rattle.network_agreement.specs.Chains.{IsClean, AreJoined, Clean, CleanBack, Swept, SweptBack, Leads, Stays, Along, IsKeptBy}
+use Rattle.network_agreement.specs.Sweeps.{Taking, AreAgreed}
+use Rattle.network_agreement.proofs.SweepLemmas.{swept-live}
 
 -- no flag stands where none is counted
 no-flag : (cells : List (ℕ × Cell)) (place id : ℕ) → count_where (λ (_ : ℕ) (c : Cell). has c.srm place) cells ≡ 0 → srm_of (find cells id) place ≡ false
@@ -57,26 +59,20 @@ clean-agrees net l i j a b id kept none c x y ka kb =
     let far = subst (λ (r : Router). IsKept r l id) (sym same_b) kb in
     ap (λ (r : Router). live_at r l id) (sym same_a) ∙ clean-ends net l i j id kept none c near far ∙ ap (λ (r : Router). live_at r l id) same_b
 
--- where a router is joined with another, that one is there
-there-of : (net : Network) (l : Level) (i j : ℕ) → AreJoined net l i j → (r : Router) × (nth net.routers j ≡ Some r)
-there-of net l i j (inl c) = (c.b, ap (λ (n : ℕ). nth net.routers n) (sym c.there) ∙ c.up.far)
-there-of net l i j (inr c) = (c.a, ap (λ (n : ℕ). nth net.routers n) (sym c.here) ∙ c.up.near)
-
-pub chain-agrees : (net : Network) (l : Level) (i j : ℕ) (a b : Router) (id : ℕ) → IsKeptNet net → net.injected ≡ 0 → Leads net l i j → IsKeptBy net l i id
+pub chain-agrees : (net : Network) (ts : List Taking) (l : Level) (i j : ℕ) (a b : Router) (id : ℕ) → IsKeptNet net → net.injected ≡ 0 → AreAgreed net ts → Leads net ts l i j → IsKeptBy net ts l i id
     → nth net.routers i ≡ Some a → nth net.routers j ≡ Some b → live_at a l id ≡ live_at b l id
-chain-agrees net l i j a b id kept none (Stays _) by x y = ap (λ (r : Router). live_at r l id) (same-router a b (sym x ∙ y))
-chain-agrees net l i k a b id kept none (Along _ j _ joined rest) by x y =
-    first joined ∙ chain-agrees net l j k c.0 b id kept none rest (record { kept = λ m r v q. by.kept m r (Along i j m joined v) q }) c.1 y
+chain-agrees net ts l i j a b id kept none agreed (Stays _) by x y = ap (λ (r : Router). live_at r l id) (same-router a b (sym x ∙ y))
+chain-agrees net ts l i k a b id kept none agreed (Along _ j _ c z joined rest) by x y =
+    first joined ∙ chain-agrees net ts l j k c b id kept none agreed rest (record { kept = λ m r v q. by.kept m r (Along i j m c z joined v) q }) z y
   where
-    c : (r : Router) × (nth net.routers j ≡ Some r)
-    c = there-of net l i j joined
-
     ka : IsKept a l id
     ka = by.kept i a (Stays i) x
 
-    kc : IsKept c.0 l id
-    kc = by.kept j c.0 (Along i j j joined (Stays j)) c.1
+    kc : IsKept c l id
+    kc = by.kept j c (Along i j j c z joined (Stays j)) z
 
-    first : AreJoined net l i j → live_at a l id ≡ live_at c.0 l id
-    first (inl q) = clean-agrees net l i j a c.0 id kept none q x c.1 ka kc
-    first (inr q) = sym (clean-agrees net l j i c.0 a id kept none q c.1 x kc ka)
+    first : AreJoined net ts l i j → live_at a l id ≡ live_at c l id
+    first (Clean q) = clean-agrees net l i j a c id kept none q x z ka kc
+    first (CleanBack q) = sym (clean-agrees net l j i c a id kept none q z x kc ka)
+    first (Swept link q) = swept-live net ts link l i j a c id kept.speaking agreed q x z
+    first (SweptBack link q) = sym (swept-live net ts link l j i c a id kept.speaking agreed q z x)

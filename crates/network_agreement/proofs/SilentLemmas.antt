@@ -1,5 +1,5 @@
 -- A LAN hello says no LSP and no SNP, whoever reads it.
-use Rattle.std.proofs.Common.{◌≡◌, ℕ, ◌%◌, ◌^◌, ◌<◌, List, Option, Some, None, refl, sym, ap, ◌∙◌, subst}
+use Rattle.std.proofs.Common.{◌≡◌, ℕ, ◌^◌, ◌<◌, List, Option, Some, None, refl, sym, subst}
 use Rattle.isis_base.specs.declared.level.Level.{Level}
 use Rattle.isis_base.specs.declared.level.Level.TheVariants as level
 use Rattle.isis_base.specs.declared.pdu_kind.PduKind.{PduKind}
@@ -12,11 +12,10 @@ use Rattle.isis_model.specs.declared.drop_name.DropName.{DropName}
 use Rattle.isis_model.specs.Configs.{Config}
 use Rattle.isis_model.specs.Routers.{Circuit}
 use Rattle.isis_model.specs.Datagrams.{LanHello}
-use Rattle.isis_model.specs.Events.{Message, Refused, PointHelloHeard, LanHelloHeard, LspHeard, SnpHeard}
+use Rattle.isis_model.specs.Events.{Message, LanHelloHeard}
 use Rattle.isis_datagram.specs.Signing.{signed}
 use Rattle.isis_datagram.specs.Datagrams.{pdu_octets, datagram}
 use Rattle.isis_datagram.specs.Reading.{refused_or, read_pdu, read_frame, read}
-use Rattle.isis_datagram.specs.Frames.{unframed}
 use Rattle.isis_datagram.proofs.ReadLemmas.{unframed-reads_back}
 use Rattle.network_agreement.specs.Origins.{IsSilent}
 

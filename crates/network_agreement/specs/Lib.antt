@@ -3,3 +3,4 @@
 pub mod LiveViews
 pub mod Chains
 pub mod Origins
+pub mod Sweeps

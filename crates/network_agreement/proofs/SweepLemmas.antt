@@ -1,0 +1,356 @@
+-- CSNPs tell their sender's keys while these stand, so who is swept by another holds the same live LSPs.
+use Rattle.std.proofs.Common.{◌≡◌, ℕ, ◌+◌, ◌-◌, ◌^◌, ◌<◌, ◌≤◌, eqb, Bool, true, false, inl, inr, ⊎_elim, List, [], ◌∷◌, map, Option, Some, None, if◌then◌else◌, refl, sym, ap, ◌∙◌, subst, arith, le_refl, le_trans, le_of_eq}
+use Rattle.std.proofs.lemmas.Bool.{cases_lt}
+use Rattle.std.proofs.lemmas.Bool.Decides.{nat_tests}
+use Rattle.std.specs.List.{AllByRecursion}
+use Rattle.isis_base.specs.declared.level.Level.{Level}
+use Rattle.isis_base.specs.declared.level.Level.TheVariants as level
+use Rattle.isis_model.specs.Both.{at}
+use Rattle.isis_model.specs.Places.{nth, with_nth}
+use Rattle.isis_model.specs.Ranks.{is_live}
+use Rattle.isis_model.specs.Cells.{Cell}
+use Rattle.isis_model.specs.Books.{Book, cell_at, rank_of, rank_at, checksum_of}
+use Rattle.isis_model.specs.SnpTable.{SnpEntry}
+use Rattle.isis_model.specs.Routers.{Circuit, Router, level_of, book_of}
+use Rattle.isis_model.specs.Datagrams.{Sent, PointHello, LanHello, Lsp, Csnp, Psnp}
+use Rattle.isis_model.specs.Givens.{Given}
+use Rattle.isis_model.specs.Events.{Message, SnpHeard, Event, Reply, Done, Dropped, Send}
+use Rattle.isis_model.specs.Steps.{step}
+use Rattle.isis_model.specs.Good.{IsGood, IsGoodRouter}
+use Rattle.isis_model.specs.Deeds.{Content}
+use Rattle.isis_model.specs.Hearings.{hearing}
+use Rattle.isis_model.specs.ContentLaws.{SameKey, held_content}
+use Rattle.isis_model.specs.ReplyLaws.{AllSent, Entry, TellsKeys, IsTold}
+use Rattle.isis_model.specs.SweepLaws.{ListsKey, AreHeldLive}
+use Rattle.isis_model.specs.AdjacencyLaws.{place_of}
+use Rattle.isis_model.proofs.BookLemmas.{test}
+use Rattle.isis_model.proofs.StepWays.{step-course}
+use Rattle.isis_model.proofs.TellLemmas.{course-tells}
+use Rattle.isis_model.proofs.BondLemmas.{step-stays}
+use Rattle.isis_model.proofs.KeyLemmas.{step-told}
+use Rattle.isis_model.proofs.SweepLemmas.{clean-held, clean-listed}
+use Rattle.isis_datagram.specs.Lsps.{given_octets}
+use Rattle.isis_datagram.specs.Reading.{read}
+use Rattle.isis_datagram.specs.Said.{said}
+use Rattle.network_model.specs.Networks.{Datagram, octets_of, Network, restarted}
+use Rattle.network_model.specs.Runs.{read_on, post, posts, posted, changes_of, Happening, is_injection, apply}
+use Rattle.network_model.specs.Speakers.{IsReading, IsLegible, AreSpeaking}
+use Rattle.network_model.specs.Ports.{In}
+use Rattle.network_model.proofs.InLemmas.{in-split}
+use Rattle.network_model.proofs.ChangeLemmas.{nth-set, nth-other, some-same, Change, Still, Moved, Restarted, apply-change}
+use Rattle.network_agreement.specs.LiveViews.{live_rank, live_at}
+use Rattle.network_agreement.specs.Origins.{IsSilent, IsPlain, HaveOrigins, HoldsNothing}
+use Rattle.network_agreement.specs.Sweeps.{IsAt, IsPast, IsTrue, AreTrue, Taking, IsCleanTake, taking_of, IsAgreed, AreAgreed, IsCovered, IsSweptBy}
+
+-- ---- a router later
+
+-- boots rise; in one boot changes rise; and while both stand, keys do
+record Onward (l : Level) (r s : Router) : Type 0 where
+  boot : r.boot ≤ s.boot
+  count : r.boot ≡ s.boot → (book_of r l).changes ≤ (book_of s l).changes
+  same : r.boot ≡ s.boot → (book_of r l).changes ≡ (book_of s l).changes → (book_of s l).changes < 2 ^ 64 - 1 → (id : ℕ) → SameKey (cell_at (book_of r l) id) (cell_at (book_of s l) id)
+
+key-refl : (o : Option Cell) → SameKey o o
+key-refl o = record { rank = refl; content = λ live. refl }
+
+onward-refl : (l : Level) (r : Router) → Onward l r r
+onward-refl l r = record { boot = le_refl _; count = λ e. le_refl _; same = λ e f b id. key-refl _ }
+
+step-onward : (given : Given) (l : Level) (r : Router) (event : Event) → Onward l r (step given r event).router
+step-onward given l r event =
+    let t = (step given r event).router in
+    let tells = course-tells (hearing given r event l) (level_of r l) (level_of t l) ((step-course given r event).on l) in
+    record { boot = le_of_eq (sym (step-stays given r event).boot); count = λ e. tells.counts; same = λ e k below id. tells.same (sym k) below id }
+
+up-one : (n : ℕ) → n ≤ n + 1
+up-one n = omega arith
+
+not-up : (n : ℕ) → n ≡ n + 1 → ⊥
+not-up n e = omega (arith, e)
+
+restart-onward : (l : Level) (r : Router) → Onward l r (restarted r)
+restart-onward l r = record { boot = up-one r.boot; count = λ e. absurd (not-up r.boot e); same = λ e k below id. absurd (not-up r.boot e) }
+
+between : (a b c : ℕ) → a ≤ b → b ≤ c → a ≡ c → (a ≡ b) × (b ≡ c)
+between a b c h k e = (omega (arith, h, k, e), omega (arith, h, k, e))
+
+-- a moment that was stays past, and where it still is, it was
+past-later : (l : Level) (r s : Router) (boot changes : ℕ) → Onward l r s → IsPast r l boot changes → IsPast s l boot changes
+past-later l r s boot changes o p = record {
+  boot = le_trans p.boot o.boot;
+  changes = λ e. let b = between _ _ _ p.boot o.boot e in le_trans (p.changes b.0) (o.count b.1);
+}
+
+at-before : (l : Level) (r s : Router) (boot changes : ℕ) → Onward l r s → IsPast r l boot changes → IsAt s l boot changes → IsAt r l boot changes
+at-before l r s boot changes o p a =
+    let b = between _ _ _ p.boot o.boot (sym a.boot) in
+    let c = between _ _ _ (p.changes b.0) (o.count b.1) (sym a.changes) in
+    record { boot = sym b.0; changes = sym c.0; below = a.below }
+
+same-keys : (l : Level) (r s : Router) (boot changes : ℕ) → Onward l r s → IsAt r l boot changes → IsAt s l boot changes → (id : ℕ) → SameKey (cell_at (book_of r l) id) (cell_at (book_of s l) id)
+same-keys l r s boot changes o a b id = o.same (a.boot ∙ sym b.boot) (a.changes ∙ sym b.changes) (subst (λ (n : ℕ). n < 2 ^ 64 - 1) (sym b.changes) b.below) id
+
+-- ---- keys that are told
+
+-- what is held with the same content has the same checksum
+same-checksum : (old new : Option Cell) → held_content new ≡ held_content old → checksum_of old ≡ checksum_of new
+same-checksum None None e = refl
+same-checksum None (Some cell) e = absurd (cc)
+same-checksum (Some cell) None e = absurd (cc)
+same-checksum (Some a) (Some b) e = ap (λ (c : Content). c.checksum) (sym (some-same _ _ e))
+
+tells-later : (l : Level) (r s : Router) (first last : ℕ) (entries : List SnpEntry) → ((id : ℕ) → SameKey (cell_at (book_of r l) id) (cell_at (book_of s l) id)) → TellsKeys r l first last entries → TellsKeys s l first last entries
+tells-later l r s first last entries same k = record {
+  lists = λ id low high some.
+      let key = same id in
+      let f = k.lists id low high (subst (λ (n : ℕ). 0 < n) key.rank some) in
+      let alive = λ (live : is_live (rank_at (book_of s l) id) ≡ true). subst (λ (n : ℕ). is_live n ≡ true) key.rank live in
+      record {
+        entry = f.entry;
+        stands = f.stands;
+        id_is = f.id_is;
+        rank_is = f.rank_is ∙ sym key.rank;
+        checksum_is = λ live. f.checksum_is (alive live) ∙ same-checksum _ _ (key.content live);
+        left = λ live. f.left (alive live);
+        summed = λ live. f.summed (alive live);
+      };
+  holds = λ h x. k.holds h x ∙ sym (same h.id).rank;
+}
+
+-- ---- where a router is there, it was
+
+record Earlier (l : Level) (net : Network) (j : ℕ) (s : Router) : Type 0 where
+  router : Router
+  there : nth net.routers j ≡ Some router
+  onward : Onward l router s
+
+set-earlier : (l : Level) (net : Network) (i j : ℕ) (r t s : Router) → nth net.routers i ≡ Some r → Onward l r t → nth (with_nth net.routers i t) j ≡ Some s → Earlier l net j s
+set-earlier l net i j r t s q o e =
+    test (λ b. eqb i j ≡ b → Earlier l net j s) (eqb i j)
+    (λ _ y. let same : i ≡ j = grind (arith, nat_tests) in
+    let here : t ≡ s = some-same t s (sym (nth-set net.routers i r t q) ∙ ap (λ (n : ℕ). nth (with_nth net.routers i t) n) same ∙ e) in
+    record { router = r; there = ap (λ (n : ℕ). nth net.routers n) (sym same) ∙ q; onward = subst (λ (x : Router). Onward l r x) here o })
+    (λ _ n. record { router = s; there = sym (nth-other net.routers i t j (λ x. grind (arith, nat_tests))) ∙ e; onward = onward-refl l s }) refl
+
+change-earlier : (given : Given) (l : Level) (net new : Network) (j : ℕ) (s : Router) → Change given net new → nth new.routers j ≡ Some s → Earlier l net j s
+change-earlier given l net new j s (Still _) e = record { router = s; there = e; onward = onward-refl l s }
+change-earlier given l net new j s (Moved i link event r m) e = set-earlier l net i j r (step given r event).router s m.found (step-onward given l r event) e
+change-earlier given l net new j s (Restarted i r q) e = set-earlier l net i j r (restarted r) s q (restart-onward l r) e
+
+-- ---- what was sent stays true
+
+true-later : (given : Given) (net new : Network) (d : Datagram) → Change given net new → IsTrue net d → IsTrue new d
+true-later given net new d c t = record {
+  past = λ s l e. let b = change-earlier given l net new d.sender s c e in past-later l b.router s d.boot (at d.changes l) b.onward (t.past b.router l b.there);
+  tells = λ s l first last entries e says here.
+      let b = change-earlier given l net new d.sender s c e in
+      let was = at-before l b.router s d.boot (at d.changes l) b.onward (t.past b.router l b.there) here in
+      tells-later l b.router s first last entries (same-keys l b.router s d.boot (at d.changes l) b.onward was here) (t.tells b.router l first last entries b.there says was);
+}
+
+count-of : (t : Router) (l : Level) → at (changes_of t) l ≡ (book_of t l).changes
+count-of t level.One = refl
+count-of t level.Two = refl
+
+-- what a router sends
+record IsFresh (i : ℕ) (t : Router) (d : Datagram) : Type 0 where
+  sender : d.sender ≡ i
+  boot : d.boot ≡ t.boot
+  changes : d.changes ≡ changes_of t
+  told : IsTold t d.says
+
+fresh-out : (i link : ℕ) (t : Router) (place : ℕ) (c : Circuit) (out : List Sent) → AllByRecursion (IsTold t) out → (d : Datagram) → In d (map (post i link t place c) out) → IsFresh i t d
+fresh-out i link t place c [] h d x = absurd x
+fresh-out i link t place c (s ∷ out) h d (inl e) = subst (IsFresh i t) (sym e) (record { sender = refl; boot = refl; changes = refl; told = h.0 })
+fresh-out i link t place c (s ∷ out) h d (inr x) = fresh-out i link t place c out h.1 d x
+
+fresh-on : (i link : ℕ) (t : Router) (place : ℕ) (c : Option Circuit) (out : List Sent) → AllByRecursion (IsTold t) out → (d : Datagram) → In d (posts i link t place c out) → IsFresh i t d
+fresh-on i link t place None out h d x = absurd x
+fresh-on i link t place (Some c) out h d x = fresh-out i link t place c out h d x
+
+fresh-each : (i : ℕ) (link : Option ℕ) (t : Router) (place : ℕ) (reply : Reply) → AllSent (IsTold t) reply → (d : Datagram) → In d (posted i link t place reply) → IsFresh i t d
+fresh-each i None t place reply h d x = absurd x
+fresh-each i (Some link) t place Done h d x = absurd x
+fresh-each i (Some link) t place (Dropped cause) h d x = absurd x
+fresh-each i (Some link) t place (Send out) h d x = fresh-on i link t place (nth t.circuits place) out h d x
+
+told-keys : (t : Router) (s : Sent) (l : Level) (first last : ℕ) (entries : List SnpEntry) → s ≡ Csnp l first last entries → IsTold t s → TellsKeys t l first last entries
+told-keys t s l first last entries e h = from (subst (IsTold t) e h)
+  where
+    from : IsTold t (Csnp l first last entries) → TellsKeys t l first last entries
+    from k = k
+
+fresh-true : (net : Network) (i : ℕ) (t : Router) (d : Datagram) → nth net.routers i ≡ Some t → IsFresh i t d → IsTrue net d
+fresh-true net i t d at_t f = record {
+  past = λ r l e.
+      let same : t ≡ r = some-same t r (sym at_t ∙ ap (λ (n : ℕ). nth net.routers n) (sym f.sender) ∙ e) in
+      subst (λ (x : Router). IsPast x l d.boot (at d.changes l)) same
+      (record { boot = le_of_eq f.boot; changes = λ _. le_of_eq (ap (λ (b : _). at b l) f.changes ∙ count-of t l) });
+  tells = λ r l first last entries e says here.
+      let same : t ≡ r = some-same t r (sym at_t ∙ ap (λ (n : ℕ). nth net.routers n) (sym f.sender) ∙ e) in
+      subst (λ (x : Router). TellsKeys x l first last entries) same (told-keys t d.says l first last entries says f.told);
+}
+
+module _ (leaks : Router → Level → List (ℕ × ℕ)) (attached : Router → Bool) where
+  abbrev given : Given
+  given = given_octets leaks attached
+
+  change-true : (net new : Network) → AreSpeaking net → Change given net new → AreTrue net → AreTrue new
+  change-true net new speak (Still _) t = t
+  change-true net new speak (Moved i link event r m) t = record {
+    each = λ d x. ⊎_elim
+        (λ (o : In d net.datagrams). true-later given net new d (Moved i link event r m) (t.each d o))
+        (λ (o : In d (posted i link (step given r event).router (place_of event) (step given r event).reply)).
+        fresh-true new i (step given r event).router d (nth-set net.routers i r (step given r event).router m.found)
+        (fresh-each i link (step given r event).router (place_of event) (step given r event).reply
+        (step-told given r event (speak i r m.found).sorted (speak i r m.found).good) d o))
+        (in-split d net.datagrams _ x);
+  }
+  change-true net new speak (Restarted i r q) t = record { each = λ d x. true-later given net new d (Restarted i r q) (t.each d x) }
+
+  pub apply-true : (net : Network) (h : Happening) → is_injection h ≡ false → AreSpeaking net → AreTrue net → AreTrue (apply given net h)
+  apply-true net h plain speak t = change-true net (apply given net h) speak (apply-change given net h plain) t
+
+no-datagram : (ds : List Datagram) (d : Datagram) → ds ≡ [] → In d ds → ⊥
+no-datagram [] d q i = i
+no-datagram (x ∷ ds) d q i = cc
+
+pub start-true : (net : Network) → HoldsNothing net → AreTrue net
+start-true net n = record { each = λ d x. absurd (no-datagram net.datagrams d n.nothing x) }
+
+-- ---- what was taken stays agreed
+
+same-live : (l : Level) (r s : Router) (id : ℕ) → SameKey (cell_at (book_of r l) id) (cell_at (book_of s l) id) → live_at r l id ≡ live_at s l id
+same-live l r s id k = ap live_rank (sym k.rank)
+
+agreed-later : (given : Given) (net new : Network) (t : Taking) → Change given net new → IsAgreed net t → IsAgreed new t
+agreed-later given net new t c h = record {
+  member = λ s e. let b = change-earlier given t.level net new t.member s c e in past-later t.level b.router s t.boot t.changes b.onward (h.member b.router b.there);
+  sender = λ s e. let b = change-earlier given t.level net new t.sender s c e in past-later t.level b.router s t.sent_boot t.sent_changes b.onward (h.sender b.router b.there);
+  same = λ a b x y here there id low high.
+      let m = change-earlier given t.level net new t.member a c x in
+      let d = change-earlier given t.level net new t.sender b c y in
+      let was = at-before t.level m.router a t.boot t.changes m.onward (h.member m.router m.there) here in
+      let sent = at-before t.level d.router b t.sent_boot t.sent_changes d.onward (h.sender d.router d.there) there in
+      sym (same-live t.level m.router a id (same-keys t.level m.router a t.boot t.changes m.onward was here id))
+      ∙ h.same m.router d.router m.there d.there was sent id low high
+      ∙ same-live t.level d.router b id (same-keys t.level d.router b t.sent_boot t.sent_changes d.onward sent there id);
+}
+
+pub apply-agreed : (leaks : Router → Level → List (ℕ × ℕ)) (attached : Router → Bool) (net : Network) (h : Happening) (ts : List Taking) → is_injection h ≡ false → AreAgreed net ts → AreAgreed (apply (given_octets leaks attached) net h) ts
+apply-agreed leaks attached net h [] plain a = tt
+apply-agreed leaks attached net h (t ∷ ts) plain a =
+    (agreed-later (given_octets leaks attached) net (apply (given_octets leaks attached) net h) t (apply-change (given_octets leaks attached) net h plain) a.0, apply-agreed leaks attached net h ts plain a.1)
+
+-- ---- what is taken
+
+same-level : (l m : Level) (a b c d : ℕ) (x y : Option (ℕ × ℕ)) (es fs : List SnpEntry) → SnpHeard l a b x es ≡ SnpHeard m c d y fs → l ≡ m
+same-level l m a b c d x y es fs e = cc
+
+same-range : (l m : Level) (a b c d : ℕ) (x y : Option (ℕ × ℕ)) (es fs : List SnpEntry) → SnpHeard l a b x es ≡ SnpHeard m c d y fs → x ≡ y
+same-range l m a b c d x y es fs e = cc
+
+same-entries : (l m : Level) (a b c d : ℕ) (x y : Option (ℕ × ℕ)) (es fs : List SnpEntry) → SnpHeard l a b x es ≡ SnpHeard m c d y fs → es ≡ fs
+same-entries l m a b c d x y es fs e = cc
+
+-- what a clear datagram is read as, where that is a CSNP
+read-csnp : (own : ℕ) (d : Datagram) (s : Sent) → d.says ≡ s → (l : Level) (snpa source first last : ℕ) (entries : List SnpEntry)
+    → IsReading (SnpHeard l snpa source (Some (first, last)) entries) (said own d.config d.place d.circuit s) → d.says ≡ Csnp l first last entries
+read-csnp own d s e l snpa source first last entries (inl q) = absurd (let clash = q.1 in cc)
+read-csnp own d (PointHello state extended names) e l snpa source first last entries (inr q) = absurd (cc)
+read-csnp own d (LanHello m lan snpas) e l snpa source first last entries (inr q) = absurd (cc)
+read-csnp own d (Lsp m id cell) e l snpa source first last entries (inr q) = absurd (cc)
+read-csnp own d (Csnp m start end others) e l snpa source first last entries (inr q) = e ∙ same-csnp q
+  where
+    same-csnp : SnpHeard l snpa source (Some (first, last)) entries ≡ SnpHeard m d.config.system d.config.system (Some (start, end)) others → Csnp m start end others ≡ Csnp l first last entries
+    same-csnp q =
+        ap (λ (p : ℕ × ℕ). Csnp m p.0 p.1 others) (sym (some-same _ _ (same-range l m _ _ _ _ _ _ _ _ q)))
+        ∙ ap (λ (es : List SnpEntry). Csnp m first last es) (sym (same-entries l m _ _ _ _ _ _ _ _ q))
+        ∙ ap (λ (k : Level). Csnp k first last entries) (sym (same-level l m _ _ _ _ _ _ _ _ q))
+read-csnp own d (Psnp m others) e l snpa source first last entries (inr q) = absurd (cc)
+
+read-on : (r : Router) (c : Option Circuit) (d : Datagram) → IsPlain d → (l : Level) (snpa source first last : ℕ) (entries : List SnpEntry)
+    → read_on r c (octets_of d) ≡ SnpHeard l snpa source (Some (first, last)) entries → d.says ≡ Csnp l first last entries
+read-on r None d plain l snpa source first last entries q = absurd (cc)
+read-on r (Some c) d plain l snpa source first last entries q = ⊎_elim
+    (λ (legible : IsLegible d). read-csnp r.config.system d d.says refl l snpa source first last entries (subst (λ (m : Message). IsReading m (said r.config.system d.config d.place d.circuit d.says)) q (legible r.config c)))
+    (λ (silent : (by : _) (on : _) → IsSilent (read by on (octets_of d))). absurd (subst IsSilent q (silent r.config c)))
+    plain.clear
+
+held-live : (b : Book) (entries : List SnpEntry) (h : SnpEntry) → AreHeldLive b entries → Entry h entries → is_live h.rank ≡ true → 0 < h.lifetime → 0 < h.checksum → rank_at b h.id ≡ h.rank
+held-live b [] h a x live left sum = absurd x
+held-live b (y ∷ entries) h a (inl e) live left sum =
+    let f = subst (λ (z : SnpEntry). is_live z.rank ≡ true → 0 < z.lifetime → 0 < z.checksum → rank_at b z.id ≡ z.rank) (sym e) (λ p q r. (a.0 p q r).0) in f live left sum
+held-live b (y ∷ entries) h a (inr x) live left sum = held-live b entries h a.1 x live left sum
+
+record Found (entries : List SnpEntry) (id rank : ℕ) : Type 0 where
+  entry : SnpEntry
+  stands : Entry entry entries
+  id_is : entry.id ≡ id
+  rank_is : entry.rank ≡ rank
+
+found : (entries : List SnpEntry) (id rank checksum : ℕ) → ListsKey entries id rank checksum → Found entries id rank
+found [] id rank checksum x = absurd x
+found (h ∷ entries) id rank checksum (inl e) = record { entry = h; stands = inl refl; id_is = e.0; rank_is = e.1 }
+found (h ∷ entries) id rank checksum (inr x) = let f = found entries id rank checksum x in record { entry = f.entry; stands = inr f.stands; id_is = f.id_is; rank_is = f.rank_is }
+
+-- two ranks that are one where either is live are one live rank
+one-live : (m n : ℕ) → (is_live m ≡ true → n ≡ m) → (is_live n ≡ true → n ≡ m) → live_rank m ≡ live_rank n
+one-live m n f g = by-tests (is_live m) (is_live n) refl refl
+  where
+    by-tests : (s t : Bool) → is_live m ≡ s → is_live n ≡ t → (if s then m else 0) ≡ (if t then n else 0)
+    by-tests true true x y = sym (f x)
+    by-tests true false x y = absurd (let k = subst (λ (z : ℕ). is_live z ≡ false) (f x) y in cc)
+    by-tests false true x y = absurd (let k = subst (λ (z : ℕ). is_live z ≡ true) (g y) y in cc)
+    by-tests false false x y = refl
+
+live-some : (n : ℕ) → is_live n ≡ true → 0 < n
+live-some n e = grind (arith, nat_tests)
+
+-- a router that takes a CSNP without a flag holds what its sender does, where that stands
+take-live : (r b : Router) (place : ℕ) (d : Datagram) (l : Level) (first last : ℕ) → (c : IsCleanTake r place d l first last) → TellsKeys b l first last c.entries → (id : ℕ) → first ≤ id → id ≤ last → live_at r l id ≡ live_at b l id
+take-live r b place d l first last c tells id low high =
+    let lists = clean-listed c.scene (level_of r l) r.config.system place first last c.entries c.clean c.range id low high in
+    let holds = clean-held c.scene (level_of r l) r.config.system place c.entries c.clean in
+    one-live (rank_at (book_of r l) id) (rank_at (book_of b l) id)
+    (λ live. let f = found c.entries id _ _ (lists live) in sym (sym f.rank_is ∙ tells.holds f.entry f.stands ∙ ap (λ (n : ℕ). rank_at (book_of b l) n) f.id_is))
+    (λ live. let f = tells.lists id low high (live-some _ live) in
+    sym (sym (ap (λ (n : ℕ). rank_at (book_of r l) n) f.id_is) ∙ held-live (book_of r l) c.entries f.entry holds f.stands (subst (λ (n : ℕ). is_live n ≡ true) (sym f.rank_is) live) (f.left live) (f.summed live) ∙ f.rank_is))
+
+pub take-agreed : (net : Network) (i : ℕ) (r : Router) (place : ℕ) (d : Datagram) (l : Level) (first last : ℕ) → HaveOrigins net → AreTrue net → In d net.datagrams → nth net.routers i ≡ Some r → IsCleanTake r place d l first last → IsAgreed net (taking_of i r d l first last)
+take-agreed net i r place d l first last o t x at_r c = record {
+  member = λ s e. subst (λ (y : Router). IsPast y l r.boot (book_of r l).changes) (some-same r s (sym at_r ∙ e)) (record { boot = le_refl _; changes = λ _. le_refl _ });
+  sender = λ s e. (t.each d x).past s l e;
+  same = λ a b e f here there id low high.
+      let says = read-on r (nth r.circuits place) d (o.plain d x) l c.snpa c.source first last c.entries c.reads in
+      let tells = (t.each d x).tells b l first last c.entries f says there in
+      ap (λ (y : Router). live_at y l id) (sym (some-same r a (sym at_r ∙ e))) ∙ take-live r b place d l first last c tells id low high;
+}
+
+-- ---- who is swept
+
+-- nothing is held past the LSP IDs
+past-ids : (r : Router) (l : Level) (id : ℕ) → IsGoodRouter r → (id < 2 ^ 64 → ⊥) → live_at r l id ≡ 0
+past-ids r l id good n = none (cell_at (book_of r l) id) ((good.on l).at id)
+  where
+    none : (o : Option Cell) → IsGood id o → live_rank (rank_of o) ≡ 0
+    none None g = refl
+    none (Some c) g = absurd (n g.0)
+
+covered-live : (net : Network) (link : ℕ) (l : Level) (m d : ℕ) (a b : Router) (id : ℕ) (ts : List Taking) → AreAgreed net ts → nth net.routers m ≡ Some a → nth net.routers d ≡ Some b → IsCovered net link l m d id ts → live_at a l id ≡ live_at b l id
+covered-live net link l m d a b id [] h x y c = absurd c
+covered-live net link l m d a b id (t ∷ ts) h x y (inr c) = covered-live net link l m d a b id ts h.1 x y c
+covered-live net link l m d a b id (t ∷ ts) h x y (inl c) =
+    let is_a : c.a ≡ a = some-same c.a a (sym c.at_a ∙ x) in
+    let is_b : c.b ≡ b = some-same c.b b (sym c.at_b ∙ y) in
+    let here = subst (λ (k : Level). IsAt c.a k t.boot t.changes) (sym c.level_is) c.here in
+    let there = subst (λ (k : Level). IsAt c.b k t.sent_boot t.sent_changes) (sym c.level_is) c.there in
+    let at_a : nth net.routers t.member ≡ Some c.a = ap (λ (n : ℕ). nth net.routers n) c.of_member ∙ c.at_a in
+    let at_b : nth net.routers t.sender ≡ Some c.b = ap (λ (n : ℕ). nth net.routers n) c.of_other ∙ c.at_b in
+    let same = h.0.same c.a c.b at_a at_b here there id c.low c.high in
+    ap (λ (r : Router). live_at r l id) (sym is_a) ∙ subst (λ (k : Level). live_at c.a k id ≡ live_at c.b k id) c.level_is same ∙ ap (λ (r : Router). live_at r l id) is_b
+
+pub swept-live : (net : Network) (ts : List Taking) (link : ℕ) (l : Level) (m d : ℕ) (a b : Router) (id : ℕ) → AreSpeaking net → AreAgreed net ts → IsSweptBy net ts link l m d → nth net.routers m ≡ Some a → nth net.routers d ≡ Some b → live_at a l id ≡ live_at b l id
+swept-live net ts link l m d a b id speak h s x y =
+    ⊎_elim (λ (k : id < 2 ^ 64). covered-live net link l m d a b id ts h x y (s.each id k))
+    (λ (k : 2 ^ 64 ≤ id). past-ids a l id (speak m a x).good (λ z. omega (arith, z, k)) ∙ sym (past-ids b l id (speak d b y).good (λ z. omega (arith, z, k)))) (cases_lt id (2 ^ 64))
