@@ -9,8 +9,8 @@ use Rattle.isis_model.specs.Events.{Message, Event, Second, Take, Pull, Metric, 
 use Rattle.isis_model.specs.AdjacencyLaws.{place_of}
 use Rattle.isis_model.proofs.BookLemmas.{test, same-or}
 use Rattle.isis_model.proofs.TouchLemmas.{nth-with_nth}
-use Rattle.network_model.specs.Networks.{Datagram, octets_of, Network, place_at, numbered}
-use Rattle.network_model.specs.Runs.{read_on, taking, moved, moved_if, Happening, Tick, PullOn, Deliver, Restart, SetMetric, SetOverload, SetPrefix, Inject, is_injection, Stale, NotOn, boot_of, on_place, arrival, arrive_at, arrive, pull_at, restart_at, apply}
+use Rattle.network_model.specs.Networks.{Datagram, octets_of, Taking, Network, place_at, numbered}
+use Rattle.network_model.specs.Runs.{read_on, taking, moved, moved_if, Happening, Tick, PullOn, Deliver, Restart, SetMetric, SetOverload, SetPrefix, Inject, is_injection, Stale, NotOn, boot_of, on_place, arrival, ranges_in, deliver_at, arrive, pull_at, restart_at, apply}
 use Rattle.network_model.specs.Ports.{In}
 
 -- ---- lists
@@ -63,7 +63,7 @@ pub record Moves (net : Network) (i : ℕ) (link : Option ℕ) (event : Event) (
 -- what an event makes of a network
 pub data Change (given : Given) (net : Network) : Network → Type 0 where
   Still : (same : Network) → Change given net net
-  Moved : (i : ℕ) (link : Option ℕ) (event : Event) (r : Router) → Moves net i link event r → Change given net (moved given net i link event r)
+  Moved : (i : ℕ) (link : Option ℕ) (event : Event) (r : Router) (ts : List Taking) → Moves net i link event r → Change given net (moved given net i link event r ts)
   Restarted : (i : ℕ) (r : Router) → nth net.routers i ≡ Some r → Change given net (restart_at net i (Some r))
 
 -- ---- deliveries
@@ -89,9 +89,9 @@ same-place p q m n e = cc
 same-message : (p q : ℕ) (m n : Message) → Take p m ≡ Take q n → m ≡ n
 same-message p q m n e = cc
 
-taken-change : (given : Given) (net : Network) (i : ℕ) (d : Datagram) (place : ℕ) (r : Option Router) → nth net.routers i ≡ r → In d net.datagrams → Lands net i d place → Change given net (arrive_at given net i d.link place (octets_of d) r)
+taken-change : (given : Given) (net : Network) (i : ℕ) (d : Datagram) (place : ℕ) (r : Option Router) → nth net.routers i ≡ r → In d net.datagrams → Lands net i d place → Change given net (deliver_at given net i d place r)
 taken-change given net i d place None q x l = Still net
-taken-change given net i d place (Some r) q x l = Moved i (Some d.link) (taking r place (octets_of d)) r (record {
+taken-change given net i d place (Some r) q x l = Moved i (Some d.link) (taking r place (octets_of d)) r (ranges_in given i r place d) (record {
   found = q;
   on = λ k y. subst (λ (n : ℕ). place_at net n i ≡ Some place) (some-same _ _ y) l.on;
   hears = λ p m y.
@@ -124,7 +124,7 @@ deliver-change given net i (Some d) there =
 
 moved_if-change : (given : Given) (net : Network) (i : ℕ) (link : Option ℕ) (event : Event) (o : Option Router) → ((r : Router) → o ≡ Some r → Moves net i link event r) → Change given net (moved_if given net i link event o)
 moved_if-change given net i link event None moves = Still net
-moved_if-change given net i link event (Some r) moves = Moved i link event r (moves r refl)
+moved_if-change given net i link event (Some r) moves = Moved i link event r [] (moves r refl)
 
 -- an event without a circuit
 alone : (net : Network) (i : ℕ) (event : Event) → ((place : ℕ) (m : Message) → event ≡ Take place m → ⊥) → (r : Router) → nth net.routers i ≡ Some r → Moves net i None event r

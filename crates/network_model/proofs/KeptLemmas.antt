@@ -18,7 +18,7 @@ use Rattle.isis_model.proofs.BookLemmas.{test}
 use Rattle.isis_model.proofs.BondLemmas.{step-stays}
 use Rattle.isis_datagram.specs.Lsps.{given_octets}
 use Rattle.network_model.specs.declared.end.End.{End}
-use Rattle.network_model.specs.Networks.{Datagram, octets_of, Network, place_at, place_in, restarted}
+use Rattle.network_model.specs.Networks.{Datagram, octets_of, Taking, Network, place_at, place_in, restarted}
 use Rattle.network_model.specs.Runs.{Happening, Inject, Tick, PullOn, Deliver, Restart, SetMetric, SetOverload, SetPrefix, is_injection, apply, moved, restart_at, inject_at, arrive_at}
 use Rattle.network_model.specs.Speakers.{AreSpeaking, AreOctets}
 use Rattle.network_model.specs.Ports.{Port}
@@ -39,9 +39,9 @@ point-same : (given : Given) (r : Router) (event : Event) (place : ℕ) → Foll
 point-same given r event place old new =
     sym (new.points level.One place) ∙ ap (λ (n : ℕ). has n place) ((step-keeps given r event).on level.One).floods.kinds ∙ old.points level.One place
 
-moved-end : (given : Given) (net : Network) (i : ℕ) (link : Option ℕ) (event : Event) (r : Router) (e : Port) → nth net.routers i ≡ Some r → AreFollowing net
-    → FollowsAdjacencies (step given r event).router → IsEnd (moved given net i link event r) e → IsEnd net e
-moved-end given net i link event r e found old new x =
+moved-end : (given : Given) (net : Network) (i : ℕ) (link : Option ℕ) (event : Event) (r : Router) (ts : List Taking) (e : Port) → nth net.routers i ≡ Some r → AreFollowing net
+    → FollowsAdjacencies (step given r event).router → IsEnd (moved given net i link event r ts) e → IsEnd net e
+moved-end given net i link event r ts e found old new x =
     test (λ b. eqb i e.router ≡ b → IsEnd net e) (eqb i e.router)
     (λ _ y. here (grind (arith, nat_tests)))
     (λ _ n. record { a = x.a; at_a = sym (nth-other net.routers i t e.router (λ q. grind (arith, nat_tests))) ∙ x.at_a; system = x.system; point = x.point }) refl
@@ -80,15 +80,15 @@ restart-end net i r e found x =
 
 change-end : (given : Given) (net new : Network) (e : Port) → AreFollowing net → AreFollowing new → Change given net new → IsEnd new e → IsEnd net e
 change-end given net new e old follow (Still _) x = x
-change-end given net new e old follow (Moved i link event r m) x =
-    moved-end given net i link event r e m.found old (follow i (step given r event).router (nth-set net.routers i r (step given r event).router m.found)) x
+change-end given net new e old follow (Moved i link event r ts m) x =
+    moved-end given net i link event r ts e m.found old (follow i (step given r event).router (nth-set net.routers i r (step given r event).router m.found)) x
 change-end given net new e old follow (Restarted i r q) x = restart-end net i r e q x
 
 -- ---- how many were injected
 
 change-injected : (given : Given) (net new : Network) → Change given net new → new.injected ≡ net.injected
 change-injected given net new (Still _) = refl
-change-injected given net new (Moved i link event r m) = refl
+change-injected given net new (Moved i link event r ts m) = refl
 change-injected given net new (Restarted i r q) = refl
 
 risen-some : (n : ℕ) → risen n ≡ 0 → ⊥

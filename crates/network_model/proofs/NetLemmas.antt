@@ -24,7 +24,7 @@ use Rattle.isis_datagram.proofs.SendLemmas.{step-reads}
 use Rattle.isis_datagram.specs.Speakers.{IsSpeaking}
 use Rattle.network_model.specs.Speakers.{AreSpeaking, AreOctets, IsLegible}
 use Rattle.network_model.specs.declared.end.End.{End}
-use Rattle.network_model.specs.Networks.{Datagram, octets_of, Network, place_on, place_in, place_at, restarted}
+use Rattle.network_model.specs.Networks.{Datagram, octets_of, Taking, Network, place_on, place_in, place_at, restarted}
 use Rattle.network_model.specs.Runs.{read_on, post, posts, posted, moved, Happening, is_injection, restart_at, apply}
 use Rattle.network_model.specs.Ports.{Port, In}
 use Rattle.network_model.specs.Links.{LinkHolds, IsWired, Joins, Holds}
@@ -188,9 +188,9 @@ plain-each i (Some link) t place (Send out) d x = plain-on i link t place (nth t
 
 -- ---- a router takes an event
 
-end-moves : (leaks : Router → Level → List (ℕ × ℕ)) (attached : Router → Bool) (net : Network) (e f : Port) (k : ℕ) (link : Option ℕ) (event : Event) (r : Router) → IsWired net → AreOctets net → IsSpeaking r → IsSpeaking (step (given_octets leaks attached) r event).router
-    → Sides net e f k → Moves net e.router link event r → Holds net e f k → Holds (moved (given_octets leaks attached) net e.router link event r) e f k
-end-moves leaks attached net e f k link event r wired octets speaks speaks_on s moves h = record {
+end-moves : (leaks : Router → Level → List (ℕ × ℕ)) (attached : Router → Bool) (net : Network) (e f : Port) (k : ℕ) (link : Option ℕ) (event : Event) (r : Router) (ts : List Taking) → IsWired net → AreOctets net → IsSpeaking r → IsSpeaking (step (given_octets leaks attached) r event).router
+    → Sides net e f k → Moves net e.router link event r → Holds net e f k → Holds (moved (given_octets leaks attached) net e.router link event r ts) e f k
+end-moves leaks attached net e f k link event r ts wired octets speaks speaks_on s moves h = record {
   a = t;
   b = h.b;
   at_a = nth-set net.routers e.router r t moves.found;
@@ -268,8 +268,8 @@ end-moves leaks attached net e f k link event r wired octets speaks speaks_on s 
         }
 
 -- a router that is no end
-other-moves : (given : Given) (net : Network) (e f : Port) (k i : ℕ) (link : Option ℕ) (event : Event) (r : Router) → Sides net e f k → i ≢ e.router → i ≢ f.router → Moves net i link event r → Holds net e f k → Holds (moved given net i link event r) e f k
-other-moves given net e f k i link event r s no_e no_f moves h = record {
+other-moves : (given : Given) (net : Network) (e f : Port) (k i : ℕ) (link : Option ℕ) (event : Event) (r : Router) (ts : List Taking) → Sides net e f k → i ≢ e.router → i ≢ f.router → Moves net i link event r → Holds net e f k → Holds (moved given net i link event r ts) e f k
+other-moves given net e f k i link event r ts s no_e no_f moves h = record {
   a = h.a;
   b = h.b;
   at_a = nth-other net.routers i t e.router no_e ∙ h.at_a;
@@ -292,20 +292,20 @@ other-moves given net e f k i link event r s no_e no_f moves h = record {
     each : (d : Datagram) → In d more → Plain i link d
     each = plain-each i link t (place_of event) (step given r event).reply
 
-moved-holds : (leaks : Router → Level → List (ℕ × ℕ)) (attached : Router → Bool) (net : Network) (e f : Port) (k i : ℕ) (link : Option ℕ) (event : Event) (r : Router) → IsWired net → AreOctets net → IsSpeaking r → IsSpeaking (step (given_octets leaks attached) r event).router
-    → Sides net e f k → Moves net i link event r → Holds net e f k → Holds (moved (given_octets leaks attached) net i link event r) e f k
-moved-holds leaks attached net e f k i link event r wired octets speaks speaks_on s moves h =
-    test (λ t. eqb i e.router ≡ t → Holds (moved given net i link event r) e f k) (eqb i e.router)
+moved-holds : (leaks : Router → Level → List (ℕ × ℕ)) (attached : Router → Bool) (net : Network) (e f : Port) (k i : ℕ) (link : Option ℕ) (event : Event) (r : Router) (ts : List Taking) → IsWired net → AreOctets net → IsSpeaking r → IsSpeaking (step (given_octets leaks attached) r event).router
+    → Sides net e f k → Moves net i link event r → Holds net e f k → Holds (moved (given_octets leaks attached) net i link event r ts) e f k
+moved-holds leaks attached net e f k i link event r ts wired octets speaks speaks_on s moves h =
+    test (λ t. eqb i e.router ≡ t → Holds (moved given net i link event r ts) e f k) (eqb i e.router)
     (λ _ y. at-end e f s h (grind (arith, nat_tests)))
-    (λ _ n. test (λ t. eqb i f.router ≡ t → Holds (moved given net i link event r) e f k) (eqb i f.router)
-    (λ _ y. holds-flip (moved given net i link event r) f e k (at-end f e (sides-flip net e f k s) (holds-flip net e f k h) (grind (arith, nat_tests))))
-    (λ _ m. other-moves given net e f k i link event r s (λ q. grind (arith, nat_tests)) (λ q. grind (arith, nat_tests)) moves h) refl) refl
+    (λ _ n. test (λ t. eqb i f.router ≡ t → Holds (moved given net i link event r ts) e f k) (eqb i f.router)
+    (λ _ y. holds-flip (moved given net i link event r ts) f e k (at-end f e (sides-flip net e f k s) (holds-flip net e f k h) (grind (arith, nat_tests))))
+    (λ _ m. other-moves given net e f k i link event r ts s (λ q. grind (arith, nat_tests)) (λ q. grind (arith, nat_tests)) moves h) refl) refl
   where
     given : Given
     given = given_octets leaks attached
 
-    at-end : (e f : Port) → Sides net e f k → Holds net e f k → i ≡ e.router → Holds (moved given net i link event r) e f k
-    at-end e f s h same = subst (λ (n : ℕ). Moves net n link event r → Holds (moved given net n link event r) e f k) (sym same) (λ m. end-moves leaks attached net e f k link event r wired octets speaks speaks_on s m h) moves
+    at-end : (e f : Port) → Sides net e f k → Holds net e f k → i ≡ e.router → Holds (moved given net i link event r ts) e f k
+    at-end e f s h same = subst (λ (n : ℕ). Moves net n link event r → Holds (moved given net n link event r ts) e f k) (sym same) (λ m. end-moves leaks attached net e f k link event r ts wired octets speaks speaks_on s m h) moves
 
 -- ---- restarts
 
@@ -347,8 +347,8 @@ restart-holds net e f k i r q s h =
 
 change-holds : (leaks : Router → Level → List (ℕ × ℕ)) (attached : Router → Bool) (net new : Network) (e f : Port) (k : ℕ) → IsWired net → AreOctets net → AreSpeaking net → AreSpeaking new → Sides net e f k → Change (given_octets leaks attached) net new → Holds net e f k → Holds new e f k
 change-holds leaks attached net new e f k wired octets speak speak_on s (Still _) h = h
-change-holds leaks attached net new e f k wired octets speak speak_on s (Moved i link event r moves) h =
-    moved-holds leaks attached net e f k i link event r wired octets (speak i r moves.found)
+change-holds leaks attached net new e f k wired octets speak speak_on s (Moved i link event r ts moves) h =
+    moved-holds leaks attached net e f k i link event r ts wired octets (speak i r moves.found)
     (speak_on i (step (given_octets leaks attached) r event).router (nth-set net.routers i r (step (given_octets leaks attached) r event).router moves.found)) s moves h
 change-holds leaks attached net new e f k wired octets speak speak_on s (Restarted i r q) h = restart-holds net e f k i r q s h
 

@@ -1,5 +1,6 @@
 -- The definitions: networks and what events do to them, lines `run`, and what is claimed of links.
 pub mod Networks
+pub mod Takings
 pub mod Runs
 pub mod RunLines
 pub mod Speakers

@@ -12,7 +12,8 @@ use Rattle.isis_model.specs.Steps.{step}
 use Rattle.isis_model.specs.declared.drop_name.DropName.TheVariants as drop
 use Rattle.isis_model.specs.AdjacencyLaws.{place_of}
 use Rattle.isis_datagram.specs.Reading.{read}
-use Rattle.network_model.specs.Networks.{Datagram, octets_of, Network, place_at, numbered, restarted}
+use Rattle.network_model.specs.Networks.{Datagram, octets_of, Taking, Network, place_at, numbered, restarted}
+use Rattle.network_model.specs.Takings.{ranges_of}
 
 -- A second of a router; its circuit of a link is pulled; a datagram, by its number, is delivered to
 -- a router; a router restarts; its configuration changes; octets are injected (own).
@@ -60,21 +61,22 @@ posted i (Some link) r place Done = []
 posted i (Some link) r place (Dropped cause) = []
 posted i (Some link) r place (Send out) = posts i link r place (nth r.circuits place) out
 
--- a router takes an event, what it sends on the link joins the datagrams, and its state those that
--- were (own)
-abbrev pub moved : Given → Network → ℕ → Option ℕ → Event → Router → Network
-moved given net i link event r =
+-- a router takes an event: what it sends on the link joins the datagrams, its state those that were,
+-- and the ranges that it took the others (own)
+abbrev pub moved : Given → Network → ℕ → Option ℕ → Event → Router → List Taking → Network
+moved given net i link event r takings =
     let o = step given r event in
     record net {
       routers = with_nth net.routers i o.router;
       datagrams = net.datagrams ++ posted i link o.router (place_of event) o.reply;
       past = o.router ∷ net.past;
+      takings = takings ++ net.takings;
     }
 
 -- the same where the router is there (own)
 abbrev pub moved_if : Given → Network → ℕ → Option ℕ → Event → Option Router → Network
 moved_if given net i link event None = net
-moved_if given net i link event (Some r) = moved given net i link event r
+moved_if given net i link event (Some r) = moved given net i link event r []
 
 -- ---- what is delivered
 
@@ -118,7 +120,20 @@ arrival net (Some d) router =
 abbrev pub arrive_at : Given → Network → ℕ → ℕ → ℕ → List ℕ → Option Router → Network
 arrive_at given net i link place octets None = net
 arrive_at given net i link place octets (Some r) =
-    moved given net i (Some link) (taking r place octets) r
+    moved given net i (Some link) (taking r place octets) r []
+
+-- the ranges that a router takes of a datagram on its circuit (own)
+abbrev pub ranges_in : Given → ℕ → Router → ℕ → Datagram → List Taking
+ranges_in given i r place d =
+    let c = nth r.circuits place in
+    let octets = octets_of d in
+    ranges_of i r (step given r (taking r place octets)).router place c d (read_on r c octets)
+
+-- own
+abbrev pub deliver_at : Given → Network → ℕ → Datagram → ℕ → Option Router → Network
+deliver_at given net i d place None = net
+deliver_at given net i d place (Some r) =
+    moved given net i (Some d.link) (taking r place (octets_of d)) r (ranges_in given i r place d)
 
 -- own
 abbrev pub arrive : Given → Network → ℕ → Arrival → Network
@@ -126,7 +141,7 @@ arrive given net i NotSent = net
 arrive given net i (Stale boot) = net
 arrive given net i NotOn = net
 arrive given net i (Arrives d place) =
-    arrive_at given net i d.link place (octets_of d) (nth net.routers i)
+    deliver_at given net i d place (nth net.routers i)
 
 -- ---- events
 
