@@ -17,7 +17,7 @@ use Rattle.network_model.specs.Kept.{IsKeptNet}
 use Rattle.network_model.proofs.KeptLemmas.{kept-claim}
 use Rattle.network_agreement.specs.LiveViews.{live_rank, live_at}
 use Rattle.network_agreement.specs.Chains.{IsClean, AreJoined, Clean, CleanBack, Swept, SweptBack, Leads, Stays, Along, IsKeptBy}
-use Rattle.network_agreement.specs.Sweeps.{Taking, AreAgreed}
+use Rattle.network_agreement.specs.Sweeps.{AreAgreed}
 use Rattle.network_agreement.proofs.SweepLemmas.{swept-live}
 
 -- no flag stands where none is counted
@@ -59,11 +59,11 @@ clean-agrees net l i j a b id kept none c x y ka kb =
     let far = subst (λ (r : Router). IsKept r l id) (sym same_b) kb in
     ap (λ (r : Router). live_at r l id) (sym same_a) ∙ clean-ends net l i j id kept none c near far ∙ ap (λ (r : Router). live_at r l id) same_b
 
-pub chain-agrees : (net : Network) (ts : List Taking) (l : Level) (i j : ℕ) (a b : Router) (id : ℕ) → IsKeptNet net → net.injected ≡ 0 → AreAgreed net ts → Leads net ts l i j → IsKeptBy net ts l i id
+pub chain-agrees : (net : Network) (l : Level) (i j : ℕ) (a b : Router) (id : ℕ) → IsKeptNet net → net.injected ≡ 0 → AreAgreed net net.takings → Leads net l i j → IsKeptBy net l i id
     → nth net.routers i ≡ Some a → nth net.routers j ≡ Some b → live_at a l id ≡ live_at b l id
-chain-agrees net ts l i j a b id kept none agreed (Stays _) by x y = ap (λ (r : Router). live_at r l id) (same-router a b (sym x ∙ y))
-chain-agrees net ts l i k a b id kept none agreed (Along _ j _ c z joined rest) by x y =
-    first joined ∙ chain-agrees net ts l j k c b id kept none agreed rest (record { kept = λ m r v q. by.kept m r (Along i j m c z joined v) q }) z y
+chain-agrees net l i j a b id kept none agreed (Stays _) by x y = ap (λ (r : Router). live_at r l id) (same-router a b (sym x ∙ y))
+chain-agrees net l i k a b id kept none agreed (Along _ j _ c z joined rest) by x y =
+    first joined ∙ chain-agrees net l j k c b id kept none agreed rest (record { kept = λ m r v q. by.kept m r (Along i j m c z joined v) q }) z y
   where
     ka : IsKept a l id
     ka = by.kept i a (Stays i) x
@@ -71,8 +71,8 @@ chain-agrees net ts l i k a b id kept none agreed (Along _ j _ c z joined rest) 
     kc : IsKept c l id
     kc = by.kept j c (Along i j j c z joined (Stays j)) z
 
-    first : AreJoined net ts l i j → live_at a l id ≡ live_at c l id
+    first : AreJoined net l i j → live_at a l id ≡ live_at c l id
     first (Clean q) = clean-agrees net l i j a c id kept none q x z ka kc
     first (CleanBack q) = sym (clean-agrees net l j i c a id kept none q z x kc ka)
-    first (Swept link q) = swept-live net ts link l i j a c id kept.speaking agreed q x z
-    first (SweptBack link q) = sym (swept-live net ts link l j i c a id kept.speaking agreed q z x)
+    first (Swept link q) = swept-live net link l i j a c id kept.speaking agreed q x z
+    first (SweptBack link q) = sym (swept-live net link l j i c a id kept.speaking agreed q z x)

@@ -35,7 +35,7 @@ use Rattle.isis_datagram.specs.LspLaws.{ReadsUpdate, TellsKept, TellsEvent}
 use Rattle.isis_datagram.specs.Speakers.{IsSpeaking}
 use Rattle.isis_datagram.proofs.ListLemmas.{of-leading}
 use Rattle.isis_datagram.proofs.SendLemmas.{step-reads}
-use Rattle.network_model.specs.Networks.{Datagram, octets_of, Network, restarted}
+use Rattle.network_model.specs.Networks.{Datagram, octets_of, Taking, Network, restarted}
 use Rattle.network_model.specs.Runs.{read_on, post, posts, posted, moved, Happening, is_injection, restart_at, apply}
 use Rattle.network_model.specs.Speakers.{IsReading, IsLegible, AreSpeaking, AreOctets}
 use Rattle.network_model.specs.Ports.{In}
@@ -257,14 +257,14 @@ module _ (leaks : Router → Level → List (ℕ × ℕ)) (attached : Router →
 
   -- ---- a router takes an event
 
-  moved-origins : (net : Network) (i : ℕ) (link : Option ℕ) (event : Event) (r : Router) → AreOctets net → IsSpeaking r → IsSpeaking (step given r event).router → Moves net i link event r → HaveOrigins net → HaveOrigins (moved given net i link event r)
-  moved-origins net i link event r octets speaks speaks_on m h = record { held = held; said = said-of; plain = plain }
+  moved-origins : (net : Network) (i : ℕ) (link : Option ℕ) (event : Event) (r : Router) (ts : List Taking) → AreOctets net → IsSpeaking r → IsSpeaking (step given r event).router → Moves net i link event r → HaveOrigins net → HaveOrigins (moved given net i link event r ts)
+  moved-origins net i link event r ts octets speaks speaks_on m h = record { held = held; said = said-of; plain = plain }
     where
       t : Router
       t = (step given r event).router
 
       new : Network
-      new = moved given net i link event r
+      new = moved given net i link event r ts
 
       more : List Datagram
       more = posted i link t (place_of event) (step given r event).reply
@@ -336,8 +336,8 @@ module _ (leaks : Router → Level → List (ℕ × ℕ)) (attached : Router →
 
   change-origins : (net new : Network) → AreOctets net → AreSpeaking net → AreSpeaking new → Change given net new → HaveOrigins net → HaveOrigins new
   change-origins net new octets speak speak_on (Still _) h = h
-  change-origins net new octets speak speak_on (Moved i link event r m) h =
-      moved-origins net i link event r octets (speak i r m.found) (speak_on i (step given r event).router (nth-set net.routers i r (step given r event).router m.found)) m h
+  change-origins net new octets speak speak_on (Moved i link event r ts m _) h =
+      moved-origins net i link event r ts octets (speak i r m.found) (speak_on i (step given r event).router (nth-set net.routers i r (step given r event).router m.found)) m h
   change-origins net new octets speak speak_on (Restarted i r q) h = restart-origins net i r q h
 
   pub apply-origins : (net : Network) (h : Happening) → is_injection h ≡ false → AreOctets net → AreSpeaking net → AreSpeaking (apply given net h)

@@ -1,5 +1,5 @@
 -- CSNPs tell their sender's keys while these stand, so who is swept by another holds the same live LSPs.
-use Rattle.std.proofs.Common.{◌≡◌, ℕ, ◌+◌, ◌-◌, ◌^◌, ◌<◌, ◌≤◌, eqb, Bool, true, false, inl, inr, ⊎_elim, List, [], ◌∷◌, map, Option, Some, None, if◌then◌else◌, refl, sym, ap, ◌∙◌, subst, arith, le_refl, le_trans, le_of_eq}
+use Rattle.std.proofs.Common.{◌≡◌, ℕ, ◌+◌, ◌-◌, ◌/◌, ◌^◌, ◌<◌, ◌≤◌, ◌==◌, nat_le, ◌&&◌, ◌||◌, not, is_some, is_none, eqb, Bool, true, false, inl, inr, ⊎_elim, List, [], ◌∷◌, ◌++◌, map, Option, Some, None, if◌then◌else◌, refl, sym, ap, ◌∙◌, subst, arith, le_refl, le_trans, le_of_eq}
 use Rattle.std.proofs.lemmas.Bool.{cases_lt}
 use Rattle.std.proofs.lemmas.Bool.Decides.{nat_tests}
 use Rattle.std.specs.List.{AllByRecursion}
@@ -9,19 +9,24 @@ use Rattle.isis_model.specs.Both.{at}
 use Rattle.isis_model.specs.Places.{nth, with_nth}
 use Rattle.isis_model.specs.Ranks.{is_live}
 use Rattle.isis_model.specs.Cells.{Cell}
-use Rattle.isis_model.specs.Books.{Book, cell_at, rank_of, rank_at, checksum_of}
-use Rattle.isis_model.specs.SnpTable.{SnpEntry}
-use Rattle.isis_model.specs.Routers.{Circuit, Router, level_of, book_of}
+use Rattle.isis_model.specs.Books.{cell_at, rank_of, rank_at, checksum_of}
+use Rattle.isis_model.specs.SnpTable.{SnpEntry, snp_case, sets_flag, lists, is_missed}
+use Rattle.isis_model.specs.Routers.{Circuit, LevelState, Router, level_of, book_of}
 use Rattle.isis_model.specs.Datagrams.{Sent, PointHello, LanHello, Lsp, Csnp, Psnp}
 use Rattle.isis_model.specs.Givens.{Given}
-use Rattle.isis_model.specs.Events.{Message, SnpHeard, Event, Reply, Done, Dropped, Send}
+use Rattle.isis_model.specs.Events.{Message, Refused, PointHelloHeard, LanHelloHeard, LspHeard, SnpHeard, Event, Reply, Done, Dropped, Send}
 use Rattle.isis_model.specs.Steps.{step}
 use Rattle.isis_model.specs.Good.{IsGood, IsGoodRouter}
 use Rattle.isis_model.specs.Deeds.{Content}
 use Rattle.isis_model.specs.Hearings.{hearing}
 use Rattle.isis_model.specs.ContentLaws.{SameKey, held_content}
 use Rattle.isis_model.specs.ReplyLaws.{AllSent, Entry, TellsKeys, IsTold}
-use Rattle.isis_model.specs.SweepLaws.{ListsKey, AreHeldLive}
+use Rattle.isis_model.specs.SweepLaws.{AreClean, ListsKey}
+use Rattle.isis_model.specs.Receiving.{scene_of, drop_of}
+use Rattle.isis_model.specs.Takes.{Scene, whose_of}
+use Rattle.isis_model.specs.declared.whose.Whose.{Whose}
+use Rattle.isis_model.specs.declared.whose.Whose.TheVariants as whose
+use Rattle.isis_model.specs.Maps.{find}
 use Rattle.isis_model.specs.AdjacencyLaws.{place_of}
 use Rattle.isis_model.proofs.BookLemmas.{test}
 use Rattle.isis_model.proofs.StepWays.{step-course}
@@ -32,15 +37,16 @@ use Rattle.isis_model.proofs.SweepLemmas.{clean-held, clean-listed}
 use Rattle.isis_datagram.specs.Lsps.{given_octets}
 use Rattle.isis_datagram.specs.Reading.{read}
 use Rattle.isis_datagram.specs.Said.{said}
-use Rattle.network_model.specs.Networks.{Datagram, octets_of, Network, restarted}
-use Rattle.network_model.specs.Runs.{read_on, post, posts, posted, changes_of, Happening, is_injection, apply}
+use Rattle.network_model.specs.Networks.{Datagram, octets_of, Taking, Network, restarted}
+use Rattle.network_model.specs.Takings.{would_flag, would_flag_any, misses_any, would_flag_range, taking_of, is_clean, heard_range, ranges_of}
+use Rattle.network_model.specs.Runs.{read_on, taking, post, posts, posted, changes_of, Happening, is_injection, apply}
 use Rattle.network_model.specs.Speakers.{IsReading, IsLegible, AreSpeaking}
 use Rattle.network_model.specs.Ports.{In}
 use Rattle.network_model.proofs.InLemmas.{in-split}
-use Rattle.network_model.proofs.ChangeLemmas.{nth-set, nth-other, some-same, Change, Still, Moved, Restarted, apply-change}
+use Rattle.network_model.proofs.ChangeLemmas.{nth-set, nth-other, some-same, Brings, Nothing, Ranges, Change, Still, Moved, Restarted, apply-change}
 use Rattle.network_agreement.specs.LiveViews.{live_rank, live_at}
 use Rattle.network_agreement.specs.Origins.{IsSilent, IsPlain, HaveOrigins, HoldsNothing}
-use Rattle.network_agreement.specs.Sweeps.{IsAt, IsPast, IsTrue, AreTrue, Taking, IsCleanTake, taking_of, IsAgreed, AreAgreed, IsCovered, IsSweptBy}
+use Rattle.network_agreement.specs.Sweeps.{IsAt, IsPast, IsTrue, AreTrue, IsAgreed, AreAgreed, IsCovered, IsSweptBy}
 
 -- ---- a router later
 
@@ -134,7 +140,7 @@ set-earlier l net i j r t s q o e =
 
 change-earlier : (given : Given) (l : Level) (net new : Network) (j : ℕ) (s : Router) → Change given net new → nth new.routers j ≡ Some s → Earlier l net j s
 change-earlier given l net new j s (Still _) e = record { router = s; there = e; onward = onward-refl l s }
-change-earlier given l net new j s (Moved i link event r m) e = set-earlier l net i j r (step given r event).router s m.found (step-onward given l r event) e
+change-earlier given l net new j s (Moved i link event r ts m _) e = set-earlier l net i j r (step given r event).router s m.found (step-onward given l r event) e
 change-earlier given l net new j s (Restarted i r q) e = set-earlier l net i j r (restarted r) s q (restart-onward l r) e
 
 -- ---- what was sent stays true
@@ -192,24 +198,24 @@ fresh-true net i t d at_t f = record {
 }
 
 module _ (leaks : Router → Level → List (ℕ × ℕ)) (attached : Router → Bool) where
-  abbrev given : Given
-  given = given_octets leaks attached
+  abbrev octets-given : Given
+  octets-given = given_octets leaks attached
 
-  change-true : (net new : Network) → AreSpeaking net → Change given net new → AreTrue net → AreTrue new
+  change-true : (net new : Network) → AreSpeaking net → Change octets-given net new → AreTrue net → AreTrue new
   change-true net new speak (Still _) t = t
-  change-true net new speak (Moved i link event r m) t = record {
+  change-true net new speak (Moved i link event r ts m b) t = record {
     each = λ d x. ⊎_elim
-        (λ (o : In d net.datagrams). true-later given net new d (Moved i link event r m) (t.each d o))
-        (λ (o : In d (posted i link (step given r event).router (place_of event) (step given r event).reply)).
-        fresh-true new i (step given r event).router d (nth-set net.routers i r (step given r event).router m.found)
-        (fresh-each i link (step given r event).router (place_of event) (step given r event).reply
-        (step-told given r event (speak i r m.found).sorted (speak i r m.found).good) d o))
+        (λ (o : In d net.datagrams). true-later octets-given net new d (Moved i link event r ts m b) (t.each d o))
+        (λ (o : In d (posted i link (step octets-given r event).router (place_of event) (step octets-given r event).reply)).
+        fresh-true new i (step octets-given r event).router d (nth-set net.routers i r (step octets-given r event).router m.found)
+        (fresh-each i link (step octets-given r event).router (place_of event) (step octets-given r event).reply
+        (step-told octets-given r event (speak i r m.found).sorted (speak i r m.found).good) d o))
         (in-split d net.datagrams _ x);
   }
-  change-true net new speak (Restarted i r q) t = record { each = λ d x. true-later given net new d (Restarted i r q) (t.each d x) }
+  change-true net new speak (Restarted i r q) t = record { each = λ d x. true-later octets-given net new d (Restarted i r q) (t.each d x) }
 
-  pub apply-true : (net : Network) (h : Happening) → is_injection h ≡ false → AreSpeaking net → AreTrue net → AreTrue (apply given net h)
-  apply-true net h plain speak t = change-true net (apply given net h) speak (apply-change given net h plain) t
+  pub apply-true : (net : Network) (h : Happening) → is_injection h ≡ false → AreSpeaking net → AreTrue net → AreTrue (apply octets-given net h)
+  apply-true net h plain speak t = change-true net (apply octets-given net h) speak (apply-change octets-given net h plain) t
 
 no-datagram : (ds : List Datagram) (d : Datagram) → ds ≡ [] → In d ds → ⊥
 no-datagram [] d q i = i
@@ -237,10 +243,13 @@ agreed-later given net new t c h = record {
       ∙ same-live t.level d.router b id (same-keys t.level d.router b t.sent_boot t.sent_changes d.onward sent there id);
 }
 
-pub apply-agreed : (leaks : Router → Level → List (ℕ × ℕ)) (attached : Router → Bool) (net : Network) (h : Happening) (ts : List Taking) → is_injection h ≡ false → AreAgreed net ts → AreAgreed (apply (given_octets leaks attached) net h) ts
-apply-agreed leaks attached net h [] plain a = tt
-apply-agreed leaks attached net h (t ∷ ts) plain a =
-    (agreed-later (given_octets leaks attached) net (apply (given_octets leaks attached) net h) t (apply-change (given_octets leaks attached) net h plain) a.0, apply-agreed leaks attached net h ts plain a.1)
+all-later : (given : Given) (net new : Network) (ts : List Taking) → Change given net new → AreAgreed net ts → AreAgreed new ts
+all-later given net new [] c a = tt
+all-later given net new (t ∷ ts) c a = (agreed-later given net new t c a.0, all-later given net new ts c a.1)
+
+agreed-append : (net : Network) (xs ys : List Taking) → AreAgreed net xs → AreAgreed net ys → AreAgreed net (xs ++ ys)
+agreed-append net [] ys a b = b
+agreed-append net (x ∷ xs) ys a b = (a.0, agreed-append net xs ys a.1 b)
 
 -- ---- what is taken
 
@@ -277,11 +286,44 @@ read-on r (Some c) d plain l snpa source first last entries q = ⊎_elim
     (λ (silent : (by : _) (on : _) → IsSilent (read by on (octets_of d))). absurd (subst IsSilent q (silent r.config c)))
     plain.clear
 
-held-live : (b : Book) (entries : List SnpEntry) (h : SnpEntry) → AreHeldLive b entries → Entry h entries → is_live h.rank ≡ true → 0 < h.lifetime → 0 < h.checksum → rank_at b h.id ≡ h.rank
-held-live b [] h a x live left sum = absurd x
-held-live b (y ∷ entries) h a (inl e) live left sum =
-    let f = subst (λ (z : SnpEntry). is_live z.rank ≡ true → 0 < z.lifetime → 0 < z.checksum → rank_at b z.id ≡ z.rank) (sym e) (λ p q r. (a.0 p q r).0) in f live left sum
-held-live b (y ∷ entries) h a (inr x) live left sum = held-live b entries h a.1 x live left sum
+-- an LSP ID of another system than this
+other-system : (n : ℕ) → (n == n + 1) ≡ false
+other-system n = grind (arith, nat_tests)
+
+foreign : (s : LevelState) (id : ℕ) → whose_of (id / 65536 + 1) s id ≡ whose.Other
+foreign s id = ap (λ (t : Bool). if not t then whose.Other else (if is_some (find s.own id) then whose.Issued else whose.Unissued)) (other-system (id / 65536))
+
+or-left : (a b : Bool) → (a || b) ≡ false → a ≡ false
+or-left true b e = absurd (cc)
+or-left false b e = refl
+
+or-right : (a b : Bool) → (a || b) ≡ false → b ≡ false
+or-right true b e = absurd (cc)
+or-right false b e = e
+
+-- an entry that sets no flag, as a list of one that sets none
+alone-clean : (scene : Scene) (s : LevelState) (place : ℕ) (h : SnpEntry) → would_flag s.book h ≡ false → AreClean scene s (h.id / 65536 + 1) place (h ∷ [])
+alone-clean scene s place h e = (subst (λ (w : Whose). sets_flag (snp_case w (cell_at s.book h.id) h) ≡ false) (sym (foreign s h.id)) e, tt)
+
+entry-live : (scene : Scene) (s : LevelState) (h : SnpEntry) → would_flag s.book h ≡ false → is_live h.rank ≡ true → 0 < h.lifetime → 0 < h.checksum → rank_at s.book h.id ≡ h.rank
+entry-live scene s h e live left sum = ((clean-held scene s (h.id / 65536 + 1) 0 (h ∷ []) (alone-clean scene s 0 h e)).0 live left sum).0
+
+held-live : (scene : Scene) (s : LevelState) (entries : List SnpEntry) (h : SnpEntry) → would_flag_any s.book entries ≡ false → Entry h entries → is_live h.rank ≡ true → 0 < h.lifetime → 0 < h.checksum → rank_at s.book h.id ≡ h.rank
+held-live scene s [] h a x live left sum = absurd x
+held-live scene s (y ∷ entries) h a (inl e) live left sum =
+    let f = subst (λ (z : SnpEntry). is_live z.rank ≡ true → 0 < z.lifetime → 0 < z.checksum → rank_at s.book z.id ≡ z.rank) (sym e) (entry-live scene s y (or-left _ _ a)) in f live left sum
+held-live scene s (y ∷ entries) h a (inr x) live left sum = held-live scene s entries h (or-right _ _ a) x live left sum
+
+-- what is held live of an LSP ID that an entry lists, it lists so
+not-missed : (h : SnpEntry) (id : ℕ) (cell : Cell) → is_missed h.id h.id (h ∷ []) id cell ≡ false
+not-missed h id cell = grind (arith, nat_tests)
+
+entry-lists : (scene : Scene) (s : LevelState) (h : SnpEntry) → would_flag s.book h ≡ false → is_live (rank_at s.book h.id) ≡ true → h.rank ≡ rank_at s.book h.id
+entry-lists scene s h e live = from (clean-listed scene s (h.id / 65536 + 1) 0 h.id h.id (h ∷ []) (alone-clean scene s 0 h e) (λ id cell _. not-missed h id cell) h.id (le_refl _) (le_refl _) live)
+  where
+    from : ListsKey (h ∷ []) h.id (rank_at s.book h.id) (checksum_of (cell_at s.book h.id)) → h.rank ≡ rank_at s.book h.id
+    from (inl x) = x.1
+    from (inr x) = absurd x
 
 record Found (entries : List SnpEntry) (id rank : ℕ) : Type 0 where
   entry : SnpEntry
@@ -289,10 +331,37 @@ record Found (entries : List SnpEntry) (id rank : ℕ) : Type 0 where
   id_is : entry.id ≡ id
   rank_is : entry.rank ≡ rank
 
-found : (entries : List SnpEntry) (id rank checksum : ℕ) → ListsKey entries id rank checksum → Found entries id rank
-found [] id rank checksum x = absurd x
-found (h ∷ entries) id rank checksum (inl e) = record { entry = h; stands = inl refl; id_is = e.0; rank_is = e.1 }
-found (h ∷ entries) id rank checksum (inr x) = let f = found entries id rank checksum x in record { entry = f.entry; stands = inr f.stands; id_is = f.id_is; rank_is = f.rank_is }
+found : (scene : Scene) (s : LevelState) (entries : List SnpEntry) (id : ℕ) → would_flag_any s.book entries ≡ false → lists entries id ≡ true → is_live (rank_at s.book id) ≡ true → Found entries id (rank_at s.book id)
+found scene s [] id a e live = absurd (cc)
+found scene s (h ∷ entries) id a e live =
+    test (λ t. (h.id == id) ≡ t → (t || lists entries id) ≡ true → Found (h ∷ entries) id (rank_at s.book id)) (h.id == id)
+    (λ _ y _. let same : h.id ≡ id = grind (arith, nat_tests) in
+    let alive : is_live (rank_at s.book h.id) ≡ true = subst (λ (n : ℕ). is_live (rank_at s.book n) ≡ true) (sym same) live in
+    record { entry = h; stands = inl refl; id_is = same; rank_is = entry-lists scene s h (or-left _ _ a) alive ∙ ap (λ (n : ℕ). rank_at s.book n) same })
+    (λ _ _ more. let f = found scene s entries id (or-right _ _ a) more live in record { entry = f.entry; stands = inr f.stands; id_is = f.id_is; rank_is = f.rank_is }) refl e
+
+-- what is held live in a range that sets no flag is listed
+missed-at : (first last : ℕ) (entries : List SnpEntry) (cells : List (ℕ × Cell)) (id : ℕ) (cell : Cell) → misses_any first last entries cells ≡ false → find cells id ≡ Some cell → is_missed first last entries id cell ≡ false
+missed-at first last entries [] id cell e q = absurd (cc)
+missed-at first last entries (x ∷ cells) id cell e q =
+    test (λ t. (x.0 == id) ≡ t → (if t then Some x.1 else find cells id) ≡ Some cell → is_missed first last entries id cell ≡ false) (x.0 == id)
+    (λ _ y k. let same : x.0 ≡ id = grind (arith, nat_tests) in
+    subst (λ (n : ℕ). is_missed first last entries n cell ≡ false) same (subst (λ (c : Cell). is_missed first last entries x.0 c ≡ false) (some-same x.1 cell k) (or-left _ _ e)))
+    (λ _ _ k. missed-at first last entries cells id cell (or-right _ _ e) k) refl q
+
+in-range : (alive : Bool) (start id end : ℕ) (t : Bool) → alive ≡ true → start ≤ id → id ≤ end → (alive && nat_le start id && nat_le id end && not t) ≡ false → t ≡ true
+in-range alive start id end true a low high e = refl
+in-range alive start id end false a low high e = absurd (grind (arith, nat_tests, a, low, high, e))
+
+is-listed : (s : LevelState) (first last : ℕ) (entries : List SnpEntry) (id : ℕ) → would_flag_range s.book first last entries ≡ false → first ≤ id → id ≤ last → is_live (rank_at s.book id) ≡ true → lists entries id ≡ true
+is-listed s first last entries id e low high live = on (cell_at s.book id) refl
+  where
+    on : (held : Option Cell) → cell_at s.book id ≡ held → lists entries id ≡ true
+    on None q = absurd (let none : rank_at s.book id ≡ 0 = ap rank_of q in grind (arith, nat_tests, none, live))
+    on (Some c) q =
+        let missed = missed-at first last entries s.book.cells id c e q in
+        let alive : is_live c.rank ≡ true = sym (ap (λ (o : Option Cell). is_live (rank_of o)) q) ∙ live in
+        in-range (is_live c.rank) first id last (lists entries id) alive low high missed
 
 -- two ranks that are one where either is live are one live rank
 one-live : (m n : ℕ) → (is_live m ≡ true → n ≡ m) → (is_live n ≡ true → n ≡ m) → live_rank m ≡ live_rank n
@@ -308,24 +377,77 @@ live-some : (n : ℕ) → is_live n ≡ true → 0 < n
 live-some n e = grind (arith, nat_tests)
 
 -- a router that takes a CSNP without a flag holds what its sender does, where that stands
-take-live : (r b : Router) (place : ℕ) (d : Datagram) (l : Level) (first last : ℕ) → (c : IsCleanTake r place d l first last) → TellsKeys b l first last c.entries → (id : ℕ) → first ≤ id → id ≤ last → live_at r l id ≡ live_at b l id
-take-live r b place d l first last c tells id low high =
-    let lists = clean-listed c.scene (level_of r l) r.config.system place first last c.entries c.clean c.range id low high in
-    let holds = clean-held c.scene (level_of r l) r.config.system place c.entries c.clean in
+take-live : (given : Given) (r b : Router) (l : Level) (first last : ℕ) (entries : List SnpEntry) → would_flag_any (book_of r l) entries ≡ false → would_flag_range (book_of r l) first last entries ≡ false → TellsKeys b l first last entries → (id : ℕ) → first ≤ id → id ≤ last → live_at r l id ≡ live_at b l id
+take-live given r b l first last entries clean range tells id low high =
+    let scene = scene_of given r l in
     one-live (rank_at (book_of r l) id) (rank_at (book_of b l) id)
-    (λ live. let f = found c.entries id _ _ (lists live) in sym (sym f.rank_is ∙ tells.holds f.entry f.stands ∙ ap (λ (n : ℕ). rank_at (book_of b l) n) f.id_is))
+    (λ live. let f = found scene (level_of r l) entries id clean (is-listed (level_of r l) first last entries id range low high live) live in sym (sym f.rank_is ∙ tells.holds f.entry f.stands ∙ ap (λ (n : ℕ). rank_at (book_of b l) n) f.id_is))
     (λ live. let f = tells.lists id low high (live-some _ live) in
-    sym (sym (ap (λ (n : ℕ). rank_at (book_of r l) n) f.id_is) ∙ held-live (book_of r l) c.entries f.entry holds f.stands (subst (λ (n : ℕ). is_live n ≡ true) (sym f.rank_is) live) (f.left live) (f.summed live) ∙ f.rank_is))
+    sym (sym (ap (λ (n : ℕ). rank_at (book_of r l) n) f.id_is) ∙ held-live scene (level_of r l) entries f.entry clean f.stands (subst (λ (n : ℕ). is_live n ≡ true) (sym f.rank_is) live) (f.left live) (f.summed live) ∙ f.rank_is))
 
-pub take-agreed : (net : Network) (i : ℕ) (r : Router) (place : ℕ) (d : Datagram) (l : Level) (first last : ℕ) → HaveOrigins net → AreTrue net → In d net.datagrams → nth net.routers i ≡ Some r → IsCleanTake r place d l first last → IsAgreed net (taking_of i r d l first last)
-take-agreed net i r place d l first last o t x at_r c = record {
+not-false : (t : Bool) → not t ≡ true → t ≡ false
+not-false true e = absurd (cc)
+not-false false e = refl
+
+and-left : (a b : Bool) → (a && b) ≡ true → a ≡ true
+and-left true b e = refl
+and-left false b e = absurd (cc)
+
+and-right : (a b : Bool) → (a && b) ≡ true → b ≡ true
+and-right true b e = e
+and-right false b e = absurd (cc)
+
+-- a taking is agreed
+taking-agreed : (given : Given) (net : Network) (i : ℕ) (r now : Router) (d : Datagram) (l : Level) (range : ℕ × ℕ) (entries : List SnpEntry) → AreTrue net → In d net.datagrams → nth net.routers i ≡ Some r
+    → d.says ≡ Csnp l range.0 range.1 entries → is_clean r now l range entries ≡ true → IsAgreed net (taking_of i r d l range)
+taking-agreed given net i r now d l range entries t x at_r says c = record {
   member = λ s e. subst (λ (y : Router). IsPast y l r.boot (book_of r l).changes) (some-same r s (sym at_r ∙ e)) (record { boot = le_refl _; changes = λ _. le_refl _ });
   sender = λ s e. (t.each d x).past s l e;
   same = λ a b e f here there id low high.
-      let says = read-on r (nth r.circuits place) d (o.plain d x) l c.snpa c.source first last c.entries c.reads in
-      let tells = (t.each d x).tells b l first last c.entries f says there in
-      ap (λ (y : Router). live_at y l id) (sym (some-same r a (sym at_r ∙ e))) ∙ take-live r b place d l first last c tells id low high;
+      let tells = (t.each d x).tells b l range.0 range.1 entries f says there in
+      let both = and-left _ _ c in
+      ap (λ (y : Router). live_at y l id) (sym (some-same r a (sym at_r ∙ e)))
+      ∙ take-live given r b l range.0 range.1 entries (not-false _ (and-left _ _ both)) (not-false _ (and-right _ _ both)) tells id low high;
 }
+
+-- what a router hears in a datagram
+heard-agreed : (given : Given) (net : Network) (i : ℕ) (r now : Router) (place : ℕ) (c : Circuit) (d : Datagram) (m : Message) → HaveOrigins net → AreTrue net → In d net.datagrams → nth net.routers i ≡ Some r
+    → m ≡ read_on r (Some c) (octets_of d) → AreAgreed net (heard_range i r now place c d m)
+heard-agreed given net i r now place c d (Refused cause) o t x at_r q = tt
+heard-agreed given net i r now place c d (PointHelloHeard h) o t x at_r q = tt
+heard-agreed given net i r now place c d (LanHelloHeard l h) o t x at_r q = tt
+heard-agreed given net i r now place c d (LspHeard l snpa h) o t x at_r q = tt
+heard-agreed given net i r now place c d (SnpHeard l snpa source None entries) o t x at_r q = tt
+heard-agreed given net i r now place c d (SnpHeard l snpa source (Some range) entries) o t x at_r q =
+    test (λ b. whole ≡ b → AreAgreed net (if b then taking_of i r d l range ∷ [] else [])) whole
+    (λ _ e. (taking-agreed given net i r now d l range entries t x at_r (read-on r (Some c) d (o.plain d x) l snpa source range.0 range.1 entries (sym q)) (and-right _ _ e), tt))
+    (λ _ _. tt) refl
+  where
+    whole : Bool
+    whole = c.lan && is_none (drop_of r place c (SnpHeard l snpa source (Some range) entries)) && is_clean r now l range entries
+
+ranges-agreed : (given : Given) (net : Network) (i : ℕ) (r now : Router) (place : ℕ) (c : Option Circuit) (d : Datagram) (m : Message) → HaveOrigins net → AreTrue net → In d net.datagrams → nth net.routers i ≡ Some r
+    → m ≡ read_on r c (octets_of d) → AreAgreed net (ranges_of i r now place c d m)
+unfolding ranges_of
+ranges-agreed given net i r now place None d m o t x at_r q = tt
+ranges-agreed given net i r now place (Some c) d m o t x at_r q = heard-agreed given net i r now place c d m o t x at_r q
+
+-- ---- each event
+
+brought-agreed : (given : Given) (net : Network) (i : ℕ) (r : Router) (ts : List Taking) → HaveOrigins net → AreTrue net → nth net.routers i ≡ Some r → Brings given net i r ts → AreAgreed net ts
+brought-agreed given net i r ts o t at_r Nothing = tt
+brought-agreed given net i r ts o t at_r (Ranges d place x) =
+    ranges-agreed given net i r (step given r (taking r place (octets_of d))).router place (nth r.circuits place) d (read_on r (nth r.circuits place) (octets_of d)) o t x at_r refl
+
+change-agreed : (given : Given) (net new : Network) → HaveOrigins net → AreTrue net → Change given net new → AreAgreed net net.takings → AreAgreed new new.takings
+change-agreed given net new o t (Still _) a = a
+change-agreed given net new o t (Moved i link event r ts m b) a =
+    all-later given net new (ts ++ net.takings) (Moved i link event r ts m b) (agreed-append net ts net.takings (brought-agreed given net i r ts o t m.found b) a)
+change-agreed given net new o t (Restarted i r q) a = all-later given net new net.takings (Restarted i r q) a
+
+pub apply-agreed : (leaks : Router → Level → List (ℕ × ℕ)) (attached : Router → Bool) (net : Network) (h : Happening) → is_injection h ≡ false → HaveOrigins net → AreTrue net
+    → AreAgreed net net.takings → AreAgreed (apply (given_octets leaks attached) net h) (apply (given_octets leaks attached) net h).takings
+apply-agreed leaks attached net h plain o t a = change-agreed (given_octets leaks attached) net (apply (given_octets leaks attached) net h) o t (apply-change (given_octets leaks attached) net h plain) a
 
 -- ---- who is swept
 
@@ -350,7 +472,7 @@ covered-live net link l m d a b id (t ∷ ts) h x y (inl c) =
     let same = h.0.same c.a c.b at_a at_b here there id c.low c.high in
     ap (λ (r : Router). live_at r l id) (sym is_a) ∙ subst (λ (k : Level). live_at c.a k id ≡ live_at c.b k id) c.level_is same ∙ ap (λ (r : Router). live_at r l id) is_b
 
-pub swept-live : (net : Network) (ts : List Taking) (link : ℕ) (l : Level) (m d : ℕ) (a b : Router) (id : ℕ) → AreSpeaking net → AreAgreed net ts → IsSweptBy net ts link l m d → nth net.routers m ≡ Some a → nth net.routers d ≡ Some b → live_at a l id ≡ live_at b l id
-swept-live net ts link l m d a b id speak h s x y =
-    ⊎_elim (λ (k : id < 2 ^ 64). covered-live net link l m d a b id ts h x y (s.each id k))
+pub swept-live : (net : Network) (link : ℕ) (l : Level) (m d : ℕ) (a b : Router) (id : ℕ) → AreSpeaking net → AreAgreed net net.takings → IsSweptBy net link l m d → nth net.routers m ≡ Some a → nth net.routers d ≡ Some b → live_at a l id ≡ live_at b l id
+swept-live net link l m d a b id speak h s x y =
+    ⊎_elim (λ (k : id < 2 ^ 64). covered-live net link l m d a b id net.takings h x y (s.each id k))
     (λ (k : 2 ^ 64 ≤ id). past-ids a l id (speak m a x).good (λ z. omega (arith, z, k)) ∙ sym (past-ids b l id (speak d b y).good (λ z. omega (arith, z, k)))) (cases_lt id (2 ^ 64))

@@ -1,5 +1,5 @@
 -- Routers that clean links and swept LANs connect (ISO 10589 7.3.17; the words: own).
-use Rattle.std.specs.Prelude.{◌≡◌, ℕ, List, Some}
+use Rattle.std.specs.Prelude.{◌≡◌, ℕ, Some}
 use Rattle.isis_base.specs.declared.level.Level.{Level}
 use Rattle.isis_model.specs.Places.{nth}
 use Rattle.isis_model.specs.Routers.{Router}
@@ -8,7 +8,7 @@ use Rattle.network_model.specs.Networks.{Network}
 use Rattle.network_model.specs.Ports.{Port}
 use Rattle.network_model.specs.Kept.{IsUpIn}
 use Rattle.network_model.specs.Counts.{flags}
-use Rattle.network_agreement.specs.Sweeps.{Taking, IsSweptBy}
+use Rattle.network_agreement.specs.Sweeps.{IsSweptBy}
 
 -- a point-to-point link between two routers is clean at a level: it is up, and no SRM flag of the
 -- level stands on it at either end (own)
@@ -26,19 +26,19 @@ pub record IsClean (net : Network) (level : Level) (i j : ℕ) : Type 0 where
 
 -- two routers are joined, named in either order: by a clean link, or since one is swept by the other
 -- (own)
-pub data AreJoined (net : Network) (takings : List Taking) (level : Level) (i j : ℕ) : Type 0 where
-  Clean : IsClean net level i j → AreJoined net takings level i j
-  CleanBack : IsClean net level j i → AreJoined net takings level i j
-  Swept : (link : ℕ) → IsSweptBy net takings link level i j → AreJoined net takings level i j
-  SweptBack : (link : ℕ) → IsSweptBy net takings link level j i → AreJoined net takings level i j
+pub data AreJoined (net : Network) (level : Level) (i j : ℕ) : Type 0 where
+  Clean : IsClean net level i j → AreJoined net level i j
+  CleanBack : IsClean net level j i → AreJoined net level i j
+  Swept : (link : ℕ) → IsSweptBy net link level i j → AreJoined net level i j
+  SweptBack : (link : ℕ) → IsSweptBy net link level j i → AreJoined net level i j
 
 -- a chain of routers that are there, each joined with the next, leads from one to another (own)
-pub data Leads (net : Network) (takings : List Taking) (level : Level) : ℕ → ℕ → Type 0 where
-  Stays : (i : ℕ) → Leads net takings level i i
+pub data Leads (net : Network) (level : Level) : ℕ → ℕ → Type 0 where
+  Stays : (i : ℕ) → Leads net level i i
   Along : (i j k : ℕ) (r : Router) → nth net.routers j ≡ Some r
-      → AreJoined net takings level i j → Leads net takings level j k → Leads net takings level i k
+      → AreJoined net level i j → Leads net level j k → Leads net level i k
 
 -- an LSP ID was let go by no router to which a chain leads (own)
-pub record IsKeptBy (net : Network) (takings : List Taking) (level : Level) (i id : ℕ) : Type 0 where
-  pub kept : (m : ℕ) (r : Router) → Leads net takings level i m → nth net.routers m ≡ Some r
+pub record IsKeptBy (net : Network) (level : Level) (i id : ℕ) : Type 0 where
+  pub kept : (m : ℕ) (r : Router) → Leads net level i m → nth net.routers m ≡ Some r
       → IsKept r level id

@@ -5,14 +5,10 @@ use Rattle.isis_base.specs.declared.level.Level.{Level}
 use Rattle.isis_model.specs.Both.{at}
 use Rattle.isis_model.specs.Places.{nth}
 use Rattle.isis_model.specs.SnpTable.{SnpEntry}
-use Rattle.isis_model.specs.Routers.{Router, level_of, book_of}
-use Rattle.isis_model.specs.Takes.{Scene}
+use Rattle.isis_model.specs.Routers.{Router, book_of}
 use Rattle.isis_model.specs.Datagrams.{Csnp}
-use Rattle.isis_model.specs.Events.{SnpHeard}
 use Rattle.isis_model.specs.ReplyLaws.{TellsKeys}
-use Rattle.isis_model.specs.SweepLaws.{AreClean, IsRangeClean}
-use Rattle.network_model.specs.Networks.{Datagram, octets_of, Network}
-use Rattle.network_model.specs.Runs.{read_on}
+use Rattle.network_model.specs.Networks.{Datagram, Taking, Network}
 use Rattle.network_model.specs.Ports.{In}
 use Rattle.network_agreement.specs.LiveViews.{live_at}
 
@@ -45,48 +41,6 @@ pub record AreTrue (net : Network) : Type 0 where
   pub each : (d : Datagram) → In d net.datagrams → IsTrue net d
 
 -- ---- what was taken
-
--- A range of LSP IDs of a CSNP that a router took, on which link or LAN and level: the router's boot
--- and number of changes then, and those of the sender when it sent it (own).
-pub record Taking : Type 0 where
-  pub member : ℕ
-  pub boot : ℕ
-  pub changes : ℕ
-  pub link : ℕ
-  pub level : Level
-  pub sender : ℕ
-  pub sent_boot : ℕ
-  pub sent_changes : ℕ
-  pub first : ℕ
-  pub last : ℕ
-
--- a router reads a datagram as a CSNP of a range, of which neither an entry nor the range sets a flag
--- at what it holds (own)
-pub record IsCleanTake (r : Router) (place : ℕ) (d : Datagram) (level : Level)
-    (first last : ℕ) : Type 0 where
-  pub snpa : ℕ
-  pub source : ℕ
-  pub entries : List SnpEntry
-  pub scene : Scene
-  pub reads : read_on r (nth r.circuits place) (octets_of d)
-      ≡ SnpHeard level snpa source (Some (first, last)) entries
-  pub clean : AreClean scene (level_of r level) r.config.system place entries
-  pub range : IsRangeClean (level_of r level) first last entries
-
--- the range of a datagram that a router takes (own)
-abbrev pub taking_of : ℕ → Router → Datagram → Level → ℕ → ℕ → Taking
-taking_of i r d level first last = record {
-  member = i;
-  boot = r.boot;
-  changes = (book_of r level).changes;
-  link = d.link;
-  level = level;
-  sender = d.sender;
-  sent_boot = d.boot;
-  sent_changes = at d.changes level;
-  first = first;
-  last = last;
-}
 
 -- while the keys of both stand, the two routers hold the same live LSPs in the range (own)
 pub record IsAgreed (net : Network) (t : Taking) : Type 0 where
@@ -130,8 +84,7 @@ IsCovered net link level member other id (t ∷ takings) =
     IsCovering net link level member other id t
     ⊎ IsCovered net link level member other id takings
 
--- a router is swept by another on a link or LAN and level: the ranges that it took cover all LSP IDs
--- (own)
-pub record IsSweptBy (net : Network) (takings : List Taking) (link : ℕ) (level : Level)
-    (member other : ℕ) : Type 0 where
-  pub each : (id : ℕ) → id < 2 ^ 64 → IsCovered net link level member other id takings
+-- a router is swept by another on a link or LAN and level: the ranges that it took cleanly, at the
+-- present keys of both, cover all LSP IDs (own)
+pub record IsSweptBy (net : Network) (link : ℕ) (level : Level) (member other : ℕ) : Type 0 where
+  pub each : (id : ℕ) → id < 2 ^ 64 → IsCovered net link level member other id net.takings

@@ -7,22 +7,21 @@ ghost use Rattle.isis_model.specs.Cells.{Cell};
 ghost use Rattle.isis_model.specs.Books.{cell_at};
 ghost use Rattle.isis_model.specs.Routers.{Router, book_of};
 ghost use Rattle.isis_datagram.specs.Lsps.{given_octets};
-ghost use Rattle.network_model.specs.Networks.{Datagram, Network};
+ghost use Rattle.network_model.specs.Networks.{Network};
 ghost use Rattle.network_model.specs.Runs.{Happening, apply, is_injection};
 ghost use Rattle.network_model.specs.Speakers.{AreSpeaking, AreOctets};
-ghost use Rattle.network_model.specs.Ports.{In};
 ghost use Rattle.network_model.specs.Kept.{IsKeptNet};
 ghost use Rattle.network_agreement.specs.LiveViews.{live_at};
 ghost use Rattle.network_agreement.specs.Chains.{Leads, IsKeptBy};
 ghost use Rattle.network_agreement.specs.Origins.{body_of, HaveOrigins, HoldsNothing, IsSingle};
-ghost use Rattle.network_agreement.specs.Sweeps.{AreTrue, Taking, IsCleanTake, taking_of, IsAgreed, AreAgreed, IsSweptBy};
+ghost use Rattle.network_agreement.specs.Sweeps.{AreTrue, AreAgreed, IsSweptBy};
 
 /// Where what is kept of a network holds and nothing was injected, two routers that a chain of joined routers connects hold
 /// the same live LSP of each LSP ID that no router so connected let go, or neither holds one.
 pub fn group_claim()
-    ensures { (net : Network) (takings : List Taking) (level : Level) (i j : ℕ) (a b : Router)
-        (id : ℕ) → IsKeptNet net → net.injected ≡ 0 → AreAgreed net takings
-        → Leads net takings level i j → IsKeptBy net takings level i id
+    ensures { (net : Network) (level : Level) (i j : ℕ) (a b : Router) (id : ℕ)
+        → IsKeptNet net → net.injected ≡ 0 → AreAgreed net net.takings
+        → Leads net level i j → IsKeptBy net level i id
         → nth net.routers i ≡ Some a → nth net.routers j ≡ Some b
         → live_at a level id ≡ live_at b level id }
 {}
@@ -48,24 +47,22 @@ pub fn body_claim()
         → c.rank ≡ d.rank → is_live c.rank ≡ true → body_of c ≡ body_of d }
 {}
 
-/// A CSNP tells its sender's keys while these stand. So a router that takes one without a flag, while its own keys stand too,
-/// holds the same live LSPs in its range; and a router that is swept by another holds just the same live LSPs. Nothing need
-/// be known of what was let go.
+/// A CSNP tells its sender's keys while these stand. So a router that took one cleanly holds the same live LSPs in its range,
+/// while its own keys stand too: that is kept by each event of a run without injections. And a router that is swept by another
+/// holds just the same live LSPs, whatever was let go.
 pub fn sweep_claim()
     ensures start { (net : Network) → HoldsNothing net → AreTrue net }
-    ensures event { (leaks : Router → Level → List (ℕ × ℕ)) (attached : Router → Bool)
+    ensures sent { (leaks : Router → Level → List (ℕ × ℕ)) (attached : Router → Bool)
         (net : Network) (h : Happening) → is_injection h ≡ false → AreSpeaking net
         → AreTrue net → AreTrue (apply (given_octets leaks attached) net h) }
-    ensures taken { (net : Network) (i : ℕ) (r : Router) (place : ℕ) (d : Datagram)
-        (level : Level) (first last : ℕ) → HaveOrigins net → AreTrue net → In d net.datagrams
-        → nth net.routers i ≡ Some r → IsCleanTake r place d level first last
-        → IsAgreed net (taking_of i r d level first last) }
-    ensures kept { (leaks : Router → Level → List (ℕ × ℕ)) (attached : Router → Bool)
-        (net : Network) (h : Happening) (takings : List Taking) → is_injection h ≡ false
-        → AreAgreed net takings → AreAgreed (apply (given_octets leaks attached) net h) takings }
-    ensures swept { (net : Network) (takings : List Taking) (link : ℕ) (level : Level)
-        (member other : ℕ) (a b : Router) (id : ℕ) → AreSpeaking net → AreAgreed net takings
-        → IsSweptBy net takings link level member other
+    ensures taken { (leaks : Router → Level → List (ℕ × ℕ)) (attached : Router → Bool)
+        (net : Network) (h : Happening) → is_injection h ≡ false → HaveOrigins net → AreTrue net
+        → AreAgreed net net.takings
+        → AreAgreed (apply (given_octets leaks attached) net h)
+        (apply (given_octets leaks attached) net h).takings }
+    ensures swept { (net : Network) (link : ℕ) (level : Level) (member other : ℕ) (a b : Router)
+        (id : ℕ) → AreSpeaking net → AreAgreed net net.takings
+        → IsSweptBy net link level member other
         → nth net.routers member ≡ Some a → nth net.routers other ≡ Some b
         → live_at a level id ≡ live_at b level id }
 {}

@@ -60,10 +60,15 @@ pub record Moves (net : Network) (i : ℕ) (link : Option ℕ) (event : Event) (
   pub on : (l : ℕ) → link ≡ Some l → place_at net l i ≡ Some (place_of event)
   pub hears : (place : ℕ) (m : Message) → event ≡ Take place m → Arrived net i r place m
 
+-- the ranges that a router takes in an event: none, or those of a datagram that it hears
+pub data Brings (given : Given) (net : Network) (i : ℕ) (r : Router) : List Taking → Type 0 where
+  Nothing : Brings given net i r []
+  Ranges : (d : Datagram) (place : ℕ) → In d net.datagrams → Brings given net i r (ranges_in given i r place d)
+
 -- what an event makes of a network
 pub data Change (given : Given) (net : Network) : Network → Type 0 where
   Still : (same : Network) → Change given net net
-  Moved : (i : ℕ) (link : Option ℕ) (event : Event) (r : Router) (ts : List Taking) → Moves net i link event r → Change given net (moved given net i link event r ts)
+  Moved : (i : ℕ) (link : Option ℕ) (event : Event) (r : Router) (ts : List Taking) → Moves net i link event r → Brings given net i r ts → Change given net (moved given net i link event r ts)
   Restarted : (i : ℕ) (r : Router) → nth net.routers i ≡ Some r → Change given net (restart_at net i (Some r))
 
 -- ---- deliveries
@@ -104,7 +109,7 @@ taken-change given net i d place (Some r) q x l = Moved i (Some d.link) (taking 
         fresh = l.fresh;
         read = sym (same-message _ _ _ _ y) ∙ ap (λ (n : ℕ). read_on r (nth r.circuits n) (octets_of d)) here;
       };
-})
+}) (Ranges d place x)
 
 placed-change : (given : Given) (net : Network) (i : ℕ) (d : Datagram) (o : Option ℕ) → place_at net d.link i ≡ o → In d net.datagrams → not (boot_of (nth net.routers d.sender) == d.boot) ≡ false → d.sender ≢ i → Change given net (arrive given net i (on_place d o))
 placed-change given net i d None q x new foreign = Still net
@@ -124,7 +129,7 @@ deliver-change given net i (Some d) there =
 
 moved_if-change : (given : Given) (net : Network) (i : ℕ) (link : Option ℕ) (event : Event) (o : Option Router) → ((r : Router) → o ≡ Some r → Moves net i link event r) → Change given net (moved_if given net i link event o)
 moved_if-change given net i link event None moves = Still net
-moved_if-change given net i link event (Some r) moves = Moved i link event r [] (moves r refl)
+moved_if-change given net i link event (Some r) moves = Moved i link event r [] (moves r refl) Nothing
 
 -- an event without a circuit
 alone : (net : Network) (i : ℕ) (event : Event) → ((place : ℕ) (m : Message) → event ≡ Take place m → ⊥) → (r : Router) → nth net.routers i ≡ Some r → Moves net i None event r

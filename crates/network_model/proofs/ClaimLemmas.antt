@@ -100,7 +100,7 @@ start-holds net e f k s = record {
 
 change-links : (given : Given) (net new : Network) → Change given net new → new.links ≡ net.links
 change-links given net new (Still _) = refl
-change-links given net new (Moved i link event r ts m) = refl
+change-links given net new (Moved i link event r ts m _) = refl
 change-links given net new (Restarted i r q) = refl
 
 arrive-links : (given : Given) (net : Network) (i link place : ℕ) (octets : List ℕ) (o : Option Router) → (arrive_at given net i link place octets o).links ≡ net.links

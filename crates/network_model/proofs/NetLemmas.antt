@@ -347,7 +347,7 @@ restart-holds net e f k i r q s h =
 
 change-holds : (leaks : Router → Level → List (ℕ × ℕ)) (attached : Router → Bool) (net new : Network) (e f : Port) (k : ℕ) → IsWired net → AreOctets net → AreSpeaking net → AreSpeaking new → Sides net e f k → Change (given_octets leaks attached) net new → Holds net e f k → Holds new e f k
 change-holds leaks attached net new e f k wired octets speak speak_on s (Still _) h = h
-change-holds leaks attached net new e f k wired octets speak speak_on s (Moved i link event r ts moves) h =
+change-holds leaks attached net new e f k wired octets speak speak_on s (Moved i link event r ts moves _) h =
     moved-holds leaks attached net e f k i link event r ts wired octets (speak i r moves.found)
     (speak_on i (step (given_octets leaks attached) r event).router (nth-set net.routers i r (step (given_octets leaks attached) r event).router moves.found)) s moves h
 change-holds leaks attached net new e f k wired octets speak speak_on s (Restarted i r q) h = restart-holds net e f k i r q s h
