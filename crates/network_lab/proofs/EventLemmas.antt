@@ -1,5 +1,5 @@
 -- What an event of the model does to what is seen of a network.
-use Rattle.std.proofs.Common.{◌≡◌, ℕ, ◌<◌, ◌≤◌, ◌==◌, ◌&&◌, not, nat_le, Bool, true, false, List, length, Option, Some, None, Result, Ok, Err, is_some, if◌then◌else◌, refl, sym, ap, ◌∙◌, subst, arith}
+use Rattle.std.proofs.Common.{◌≡◌, ℕ, ◌<◌, ◌≤◌, ◌==◌, ◌&&◌, not, nat_le, Bool, true, false, List, [], length, Option, Some, None, Result, Ok, Err, is_some, if◌then◌else◌, refl, sym, ap, ◌∙◌, subst, arith}
 use Rattle.std.specs.Option.{option_map}
 use Rattle.std.proofs.lemmas.List.{map-append, length-map}
 use Rattle.isis_model.specs.Places.{nth, with_nth}
@@ -14,9 +14,9 @@ use Rattle.router_desk.specs.declared.config.Change.TheVariants as change
 use Rattle.router_desk.specs.Configs.{prefix_number}
 use Rattle.router_core.specs.Events as core
 use Rattle.router_core.specs.Givens.{given}
-use Rattle.network_model.specs.Networks.{Datagram, octets_of, Network, place_in, place_at, numbered, restarted}
+use Rattle.network_model.specs.Networks.{Datagram, octets_of, Taking, Network, place_in, place_at, numbered, restarted}
 use Rattle.network_model.specs.Runs as model
-use Rattle.network_model.specs.Runs.{posted, moved, moved_if, taking, arrival, on_place, pull_at, arrive, arrive_at, inject_at, restart_at, boot_of, apply}
+use Rattle.network_model.specs.Runs.{posted, moved, moved_if, taking, arrival, on_place, pull_at, arrive, arrive_at, deliver_at, inject_at, restart_at, ranges_in, boot_of, apply}
 use Rattle.network_lab.specs.declared.sent.SentDatagram.{SentDatagram}
 use Rattle.network_lab.specs.declared.event.LabEvent.{LabEvent}
 use Rattle.network_lab.specs.declared.event.LabEvent.TheVariants as event
@@ -28,8 +28,8 @@ use Rattle.network_lab.specs.LabEvents.{refusal, after, unless_on, unless_arrive
 use Rattle.network_lab.specs.LabSteps.{moved_in, StopCause, delivered_on, Taken, Ending, Done, Stopped}
 use Rattle.network_lab.proofs.PlaceLemmas.{some-same, numbered-map}
 
-moved-is : (net : Network) (i : ℕ) (link : Option ℕ) (ev : Event) (r : Router) → seen_of (moved given net i link ev r) ≡ moved_in (seen_of net) i link ev r
-moved-is net i link ev r =
+moved-is : (net : Network) (i : ℕ) (link : Option ℕ) (ev : Event) (r : Router) (takings : List Taking) → seen_of (moved given net i link ev r takings) ≡ moved_in (seen_of net) i link ev r
+moved-is net i link ev r takings =
     let o = step given r ev in
     ap (λ (ds : List SentDatagram). record { routers = with_nth net.routers i o.router; links = net.links; sent = ds; injected = net.injected })
     (map-append sent_of net.datagrams (posted i link o.router (place_of ev) o.reply))
@@ -38,7 +38,7 @@ moved-is net i link ev r =
 pub moved-at : (net : Network) (s : Seen) → seen_of net ≡ s → (i : ℕ) (link : Option ℕ) (ev : Event) (r : Router) → nth s.routers i ≡ Some r → seen_of (moved_if given net i link ev (nth net.routers i)) ≡ moved_in s i link ev r
 moved-at net s e i link ev r h =
     let p : nth net.routers i ≡ Some r = ap (λ (s : Seen). nth s.routers i) e ∙ h in
-    ap (λ (o : Option Router). seen_of (moved_if given net i link ev o)) p ∙ (moved-is net i link ev r ∙ ap (λ (s : Seen). moved_in s i link ev r) e)
+    ap (λ (o : Option Router). seen_of (moved_if given net i link ev o)) p ∙ (moved-is net i link ev r [] ∙ ap (λ (s : Seen). moved_in s i link ev r) e)
 
 pub place-seen : (net : Network) (s : Seen) → seen_of net ≡ s → (link i : ℕ) → place_at net link i ≡ place_in (nth s.links link) i
 place-seen net s e link i = ap (λ (s : Seen). place_in (nth s.links link) i) e
@@ -121,7 +121,13 @@ deliver-on s n i link place x g h p net e =
 arrived : (net : Network) (s : Seen) → seen_of net ≡ s → (i link place : ℕ) (octets : List ℕ) (r : Router) → nth s.routers i ≡ Some r → seen_of (arrive_at given net i link place octets (nth net.routers i)) ≡ moved_in s i (Some link) (taking r place octets) r
 arrived net s e i link place octets r h =
     let p : nth net.routers i ≡ Some r = ap (λ (s : Seen). nth s.routers i) e ∙ h in
-    ap (λ (o : Option Router). seen_of (arrive_at given net i link place octets o)) p ∙ (moved-is net i (Some link) (taking r place octets) r ∙ ap (λ (s : Seen). moved_in s i (Some link) (taking r place octets) r) e)
+    ap (λ (o : Option Router). seen_of (arrive_at given net i link place octets o)) p ∙ (moved-is net i (Some link) (taking r place octets) r [] ∙ ap (λ (s : Seen). moved_in s i (Some link) (taking r place octets) r) e)
+
+delivered : (net : Network) (s : Seen) → seen_of net ≡ s → (i place : ℕ) (d : Datagram) (r : Router) → nth s.routers i ≡ Some r → seen_of (deliver_at given net i d place (nth net.routers i)) ≡ moved_in s i (Some d.link) (taking r place (octets_of d)) r
+delivered net s e i place d r h =
+    let p : nth net.routers i ≡ Some r = ap (λ (s : Seen). nth s.routers i) e ∙ h in
+    let event = taking r place (octets_of d) in
+    ap (λ (o : Option Router). seen_of (deliver_at given net i d place o)) p ∙ (moved-is net i (Some d.link) event r (ranges_in given i r place d) ∙ ap (λ (s : Seen). moved_in s i (Some d.link) event r) e)
 
 pub deliver-done : (s : Seen) (n i link place : ℕ) (x : SentDatagram) (octets : List ℕ) (r : Router) → octets ≡ x.octets → numbered s.sent n ≡ Some x → delivered_on s (numbered s.sent n) i ≡ Ok link → place_in (nth s.links link) i ≡ Some place → nth s.routers i ≡ Some r → (net : Network) → seen_of net ≡ s
     → (refusal net (event.Deliver n i) ≡ None) × (seen_of (after net (event.Deliver n i)) ≡ moved_in s i (Some link) (taking r place octets) r)
@@ -131,9 +137,9 @@ deliver-done s n i link place x octets r o g h p k net e =
     let says : octets_of l.d ≡ octets = l.says ∙ sym o in (
       deliver-on s n i link place x g h p net e,
       ap (λ (a : _). seen_of (arrive given net i a)) (l.arrives ∙ ap (on_place l.d) (place-seen net s e link i ∙ p))
-          ∙ (ap (λ (k : ℕ). seen_of (arrive_at given net i k place (octets_of l.d) (nth net.routers i))) l.on
-          ∙ (ap (λ (b : List ℕ). seen_of (arrive_at given net i link place b (nth net.routers i))) says
-          ∙ arrived net s e i link place octets r k)),
+          ∙ (delivered net s e i place l.d r k
+          ∙ (ap (λ (k : ℕ). moved_in s i (Some k) (taking r place (octets_of l.d)) r) l.on
+          ∙ ap (λ (b : List ℕ). moved_in s i (Some link) (taking r place b) r) says)),
     )
 
 -- ---- injections

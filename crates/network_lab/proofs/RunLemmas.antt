@@ -8,7 +8,7 @@ use Rattle.router_core.specs.Givens.{given}
 use Rattle.network_model.specs.declared.word.PduWord.{PduWord}
 use Rattle.network_model.specs.declared.end.End.{End}
 use Rattle.network_model.specs.Networks.{Datagram, octets_of, Network, place_at, numbered}
-use Rattle.network_model.specs.Runs.{Happening, Tick, PullOn, Deliver, Restart, SetMetric, SetOverload, SetPrefix, Inject, Arrival, NotSent, Stale, NotOn, Arrives, moved_if, arrival, arrive, arrive_at, pull_at, restart_at, inject_at, apply}
+use Rattle.network_model.specs.Runs.{Happening, Tick, PullOn, Deliver, Restart, SetMetric, SetOverload, SetPrefix, Inject, Arrival, NotSent, Stale, NotOn, Arrives, moved_if, arrival, arrive, arrive_at, deliver_at, pull_at, restart_at, inject_at, apply}
 use Rattle.network_model.specs.RunLines as line
 use Rattle.network_lab.specs.declared.event.LabEvent.{LabEvent}
 use Rattle.network_lab.specs.declared.event.LabEvent.TheVariants as event
@@ -33,11 +33,15 @@ arrive_at-grows : (g : Given) (net : Network) (i link place : ℕ) (octets : Lis
 arrive_at-grows g net i link place octets None = omega arith
 arrive_at-grows g net i link place octets (Some r) = more net.datagrams _
 
+deliver_at-grows : (g : Given) (net : Network) (i : ℕ) (d : Datagram) (place : ℕ) (o : Option Router) → length net.datagrams ≤ length (deliver_at g net i d place o).datagrams
+deliver_at-grows g net i d place None = omega arith
+deliver_at-grows g net i d place (Some r) = more net.datagrams _
+
 arrive-grows : (g : Given) (net : Network) (i : ℕ) (a : Arrival) → length net.datagrams ≤ length (arrive g net i a).datagrams
 arrive-grows g net i NotSent = omega arith
 arrive-grows g net i (Stale boot) = omega arith
 arrive-grows g net i NotOn = omega arith
-arrive-grows g net i (Arrives d place) = arrive_at-grows g net i d.link place (octets_of d) (nth net.routers i)
+arrive-grows g net i (Arrives d place) = deliver_at-grows g net i d place (nth net.routers i)
 
 pull-grows : (g : Given) (net : Network) (i link : ℕ) (o : Option ℕ) → length net.datagrams ≤ length (pull_at g net i link o).datagrams
 pull-grows g net i link None = omega arith
