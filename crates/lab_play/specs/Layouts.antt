@@ -88,5 +88,7 @@ opened a = record {
   routers = a.seen.routers;
   links = a.seen.links;
   datagrams = [];
+  past = [];
+  takings = [];
   injected = 0;
 }
