@@ -1,5 +1,5 @@
 -- What is kept of a whole network, by each event.
-use Rattle.std.proofs.Common.{◌≡◌, ℕ, ◌+◌, ◌-◌, ◌<◌, ◌^◌, nat_lt, Bool, true, false, eqb, if◌then◌else◌, [], Option, Some, None, refl, sym, ap, ◌∙◌, subst, List, ◌∷◌, zero, suc, map, arith}
+use Rattle.std.proofs.Common.{◌≡◌, ℕ, ◌+◌, ◌-◌, ◌<◌, ◌^◌, nat_lt, Bool, true, false, eqb, if◌then◌else◌, Option, Some, None, refl, sym, ap, ◌∙◌, subst, List, zero, suc, arith}
 use Rattle.std.proofs.lemmas.Bool.Decides.{nat_tests}
 use Rattle.std.specs.List.{AllByRecursion}
 use Rattle.isis_base.specs.declared.level.Level.{Level}
@@ -10,7 +10,7 @@ use Rattle.isis_model.specs.Books.{risen}
 use Rattle.isis_model.specs.Givens.{Given}
 use Rattle.isis_model.specs.Configs.{Config}
 use Rattle.isis_model.specs.Routers.{Circuit, Router}
-use Rattle.isis_model.specs.Starts.{start, started}
+use Rattle.isis_model.specs.Starts.{start}
 use Rattle.isis_model.specs.Events.{Event}
 use Rattle.isis_model.specs.Steps.{step}
 use Rattle.isis_model.specs.AdjacencyLaws.{is_point, FollowsAdjacencies, bond_at, no_bond}
@@ -23,9 +23,9 @@ use Rattle.network_model.specs.Runs.{Happening, Inject, Tick, PullOn, Deliver, R
 use Rattle.network_model.specs.Speakers.{AreSpeaking, AreOctets}
 use Rattle.network_model.specs.Ports.{Port}
 use Rattle.network_model.specs.Links.{IsWired, Joins, Holds, LinkHolds}
-use Rattle.network_model.specs.Starts.{IsOpening, Opens}
+use Rattle.network_model.specs.Starts.{IsOpening}
 use Rattle.network_model.specs.Kept.{IsEnd, IsPointLink, AreFollowing, IsKeptNet, IsFreshNet, IsUpIn, IsClaimedOf}
-use Rattle.network_model.proofs.ChangeLemmas.{nth-set, nth-other, some-same, Moves, Change, Still, Moved, Restarted, apply-change}
+use Rattle.network_model.proofs.ChangeLemmas.{nth-set, nth-other, some-same, Change, Still, Moved, Restarted, apply-change}
 use Rattle.network_model.proofs.ClaimLemmas.{start-holds, apply-links, link-claim}
 use Rattle.network_model.proofs.CountLemmas.{ahead-flags}
 use Rattle.network_model.proofs.NetLemmas.{apply-holds}

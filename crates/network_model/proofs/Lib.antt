@@ -3,10 +3,11 @@ mod PortLemmas
 mod ReadLemmas
 mod LegibleLemmas
 mod PointReplies
-mod ChangeLemmas
+pub mod ChangeLemmas
 mod LinkLemmas
-mod RestartLemmas
+pub mod RestartLemmas
 mod NetLemmas
 mod ClaimLemmas
 mod CountLemmas
-mod KeptLemmas
+pub mod KeptLemmas
+pub mod LineLemmas

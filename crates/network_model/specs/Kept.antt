@@ -1,5 +1,5 @@
 -- What is kept of a whole network in its run (own).
-use Rattle.std.specs.Prelude.{◌≡◌, ℕ, ◌≤◌, true, [], ◌∷◌, Some}
+use Rattle.std.specs.Prelude.{◌≡◌, ℕ, ◌≤◌, true, [], Some}
 use Rattle.isis_base.specs.declared.level.Level.{Level}
 use Rattle.isis_model.specs.Places.{nth}
 use Rattle.isis_model.specs.Routers.{Router}
