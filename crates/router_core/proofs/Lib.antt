@@ -19,3 +19,5 @@ mod NameLemmas
 mod ReachedLemmas
 mod SecondLemmas
 mod QuietLemmas
+pub mod CalmLemmas
+pub mod RouteLemmas
