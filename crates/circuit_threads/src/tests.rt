@@ -7,10 +7,12 @@ ghost use Rattle.turn_lock.specs.Passes.{turns_left, splits};
 ghost use Rattle.circuit_threads.specs.Sharing.{first_router, IsPassOf};
 
 use crate::{Behind, Pass, Receipt, SharedRouter, SubmitFault, TextJournal};
-use isis_base::{AreaAddress, CircuitKind, LevelSet, Octets, OutOfMemory, SystemId};
+use isis_base::{
+    AreaAddress, CircuitKind, Level, LevelSet, LspId, NodeId, Octets, OutOfMemory, SystemId,
+};
 use isis_edge::MemorySink;
 use router_core::{NodeEvent, Router};
-use router_desk::{Areas, Change, CircuitConfig, Circuits, Config, Prefixes};
+use router_desk::{Areas, Change, CircuitConfig, Circuits, Config, DropName, Prefixes};
 use std::alloc::Global;
 use std::sync::Wait;
 use std::test::Fail;
@@ -73,6 +75,31 @@ fn shared(alloc: Global, room: usize, turns: u64) -> Result<(Shared, SharedPass)
         Ok(made) => Ok(made),
         Err((_router, _journal, error)) => Err(error),
     }
+}
+
+/// The LSPs of level 1 that a router holds, and the sequence number of its own.
+fn held(router: &Router) -> (usize, u32) {
+    let node = NodeId {
+        system: SYSTEM,
+        pseudonode: 0,
+    };
+    let own = LspId { node, number: 0 };
+    let Some(book) = router.book(Level::One) else {
+        return (0, 0);
+    };
+    match book.key(own) {
+        Some(key) => (book.store().len(), key.number),
+        None => (book.store().len(), 0),
+    }
+}
+
+/// Whether two routers say the same of their boot, drops and LSPs, of which they have some.
+fn are_alike(a: &Router, b: &Router) -> bool {
+    let (count, number) = held(a);
+    let (other_count, other_number) = held(b);
+    let same_drops = a.drops(DropName::Frame) == b.drops(DropName::Frame);
+    let same_held = count == other_count && number == other_number;
+    a.boot() == b.boot() && same_drops && same_held && count == 1
 }
 
 /// Whether the shared router has a link.
@@ -139,11 +166,32 @@ fn two<R: Threads + Wait + Sync>(
     shared.join(shared.join(rest, first), second)
 }
 
+/// Whether a router is as one that is stepped by so many seconds alone.
+fn is_as_stepped(alloc: Global, router: &Router, seconds: u8) -> Result<bool, OutOfMemory> {
+    let mut alone = self::router(alloc)?;
+    for _ in 0..seconds {
+        alone.step(NodeEvent::Second)?;
+    }
+    Ok(are_alike(router, &alone))
+}
+
 /// Whether a journal has so many entries of pass 1, and of pass 2.
 fn has_entries(journal: Journal, count: usize) -> bool {
     let sink = journal.into_sink();
     let text = sink.octets();
     count_of(text, b" 1 second") == count && count_of(text, b" 2 second") == count
+}
+
+/// Whether a shared router ends as one that is stepped by 200 seconds, of which passes 1 and 2 have
+/// 100 each.
+fn ends_as_stepped(alloc: Global, shared: Shared, pass: SharedPass) -> Result<bool, OutOfMemory>
+    requires { IsPassOf shared pass }
+{
+    let Ok((router, journal)) = shared.close(pass) else {
+        return Ok(false);
+    };
+    let same = is_as_stepped(alloc, &router, 200)?;
+    Ok(same && has_entries(journal, 100))
 }
 
 /// How often a piece stands in a text.
@@ -212,9 +260,6 @@ fn an_append_that_fails_stops_all(rt: HostRuntime) -> Result<(), Fail> {
 fn two_threads_submit(rt: HostRuntime) -> Result<(), Fail> {
     let (shared, pass) = shared(rt.alloc(), 10_000, 200)?;
     let pass = two(&rt, &shared, pass, 100);
-    let Ok((_router, journal)) = shared.close(pass) else {
-        panic!(rt; "no turn is out")
-    };
-    assert!(rt; has_entries(journal, 100));
+    assert!(rt; ends_as_stepped(rt.alloc(), shared, pass)?);
     Ok(())
 }
