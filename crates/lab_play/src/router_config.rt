@@ -30,7 +30,7 @@ pub(crate) fn config_of(
         system: router.system,
         areas,
         levels: router.levels,
-        leak: false,
+        leak: router.leak,
         overload: false,
         circuits: Circuits::new(alloc),
         prefixes: Prefixes::new(alloc),

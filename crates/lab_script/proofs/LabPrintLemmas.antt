@@ -1,5 +1,5 @@
 -- The words of a lab script's line are read as that line.
-use Rattle.std.proofs.Common.{◌≡◌, ◌∙◌, ℕ, ◌+◌, ◌*◌, ◌/◌, ◌%◌, ◌<◌, ◌≤◌, ◌^◌, Bool, true, false, cond, List, [], ◌∷◌, length, Option, Some, None, refl, ap, subst, arith, rules, inl, inr}
+use Rattle.std.proofs.Common.{◌≡◌, ◌∙◌, ℕ, ◌+◌, ◌*◌, ◌/◌, ◌%◌, ◌<◌, ◌≤◌, ◌^◌, Bool, true, false, cond, List, [], ◌∷◌, ◌++◌, length, Option, Some, None, refl, ap, subst, arith, rules, inl, inr}
 use Rattle.std.specs.Prelude.{decimal, codes, option_and_then, ◌==◌, ◌&&◌, nat_lt, nat_le, IfSome}
 use Rattle.std.specs.Char.{digit_char, digit_value, is_ascii_digit, is_ascii_hexdigit}
 use Rattle.std.specs.List.{list_all}
@@ -33,12 +33,12 @@ use Rattle.lab_script.specs.declared.named.NamedLine.TheVariants.{Router, Link, 
 use Rattle.lab_script.specs.declared.named.NamedScope.{NamedScope}
 use Rattle.lab_script.specs.declared.named.NamedScope.TheVariants as scope
 use Rattle.lab_script.specs.Fields.{name_of}
-use Rattle.lab_script.specs.Forms.{field, last, done}
+use Rattle.lab_script.specs.Forms.{field, flag, last, done}
 use Rattle.lab_script.specs.HexTexts.{is_hex, hex_of, key_octets_of, octets_in}
 use Rattle.lab_script.specs.LabFields.{number_to, metric_of, prefix_metric_of, seconds_of, system_of, prefix_of, pdus_of, scope_of}
 use Rattle.lab_script.specs.LabLines.{lab_line_of, priority_form}
 use Rattle.lab_script.specs.Printed.{IsName}
-use Rattle.lab_script.specs.LabPrinted.{AreOctets, IsSomeOctets, IsRouterLine, IsScopeLine, IsDeedLine, IsLabLine, hex_text, pdus_text, scope_text, prefix_metric_text, deed_words, lab_words}
+use Rattle.lab_script.specs.LabPrinted.{AreOctets, IsSomeOctets, IsRouterLine, IsScopeLine, IsDeedLine, IsLabLine, hex_text, flag_words, pdus_text, scope_text, prefix_metric_text, deed_words, lab_words}
 use Rattle.lab_script.proofs.FieldLemmas.{own}
 use Rattle.lab_script.proofs.NumberTexts.{numeral_of-decimal, copy-read}
 
@@ -190,20 +190,26 @@ key-words router s key h = rw h.0 (
 priority-words : (n : ℕ) → n ≤ 127 → priority_form (codes "priority" ∷ decimal n ∷ []) ≡ Some n
 priority-words n h = ap (λ (o : Option ℕ). option_and_then (λ p. done p []) o) (number-read 127 n h (omega (arith, h)))
 
-router-words : (name : List ℕ) (system : SystemId) (area : List ℕ) (levels : LevelSet) (priority : ℕ) → IsRouterLine (record { name = name; system = system; area = area; levels = levels; priority = priority })
-    → lab_line_of (lab_words (Router (record { name = name; system = system; area = area; levels = levels; priority = priority }))) ≡ Some (Router (record { name = name; system = system; area = area; levels = levels; priority = priority }))
-router-words name system area levels priority h =
-    let end = codes "priority" ∷ decimal priority ∷ [] in
-    let made = λ (s : SystemId) (a : List ℕ) (l : LevelSet) (p : ℕ). Router (record { name = name; system = s; area = a; levels = l; priority = p }) in
+-- the words behind a router's levels
+leak-words : (leak : Bool) (n : ℕ) (made : Bool → ℕ → NamedLine) → n ≤ 127 → flag (codes "leak") (λ l. last priority_form (made l)) (flag_words (codes "leak") leak ++ codes "priority" ∷ decimal n ∷ []) ≡ Some (made leak n)
+leak-words true n made h = ap (option_map (made true)) (priority-words n h)
+leak-words false n made h = ap (option_map (made false)) (priority-words n h)
+
+router-words : (name : List ℕ) (system : SystemId) (area : List ℕ) (levels : LevelSet) (leak : Bool) (priority : ℕ) → IsRouterLine (record { name = name; system = system; area = area; levels = levels; leak = leak; priority = priority })
+    → lab_line_of (lab_words (Router (record { name = name; system = system; area = area; levels = levels; leak = leak; priority = priority }))) ≡ Some (Router (record { name = name; system = system; area = area; levels = levels; leak = leak; priority = priority }))
+router-words name system area levels leak priority h =
+    let end = flag_words (codes "leak") leak ++ codes "priority" ∷ decimal priority ∷ [] in
+    let made = λ (s : SystemId) (a : List ℕ) (l : LevelSet) (k : Bool) (p : ℕ). Router (record { name = name; system = s; area = a; levels = l; leak = k; priority = p }) in
+    let behind = λ (s : SystemId) (a : List ℕ) (l : LevelSet). flag (codes "leak") (λ k. last priority_form (made s a l k)) in
     rw h.name (
-    ap (λ (o : Option SystemId). option_and_then (λ s. field area_of (λ a. field levels_of (λ l. last priority_form (made s a l))) (area_text area ∷ levels_text levels ∷ end)) o) (system-read system h.system_small h.system_six)
-    ∙ ap (λ (o : Option (List ℕ)). option_and_then (λ a. field levels_of (λ l. last priority_form (made system a l)) (levels_text levels ∷ end)) o) (area-read area h.area_small h.area_some h.area_fits)
-    ∙ ap (λ (o : Option LevelSet). option_and_then (λ l. last priority_form (made system area l) end) o) (levels_of-written levels)
-    ∙ ap (option_map (made system area levels)) (priority-words priority h.priority))
+    ap (λ (o : Option SystemId). option_and_then (λ s. field area_of (λ a. field levels_of (λ l. behind s a l)) (area_text area ∷ levels_text levels ∷ end)) o) (system-read system h.system_small h.system_six)
+    ∙ ap (λ (o : Option (List ℕ)). option_and_then (λ a. field levels_of (λ l. behind system a l) (levels_text levels ∷ end)) o) (area-read area h.area_small h.area_some h.area_fits)
+    ∙ ap (λ (o : Option LevelSet). option_and_then (λ l. behind system area l end) o) (levels_of-written levels)
+    ∙ leak-words leak priority (made system area levels) h.priority)
 
 -- a line's words are read as the line
 pub lab_line_of-words : (line : NamedLine) → IsLabLine line → lab_line_of (lab_words line) ≡ Some line
-lab_line_of-words (Router router) h = router-words router.name router.system router.area router.levels router.priority h
+lab_line_of-words (Router router) h = router-words router.name router.system router.area router.levels router.leak router.priority h
 lab_line_of-words (Link name first second metric) h = link-words name first second metric h
 lab_line_of-words (Key router s key) h = key-words router s key h
 lab_line_of-words (Event d) h = deed-words d h

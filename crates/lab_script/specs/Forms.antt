@@ -47,6 +47,10 @@ option_at read rest true = field read (λ x. rest (Some x))
 abbrev pub option : {X Y : Type 0} → List ℕ → (List ℕ → Option X) → (Option X → Form Y) → Form Y
 option mark read rest words = option_at read rest (marked mark words).0 (marked mark words).1
 
+-- whether a word comes next, and what follows it
+abbrev pub flag : {Y : Type 0} → List ℕ → (Bool → Form Y) → Form Y
+flag mark rest words = rest (marked mark words).0 (marked mark words).1
+
 -- what is given, or what stands for nothing
 abbrev pub given : {X : Type 0} → X → Option X → X
 given default None = default

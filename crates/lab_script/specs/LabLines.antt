@@ -1,6 +1,5 @@
 -- The lines of a lab script, a table of forms (own).
-use Rattle.std.specs.Prelude.{ℕ, ◌≤◌, ◌&&◌, ◌||◌, Bool, false, List, [], ◌∷◌, length, codes, IfSome}
-use Rattle.std.specs.List.{list_any}
+use Rattle.std.specs.Prelude.{ℕ, ◌≤◌, Bool, false, List, [], ◌∷◌, length, codes, IfSome}
 use Rattle.std.specs.Str.{bytes_eq}
 use Rattle.isis_base.specs.AreaTexts.{area_of}
 use Rattle.isis_base.specs.Levels.{levels_of}
@@ -9,7 +8,7 @@ use Rattle.lab_script.specs.declared.named.NamedDeed.TheVariants as deed
 use Rattle.lab_script.specs.declared.named.NamedLine.{NamedLine}
 use Rattle.lab_script.specs.declared.named.NamedLine.TheVariants.{Router, Link, Key, Event}
 use Rattle.lab_script.specs.Fields.{name_of, copy_of}
-use Rattle.lab_script.specs.Forms.{Form, field, option, given, last, done, of_forms}
+use Rattle.lab_script.specs.Forms.{Form, field, flag, option, given, last, done, of_forms}
 use Rattle.lab_script.specs.HexTexts.{hex_of, key_octets_of}
 use Rattle.lab_script.specs.LabFields.{metric_of, prefix_metric_of, priority_of, seconds_of, system_of, prefix_of, on_of, pdus_of, scope_of}
 
@@ -17,15 +16,16 @@ use Rattle.lab_script.specs.LabFields.{metric_of, prefix_metric_of, priority_of,
 abbrev pub priority_form : Form ℕ
 priority_form = option (codes "priority") priority_of λ priority. done (given 64 priority)
 
--- `router NAME SYSTEM AREA LEVELS [priority N]` (own)
+-- `router NAME SYSTEM AREA LEVELS [leak] [priority N]` (own)
 abbrev pub router_form : Form NamedLine
 router_form = field name_of λ name. field system_of λ system. field area_of λ area.
-    field levels_of λ levels. last priority_form λ priority.
+    field levels_of λ levels. flag (codes "leak") λ leak. last priority_form λ priority.
     Router (record {
       name = name;
       system = system;
       area = area;
       levels = levels;
+      leak = leak;
       priority = priority;
     })
 
@@ -105,14 +105,10 @@ lab_forms =
 abbrev pub lab_line_of : Form NamedLine
 lab_line_of = of_forms lab_forms
 
-abbrev pub has_word : List ℕ → List (List ℕ) → Bool
-has_word mark words = list_any (λ word. bytes_eq word mark) words
-
--- the lines that aren't played yet: LANs, and routers that leak (own)
+-- the lines that aren't played yet: LANs (own)
 abbrev pub is_unbuilt : List (List ℕ) → Bool
 is_unbuilt [] = false
-is_unbuilt (first ∷ words) =
-    bytes_eq first (codes "lan") || (bytes_eq first (codes "router") && has_word (codes "leak") words)
+is_unbuilt (first ∷ words) = bytes_eq first (codes "lan")
 
 -- a key has 1 to 128 octets
 abbrev pub IsKeyLength : List ℕ → Type 0

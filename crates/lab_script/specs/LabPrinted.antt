@@ -113,11 +113,16 @@ deed_words (deed.Run seconds without except) =
     codes "run" ∷ decimal seconds ∷ option_words (codes "without") pdus_text without
     ++ option_words (codes "except") (λ router. router) except
 
+abbrev pub flag_words : List ℕ → Bool → List (List ℕ)
+flag_words mark true = mark ∷ []
+flag_words mark false = []
+
 -- the words of a line
 abbrev pub lab_words : NamedLine → List (List ℕ)
 lab_words (Router router) =
     codes "router" ∷ router.name ∷ system_text router.system ∷ area_text router.area
-    ∷ levels_text router.levels ∷ codes "priority" ∷ decimal router.priority ∷ []
+    ∷ levels_text router.levels ∷ flag_words (codes "leak") router.leak
+    ++ codes "priority" ∷ decimal router.priority ∷ []
 lab_words (Link name first second metric) =
     codes "link" ∷ name ∷ first ∷ second ∷ decimal metric ∷ []
 lab_words (Key router scope key) =

@@ -1,7 +1,7 @@
 //! The line of a lab script that some words are, a reader for each form.
 ghost use Rattle.std.specs.Prelude.{◌≡◌, ◌≤◌, IfSome};
 ghost use Rattle.lab_script.specs.LabLines as form;
-ghost use Rattle.lab_script.specs.LabLines.{IsInRange, has_word};
+ghost use Rattle.lab_script.specs.LabLines.{IsInRange};
 ghost use Rattle.lab_script.specs.Words.{words_of};
 
 use crate::fields::{read_copy, read_name};
@@ -63,31 +63,15 @@ pub(crate) fn read_lab_line(line: &[u8]) -> Option<NamedLine<'_>>
     None
 }
 
-/// Whether a line isn't played yet: a LAN's, or that of a router that leaks.
+/// Whether a line isn't played yet: a LAN's.
 pub(crate) fn is_unbuilt(line: &[u8]) -> bool
     ensures { result ≡ form.is_unbuilt (words_of line.now) }
 {
     let mut words = Words::of(line);
-    let Some(first) = words.next() else {
-        return false;
-    };
-    if first == b"lan".as_slice() {
-        return true;
+    match words.next() {
+        Some(first) => first == b"lan".as_slice(),
+        None => false,
     }
-    first == b"router".as_slice() && has(words, b"leak")
-}
-
-/// Whether a word is among those that are left.
-fn has(words: Words<'_>, mark: &[u8]) -> bool
-    ensures { result ≡ has_word mark.now words.entry }
-{
-    let mut left = words;
-    while let Some(word) = left.next() {
-        if word == mark {
-            return true;
-        }
-    }
-    false
 }
 
 fn router<'a>(mut words: Words<'a>) -> Option<NamedLine<'a>>
@@ -98,12 +82,14 @@ fn router<'a>(mut words: Words<'a>) -> Option<NamedLine<'a>>
     let system = read_system_id(words.next()?)?;
     let area = read_area_address(words.next()?)?;
     let levels = read_level_set(words.next()?)?;
+    let leak = words.mark(b"leak");
     let priority = priority(words)?;
     let router = LabRouter {
         name,
         system,
         area,
         levels,
+        leak,
         priority,
     };
     Some(NamedLine::Router { router })

@@ -13,6 +13,8 @@ pub struct LabRouter<'a> {
     pub system: SystemId,
     pub area: AreaAddress,
     pub levels: LevelSet,
+    /// Whether it tells level 1 what it knows of level 2 (RFC 5302 3).
+    pub leak: bool,
     /// The priority of its LAN circuits, up to 127.
     pub priority: u8,
 }

@@ -30,8 +30,9 @@ const LAB_START: &str =
 
 const LAB_REFUSED: &str = "lan n 10 A B|not-built
 lan|not-built
-router D 0000.0000.0004 49 L1 leak|not-built
-tick A;router leak 0000.0000.0004 49 L1|not-built
+router D 0000.0000.0004 49 L1 leak priority 128|form
+router D 0000.0000.0004 49 L1 priority 4 leak|form
+tick A;router leak 0000.0000.0004 49 L1L2 leak|late
 issue A 0000.0000.0001.00-00 1 live|form
 tick A |form
 router D 0000.0000.0004 49 L3|form
