@@ -3,7 +3,7 @@ ghost use Rattle.std.specs.Prelude.{◌≡◌, ◌≤◌, [], length, map, Some,
 ghost use Rattle.isis_edge.specs.Faults.{Rose};
 ghost use Rattle.isis_edge.specs.Told.{TellsSame};
 ghost use Rattle.isis_daemon.specs.Commands.{command_of};
-ghost use Rattle.isis_daemon.specs.Runs.{input_limit, Ends, IsTaken, IsDoneUnlessMemory};
+ghost use Rattle.isis_daemon.specs.Runs.{input_limit, Ends, IsClaimedInput, IsTaken, IsDoneUnlessMemory};
 
 use crate::command::{Command, command_of};
 use crate::shown::Shown;
@@ -14,7 +14,8 @@ use std::alloc::Global;
 
 /// Runs the program: the words after its name, its input and its output, which is handed back. The words are
 /// tested first, then the input is read. Of `lab` it is a script, which is read and played, and at last the report is
-/// written; of `show` it is shown line by line.
+/// written; of `show` it is shown line by line. At `lab` and status 0 the claim of links held after each event of the
+/// script (ISO 10589 7.3.17), where nothing was injected; the report's numbers of links that are up say so too.
 pub fn run<I: Source, O: Sink>(
     alloc: Global,
     words: &[String],
@@ -26,6 +27,9 @@ pub fn run<I: Source, O: Sink>(
         → (I.left input.new ≡ I.left input.old) × (I.faults input.new ≡ I.faults input.old) × (result.0 ≡ output) }
     ensures ends { IfSome (command_of (map string_bytes words.now))
         (λ command. Ends command (I.left input.old) (I.left input.new) (O.held output) (O.held result.0) result.1) }
+    ensures claimed { result.1 ≡ Status.Done
+        → command_of (map string_bytes words.now) ≡ Some Command.Lab
+        → IfSome (I.left input.old) IsClaimedInput }
     ensures read_fault { result.1 ≡ Status.ReadFault
         → Rose (I.faults input.old) (I.faults input.new) }
     ensures write_fault { result.1 ≡ Status.WriteFault
@@ -54,6 +58,8 @@ pub(crate) fn execute<I: Source, O: Sink>(
 ) -> Status
     ensures ends { Ends command (I.left input.old) (I.left input.new) (O.held output.old)
         (O.held output.new) result }
+    ensures claimed { result ≡ Status.Done → command ≡ Command.Lab
+        → IfSome (I.left input.old) IsClaimedInput }
     ensures read_fault { result ≡ Status.ReadFault
         → Rose (I.faults input.old) (I.faults input.new) }
     ensures write_fault { result ≡ Status.WriteFault
@@ -79,6 +85,7 @@ fn lab<O: Sink>(alloc: Global, text: &[u8], output: &mut O) -> Status
     requires { length text.now ≤ input_limit }
     ensures ends { Ends Command.Lab (Some text.now) (Some []) (O.held output.old)
         (O.held output.new) result }
+    ensures claimed { result ≡ Status.Done → IsClaimedInput text.now }
     ensures read { ¬ (result ≡ Status.ReadFault) }
     ensures write_fault { result ≡ Status.WriteFault
         → Rose (O.faults output.old) (O.faults output.new) }

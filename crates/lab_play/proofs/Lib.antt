@@ -2,3 +2,4 @@ pub mod PlayLemmas
 pub mod EndLemmas
 pub mod SetupLemmas
 pub mod TurnLemmas
+pub mod ClaimLemmas

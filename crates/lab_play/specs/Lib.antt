@@ -3,3 +3,4 @@ pub mod Layouts
 pub mod LabRuns
 pub mod Played
 pub mod Setups
+pub mod Claimed

@@ -13,6 +13,7 @@ ghost use Rattle.lab_script.specs.LabSound.{IsDeed, IsCircuit, IsEnd};
 ghost use Rattle.lab_play.specs.LabRuns as run;
 ghost use Rattle.lab_play.specs.LabRuns.{play_deed, play_all, end_of};
 ghost use Rattle.lab_play.specs.Played.{Plays, Played, IsLaid};
+ghost use Rattle.lab_play.specs.Claimed.{IsClaimedRun};
 
 use crate::lay_out::lay_out;
 use isis_base::{Octets, OutOfMemory};
@@ -23,18 +24,26 @@ use router_desk::Change;
 use std::alloc::Global;
 
 /// The network at the end of a lab script. The first line whose event is refused, or which passes
-/// a limit, is told.
+/// a limit, is told. At Ok the claim of links holds after each event of the script (ISO 10589
+/// 7.3.17): each end of a link that is up names the other, and what one end holds the other holds as
+/// new or newer, or its SRM flag stands.
 pub fn play(alloc: Global, script: &LabScript<'_>) -> Result<Network, ScriptFault>
     ensures value { Played result (end_of script.now) }
     ensures laid { IfOk result (λ net.
         IsLaid (length script.now.routers) script.now.links net.seen) }
+    ensures claimed { OnOk result (IsClaimedRun script.now) }
 {
+    let _lines = script.lines();
     let mut net = match lay_out(alloc, script) {
         Ok(net) => net,
         Err(OutOfMemory) => return Err(ScriptFault::OutOfMemory),
     };
+    net.facts();
     match play_lines(alloc, &mut net, script) {
-        Ok(()) => Ok(net),
+        Ok(()) => {
+            net.facts();
+            Ok(net)
+        }
         Err(fault) => Err(fault),
     }
 }

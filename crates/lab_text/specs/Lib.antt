@@ -6,3 +6,4 @@ pub mod ReportLeft
 pub mod RunFaults
 pub mod Runs
 pub mod LabReports
+pub mod Claimed

@@ -6,6 +6,7 @@ ghost use Rattle.lab_script.specs.Words.{texts};
 ghost use Rattle.lab_report.specs.ReportLeft.{lines_left};
 ghost use Rattle.lab_play.specs.LabRuns as run;
 ghost use Rattle.lab_play.specs.Played.{ends_of};
+ghost use Rattle.lab_play.specs.Claimed.{IsClaimedRun};
 ghost use Rattle.lab_text.specs.LabReports.{lab_report, report_by, Tells};
 ghost use Rattle.lab_text.specs.Runs.{ReportEnds};
 
@@ -25,6 +26,7 @@ pub(crate) fn run_lab<O: Sink>(
     out: &mut O,
 ) -> Result<(), RunFault>
     ensures ends { ReportEnds (lab_report script.now) (O.held out.old) (O.held out.new) result }
+    ensures claimed { OnOk result (IsClaimedRun script.now) }
     ensures cause { result ≡ Err RunFault.Write → Rose (O.faults out.old) (O.faults out.new) }
     ensures later { O.faults out.old ≤ O.faults out.new }
 {
@@ -50,6 +52,7 @@ pub(crate) fn run_lab<O: Sink>(
 /// The network at the end of a lab script.
 fn play_lab(alloc: Global, script: &LabScript<'_>) -> Result<Network, ScriptFault>
     ensures tells { Tells script.now result }
+    ensures claimed { OnOk result (IsClaimedRun script.now) }
     ensures routers { IfOk result (λ net.
         length net.seen.routers ≡ length script.now.routers) }
     ensures links { IfOk result (λ net. net.seen.links ≡ map ends_of script.now.links) }

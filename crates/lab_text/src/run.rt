@@ -6,6 +6,7 @@ ghost use Rattle.network_lab.specs.KeysNet.{with_link};
 ghost use Rattle.lab_script.specs.Gives.{Gives, Answers};
 ghost use Rattle.lab_text.specs.KeysRuns.{routers_only, with_links, laid_out, play_line, play_all, end_of, keys_report};
 ghost use Rattle.lab_text.specs.Runs.{ReportEnds, RunEnds};
+ghost use Rattle.lab_text.specs.Claimed.{IsClaimedScript};
 ghost use Rattle.lab_text.specs.KeysInNet.{IsInNet, AreInNet, IsLaidOut};
 
 use crate::fault::RunFault;
@@ -18,8 +19,13 @@ use network_lab::{KeyNet, LabFault};
 use std::alloc::Global;
 
 /// Runs a script and writes its whole report. Nothing is written before the run has come to its end.
+/// At Ok, of a lab script, the claim of links held after each of its events (ISO 10589 7.3.17): each
+/// end of a link that is up names the other, and what one end holds the other holds as new or newer,
+/// or its SRM flag stands; so in each line `link .. up flags F G ahead P Q` P is at most F and Q at
+/// most G. All where nothing was injected.
 pub fn run_script<O: Sink>(alloc: Global, script: &Script<'_>, out: &mut O) -> Result<(), RunFault>
     ensures ends { RunEnds script.now (O.held out.old) (O.held out.new) result }
+    ensures claimed { OnOk result (IsClaimedScript script.now) }
     ensures cause { result ≡ Err RunFault.Write → Rose (O.faults out.old) (O.faults out.new) }
     ensures later { O.faults out.old ≤ O.faults out.new }
 {

@@ -1,13 +1,15 @@
 -- Another configuration of a router before the run.
-use Rattle.std.proofs.Common.{◌≡◌, ℕ, zero, suc, ◌+◌, ◌-◌, ◌≤◌, List, [], ◌∷◌, ◌++◌, map, take, length, false, Option, Some, sym, ap, ◌∙◌, arith}
+use Rattle.std.proofs.Common.{◌≡◌, ℕ, zero, suc, ◌+◌, ◌-◌, ◌≤◌, List, [], ◌∷◌, ◌++◌, map, take, length, true, false, Option, Some, sym, ap, ◌∙◌, arith}
+use Rattle.isis_base.specs.declared.level.CircuitKind.TheVariants.{PointToPoint}
 use Rattle.isis_model.specs.Places.{nth, with_nth}
 use Rattle.isis_model.specs.Routers.{Router}
 use Rattle.network_model.specs.declared.end.End.{End}
 use Rattle.router_desk.specs.declared.circuit_config.CircuitConfig.{CircuitConfig}
 use Rattle.router_desk.specs.declared.config.Config.{Config}
 use Rattle.router_desk.specs.Limits.{IsCircuit, IsKey, IsValid}
+use Rattle.router_core.specs.Reached.{IsReached}
 use Rattle.network_lab.specs.LabNets.{LabNet, router_of, reconfigured, configured, with_config, with_changed, at_circuit}
-use Rattle.network_lab.specs.LabInside.{counts_of, IsSetUp, IsNet}
+use Rattle.network_lab.specs.LabInside.{counts_of, IsFit, IsSetUp, IsNet}
 use Rattle.network_lab.specs.LabSteps.{with_circuit_at}
 use Rattle.network_lab.proofs.PlaceLemmas.{some-same, map-with, length-with}
 use Rattle.network_lab.proofs.LinkLemmas.{all-with, setup-counts}
@@ -26,20 +28,24 @@ valid-with config place c v fits = record {
   domain_key = v.domain_key;
 }
 
-pub net-config : (ports : List (List ℕ)) (ordered : List (List End)) (a : LabNet) (i : ℕ) (config new : Config) → IsNet ports ordered a → a.begun ≡ false → nth a.configs i ≡ Some config → IsValid new → length new.circuits ≡ length config.circuits → IsNet ports ordered (with_config a i new)
-net-config ports ordered a i config new h begun at valid same = record {
+pub net-config : (ports : List (List ℕ)) (ordered : List (List End)) (a : LabNet) (i : ℕ) (config new : Config) → IsNet ports ordered a → a.begun ≡ false → nth a.configs i ≡ Some config → IsFit new → length new.circuits ≡ length config.circuits → IsNet ports ordered (with_config a i new)
+net-config ports ordered a i config new h begun at fit same = record {
   routers = ap counts_of routers_are ∙ (setup-counts (with_nth a.configs i new) ∙ configs_are);
   configs = configs_are;
   ends = h.ends;
   ported = h.ported;
   sorted = h.sorted;
+  wired = h.wired;
+  pairs = h.pairs;
   few = h.few;
+  small = h.small;
   setup = λ e. record {
-    valid = all-with IsValid a.configs i new s.valid valid;
+    fit = all-with IsFit a.configs i new s.fit fit;
     routers = routers_are;
     nothing = s.nothing;
     none = s.none;
   };
+  run = λ e _ _. absurd (let clash : true ≡ false = sym e ∙ begun in cc);
 }
   where
     s : IsSetUp a.configs a.seen
@@ -69,3 +75,11 @@ key-fits c key h k = record { metric = h.metric; priority = h.priority; key = k 
 
 pub priority-fits : (c : CircuitConfig) (priority : ℕ) → IsCircuit c → priority ≤ 127 → IsCircuit (record c { priority = priority })
 priority-fits c priority h k = record { metric = h.metric; priority = k; key = h.key }
+
+-- another circuit of a configuration
+pub fit-with : (config : Config) (place : ℕ) (c : CircuitConfig) → IsFit config → IsCircuit c → c.kind ≡ PointToPoint → IsReached (router_of (with_circuit_at config place c)) → IsFit (with_circuit_at config place c)
+fit-with config place c f fits point reached = record {
+  valid = valid-with config place c f.valid fits;
+  points = all-with (λ (c : CircuitConfig). c.kind ≡ PointToPoint) config.circuits place c f.points point;
+  reached = reached;
+}

@@ -10,25 +10,30 @@ use Rattle.isis_model.proofs.BookLemmas.{same-or}
 use Rattle.network_model.specs.declared.end.End.{End}
 use Rattle.network_model.specs.RunLines.{is_end, link_of}
 use Rattle.router_desk.specs.declared.config.Config.{Config}
-use Rattle.router_desk.specs.Limits.{IsValid}
 use Rattle.network_lab.specs.declared.sent.SentDatagram.{SentDatagram}
 use Rattle.network_lab.specs.declared.faults.LabFault.{LabFault}
 use Rattle.network_lab.specs.LabNets.{LabNet, router_of, with_router}
-use Rattle.network_lab.specs.LabInside.{counts_of, IsEndThere, AreEndsThere, ArePorts, IsSetUp, IsNet}
+use Rattle.network_lab.specs.LabInside.{counts_of, IsEndThere, AreEndsThere, ArePorts, IsFit, IsSetUp, IsNet}
+use Rattle.network_lab.specs.Reached.{AreSmall, HasRun}
 use Rattle.network_lab.proofs.PlaceLemmas.{if-no, self, differ, some-same}
 
 -- ---- a run
 
 pub net-goes : (ports : List (List ℕ)) (ordered : List (List End)) (old : LabNet) (rs : List Router) (ds : List SentDatagram) (n : ℕ) (stop : Option LabFault) → IsNet ports ordered old → counts_of rs ≡ counts_of old.seen.routers → length ds ≤ 262144
+    → AreSmall ds → (stop ≡ None → n ≡ 0 → HasRun (record { routers = rs; links = old.seen.links; sent = ds; injected = n }))
     → IsNet ports ordered (record { configs = old.configs; seen = record { routers = rs; links = old.seen.links; sent = ds; injected = n }; begun = true; stopped = stop })
-net-goes ports ordered old rs ds n stop h same few = record {
+net-goes ports ordered old rs ds n stop h same few small run = record {
   routers = same ∙ h.routers;
   configs = h.configs;
   ends = h.ends;
   ported = h.ported;
   sorted = h.sorted;
+  wired = h.wired;
+  pairs = h.pairs;
   few = few;
+  small = small;
   setup = λ e. absurd (cc);
+  run = λ _ going none. run going none;
 }
 
 -- ---- lists with an item more
@@ -96,20 +101,24 @@ counts-snoc (c ∷ counts) n (suc i) = counts-snoc counts n i
 pub router-count : (config : Config) → length (router_of config).circuits ≡ length config.circuits
 router-count config = length-map _ _ ∙ length-map _ _
 
-pub net-router : (ports : List (List ℕ)) (ordered : List (List End)) (old : LabNet) (config : Config) → IsNet ports ordered old → old.begun ≡ false → IsValid config → config.circuits ≡ [] → IsNet (ports ++ ([] ∷ [])) ordered (with_router old config)
-net-router ports ordered old config h begun valid bare = record {
+pub net-router : (ports : List (List ℕ)) (ordered : List (List End)) (old : LabNet) (config : Config) → IsNet ports ordered old → old.begun ≡ false → IsFit config → config.circuits ≡ [] → IsNet (ports ++ ([] ∷ [])) ordered (with_router old config)
+net-router ports ordered old config h begun fit bare = record {
   routers = map-append _ old.seen.routers (router_of config ∷ []) ∙ (two h.routers (router-count config ∙ ap length bare) ∙ sym (map-append length ports ([] ∷ [])));
   configs = map-append _ old.configs (config ∷ []) ∙ (two h.configs (ap length bare) ∙ sym (map-append length ports ([] ∷ [])));
   ends = subst (λ (counts : List ℕ). AllByRecursion (AreEndsThere counts) old.seen.links) (sym (map-append length ports ([] ∷ []))) (ends-more (map length ports) (map length ports ++ (0 ∷ [])) (counts-snoc (map length ports) 0) old.seen.links h.ends);
   ported = ports-router ports old.seen.links h.ends h.ported;
   sorted = h.sorted;
+  wired = h.wired;
+  pairs = h.pairs;
   few = h.few;
+  small = h.small;
   setup = λ e. record {
-    valid = all-append IsValid old.configs (config ∷ []) s.valid (valid, tt);
+    fit = all-append IsFit old.configs (config ∷ []) s.fit (fit, tt);
     routers = ap (λ (rs : List Router). rs ++ (router_of config ∷ [])) s.routers ∙ sym (map-append router_of old.configs (config ∷ []));
     nothing = s.nothing;
     none = s.none;
   };
+  run = λ e _ _. absurd (let clash : true ≡ false = sym e ∙ begun in cc);
 }
   where
     s : IsSetUp old.configs old.seen

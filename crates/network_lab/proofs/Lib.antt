@@ -6,6 +6,7 @@ pub mod PlaceLemmas
 pub mod SentLemmas
 pub mod EventLemmas
 pub mod LabLemmas
+pub mod WiredLemmas
 pub mod LinkLemmas
 pub mod RunLemmas
 pub mod StepLemmas
@@ -15,3 +16,7 @@ pub mod ConfigLemmas
 pub mod ReadLemmas
 pub mod SetupLemmas
 pub mod StateLemmas
+pub mod ReachedLemmas
+pub mod StartLemmas
+pub mod AlongLemmas
+pub mod AckLemmas

@@ -4,6 +4,7 @@ use Rattle.std.specs.List.{AllByRecursion}
 use Rattle.std.specs.Option.{option_map}
 use Rattle.std.proofs.lemmas.Bool.Decides.{nat_tests}
 use Rattle.std.proofs.lemmas.List.{map-append}
+use Rattle.isis_base.specs.declared.level.CircuitKind.TheVariants.{PointToPoint}
 use Rattle.isis_model.specs.Places.{nth, with_nth}
 use Rattle.isis_model.specs.Routers.{Router}
 use Rattle.isis_model.proofs.ListLemmas.{all-append}
@@ -12,10 +13,12 @@ use Rattle.network_model.specs.RunLines.{by_router, is_end, link_of}
 use Rattle.router_desk.specs.declared.circuit_config.CircuitConfig.{CircuitConfig}
 use Rattle.router_desk.specs.declared.config.Config.{Config}
 use Rattle.router_desk.specs.Limits.{IsCircuit, IsValid}
+use Rattle.router_core.specs.Reached.{IsReached}
 use Rattle.network_lab.specs.LabNets.{LabNet, router_of, configured, with_config, circuit_count, with_link, link_circuit, with_circuit}
-use Rattle.network_lab.specs.LabInside.{counts_of, AreEndsThere, ArePorts, IsSetUp, IsNet}
+use Rattle.network_lab.specs.LabInside.{counts_of, AreEndsThere, ArePorts, IsPair, IsFit, IsSetUp, IsNet}
 use Rattle.network_lab.specs.LabSteps.{two_ends}
 use Rattle.network_lab.proofs.PlaceLemmas.{self, differ, nth-set, nth-other, some-same, nth-map, map-with}
+use Rattle.network_lab.proofs.WiredLemmas.{wired-link}
 use Rattle.network_lab.proofs.LabLemmas.{first_of, nth-snoc, link-snoc, ends-more, router-count}
 
 pub valid-more : (config : Config) (metric : ℕ) → IsValid config → length config.circuits < 64 → metric ≤ 16777215 → IsValid (with_circuit (link_circuit metric) config)
@@ -29,6 +32,13 @@ valid-more config metric v room fits = record {
   once = v.once;
   area_key = v.area_key;
   domain_key = v.domain_key;
+}
+
+pub fit-more : (config : Config) (metric : ℕ) → IsFit config → length config.circuits < 64 → metric ≤ 16777215 → IsReached (router_of (with_circuit (link_circuit metric) config)) → IsFit (with_circuit (link_circuit metric) config)
+fit-more config metric f room fits reached = record {
+  valid = valid-more config metric f.valid room fits;
+  points = all-append (λ (c : CircuitConfig). c.kind ≡ PointToPoint) config.circuits (link_circuit metric ∷ []) f.points (refl, tt);
+  reached = reached;
 }
 
 pub all-with : {A : Type 0} (P : A → Type 0) (xs : List A) (i : ℕ) (y : A) → AllByRecursion P xs → P y → AllByRecursion P (with_nth xs i y)
@@ -152,22 +162,27 @@ count-here ports configs i p c same at at_c = some-same _ _ (sym (nth-map (λ (c
 
 pub net-link : (ports : List (List ℕ)) (ordered : List (List End)) (a : LabNet) (i j metric : ℕ) (p q : List ℕ) (near far : Config) → IsNet ports ordered a → a.begun ≡ false → i ≢ j → nth ports i ≡ Some p → nth ports j ≡ Some q → nth a.configs i ≡ Some near → nth a.configs j ≡ Some far
     → length near.circuits < 64 → length far.circuits < 64 → metric ≤ 16777215
+    → IsReached (router_of (with_circuit (link_circuit metric) near)) → IsReached (router_of (with_circuit (link_circuit metric) far))
     → IsNet (with_nth (with_nth ports i (p ++ (length a.seen.links ∷ []))) j (q ++ (length a.seen.links ∷ []))) (ordered ++ (by_router (two_ends i (length near.circuits) j (length far.circuits)) ∷ [])) (linked a i j metric near far)
-net-link ports ordered a i j metric p q near far h begun apart at_i at_j on_i on_j room_i room_j fits = record {
+net-link ports ordered a i j metric p q near far h begun apart at_i at_j on_i on_j room_i room_j fits reached_i reached_j = record {
   routers = ap counts_of routers_are ∙ (setup-counts configs ∙ counts_are);
   configs = counts_are;
   ends = ends_there;
   ported = subst (λ (m : ℕ). ArePorts ports_now (a.seen.links ++ (two_ends i m j (length far.circuits) ∷ []))) (sym near_is)
       (subst (λ (n : ℕ). ArePorts ports_now (a.seen.links ++ (two_ends i (length p) j n ∷ []))) (sym far_is) (ports-link ports a.seen.links i j p q apart at_i at_j h.ported));
   sorted = ap (λ (xs : List (List End)). xs ++ (by_router (two_ends i (length near.circuits) j (length far.circuits)) ∷ [])) h.sorted ∙ sym (map-append by_router a.seen.links (two_ends i (length near.circuits) j (length far.circuits) ∷ []));
+  wired = wired-link (map length ports) a.seen.links i (length near.circuits) j (length far.circuits) h.ends (behind i near.circuits p near_is at_i) (behind j far.circuits q far_is at_j) h.wired;
+  pairs = all-append IsPair a.seen.links (two_ends i (length near.circuits) j (length far.circuits) ∷ []) h.pairs (apart, tt);
   few = h.few;
+  small = h.small;
   setup = λ e. record {
-    valid = all-with IsValid (with_nth a.configs i first) j second (all-with IsValid a.configs i first s.valid (valid-more near metric (all-at IsValid a.configs i near s.valid on_i) room_i fits))
-        (valid-more far metric (all-at IsValid a.configs j far s.valid on_j) room_j fits);
+    fit = all-with IsFit (with_nth a.configs i first) j second (all-with IsFit a.configs i first s.fit (fit-more near metric (all-at IsFit a.configs i near s.fit on_i) room_i fits reached_i))
+        (fit-more far metric (all-at IsFit a.configs j far s.fit on_j) room_j fits reached_j);
     routers = routers_are;
     nothing = s.nothing;
     none = s.none;
   };
+  run = λ e _ _. absurd (let clash : true ≡ false = sym e ∙ begun in cc);
 }
   where
     s : IsSetUp a.configs a.seen
@@ -219,6 +234,9 @@ net-link ports ordered a i j metric p q near far h begun apart at_i at_j on_i on
 
     at-map : (l : ℕ) (list : List ℕ) → nth ports l ≡ Some list → nth (map length ports) l ≡ Some (length list)
     at-map l list e = nth-map length ports l ∙ ap (option_map length) e
+
+    behind : (i : ℕ) (cs : List CircuitConfig) (l : List ℕ) → length cs ≡ length l → nth ports i ≡ Some l → unwrap_or (nth (map length ports) i) 0 ≤ length cs
+    behind i cs l e at = let n = ap (λ (o : Option ℕ). unwrap_or o 0) (at-map i l at) in omega (arith, n, e)
 
     grown : (i : ℕ) (xs : List ℕ) (l : List ℕ) → nth xs i ≡ Some (length l) → unwrap_or (nth xs i) 0 ≤ length (l ++ (k ∷ []))
     grown i xs l e = let n = length-append l (k ∷ []) in let m = ap (λ (o : Option ℕ). unwrap_or o 0) e in omega (arith, n, m)

@@ -23,6 +23,7 @@ idles part old running e = record {
   done = λ net s. subst (λ (m : Network). StandsFor m old) (sym (e net s)) s;
   running = running;
   cause = tt;
+  stop = tt;
   size = record { links = refl; routers = refl };
 }
 

@@ -51,6 +51,13 @@ all-ordered : (P : End → Type 0) (ends : List End) → AllByRecursion P ends �
 all-ordered P [] h = tt
 all-ordered P (e ∷ ends) h = all-put P (by_router ends) e (all-ordered P ends h.1) h.0
 
+pub count-is : (links ordered : List (List End)) (link : ℕ) → ordered ≡ map by_router links → length (ends_of (nth ordered link)) ≡ length (by_router (ends_of (nth links link)))
+count-is links ordered link same = ap (λ (xs : List (List End)). length (ends_of (nth xs link))) same ∙ (ap (λ (o : Option (List End)). length (ends_of o)) (nth-map by_router links link) ∙ of (nth links link))
+  where
+    of : (o : Option (List End)) → length (ends_of (option_map by_router o)) ≡ length (by_router (ends_of o))
+    of None = refl
+    of (Some ends) = refl
+
 pub ends-is : (links ordered : List (List End)) (link place : ℕ) (row : List End) → ordered ≡ map by_router links → place < length (by_router (ends_of (nth links link))) → row ≡ get_or ordered link row → row ≡ by_router (ends_of (nth links link))
 ends-is links ordered link place row same h e = of (nth links link) refl h
   where

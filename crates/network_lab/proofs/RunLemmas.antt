@@ -159,6 +159,7 @@ ends left whole old new h e = record {
   done = λ net s. subst (λ (m : Network). StandsFor m new) (sym (e (h.here net s) (h.stands net s)) ∙ h.left_is net s) (h.stands net s);
   running = h.running;
   cause = tt;
+  stop = tt;
   size = h.size;
 }
 
@@ -167,6 +168,7 @@ stops left whole part old mid new f h r e = record {
   done = tt;
   running = tt;
   cause = λ net s. subst (λ (m : Network). StopCause (length m.datagrams) f) (h.left_is net s) (stop-more _ _ f (e (h.here net s) (h.stands net s)) (r.cause (h.here net s) (h.stands net s)));
+  stop = r.stop;
   size = same-trans old mid new h.size r.size;
 }
 
@@ -176,12 +178,14 @@ renames part name old new (Ok u) h e = record {
   done = λ net s. subst (λ (m : Network). StandsFor m new) (e net s) (h.done net s);
   running = h.running;
   cause = tt;
+  stop = tt;
   size = h.size;
 }
 renames part name old new (Err f) h e = record {
   done = tt;
   running = tt;
   cause = λ net s. subst (λ (m : Network). StopCause (length m.datagrams) f) (e net s) (h.cause net s);
+  stop = h.stop;
   size = h.size;
 }
 
@@ -191,12 +195,14 @@ follows first second old mid new (Ok u) h k = record {
   done = λ net s. k.done (first net) (h.done net s);
   running = k.running;
   cause = tt;
+  stop = tt;
   size = same-trans old mid new h.size k.size;
 }
 follows first second old mid new (Err f) h k = record {
   done = tt;
   running = tt;
   cause = λ net s. k.cause (first net) (h.done net s);
+  stop = k.stop;
   size = same-trans old mid new h.size k.size;
 }
 
@@ -206,6 +212,7 @@ breaks first second old new f h e = record {
   done = tt;
   running = tt;
   cause = λ net s. stop-more _ _ f (e (first net)) (h.cause net s);
+  stop = h.stop;
   size = h.size;
 }
 
@@ -236,12 +243,14 @@ goes-on ev old new r of running (Done ok still size f) none = record {
   done = λ net s. (f net s).1;
   running = none;
   cause = tt;
+  stop = tt;
   size = size;
 }
 goes-on ev old new r of running (Refused fault bad same calm f) none = record {
   done = λ net s. subst (λ (a : LabNet). StandsFor (after net ev) a) (sym same) (subst (λ (m : Network). StandsFor m old) (sym (refused-same net ev fault of (f net s))) s);
   running = none;
   cause = tt;
+  stop = tt;
   size = subst (λ (a : LabNet). SameSize old a) (sym same) (record { links = refl; routers = refl });
 }
 goes-on ev old new r of running (Stopped fault bad stop size f) none = absurd (cc)
@@ -253,6 +262,7 @@ goes-off ev old new r stop running (Stopped fault bad at size f) some = record {
   done = tt;
   running = tt;
   cause = λ net s. subst (λ (g : LabFault). StopCause (length (after net ev).datagrams) g) (same fault stop (sym at ∙ some)) (f net s).1;
+  stop = some;
   size = size;
 }
   where

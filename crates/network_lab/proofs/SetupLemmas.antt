@@ -1,5 +1,6 @@
 -- A network that is set up, as its parts change.
 use Rattle.std.proofs.Common.{◌≡◌, ◌≢◌, ℕ, ◌-◌, ◌<◌, ◌≤◌, List, [], ◌∷◌, ◌++◌, length, get_or, arith, Bool, false, Option, Some, sym, ap, ◌∙◌, subst}
+use Rattle.isis_base.specs.declared.level.CircuitKind.TheVariants.{PointToPoint}
 use Rattle.isis_model.specs.Places.{nth, with_nth}
 use Rattle.isis_model.specs.Routers.{Router}
 use Rattle.network_model.specs.declared.end.End.{End}
@@ -7,17 +8,18 @@ use Rattle.network_model.specs.RunLines.{by_router}
 use Rattle.router_desk.specs.declared.circuit_config.CircuitConfig.{CircuitConfig}
 use Rattle.router_desk.specs.declared.config.Config.{Config}
 use Rattle.router_desk.specs.Limits.{IsCircuit, IsValid}
+use Rattle.router_core.specs.Reached.{IsReached}
 use Rattle.network_lab.specs.declared.sent.SentDatagram.{SentDatagram}
 use Rattle.network_lab.specs.declared.faults.LabFault.{LabFault}
 use Rattle.network_lab.specs.LabNets.{LabNet, next_place, circuit_count, router_of, reconfigured, with_changed, with_config, with_link, with_circuit, link_circuit}
-use Rattle.network_lab.specs.LabInside.{IsNet}
+use Rattle.network_lab.specs.LabInside.{ArePointed, IsFit, IsNet}
 use Rattle.network_lab.specs.LabSteps.{two_ends, with_circuit_at}
 use Rattle.network_lab.specs.LabCauses.{HasCircuit}
 use Rattle.network_lab.proofs.LabLemmas.{net-router}
 use Rattle.network_lab.proofs.LinkLemmas.{all-at, link-is, net-link}
 use Rattle.network_lab.proofs.PlaceLemmas.{some-same, nth-get, of-place, length-with}
 use Rattle.std.proofs.lemmas.List.{length-map}
-use Rattle.network_lab.proofs.ConfigLemmas.{net-config, config-is, valid-with}
+use Rattle.network_lab.proofs.ConfigLemmas.{net-config, config-is, fit-with}
 
 abbrev pub lab : List Config → List Router → List (List End) → List SentDatagram → ℕ → Bool → Option LabFault → LabNet
 lab configs rs links ds n begun stopped = record {
@@ -28,23 +30,23 @@ lab configs rs links ds n begun stopped = record {
 }
 
 pub router-more : (ports ports_now : List (List ℕ)) (ordered links : List (List End)) (configs configs_now : List Config) (rs rs_now : List Router) (ds : List SentDatagram) (n : ℕ) (begun : Bool) (stopped : Option LabFault) (config : Config)
-    → IsNet ports ordered (lab configs rs links ds n begun stopped) → begun ≡ false → IsValid config → config.circuits ≡ []
+    → IsNet ports ordered (lab configs rs links ds n begun stopped) → begun ≡ false → IsValid config → IsReached (router_of config) → config.circuits ≡ []
     → configs_now ≡ configs ++ (config ∷ []) → rs_now ≡ rs ++ (router_of config ∷ []) → ports_now ≡ ports ++ ([] ∷ [])
     → IsNet ports_now ordered (lab configs_now rs_now links ds n begun stopped)
-router-more ports ports_now ordered links configs configs_now rs rs_now ds n begun stopped config h b valid bare c r p =
+router-more ports ports_now ordered links configs configs_now rs rs_now ds n begun stopped config h b valid reached bare c r p =
     subst (λ (xs : List (List ℕ)). IsNet xs ordered (lab configs_now rs_now links ds n begun stopped)) (sym p)
     (subst (λ (xs : List Router). IsNet (ports ++ ([] ∷ [])) ordered (lab configs_now xs links ds n begun stopped)) (sym r)
     (subst (λ (xs : List Config). IsNet (ports ++ ([] ∷ [])) ordered (lab xs (rs ++ (router_of config ∷ [])) links ds n begun stopped)) (sym c)
-    (net-router ports ordered (lab configs rs links ds n begun stopped) config h b valid bare)))
+    (net-router ports ordered (lab configs rs links ds n begun stopped) config h b (record { valid = valid; points = subst ArePointed (sym bare) tt; reached = reached }) bare)))
 
 pub config-new : (ports : List (List ℕ)) (ordered links : List (List End)) (configs configs_now : List Config) (rs rs_now : List Router) (ds : List SentDatagram) (n : ℕ) (begun : Bool) (stopped : Option LabFault) (i : ℕ) (config new : Config)
-    → IsNet ports ordered (lab configs rs links ds n begun stopped) → begun ≡ false → nth configs i ≡ Some config → IsValid new → length new.circuits ≡ length config.circuits
+    → IsNet ports ordered (lab configs rs links ds n begun stopped) → begun ≡ false → nth configs i ≡ Some config → IsFit new → length new.circuits ≡ length config.circuits
     → configs_now ≡ with_nth configs i new → rs_now ≡ with_nth rs i (router_of new)
     → IsNet ports ordered (lab configs_now rs_now links ds n begun stopped)
-config-new ports ordered links configs configs_now rs rs_now ds n begun stopped i config new h b at valid same c r =
+config-new ports ordered links configs configs_now rs rs_now ds n begun stopped i config new h b at fit same c r =
     subst (λ (xs : List Router). IsNet ports ordered (lab configs_now xs links ds n begun stopped)) (sym r)
     (subst (λ (xs : List Config). IsNet ports ordered (lab xs (with_nth rs i (router_of new)) links ds n begun stopped)) (sym c)
-    (net-config ports ordered (lab configs rs links ds n begun stopped) i config new h b at valid same))
+    (net-config ports ordered (lab configs rs links ds n begun stopped) i config new h b at fit same))
 
 pub config-view : (links : List (List End)) (configs configs_now : List Config) (rs rs_now : List Router) (ds : List SentDatagram) (n : ℕ) (begun : Bool) (stopped : Option LabFault) (old : LabNet) (i : ℕ) (new : Config)
     → lab configs rs links ds n begun stopped ≡ old → configs_now ≡ with_nth configs i new → rs_now ≡ with_nth rs i (router_of new)
@@ -61,15 +63,16 @@ five P a a1 b b1 c c1 d d1 e e1 p q r s t x =
 pub link-more : (ports ports_now : List (List ℕ)) (ordered ordered_now links links_now : List (List End)) (configs configs_now : List Config) (rs rs_now : List Router) (ds : List SentDatagram) (n : ℕ) (begun : Bool) (stopped : Option LabFault) (i j metric : ℕ) (p q : List ℕ) (near far : Config)
     → IsNet ports ordered (lab configs rs links ds n begun stopped) → begun ≡ false → i ≢ j → nth ports i ≡ Some p → nth ports j ≡ Some q → nth configs i ≡ Some near → nth configs j ≡ Some far
     → length near.circuits < 64 → length far.circuits < 64 → metric ≤ 16777215
+    → IsReached (router_of (with_circuit (link_circuit metric) near)) → IsReached (router_of (with_circuit (link_circuit metric) far))
     → ports_now ≡ with_nth (with_nth ports i (p ++ (length links ∷ []))) j (q ++ (length links ∷ []))
     → ordered_now ≡ ordered ++ (by_router (two_ends i (length near.circuits) j (length far.circuits)) ∷ [])
     → links_now ≡ links ++ (two_ends i (length near.circuits) j (length far.circuits) ∷ [])
     → configs_now ≡ with_nth (with_nth configs i (with_circuit (link_circuit metric) near)) j (with_circuit (link_circuit metric) far)
     → rs_now ≡ with_nth (with_nth rs i (router_of (with_circuit (link_circuit metric) near))) j (router_of (with_circuit (link_circuit metric) far))
     → IsNet ports_now ordered_now (lab configs_now rs_now links_now ds n begun stopped)
-link-more ports ports_now ordered ordered_now links links_now configs configs_now rs rs_now ds n begun stopped i j metric p q near far h b apart at_i at_j on_i on_j room_i room_j fits po o l c r =
+link-more ports ports_now ordered ordered_now links links_now configs configs_now rs rs_now ds n begun stopped i j metric p q near far h b apart at_i at_j on_i on_j room_i room_j fits reached_i reached_j po o l c r =
     five (λ ports ordered links configs rs. IsNet ports ordered (lab configs rs links ds n begun stopped)) _ ports_now _ ordered_now _ links_now _ configs_now _ rs_now po o l c r
-    (net-link ports ordered (lab configs rs links ds n begun stopped) i j metric p q near far h b apart at_i at_j on_i on_j room_i room_j fits)
+    (net-link ports ordered (lab configs rs links ds n begun stopped) i j metric p q near far h b apart at_i at_j on_i on_j room_i room_j fits reached_i reached_j)
 
 three : (f : List Config → List Router → List (List End) → LabNet) {a b : List Config} {c d : List Router} {e g : List (List End)} → a ≡ b → c ≡ d → e ≡ g → f a c e ≡ f b d g
 three f p q r = cc
@@ -91,8 +94,11 @@ both-there ports ordered a old i is h l =
     let m = sym (length-map a.configs (λ (c : Config). length c.circuits)) ∙ (ap length (h.configs ∙ sym h.routers) ∙ length-map a.seen.routers (λ (r : Router). length r.circuits)) in
     (omega (arith, l, s), omega (arith, l, s, m))
 
+pub fit-at : (ports : List (List ℕ)) (ordered : List (List End)) (a : LabNet) (i : ℕ) (config : Config) → IsNet ports ordered a → a.begun ≡ false → nth a.configs i ≡ Some config → IsFit config
+fit-at ports ordered a i config h b at = all-at IsFit a.configs i config (h.setup b).fit at
+
 pub valid-at : (ports : List (List ℕ)) (ordered : List (List End)) (a : LabNet) (i : ℕ) (config : Config) → IsNet ports ordered a → a.begun ≡ false → nth a.configs i ≡ Some config → IsValid config
-valid-at ports ordered a i config h b at = all-at IsValid a.configs i config (h.setup b).valid at
+valid-at ports ordered a i config h b at = (fit-at ports ordered a i config h b at).valid
 
 -- a list of ports that an index gives
 pub port-at : (ports : List (List ℕ)) (ordered : List (List End)) (a : LabNet) (i : ℕ) (p : List ℕ) → IsNet ports ordered a → i < length a.configs → p ≡ get_or ports i p → nth ports i ≡ Some p
@@ -102,11 +108,11 @@ port-at ports ordered a i p h l e = nth-get ports i p (let m = sym (length-map a
 
 pub change-setup : (change : CircuitConfig → CircuitConfig) (ports : List (List ℕ)) (ordered links : List (List End)) (configs configs_now : List Config) (rs rs_now : List Router) (ds : List SentDatagram) (n : ℕ) (begun : Bool) (stopped : Option LabFault) (old : LabNet) (i circuit from : ℕ) (first config setup_config : Config) (setup_router : Router) (slice : List CircuitConfig) (item changed : CircuitConfig)
     → lab configs rs links ds n begun stopped ≡ old → IsNet ports ordered (lab configs rs links ds n begun stopped) → old.begun ≡ false → HasCircuit old i circuit
-    → first ≡ get_or configs i first → config ≡ get_or configs i config → slice ≡ first.circuits → from ≡ circuit → item ≡ get_or slice (from - 1) item → changed ≡ item → (IsCircuit item → IsCircuit (change item))
-    → setup_config ≡ with_circuit_at config (from - 1) (change changed) → setup_router ≡ router_of (with_circuit_at config (from - 1) (change changed)) → configs_now ≡ with_nth configs i setup_config → rs_now ≡ with_nth rs i setup_router
+    → first ≡ get_or configs i first → config ≡ get_or configs i config → slice ≡ first.circuits → from ≡ circuit → item ≡ get_or slice (from - 1) item → changed ≡ item → (IsCircuit item → IsCircuit (change item)) → ((c : CircuitConfig) → (change c).kind ≡ c.kind)
+    → setup_config ≡ with_circuit_at config (from - 1) (change changed) → setup_router ≡ router_of (with_circuit_at config (from - 1) (change changed)) → IsReached setup_router → configs_now ≡ with_nth configs i setup_config → rs_now ≡ with_nth rs i setup_router
     → IsNet ports ordered (lab configs_now rs_now links ds n begun stopped) × (lab configs_now rs_now links ds n begun stopped ≡ reconfigured old i (with_changed change circuit))
-change-setup change ports ordered links configs configs_now rs rs_now ds n begun stopped old i circuit from first config setup_config setup_router slice item changed is h b there e1 e2 sl fr it ch fits sc sr cn rn = (
-  config-new ports ordered links configs configs_now rs rs_now ds n begun stopped i config new h begun_is at valid (length-with config.circuits (circuit - 1) (change item)) configs_are routers_are,
+change-setup change ports ordered links configs configs_now rs rs_now ds n begun stopped old i circuit from first config setup_config setup_router slice item changed is h b there e1 e2 sl fr it ch fits kind sc sr reached cn rn = (
+  config-new ports ordered links configs configs_now rs rs_now ds n begun stopped i config new h begun_is at fit (length-with config.circuits (circuit - 1) (change item)) configs_are routers_are,
   config-view links configs configs_now rs rs_now ds n begun stopped old i new is configs_are routers_are ∙ sym (config-is old i circuit change config item (ap (λ (l : LabNet). nth l.configs i) (sym is) ∙ at) here),
 )
   where
@@ -138,11 +144,13 @@ change-setup change ports ordered links configs configs_now rs rs_now ds n begun
     begun_is : begun ≡ false
     begun_is = ap (λ (l : LabNet). l.begun) is ∙ b
 
-    old_valid : IsValid config
-    old_valid = valid-at ports ordered (lab configs rs links ds n begun stopped) i config h begun_is at
+    old_fit : IsFit config
+    old_fit = fit-at ports ordered (lab configs rs links ds n begun stopped) i config h begun_is at
 
-    valid : IsValid new
-    valid = valid-with config (circuit - 1) (change item) old_valid (fits (all-at IsCircuit config.circuits (circuit - 1) item old_valid.circuits here))
+    fit : IsFit new
+    fit = fit-with config (circuit - 1) (change item) old_fit (fits (all-at IsCircuit config.circuits (circuit - 1) item old_fit.valid.circuits here))
+        (kind item ∙ all-at (λ (c : CircuitConfig). c.kind ≡ PointToPoint) config.circuits (circuit - 1) item old_fit.points here)
+        (subst IsReached (sr ∙ ap router_of new_is) reached)
 
     configs_are : configs_now ≡ with_nth configs i new
     configs_are = cn ∙ ap (with_nth configs i) (sc ∙ new_is)
@@ -179,15 +187,16 @@ pub join-setup : (ports mid_ports ports_now : List (List ℕ)) (ordered ordered_
     → mid_ports ≡ with_nth ports i p_new → ports_now ≡ with_nth mid_ports j q_new
     → near_config ≡ with_circuit (link_circuit metric) near → near_router ≡ router_of (with_circuit (link_circuit metric) near)
     → far_config ≡ with_circuit (link_circuit metric) far → far_router ≡ router_of (with_circuit (link_circuit metric) far)
+    → IsReached near_router → IsReached far_router
     → mid_configs ≡ with_nth configs i near_config → mid_rs ≡ with_nth rs i near_router
     → configs_now ≡ with_nth mid_configs j far_config → rs_now ≡ with_nth mid_rs j far_router
     → IsNet ports_now ordered_now (lab configs_now rs_now links_now ds n begun stopped) × (lab configs_now rs_now links_now ds n begun stopped ≡ with_link old i j metric)
 join-setup ports mid_ports ports_now ordered ordered_now links links_now configs mid_configs configs_now rs mid_rs rs_now ds n begun stopped old i j metric link m k p q p_new q_new row row_ordered near far near_config far_config near_router far_router
-    is h b there apart room fits link_is m_is k_is p_at q_at near_at far_at p_is q_is row_is ordered_is ls os mp pn nc nr fc fr mc mr cn rn = (
+    is h b there apart room fits link_is m_is k_is p_at q_at near_at far_at p_is q_is row_is ordered_is ls os mp pn nc nr fc fr reached_near reached_far mc mr cn rn = (
       link-more ports ports_now ordered ordered_now links links_now configs configs_now rs rs_now ds n begun stopped i j metric p q near far h (ap (λ (x : LabNet). x.begun) is ∙ b) apart
           (port-at ports ordered whole i p h (let s = ap (λ (x : LabNet). length x.configs) is in let t = there.0 in omega (arith, s, t)) p_at)
           (port-at ports ordered whole j q h (let s = ap (λ (x : LabNet). length x.configs) is in let t = there.1 in omega (arith, s, t)) q_at)
-          on_i on_j (room-get whole old i near is room.0 there.0 near_at) (room-get whole old j far is room.1 there.1 far_at) fits
+          on_i on_j (room-get whole old i near is room.0 there.0 near_at) (room-get whole old j far is room.1 there.1 far_at) fits (subst IsReached nr reached_near) (subst IsReached fr reached_far)
           (pn ∙ two_nth (mp ∙ ap (with_nth ports i) (p_is ∙ ap (λ (l : ℕ). p ++ (l ∷ [])) link_is)) (q_is ∙ ap (λ (l : ℕ). q ++ (l ∷ [])) link_is))
           (os ∙ ap (λ (e : List End). ordered ++ (e ∷ [])) (ordered_is ∙ ap by_router ends_are))
           (ls ∙ ap (λ (e : List End). links ++ (e ∷ [])) (row_is ∙ ends_are))

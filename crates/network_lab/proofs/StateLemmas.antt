@@ -1,11 +1,11 @@
 -- The ends of a network's links are there, and how the links stand.
-use Rattle.std.proofs.Common.{◌≡◌, ℕ, zero, suc, ◌+◌, ◌-◌, ◌<◌, ◌≤◌, List, [], ◌∷◌, ◌++◌, Bool, drop, get_or, length, map, unwrap_or, Option, Some, None, IfSome, refl, sym, ap, ◌∙◌, subst, arith, append_assoc}
+use Rattle.std.proofs.Common.{◌≡◌, ℕ, zero, suc, ◌+◌, ◌-◌, ◌<◌, List, [], ◌∷◌, ◌++◌, Bool, drop, get_or, length, map, unwrap_or, Option, Some, None, IfSome, refl, sym, ap, ◌∙◌, subst, arith, append_assoc}
 use Rattle.std.specs.List.{AllByRecursion, flat_map}
 use Rattle.isis_base.specs.declared.level.Level.{Level}
 use Rattle.isis_model.specs.Places.{nth}
 use Rattle.isis_model.specs.Routers.{Router}
 use Rattle.network_model.specs.declared.end.End.{End}
-use Rattle.network_lab.specs.LabNets.{Seen, LabNet}
+use Rattle.network_lab.specs.LabNets.{LabNet}
 use Rattle.network_lab.specs.LabInside.{counts_of, IsEndThere, AreEndsThere, IsNet}
 use Rattle.network_lab.specs.Claims.{IsEndIn, AreEnds}
 use Rattle.link_states.specs.declared.state.LinkState.{LinkState}

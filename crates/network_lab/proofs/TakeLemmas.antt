@@ -7,7 +7,7 @@ use Rattle.isis_model.proofs.BookLemmas.{same-or}
 use Rattle.isis_model.specs.Places.{nth, with_nth}
 use Rattle.isis_model.specs.Books.{risen}
 use Rattle.isis_model.specs.Routers.{Router}
-use Rattle.isis_model.specs.Events.{Second, Pull}
+use Rattle.isis_model.specs.Events.{Event, Second, Pull}
 use Rattle.isis_model.specs.Steps.{step}
 use Rattle.router_desk.specs.declared.config.Config.{Config}
 use Rattle.isis_model.specs.Maps.{find}
@@ -19,7 +19,8 @@ use Rattle.router_core.specs.Events as core
 use Rattle.router_core.specs.Events.{event_of}
 use Rattle.router_core.specs.Givens.{given}
 use Rattle.network_model.specs.declared.end.End.{End}
-use Rattle.network_model.specs.Networks.{place_on, place_in, numbered, restarted}
+use Rattle.network_model.specs.Networks.{Network, place_on, place_in, numbered, restarted}
+use Rattle.network_model.specs.Runs as model
 use Rattle.network_model.specs.Runs.{taking, boot_of}
 use Rattle.network_lab.specs.declared.sent.SentDatagram.{SentDatagram}
 use Rattle.network_lab.specs.declared.event.LabEvent.{LabEvent}
@@ -28,13 +29,18 @@ use Rattle.network_lab.specs.declared.faults.LabFault.{LabFault}
 use Rattle.network_lab.specs.declared.faults.LabFault.TheVariants as fault
 use Rattle.network_lab.specs.declared.faults.LimitName.TheVariants as limit
 use Rattle.network_lab.specs.LabNets.{Seen, LabNet}
-use Rattle.network_lab.specs.LabEvents.{unless_changes}
+use Rattle.network_lab.specs.LabEvents.{unless_changes, change_of}
 use Rattle.network_lab.specs.LabCauses.{IsStop}
 use Rattle.network_lab.specs.LabInside.{counts_of, AreEndsThere, IsNet}
 use Rattle.network_lab.specs.LabSteps.{moved_in, posted_in, StopCause, delivered_on, Taken, Ending, Done, Refused, Stopped}
-use Rattle.network_lab.proofs.PlaceLemmas.{nth-there, nth-less, nth-get, nth-map, of-place, some-same, length-with}
+use Rattle.network_lab.proofs.PlaceLemmas.{nth-there, nth-less, nth-get, nth-map, of-place, to-place, some-same, length-with}
 use Rattle.network_lab.proofs.LinkLemmas.{all-at}
 use Rattle.network_lab.proofs.EventLemmas.{tick-done, pull-off, pull-done, deliver-off, deliver-none, deliver-on, deliver-done, inject-off, inject-done, restart-off, restart-done, change-off, change-done, taken-ends}
+use Rattle.network_lab.proofs.ReachedLemmas.{risen-some, run-goes}
+use Rattle.network_lab.proofs.StartLemmas.{has-run}
+use Rattle.network_lab.specs.Claims.{IsClaimed}
+use Rattle.network_lab.specs.Reached.{HasRun, AreSmall, IsFitting, Happens, Happen}
+use Rattle.network_lab.proofs.LabLemmas.{net-goes}
 
 -- ---- a router takes an event
 
@@ -85,7 +91,142 @@ take-ends configs rs now links ds sent n begun stopped stop old i link event res
     of (Some r) q (Ok u) a b c = taken-of configs rs now links ds sent n begun i link event (Ok u) r a b c k
     of (Some r) q (Err f) a b c = taken-of configs rs now links ds sent n begun i link event (Err f) r a b c k
 
+-- a datagram that is delivered is there
+heard : (a : Seen) (o : Option SentDatagram) (i link : ℕ) → delivered_on a o i ≡ Ok link → (x : SentDatagram) × (o ≡ Some x)
+heard a None i link h = absurd (cc)
+heard a (Some x) i link h = (x, refl)
+
+-- ---- what is seen then is a network in its run
+
+each-place : {A : Type 0} (Q : A → Type 0) (o : Option A) → ((x : A) → o ≡ Some x → Q x) → IfSome o Q
+each-place Q None f = tt
+each-place Q (Some x) f = f x refl
+
+pub take-runs : (ports : List (List ℕ)) (ordered : List (List End)) (configs : List Config) (rs now : List Router) (links : List (List End)) (ds sent : List SentDatagram) (n : ℕ) (begun : Bool) (stopped stop : Option LabFault) (old : LabNet) (i : ℕ) (link : Option ℕ) (event : NodeEvent) (res : Result (Unit {0}) LabFault)
+    → (record { configs = configs; seen = record { routers = rs; links = links; sent = ds; injected = n }; begun = begun; stopped = stopped }) ≡ old → old.stopped ≡ None → i < length old.seen.routers
+    → IsNet ports ordered (record { configs = configs; seen = record { routers = rs; links = links; sent = ds; injected = n }; begun = begun; stopped = stopped })
+    → OnOk res (IfSome (nth rs i) (λ r. now ≡ with_nth rs i (step given r (event_of r event)).router)) → OnOk res (IfSome (nth rs i) (λ r. sent ≡ ds ++ posted_in i link (event_of r event) r)) → AreSmall sent → stop ≡ result_err res
+    → IfSome (nth old.seen.routers i) (λ r. Happen old.seen (moved_in old.seen i link (event_of r event) r))
+    → stop ≡ None → n ≡ 0 → HasRun (record { routers = now; links = links; sent = sent; injected = n })
+take-runs ports ordered configs rs now links ds sent n begun stopped stop old i link event (Err f) is running inside h a b small s happens going none = absurd (let clash = sym s ∙ going in cc)
+take-runs ports ordered configs rs now links ds sent n begun stopped stop old i link event (Ok u) is running inside h a b small s happens going none =
+    run-goes later before.net before.reached
+    (subst (λ (x : Seen). Happens before.net x) (later-is) (subst (λ (x : Seen). Happens before.net (moved_in x i link (event_of r event) r)) (sym seen) (happened (ap (λ (x : Seen). x.injected) (sym seen) ∙ none) before.net (before.seen ∙ seen))))
+    small none
+  where
+    later : Seen
+    later = record { routers = now; links = links; sent = sent; injected = n }
+
+    first : Seen
+    first = record { routers = rs; links = links; sent = ds; injected = n }
+
+    seen : first ≡ old.seen
+    seen = ap (λ (l : LabNet). l.seen) is
+
+    before : HasRun first
+    before = has-run ports ordered (record { configs = configs; seen = first; begun = begun; stopped = stopped }) h (ap (λ (l : LabNet). l.stopped) is ∙ running) none
+
+    there : (r : Router) × (nth old.seen.routers i ≡ Some r)
+    there = nth-there old.seen.routers i inside
+
+    r : Router
+    r = there.0
+
+    at : nth rs i ≡ Some r
+    at = ap (λ (x : Seen). nth x.routers i) seen ∙ there.1
+
+    happened : Happen old.seen (moved_in old.seen i link (event_of r event) r)
+    happened = of-place (λ r. Happen old.seen (moved_in old.seen i link (event_of r event) r)) (nth old.seen.routers i) r there.1 happens
+
+    both : {x y : List Router} {v w : List SentDatagram} → x ≡ y → v ≡ w → ◌≡◌ {A = Seen} (record { routers = x; links = links; sent = v; injected = n }) (record { routers = y; links = links; sent = w; injected = n })
+    both e f = cc
+
+    later-is : moved_in first i link (event_of r event) r ≡ later
+    later-is = sym (both (of-place (λ r. now ≡ with_nth rs i (step given r (event_of r event)).router) (nth rs i) r at a) (of-place (λ r. sent ≡ ds ++ posted_in i link (event_of r event) r) (nth rs i) r at b))
+
+pub take-goes : (ports : List (List ℕ)) (ordered : List (List End)) (configs : List Config) (rs now : List Router) (links : List (List End)) (ds sent : List SentDatagram) (n : ℕ) (begun : Bool) (stopped stop : Option LabFault) (old : LabNet) (i : ℕ) (link : Option ℕ) (event : NodeEvent) (res : Result (Unit {0}) LabFault)
+    → (record { configs = configs; seen = record { routers = rs; links = links; sent = ds; injected = n }; begun = begun; stopped = stopped }) ≡ old → old.stopped ≡ None → i < length old.seen.routers
+    → IsNet ports ordered (record { configs = configs; seen = record { routers = rs; links = links; sent = ds; injected = n }; begun = begun; stopped = stopped })
+    → OnOk res (IfSome (nth rs i) (λ r. now ≡ with_nth rs i (step given r (event_of r event)).router)) → OnOk res (IfSome (nth rs i) (λ r. sent ≡ ds ++ posted_in i link (event_of r event) r)) → AreSmall sent → stop ≡ result_err res
+    → IfSome (nth old.seen.routers i) (λ r. Happen old.seen (moved_in old.seen i link (event_of r event) r))
+    → counts_of now ≡ counts_of rs → length sent ≤ 262144
+    → IsNet ports ordered (record { configs = configs; seen = record { routers = now; links = links; sent = sent; injected = n }; begun = true; stopped = stop })
+take-goes ports ordered configs rs now links ds sent n begun stopped stop old i link event res is running inside h a b small s happens counts few =
+    net-goes ports ordered (record { configs = configs; seen = record { routers = rs; links = links; sent = ds; injected = n }; begun = begun; stopped = stopped }) now sent n stop h counts few small
+    (take-runs ports ordered configs rs now links ds sent n begun stopped stop old i link event res is running inside h a b small s happens)
+
+pub give-happens : (s : Seen) (rs : List Router) (i link place : ℕ) (e : NodeEvent) (octets : List ℕ) → rs ≡ s.routers → IfSome (nth rs i) (λ r. event_of r e ≡ taking r place octets)
+    → IfSome (nth s.routers i) (λ r. Happen s (moved_in s i (Some link) (taking r place octets) r)) → IfSome (nth s.routers i) (λ r. Happen s (moved_in s i (Some link) (event_of r e) r))
+give-happens s rs i link place e octets same is h = of (nth s.routers i) (subst (λ (xs : List Router). IfSome (nth xs i) (λ r. event_of r e ≡ taking r place octets)) same is) h
+  where
+    of : (o : Option Router) → IfSome o (λ r. event_of r e ≡ taking r place octets) → IfSome o (λ r. Happen s (moved_in s i (Some link) (taking r place octets) r)) → IfSome o (λ r. Happen s (moved_in s i (Some link) (event_of r e) r))
+    of None q h = tt
+    of (Some r) q h = subst (λ (x : Event). Happen s (moved_in s i (Some link) x r)) (sym q) h
+
 -- ---- seconds and pulls
+
+pub tick-happens : (old : LabNet) (i : ℕ) → IfSome (nth old.seen.routers i) (λ r. Happen old.seen (moved_in old.seen i None Second r))
+tick-happens old i = each-place (λ r. Happen old.seen (moved_in old.seen i None Second r)) (nth old.seen.routers i)
+    (λ r q none net e. record { event = model.Tick i; fits = tt; seen = (tick-done old.seen i r q net e).1 })
+
+pub pull-happens : (old : LabNet) (i link circuit : ℕ) (o : Option ℕ) → o ≡ Some circuit → option_map (λ circuit. circuit - 1) o ≡ place_in (nth old.seen.links link) i
+    → IfSome (nth old.seen.routers i) (λ r. Happen old.seen (moved_in old.seen i (Some link) (Pull (circuit - 1)) r))
+pull-happens old i link circuit o q e = each-place (λ r. Happen old.seen (moved_in old.seen i (Some link) (Pull (circuit - 1)) r)) (nth old.seen.routers i)
+    (λ r at none net k. record { event = model.PullOn i link; fits = tt; seen = (pull-done old.seen link i (circuit - 1) r (sym e ∙ ap (option_map (λ circuit. circuit - 1)) q) at net k).1 })
+
+pub deliver-happens : (old : LabNet) (n i link circuit : ℕ) (o : Option ℕ) (octets : List ℕ) → delivered_on old.seen (numbered old.seen.sent n) i ≡ Ok link → o ≡ Some circuit → option_map (λ circuit. circuit - 1) o ≡ place_in (nth old.seen.links link) i
+    → ((x : SentDatagram) → numbered old.seen.sent n ≡ Some x → octets ≡ x.octets)
+    → IfSome (nth old.seen.routers i) (λ r. Happen old.seen (moved_in old.seen i (Some link) (taking r (circuit - 1) octets) r))
+deliver-happens old n i link circuit o octets d q e same = each-place (λ r. Happen old.seen (moved_in old.seen i (Some link) (taking r (circuit - 1) octets) r)) (nth old.seen.routers i)
+    (λ r at none net k. let x = heard old.seen (numbered old.seen.sent n) i link d in record {
+      event = model.Deliver n i;
+      fits = tt;
+      seen = (deliver-done old.seen n i link (circuit - 1) x.0 octets r (same x.0 x.1) x.1 d (sym e ∙ ap (option_map (λ circuit. circuit - 1)) q) at net k).1;
+    })
+
+pub inject-happens : (mid : LabNet) (n i : ℕ) (later : Router → Seen) → mid.seen.injected ≡ risen n → IfSome (nth mid.seen.routers i) (λ r. Happen mid.seen (later r))
+inject-happens mid n i later is = each-place (λ r. Happen mid.seen (later r)) (nth mid.seen.routers i) (λ r at none net k. absurd (risen-some n (sym is ∙ none)))
+
+change-fits : (net : Network) (i : ℕ) (c : Change) (r : Router) → nth net.routers i ≡ Some r → core.FitsChange r c → IsFitting net (change_of i c)
+change-fits net i (change.Metric circuit metric) r q h = tt
+change-fits net i (change.Prefix prefix metric) r q h = to-place (λ (r : Router). core.FitsPrefix r (prefix_number prefix) metric) (nth net.routers i) r q h
+change-fits net i (change.Overload on) r q h = tt
+
+pub change-happens : (old : LabNet) (i : ℕ) (c : Change) (r : Router) → nth old.seen.routers i ≡ Some r → core.FitsChange r c → unless_changes (Some r) c ≡ None → IfSome (nth old.seen.routers i) (λ r. Happen old.seen (moved_in old.seen i None (core.change_of c) r))
+change-happens old i c r q fits h = to-place (λ (r : Router). Happen old.seen (moved_in old.seen i None (core.change_of c) r)) (nth old.seen.routers i) r q
+    (λ none net e. record { event = change_of i c; fits = change-fits net i c r (ap (λ (s : Seen). nth s.routers i) e ∙ q) fits; seen = (change-done old.seen i c r q h net e).1 })
+
+pub restart-happens : (old : LabNet) (i : ℕ) (r : Router) → nth old.seen.routers i ≡ Some r → r.boot < 16777215 → Happen old.seen (record old.seen { routers = with_nth old.seen.routers i (restarted r) })
+restart-happens old i r q b none net e = record {
+  event = model.Restart i;
+  fits = to-place (λ (r : Router). r.boot < 16777215) (nth net.routers i) r (ap (λ (s : Seen). nth s.routers i) e ∙ q) b;
+  seen = (restart-done old.seen i r q b net e).1;
+}
+
+pub restart-goes : (ports : List (List ℕ)) (ordered : List (List End)) (configs : List Config) (rs now : List Router) (links : List (List End)) (ds : List SentDatagram) (n : ℕ) (begun : Bool) (stopped : Option LabFault) (i : ℕ) (r : Router)
+    → IsNet ports ordered (record { configs = configs; seen = record { routers = rs; links = links; sent = ds; injected = n }; begun = begun; stopped = stopped })
+    → nth rs i ≡ Some r → r.boot < 16777215 → now ≡ with_nth rs i (restarted r) → counts_of now ≡ counts_of rs
+    → IsNet ports ordered (record { configs = configs; seen = record { routers = now; links = links; sent = ds; injected = n }; begun = true; stopped = stopped })
+restart-goes ports ordered configs rs now links ds n begun stopped i r h at b is counts = net-goes ports ordered whole now ds n stopped h counts h.few h.small runs
+  where
+    whole : LabNet
+    whole = record { configs = configs; seen = record { routers = rs; links = links; sent = ds; injected = n }; begun = begun; stopped = stopped }
+
+    runs : stopped ≡ None → n ≡ 0 → HasRun (record { routers = now; links = links; sent = ds; injected = n })
+    runs going none =
+        let before = has-run ports ordered whole h going none in
+        run-goes (record { routers = now; links = links; sent = ds; injected = n }) before.net before.reached
+        (subst (λ (xs : List Router). Happens before.net (record { routers = xs; links = links; sent = ds; injected = n })) (sym is) (restart-happens whole i r at b none before.net before.seen)) h.small none
+
+pub same-goes : (ports : List (List ℕ)) (ordered : List (List End)) (configs : List Config) (rs now : List Router) (links : List (List End)) (ds : List SentDatagram) (n : ℕ) (begun : Bool) (stopped : Option LabFault)
+    → IsNet ports ordered (record { configs = configs; seen = record { routers = rs; links = links; sent = ds; injected = n }; begun = begun; stopped = stopped })
+    → now ≡ rs
+    → IsNet ports ordered (record { configs = configs; seen = record { routers = now; links = links; sent = ds; injected = n }; begun = true; stopped = stopped })
+same-goes ports ordered configs rs now links ds n begun stopped h is = net-goes ports ordered whole now ds n stopped h (ap counts_of is) h.few h.small
+    (λ going none. subst (λ (xs : List Router). HasRun (record { routers = xs; links = links; sent = ds; injected = n })) (sym is) (has-run ports ordered whole h going none))
+  where
+    whole : LabNet
+    whole = record { configs = configs; seen = record { routers = rs; links = links; sent = ds; injected = n }; begun = begun; stopped = stopped }
 
 pub tick-ends : (old new : LabNet) (i : ℕ) (res : Result (Unit {0}) LabFault) → i < length old.seen.routers → old.stopped ≡ None → IfSome (nth old.seen.routers i) (λ r. Taken old new (moved_in old.seen i None Second r) res) → Ending (event.Tick i) old new res
 tick-ends old new i res h running t =
@@ -115,11 +256,6 @@ calm-delivery a (Some d) i = by (boot_of (nth a.routers d.sender) == d.boot) (d.
 
 pub deliver-off-ends : (old : LabNet) (n i : ℕ) (f : LabFault) → delivered_on old.seen (numbered old.seen.sent n) i ≡ Err f → Ending (event.Deliver n i) old old (Err f)
 deliver-off-ends old n i f h = Refused f refl refl (subst (λ (r : Result ℕ LabFault). IfErr r (λ f. IsStop f → ⊥)) h (calm-delivery old.seen (numbered old.seen.sent n) i)) (λ net s. deliver-off old.seen n i f h net s.seen)
-
--- a datagram that is delivered is there
-heard : (a : Seen) (o : Option SentDatagram) (i link : ℕ) → delivered_on a o i ≡ Ok link → (x : SentDatagram) × (o ≡ Some x)
-heard a None i link h = absurd (cc)
-heard a (Some x) i link h = (x, refl)
 
 pub deliver-none-ends : (old : LabNet) (n i link : ℕ) (o : Option ℕ) → delivered_on old.seen (numbered old.seen.sent n) i ≡ Ok link → o ≡ None → option_map (λ circuit. circuit - 1) o ≡ place_in (nth old.seen.links link) i → Ending (event.Deliver n i) old old (Err fault.NotOn)
 deliver-none-ends old n i link o h q e =
@@ -211,6 +347,16 @@ pub ending-stops : (ev : LabEvent) (old new : LabNet) (res : Result (Unit {0}) L
 ending-stops ev old new res (Done ok still size f) = subst (λ (r : Result (Unit {0}) LabFault). IfErr r (λ f. IsStop f → new.stopped ≡ Some f)) (sym ok) tt
 ending-stops ev old new res (Refused fault bad same calm f) = subst (λ (r : Result (Unit {0}) LabFault). IfErr r (λ f. IsStop f → new.stopped ≡ Some f)) (sym bad) (λ s. absurd (calm s))
 ending-stops ev old new res (Stopped fault bad at size f) = subst (λ (r : Result (Unit {0}) LabFault). IfErr r (λ f. IsStop f → new.stopped ≡ Some f)) (sym bad) (λ s. at)
+
+pub ending-goes : (ev : LabEvent) (old new : LabNet) (res : Result (Unit {0}) LabFault) → Ending ev old new res → OnOk res (new.stopped ≡ None)
+ending-goes ev old new res (Done ok still size f) = subst (λ (r : Result (Unit {0}) LabFault). OnOk r (new.stopped ≡ None)) (sym ok) still
+ending-goes ev old new res (Refused fault bad same calm f) = subst (λ (r : Result (Unit {0}) LabFault). OnOk r (new.stopped ≡ None)) (sym bad) tt
+ending-goes ev old new res (Stopped fault bad at size f) = subst (λ (r : Result (Unit {0}) LabFault). OnOk r (new.stopped ≡ None)) (sym bad) tt
+
+-- where it went well the network wasn't stopped
+pub ok-claimed : (new : LabNet) (res : Result (Unit {0}) LabFault) → OnOk res (new.stopped ≡ None) → (new.stopped ≡ None → IsClaimed new.seen) → OnOk res (IsClaimed new.seen)
+ok-claimed new (Ok u) going f = f going
+ok-claimed new (Err e) going f = tt
 
 numbered-nth : {A : Type 0} (xs : List A) (n : ℕ) (x : A) → numbered xs n ≡ Some x → nth xs (n - 1) ≡ Some x
 numbered-nth xs zero x e = absurd (cc)

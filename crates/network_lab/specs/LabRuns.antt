@@ -1,5 +1,5 @@
 -- How a part of a line `run` ends (own).
-use Rattle.std.specs.Prelude.{◌≡◌, ℕ, ◌==◌, ◌||◌, length, Option, None, Result, IfErr, OnOk, if◌then◌else◌}
+use Rattle.std.specs.Prelude.{◌≡◌, ℕ, ◌==◌, ◌||◌, length, Option, Some, None, Result, IfErr, OnOk, if◌then◌else◌}
 use Rattle.router_core.specs.Givens.{given}
 use Rattle.network_model.specs.declared.word.PduWord.{PduWord}
 use Rattle.network_model.specs.Networks.{Network, numbered}
@@ -56,6 +56,7 @@ pub record RunEnding (part : Network → Network) (old new : LabNet)
   pub running : OnOk result (new.stopped ≡ None)
   pub cause : IfErr result (λ fault. (net : Network) → StandsFor net old
       → StopCause (length (part net).datagrams) fault)
+  pub stop : IfErr result (λ fault. new.stopped ≡ Some fault)
   pub size : SameSize old new
 
 -- so far a run was carried out: what is left of it from here gives what the whole gives

@@ -9,6 +9,8 @@ pub mod LabEvents
 pub mod LabCauses
 pub mod Claims
 pub mod LinkStates
+pub mod Reached
+pub mod Acknowledged
 pub mod LabInside
 pub mod LabSteps
 pub mod LabRuns

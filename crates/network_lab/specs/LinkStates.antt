@@ -1,5 +1,5 @@
 -- How the links of a network stand, and which routers agree (own).
-use Rattle.std.specs.Prelude.{ℕ, ◌==◌, Bool, false, ◌&&◌, List, [], ◌∷◌, map, slice_index, Option, Some, None, if◌then◌else◌}
+use Rattle.std.specs.Prelude.{◌≡◌, ℕ, ◌≤◌, ◌==◌, Bool, true, false, ◌&&◌, List, [], ◌∷◌, map, slice_index, Option, Some, None, if◌then◌else◌}
 use Rattle.std.specs.List.{flat_map}
 use Rattle.isis_base.specs.declared.level.Level.{Level}
 use Rattle.isis_model.specs.Both.{at}
@@ -45,6 +45,16 @@ state_of_pair routers level (Some pair) =
 -- how the two ends of a link stand
 abbrev pub state_at : List Router → List End → Level → LinkState
 state_at routers ends level = state_of_pair routers level (pair_of ends)
+
+-- where a link is up, no end is ahead in more LSP IDs than its SRM flags on the link
+abbrev pub IsWithin : LinkState → Type 0
+IsWithin state = state.up ≡ true → (slice_index state.ahead 0 ≤ slice_index state.flags 0)
+    × (slice_index state.ahead 1 ≤ slice_index state.flags 1)
+
+-- so of each link and level, where nothing was injected
+abbrev pub AreWithin : Seen → Type 0
+AreWithin s = s.injected ≡ 0 → (link : ℕ) (ends : List End) (level : Level)
+    → nth s.links link ≡ Some ends → IsWithin (state_at s.routers ends level)
 
 -- a link is up, and no SRM flag stands on it
 abbrev pub is_clean : LinkState → Bool

@@ -11,6 +11,8 @@ ghost use Rattle.network_lab.specs.LabNets.{StandsFor};
 ghost use Rattle.network_lab.specs.LabEvents.{IsEvent, IsChange, refusal, after, unless_changes, ApplyCause};
 ghost use Rattle.network_lab.specs.LabCauses.{IsStop};
 ghost use Rattle.network_lab.specs.LabSteps.{Ending, Taken, moved_in, delivered_on};
+ghost use Rattle.network_lab.specs.Reached.{Happen};
+ghost use Rattle.network_lab.specs.Claims.{IsClaimed};
 
 use crate::event::LabEvent;
 use crate::faults::{LabFault, LimitName};
@@ -32,7 +34,9 @@ impl Network {
     /// network after the event. `NotSent`, `Stale`, `NotOn`, `Limit(Prefixes)` and `Limit(Boots)`
     /// come exactly where the event is refused, which changes nothing; `Limit(Datagrams)` where it
     /// sends past 262,144 datagrams. After `Limit(Datagrams)` or `OutOfMemory` each later call
-    /// answers the same.
+    /// answers the same. At Ok, where nothing was injected, the claim of each point-to-point link
+    /// that is up holds (ISO 10589 7.3.17): each end names the other, and what one end holds the
+    /// other holds as new or newer, or its SRM flag stands.
     pub fn apply(&mut self, event: LabEvent) -> Result<(), LabFault>
         requires there { IsEvent self.old.seen event }
         ensures run { OnOk result ((net : ModelNetwork) → StandsFor net self.old
@@ -46,13 +50,16 @@ impl Network {
             (λ fault. (result ≡ Err fault) × (self.new ≡ self.old)) }
         ensures stops { IfErr result (λ fault. IsStop fault → self.new.stopped ≡ Some fault) }
         ensures goes_on { OnOk result (self.new.stopped ≡ None) }
+        ensures claimed { OnOk result (IsClaimed self.new.seen) }
         ensures links { self.new.seen.links ≡ self.old.seen.links }
         ensures routers { length self.new.seen.routers ≡ length self.old.seen.routers }
     {
         if let Some(fault) = self.stopped {
             return Err(fault);
         }
-        self.happen(event)
+        let result = self.happen(event);
+        self.facts();
+        result
     }
 
     /// One event of a network that wasn't stopped.
@@ -203,6 +210,8 @@ impl Network {
         requires there { router < length self.old.seen.routers }
         requires circuit { IfSome (nth self.old.seen.routers router) (λ r. IsThere r circuit) }
         requires running { self.old.stopped ≡ None }
+        requires happens { IfSome (nth self.old.seen.routers router) (λ r. Happen self.old.seen
+            (moved_in self.old.seen router (Some link) (taking r (circuit - 1) octets) r)) }
         ensures { IfSome (nth self.old.seen.routers router) (λ r. Taken self.old self.new
             (moved_in self.old.seen router (Some link) (taking r (circuit - 1) octets) r) result) }
     {
@@ -215,6 +224,8 @@ impl Network {
         requires there { router < length self.old.seen.routers }
         requires fits { IfSome (nth self.old.seen.routers router) (λ r. Fits r event) }
         requires running { self.old.stopped ≡ None }
+        requires happens { IfSome (nth self.old.seen.routers router) (λ r. Happen self.old.seen
+            (moved_in self.old.seen router link (event_of r event) r)) }
         ensures { IfSome (nth self.old.seen.routers router) (λ r. Taken self.old self.new
             (moved_in self.old.seen router link (event_of r event) r) result) }
     {

@@ -4,7 +4,7 @@ ghost use Rattle.isis_model.specs.Places.{nth};
 ghost use Rattle.network_model.specs.RunLines.{circuit_count, link_of as link_at, by_router, ends_of};
 
 use crate::network::Network;
-use crate::places::number_at;
+use crate::places::{count_at, number_at};
 
 impl Network {
     /// How many datagrams were sent, of which there are few enough.
@@ -36,10 +36,7 @@ impl Network {
     pub(crate) fn ends_count(&self, link: usize) -> usize
         ensures { result ≡ length (by_router (ends_of (nth self.now.seen.links link))) }
     {
-        match self.ordered.get(link) {
-            Some(ends) => ends.as_slice().len(),
-            None => 0,
-        }
+        count_at(&self.ordered, link)
     }
 
     /// The router of an end of a link, in order of routers.

@@ -1,11 +1,13 @@
 //! A network of routers, and what is read of it.
-ghost use Rattle.std.specs.Prelude.{◌≡◌, ◌<◌, ◌≤◌, ◌-◌, length, Some};
+ghost use Rattle.std.specs.Prelude.{◌≡◌, ◌<◌, ◌≤◌, ◌-◌, length, Some, None};
 ghost use Rattle.std.specs.Option.{option_map};
 ghost use Rattle.isis_model.specs.Places.{nth};
 ghost use Rattle.network_model.specs.Networks.{numbered};
 ghost use Rattle.network_model.specs.RunLines.{link_of as link_at};
 ghost use Rattle.network_lab.specs.LabNets.{empty_lab};
-ghost use Rattle.network_lab.specs.Claims.{AreEnds};
+ghost use Rattle.network_lab.specs.Claims.{AreEnds, IsClaimed};
+ghost use Rattle.network_lab.specs.LinkStates.{AreWithin};
+ghost use Rattle.network_lab.specs.Reached.{AreSmall, HasRun};
 
 use crate::faults::LabFault;
 use crate::places::sent_at;
@@ -66,11 +68,18 @@ impl Network {
         }
     }
 
-    /// What always holds of a network: at most 262,144 datagrams were sent, and the ends of links are
-    /// there. It does nothing.
+    /// What always holds of a network: at most 262,144 datagrams were sent, all of octets, and the
+    /// ends of links are there. In a run that wasn't stopped, where nothing was injected, it is seen
+    /// as a network whose routers can be reached; the claim of each link that is up holds; and no
+    /// end of one is ahead in more LSP IDs than its SRM flags. It does nothing.
     pub fn facts(&self)
         ensures few { length self.now.seen.sent ≤ 262144 }
+        ensures small { AreSmall self.now.seen.sent }
         ensures ends { AreEnds self.now.seen }
+        ensures run { self.now.stopped ≡ None → self.now.seen.injected ≡ 0
+            → HasRun self.now.seen }
+        ensures claimed { self.now.stopped ≡ None → IsClaimed self.now.seen }
+        ensures within { self.now.stopped ≡ None → AreWithin self.now.seen }
     {
         let _ = &self.alloc;
     }

@@ -4,6 +4,7 @@ ghost use Rattle.isis_model.specs.Places.{nth, with_nth};
 ghost use Rattle.std.specs.Option.{option_copied};
 ghost use Rattle.isis_model.specs.Books.{risen};
 ghost use Rattle.network_model.specs.Networks.{place_on as place_among, place_in, numbered};
+ghost use Rattle.network_model.specs.RunLines.{ends_of};
 ghost use Rattle.network_model.specs.Runs.{boot_of};
 
 use crate::row::Row;
@@ -30,6 +31,16 @@ pub(crate) fn place_at(links: &[Row<End>], link: usize, router: usize) -> Option
     match links.get(link) {
         Some(ends) => place_on(ends.as_slice(), router),
         None => None,
+    }
+}
+
+/// The number of ends of a link.
+pub(crate) fn count_at(links: &[Row<End>], link: usize) -> usize
+    ensures { result ≡ length (ends_of (nth links.now link)) }
+{
+    match links.get(link) {
+        Some(ends) => ends.as_slice().len(),
+        None => 0,
     }
 }
 

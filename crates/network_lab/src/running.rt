@@ -8,6 +8,7 @@ ghost use Rattle.network_model.specs.RunLines.{run_line};
 ghost use Rattle.network_lab.specs.LabNets.{StandsFor};
 ghost use Rattle.network_lab.specs.LabEvents.{IsEvent, after};
 ghost use Rattle.network_lab.specs.LabCauses.{RunCause};
+ghost use Rattle.network_lab.specs.Claims.{IsClaimed};
 ghost use Rattle.network_lab.specs.LabRuns.{RunEnding, IsOfRun, tick_unless, pull_unless, deliver_unless, pull_links_of, deliver_numbered};
 
 use crate::event::LabEvent;
@@ -70,7 +71,8 @@ fn is_of(word: PduWord, octets: &[u8]) -> bool
 
 impl Network {
     /// So many seconds in which what is sent is delivered at once: the events of a line `run`. It
-    /// answers `Limit(Datagrams)`, as `apply` does, or `OutOfMemory`, and nothing else.
+    /// answers `Limit(Datagrams)`, as `apply` does, or `OutOfMemory`, and nothing else; then each
+    /// later call answers the same. At Ok the claim of links holds, as after `apply`.
     pub fn run(
         &mut self,
         seconds: u32,
@@ -85,7 +87,9 @@ impl Network {
             → RunCause net self.old.stopped without except seconds fault) }
         ensures stopped { IfSome self.old.stopped
             (λ fault. (result ≡ Err fault) × (self.new ≡ self.old)) }
+        ensures stops { IfErr result (λ fault. self.new.stopped ≡ Some fault) }
         ensures goes_on { OnOk result (self.new.stopped ≡ None) }
+        ensures claimed { OnOk result (IsClaimed self.new.seen) }
         ensures links { self.new.seen.links ≡ self.old.seen.links }
         ensures routers { length self.new.seen.routers ≡ length self.old.seen.routers }
     {
@@ -93,7 +97,9 @@ impl Network {
             return Err(fault);
         }
         let out = LeftOut { without, except };
-        self.all_seconds(out, seconds)
+        let result = self.all_seconds(out, seconds);
+        self.facts();
+        result
     }
 
     /// So many seconds.

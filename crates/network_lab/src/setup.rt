@@ -3,6 +3,7 @@ ghost use Rattle.std.specs.Prelude.{◌≡◌, ◌≢◌, ◌<◌, ◌≤◌, �
 ghost use Rattle.std.specs.List.{AllByRecursion};
 ghost use Rattle.isis_model.specs.Places.{nth, with_nth};
 ghost use Rattle.router_desk.specs.Limits.{IsCircuit, IsKey, IsValid};
+ghost use Rattle.router_core.specs.Reached.{IsReached};
 ghost use Rattle.network_lab.specs.declared.faults.LabFault.TheVariants.{Limit};
 ghost use Rattle.network_lab.specs.declared.faults.LimitName.TheVariants.{Routers, Links, Circuits};
 ghost use Rattle.network_lab.specs.LabNets.{next_place, with_router, with_link, with_key, with_priority, router_of, link_circuit, with_circuit};
@@ -186,6 +187,7 @@ fn setup_of(alloc: Global, config: Config) -> Result<Setup, OutOfMemory>
     requires { IsValid config }
     ensures config { IfOk result (λ setup. setup.config ≡ config) }
     ensures router { IfOk result (λ setup. setup.router ≡ router_of config) }
+    ensures reached { IfOk result (λ setup. IsReached setup.router) }
 {
     let copy = config.copy()?;
     match Router::new(alloc, copy, 1) {
@@ -207,6 +209,7 @@ fn changed_at(
         ≡ with_circuit_at config.now place circuit.now) }
     ensures router { IfOk result (λ setup. setup.router
         ≡ router_of (with_circuit_at config.now place circuit.now)) }
+    ensures reached { IfOk result (λ setup. IsReached setup.router) }
 {
     let circuits = replaced(alloc, &config.circuits, place, circuit)?;
     let mut copy = config.copy()?;
@@ -275,6 +278,8 @@ fn joined(alloc: Global, near: &Config, far: &Config, metric: u32) -> Result<Set
         ≡ with_circuit (link_circuit metric) far.now) }
     ensures far_router { IfOk result (λ setups. setups.far.router
         ≡ router_of (with_circuit (link_circuit metric) far.now)) }
+    ensures reached { IfOk result (λ setups. IsReached setups.near.router
+        × IsReached setups.far.router) }
 {
     let far = joined_one(alloc, far, metric)?;
     match joined_one(alloc, near, metric) {
@@ -292,6 +297,7 @@ fn joined_one(alloc: Global, config: &Config, metric: u32) -> Result<Setup, OutO
         ≡ with_circuit (link_circuit metric) config.now) }
     ensures router { IfOk result (λ setup. setup.router
         ≡ router_of (with_circuit (link_circuit metric) config.now)) }
+    ensures reached { IfOk result (λ setup. IsReached setup.router) }
 {
     let mut copy = config.copy()?;
     copy.circuits.push(CircuitConfig {

@@ -1,12 +1,12 @@
 //! How the links of a network stand, and which routers agree.
-ghost use Rattle.std.specs.Prelude.{◌≡◌, ◌<◌, ◌+◌, ◌++◌, drop, length, Some, IfSome, IfOk, OnOk};
+ghost use Rattle.std.specs.Prelude.{◌≡◌, ◌<◌, ◌+◌, ◌++◌, drop, length, Some, None, IfSome, IfOk, OnOk};
 ghost use Rattle.std.specs.List.{flat_map};
 ghost use Rattle.isis_model.specs.Places.{nth};
 ghost use Rattle.router_core.specs.Events.{IsThere};
 ghost use Rattle.link_states.specs.LinkStates.{no_state as no_link_state};
 ghost use Rattle.network_lab.specs.Claims.{IsEndIn};
 ghost use Rattle.network_lab.specs.LinkStates as state;
-ghost use Rattle.network_lab.specs.LinkStates.{state_at, groups_at};
+ghost use Rattle.network_lab.specs.LinkStates.{state_at, groups_at, IsWithin};
 
 use crate::network::Network;
 use isis_base::{Level, OutOfMemory};
@@ -16,12 +16,15 @@ use router_core::Router;
 
 impl Network {
     /// How the two ends of a point-to-point link stand at a level. All its numbers are 0 where an
-    /// end doesn't run the level.
+    /// end doesn't run the level. Where the link is up, the run wasn't stopped and nothing was
+    /// injected, no end is ahead in more LSP IDs than its SRM flags on the link (ISO 10589 7.3.17).
     pub fn link_state(&self, link: usize, level: Level) -> LinkState
         requires { link < length self.now.seen.links }
-        ensures { IfSome (nth self.now.seen.links link)
+        ensures state { IfSome (nth self.now.seen.links link)
             (λ ends. result ≡ state_at self.now.seen.routers ends level) }
+        ensures within { self.now.stopped ≡ None → self.now.seen.injected ≡ 0 → IsWithin result }
     {
+        self.facts();
         match self.pair(link) {
             Some((near, far)) => self.pair_state(near, far, level),
             None => no_state(),

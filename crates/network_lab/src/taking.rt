@@ -1,5 +1,6 @@
 //! A router of a list takes an event, and what it sends joins what was sent.
 ghost use Rattle.std.specs.Prelude.{◌≡◌, ℕ, ◌+◌, ◌-◌, ◌<◌, ◌≤◌, ◌++◌, map, length, Some, IfSome, IfOk, IfErr, OnOk, OnErr};
+ghost use Rattle.std.specs.List.{AllByRecursion};
 ghost use Rattle.isis_model.specs.Places.{nth, with_nth};
 ghost use Rattle.isis_model.specs.Routers as model;
 ghost use Rattle.isis_model.specs.Events as events;
@@ -13,6 +14,7 @@ ghost use Rattle.network_model.specs.Runs.{taking, boot_of, posted};
 ghost use Rattle.network_lab.specs.LabNets.{sent_of};
 ghost use Rattle.network_lab.specs.LabInside.{counts_of};
 ghost use Rattle.network_lab.specs.LabSteps.{sent_by, posted_in, StopCause};
+ghost use Rattle.network_lab.specs.Reached.{AreSmall};
 
 use crate::faults::{LabFault, LimitName};
 use crate::places::{boot_at, put_at};
@@ -36,6 +38,7 @@ pub(crate) fn take_at(
     requires there { router < length routers.old.items }
     requires fits { IfSome (nth routers.old.items router) (λ r. Fits r event) }
     requires few { length sent.old.items ≤ 262144 }
+    requires small { AreSmall sent.old.items }
     ensures routers { OnOk result (IfSome (nth routers.old.items router) (λ r. routers.new.items
         ≡ with_nth routers.old.items router (step given r (event_of r event)).router)) }
     ensures sent { OnOk result (IfSome (nth routers.old.items router) (λ r. sent.new.items
@@ -45,6 +48,7 @@ pub(crate) fn take_at(
         fault)) }
     ensures counts { counts_of routers.new.items ≡ counts_of routers.old.items }
     ensures few { length sent.new.items ≤ 262144 }
+    ensures small { AreSmall sent.new.items }
 {
     let reply = match step_at(routers, router, event) {
         Ok(reply) => reply,
@@ -62,7 +66,8 @@ fn send(
     link: Option<usize>,
     reply: Reply,
 ) -> Result<(), LabFault>
-    requires { length sent.old.items ≤ 262144 }
+    requires few { length sent.old.items ≤ 262144 }
+    requires small { AreSmall sent.old.items }
     ensures ok { OnOk result ((r : model.Router) (place : ℕ) (m : events.Reply)
         → Answers r place m reply → boot ≡ r.boot
         → sent.new.items ≡ sent.old.items ++ map sent_of (posted sender link r place m)) }
@@ -71,6 +76,7 @@ fn send(
         → StopCause (length sent.old.items + length (map sent_of (posted sender link r place m)))
         fault) }
     ensures few { length sent.new.items ≤ 262144 }
+    ensures small { AreSmall sent.new.items }
 {
     match (link, reply) {
         (Some(link), Reply::Send(datagrams)) => {
@@ -106,11 +112,13 @@ fn post(
     link: usize,
     items: Vec<Octets>,
 ) -> Result<(), LabFault>
-    requires { length sent.old.items ≤ 262144 }
+    requires few { length sent.old.items ≤ 262144 }
+    requires small { AreSmall sent.old.items }
     ensures ok { OnOk result (sent.new.items
         ≡ sent.old.items ++ map (sent_by sender boot link) items.items) }
     ensures cause { IfErr result (StopCause (length sent.old.items + length items.items)) }
     ensures few { length sent.new.items ≤ 262144 }
+    ensures small { AreSmall sent.new.items }
 {
     let room = SENT_LIMIT - sent.len();
     let past = items.len() > room;
@@ -132,11 +140,14 @@ fn post_all(
     link: usize,
     items: Vec<Octets>,
 ) -> Result<(), OutOfMemory>
+    requires { AreSmall sent.old.items }
     ensures ok { OnOk result (sent.new.items
         ≡ sent.old.items ++ map (sent_by sender boot link) items.items) }
     ensures few { length sent.new.items ≤ length sent.old.items + length items.items }
+    ensures small { AreSmall sent.new.items }
 {
     for octets in items {
+        octets_law(octets.as_slice());
         let datagram = SentDatagram {
             sender,
             boot,
@@ -150,6 +161,11 @@ fn post_all(
     }
     Ok(())
 }
+
+/// Octets are below 256. It does nothing.
+fn octets_law(octets: &[u8])
+    ensures { AllByRecursion (λ octet. octet < 256) octets.now }
+{}
 
 /// A router restarts in its next boot. At `OutOfMemory` it is as it was.
 pub(crate) fn restart_at(routers: &mut Vec<Router>, router: usize) -> Result<(), OutOfMemory>

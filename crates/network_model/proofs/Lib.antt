@@ -5,8 +5,9 @@ pub mod LegibleLemmas
 mod PointReplies
 pub mod ChangeLemmas
 mod LinkLemmas
-mod RestartLemmas
+pub mod RestartLemmas
 pub mod NetLemmas
 mod ClaimLemmas
 mod CountLemmas
 pub mod KeptLemmas
+pub mod LineLemmas

@@ -3,6 +3,7 @@ pub mod Networks
 pub mod Takings
 pub mod Runs
 pub mod RunLines
+pub mod LineEvents
 pub mod Speakers
 pub mod Ports
 pub mod Links

@@ -1,14 +1,19 @@
 //! The laws of networks: functions without a body, whose contracts hold for every network and event.
-ghost use Rattle.std.specs.Prelude.{◌≡◌, ℕ, ◌≤◌, List, Bool, Some, false};
+ghost use Rattle.std.specs.Prelude.{◌≡◌, ℕ, ◌≤◌, List, Bool, Option, Some, false};
+ghost use Rattle.std.specs.List.{AllByRecursion};
 ghost use Rattle.isis_base.specs.declared.level.Level.{Level};
 ghost use Rattle.isis_model.specs.Places.{nth};
+ghost use Rattle.isis_model.specs.Givens.{Given};
 ghost use Rattle.isis_model.specs.Configs.{Config};
 ghost use Rattle.isis_model.specs.Routers.{Circuit, Router};
 ghost use Rattle.isis_model.specs.AdjacencyLaws.{bond_at, no_bond};
 ghost use Rattle.isis_model.specs.Starts.{start};
 ghost use Rattle.isis_datagram.specs.Lsps.{given_octets};
 ghost use Rattle.network_model.specs.Networks.{Network, Datagram};
-ghost use Rattle.network_model.specs.Runs.{Happening, apply, is_injection};
+ghost use Rattle.network_model.specs.declared.word.PduWord.{PduWord};
+ghost use Rattle.network_model.specs.Runs.{Happening, apply, run, is_injection};
+ghost use Rattle.network_model.specs.RunLines.{run_line};
+ghost use Rattle.network_model.specs.LineEvents.{line_events, IsOfLine};
 ghost use Rattle.network_model.specs.Speakers.{AreSpeaking, AreOctets};
 ghost use Rattle.network_model.specs.Ports.{Port};
 ghost use Rattle.network_model.specs.Links.{IsWired, Joins, LinkHolds, Holds, IsUp, Claim};
@@ -60,4 +65,14 @@ pub fn network_keeps()
         → IsClaimedOf e f a b level }
     ensures alone { (config : Config) (boot : ℕ) (circuits : List Circuit) (place : ℕ)
         → bond_at (start config boot circuits) place ≡ no_bond }
+{}
+
+/// A line `run` is the list of its events, which are seconds, pulls and deliveries: one after another
+/// they make of a network what the line does.
+pub fn line_laws()
+    ensures run { (given : Given) (without : Option PduWord) (except : Option ℕ) (seconds : ℕ)
+        (net : Network) → run given net (line_events given without except seconds net)
+        ≡ run_line given without except seconds net }
+    ensures events { (given : Given) (without : Option PduWord) (except : Option ℕ) (seconds : ℕ)
+        (net : Network) → AllByRecursion IsOfLine (line_events given without except seconds net) }
 {}

@@ -15,7 +15,7 @@ mod SearchLemmas
 mod StartLemmas
 mod ChangeLemmas
 mod RestLemmas
-mod NameLemmas
-mod ReachedLemmas
+pub mod NameLemmas
+pub mod ReachedLemmas
 mod SecondLemmas
 mod QuietLemmas

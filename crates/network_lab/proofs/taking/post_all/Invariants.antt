@@ -1,6 +1,10 @@
 use Rattle.std.proofs.Common.{◌≡◌, ◌++◌, map}
 use Rattle.network_lab.specs.LabSteps.{sent_by}
+use Rattle.network_lab.specs.Reached.{AreSmall}
 use Rattle.network_lab.proofs.taking.post_all.Given as goal
 
 abbrev pub invariant-loop-octets : goal.invariant-loop-octets
-invariant-loop-octets l = l.sent.items ≡ l.initial.sent.items ++ map (sent_by l.sender l.boot l.link) l.yielded
+invariant-loop-octets l = record {
+  whole : l.sent.items ≡ l.initial.sent.items ++ map (sent_by l.sender l.boot l.link) l.yielded;
+  small : AreSmall l.sent.items;
+}

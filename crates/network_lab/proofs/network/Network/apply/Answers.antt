@@ -1,5 +1,9 @@
-use Rattle.network_lab.proofs.TakeLemmas.{ending-stops}
+use Rattle.network_lab.proofs.TakeLemmas.{ending-stops, ending-goes, ok-claimed}
 use Rattle.network_lab.proofs.network.Network.apply.Goals as goal
 
 pub returns-clause-stops : goal.returns-clause-stops
-returns-clause-stops c = ending-stops c.args.event c.args.self.now c.happen.new.self c.happen.result c.happen.ensures
+returns-clause-stops c = ending-stops c.args.event c.args.self.now c.happen-result.new.self c.happen-result.result c.happen-result.ensures
+
+pub returns-clause-claimed : goal.returns-clause-claimed
+returns-clause-claimed c =
+    ok-claimed c.happen-result.new.self c.happen-result.result (ending-goes c.args.event c.args.self.now c.happen-result.new.self c.happen-result.result c.happen-result.ensures) c.facts.ensures.claimed

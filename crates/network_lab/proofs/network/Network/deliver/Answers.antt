@@ -1,6 +1,6 @@
 use Rattle.std.proofs.Common.{◌≡◌, length, vec_len, ap, sym, ◌∙◌, arith}
 use Rattle.network_lab.specs.LabNets.{LabNet}
-use Rattle.network_lab.proofs.TakeLemmas.{deliver-off-ends, deliver-none-ends, deliver-stops, deliver-ends, delivered-there, octets-same}
+use Rattle.network_lab.proofs.TakeLemmas.{deliver-off-ends, deliver-none-ends, deliver-stops, deliver-ends, deliver-happens, delivered-there, octets-same}
 use Rattle.network_lab.proofs.network.Network.deliver.Goals as goal
 
 pub returns-in-Err : goal.returns-in-Err
@@ -27,3 +27,9 @@ pub returns-in-Err-copy : goal.returns-in-Err-copy
 returns-in-Err-copy c =
     deliver-stops c.args.self.now c.stop.new.self c.args.number c.args.router c.in-Ok.link c.in-Some.circuit c.circuit_on.result c.stop.result
     (sym c.delivered_on.ensures ∙ c.in-Ok.is) c.in-Some.is c.circuit_on.ensures.place c.stop.ensures.result c.stop.ensures.stopped
+
+pub give-requires-clause-happens : goal.give-requires-clause-happens
+give-requires-clause-happens c =
+    deliver-happens c.args.self.now c.args.number c.args.router c.in-Ok.link c.in-Some.circuit c.circuit_on.result c.in-Ok-copy.octets
+    (sym c.delivered_on.ensures ∙ c.in-Ok.is) c.in-Some.is c.circuit_on.ensures.place
+    (octets-same c.self.inside.sent.items c.args.self.now.seen.sent c.args.number c.index.result.now c.in-Ok-copy.octets (ap (λ (l : LabNet). l.seen.sent) c.self.view_is) c.index.ensures c.in-Ok-copy.ensures)

@@ -48,7 +48,7 @@ invariant_of-self-2 c = (join-setup c.self.inside.ports.items c.put_at.new.list.
     (c.push_reserved.ensures.items ∙ ap (λ (ls : List (List End)). ls ++ (c.in_ok-rows.rows.ends ∷ [])) c.make_link_room.ensures.links)
     (c.push_reserved-2.ensures.items ∙ ap (λ (ls : List (List End)). ls ++ (c.in_ok-rows.rows.ordered ∷ [])) c.make_link_room.ensures.ordered)
     c.put_at.ensures c.put_at-2.ensures
-    c.in_ok-setups.ensures.near c.in_ok-setups.ensures.near_router c.in_ok-setups.ensures.far c.in_ok-setups.ensures.far_router
+    c.in_ok-setups.ensures.near c.in_ok-setups.ensures.near_router c.in_ok-setups.ensures.far c.in_ok-setups.ensures.far_router c.in_ok-setups.ensures.reached.0 c.in_ok-setups.ensures.reached.1
     c.put_setup.ensures.configs c.put_setup.ensures.routers c.put_setup-2.ensures.configs c.put_setup-2.ensures.routers).0
 
 pub returns-clause-ok : goal.returns-clause-ok
@@ -62,5 +62,5 @@ returns-clause-ok c = (join-setup c.self.inside.ports.items c.put_at.new.list.it
     (c.push_reserved.ensures.items ∙ ap (λ (ls : List (List End)). ls ++ (c.in_ok-rows.rows.ends ∷ [])) c.make_link_room.ensures.links)
     (c.push_reserved-2.ensures.items ∙ ap (λ (ls : List (List End)). ls ++ (c.in_ok-rows.rows.ordered ∷ [])) c.make_link_room.ensures.ordered)
     c.put_at.ensures c.put_at-2.ensures
-    c.in_ok-setups.ensures.near c.in_ok-setups.ensures.near_router c.in_ok-setups.ensures.far c.in_ok-setups.ensures.far_router
+    c.in_ok-setups.ensures.near c.in_ok-setups.ensures.near_router c.in_ok-setups.ensures.far c.in_ok-setups.ensures.far_router c.in_ok-setups.ensures.reached.0 c.in_ok-setups.ensures.reached.1
     c.put_setup.ensures.configs c.put_setup.ensures.routers c.put_setup-2.ensures.configs c.put_setup-2.ensures.routers).1

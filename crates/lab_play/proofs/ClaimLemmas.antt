@@ -1,0 +1,176 @@
+-- What is claimed after each event of a lab script.
+use Rattle.std.proofs.Common.{◌≡◌, ℕ, ◌+◌, ◌<◌, ◌≤◌, nat_lt, nat_le, Bool, true, false, List, [], ◌∷◌, map, length, Option, Some, None, is_some, IfSome, Result, Ok, Err, if◌then◌else◌, refl, sym, ap, ◌∙◌, subst, arith}
+use Rattle.std.specs.List.{AllByRecursion}
+use Rattle.isis_model.specs.Places.{nth}
+use Rattle.isis_model.specs.Routers.{Router}
+use Rattle.isis_base.specs.declared.prefix.Prefix as base
+use Rattle.router_desk.specs.declared.config.Change.TheVariants as change
+use Rattle.router_desk.specs.Configs.{prefix_number}
+use Rattle.router_core.specs.Events.{FitsPrefix}
+use Rattle.router_core.specs.Givens.{given}
+use Rattle.network_model.specs.declared.end.End.{End}
+use Rattle.network_model.specs.Networks.{Datagram, Taking, Network, numbered}
+use Rattle.network_model.specs.Runs.{Happening, run}
+use Rattle.network_model.specs.RunLines.{run_line}
+use Rattle.network_model.specs.LineEvents.{line_events}
+use Rattle.network_model.specs.Speakers.{AreOctets}
+use Rattle.network_model.proofs.LineLemmas.{run-append, line-run, line-all}
+use Rattle.network_lab.specs.declared.faults.LabFault.{LabFault}
+use Rattle.network_lab.specs.declared.faults.LabFault.TheVariants as lab
+use Rattle.network_lab.specs.declared.faults.LimitName.TheVariants as limit
+use Rattle.network_lab.specs.declared.event.LabEvent.TheVariants as event
+use Rattle.network_lab.specs.LabNets.{Seen, LabNet, StandsFor, sent_of, seen_of}
+use Rattle.network_lab.specs.LabEvents.{refusal, after, past_boots, unless_changes}
+use Rattle.network_lab.specs.LinkStates.{AreWithin}
+use Rattle.network_lab.specs.Reached.{IsReachedNet, HasRun, AreSmall, AreFitting}
+use Rattle.network_lab.proofs.EventLemmas.{fits-change}
+use Rattle.network_lab.proofs.ReachedLemmas.{small-octets}
+use Rattle.network_lab.proofs.AlongLemmas.{claimed-along, calm-fits, fits-append}
+use Rattle.lab_script.specs.declared.setup.LabLink.{LabLink}
+use Rattle.lab_script.specs.declared.deeds.LabDeed.{LabDeed}
+use Rattle.lab_script.specs.declared.deeds.LabDeed.TheVariants as deed
+use Rattle.lab_script.specs.declared.deeds.LabLine.{LabLine}
+use Rattle.lab_script.specs.declared.reason.Reason.TheVariants as reason
+use Rattle.lab_script.specs.declared.reason.ScriptFault.{ScriptFault}
+use Rattle.lab_script.specs.declared.reason.ScriptFault.TheVariants.{Refused, Limit}
+use Rattle.lab_script.specs.LabScripts.{LabScript}
+use Rattle.lab_script.specs.LabSound.{IsDeed, IsSoundLab}
+use Rattle.lab_play.specs.Layouts.{laid_out, opened}
+use Rattle.lab_play.specs.LabRuns.{within, unless, play_deed, play_all, ◌>>=◌, end_of}
+use Rattle.lab_play.specs.Claimed.{events_of, lines_events, start_of, script_events, IsClaimedRun}
+
+-- ---- a line that is carried out
+
+-- its events fit, and lead to the next network
+record Carried (net next : Network) (events : List Happening) : Type 0 where
+  fits : AreFitting net events
+  ends : run given net events ≡ next
+
+same-ok : {A E : Type 0} (a b : A) → ◌≡◌ {A = Result A E} (Ok a) (Ok b) → a ≡ b
+same-ok a b e = cc
+
+within-ok : (m next : Network) → within m ≡ Ok next → m ≡ next
+within-ok m next e = by (nat_lt 262144 (length m.datagrams)) e
+  where
+    by : (b : Bool) → ◌≡◌ {A = Result Network ScriptFault} (if b then Err (Limit limit.Datagrams) else Ok m) (Ok next) → m ≡ next
+    by true e = absurd (cc)
+    by false e = same-ok m next e
+
+event-ok : (o : Option LabFault) (line : ℕ) (m next : Network) → unless o line (within m) ≡ Ok next → (o ≡ None) × (m ≡ next)
+event-ok None line m next e = (refl, within-ok m next e)
+event-ok (Some f) line m next e = absurd (cc)
+
+restart-fits : (o : Option Router) → past_boots o ≡ None → IfSome o (λ r. r.boot < 16777215)
+restart-fits None e = tt
+restart-fits (Some r) e = by (nat_le 16777215 r.boot) refl e
+  where
+    by : (b : Bool) → nat_le 16777215 r.boot ≡ b → ◌≡◌ {A = Option LabFault} (if b then Some (lab.Limit limit.Boots) else None) None → r.boot < 16777215
+    by true q e = absurd (cc)
+    by false q e = grind (arith, q)
+
+prefix-fits : (o : Option Router) (prefix : base.Prefix) (metric : Option ℕ) → IfSome metric (λ m. m ≤ 4261412864) → unless_changes o (change.Prefix prefix metric) ≡ None → IfSome o (λ r. FitsPrefix r (prefix_number prefix) metric)
+prefix-fits None prefix metric h e = tt
+prefix-fits (Some r) prefix metric h e = fits-change r (change.Prefix prefix metric) h e
+
+told-same : (b : Bool) (net next : Network) (line : ℕ) → ◌≡◌ {A = Result Network ScriptFault} (if b then Ok net else Err (Refused line reason.NotSent)) (Ok next) → net ≡ next
+told-same true net next line e = same-ok net next e
+told-same false net next line e = absurd (cc)
+
+deed-carried : (n : ℕ) (links : List LabLink) (net next : Network) (line : ℕ) (d : LabDeed) → IsDeed n links d → play_deed net line d ≡ Ok next → Carried net next (events_of net d)
+deed-carried n links net next line (deed.Tick router) h e = record { fits = (tt, tt); ends = (event-ok (refusal net (event.Tick router)) line (after net (event.Tick router)) next e).1 }
+deed-carried n links net next line (deed.Pull router link) h e = record { fits = (tt, tt); ends = (event-ok (refusal net (event.Pull router link)) line (after net (event.Pull router link)) next e).1 }
+deed-carried n links net next line (deed.Deliver datagram router) h e = record { fits = (tt, tt); ends = (event-ok (refusal net (event.Deliver datagram router)) line (after net (event.Deliver datagram router)) next e).1 }
+deed-carried n links net next line (deed.Restart router) h e =
+    let r = event-ok (refusal net (event.Restart router)) line (after net (event.Restart router)) next e in
+    record { fits = (restart-fits (nth net.routers router) r.0, tt); ends = r.1 }
+deed-carried n links net next line (deed.Prefix router prefix metric) h e =
+    let r = event-ok (refusal net (event.Change router (change.Prefix prefix metric))) line (after net (event.Change router (change.Prefix prefix metric))) next e in
+    record { fits = (prefix-fits (nth net.routers router) prefix metric h.1 r.0, tt); ends = r.1 }
+deed-carried n links net next line (deed.Metric router place metric) h e =
+    record { fits = (tt, tt); ends = (event-ok (refusal net (event.Change router (change.Metric (place + 1) metric))) line (after net (event.Change router (change.Metric (place + 1) metric))) next e).1 }
+deed-carried n links net next line (deed.Overload router on) h e =
+    record { fits = (tt, tt); ends = (event-ok (refusal net (event.Change router (change.Overload on))) line (after net (event.Change router (change.Overload on))) next e).1 }
+deed-carried n links net next line (deed.Inject router link octets) h e = record { fits = (tt, tt); ends = (event-ok (refusal net (event.Inject router link octets)) line (after net (event.Inject router link octets)) next e).1 }
+deed-carried n links net next line (deed.Dump datagram) h e = record { fits = tt; ends = told-same (is_some (numbered net.datagrams datagram)) net next line e }
+deed-carried n links net next line (deed.Run seconds without except) h e = record {
+  fits = calm-fits net (line_events given without except seconds net) (line-all given without except seconds net);
+  ends = line-run given without except seconds net ∙ within-ok (run_line given without except seconds net) next e;
+}
+
+-- ---- all lines
+
+record Bound (r : Result Network ScriptFault) (rest : Network → Result Network ScriptFault) (next : Network) : Type 0 where
+  mid : Network
+  first : r ≡ Ok mid
+  second : rest mid ≡ Ok next
+
+bound : (r : Result Network ScriptFault) (rest : Network → Result Network ScriptFault) (next : Network) → (r >>= rest) ≡ Ok next → Bound r rest next
+bound (Ok m) rest next e = record { mid = m; first = refl; second = e }
+bound (Err f) rest next e = absurd (cc)
+
+lines-carried : (n : ℕ) (links : List LabLink) (net next : Network) (lines : List LabLine) → AllByRecursion (λ (line : LabLine). IsDeed n links line.deed) lines → play_all net lines ≡ Ok next → Carried net next (lines_events net lines)
+unfolding play_all
+lines-carried n links net next [] all e = record { fits = tt; ends = same-ok net next e }
+lines-carried n links net next (line ∷ lines) all e =
+    let b = bound (play_deed net line.line line.deed) (λ more. play_all more lines) next e in
+    let c = deed-carried n links net b.mid line.line line.deed all.0 b.first in
+    let rest = lines-carried n links (run given net (events_of net line.deed)) next lines all.1 (ap (λ (m : Network). play_all m lines) c.ends ∙ b.second) in
+    record {
+      fits = fits-append net (events_of net line.deed) (lines_events (run given net (events_of net line.deed)) lines) c.fits rest.fits;
+      ends = run-append given net (events_of net line.deed) (lines_events (run given net (events_of net line.deed)) lines) ∙ rest.ends;
+    }
+
+-- ---- the start
+
+no-datagrams : (ds : List Datagram) → map sent_of ds ≡ [] → ds ≡ []
+no-datagrams [] e = refl
+no-datagrams (d ∷ ds) e = absurd (cc)
+
+-- what is kept says nothing of the states that routers were in, nor of what they took
+reached-cleared : (n : Network) (past : List Router) (takings : List Taking) → IsReachedNet n → IsReachedNet (record n { past = past; takings = takings })
+reached-cleared n past takings h = record {
+  routers = h.routers;
+  kept = record {
+    wired = record { once = h.kept.wired.once };
+    speaking = h.kept.speaking;
+    following = h.kept.following;
+    octets = h.kept.octets;
+    holds = λ i e f link p.
+        let q = h.kept.holds i e f link (record {
+          joins = record { ends = p.joins.ends; apart = p.joins.apart };
+          near = record { a = p.near.a; at_a = p.near.at_a; system = p.near.system; point = p.near.point };
+          far = record { a = p.far.a; at_a = p.far.at_a; system = p.far.system; point = p.far.point };
+        }) in
+        record { a = q.a; b = q.b; at_a = q.at_a; at_b = q.at_b; holds = q.holds };
+  };
+}
+
+net-same : (n : Network) (rs : List Router) (ls : List (List End)) → n.past ≡ [] → n.takings ≡ [] → n.routers ≡ rs → n.links ≡ ls → n.datagrams ≡ [] → n.injected ≡ 0 → n ≡ record { routers = rs; links = ls; datagrams = []; injected = 0; past = []; takings = [] }
+net-same n rs ls p t a b c d =
+    ap (λ (x : List Router). record n { routers = x }) a
+    ∙ (ap (λ (x : List (List End)). record n { routers = rs; links = x }) b
+    ∙ (ap (λ (x : List Datagram). record n { routers = rs; links = ls; datagrams = x }) c
+    ∙ (ap (λ (x : ℕ). record n { routers = rs; links = ls; datagrams = []; injected = x }) d
+    ∙ (ap (λ (x : List Router). record n { routers = rs; links = ls; datagrams = []; injected = 0; past = x }) p
+    ∙ ap (λ (x : List Taking). record { routers = rs; links = ls; datagrams = []; injected = 0; past = []; takings = x }) t))))
+
+start-reached : (a : LabNet) → StandsFor (opened a) a → HasRun a.seen → IsReachedNet (opened a)
+start-reached a s h =
+    subst IsReachedNet (net-same (record h.net { past = []; takings = [] }) a.seen.routers a.seen.links refl refl (ap (λ (x : Seen). x.routers) h.seen) (ap (λ (x : Seen). x.links) h.seen)
+    (no-datagrams h.net.datagrams (ap (λ (x : Seen). x.sent) (h.seen ∙ sym s.seen))) (ap (λ (x : Seen). x.injected) (h.seen ∙ sym s.seen))) (reached-cleared h.net [] [] h.reached)
+
+-- ---- the script
+
+pub claimed-run : (script : LabScript) (laid after : LabNet) (m : Network) → IsSoundLab script → laid ≡ laid_out script → StandsFor (opened laid) laid → (laid.seen.injected ≡ 0 → HasRun laid.seen)
+    → end_of script ≡ Ok m → StandsFor m after → AreSmall after.seen.sent → AreWithin after.seen → IsClaimedRun script
+unfolding script_events
+claimed-run script laid after m sound is first began e last small numbers =
+    let reached : IsReachedNet (start_of script) = subst (λ (a : LabNet). IsReachedNet (opened a)) is (start-reached laid first (began (sym (ap (λ (x : Seen). x.injected) first.seen)))) in
+    let c = lines-carried (length script.routers) script.links (start_of script) m script.lines sound.lines e in
+    record {
+      each = λ front rest q. claimed-along (start_of script) front rest reached
+          (subst (λ (events : List Happening). AreFitting (start_of script) events) q c.fits)
+          (subst (λ (events : List Happening). AreOctets (run given (start_of script) events)) q (subst AreOctets (sym c.ends) (small-octets m after.seen last.seen small)));
+      leads = λ net q. c.ends ∙ same-ok m net (sym e ∙ q);
+      within = λ net q. subst (λ (n : Network). AreWithin (seen_of n)) (same-ok m net (sym e ∙ q)) (subst (λ (s : Seen). AreWithin s) (sym last.seen) numbers);
+    }

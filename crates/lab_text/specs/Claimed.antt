@@ -1,0 +1,9 @@
+-- What is claimed of the run of a script (own).
+use Rattle.lab_script.specs.declared.script.Script.{Script}
+use Rattle.lab_script.specs.declared.script.Script.TheVariants.{Keys, Lab}
+use Rattle.lab_play.specs.Claimed.{IsClaimedRun}
+
+-- of a lab script the claim of links, after each of its events; of a keys script nothing
+abbrev pub IsClaimedScript : Script → Type 0
+IsClaimedScript (Keys script) = Unit {0}
+IsClaimedScript (Lab script) = IsClaimedRun script

@@ -1,0 +1,70 @@
+-- Networks of the model in their run: their routers are such as can be reached (own).
+use Rattle.std.specs.Prelude.{◌≡◌, ℕ, ◌<◌, true, List, [], ◌∷◌, length, Some, IfSome}
+use Rattle.std.specs.List.{AllByRecursion}
+use Rattle.isis_model.specs.Places.{nth}
+use Rattle.isis_model.specs.Routers.{Router}
+use Rattle.isis_model.specs.AdjacencyLaws.{is_point}
+use Rattle.router_core.specs.Events.{FitsPrefix}
+use Rattle.router_core.specs.Givens.{given}
+use Rattle.router_core.specs.Reached.{IsReached}
+use Rattle.network_model.specs.Networks.{Network}
+use Rattle.network_model.specs.Runs.{Happening, Tick, PullOn, Deliver, Restart, SetMetric, SetOverload, SetPrefix, Inject, apply}
+use Rattle.network_model.specs.Kept.{IsKeptNet}
+use Rattle.network_lab.specs.declared.sent.SentDatagram.{SentDatagram}
+use Rattle.network_lab.specs.LabNets.{Seen, seen_of}
+
+-- ---- networks
+
+-- a router that can be reached, of point-to-point circuits (own)
+pub record IsInRun (r : Router) : Type 0 where
+  pub reached : IsReached r
+  pub points : (place : ℕ) → place < length r.circuits → is_point (nth r.circuits place) ≡ true
+
+abbrev pub AreInRun : List Router → Type 0
+AreInRun routers = (i : ℕ) (r : Router) → nth routers i ≡ Some r → IsInRun r
+
+-- its routers can be reached, and what is kept of a whole network holds (own)
+pub record IsReachedNet (net : Network) : Type 0 where
+  pub routers : AreInRun net.routers
+  pub kept : IsKeptNet net
+
+-- what is seen is that of such a network (own)
+pub record HasRun (s : Seen) : Type 0 where
+  pub net : Network
+  pub seen : seen_of net ≡ s
+  pub reached : IsReachedNet net
+
+-- what was sent are octets (own)
+abbrev pub AreSmall : List SentDatagram → Type 0
+AreSmall sent = AllByRecursion
+    (λ (d : SentDatagram). AllByRecursion (λ octet. octet < 256) d.octets) sent
+
+-- ---- events
+
+-- a router has a next boot, and room for a prefix (own)
+abbrev pub IsFitting : Network → Happening → Type 0
+IsFitting net (Tick i) = Unit {0}
+IsFitting net (PullOn i link) = Unit {0}
+IsFitting net (Deliver n i) = Unit {0}
+IsFitting net (Restart i) = IfSome (nth net.routers i) (λ r. r.boot < 16777215)
+IsFitting net (SetMetric i place metric) = Unit {0}
+IsFitting net (SetOverload i on) = Unit {0}
+IsFitting net (SetPrefix i prefix metric) =
+    IfSome (nth net.routers i) (λ r. FitsPrefix r prefix metric)
+IsFitting net (Inject i link octets) = Unit {0}
+
+-- an event that makes of a network what is seen then (own)
+pub record Happens (net : Network) (later : Seen) : Type 0 where
+  pub event : Happening
+  pub fits : IsFitting net event
+  pub seen : seen_of (apply given net event) ≡ later
+
+-- such an event makes the one of the other, where nothing was injected (own)
+abbrev pub Happen : Seen → Seen → Type 0
+Happen before later = before.injected ≡ 0 → (net : Network) → seen_of net ≡ before
+    → Happens net later
+
+-- each of a run's events fits the network that it finds (own)
+abbrev pub AreFitting : Network → List Happening → Type 0
+AreFitting net [] = Unit {0}
+AreFitting net (event ∷ events) = IsFitting net event × AreFitting (apply given net event) events

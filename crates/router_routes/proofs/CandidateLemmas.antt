@@ -1,0 +1,142 @@
+-- Candidates as they are put together.
+use Rattle.std.proofs.Common.{◌≡◌, ◌∙◌, ℕ, Bool, true, false, List, [], ◌++◌, map, Option, Some, refl, sym, ap, subst, ◌&&◌, not, append_assoc, append-nil, ◌⊎◌, inl, inr}
+use Rattle.std.specs.List.{flat_map, list_any}
+use Rattle.isis_base.specs.declared.identifiers.SystemId.{SystemId}
+use Rattle.isis_base.specs.declared.identifiers.NodeId.{NodeId}
+use Rattle.isis_base.specs.declared.identifiers.LspId.{LspId}
+use Rattle.isis_base.specs.declared.level.Level.{Level}
+use Rattle.isis_base.specs.declared.level.Level.TheVariants as level
+use Rattle.isis_base.specs.declared.level.LevelSet.{LevelSet}
+use Rattle.isis_base.specs.declared.level.LevelSet.TheVariants as levels
+use Rattle.isis_base.specs.declared.prefix.Prefix.{Prefix}
+use Rattle.isis_base.proofs.PrefixValues.{prefix_from-prefix}
+use Rattle.isis_datagram.specs.Reading.{runs_of}
+use Rattle.lsp_store.specs.declared.entry.Entry.{Entry}
+use Rattle.lsp_view.specs.Views.{own_node, lead_of, areas_at}
+use Rattle.route_leaking.specs.Attachment.{is_attached}
+use Rattle.route_table.specs.declared.candidate.Candidate.{Candidate}
+use Rattle.router_routes.specs.declared.lent.Lent.{Lent}
+use Rattle.spf_repair.specs.Changes.{RepairedOf}
+use Rattle.router_routes.specs.Following.{IsLevel}
+use Rattle.router_routes.proofs.GraphLemmas.{IsGraphOf}
+use Rattle.router_routes.specs.Told.{told_in}
+use Rattle.router_routes.specs.Outlooks.{where_run, outlook_in}
+use Rattle.router_routes.specs.Candidates.{reached_in, system_candidates, level_candidates, own_candidate, attached_of, has_bit, default_by, default_of, defaults, is_for_all, firm_candidates, has_defaults, candidates_of}
+
+abbrev Told : Type 0
+Told = List (LspId × Entry)
+
+-- ---- a level that isn't run tells nothing
+
+told-where-run : (level : Level) (runs : Bool) (told : Told) (root : NodeId) (systems : List (SystemId × ℕ)) → systems ≡ reached_in (where_run runs told) root → flat_map (system_candidates level told) systems ≡ level_candidates level (where_run runs told) root
+unfolding level_candidates reached_in
+told-where-run level true told root systems same = ap (flat_map (system_candidates level told)) same
+told-where-run level false told root systems same = ap (flat_map (system_candidates level told)) same
+
+defaults-where-run : (runs : Bool) (told : Told) (root : NodeId) (systems : List (SystemId × ℕ)) → systems ≡ reached_in (where_run runs told) root → flat_map (default_of told) systems ≡ defaults (where_run runs told) root
+unfolding defaults reached_in
+defaults-where-run true told root systems same = ap (flat_map (default_of told)) same
+defaults-where-run false told root systems same = ap (flat_map (default_of told)) same
+
+-- ---- all of them
+
+three : {X : Type 0} (l m n k a b c : List X) → l ≡ [] → m ≡ l ++ a → n ≡ m ++ b → k ≡ n ++ c → k ≡ a ++ (b ++ c)
+three l m n k a b c e f g h = h ∙ ap (λ (x : List _). x ++ c) (g ∙ ap (λ (x : List _). x ++ b) (f ∙ ap (λ (x : List _). x ++ a) e)) ∙ append_assoc a b c
+
+module _ (lent : Lent) (ones twos : List (SystemId × ℕ)) (is-one : ones ≡ reached_in (outlook_in lent).told.one (outlook_in lent).root) (is-two : twos ≡ reached_in (outlook_in lent).told.two (outlook_in lent).root) where
+  pub firm-are : (l m n k : List Candidate) → l ≡ [] → m ≡ l ++ map (own_candidate (own_node lent.system)) lent.prefixes.now → n ≡ m ++ flat_map (system_candidates level.One (told_in lent.one.now.entries)) ones → k ≡ n ++ flat_map (system_candidates level.Two (told_in lent.two.now.entries)) twos
+      → k ≡ firm_candidates (outlook_in lent)
+  unfolding outlook_in firm_candidates
+  firm-are l m n k e f g h =
+      let one = told-where-run level.One (runs_of lent.levels).one (told_in lent.one.now.entries) (own_node lent.system) ones is-one in
+      let two = told-where-run level.Two (runs_of lent.levels).two (told_in lent.two.now.entries) (own_node lent.system) twos is-two in
+      three l m n k (map (own_candidate (own_node lent.system)) lent.prefixes.now) _ _ e f (g ∙ ap (λ (x : List Candidate). m ++ x) one) (h ∙ ap (λ (x : List Candidate). n ++ x) two)
+
+  pub all-with : (firm list : List Candidate) → firm ≡ firm_candidates (outlook_in lent) → has_defaults (outlook_in lent) ≡ true → list ≡ firm ++ flat_map (default_of (told_in lent.one.now.entries)) ones → list ≡ candidates_of (outlook_in lent)
+  unfolding outlook_in candidates_of
+  all-with firm list is has same =
+      let some = defaults-where-run (runs_of lent.levels).one (told_in lent.one.now.entries) (own_node lent.system) ones is-one in
+      rw has (same ∙ ap (λ (x : List Candidate). firm ++ x) some ∙ ap (λ (x : List Candidate). x ++ defaults (where_run (runs_of lent.levels).one (told_in lent.one.now.entries)) (own_node lent.system)) is)
+
+  pub all-without : (firm : List Candidate) → firm ≡ firm_candidates (outlook_in lent) → has_defaults (outlook_in lent) ≡ false → firm ≡ candidates_of (outlook_in lent)
+  unfolding candidates_of
+  all-without firm is has = rw has (is ∙ sym (append-nil (firm_candidates (outlook_in lent))))
+
+-- whether the way by default counts
+pub defaults-count : (lent : Lent) (attached : Bool) (firm : List Candidate) → attached ≡ attached_of (outlook_in lent) → firm ≡ firm_candidates (outlook_in lent)
+    → (((runs_of lent.levels).one && not attached) && not (list_any is_for_all firm)) ≡ has_defaults (outlook_in lent)
+unfolding outlook_in
+defaults-count lent attached firm e f = rw (e, f) refl
+
+-- ---- the way by default
+
+pub default-none : (told : Told) (system : SystemId × ℕ) → has_bit told system ≡ false → default_of told system ≡ []
+default-none told system has = rw has refl
+
+pub default-one : (told : Told) (system : SystemId × ℕ) (prefix : Prefix) → has_bit told system ≡ true → prefix.address ≡ 0 → prefix.length ≡ 0 → default_of told system ≡ default_by (Some prefix) system
+default-one told system prefix has address length = rw has (ap (λ (p : Option Prefix). default_by p system) (prefix_from-prefix prefix 0 0 address length))
+
+-- ---- attached
+
+abbrev areas-by : Told → SystemId × ℕ → List (List ℕ)
+areas-by told system = areas_at (lead_of told (own_node system.0))
+
+attached-with : (one two attached : Bool) (told : Told) (root : NodeId) (areas : List (List ℕ)) (twos : List (SystemId × ℕ)) → one ≡ true → two ≡ true → twos ≡ reached_in (where_run two told) root → attached ≡ is_attached areas (map (areas-by told) twos)
+    → attached ≡ ((one && two) && is_attached areas (map (areas-by (where_run two told)) (reached_in (where_run two told) root)))
+attached-with true true attached told root areas twos e f is same = same ∙ ap (λ (ts : List (SystemId × ℕ)). is_attached areas (map (areas-by told) ts)) is
+attached-with true false attached told root areas twos e f is same = absurd (let g : false ≡ true = f in cc)
+attached-with false two attached told root areas twos e f is same = absurd (let g : false ≡ true = e in cc)
+
+pub attached-both : (lent : Lent) (twos : List (SystemId × ℕ)) (attached : Bool) → lent.levels ≡ levels.Both → twos ≡ reached_in (outlook_in lent).told.two (outlook_in lent).root
+    → attached ≡ is_attached lent.areas.now (map (areas-by (told_in lent.two.now.entries)) twos) → attached ≡ attached_of (outlook_in lent)
+unfolding outlook_in attached_of
+attached-both lent twos attached both is same =
+    attached-with (runs_of lent.levels).one (runs_of lent.levels).two attached (told_in lent.two.now.entries) (own_node lent.system) lent.areas.now twos (ap (λ (l : LevelSet). (runs_of l).one) both) (ap (λ (l : LevelSet). (runs_of l).two) both) is same
+
+pub attached-one : (lent : Lent) → (lent.levels ≡ levels.One) ⊎ (lent.levels ≡ levels.Two) → false ≡ attached_of (outlook_in lent)
+unfolding outlook_in attached_of
+attached-one lent (inl one) = rw one refl
+attached-one lent (inr two) = rw two refl
+
+-- ---- what is asked of the parts
+
+module _ (lent : Lent) where
+  pub graph-one : (repaired : RepairedOf) (runs : Bool) → IsLevel (outlook_in lent) level.One repaired → runs ≡ (runs_of lent.levels).one → IsGraphOf (where_run runs (told_in lent.one.now.entries)) repaired.root repaired.graph
+  unfolding outlook_in
+  graph-one repaired runs is e =
+      subst (λ (r : Bool). IsGraphOf (where_run r (told_in lent.one.now.entries)) repaired.root repaired.graph) (sym e)
+      (subst (λ (n : NodeId). IsGraphOf (where_run (runs_of lent.levels).one (told_in lent.one.now.entries)) n repaired.graph) (sym is.root) is.graph)
+
+  pub graph-two : (repaired : RepairedOf) (runs : Bool) → IsLevel (outlook_in lent) level.Two repaired → runs ≡ (runs_of lent.levels).two → IsGraphOf (where_run runs (told_in lent.two.now.entries)) repaired.root repaired.graph
+  unfolding outlook_in
+  graph-two repaired runs is e =
+      subst (λ (r : Bool). IsGraphOf (where_run r (told_in lent.two.now.entries)) repaired.root repaired.graph) (sym e)
+      (subst (λ (n : NodeId). IsGraphOf (where_run (runs_of lent.levels).two (told_in lent.two.now.entries)) n repaired.graph) (sym is.root) is.graph)
+
+  pub reached-one : (repaired : RepairedOf) (runs : Bool) (list : List (SystemId × ℕ)) → IsLevel (outlook_in lent) level.One repaired → runs ≡ (runs_of lent.levels).one → list ≡ reached_in (where_run runs (told_in lent.one.now.entries)) repaired.root
+      → list ≡ reached_in (outlook_in lent).told.one (outlook_in lent).root
+  unfolding outlook_in
+  reached-one repaired runs list is e same = same ∙ ap (λ (r : Bool). reached_in (where_run r (told_in lent.one.now.entries)) repaired.root) e ∙ ap (reached_in (where_run (runs_of lent.levels).one (told_in lent.one.now.entries))) is.root
+
+  pub reached-two : (repaired : RepairedOf) (runs : Bool) (list : List (SystemId × ℕ)) → IsLevel (outlook_in lent) level.Two repaired → runs ≡ (runs_of lent.levels).two → list ≡ reached_in (where_run runs (told_in lent.two.now.entries)) repaired.root
+      → list ≡ reached_in (outlook_in lent).told.two (outlook_in lent).root
+  unfolding outlook_in
+  reached-two repaired runs list is e same = same ∙ ap (λ (r : Bool). reached_in (where_run r (told_in lent.two.now.entries)) repaired.root) e ∙ ap (reached_in (where_run (runs_of lent.levels).two (told_in lent.two.now.entries))) is.root
+
+  pub level-one : (repaired : RepairedOf) (root : NodeId) (runs : Bool) → runs ≡ (runs_of lent.levels).one → root ≡ own_node lent.system → repaired.root ≡ root → IsGraphOf (where_run runs (told_in lent.one.now.entries)) root repaired.graph → IsLevel (outlook_in lent) level.One repaired
+  unfolding outlook_in
+  level-one repaired root runs e at-root same is = record {
+    root = same ∙ at-root;
+    graph =
+        subst (λ (n : NodeId). IsGraphOf (where_run (runs_of lent.levels).one (told_in lent.one.now.entries)) n repaired.graph) at-root
+        (subst (λ (r : Bool). IsGraphOf (where_run r (told_in lent.one.now.entries)) root repaired.graph) e is);
+  }
+
+  pub level-two : (repaired : RepairedOf) (root : NodeId) (runs : Bool) → runs ≡ (runs_of lent.levels).two → root ≡ own_node lent.system → repaired.root ≡ root → IsGraphOf (where_run runs (told_in lent.two.now.entries)) root repaired.graph → IsLevel (outlook_in lent) level.Two repaired
+  unfolding outlook_in
+  level-two repaired root runs e at-root same is = record {
+    root = same ∙ at-root;
+    graph =
+        subst (λ (n : NodeId). IsGraphOf (where_run (runs_of lent.levels).two (told_in lent.two.now.entries)) n repaired.graph) at-root
+        (subst (λ (r : Bool). IsGraphOf (where_run r (told_in lent.two.now.entries)) root repaired.graph) e is);
+  }

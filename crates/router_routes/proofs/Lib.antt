@@ -1,0 +1,7 @@
+-- Lemmas by topic.
+pub mod CostLemmas
+pub mod ToldLemmas
+pub mod GraphLemmas
+pub mod LeakLemmas
+pub mod CandidateLemmas
+pub mod DifferenceLemmas

@@ -1,0 +1,10 @@
+use Rattle.std.proofs.Common.{◌≡◌, ◌∙◌, ◌++◌, List, map, sym, subst, OnOk}
+use Rattle.isis_tlv.specs.declared.prefix.PrefixItem.{PrefixItem}
+use Rattle.router_routes.specs.Candidates.{told_candidate}
+use Rattle.router_routes.proofs.ToldLemmas.{reach-told}
+use Rattle.router_routes.proofs.candidates.add_system.Goals as goal
+
+pub returns : goal.returns
+returns c =
+    let items = c.deref.ensures.value ∙ c.in_ok-items.ensures ∙ sym (reach-told c.args.store.now.entries c.len-entries.ensures.rises c.args.system) in
+    subst (λ (is : List PrefixItem). OnOk c.add_items.result (c.add_items.new.list.items ≡ c.args.list.now.items ++ map (told_candidate c.args.level (c.args.system, c.args.cost)) is)) items c.add_items.ensures

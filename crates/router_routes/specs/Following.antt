@@ -1,0 +1,45 @@
+-- What a router keeps of its graphs and routes, and when that is right (own).
+use Rattle.std.specs.Prelude.{◌≡◌, ◌+◌, ◌-◌, ◌^◌, min, Bool, List}
+use Rattle.isis_base.specs.declared.identifiers.NodeId.{NodeId}
+use Rattle.isis_base.specs.declared.level.Level.{Level}
+use Rattle.isis_base.specs.declared.level.Level.TheVariants as level
+use Rattle.spf_tree.specs.declared.row.Row.{Row}
+use Rattle.spf_tree.specs.Graphs.{times}
+use Rattle.spf_repair.specs.Changes.{RepairedOf}
+use Rattle.isis_model.specs.Both.{Both}
+use Rattle.route_table.specs.declared.route.Route.{Route}
+use Rattle.router_routes.specs.Outlooks.{Outlook, IsGraph}
+use Rattle.router_routes.specs.Candidates.{AreRoutesOf, attached_of}
+
+-- each level's repaired distances, the routes, and whether the router is attached
+pub record FollowingOf : Type 0 where
+  pub levels : Both RepairedOf
+  pub routes : List Route
+  pub attached : Bool
+
+-- a level's distances are from the router's own node over the rows that may be walked
+pub record IsLevel (o : Outlook) (level : Level) (repaired : RepairedOf) : Type 0 where
+  pub root : repaired.root ≡ o.root
+  pub graph : IsGraph o level repaired.graph
+
+-- all is that of what routes look at
+pub record IsFollowing (o : Outlook) (f : FollowingOf) : Type 0 where
+  pub one : IsLevel o level.One f.levels.one
+  pub two : IsLevel o level.Two f.levels.two
+  pub routes : AreRoutesOf o f.routes
+  pub attached : f.attached ≡ attached_of o
+
+-- distances and graphs of both levels are from this node
+pub record IsRooted (root : NodeId) (f : FollowingOf) : Type 0 where
+  pub one : f.levels.one.root ≡ root
+  pub two : f.levels.two.root ≡ root
+  pub graph_one : f.levels.one.graph.root ≡ root
+  pub graph_two : f.levels.two.graph.root ≡ root
+
+-- the count of changes rises by one exactly where some row is there another number of times; it stays
+-- at its last value
+pub record Counts (old new : RepairedOf) : Type 0 where
+  pub same : ((row : Row) → times new.graph.rows row ≡ times old.graph.rows row)
+      → new.changes ≡ old.changes
+  pub changed : (row : Row) → (times new.graph.rows row ≡ times old.graph.rows row → ⊥)
+      → new.changes ≡ min (old.changes + 1) (2 ^ 64 - 1)

@@ -1,0 +1,274 @@
+//! What prefixes may be reached by (RFC 5302 3.2).
+ghost use Rattle.std.specs.Prelude.{◌≡◌, ◌++◌, ◌&&◌, not, map, IfOk, OnOk, IfSome};
+ghost use Rattle.std.specs.List.{flat_map, list_any};
+ghost use Rattle.isis_datagram.specs.Reading.{runs_of};
+ghost use Rattle.lsp_view.specs.Views.{own_node};
+ghost use Rattle.router_routes.specs.Told.{told_in};
+ghost use Rattle.router_routes.specs.Outlooks.{outlook_in};
+ghost use Rattle.router_routes.specs.Candidates.{reached_in, rank_in, told_candidate, system_candidates, own_candidate, attached_of, default_of, is_for_all, firm_candidates, candidates_of};
+
+use crate::lent::Lent;
+use isis_base::{Level, LevelSet, NodeId, OutOfMemory, Prefix, SystemId};
+use isis_tlv::PrefixItem;
+use lsp_store::Store;
+use lsp_view::{is_attached, reach};
+use route_table::{Candidate, Rank};
+use std::alloc::Global;
+
+/// All candidates of a router, where these are the systems that its levels reach, and whether it is
+/// attached.
+pub(crate) fn all_candidates(
+    alloc: Global,
+    lent: &Lent<'_>,
+    ones: &[(SystemId, u64)],
+    twos: &[(SystemId, u64)],
+    attached: bool,
+) -> Result<Vec<Candidate>, OutOfMemory>
+    requires ones { ones.now
+        ≡ reached_in (outlook_in lent.now).told.one (outlook_in lent.now).root }
+    requires twos { twos.now
+        ≡ reached_in (outlook_in lent.now).told.two (outlook_in lent.now).root }
+    requires attached { attached ≡ attached_of (outlook_in lent.now) }
+    ensures { IfOk result (λ list. list.items ≡ candidates_of (outlook_in lent.now)) }
+{
+    let mut list = firm_candidates(alloc, lent, ones, twos)?;
+    if has_defaults(lent.levels, attached, list.as_slice()) {
+        add_defaults(&mut list, lent.one, ones)?;
+    }
+    Ok(list)
+}
+
+/// All but those by default.
+fn firm_candidates(
+    alloc: Global,
+    lent: &Lent<'_>,
+    ones: &[(SystemId, u64)],
+    twos: &[(SystemId, u64)],
+) -> Result<Vec<Candidate>, OutOfMemory>
+    requires ones { ones.now
+        ≡ reached_in (outlook_in lent.now).told.one (outlook_in lent.now).root }
+    requires twos { twos.now
+        ≡ reached_in (outlook_in lent.now).told.two (outlook_in lent.now).root }
+    ensures { IfOk result (λ list. list.items ≡ firm_candidates (outlook_in lent.now)) }
+{
+    let mut list = Vec::new(alloc);
+    add_own(&mut list, own_node(lent.system), lent.prefixes)?;
+    add_told(alloc, &mut list, Level::One, lent.one, ones)?;
+    add_told(alloc, &mut list, Level::Two, lent.two, twos)?;
+    Ok(list)
+}
+
+/// Whether the way by default counts.
+fn has_defaults(levels: LevelSet, attached: bool, firm: &[Candidate]) -> bool
+    ensures { result ≡ (((runs_of levels).one && not attached)
+        && not (list_any is_for_all firm.now)) }
+{
+    runs_one(levels) && !attached && !has_for_all(firm)
+}
+
+/// Whether level 1 is run.
+pub(crate) fn runs_one(levels: LevelSet) -> bool
+    ensures { result ≡ (runs_of levels).one }
+{
+    match levels {
+        LevelSet::One | LevelSet::Both => true,
+        LevelSet::Two => false,
+    }
+}
+
+/// Whether level 2 is run.
+pub(crate) fn runs_two(levels: LevelSet) -> bool
+    ensures { result ≡ (runs_of levels).two }
+{
+    match levels {
+        LevelSet::Two | LevelSet::Both => true,
+        LevelSet::One => false,
+    }
+}
+
+/// The node that a system is.
+pub(crate) fn own_node(system: SystemId) -> NodeId
+    ensures { result ≡ own_node system }
+{
+    NodeId {
+        system,
+        pseudonode: 0,
+    }
+}
+
+/// Adds one's own prefixes.
+fn add_own(
+    list: &mut Vec<Candidate>,
+    root: NodeId,
+    prefixes: &[(Prefix, u32)],
+) -> Result<(), OutOfMemory>
+    ensures { OnOk result (list.new.items
+        ≡ list.old.items ++ map (own_candidate root) prefixes.now) }
+{
+    for own in prefixes {
+        let candidate = own_candidate(root, *own);
+        match list.push(candidate) {
+            Ok(()) => {}
+            Err(_) => return Err(OutOfMemory),
+        }
+    }
+    Ok(())
+}
+
+fn own_candidate(root: NodeId, own: (Prefix, u32)) -> Candidate
+    ensures { result ≡ own_candidate root own }
+{
+    Candidate {
+        prefix: own.0,
+        rank: Rank::Own,
+        cost: u64::from(own.1),
+        origin: root,
+    }
+}
+
+/// Adds what the systems of a level tell.
+fn add_told(
+    alloc: Global,
+    list: &mut Vec<Candidate>,
+    level: Level,
+    store: &Store,
+    systems: &[(SystemId, u64)],
+) -> Result<(), OutOfMemory>
+    ensures { OnOk result (list.new.items ≡ list.old.items
+        ++ flat_map (system_candidates level (told_in store.now.entries)) systems.now) }
+{
+    for reached in systems {
+        match add_system(alloc, list, level, store, reached.0, reached.1) {
+            Ok(()) => {}
+            Err(error) => return Err(error),
+        }
+    }
+    Ok(())
+}
+
+/// Adds what a system tells.
+fn add_system(
+    alloc: Global,
+    list: &mut Vec<Candidate>,
+    level: Level,
+    store: &Store,
+    system: SystemId,
+    cost: u64,
+) -> Result<(), OutOfMemory>
+    ensures { OnOk result (list.new.items ≡ list.old.items
+        ++ system_candidates level (told_in store.now.entries) (system, cost)) }
+{
+    let _entries = store.len();
+    let items = reach(alloc, store, system)?;
+    add_items(list, level, system, cost, &items)
+}
+
+/// Adds prefixes that a system tells. A cost past 64 bits, which no graph has, counts as a want of
+/// memory.
+fn add_items(
+    list: &mut Vec<Candidate>,
+    level: Level,
+    system: SystemId,
+    cost: u64,
+    items: &[PrefixItem],
+) -> Result<(), OutOfMemory>
+    ensures { OnOk result (list.new.items
+        ≡ list.old.items ++ map (told_candidate level (system, cost)) items.now) }
+{
+    for item in items {
+        match told_candidate(level, system, cost, item) {
+            Some(candidate) => match list.push(candidate) {
+                Ok(()) => {}
+                Err(_) => return Err(OutOfMemory),
+            },
+            None => return Err(OutOfMemory),
+        }
+    }
+    Ok(())
+}
+
+/// The candidate that an item is; `None` only where the sum passes 64 bits.
+fn told_candidate(level: Level, system: SystemId, cost: u64, item: &PrefixItem) -> Option<Candidate>
+    ensures { IfSome result (λ c. c ≡ told_candidate level (system, cost) item.now) }
+{
+    match cost.checked_add(u64::from(item.metric)) {
+        Some(cost) => Some(Candidate {
+            prefix: item.prefix,
+            rank: rank_in(level, item.down),
+            cost,
+            origin: own_node(system),
+        }),
+        None => None,
+    }
+}
+
+/// The rank of a prefix that is told in a level (RFC 5302 3.2).
+fn rank_in(level: Level, down: bool) -> Rank
+    ensures { result ≡ rank_in level down }
+{
+    match level {
+        Level::One => { if down { Rank::OneDown } else { Rank::One } }
+        Level::Two => Rank::Two,
+    }
+}
+
+/// Whether some candidate is for 0.0.0.0/0.
+fn has_for_all(list: &[Candidate]) -> bool
+    ensures { result ≡ list_any is_for_all list.now }
+{
+    for candidate in list {
+        if candidate.prefix.address() == 0 && candidate.prefix.length() == 0 {
+            return true;
+        }
+    }
+    false
+}
+
+/// Adds the way by default to each of these systems that is attached.
+fn add_defaults(
+    list: &mut Vec<Candidate>,
+    store: &Store,
+    systems: &[(SystemId, u64)],
+) -> Result<(), OutOfMemory>
+    ensures { OnOk result (list.new.items ≡ list.old.items
+        ++ flat_map (default_of (told_in store.now.entries)) systems.now) }
+{
+    for reached in systems {
+        match add_default(list, store, reached.0, reached.1) {
+            Ok(()) => {}
+            Err(error) => return Err(error),
+        }
+    }
+    Ok(())
+}
+
+/// Adds the way by default to a system, where it is attached.
+fn add_default(
+    list: &mut Vec<Candidate>,
+    store: &Store,
+    system: SystemId,
+    cost: u64,
+) -> Result<(), OutOfMemory>
+    ensures { OnOk result (list.new.items
+        ≡ list.old.items ++ default_of (told_in store.now.entries) (system, cost)) }
+{
+    let _entries = store.len();
+    if !is_attached(store, system) {
+        return Ok(());
+    }
+    match Prefix::new(0, 0) {
+        None => Ok(()),
+        Some(prefix) => {
+            let candidate = Candidate {
+                prefix,
+                rank: Rank::Default,
+                cost,
+                origin: own_node(system),
+            };
+            match list.push(candidate) {
+                Ok(()) => Ok(()),
+                Err(_) => Err(OutOfMemory),
+            }
+        }
+    }
+}

@@ -1,0 +1,228 @@
+//! The value that follows a router's databases.
+ghost use Rattle.std.specs.Prelude.{◌≡◌, ◌+◌, ◌-◌, ◌^◌, ◌<◌, ◌≤◌, min, length, IfOk, OnOk, OnErr};
+ghost use Rattle.isis_base.specs.declared.level.Level.TheVariants as level;
+ghost use Rattle.isis_model.specs.Both.{at};
+ghost use Rattle.lsp_view.specs.Views.{own_node, rows_in, overloaded_in};
+ghost use Rattle.spf_tree.specs.declared.row.Row as row;
+ghost use Rattle.spf_tree.specs.Graphs.{AreUsable, times};
+ghost use Rattle.router_routes.specs.Told.{told_in};
+ghost use Rattle.router_routes.specs.Outlooks.{outlook_in, where_run};
+ghost use Rattle.router_routes.specs.Candidates.{AreRoutesOf, attached_of, candidates_of, reached_in};
+ghost use Rattle.router_routes.specs.Following.{IsFollowing, IsRooted, IsLevel, Counts};
+
+use crate::candidates::{all_candidates, own_node, runs_one, runs_two};
+use crate::differences::rows_apart;
+use crate::lent::Lent;
+use crate::level_graph::graph_of;
+use crate::systems::{is_attached, level_systems};
+use isis_base::{Level, LevelSet, NodeId, OutOfMemory, SystemId};
+use lsp_store::Store;
+use route_table::{Candidate, Routes, routes};
+use spf_repair::{Repaired, Steps};
+use spf_tree::Row;
+use spf_tree::parts::rows_in_order;
+use std::alloc::Global;
+use std::marker::{Brand, Model};
+use std::sync::ledger::{Blank, Ledger};
+
+/// What a router keeps of its graphs and routes: for each level the least costs from its own node,
+/// repaired when rows change; the routes; and whether it is attached.
+#[derive(Drop)]
+pub struct Following {
+    pub(crate) alloc: Global,
+    pub(crate) one: Repaired,
+    pub(crate) two: Repaired,
+    pub(crate) routes: Routes,
+    pub(crate) attached: bool,
+}
+
+impl Model for Following {
+    ghost use Rattle.router_routes.specs.Following.{FollowingOf};
+
+    ghost Value = { FollowingOf };
+
+    ghost view = { λ f. record {
+      levels = record { one = f.one; two = f.two };
+      routes = f.routes;
+      attached = f.attached;
+    } };
+}
+
+impl Following {
+    /// What a router keeps at its start, of what is lent of it. No level's distances changed yet.
+    pub fn new(alloc: Global, lent: &Lent<'_>) -> Result<Following, OutOfMemory>
+        ensures follows { IfOk result (λ f. IsFollowing (outlook_in lent.now) f) }
+        ensures one { IfOk result (λ f. f.levels.one.changes ≡ 0) }
+        ensures two { IfOk result (λ f. f.levels.two.changes ≡ 0) }
+    {
+        let root = own_node(lent.system);
+        let one = fresh(alloc, runs_one(lent.levels), lent.one, root)?;
+        let two = fresh(alloc, runs_two(lent.levels), lent.two, root)?;
+        assembled(alloc, lent, one, two)
+    }
+
+    /// Follows what is lent of the router as it is now. A level's distances have one change more
+    /// exactly where some row may be walked another number of times. At `OutOfMemory` all is as it
+    /// was.
+    pub fn follow(&mut self, lent: &Lent<'_>) -> Result<(), OutOfMemory>
+        requires { IsRooted (own_node lent.now.system) self.old }
+        ensures follows { OnOk result (IsFollowing (outlook_in lent.now) self.new) }
+        ensures one { OnOk result (Counts self.old.levels.one self.new.levels.one) }
+        ensures two { OnOk result (Counts self.old.levels.two self.new.levels.two) }
+        ensures err { OnErr result (self.new ≡ self.old) }
+    {
+        let one = followed(self.alloc, &self.one, runs_one(lent.levels), lent.one)?;
+        let two = followed(self.alloc, &self.two, runs_two(lent.levels), lent.two)?;
+        let next = assembled(self.alloc, lent, one, two)?;
+        *self = next;
+        Ok(())
+    }
+
+    /// The routes, in order of prefix.
+    pub fn routes(&self) -> &Routes
+        ensures { result.now ≡ self.now.routes }
+    {
+        &self.routes
+    }
+
+    /// A level's distances: of no rows where the level isn't run.
+    pub fn repaired(&self, level: Level) -> &Repaired
+        ensures { result.now ≡ at self.now.levels level }
+    {
+        match level {
+            Level::One => &self.one,
+            Level::Two => &self.two,
+        }
+    }
+
+    /// Whether the router is attached (ISO 10589 7.2.9.2): it runs both levels, and reaches a system of
+    /// another area in level 2.
+    pub fn attached(&self) -> bool
+        ensures { result ≡ self.now.attached }
+    {
+        self.attached
+    }
+}
+
+/// The distances of a level from scratch.
+fn fresh(alloc: Global, runs: bool, store: &Store, root: NodeId) -> Result<Repaired, OutOfMemory>
+    ensures graph { IfOk result (λ new.
+        AreUsable (rows_in (where_run runs (told_in store.now.entries)))
+        (overloaded_in (where_run runs (told_in store.now.entries))) root new.graph) }
+    ensures root { IfOk result (λ new. new.root ≡ root) }
+    ensures changes { IfOk result (λ new. new.changes ≡ 0) }
+{
+    let graph = graph_of(alloc, runs, store, root)?;
+    Repaired::new(alloc, &graph, root)
+}
+
+/// The distances of a level, repaired for its rows as they are now.
+fn followed(
+    alloc: Global,
+    old: &Repaired,
+    runs: bool,
+    store: &Store,
+) -> Result<Repaired, OutOfMemory>
+    requires { old.now.graph.root ≡ old.now.root }
+    ensures graph { IfOk result (λ new.
+        AreUsable (rows_in (where_run runs (told_in store.now.entries)))
+        (overloaded_in (where_run runs (told_in store.now.entries))) old.now.root new.graph) }
+    ensures root { IfOk result (λ new. new.root ≡ old.now.root) }
+    ensures counts { IfOk result (λ new. Counts old.now new) }
+{
+    let graph = graph_of(alloc, runs, store, old.graph().root())?;
+    let (removed, added) = rows_apart(alloc, old.graph().rows(), rows_in_order(&graph))?;
+    let mut new = old.copy()?;
+    let blank = Blank::new(1);
+    change::<Brand>(&mut new, removed.as_slice(), added.as_slice(), blank)?;
+    Ok(new)
+}
+
+/// Changes rows. Its steps aren't counted further.
+fn change<L: Ledger>(
+    repaired: &mut Repaired,
+    removed: &[Row],
+    added: &[Row],
+    blank: Blank,
+) -> Result<(), OutOfMemory>
+    requires name { blank.name ≡ L.name }
+    requires parts { blank.parts ≡ L.parts }
+    requires some { 0 < blank.parts }
+    requires there { (x : row.Row) → times removed.now x ≤ times repaired.old.graph.rows x }
+    requires few { length repaired.old.graph.rows + length added.now
+        < 2 ^ 32 + length removed.now }
+    ensures rows { OnOk result ((x : row.Row)
+        → times repaired.new.graph.rows x + times removed.now x
+        ≡ times repaired.old.graph.rows x + times added.now x) }
+    ensures graph_root { repaired.new.graph.root ≡ repaired.old.graph.root }
+    ensures root { repaired.new.root ≡ repaired.old.root }
+    ensures changes { OnOk result (0 < length removed.now + length added.now
+        → repaired.new.changes ≡ min (repaired.old.changes + 1) (2 ^ 64 - 1)) }
+    ensures none { length removed.now + length added.now ≡ 0 → repaired.new ≡ repaired.old }
+{
+    let mut steps = Steps::<L>::new(blank);
+    repaired.change(removed, added, &mut steps)
+}
+
+/// The value of these distances.
+fn assembled(
+    alloc: Global,
+    lent: &Lent<'_>,
+    one: Repaired,
+    two: Repaired,
+) -> Result<Following, OutOfMemory>
+    requires one { IsLevel (outlook_in lent.now) level.One one }
+    requires two { IsLevel (outlook_in lent.now) level.Two two }
+    ensures follows { IfOk result (λ f. IsFollowing (outlook_in lent.now) f) }
+    ensures one { IfOk result (λ f. f.levels.one ≡ one) }
+    ensures two { IfOk result (λ f. f.levels.two ≡ two) }
+{
+    let ones = level_systems(alloc, runs_one(lent.levels), lent.one, &one)?;
+    let twos = level_systems(alloc, runs_two(lent.levels), lent.two, &two)?;
+    let attached = attached(alloc, lent, &twos)?;
+    let candidates = all_candidates(alloc, lent, &ones, &twos, attached)?;
+    let routes = table(alloc, lent, candidates.as_slice(), &one, &two)?;
+    Ok(Following {
+        alloc,
+        one,
+        two,
+        routes,
+        attached,
+    })
+}
+
+/// Whether the router is attached, where these are the systems that level 2 reaches.
+fn attached(alloc: Global, lent: &Lent<'_>, twos: &[(SystemId, u64)]) -> Result<bool, OutOfMemory>
+    requires { twos.now
+        ≡ reached_in (outlook_in lent.now).told.two (outlook_in lent.now).root }
+    ensures { IfOk result (λ attached. attached ≡ attached_of (outlook_in lent.now)) }
+{
+    match lent.levels {
+        LevelSet::Both => is_attached(alloc, lent.areas, lent.two, twos),
+        LevelSet::One | LevelSet::Two => Ok(false),
+    }
+}
+
+/// The routes of these candidates.
+fn table(
+    alloc: Global,
+    lent: &Lent<'_>,
+    candidates: &[Candidate],
+    one: &Repaired,
+    two: &Repaired,
+) -> Result<Routes, OutOfMemory>
+    requires one { IsLevel (outlook_in lent.now) level.One one.now }
+    requires two { IsLevel (outlook_in lent.now) level.Two two.now }
+    requires candidates { candidates.now ≡ candidates_of (outlook_in lent.now) }
+    ensures { IfOk result (λ routes. AreRoutesOf (outlook_in lent.now) routes) }
+{
+    let _lent = lent;
+    routes(
+        alloc,
+        candidates,
+        one.graph(),
+        one.distances(),
+        two.graph(),
+        two.distances(),
+    )
+}

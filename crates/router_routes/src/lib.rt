@@ -1,0 +1,27 @@
+//! What a router's routes are, and a value that keeps them.
+//!
+//! Each level that is run has a graph over its live LSPs (ISO 10589 7.2.5, 7.2.8) and least costs from
+//! the router's own node (C.2). What prefixes may be reached by is one's own prefixes, what the
+//! systems tell that are reached, and the way by default to attached systems (RFC 5302 3.2, RFC 1195
+//! 3.2). What one level is told of the other (RFC 5302 3) and whether the router is attached (ISO
+//! 10589 7.2.9.2) follow. Own: the way by default counts where the router runs level 1, isn't
+//! attached itself, and nothing else is for 0.0.0.0/0.
+//!
+//! - `lent.rt`: what of a router routes look at; `level_graph.rt`: the graph of a level
+//! - `systems.rt`: the systems that a level reaches; `candidates.rt`: what they and the router tell
+//! - `differences.rt`: the rows that two graphs don't share
+//! - `following.rt`: the value that follows a router's databases; `leaks.rt`: what it leaks
+//! - `laws.rt`: the plain programs of the definitions are what the routes say
+#![tactic(auto)]
+
+mod candidates;
+mod differences;
+mod following;
+pub mod laws;
+mod leaks;
+mod lent;
+mod level_graph;
+mod systems;
+
+pub use following::Following;
+pub use lent::{Lent, ids_law};
