@@ -17,11 +17,13 @@ use isis_base::{Level, Octets, OutOfMemory, add_hex, add_number};
 use isis_edge::Text;
 use network_lab::Network;
 use route_table::Routes;
+use std::alloc::Global;
 
 impl<'n, 't> LabReport<'n, 't> {
     /// The report of a network whose routers and links have these names, with the datagrams of
     /// these numbers.
     pub fn new(
+        alloc: Global,
         net: &'n Network,
         routers: &'t [&'t str],
         links: &'t [&'t str],
@@ -36,7 +38,7 @@ impl<'n, 't> LabReport<'n, 't> {
         ensures routes { IfOk result (λ report.
             AreAllRoutes net.now.seen.routers (routes_of report.routes.items)) }
     {
-        let routes = routes_of(net)?;
+        let routes = routes_of(alloc, net)?;
         let groups = GroupCounts {
             one: group_count(net, Level::One)?,
             two: group_count(net, Level::Two)?,
@@ -93,11 +95,11 @@ impl<'n, 't> Text for LabReport<'n, 't> {
 }
 
 /// The routes of each router.
-fn routes_of<'n>(net: &'n Network) -> Result<Vec<&'n Routes>, OutOfMemory>
+fn routes_of<'n>(alloc: Global, net: &'n Network) -> Result<Vec<&'n Routes>, OutOfMemory>
     ensures all { IfOk result (λ routes. AreAllRoutes net.now.seen.routers (routes_of routes.items)) }
     ensures count { IfOk result (λ routes. length routes.items ≡ length net.now.seen.routers) }
 {
-    let mut routes = Vec::new(net.allocator());
+    let mut routes = Vec::new(alloc);
     for router in 0..net.routers() {
         match routes.push(net.router(router).routes()) {
             Ok(()) => {}

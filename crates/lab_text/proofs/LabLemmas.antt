@@ -15,15 +15,15 @@ use Rattle.lab_play.specs.LabRuns.{end_of}
 use Rattle.lab_play.specs.Played.{Played}
 use Rattle.lab_text.specs.LabReports.{report_by, lab_report, Tells}
 
-next : LabScript → Result Network ScriptFault → Result (List ℕ) ScriptFault
-next script r = r >>= λ net. Ok (report_by script (seen_of net))
+next : Result Network ScriptFault → Result (Unit {0}) ScriptFault
+next r = r >>= λ net. Ok tt
 
 pub played-tells : (script : LabScript) (r : Result LabNet ScriptFault) → Played r (end_of script) → Tells script r
 unfolding next
-played-tells script (Ok net) p = ap (next script) p.1 ∙ ap (λ (s : Seen). Ok (report_by script s)) p.2.seen
+played-tells script (Ok net) p = (p.0, p.1, p.2.seen)
 played-tells script (Err OutOfMemory) p = tt
-played-tells script (Err (Refused line reason)) p = ap (next script) p
-played-tells script (Err (Limit which)) p = ap (next script) p
+played-tells script (Err (Refused line reason)) p = ap next p
+played-tells script (Err (Limit which)) p = ap next p
 
 pub names-count : (names : List (Bor (List ℕ))) (routers : List LabRouter) → texts names ≡ router_names routers → length names ≡ length routers
 names-count names routers e = sym (length-map names (λ (n : Bor (List ℕ)). n.now)) ∙ ap (λ (xs : List (List ℕ)). length xs) e ∙ length-map routers (λ (r : LabRouter). r.name)
