@@ -4,8 +4,9 @@ ghost use Rattle.std.specs.List.{AllByRecursion};
 ghost use Rattle.isis_edge.specs.Faults.{Rose};
 ghost use Rattle.network_lab.specs.KeysNet.{with_link};
 ghost use Rattle.lab_script.specs.Gives.{Gives, Answers};
-ghost use Rattle.lab_text.specs.KeysRuns.{routers_only, with_links, laid_out, play_line, play_all, end_of, keys_report};
-ghost use Rattle.lab_text.specs.Runs.{ReportEnds, RunEnds};
+ghost use Rattle.lab_text.specs.KeysRuns.{routers_only, with_links, laid_out, play_line, play_all, end_of, keys_outcome};
+ghost use Rattle.lab_script.specs.declared.script.Script.TheVariants.{Keys};
+ghost use Rattle.lab_text.specs.Runs.{IsReport, ReportEnds, RunEnds};
 ghost use Rattle.lab_text.specs.Claimed.{IsClaimedScript};
 ghost use Rattle.lab_text.specs.KeysInNet.{IsInNet, AreInNet, IsLaidOut};
 
