@@ -1,10 +1,10 @@
 -- How a run of the program ends (own).
-use Rattle.std.specs.Prelude.{◌≡◌, ℕ, ◌<◌, ◌≤◌, List, [], length, Option, Some, IfSome, Result, Ok, Err, IsOk, IsOkAnd, ◌⊎◌}
-use Rattle.isis_edge.specs.Told.{Wrote, WrotePrefix, TellsSame}
+use Rattle.std.specs.Prelude.{◌≡◌, ℕ, ◌<◌, ◌≤◌, List, [], length, Option, Some, IfSome, Result, Ok, Err, IsOk, IsOkAnd, ◌⊎◌, tt}
+use Rattle.isis_edge.specs.Told.{Wrote, TellsSame}
 use Rattle.lab_script.specs.declared.reason.ScriptFault.{ScriptFault}
 use Rattle.lab_script.specs.declared.reason.ScriptFault.TheVariants.{Refused, Limit}
 use Rattle.lab_script.specs.Scripts.{◌>>=◌, script_of}
-use Rattle.lab_text.specs.Runs.{report_of}
+use Rattle.lab_text.specs.Runs.{IsReport, outcome_of, WrotePart}
 use Rattle.lab_text.specs.Claimed.{IsClaimedScript}
 use Rattle.isis_daemon.specs.declared.command.Command.{Command}
 use Rattle.isis_daemon.specs.declared.command.Command.TheVariants.{Lab, Show}
@@ -16,16 +16,15 @@ use Rattle.isis_daemon.specs.ShowText.{shown_text}
 abbrev pub input_limit : ℕ
 input_limit = 16777216
 
--- the text that a command makes of an input, or what refuses it: of a script its report, and of other input the fields
--- of its PDUs
-abbrev pub text_of : Command → List ℕ → Result (List ℕ) ScriptFault
-text_of Lab input = script_of input >>= λ script. report_of script
-text_of Show input = Ok (shown_text input)
+-- a text is what a command makes of an input: of a script its report, and of other input the fields of its PDUs
+abbrev pub IsTextOf : Command → List ℕ → List ℕ → Type 0
+IsTextOf Lab input text = IsOkAnd (script_of input) (λ script. IsReport script text)
+IsTextOf Show input text = text ≡ shown_text input
 
--- the text, where there is one
-abbrev pub told_text : Result (List ℕ) ScriptFault → List ℕ
-told_text (Ok text) = text
-told_text (Err fault) = []
+-- what a command comes to: an end, or what refuses its input
+abbrev pub outcome : Command → List ℕ → Result (Unit {0}) ScriptFault
+outcome Lab input = script_of input >>= λ script. outcome_of script
+outcome Show input = Ok tt
 
 -- the input wasn't too long, and was read to its end
 abbrev pub IsReadWhole : List ℕ → Option (List ℕ) → Type 0
@@ -36,24 +35,24 @@ IsReadWhole input left = (length input ≤ input_limit) × (left ≡ Some [])
 abbrev pub Ends : Command → (input left before now : Option (List ℕ)) → Status → Type 0
 Ends command input left before now status.Done =
     IfSome input (λ octets. IsReadWhole octets left
-    × IsOkAnd (text_of command octets) (Wrote before now))
+    × ((text : List ℕ) × IsTextOf command octets text × Wrote before now text))
 Ends command input left before now status.Usage = ⊥
 Ends command input left before now (status.ScriptRefused line reason) =
     (command ≡ Lab)
     × IfSome input (λ octets. IsReadWhole octets left
-    × (text_of command octets ≡ Err (Refused line reason))) × TellsSame before now
+    × (outcome command octets ≡ Err (Refused line reason))) × TellsSame before now
 Ends command input left before now status.ReadFault = TellsSame before now
 Ends command input left before now status.WriteFault =
     IfSome input (λ octets. IsReadWhole octets left
-    × IsOkAnd (text_of command octets) (WrotePrefix before now))
+    × WrotePart (IsTextOf command octets) before now)
 Ends command input left before now status.TooLong =
     IfSome input (λ octets. input_limit < length octets) × TellsSame before now
 Ends command input left before now status.OutOfMemory =
-    IfSome input (λ octets. WrotePrefix before now (told_text (text_of command octets)))
+    IfSome input (λ octets. TellsSame before now ⊎ WrotePart (IsTextOf command octets) before now)
 Ends command input left before now (status.LabLimit which) =
     (command ≡ Lab)
     × IfSome input (λ octets. IsReadWhole octets left
-    × (text_of command octets ≡ Err (Limit which))) × TellsSame before now
+    × (outcome command octets ≡ Err (Limit which))) × TellsSame before now
 
 -- of the script that an input is read as, the claim of links after each of its events
 abbrev pub IsClaimedInput : List ℕ → Type 0
@@ -61,7 +60,7 @@ IsClaimedInput input = IsOkAnd (script_of input) IsClaimedScript
 
 -- an input that a command takes to its end
 abbrev pub IsTaken : Command → List ℕ → Type 0
-IsTaken command input = (length input ≤ input_limit) × IsOk (text_of command input)
+IsTaken command input = (length input ≤ input_limit) × IsOk (outcome command input)
 
 -- done, or there was no memory for it
 abbrev pub IsDoneUnlessMemory : Status → Type 0

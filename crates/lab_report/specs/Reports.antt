@@ -1,12 +1,16 @@
 -- The report of a network of routers (own).
-use Rattle.std.specs.Prelude.{ℕ, ◌+◌, Bool, List, [], ◌∷◌, ◌++◌, length, Option, Some, None, codes, decimal, if◌then◌else◌}
+use Rattle.std.specs.Prelude.{◌≡◌, ℕ, ◌+◌, Bool, List, [], ◌∷◌, ◌++◌, length, Option, Some, None, codes, decimal, if◌then◌else◌}
 use Rattle.std.specs.List.{flat_map}
+use Rattle.std.specs.Option.{unwrap_or}
 use Rattle.isis_base.specs.Texts.{hex_pair}
 use Rattle.isis_base.specs.declared.level.Level.{Level}
 use Rattle.isis_base.specs.declared.level.Level.TheVariants as level
 use Rattle.isis_model.specs.Places.{nth}
 use Rattle.isis_model.specs.Routers.{Router}
 use Rattle.network_model.specs.Networks.{numbered}
+use Rattle.route_table.specs.declared.route.Route.{Route}
+use Rattle.router_routes.specs.Outlooks.{outlook_of}
+use Rattle.router_routes.specs.Candidates.{AreRoutesOf}
 use Rattle.network_lab.specs.declared.sent.SentDatagram.{SentDatagram}
 use Rattle.network_lab.specs.LabNets.{Seen}
 use Rattle.network_lab.specs.LinkStates.{runs_of, groups_at}
@@ -18,15 +22,25 @@ head_line = codes "isis-report 1\n"
 
 -- ---- routers and links
 
-abbrev pub router_block : List ℕ → Option Router → List ℕ
-router_block name None = []
-router_block name (Some r) = router_lines name r
+-- the routes of a router, by its number, where each router's are listed
+abbrev pub routes_at : List (List Route) → ℕ → List Route
+routes_at routes router = unwrap_or (nth routes router) []
+
+-- a list holds the routes of each router (RFC 5302 3.2)
+abbrev pub AreAllRoutes : List Router → List (List Route) → Type 0
+AreAllRoutes routers routes = (i : ℕ) (r : Router) → nth routers i ≡ Some r
+    → AreRoutesOf (outlook_of r) (routes_at routes i)
+
+abbrev pub router_block : List ℕ → Option Router → List Route → List ℕ
+router_block name None routes = []
+router_block name (Some r) routes = router_lines name r routes
 
 -- the blocks of the routers from this number on, whose names these are
-abbrev pub router_blocks : Seen → ℕ → List (List ℕ) → List ℕ
-router_blocks s router [] = []
-router_blocks s router (name ∷ names) =
-    router_block name (nth s.routers router) ++ router_blocks s (router + 1) names
+abbrev pub router_blocks : Seen → List (List Route) → ℕ → List (List ℕ) → List ℕ
+router_blocks s routes router [] = []
+router_blocks s routes router (name ∷ names) =
+    router_block name (nth s.routers router) (routes_at routes router)
+    ++ router_blocks s routes (router + 1) names
 
 -- the lines of the links from this number on, whose names these are
 abbrev pub link_blocks : Seen → ℕ → List (List ℕ) → List ℕ
@@ -83,9 +97,9 @@ datagram_lines routers links s (number ∷ numbers) =
 
 -- ---- the whole
 
--- the report of a network whose routers and links have these names, with the datagrams of these
--- numbers
-abbrev pub report_text : List (List ℕ) → List (List ℕ) → List ℕ → Seen → List ℕ
-report_text routers links dumps s =
-    head_line ++ (router_blocks s 0 routers ++ (link_blocks s 0 links
+-- the report of a network whose routers and links have these names and whose routers these routes,
+-- with the datagrams of these numbers
+abbrev pub report_text : List (List ℕ) → List (List ℕ) → List ℕ → List (List Route) → Seen → List ℕ
+report_text routers links dumps routes s =
+    head_line ++ (router_blocks s routes 0 routers ++ (link_blocks s 0 links
     ++ (net_lines s ++ datagram_lines routers links s dumps)))

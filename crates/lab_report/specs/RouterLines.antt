@@ -15,6 +15,8 @@ use Rattle.isis_model.specs.LetGos.{LetGo}
 use Rattle.isis_model.specs.Drops.{drops_of, drop_word}
 use Rattle.isis_model.specs.Routers.{Router, level_of, book_of}
 use Rattle.isis_datagram.specs.Numbers.{system_id, lsp_id}
+use Rattle.route_table.specs.declared.route.Route.{Route}
+use Rattle.lab_report.specs.RouteLines.{route_line}
 
 -- `router NAME SYSTEM boot B`
 unfoldable pub router_words : List ℕ → SystemId → ℕ → List ℕ
@@ -83,8 +85,8 @@ causes =
     ∷ drop.NoLevel ∷ drop.NoArea ∷ drop.NoThreeWay ∷ drop.OtherNeighbour ∷ drop.TooMany
     ∷ drop.NoAdjacency ∷ drop.NotDesignated ∷ drop.StoreFull ∷ []
 
--- a router's block
-unfoldable pub router_lines : List ℕ → Router → List ℕ
-router_lines name r =
+-- a router's block, with its routes
+unfoldable pub router_lines : List ℕ → Router → List Route → List ℕ
+router_lines name r routes =
     router_line name r ++ (level_lines name r level.One ++ (level_lines name r level.Two
-    ++ flat_map (drop_line name r) causes))
+    ++ (flat_map (route_line name) routes ++ flat_map (drop_line name r) causes)))

@@ -4,6 +4,7 @@ ghost use Rattle.isis_base.specs.declared.level.Level.TheVariants as level;
 ghost use Rattle.network_lab.specs.LinkStates.{groups_at};
 
 use network_lab::Network;
+use route_table::Routes;
 
 /// How many groups agree at each level.
 #[derive(Clone, Copy, Debug, PartialEq, Eq)]
@@ -20,6 +21,8 @@ pub struct LabReport<'n, 't> {
     pub(crate) routers: &'t [&'t str],
     pub(crate) links: &'t [&'t str],
     pub(crate) groups: GroupCounts,
+    /// The routes of each router.
+    pub(crate) routes: Vec<&'n Routes>,
     /// The head, where it is still to come.
     pub(crate) head: &'static [u8],
     /// The number of the next router, and the names from it on.
@@ -36,6 +39,7 @@ pub struct LabReport<'n, 't> {
     pub(crate) ghost some_links: { link + length link_names.now ≤ length net.now.seen.links },
     pub(crate) ghost few_routers: { router + length router_names.now ≤ 1024 },
     pub(crate) ghost few_links: { link + length link_names.now ≤ 4096 },
+    pub(crate) ghost told: { length routes.items ≡ length net.now.seen.routers },
     pub(crate) ghost one: { groups.one ≡ length (groups_at net.now.seen level.One) },
     pub(crate) ghost two: { groups.two ≡ length (groups_at net.now.seen level.Two) },
 }

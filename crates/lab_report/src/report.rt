@@ -7,8 +7,8 @@ ghost use Rattle.network_model.specs.Networks.{numbered};
 ghost use Rattle.network_lab.specs.LinkStates.{runs_of, groups_at};
 ghost use Rattle.lab_report.specs.LinkLines.{agree_line};
 ghost use Rattle.lab_report.specs.Reports as lines;
-ghost use Rattle.lab_report.specs.Reports.{report_text};
-ghost use Rattle.lab_report.specs.ReportLeft.{texts, lines_left, calls_left};
+ghost use Rattle.lab_report.specs.Reports.{AreAllRoutes, report_text};
+ghost use Rattle.lab_report.specs.ReportLeft.{texts, routes_of, lines_left, calls_left};
 
 use crate::left::{GroupCounts, LabReport};
 use crate::link_lines::{add_link, runs};
@@ -16,11 +16,14 @@ use crate::router_lines::{add_router, level_word};
 use isis_base::{Level, Octets, OutOfMemory, add_hex, add_number};
 use isis_edge::Text;
 use network_lab::Network;
+use route_table::Routes;
+use std::alloc::Global;
 
 impl<'n, 't> LabReport<'n, 't> {
     /// The report of a network whose routers and links have these names, with the datagrams of
     /// these numbers.
     pub fn new(
+        alloc: Global,
         net: &'n Network,
         routers: &'t [&'t str],
         links: &'t [&'t str],
@@ -30,9 +33,12 @@ impl<'n, 't> LabReport<'n, 't> {
         requires links { length links.now ≤ length net.now.seen.links }
         requires few_routers { length routers.now ≤ 1024 }
         requires few_links { length links.now ≤ 4096 }
-        ensures { IfOk result (λ report. lines_left report ≡ report_text (texts routers.now)
-            (texts links.now) dumps.now net.now.seen) }
+        ensures text { IfOk result (λ report. lines_left report ≡ report_text (texts routers.now)
+            (texts links.now) dumps.now (routes_of report.routes.items) net.now.seen) }
+        ensures routes { IfOk result (λ report.
+            AreAllRoutes net.now.seen.routers (routes_of report.routes.items)) }
     {
+        let routes = routes_of(alloc, net)?;
         let groups = GroupCounts {
             one: group_count(net, Level::One)?,
             two: group_count(net, Level::Two)?,
@@ -42,6 +48,7 @@ impl<'n, 't> LabReport<'n, 't> {
             routers,
             links,
             groups,
+            routes,
             head: b"isis-report 1\n",
             router: 0,
             router_names: routers,
@@ -62,7 +69,7 @@ impl<'n, 't> Text for LabReport<'n, 't> {
         page.extend(self.head)?;
         self.head = b"";
         if let [name, others @ ..] = self.router_names {
-            add_router(page, name, self.net.router(self.router))?;
+            add_router(page, name, self.net.router(self.router), self.routes[self.router].list())?;
             self.router += 1;
             self.router_names = others;
             return Ok(true);
@@ -85,6 +92,21 @@ impl<'n, 't> Text for LabReport<'n, 't> {
         }
         Ok(false)
     }
+}
+
+/// The routes of each router.
+fn routes_of<'n>(alloc: Global, net: &'n Network) -> Result<Vec<&'n Routes>, OutOfMemory>
+    ensures all { IfOk result (λ routes. AreAllRoutes net.now.seen.routers (routes_of routes.items)) }
+    ensures count { IfOk result (λ routes. length routes.items ≡ length net.now.seen.routers) }
+{
+    let mut routes = Vec::new(alloc);
+    for router in 0..net.routers() {
+        match routes.push(net.router(router).routes()) {
+            Ok(()) => {}
+            Err(_) => return Err(OutOfMemory),
+        }
+    }
+    Ok(routes)
 }
 
 /// In how many groups the routers of a level agree.

@@ -9,24 +9,33 @@ ghost use Rattle.flag_sync.specs.BookStates.{book_of};
 ghost use Rattle.flag_sync.specs.Walks.{numbers_of};
 ghost use Rattle.lab_report.specs.RouterLines as lines;
 
+use crate::route_lines::add_routes;
 use flag_sync::Book;
 use isis_base::{
     Key, Level, LspId, Octets, OutOfMemory, SystemId, add_lsp_id, add_number, add_system_id,
 };
 use lsp_octets::laws::id_law;
 use purge_ageing::LetGo;
+use route_table::Route;
 use router_core::Router;
 use router_desk::DropName;
 
-/// Adds a router's block: its system and boot, the LSPs that it holds, those that it let go, and
-/// what it dropped.
+/// Adds a router's block: its system and boot, the LSPs that it holds, those that it let go, its
+/// routes, and what it dropped.
 #[tactic(auto, unfolding(crate::specs::RouterLines::router_lines))]
-pub(crate) fn add_router(page: &mut Octets, name: &str, router: &Router) -> Result<(), OutOfMemory>
-    ensures { OnOk result (page.new ≡ page.old ++ lines.router_lines name.now router.now) }
+pub(crate) fn add_router(
+    page: &mut Octets,
+    name: &str,
+    router: &Router,
+    routes: &[Route],
+) -> Result<(), OutOfMemory>
+    ensures { OnOk result (page.new
+        ≡ page.old ++ lines.router_lines name.now router.now routes.now) }
 {
     add_router_line(page, name, router)?;
     add_level(page, name, router, Level::One)?;
     add_level(page, name, router, Level::Two)?;
+    add_routes(page, name, routes)?;
     add_drops(page, name, router)
 }
 

@@ -1,5 +1,5 @@
 -- The run of a keys script: its network, its events one after another, and its report (own).
-use Rattle.std.specs.Prelude.{ℕ, List, [], ◌∷◌, length, Result, Ok, Err, if◌then◌else◌}
+use Rattle.std.specs.Prelude.{ℕ, List, [], ◌∷◌, length, Result, Ok, Err, if◌then◌else◌, tt}
 use Rattle.network_lab.specs.KeysNet.{Net, empty_net, with_link, with_copy, with_pass, is_at}
 use Rattle.lab_script.specs.declared.events.EventLine.{EventLine}
 use Rattle.lab_script.specs.declared.events.KeyEvent.{KeyEvent}
@@ -44,3 +44,7 @@ end_of script = play_all (laid_out script) script.events
 -- the report of a keys script, or the line that is refused
 abbrev pub keys_report : KeysScript → Result (List ℕ) ScriptFault
 keys_report script = end_of script >>= λ net. Ok (report_of_net script.routers net)
+
+-- what a keys script comes to: an end, or the line that is refused
+abbrev pub keys_outcome : KeysScript → Result (Unit {0}) ScriptFault
+keys_outcome script = end_of script >>= λ net. Ok tt

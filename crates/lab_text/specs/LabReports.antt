@@ -1,26 +1,38 @@
 -- The report of a lab script (own).
-use Rattle.std.specs.Prelude.{◌≡◌, ℕ, List, Result, Ok, Err}
+use Rattle.std.specs.Prelude.{◌≡◌, ℕ, List, Result, Ok, Err, Unit, tt}
+use Rattle.route_table.specs.declared.route.Route.{Route}
+use Rattle.network_model.specs.Networks.{Network}
 use Rattle.network_lab.specs.LabNets.{Seen, LabNet, seen_of}
 use Rattle.lab_script.specs.declared.reason.ScriptFault.{ScriptFault}
 use Rattle.lab_script.specs.declared.reason.ScriptFault.TheVariants.{Refused, Limit, OutOfMemory}
 use Rattle.lab_script.specs.LabScripts.{LabScript, router_names, link_names}
 use Rattle.lab_script.specs.Scripts.{◌>>=◌}
-use Rattle.lab_report.specs.Reports.{report_text}
+use Rattle.lab_report.specs.Reports.{AreAllRoutes, report_text}
 use Rattle.lab_play.specs.LabRuns.{end_of, dumps_of}
 
--- the report of what is seen of a network by a script's names, with the datagrams that its lines tell
-unfoldable pub report_by : LabScript → Seen → List ℕ
-report_by script seen =
+-- the report of what is seen of a network by a script's names, with these routes of its routers and
+-- the datagrams that its lines tell
+unfoldable pub report_by : LabScript → List (List Route) → Seen → List ℕ
+report_by script routes seen =
     report_text (router_names script.routers) (link_names script.links) (dumps_of script.lines)
-    seen
+    routes seen
 
--- the report of the network at the end of a lab script, or what refuses it while it runs
-abbrev pub lab_report : LabScript → Result (List ℕ) ScriptFault
-lab_report script = end_of script >>= λ net. Ok (report_by script (seen_of net))
+-- a text is the report of the network at the end of a lab script, with its routers' routes
+pub record IsLabReport (script : LabScript) (text : List ℕ) : Type 0 where
+  pub net : Network
+  pub ends : end_of script ≡ Ok net
+  pub routes : List (List Route)
+  pub are_all : AreAllRoutes net.routers routes
+  pub text_is : text ≡ report_by script routes (seen_of net)
 
--- a network has the script's report, unless there was no memory for it
+-- what a lab script comes to: an end, or what refuses it while it runs
+abbrev pub lab_outcome : LabScript → Result (Unit {0}) ScriptFault
+lab_outcome script = end_of script >>= λ net. Ok tt
+
+-- a network is seen as the one at the end of the script is, unless there was no memory for it
 abbrev pub Tells : LabScript → Result LabNet ScriptFault → Type 0
-Tells script (Ok net) = lab_report script ≡ Ok (report_by script net.seen)
+Tells script (Ok net) =
+    (end : Network) × (end_of script ≡ Ok end) × (seen_of end ≡ net.seen)
 Tells script (Err OutOfMemory) = Unit {0}
-Tells script (Err (Refused line reason)) = lab_report script ≡ Err (Refused line reason)
-Tells script (Err (Limit which)) = lab_report script ≡ Err (Limit which)
+Tells script (Err (Refused line reason)) = lab_outcome script ≡ Err (Refused line reason)
+Tells script (Err (Limit which)) = lab_outcome script ≡ Err (Limit which)

@@ -3,11 +3,12 @@ ghost use Rattle.std.specs.Prelude.{◌≡◌, ◌≤◌, ◌++◌, ℕ, List, l
 ghost use Rattle.isis_edge.specs.Faults.{Rose};
 ghost use Rattle.lab_script.specs.LabScripts.{router_names, link_names};
 ghost use Rattle.lab_script.specs.Words.{texts};
-ghost use Rattle.lab_report.specs.ReportLeft.{lines_left};
+ghost use Rattle.lab_report.specs.ReportLeft.{routes_of, lines_left};
+ghost use Rattle.lab_report.specs.Reports.{AreAllRoutes};
 ghost use Rattle.lab_play.specs.LabRuns as run;
 ghost use Rattle.lab_play.specs.Played.{ends_of};
 ghost use Rattle.lab_play.specs.Claimed.{IsClaimedRun};
-ghost use Rattle.lab_text.specs.LabReports.{lab_report, report_by, Tells};
+ghost use Rattle.lab_text.specs.LabReports.{IsLabReport, lab_outcome, report_by, Tells};
 ghost use Rattle.lab_text.specs.Runs.{ReportEnds};
 
 use crate::fault::RunFault;
@@ -25,7 +26,8 @@ pub(crate) fn run_lab<O: Sink>(
     script: &LabScript<'_>,
     out: &mut O,
 ) -> Result<(), RunFault>
-    ensures ends { ReportEnds (lab_report script.now) (O.held out.old) (O.held out.new) result }
+    ensures ends { ReportEnds (IsLabReport script.now) (lab_outcome script.now) (O.held out.old)
+        (O.held out.new) result }
     ensures claimed { OnOk result (IsClaimedRun script.now) }
     ensures cause { result ≡ Err RunFault.Write → Rose (O.faults out.old) (O.faults out.new) }
     ensures later { O.faults out.old ≤ O.faults out.new }
@@ -38,7 +40,7 @@ pub(crate) fn run_lab<O: Sink>(
         Ok(dumps) => dumps,
         Err(OutOfMemory) => return Err(RunFault::OutOfMemory),
     };
-    let mut report = match begin(&net, script, &dumps) {
+    let mut report = match begin(alloc, &net, script, &dumps) {
         Ok(report) => report,
         Err(OutOfMemory) => return Err(RunFault::OutOfMemory),
     };
@@ -63,6 +65,7 @@ fn play_lab(alloc: Global, script: &LabScript<'_>) -> Result<Network, ScriptFaul
 /// The report of a network that a script laid out, of which nothing is written yet.
 #[tactic(auto, unfolding(crate::specs::LabReports::report_by))]
 fn begin<'n>(
+    alloc: Global,
     net: &'n Network,
     script: &'n LabScript<'_>,
     dumps: &'n [usize],
@@ -70,9 +73,12 @@ fn begin<'n>(
     requires routers { length net.now.seen.routers ≡ length script.now.routers }
     requires links { net.now.seen.links ≡ map ends_of script.now.links }
     requires dumps { dumps.now ≡ run.dumps_of script.now.lines }
-    ensures { IfOk result (λ report. lines_left report ≡ report_by script.now net.now.seen) }
+    ensures text { IfOk result (λ report. lines_left report
+        ≡ report_by script.now (routes_of report.routes.items) net.now.seen) }
+    ensures routes { IfOk result (λ report.
+        AreAllRoutes net.now.seen.routers (routes_of report.routes.items)) }
 {
-    LabReport::new(net, router_names_of(script), link_names_of(script), dumps)
+    LabReport::new(alloc, net, router_names_of(script), link_names_of(script), dumps)
 }
 
 /// The routers' names.

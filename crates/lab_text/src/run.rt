@@ -4,8 +4,9 @@ ghost use Rattle.std.specs.List.{AllByRecursion};
 ghost use Rattle.isis_edge.specs.Faults.{Rose};
 ghost use Rattle.network_lab.specs.KeysNet.{with_link};
 ghost use Rattle.lab_script.specs.Gives.{Gives, Answers};
-ghost use Rattle.lab_text.specs.KeysRuns.{routers_only, with_links, laid_out, play_line, play_all, end_of, keys_report};
-ghost use Rattle.lab_text.specs.Runs.{ReportEnds, RunEnds};
+ghost use Rattle.lab_text.specs.KeysRuns.{routers_only, with_links, laid_out, play_line, play_all, end_of, keys_outcome};
+ghost use Rattle.lab_script.specs.declared.script.Script.TheVariants.{Keys};
+ghost use Rattle.lab_text.specs.Runs.{IsReport, ReportEnds, RunEnds};
 ghost use Rattle.lab_text.specs.Claimed.{IsClaimedScript};
 ghost use Rattle.lab_text.specs.KeysInNet.{IsInNet, AreInNet, IsLaidOut};
 
@@ -37,7 +38,8 @@ pub fn run_script<O: Sink>(alloc: Global, script: &Script<'_>, out: &mut O) -> R
 
 /// Runs a keys script and writes its whole report.
 fn run_keys<O: Sink>(alloc: Global, script: &KeysScript<'_>, out: &mut O) -> Result<(), RunFault>
-    ensures ends { ReportEnds (keys_report script.now) (O.held out.old) (O.held out.new) result }
+    ensures ends { ReportEnds (IsReport (Keys script.now)) (keys_outcome script.now) (O.held out.old)
+        (O.held out.new) result }
     ensures cause { result ≡ Err RunFault.Write → Rose (O.faults out.old) (O.faults out.new) }
     ensures later { O.faults out.old ≤ O.faults out.new }
 {
