@@ -5,6 +5,7 @@ usage: script.py grid N          N x N routers of level 1, each with a prefix, `
        script.py datagrams N     two routers; one acknowledges a purge that it doesn't hold again and again, so that N datagrams are sent
        script.py seconds N       two routers, N seconds by lines `run`
        script.py hellos N        two routers; one takes the same hello N times
+       script.py wide N         1,024 routers and 4,089 links; one takes the same hello N times
        script.py refused N       the same text, but its first event line is refused, so that it is read and nothing is played
 """
 import sys
@@ -51,6 +52,16 @@ def hellos(n):
     yield "deliver 3 B\n" * n
 
 
+def wide(n):
+    for router in range(1024):
+        yield f"router r{router} 0000.0000.{router + 1:04x} 49.0001 L1\n"
+    for step in range(1, 5):
+        for router in range(1022):
+            yield f"link l{step}x{router} r{router} r{(router + step) % 1022} 10\n"
+    yield "link X r1022 r1023 10\npull r1022 X\ndeliver 1 r1023\npull r1023 X\ndeliver 2 r1022\npull r1022 X\n"
+    yield "deliver 3 r1023\n" * n
+
+
 def refused(n):
     yield PAIR + "deliver 0 B\n"
     yield "deliver 3 B\n" * n
@@ -58,7 +69,7 @@ def refused(n):
 
 def main():
     kind, count = sys.argv[1:]
-    made = {"grid": grid, "datagrams": datagrams, "seconds": seconds, "hellos": hellos, "refused": refused}[kind]
+    made = {"grid": grid, "datagrams": datagrams, "seconds": seconds, "hellos": hellos, "wide": wide, "refused": refused}[kind]
     sys.stdout.write("isis-lab 1\n")
     sys.stdout.writelines(made(int(count)))
 
