@@ -9,7 +9,10 @@ use Rattle.router_desk.specs.Configs.{prefix_number}
 use Rattle.router_core.specs.Events.{FitsPrefix}
 use Rattle.router_core.specs.Givens.{given}
 use Rattle.network_model.specs.declared.end.End.{End}
-use Rattle.network_model.specs.Networks.{Datagram, Taking, Network, numbered}
+use Rattle.network_model.specs.Networks.{Datagram, octets_of, Network, place_in, place_at, numbered}
+use Rattle.network_model.specs.Ports.{Port}
+use Rattle.network_model.specs.Links.{LinkHolds}
+use Rattle.network_model.specs.Kept.{IsEnd, IsPointLink, IsKeptNet}
 use Rattle.network_model.specs.Runs.{Happening, run}
 use Rattle.network_model.specs.RunLines.{run_line}
 use Rattle.network_model.specs.LineEvents.{line_events}
@@ -22,7 +25,7 @@ use Rattle.network_lab.specs.declared.event.LabEvent.TheVariants as event
 use Rattle.network_lab.specs.LabNets.{Seen, LabNet, StandsFor, sent_of, seen_of}
 use Rattle.network_lab.specs.LabEvents.{refusal, after, past_boots, unless_changes}
 use Rattle.network_lab.specs.LinkStates.{AreWithin}
-use Rattle.network_lab.specs.Reached.{IsReachedNet, HasRun, AreSmall, AreFitting}
+use Rattle.network_lab.specs.Reached.{AreInRun, IsReachedNet, HasRun, AreSmall, AreFitting}
 use Rattle.network_lab.proofs.EventLemmas.{fits-change}
 use Rattle.network_lab.proofs.ReachedLemmas.{small-octets}
 use Rattle.network_lab.proofs.AlongLemmas.{claimed-along, calm-fits, fits-append}
@@ -126,38 +129,43 @@ no-datagrams : (ds : List Datagram) → map sent_of ds ≡ [] → ds ≡ []
 no-datagrams [] e = refl
 no-datagrams (d ∷ ds) e = absurd (cc)
 
--- what is kept says nothing of the states that routers were in, nor of what they took
-reached-cleared : (n : Network) (past : List Router) (takings : List Taking) → IsReachedNet n → IsReachedNet (record n { past = past; takings = takings })
-reached-cleared n past takings h = record {
-  routers = h.routers;
-  kept = record {
-    wired = record { once = h.kept.wired.once };
-    speaking = h.kept.speaking;
-    following = h.kept.following;
-    octets = h.kept.octets;
-    holds = λ i e f link p.
-        let q = h.kept.holds i e f link (record {
-          joins = record { ends = p.joins.ends; apart = p.joins.apart };
-          near = record { a = p.near.a; at_a = p.near.at_a; system = p.near.system; point = p.near.point };
-          far = record { a = p.far.a; at_a = p.far.at_a; system = p.far.system; point = p.far.point };
-        }) in
-        record { a = q.a; b = q.b; at_a = q.at_a; at_b = q.at_b; holds = q.holds };
-  };
+-- what is kept of a network looks at its routers, links and datagrams, and at how many were injected
+end-as : (net other : Network) (e : Port) → other.routers ≡ net.routers → IsEnd other e → IsEnd net e
+end-as net other e r x = record { a = x.a; at_a = ap (λ (rs : List Router). nth rs e.router) (sym r) ∙ x.at_a; system = x.system; point = x.point }
+
+link-as : (net other : Network) (e f : Port) (link : ℕ) → other.routers ≡ net.routers → other.links ≡ net.links → IsPointLink other e f link → IsPointLink net e f link
+link-as net other e f link r l p = record {
+  joins = record { ends = ap (λ (ls : List (List End)). nth ls link) (sym l) ∙ p.joins.ends; apart = p.joins.apart };
+  near = end-as net other e r p.near;
+  far = end-as net other f r p.far;
 }
 
-net-same : (n : Network) (rs : List Router) (ls : List (List End)) → n.past ≡ [] → n.takings ≡ [] → n.routers ≡ rs → n.links ≡ ls → n.datagrams ≡ [] → n.injected ≡ 0 → n ≡ record { routers = rs; links = ls; datagrams = []; injected = 0; past = []; takings = [] }
-net-same n rs ls p t a b c d =
-    ap (λ (x : List Router). record n { routers = x }) a
-    ∙ (ap (λ (x : List (List End)). record n { routers = rs; links = x }) b
-    ∙ (ap (λ (x : List Datagram). record n { routers = rs; links = ls; datagrams = x }) c
-    ∙ (ap (λ (x : ℕ). record n { routers = rs; links = ls; datagrams = []; injected = x }) d
-    ∙ (ap (λ (x : List Router). record n { routers = rs; links = ls; datagrams = []; injected = 0; past = x }) p
-    ∙ ap (λ (x : List Taking). record { routers = rs; links = ls; datagrams = []; injected = 0; past = []; takings = x }) t))))
+kept-as : (net other : Network) → other.routers ≡ net.routers → other.links ≡ net.links → other.datagrams ≡ net.datagrams → other.injected ≡ net.injected → IsKeptNet net → IsKeptNet other
+kept-as net other r l d n k = record {
+  wired = record { once = λ link more router place x y. k.wired.once link more router place (on link router ∙ x) (on more router ∙ y) };
+  speaking = λ i a e. k.speaking i a (ap (λ (rs : List Router). nth rs i) (sym r) ∙ e);
+  following = λ i a e. k.following i a (ap (λ (rs : List Router). nth rs i) (sym r) ∙ e);
+  octets = subst (λ (ds : List Datagram). AllByRecursion (λ (x : Datagram). AllByRecursion (λ octet. octet < 256) (octets_of x)) ds) (sym d) k.octets;
+  holds = λ none e f link p.
+      let h = k.holds (sym n ∙ none) e f link (link-as net other e f link r l p) in
+      record {
+        a = h.a;
+        b = h.b;
+        at_a = ap (λ (rs : List Router). nth rs e.router) r ∙ h.at_a;
+        at_b = ap (λ (rs : List Router). nth rs f.router) r ∙ h.at_b;
+        holds = subst (λ (ds : List Datagram). LinkHolds e f link h.a h.b ds) (sym d) h.holds;
+      };
+}
+  where
+    on : (link router : ℕ) → place_at net link router ≡ place_at other link router
+    on link router = ap (λ (ls : List (List End)). place_in (nth ls link) router) (sym l)
 
 start-reached : (a : LabNet) → StandsFor (opened a) a → HasRun a.seen → IsReachedNet (opened a)
-start-reached a s h =
-    subst IsReachedNet (net-same (record h.net { past = []; takings = [] }) a.seen.routers a.seen.links refl refl (ap (λ (x : Seen). x.routers) h.seen) (ap (λ (x : Seen). x.links) h.seen)
-    (no-datagrams h.net.datagrams (ap (λ (x : Seen). x.sent) (h.seen ∙ sym s.seen))) (ap (λ (x : Seen). x.injected) (h.seen ∙ sym s.seen))) (reached-cleared h.net [] [] h.reached)
+start-reached a s h = record {
+  routers = subst AreInRun (ap (λ (x : Seen). x.routers) h.seen) h.reached.routers;
+  kept = kept-as h.net (opened a) (ap (λ (x : Seen). x.routers) (sym h.seen)) (ap (λ (x : Seen). x.links) (sym h.seen))
+      (sym (no-datagrams h.net.datagrams (ap (λ (x : Seen). x.sent) (h.seen ∙ sym s.seen)))) (sym (ap (λ (x : Seen). x.injected) (h.seen ∙ sym s.seen))) h.reached.kept;
+}
 
 -- ---- the script
 

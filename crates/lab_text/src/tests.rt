@@ -2,7 +2,9 @@
 mod labs;
 
 use super::*;
+use isis_base::Level;
 use isis_edge::MemorySink;
+use lab_play::play;
 use network_lab::LimitName;
 use std::alloc::Global;
 use std::test::Fail;
@@ -139,4 +141,104 @@ fn reasons_print_their_words(rt: HostRuntime) -> Result<(), Fail> {
     let limit = ScriptFault::Limit(LimitName::Links);
     assert_eq!(rt; RunFault::from(limit), RunFault::Limit(LimitName::Links));
     Ok(())
+}
+
+/// Two routers that a link joins.
+const START: &str =
+    "isis-lab 1\nrouter A 0000.0000.0001 49.0001 L1\nrouter B 0000.0000.0002 49.0001 L1\nlink X A B 10\n";
+
+/// Three seconds of them, event by event.
+const SECONDS: [&str; 22] = [
+    "tick A\n",
+    "tick B\n",
+    "pull A X\n",
+    "deliver 1 B\n",
+    "pull B X\n",
+    "deliver 2 A\n",
+    "tick A\n",
+    "tick B\n",
+    "pull A X\n",
+    "deliver 3 B\n",
+    "deliver 4 B\n",
+    "deliver 5 B\n",
+    "pull B X\n",
+    "deliver 6 A\n",
+    "deliver 7 A\n",
+    "deliver 8 A\n",
+    "deliver 9 A\n",
+    "tick A\n",
+    "tick B\n",
+    "pull A X\n",
+    "deliver 10 B\n",
+    "pull B X\n",
+];
+
+/// The first five datagrams come again, the last one first.
+const LATE: [&str; 5] = [
+    "deliver 5 B\n",
+    "deliver 4 B\n",
+    "deliver 3 B\n",
+    "deliver 2 A\n",
+    "deliver 1 B\n",
+];
+
+#[test]
+fn no_end_is_ahead_past_its_flags(rt: HostRuntime) -> Result<(), Fail> {
+    assert_eq!(rt; first_past(rt.alloc())?, None);
+    Ok(())
+}
+
+/// The first of the 32 subsets of late datagrams after which an end is ahead in more LSP IDs than it has flags.
+fn first_past(alloc: Global) -> Result<Option<u32>, Fail> {
+    let mut text = String::new(alloc);
+    text.push_str(START)?;
+    for line in SECONDS {
+        text.push_str(line)?;
+        if !is_within(alloc, text.as_str()) {
+            return Ok(Some(0));
+        }
+    }
+    for late in 0..32u32 {
+        if !keeps(alloc, text.as_str(), late)? {
+            return Ok(Some(late));
+        }
+    }
+    Ok(None)
+}
+
+/// Whether that never is so as the late datagrams of a subset, a bit for each, come twice.
+fn keeps(alloc: Global, seconds: &str, late: u32) -> Result<bool, Fail> {
+    let mut text = String::new(alloc);
+    text.push_str(seconds)?;
+    let mut left = late;
+    for line in LATE {
+        if left % 2 == 1 && !comes_twice(alloc, &mut text, line)? {
+            return Ok(false);
+        }
+        left /= 2;
+    }
+    Ok(true)
+}
+
+/// Adds a line twice; whether no end is ahead so after either.
+fn comes_twice(alloc: Global, text: &mut String, line: &str) -> Result<bool, Fail> {
+    text.push_str(line)?;
+    let once = is_within(alloc, text.as_str());
+    text.push_str(line)?;
+    Ok(once && is_within(alloc, text.as_str()))
+}
+
+/// Whether a script is played, and its link is down or has no end ahead in more LSP IDs than its flags.
+fn is_within(alloc: Global, text: &str) -> bool {
+    let Ok(Script::Lab(script)) = read_script(alloc, text.as_bytes()) else {
+        return false;
+    };
+    let Ok(net) = play(alloc, &script) else {
+        return false;
+    };
+    if net.links() == 0 {
+        return false;
+    }
+    let state = net.link_state(0, Level::One);
+    !state.up || (state.ahead[0] <= state.flags[0] && state.ahead[1] <= state.flags[1])
 }

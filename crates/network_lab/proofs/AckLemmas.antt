@@ -21,7 +21,7 @@ use Rattle.isis_datagram.specs.Said.{said}
 use Rattle.router_core.specs.Givens.{given}
 use Rattle.router_core.specs.Reached.{IsReached}
 use Rattle.network_model.specs.Networks.{Datagram, octets_of, Network, numbered}
-use Rattle.network_model.specs.Runs.{read_on, taking, Deliver, Arrives, Arrival, arrival, arrive, arrive_at, apply}
+use Rattle.network_model.specs.Runs.{read_on, taking, Deliver, Arrives, Arrival, arrival, arrive, deliver_at, apply}
 use Rattle.network_model.specs.Ports.{Port, In}
 use Rattle.network_model.specs.Kept.{IsPointLink}
 use Rattle.network_model.specs.Speakers.{IsLegible, IsReading}
@@ -134,7 +134,7 @@ ack-clears net e f link n a l h reached none there k t now =
 
     routers_are : nth (arrive given net e.router (arrival net (numbered net.datagrams n) e.router)).routers e.router ≡ nth (with_nth net.routers e.router new) e.router
     routers_are = ap (λ (x : Arrival). nth (arrive given net e.router x).routers e.router) k.arrives
-        ∙ ap (λ (o : Option Router). nth (arrive_at given net e.router d.link e.place (octets_of d) o).routers e.router) k.at
+        ∙ ap (λ (o : Option Router). nth (deliver_at given net e.router d e.place o).routers e.router) k.at
 
     point : is_point (nth a.circuits e.place) ≡ true
     point = subst (λ (x : Router). is_point (nth x.circuits e.place) ≡ true) (some-same there.near.a a (sym there.near.at_a ∙ k.at)) there.near.point

@@ -27,12 +27,12 @@ front (x ∷ xs) ys h = (h.0, front xs ys h.1)
 
 change-before : (net new : Network) → Change given net new → AreOctets new → AreOctets net
 change-before net new (Still _) h = h
-change-before net new (Moved i link event r m) h = front net.datagrams _ h
+change-before net new (Moved i link event r ts m brings) h = front net.datagrams _ h
 change-before net new (Restarted i r q) h = h
 
 change-none : (net new : Network) → Change given net new → new.injected ≡ 0 → net.injected ≡ 0
 change-none net new (Still _) h = h
-change-none net new (Moved i link event r m) h = h
+change-none net new (Moved i link event r ts m brings) h = h
 change-none net new (Restarted i r q) h = h
 
 arrived-before : (net : Network) (i link place : ℕ) (octets : List ℕ) (o : Option Router) → AreOctets (arrive_at given net i link place octets o) → AreOctets net

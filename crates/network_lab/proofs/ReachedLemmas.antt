@@ -23,7 +23,7 @@ use Rattle.router_core.specs.Reached.{IsReached}
 use Rattle.router_core.proofs.NameLemmas.{names-read}
 use Rattle.router_core.proofs.ReachedLemmas.{step-holds, restart-reached}
 use Rattle.network_model.specs.Networks.{Datagram, octets_of, Network, place_at, numbered, restarted}
-use Rattle.network_model.specs.Runs.{read_on, taking, Happening, Tick, PullOn, Deliver, Restart, SetMetric, SetOverload, SetPrefix, Inject, is_injection, moved_if, Arrival, NotSent, Stale, NotOn, Arrives, boot_of, on_place, arrival, arrive, arrive_at, pull_at, restart_at, inject_at, apply}
+use Rattle.network_model.specs.Runs.{read_on, taking, Happening, Tick, PullOn, Deliver, Restart, SetMetric, SetOverload, SetPrefix, Inject, is_injection, moved_if, Arrival, NotSent, Stale, NotOn, Arrives, boot_of, on_place, arrival, arrive, arrive_at, deliver_at, pull_at, restart_at, inject_at, apply}
 use Rattle.network_model.specs.Speakers.{AreSpeaking, AreOctets}
 use Rattle.network_model.specs.Kept.{AreFollowing}
 use Rattle.network_model.proofs.ChangeLemmas.{each-router}
@@ -73,15 +73,15 @@ restart-run : (net : Network) (i : ℕ) (o : Option Router) → nth net.routers 
 restart-run net i None q all fits = all
 restart-run net i (Some r) q all fits = each-router IsInRun net.routers i r (restarted r) q (run-restart r (all i r q) fits) all
 
-arrived-run : (net : Network) (i link place : ℕ) (octets : List ℕ) (o : Option Router) → nth net.routers i ≡ o → AreInRun net.routers → Small octets → AreInRun (arrive_at given net i link place octets o).routers
-arrived-run net i link place octets None q all small = all
-arrived-run net i link place octets (Some r) q all small = each-router IsInRun net.routers i r (step given r (taking r place octets)).router q (run-step r (taking r place octets) (all i r q) (taken-reached r place octets (all i r q).reached small)) all
+delivered-run : (net : Network) (i : ℕ) (d : Datagram) (place : ℕ) (o : Option Router) → nth net.routers i ≡ o → AreInRun net.routers → Small (octets_of d) → AreInRun (deliver_at given net i d place o).routers
+delivered-run net i d place None q all small = all
+delivered-run net i d place (Some r) q all small = each-router IsInRun net.routers i r (step given r (taking r place (octets_of d))).router q (run-step r (taking r place (octets_of d)) (all i r q) (taken-reached r place (octets_of d) (all i r q).reached small)) all
 
 arrive-run : (net : Network) (i : ℕ) (a : Arrival) → AreInRun net.routers → ((d : Datagram) (place : ℕ) → a ≡ Arrives d place → Small (octets_of d)) → AreInRun (arrive given net i a).routers
 arrive-run net i NotSent all small = all
 arrive-run net i (Stale boot) all small = all
 arrive-run net i NotOn all small = all
-arrive-run net i (Arrives d place) all small = arrived-run net i d.link place (octets_of d) (nth net.routers i) refl all (small d place refl)
+arrive-run net i (Arrives d place) all small = delivered-run net i d place (nth net.routers i) refl all (small d place refl)
 
 -- what arrives was sent
 same-arrival : (x d : Datagram) (p q : ℕ) → Arrives x p ≡ Arrives d q → x ≡ d

@@ -19,3 +19,5 @@ pub mod NameLemmas
 pub mod ReachedLemmas
 mod SecondLemmas
 mod QuietLemmas
+pub mod CalmLemmas
+pub mod RouteLemmas

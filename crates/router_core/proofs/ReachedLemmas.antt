@@ -14,7 +14,7 @@ use Rattle.isis_model.specs.Events.{Message, Event, Second, Take, Pull, Metric, 
 use Rattle.isis_model.specs.Good.{IsGoodEvent}
 use Rattle.isis_model.specs.Maps.{find, put}
 use Rattle.isis_model.specs.Places.{nth}
-use Rattle.isis_model.specs.Routers.{Circuit, Router}
+use Rattle.isis_model.specs.Routers.{Circuit, Router, level_of}
 use Rattle.isis_model.specs.Sorted.{RisesFrom, IsSorted}
 use Rattle.isis_model.specs.Starts.{start, started}
 use Rattle.isis_model.specs.Steps.{step}
@@ -43,6 +43,12 @@ use Rattle.router_desk.proofs.ReadingLemmas.{finds-reads}
 use Rattle.router_core.specs.declared.event.NodeEvent.{NodeEvent}
 use Rattle.router_core.specs.declared.event.NodeEvent.TheVariants as event
 use Rattle.router_core.specs.Events.{event_of, Fits, IsThere}
+use Rattle.isis_model.specs.Hearings.{hearing}
+use Rattle.isis_model.specs.ContentLaws.{TellsBoth}
+use Rattle.isis_model.proofs.TellLemmas.{course-tells}
+use Rattle.router_routes.specs.Outlooks.{outlook_of}
+use Rattle.router_core.specs.Calm.{AreBelow, SameCounts, KeepsPrefixes}
+use Rattle.router_core.proofs.RouteLemmas.{step-outlook}
 use Rattle.router_core.specs.Givens.{given, leaks_of, is_attached}
 use Rattle.router_core.specs.Heard.{HasOctets}
 use Rattle.router_core.specs.Reached.{IsReached}
@@ -208,3 +214,12 @@ step-reached r (event.Pull circuit) h fits octets = step-holds r (Pull (circuit 
 step-reached r (event.Change (change.Metric circuit metric)) h fits octets = step-holds r (Metric (circuit - 1) metric) h tt tt tt tt
 step-reached r (event.Change (change.Prefix prefix metric)) h fits octets = step-holds r (Prefix (prefix_number prefix) metric) h tt tt tt fits
 step-reached r (event.Change (change.Overload on)) h fits octets = step-holds r (Overload on) h tt tt tt tt
+
+tells : (r : Router) (event : Event) → TellsBoth given event r (step given r event).router
+tells r event = record { on = λ level. course-tells (hearing given r event level) (level_of r level) (level_of (step given r event).router level) ((step-course given r event).on level) }
+
+-- what routes look at stays where no key and no own prefix changes
+pub outlook-stays : (r : Router) (event : Event) → IsReached r → AreBelow r → SameCounts r (step given r event).router → KeepsPrefixes event → outlook_of (step given r event).router ≡ outlook_of r
+outlook-stays r event h below counts keeps =
+    let s = h.speaking in
+    step-outlook given r event s.sorted (sorted-after r event s.sorted) (tells r event) below counts keeps

@@ -55,7 +55,7 @@ down-rests : (r : Router) → Rests r (count_down r)
 unfolding count_down
 down-rests r = record { config = refl; drops = refl }
 
-second-rests : (given : Given) (r : Router) → Rests r (second given r)
+pub second-rests : (given : Given) (r : Router) → Rests r (second given r)
 unfolding second
 second-rests given r =
     let one = count_down r in
@@ -103,7 +103,7 @@ level-rests s place l =
     (rests-trans csnp.router lsps.router psnp.router (lsps-rests csnp place l) (at-rests lsps place (pull_psnp lsps place l) (psnp-rests lsps place l))))
     (rests-refl s.router)
 
-pull-rests : (r : Router) (place : ℕ) → Rests r (pull r place).router
+pub pull-rests : (r : Router) (place : ℕ) → Rests r (pull r place).router
 unfolding pull
 pull-rests r place =
     let start : Sending = record { router = r; out = [] } in
@@ -139,11 +139,11 @@ drop-rests : (given : Given) (r : Router) (place : ℕ) (c : Circuit) (m : Messa
 drop-rests given r place c m (Some cause) = record { config = refl; drops = with-length r.drops (drop_place cause) (risen (drops_of r.drops cause)) }
 drop-rests given r place c m None = taken-rests given r place c m
 
-take-rests : (given : Given) (r : Router) (place : ℕ) (m : Message) (o : Option Circuit) → Rests r (take given r place m o).router
+pub take-rests : (given : Given) (r : Router) (place : ℕ) (m : Message) (o : Option Circuit) → Rests r (take given r place m o).router
 take-rests given r place m None = rests-refl r
 take-rests given r place m (Some c) = drop-rests given r place c m (drop_of r place c m)
 
-metric-rests : (r : Router) (place metric : ℕ) (o : Option Circuit) → Rests r (with_metric r place metric o)
+pub metric-rests : (r : Router) (place metric : ℕ) (o : Option Circuit) → Rests r (with_metric r place metric o)
 metric-rests r place metric None = rests-refl r
 metric-rests r place metric (Some c) = record { config = refl; drops = refl }
 

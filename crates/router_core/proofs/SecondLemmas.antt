@@ -201,12 +201,12 @@ second-is r one two circuits e f g =
 pub second-of : (r s : Router) (one two : LevelState) (circuits : List Circuit) → s ≡ r → circuits ≡ idle_all r.config 0 (map later r.circuits) → IsLater r level.One r.levels.one one → IsLater r level.Two r.levels.two two → record s { circuits = circuits; levels = record { one = one; two = two } } ≡ (settled (record { router = second given r; reply = Done })).router
 second-of r s one two circuits k e f g = ap (λ (q : Router). record q { circuits = circuits; levels = record { one = one; two = two } }) k ∙ second-is r one two circuits e f g
 
-later-with : (r : Router) (l : Level) (old new : LevelState) (cs : List Circuit) → cs ≡ map later r.circuits → ((before q : Router) → q.config ≡ r.config → q.circuits ≡ cs → new ≡ renew given q l (level_later old l cs) (wanted given before q l)) → IsLater r l old new
-later-with r l old new cs e f q a b = f r q a (b ∙ sym e) ∙ ap (λ (xs : List Circuit). renew given q l (level_later old l xs) (wanted given r q l)) e
+later-with : (r : Router) (l : Level) (old new : LevelState) (cs : List Circuit) → cs ≡ map later r.circuits → ((q : Router) → q.config ≡ r.config → q.circuits ≡ cs → new ≡ renew given q l (level_later old l cs) (wanted given r q l)) → IsLater r l old new
+later-with r l old new cs e f q a b = f q a (b ∙ sym e) ∙ ap (λ (xs : List Circuit). renew given q l (level_later old l xs) (wanted given r q l)) e
 
 -- a level that was made anew, or had its second in place
-pub later-part : (r : Router) (l : Level) (old : LevelState) (part : Option LevelView) (now new : LevelState) (cs ds : List Circuit) → now ≡ old → cs ≡ map later r.circuits → ds ≡ map later r.circuits → new ≡ later_or part (level_later now l ds) → ((before q : Router) → q.config ≡ r.config → q.circuits ≡ cs → later_or part (level_later old l cs) ≡ renew given q l (level_later old l cs) (wanted given before q l)) → IsLater r l old new
-later-part r l old part now new cs ds k e d h f = later-with r l old new cs e (λ before q a b. h ∙ (ap (λ (s : LevelState). later_or part (level_later s l ds)) k ∙ (ap (λ (xs : List Circuit). later_or part (level_later old l xs)) (d ∙ sym e) ∙ f before q a b)))
+pub later-part : (r : Router) (l : Level) (old : LevelState) (part : Option LevelView) (now new : LevelState) (cs ds : List Circuit) → now ≡ old → cs ≡ map later r.circuits → ds ≡ map later r.circuits → new ≡ later_or part (level_later now l ds) → ((q : Router) → q.config ≡ r.config → q.circuits ≡ cs → later_or part (level_later old l cs) ≡ renew given q l (level_later old l cs) (wanted given r q l)) → IsLater r l old new
+later-part r l old part now new cs ds k e d h f = later-with r l old new cs e (λ q a b. h ∙ (ap (λ (s : LevelState). later_or part (level_later s l ds)) k ∙ (ap (λ (xs : List Circuit). later_or part (level_later old l xs)) (d ∙ sym e) ∙ f q a b)))
 
 pub same-count : (cs ds : List Circuit) → map desk_circuit cs ≡ map desk_circuit ds → length cs ≡ length ds
 same-count cs ds e = sym (length-map desk_circuit cs) ∙ (ap length e ∙ length-map desk_circuit ds)

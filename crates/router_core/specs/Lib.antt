@@ -1,6 +1,7 @@
 -- The definitions: what a step is given, what an event and an answer are to the model's router, how
 -- its parts lie, and what always holds.
 pub mod Givens
+pub mod Calm
 pub mod Events
 pub mod Replies
 pub mod Reached

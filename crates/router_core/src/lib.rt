@@ -15,11 +15,13 @@
 //! - `second.rt`, `renewal.rt`, `quiet.rt`: a second
 //! - `pull.rt`, `pull_parts.rt`, `hello_sending.rt`, `sending.rt`: what is due is sent
 //! - `at.rt`: one circuit of a list changes
+//! - `calm.rt`, `routes.rt`: which events leave what routes look at, and the routes after an event
 //! - `reached.rt`: what always holds, as laws
 #![tactic(auto)]
 
 mod asked;
 mod at;
+mod calm;
 mod changes;
 mod datagrams;
 mod event;
@@ -39,6 +41,7 @@ mod reached;
 mod renewal;
 mod reply;
 mod router;
+mod routes;
 mod second;
 mod sending;
 mod snps;

@@ -58,6 +58,42 @@ impl Machine {
     }
 }
 
+impl Machine {
+    /// An equal router.
+    pub(crate) fn copy(&self) -> Result<Machine, OutOfMemory>
+        ensures { IfOk result (λ machine. machine ≡ self.now) }
+    {
+        Ok(Machine {
+            alloc: self.alloc,
+            desk: self.desk.copy()?,
+            areas: self.areas.copy()?,
+            leak: self.leak,
+            overload: self.overload,
+            prefixes: self.prefixes.copy()?,
+            boot: self.boot,
+            circuits: copies_of(self.alloc, &self.circuits)?,
+            one: self.one.copy()?,
+            two: self.two.copy()?,
+            drops: self.drops,
+        })
+    }
+}
+
+/// Equal circuits.
+fn copies_of(alloc: Global, circuits: &[Circuit]) -> Result<Vec<Circuit>, OutOfMemory>
+    ensures { IfOk result (λ list. list.items ≡ circuits.now) }
+{
+    let mut list = Vec::with_capacity(alloc, circuits.len())?;
+    for place in 0..circuits.len() {
+        let circuit = match circuits[place].copy() {
+            Ok(circuit) => circuit,
+            Err(error) => return Err(error),
+        };
+        list.push(circuit)?;
+    }
+    Ok(list)
+}
+
 /// The circuits of a configuration.
 fn circuits_of(alloc: Global, configs: &[CircuitConfig]) -> Result<Vec<Circuit>, OutOfMemory>
     ensures { IfOk result (λ list. list.items ≡ map circuit_of configs.now) }

@@ -7,6 +7,8 @@ ghost use Rattle.router_desk.specs.Desks.{desk_of};
 ghost use Rattle.router_desk.specs.Opening as opening;
 ghost use Rattle.router_desk.specs.Opening.{IsOpenedBy};
 ghost use Rattle.router_reading.specs.Heard.{IsNumbered, message_of};
+ghost use Rattle.router_routes.specs.Outlooks.{outlook_of};
+ghost use Rattle.router_routes.specs.Following.{IsFollowing};
 ghost use Rattle.router_core.specs.Events.{IsThere};
 ghost use Rattle.router_core.specs.Machines.{FitsKind};
 ghost use Rattle.router_core.specs.Replies.{IsTaken};
@@ -20,10 +22,16 @@ use router_desk::Opened;
 use router_desk::laws::{passed_law, reading_law};
 use router_reading::laws::numbered_law;
 use router_reading::{Heard, hear};
+use router_routes::Following;
 
 impl Machine {
     /// A datagram that came on a circuit and was opened is taken, or dropped.
-    pub(crate) fn take(&mut self, opened: &Opened) -> Result<Reply, OutOfMemory>
+    pub(crate) fn take(
+        &mut self,
+        opened: &Opened,
+        following: &Following,
+    ) -> Result<Reply, OutOfMemory>
+        requires following { IsFollowing (outlook_of self.old) following.now }
         requires there { IsThere self.old opened.now.circuit }
         requires opened { IsOpenedBy (desk_of self.old.config self.old.circuits) opened.now }
         requires boot { self.old.boot < 2 ^ 24 }
@@ -40,11 +48,17 @@ impl Machine {
             Err(cause) => return Ok(self.refuse(cause)),
         };
         let heard = hear(self.alloc, self.desk.system(), &seen)?;
-        self.take_heard(circuit, &heard)
+        self.take_heard(circuit, &heard, following)
     }
 
     /// What is heard is taken, or dropped.
-    fn take_heard(&mut self, circuit: u8, heard: &Heard<'_>) -> Result<Reply, OutOfMemory>
+    fn take_heard(
+        &mut self,
+        circuit: u8,
+        heard: &Heard<'_>,
+        following: &Following,
+    ) -> Result<Reply, OutOfMemory>
+        requires following { IsFollowing (outlook_of self.old) following.now }
         requires there { IsThere self.old circuit }
         requires kind { IfSome (nth self.old.circuits (circuit - 1))
             (λ c. FitsKind c (message_of heard.now)) }
@@ -59,20 +73,27 @@ impl Machine {
         match heard {
             Heard::PointHello(hello) => Ok(self.point_hello(circuit, hello)),
             Heard::LanHello(level, hello) => Ok(self.lan_hello(circuit, *level, hello)),
-            Heard::Lsp { level, snpa, lsp } => self.lsp(circuit, *level, *snpa, lsp),
+            Heard::Lsp { level, snpa, lsp } => self.lsp(circuit, *level, *snpa, lsp, following),
             Heard::Snp {
                 level,
                 snpa,
                 source,
                 range,
                 entries,
-            } => self.snp(circuit, *level, (*snpa, *source), *range, entries),
+            } => self.snp(
+                circuit,
+                *level,
+                (*snpa, *source),
+                *range,
+                entries,
+                following,
+            ),
         }
     }
 
     /// What is known of an opened datagram: its fields are good, and a hello is of its circuit's
     /// kind. It does nothing.
-    fn opened_facts(&self, opened: &Opened)
+    pub(crate) fn opened_facts(&self, opened: &Opened)
         requires there { IsThere self.now opened.now.circuit }
         requires opened { IsOpenedBy (desk_of self.now.config self.now.circuits) opened.now }
         ensures good { IsGoodMessage (opening.message_of self.now.config.system opened.now.seen) }

@@ -1,5 +1,5 @@
 //! What always holds of a router, at its start and after each step: functions without effect.
-ghost use Rattle.std.specs.Prelude.{ℕ, ◌^◌, ◌<◌};
+ghost use Rattle.std.specs.Prelude.{◌≡◌, ℕ, ◌^◌, ◌<◌};
 ghost use Rattle.std.specs.List.{AllByRecursion};
 ghost use Rattle.isis_tlv.specs.Fits.{IsArea};
 ghost use Rattle.isis_model.specs.Routers as model;
@@ -9,6 +9,9 @@ ghost use Rattle.isis_datagram.specs.Numbers.{system_number};
 ghost use Rattle.router_desk.specs.Configs.{config_of, circuits_of};
 ghost use Rattle.router_desk.specs.Limits.{IsValid};
 ghost use Rattle.router_core.specs.declared.event.NodeEvent as node;
+ghost use Rattle.isis_model.specs.Events.{Event};
+ghost use Rattle.router_routes.specs.Outlooks.{outlook_of};
+ghost use Rattle.router_core.specs.Calm.{AreBelow, IsCalm, KeepsPrefixes, SameCounts};
 ghost use Rattle.router_core.specs.Events.{event_of, Fits};
 ghost use Rattle.router_core.specs.Givens.{given};
 ghost use Rattle.router_core.specs.Heard.{HasOctets};
@@ -35,6 +38,18 @@ pub(crate) fn reached_laws()
         → IsReached (start r.config boot r.circuits) }
     ensures step { (r : model.Router) (event : node.NodeEvent) → IsReached r → Fits r event
         → HasOctets event → IsReached (step given r (event_of r event)).router }
+{}
+
+/// What routes look at stays where no key and no own prefix changes, and an event that is calm changes
+/// none.
+pub(crate) fn outlook_laws()
+    ensures stays { (r : model.Router) (event : Event) → IsReached r → AreBelow r
+        → SameCounts r (step given r event).router → KeepsPrefixes event
+        → outlook_of (step given r event).router ≡ outlook_of r }
+    ensures calm { (r : model.Router) (event : Event) → IsReached r → AreBelow r
+        → IsCalm r event → outlook_of (step given r event).router ≡ outlook_of r }
+    ensures system { (r : model.Router) (event : Event)
+        → (step given r event).router.config.system ≡ r.config.system }
 {}
 
 /// The octets of what is taken are octets.

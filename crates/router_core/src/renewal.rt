@@ -11,6 +11,8 @@ ghost use Rattle.lsp_octets.specs.Drafts.{DraftView};
 ghost use Rattle.lsp_wanted.specs.Views.{contents_of, wanted_of};
 ghost use Rattle.router_levels.specs.Drafts.{wants_of};
 ghost use Rattle.router_levels.specs.Views.{state_of};
+ghost use Rattle.router_routes.specs.Outlooks.{outlook_of};
+ghost use Rattle.router_routes.specs.Following.{IsFollowing};
 ghost use Rattle.router_core.specs.Givens.{given};
 ghost use Rattle.router_core.specs.Machines.{IsFit};
 ghost use Rattle.router_core.specs.Seconds.{follow_first, later_or, level_later, IsMade};
@@ -22,20 +24,22 @@ use lsp_octets::Draft;
 use lsp_wanted::{Wanted, wanted_lsps};
 use router_circuits::Circuit;
 use router_levels::{LevelParts, Wants};
+use router_routes::Following;
 use std::alloc::Global;
 
 impl Machine {
-    /// The own LSPs that a level wants where the circuits are these, by LSP ID (ISO 10589 7.3.6).
-    /// Nothing is leaked.
+    /// The own LSPs that a level wants where the circuits are these, by LSP ID (ISO 10589 7.3.6), by
+    /// what the routes leak and whether the router is attached.
     pub(crate) fn wanted_with(
         &self,
         circuits: &[Circuit],
         level: Level,
+        following: &Following,
     ) -> Result<Vec<Wanted>, OutOfMemory>
         requires few { length circuits.now ≤ 64 }
         requires fit { AllByRecursion IsFit circuits.now }
-        ensures wanted { (before r : Router) → r.config ≡ self.now.config
-            → r.circuits ≡ circuits.now → IfOk result (λ list. map wanted_of list.items
+        ensures wanted { (before r : Router) → IsFollowing (outlook_of before) following.now
+            → r.config ≡ self.now.config → r.circuits ≡ circuits.now → IfOk result (λ list. map wanted_of list.items
             ≡ model.wanted given before r level) }
         ensures issuable { IfOk result (λ list. AllByRecursion
             (λ w. IsIssuable (at self.now.config.keys level) (contents_of w)) list.items) }
@@ -50,7 +54,16 @@ impl Machine {
             prefixes: self.prefixes.as_slice(),
             signed: self.desk.key(level).is_some(),
         };
-        wanted_lsps(self.alloc, &base, circuits, level, &[], false)
+        let leaks = following.leaks(level)?;
+        let attached = following.attached();
+        wanted_lsps(
+            self.alloc,
+            &base,
+            circuits,
+            level,
+            leaks.as_slice(),
+            attached,
+        )
     }
 
     /// A level a second later, with the circuits as they then are, where one of its own LSPs is to
@@ -59,11 +72,13 @@ impl Machine {
         &self,
         circuits: &[Circuit],
         level: Level,
+        following: &Following,
     ) -> Result<Option<LevelParts>, OutOfMemory>
         requires few { length circuits.now ≤ 64 }
         requires fit { AllByRecursion IsFit circuits.now }
         requires same { length circuits.now ≡ length self.now.circuits }
-        ensures state { (before r : Router) → r.config ≡ self.now.config
+        ensures state { (before r : Router) → IsFollowing (outlook_of before) following.now
+            → r.config ≡ self.now.config
             → r.circuits ≡ circuits.now → IfOk result (λ later. later_or later
             (level_later (level_of self.now level) level circuits.now) ≡ own.renew given r
             level (level_later (level_of self.now level) level circuits.now)
@@ -71,7 +86,7 @@ impl Machine {
         ensures circuits { IfOk result (λ later. IfSome later
             (λ on. on.book.circuits ≡ length self.now.circuits)) }
     {
-        let wanted = self.wanted_with(circuits, level)?;
+        let wanted = self.wanted_with(circuits, level, following)?;
         let mut own = self.level(level).own().copy()?;
         own.second();
         if is_quiet(&own, &wanted) {

@@ -14,6 +14,10 @@ ghost use Rattle.isis_model.specs.Maps.{find};
 ghost use Rattle.router_desk.specs.Configs.{config_of, circuits_of, prefix_number};
 ghost use Rattle.router_desk.specs.Desks.{desk_of};
 ghost use Rattle.router_desk.specs.Limits.{IsValid};
+ghost use Rattle.router_routes.specs.Outlooks.{outlook_of};
+ghost use Rattle.router_routes.specs.Candidates.{attached_of, AreRoutesOf};
+ghost use Rattle.router_routes.specs.Following.{IsFollowing, IsLevel};
+ghost use Rattle.router_core.specs.Heard.{HasOctets};
 ghost use Rattle.router_core.specs.Givens.{given};
 ghost use Rattle.router_core.specs.Events.{event_of, Fits, IsThere};
 ghost use Rattle.router_core.specs.Replies.{Answers};
@@ -21,31 +25,35 @@ ghost use Rattle.router_core.specs.Reached.{IsReached};
 
 use crate::event::NodeEvent;
 use crate::machine::Machine;
-use crate::reached::{event_octets, reached_laws, start_reached};
+use crate::reached::{event_octets, outlook_laws, reached_laws, start_reached};
 use crate::reply::Reply;
 use flag_sync::Book;
 use isis_base::{Level, OutOfMemory, Prefix};
 use purge_ageing::LetGo;
+use route_table::Routes;
 use router_desk::{Config, Desk, DropName};
+use router_routes::Following;
+use spf_repair::Repaired;
 use std::alloc::Global;
 use std::marker::Model;
 
 /// One router. Contracts see it as the machine of isis_model, in a state that is reached: what always
-/// holds of such states, `facts` tells.
+/// holds of such states, `facts` tells. Its routes follow its databases.
 #[derive(Drop)]
 pub struct Router {
     machine: Machine,
+    following: Following,
 }
 
 impl Model for Router {
     ghost use Rattle.isis_model.specs.Routers as model;
-    ghost use Rattle.router_core.specs.Reached.{IsReached};
+    ghost use Rattle.router_core.specs.Reached.{IsWhole};
 
     ghost Value = { model.Router };
 
     ghost view = { λ r. r.machine };
 
-    ghost invariant = { λ r. IsReached r.machine };
+    ghost invariant = { λ r. IsWhole r.machine r.following };
 }
 
 impl Router {
@@ -60,8 +68,12 @@ impl Router {
         ensures back { IfErr result (λ back. back.0 ≡ config) }
     {
         start_reached(&config, boot);
-        match Machine::new(alloc, &config, boot) {
-            Ok(machine) => Ok(Router { machine }),
+        let machine = match Machine::new(alloc, &config, boot) {
+            Ok(machine) => machine,
+            Err(error) => return Err((config, error)),
+        };
+        match followed(alloc, &machine) {
+            Ok(following) => Ok(Router { machine, following }),
             Err(error) => Err((config, error)),
         }
     }
@@ -82,7 +94,8 @@ impl Router {
     {
         reached_laws();
         let machine = self.machine.restarted(boot)?;
-        Ok(Router { machine })
+        let following = followed(self.machine.alloc, &machine)?;
+        Ok(Router { machine, following })
     }
 
     /// What never changes of its configuration.
@@ -105,8 +118,66 @@ impl Router {
         ensures err { OnErr result (self.new ≡ self.old) }
     {
         reached_laws();
+        outlook_laws();
         event_octets(&event);
-        self.machine.step(&event)
+        let calm = self.machine.is_calm(&event)?;
+        if calm && self.machine.counts_below() {
+            return self.machine.step(&event, &self.following);
+        }
+        self.step_aside(&event)
+    }
+
+    /// An event that may change what routes look at. A copy has it, so that nothing is lost where the
+    /// routes want memory.
+    fn step_aside(&mut self, event: &NodeEvent) -> Result<Reply, OutOfMemory>
+        requires fits { Fits self.old event.now }
+        requires octets { HasOctets event.now }
+        ensures state { OnOk result (self.new
+            ≡ (step given self.old (event_of self.old event.now)).router) }
+        ensures reply { IfOk result (λ reply. Answers self.new
+            (place_of (event_of self.old event.now))
+            (step given self.old (event_of self.old event.now)).reply reply) }
+        ensures reached { OnOk result (IsReached self.new) }
+        ensures err { OnErr result (self.new ≡ self.old) }
+    {
+        reached_laws();
+        let mut machine = self.machine.copy()?;
+        let reply = machine.step(event, &self.following)?;
+        match machine.follow_routes(&mut self.following, &self.machine, event) {
+            Ok(()) => {
+                self.machine = machine;
+                Ok(reply)
+            }
+            Err(error) => Err(error),
+        }
+    }
+
+    /// The routes of the router as it is: for each prefix the best way over the live LSPs of its
+    /// databases (RFC 5302 3.2).
+    pub fn routes(&self) -> &Routes
+        ensures { AreRoutesOf (outlook_of self.now) result.now }
+    {
+        self.following.routes()
+    }
+
+    /// A level's least costs from the router's own node, over the rows of live LSPs that may be walked
+    /// (ISO 10589 7.2.8, C.2); `None` exactly where the level isn't run.
+    pub fn repaired(&self, level: Level) -> Option<&Repaired>
+        ensures { MatchOption result (at self.now.config.runs level ≡ false)
+            (λ repaired. (at self.now.config.runs level ≡ true)
+            × IsLevel (outlook_of self.now) level repaired.now) }
+    {
+        if !self.machine.runs(level) {
+            return None;
+        }
+        Some(self.following.repaired(level))
+    }
+
+    /// Whether the router is attached to another area (ISO 10589 7.2.9.2).
+    pub fn attached(&self) -> bool
+        ensures { result ≡ attached_of (outlook_of self.now) }
+    {
+        self.following.attached()
     }
 
     /// A level's database; `None` exactly where the level isn't run.
@@ -163,4 +234,12 @@ impl Router {
     {
         self.machine.prefix_count()
     }
+}
+
+/// What follows a router from the start on.
+fn followed(alloc: Global, machine: &Machine) -> Result<Following, OutOfMemory>
+    ensures { IfOk result (λ f. IsFollowing (outlook_of machine.now) f) }
+{
+    let lent = machine.lent()?;
+    Following::new(alloc, &lent)
 }

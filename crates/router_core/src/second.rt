@@ -7,6 +7,8 @@ ghost use Rattle.isis_model.specs.Events.{Done, settled};
 ghost use Rattle.isis_model.specs.Seconds.{second};
 ghost use Rattle.isis_datagram.specs.Numbers.{system_number};
 ghost use Rattle.router_desk.specs.Desks.{desk_circuit};
+ghost use Rattle.router_routes.specs.Outlooks.{outlook_of};
+ghost use Rattle.router_routes.specs.Following.{IsFollowing};
 ghost use Rattle.router_core.specs.Givens.{given};
 ghost use Rattle.router_core.specs.Machines.{IsFit};
 ghost use Rattle.router_core.specs.Reached.{IsReached};
@@ -17,20 +19,22 @@ use crate::machine::Machine;
 use crate::renewal::pass;
 use isis_base::{Level, OutOfMemory, SystemId};
 use router_circuits::Circuit;
+use router_routes::Following;
 use std::alloc::Global;
 
 impl Machine {
     /// A second (ISO 10589 7.3.5, 7.3.15.3 to 7.3.15.5, 7.3.16.3, 8.2.3 to 8.2.5, 8.4.1, 8.4.2). At
     /// `OutOfMemory` the router is as it was.
-    pub(crate) fn second(&mut self) -> Result<(), OutOfMemory>
+    pub(crate) fn second(&mut self, following: &Following) -> Result<(), OutOfMemory>
         requires reached { IsReached self.old }
+        requires following { IsFollowing (outlook_of self.old) following.now }
         ensures state { OnOk result (self.new ≡ (settled
             (record { router = second given self.old; reply = Done })).router) }
         ensures err { OnErr result (self.new ≡ self.old) }
     {
         let mut circuits = circuits_later(self.alloc, &self.circuits)?;
-        let one = self.level_renewed(&circuits, Level::One)?;
-        let two = self.level_renewed(&circuits, Level::Two)?;
+        let one = self.level_renewed(&circuits, Level::One, following)?;
+        let two = self.level_renewed(&circuits, Level::Two, following)?;
         pass(&mut self.one, one, &circuits, Level::One);
         pass(&mut self.two, two, &circuits, Level::Two);
         idle_all(&mut circuits, self.desk.system());

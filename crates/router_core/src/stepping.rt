@@ -3,6 +3,8 @@ ghost use Rattle.std.specs.Prelude.{◌≡◌, IfOk, OnOk, OnErr};
 ghost use Rattle.isis_model.specs.AdjacencyLaws.{place_of};
 ghost use Rattle.isis_model.specs.Steps.{step};
 ghost use Rattle.router_core.specs.Events.{event_of, Fits};
+ghost use Rattle.router_routes.specs.Outlooks.{outlook_of};
+ghost use Rattle.router_routes.specs.Following.{IsFollowing};
 ghost use Rattle.router_core.specs.Givens.{given};
 ghost use Rattle.router_core.specs.Reached.{IsReached};
 ghost use Rattle.router_core.specs.Replies.{Answers};
@@ -11,10 +13,16 @@ use crate::event::NodeEvent;
 use crate::machine::Machine;
 use crate::reply::Reply;
 use isis_base::OutOfMemory;
+use router_routes::Following;
 
 impl Machine {
-    /// An event.
-    pub(crate) fn step(&mut self, event: &NodeEvent) -> Result<Reply, OutOfMemory>
+    /// An event, with what follows the router as it is before it.
+    pub(crate) fn step(
+        &mut self,
+        event: &NodeEvent,
+        following: &Following,
+    ) -> Result<Reply, OutOfMemory>
+        requires following { IsFollowing (outlook_of self.old) following.now }
         requires fits { Fits self.old event.now }
         requires reached { IsReached self.old }
         ensures state { OnOk result (self.new
@@ -26,10 +34,10 @@ impl Machine {
     {
         match event {
             NodeEvent::Second => {
-                self.second()?;
+                self.second(following)?;
                 Ok(Reply::Done)
             }
-            NodeEvent::Take(opened) => self.take(opened),
+            NodeEvent::Take(opened) => self.take(opened, following),
             NodeEvent::Pull { circuit } => {
                 let out = self.pull(*circuit)?;
                 Ok(Reply::Send(out))

@@ -17,6 +17,8 @@ ghost use Rattle.router_desk.specs.Causes.{name_of};
 ghost use Rattle.router_levels.specs.Drafts.{range_of};
 ghost use Rattle.router_core.specs.declared.reply.Reply.TheVariants as reply;
 ghost use Rattle.router_core.specs.Events.{IsThere};
+ghost use Rattle.router_routes.specs.Outlooks.{outlook_of};
+ghost use Rattle.router_routes.specs.Following.{IsFollowing};
 ghost use Rattle.router_core.specs.Givens.{given};
 ghost use Rattle.router_core.specs.Replies.{Answers, datagrams_of};
 
@@ -27,6 +29,7 @@ use flag_sync::{LspAnswer, LspHeard};
 use isis_base::{Level, LspEntry, LspId, OutOfMemory};
 use pdu_sender::{Sender, psnp};
 use router_desk::DropCause;
+use router_routes::Following;
 
 impl Machine {
     /// A datagram is dropped.
@@ -45,8 +48,10 @@ impl Machine {
         circuit: u8,
         level: Level,
         lsp: &LspHeard<'_>,
+        following: &Following,
     ) -> Result<Reply, OutOfMemory>
         requires there { IsThere self.old circuit }
+        requires following { IsFollowing (outlook_of self.old) following.now }
         requires number { 0 < lsp.now.entry.number }
         requires octets { 27 ≤ length lsp.now.octets.now }
         requires room { no_room (level_of self.old level) self.old.config.system (heard_of lsp.now)
@@ -64,7 +69,7 @@ impl Machine {
     {
         let row = self.level(level).lsp_case(self.desk.system(), lsp);
         let answer = match row {
-            LspAnswer::Outbid { .. } => Some(self.draft(level, lsp.entry.id)?),
+            LspAnswer::Outbid { .. } => Some(self.draft(level, lsp.entry.id, following)?),
             _ => None,
         };
         let reply = self.acknowledged(circuit, level, lsp, row)?;
@@ -158,14 +163,16 @@ impl Machine {
         level: Level,
         range: Option<(LspId, LspId)>,
         entries: &[LspEntry],
+        following: &Following,
     ) -> Result<(), OutOfMemory>
         requires there { IsThere self.old circuit }
+        requires following { IsFollowing (outlook_of self.old) following.now }
         ensures state { OnOk result (self.new ≡ with_level self.old level
             (takes.take_snp (scene_of given self.old level) (level_of self.old level)
             self.old.config.system (circuit - 1) (range_of range) (entries_of entries.now))) }
         ensures err { OnErr result (self.new ≡ self.old) }
     {
-        let drafts = self.answers(level, entries)?;
+        let drafts = self.answers(level, entries, following)?;
         self.hear_snp(circuit, level, range, entries, drafts)
     }
 }

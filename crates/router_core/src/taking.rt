@@ -6,6 +6,8 @@ ghost use Rattle.isis_model.specs.Places.{nth};
 ghost use Rattle.isis_datagram.specs.Numbers.{snpa_number, system_number};
 ghost use Rattle.flag_sync.specs.Heard.{entries_of, heard_of};
 ghost use Rattle.router_reading.specs.Heard.{hello_heard, range_of};
+ghost use Rattle.router_routes.specs.Outlooks.{outlook_of};
+ghost use Rattle.router_routes.specs.Following.{IsFollowing};
 ghost use Rattle.router_core.specs.Events.{IsThere};
 ghost use Rattle.router_core.specs.Replies.{IsTaken};
 
@@ -16,6 +18,7 @@ use isis_base::{Level, LspEntry, LspId, OutOfMemory, Snpa, SystemId};
 use router_circuits::hello_sizes;
 use router_desk::DropCause;
 use router_reading::HelloHeard;
+use router_routes::Following;
 
 impl Machine {
     /// A point-to-point hello came.
@@ -59,8 +62,10 @@ impl Machine {
         level: Level,
         snpa: Snpa,
         lsp: &LspHeard<'_>,
+        following: &Following,
     ) -> Result<Reply, OutOfMemory>
         requires there { IsThere self.old circuit }
+        requires following { IsFollowing (outlook_of self.old) following.now }
         requires number { 0 < lsp.now.entry.number }
         requires octets { 27 ≤ length lsp.now.octets.now }
         requires idle { AreIdle self.old }
@@ -70,7 +75,7 @@ impl Machine {
     {
         match self.lsp_cause(circuit, level, snpa, lsp) {
             Some(cause) => Ok(self.refuse(cause)),
-            None => self.take_lsp(circuit, level, lsp),
+            None => self.take_lsp(circuit, level, lsp, following),
         }
     }
 
@@ -82,8 +87,10 @@ impl Machine {
         from: (Snpa, SystemId),
         range: Option<(LspId, LspId)>,
         entries: &[LspEntry],
+        following: &Following,
     ) -> Result<Reply, OutOfMemory>
         requires there { IsThere self.old circuit }
+        requires following { IsFollowing (outlook_of self.old) following.now }
         requires idle { AreIdle self.old }
         ensures taken { IfOk result (λ reply. IsTaken self.old (circuit - 1)
             (event.SnpHeard level (snpa_number from.0) (system_number from.1) (range_of range)
@@ -94,7 +101,7 @@ impl Machine {
         match self.snp_cause(circuit, level, snpa, source, range.is_none()) {
             Some(cause) => Ok(self.refuse(cause)),
             None => {
-                self.take_snp(circuit, level, range, entries)?;
+                self.take_snp(circuit, level, range, entries, following)?;
                 Ok(Reply::Done)
             }
         }

@@ -12,6 +12,8 @@ ghost use Rattle.isis_model.specs.Receiving.{scene_of};
 ghost use Rattle.lsp_wanted.specs.Views.{contents_of, wanted_of};
 ghost use Rattle.isis_model.specs.Routers.{level_of};
 ghost use Rattle.router_levels.specs.Drafts.{AreAnswers, AreReady, IsAnswer, IsReady};
+ghost use Rattle.router_routes.specs.Outlooks.{outlook_of};
+ghost use Rattle.router_routes.specs.Following.{IsFollowing};
 ghost use Rattle.router_core.specs.Givens.{given};
 ghost use Rattle.router_core.specs.Machines.{draft_at};
 
@@ -19,6 +21,7 @@ use crate::machine::Machine;
 use isis_base::{Level, LevelSet, LspEntry, LspId, Octets, OutOfMemory};
 use lsp_octets::Draft;
 use lsp_wanted::Wanted;
+use router_routes::Following;
 
 impl Machine {
     /// The key of a level's LSPs and sequence number PDUs (RFC 5304 3).
@@ -31,22 +34,33 @@ impl Machine {
         }
     }
 
-    /// The own LSPs that a level wants, by LSP ID (ISO 10589 7.3.6). Nothing is leaked.
-    pub(crate) fn wanted(&self, level: Level) -> Result<Vec<Wanted>, OutOfMemory>
+    /// The own LSPs that a level wants, by LSP ID (ISO 10589 7.3.6).
+    pub(crate) fn wanted(
+        &self,
+        level: Level,
+        following: &Following,
+    ) -> Result<Vec<Wanted>, OutOfMemory>
+        requires { IsFollowing (outlook_of self.now) following.now }
         ensures wanted { IfOk result (λ list. map wanted_of list.items
             ≡ model.wanted given self.now self.now level) }
         ensures issuable { IfOk result (λ list. AllByRecursion
             (λ w. IsIssuable (at self.now.config.keys level) (contents_of w)) list.items) }
         ensures rises { IfOk result (λ list. RisesFrom 0 (map wanted_of list.items)) }
     {
-        self.wanted_with(&self.circuits, level)
+        self.wanted_with(&self.circuits, level, following)
     }
 
     /// A draft of what is wanted of an own LSP ID (ISO 10589 7.3.16.1).
-    pub(crate) fn draft(&self, level: Level, id: LspId) -> Result<Draft, OutOfMemory>
+    pub(crate) fn draft(
+        &self,
+        level: Level,
+        id: LspId,
+        following: &Following,
+    ) -> Result<Draft, OutOfMemory>
+        requires { IsFollowing (outlook_of self.now) following.now }
         ensures { IfOk result (λ draft. draft ≡ draft_at self.now level id) }
     {
-        let wanted = self.wanted(level)?;
+        let wanted = self.wanted(level, following)?;
         self.draft_in(&wanted, level, id)
     }
 
@@ -71,13 +85,15 @@ impl Machine {
         &self,
         level: Level,
         entries: &[LspEntry],
+        following: &Following,
     ) -> Result<Vec<Option<Draft>>, OutOfMemory>
+        requires { IsFollowing (outlook_of self.now) following.now }
         ensures ready { IfOk result (λ drafts. AreReady (is_some (at self.now.config.keys level))
             (level_of self.now level).own entries.now drafts.items) }
         ensures said { IfOk result (λ drafts. AreAnswers (at self.now.config.keys level)
             (scene_of given self.now level) entries.now drafts.items) }
     {
-        let wanted = self.wanted(level)?;
+        let wanted = self.wanted(level, following)?;
         let mut drafts = Vec::new(self.alloc);
         let mut left = entries;
         while let [entry, more @ ..] = left {

@@ -229,43 +229,43 @@ is-found (s ∷ routes) r h =
 
 -- ---- maps in order that find the same are one
 
-find-below : (m : List (ℕ × Way)) (least q : ℕ) → RisesFrom least m → q < least → find m q ≡ None
+find-below : {V : Type 0} → (m : List (ℕ × V)) (least q : ℕ) → RisesFrom least m → q < least → find m q ≡ None
 find-below [] least q r h = refl
 find-below (p ∷ m) least q r h =
     let first = r.0 in
     rw (ne_eqb p.0 q (λ e. absurd (omega (arith, first, h, e)))) (find-below m (p.0 + 1) q r.1 (omega (arith, first, h)))
 
-found-first : (p : ℕ × Way) (m : List (ℕ × Way)) → find (p ∷ m) p.0 ≡ Some p.1
+found-first : {V : Type 0} → (p : ℕ × V) (m : List (ℕ × V)) → find (p ∷ m) p.0 ≡ Some p.1
 found-first p m = rw (eq-eqb p.0 p.0 refl) refl
 
-not-before : (p q : ℕ × Way) (a b : List (ℕ × Way)) → RisesFrom (q.0 + 1) b → ((n : ℕ) → find (p ∷ a) n ≡ find (q ∷ b) n) → p.0 < q.0 → ⊥
+not-before : {V : Type 0} → (p q : ℕ × V) (a b : List (ℕ × V)) → RisesFrom (q.0 + 1) b → ((n : ℕ) → find (p ∷ a) n ≡ find (q ∷ b) n) → p.0 < q.0 → ⊥
 not-before p q a b rises same less =
     let none : find (q ∷ b) p.0 ≡ None = rw (ne_eqb q.0 p.0 (λ e. absurd (omega (arith, less, e)))) (find-below b (q.0 + 1) p.0 rises (omega (arith, less))) in
     none-some p.1 (sym none ∙ sym (same p.0) ∙ found-first p a)
 
-rest-same : (p : ℕ × Way) (n : ℕ) (v : Way) (a b : List (ℕ × Way)) → RisesFrom (p.0 + 1) a → RisesFrom (p.0 + 1) b → ((q : ℕ) → find (p ∷ a) q ≡ find ((p.0, v) ∷ b) q) → (q : ℕ) → find a q ≡ find b q
+rest-same : {V : Type 0} → (p : ℕ × V) (n : ℕ) (v : V) (a b : List (ℕ × V)) → RisesFrom (p.0 + 1) a → RisesFrom (p.0 + 1) b → ((q : ℕ) → find (p ∷ a) q ≡ find ((p.0, v) ∷ b) q) → (q : ℕ) → find a q ≡ find b q
 rest-same p n v a b of-a of-b same q =
     elim (cases_eq p.0 q) [
       | inl is ↦ find-below a (p.0 + 1) q of-a (omega (arith, is)) ∙ sym (find-below b (p.0 + 1) q of-b (omega (arith, is)))
       | inr other ↦ sym (rw (ne_eqb p.0 q other) refl) ∙ same q ∙ rw (ne_eqb p.0 q other) refl
     ]
 
-maps-same : (least : ℕ) (a b : List (ℕ × Way)) → RisesFrom least a → RisesFrom least b → ((n : ℕ) → find a n ≡ find b n) → a ≡ b
+pub maps-same : {V : Type 0} → (least : ℕ) (a b : List (ℕ × V)) → RisesFrom least a → RisesFrom least b → ((n : ℕ) → find a n ≡ find b n) → a ≡ b
 maps-same least [] [] of-a of-b same = refl
 maps-same least [] (q ∷ b) of-a of-b same = absurd (none-some q.1 (same q.0 ∙ found-first q b))
 maps-same least (p ∷ a) [] of-a of-b same = absurd (none-some p.1 (sym (same p.0) ∙ found-first p a))
-maps-same least (p ∷ a) (q ∷ b) of-a of-b same =
+maps-same {V} least (p ∷ a) (q ∷ b) of-a of-b same =
     let not-less = not-before p q a b of-b.1 same in
     let not-more = not-before q p b a of-a.1 (λ n. sym (same n)) in
     elim (cases_eq p.0 q.0) [
       | inl is ↦
           let value : p.1 ≡ q.1 = some-same p.1 q.1 (find (p ∷ a) p.0) (found-first p a) (same p.0 ∙ ap (find (q ∷ b)) is ∙ found-first q b) in
-          let head : ◌≡◌ {A = ℕ × Way} q (p.0, q.1) = ap (λ (n : ℕ). (n, q.1)) (sym is) in
-          let again : (n : ℕ) → find (p ∷ a) n ≡ find ((p.0, q.1) ∷ b) n = subst (λ (x : ℕ × Way). (n : ℕ) → find (p ∷ a) n ≡ find (x ∷ b) n) head same in
+          let head : ◌≡◌ {A = ℕ × V} q (p.0, q.1) = ap (λ (n : ℕ). (n, q.1)) (sym is) in
+          let again : (n : ℕ) → find (p ∷ a) n ≡ find ((p.0, q.1) ∷ b) n = subst (λ (x : ℕ × V). (n : ℕ) → find (p ∷ a) n ≡ find (x ∷ b) n) head same in
           let rises : RisesFrom (p.0 + 1) b = subst (λ (n : ℕ). RisesFrom (n + 1) b) (sym is) of-b.1 in
           let rest = maps-same (p.0 + 1) a b of-a.1 rises (rest-same p 0 q.1 a b of-a.1 rises again) in
-          let whole : ◌≡◌ {A = ℕ × Way} p q = ap (λ (v : Way). (p.0, v)) value ∙ sym head in
-          ap (λ (x : ℕ × Way). x ∷ a) whole ∙ ap (λ (m : List (ℕ × Way)). q ∷ m) rest
+          let whole : ◌≡◌ {A = ℕ × V} p q = ap (λ (v : V). (p.0, v)) value ∙ sym head in
+          ap (λ (x : ℕ × V). x ∷ a) whole ∙ ap (λ (m : List (ℕ × V)). q ∷ m) rest
       | inr other ↦ elim (cases_lt p.0 q.0) [ inl less ↦ absurd (not-less less) | inr ge ↦ absurd (not-more (above p.0 q.0 other ge)) ]
     ]
   where

@@ -18,6 +18,6 @@ returns-clause-state c =
     (c.idle_all.ensures.state r.config (sym (c.system.ensures ∙ ap (λ (q : Router). q.config.system) c.self.view_is))
     ∙ ap (λ (cs : List Circuit). idle_all r.config 0 cs) circuits)
     (later-part r level.One r.levels.one c.in_ok-one.one (state_of c.self.inside.one) (state_of c.pass.new.on) c.deref-2.result.now c.deref-4.result.now
-    (ap (λ (q : Router). q.levels.one) c.self.view_is) (c.deref-2.ensures.value ∙ circuits) (c.deref-4.ensures.value ∙ circuits) c.pass.ensures.state c.in_ok-one.ensures.state)
+    (ap (λ (q : Router). q.levels.one) c.self.view_is) (c.deref-2.ensures.value ∙ circuits) (c.deref-4.ensures.value ∙ circuits) c.pass.ensures.state (λ q a b. c.in_ok-one.ensures.state r q c.requires.following a b))
     (later-part r level.Two r.levels.two c.in_ok-two.two (state_of c.self.inside.two) (state_of c.pass-2.new.on) c.deref-3.result.now c.deref-5.result.now
-    (ap (λ (q : Router). q.levels.two) c.self.view_is) (c.deref-3.ensures.value ∙ circuits) (c.deref-5.ensures.value ∙ circuits) c.pass-2.ensures.state c.in_ok-two.ensures.state)
+    (ap (λ (q : Router). q.levels.two) c.self.view_is) (c.deref-3.ensures.value ∙ circuits) (c.deref-5.ensures.value ∙ circuits) c.pass-2.ensures.state (λ q a b. c.in_ok-two.ensures.state r q c.requires.following a b))

@@ -1,19 +1,19 @@
-use Rattle.std.proofs.Common.{◌≡◌, is_some, IfOk, refl, sym, subst, ◌∙◌, ap}
+use Rattle.std.proofs.Common.{◌≡◌, map, is_some, IfOk, refl, sym, subst, ◌∙◌, ap}
 use Rattle.std.specs.List.{AllByRecursion}
 use Rattle.isis_model.specs.Both.{at}
 use Rattle.isis_model.specs.Configs.{Config}
 use Rattle.isis_model.specs.Good.{IsIssuable}
 use Rattle.isis_model.specs.Routers.{Router}
-use Rattle.lsp_wanted.specs.Views.{contents_of}
-use Rattle.router_core.specs.Givens.{given, leaks_of, is_attached}
+use Rattle.lsp_wanted.specs.Views.{contents_of, prefix_pair}
+use Rattle.router_routes.specs.Outlooks.{outlook_of}
+use Rattle.router_core.specs.Givens.{given}
 use Rattle.router_core.specs.Machines.{machine_of}
 use Rattle.router_core.proofs.ShapeLemmas.{signed-by}
 use Rattle.router_core.proofs.machine.Machine.wanted_with.Goals as goal
 
 -- src/renewal.rt
 pub returns-clause-wanted : goal.returns-clause-wanted
-unfolding leaks_of is_attached
-returns-clause-wanted c before r e f =
+returns-clause-wanted c before r on e f =
     let same : r.config ≡ (machine_of c.self.inside).config = e ∙ sym (ap (λ (q : Router). q.config) c.self.view_is) in
     c.wanted_lsps.ensures.wanted given before r (record {
       system = ap (λ (config : Config). config.system) same ∙ sym c.system.ensures;
@@ -24,8 +24,8 @@ returns-clause-wanted c before r e f =
       prefixes = ap (λ (config : Config). config.prefixes) same ∙ sym c.as_slice-2.ensures.pairs;
       signed = ap (λ (config : Config). is_some (at config.keys c.args.level)) same ∙ signed-by _ _ _ c.key.ensures c.is_some.ensures;
       circuits = f;
-      leaks = refl;
-      attached = refl;
+      leaks = sym (ap (map prefix_pair) c.as_slice-3.ensures.value ∙ c.in_ok-leaks.ensures (outlook_of before) on);
+      attached = sym (c.attached-attached.ensures ∙ on.attached);
     })
 
 -- src/renewal.rt

@@ -1,0 +1,4 @@
+pub mod GridLines
+pub mod GridText
+pub mod SummaryText
+pub mod Tallies

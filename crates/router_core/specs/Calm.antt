@@ -1,0 +1,74 @@
+-- Events of which is known beforehand that no key changes, so that routes stay (own).
+use Rattle.std.specs.Prelude.{◌≡◌, ℕ, ◌-◌, ◌^◌, ◌<◌, Bool, true, false, List}
+use Rattle.std.specs.List.{AllByRecursion}
+use Rattle.isis_base.specs.declared.level.Level.{Level}
+use Rattle.isis_model.specs.declared.lsp_case.LspCase.{LspCase}
+use Rattle.isis_model.specs.declared.lsp_case.LspCase.TheVariants as lsp
+use Rattle.isis_model.specs.declared.whose.Whose.{Whose}
+use Rattle.flag_sync.specs.declared.heard.LspAnswer.{LspAnswer}
+use Rattle.flag_sync.specs.declared.heard.LspAnswer.TheVariants as answer
+use Rattle.isis_model.specs.Books.{Book, cell_at}
+use Rattle.isis_model.specs.LspTable.{met}
+use Rattle.isis_model.specs.SnpTable.{SnpEntry, snp_case, sets_flag}
+use Rattle.isis_model.specs.Takes.{whose_of}
+use Rattle.isis_model.specs.Routers.{Router, level_of, book_of}
+use Rattle.isis_model.specs.Events.{Message, Refused, PointHelloHeard, LanHelloHeard, LspHeard, SnpHeard, Event, Second, Take, Pull, Metric, Overload, Prefix}
+
+-- the rows of an LSP that isn't newer than what is held (ISO 10589 7.3.15.1)
+abbrev pub is_calm_row : LspCase → Bool
+is_calm_row lsp.Outbid = false
+is_calm_row lsp.PurgedOwn = false
+is_calm_row lsp.AckPurge = true
+is_calm_row lsp.Confused = false
+is_calm_row lsp.Stored = false
+is_calm_row lsp.Same = true
+is_calm_row lsp.Older = true
+
+-- no entry of a sequence number PDU sets a flag (ISO 10589 7.3.15.2)
+abbrev pub AreClear : Book → List SnpEntry → Type 0
+AreClear book entries =
+    AllByRecursion (λ (h : SnpEntry). (whose : Whose)
+    → sets_flag (snp_case whose (cell_at book h.id) h) ≡ false) entries
+
+abbrev pub IsCalmMessage : Router → Message → Type 0
+IsCalmMessage r (Refused cause) = Unit {0}
+IsCalmMessage r (PointHelloHeard h) = Unit {0}
+IsCalmMessage r (LanHelloHeard l h) = Unit {0}
+IsCalmMessage r (LspHeard l snpa h) =
+    is_calm_row (met (book_of r l) (whose_of r.config.system (level_of r l) h.id) h) ≡ true
+IsCalmMessage r (SnpHeard l snpa source range entries) = AreClear (book_of r l) entries
+
+abbrev pub IsCalm : Router → Event → Type 0
+IsCalm r Second = ⊥
+IsCalm r (Take place m) = IsCalmMessage r m
+IsCalm r (Pull place) = Unit {0}
+IsCalm r (Metric place metric) = Unit {0}
+IsCalm r (Overload on) = Unit {0}
+IsCalm r (Prefix prefix metric) = ⊥
+
+-- the counts of changes of both levels are below their end
+pub record AreBelow (r : Router) : Type 0 where
+  pub on : (level : Level) → (book_of r level).changes < 2 ^ 64 - 1
+
+-- no key of either level changed from one router to the other
+pub record SameCounts (r t : Router) : Type 0 where
+  pub on : (level : Level) → (book_of t level).changes ≡ (book_of r level).changes
+
+-- whether an event leaves one's own prefixes
+abbrev pub KeepsPrefixes : Event → Type 0
+KeepsPrefixes Second = Unit {0}
+KeepsPrefixes (Take place m) = Unit {0}
+KeepsPrefixes (Pull place) = Unit {0}
+KeepsPrefixes (Metric place metric) = Unit {0}
+KeepsPrefixes (Overload on) = Unit {0}
+KeepsPrefixes (Prefix prefix metric) = ⊥
+
+-- the same of the answer that tells a row
+abbrev pub is_calm_answer : LspAnswer → Bool
+is_calm_answer answer.Stored = false
+is_calm_answer answer.Same = true
+is_calm_answer answer.Older = true
+is_calm_answer answer.Confused = false
+is_calm_answer (answer.Outbid above) = false
+is_calm_answer answer.PurgedOwn = false
+is_calm_answer answer.AckPurge = true

@@ -1,0 +1,122 @@
+//! What routes look at of a router, and that routes follow it.
+ghost use Rattle.std.specs.Prelude.{◌≡◌, ◌<◌, true, false, length, IfOk, OnOk, OnErr};
+ghost use Rattle.std.specs.List.{AllByRecursion};
+ghost use Rattle.isis_datagram.specs.Numbers.{system_id, system_number};
+ghost use Rattle.isis_model.specs.Routers.{Router};
+ghost use Rattle.isis_model.specs.Steps.{step};
+ghost use Rattle.router_routes.specs.Outlooks.{outlook_in, outlook_of};
+ghost use Rattle.router_routes.specs.Following.{IsFollowing};
+ghost use Rattle.router_core.specs.Calm.{AreBelow, KeepsPrefixes, SameCounts};
+ghost use Rattle.router_core.specs.Events.{event_of};
+ghost use Rattle.router_core.specs.Givens.{given};
+ghost use Rattle.router_core.specs.Reached.{IsReached};
+
+use crate::event::NodeEvent;
+use crate::machine::Machine;
+use crate::reached::outlook_laws;
+use flag_sync::Book;
+use isis_base::{OutOfMemory, SystemId};
+use router_desk::Change;
+use router_routes::{Following, Lent, ids_law};
+
+impl Machine {
+    /// What routes look at of it. That each entry of a database has its row of flags is looked at, since
+    /// the databases don't tell it; where one had none, that would count as a want of memory.
+    pub(crate) fn lent(&self) -> Result<Lent<'_>, OutOfMemory>
+        ensures { IfOk result (λ lent. outlook_in lent ≡ outlook_of self.now) }
+    {
+        let (one, two) = (self.one.book(), self.two.book());
+        if !has_rows(one) || !has_rows(two) {
+            return Err(OutOfMemory);
+        }
+        let (one, two) = (one.store(), two.store());
+        ids_law(one);
+        ids_law(two);
+        let system = self.desk.system();
+        system_law(system);
+        Ok(Lent {
+            system,
+            areas: self.areas.as_slice(),
+            levels: self.desk.levels(),
+            prefixes: self.prefixes.as_slice(),
+            one,
+            two,
+        })
+    }
+
+    /// Whether the counts of changes of both levels are below their end.
+    pub(crate) fn counts_below(&self) -> bool
+        ensures { result ≡ true → AreBelow self.now }
+    {
+        let (one, two) = (self.one.book(), self.two.book());
+        one.store().changes() < u64::MAX && two.store().changes() < u64::MAX
+    }
+
+    /// Whether no key of either level changed since a router was as that one is.
+    pub(crate) fn has_counts_of(&self, old: &Machine) -> bool
+        ensures { result ≡ true → SameCounts old.now self.now }
+    {
+        let (one, two) = (self.one.book(), self.two.book());
+        one.store().changes() == old.one.book().store().changes()
+            && two.store().changes() == old.two.book().store().changes()
+    }
+
+    /// The routes follow this router after an event, where it was as that one is before. They stay as
+    /// they are where nothing changed that they look at. At `OutOfMemory` all is as it was.
+    pub(crate) fn follow_routes(
+        &self,
+        following: &mut Following,
+        old: &Machine,
+        event: &NodeEvent,
+    ) -> Result<(), OutOfMemory>
+        requires reached { IsReached old.now }
+        requires step { self.now ≡ (step given old.now (event_of old.now event.now)).router }
+        requires follows { IsFollowing (outlook_of old.now) following.old }
+        ensures follows { OnOk result (IsFollowing (outlook_of self.now) following.new) }
+        ensures err { OnErr result (following.new ≡ following.old) }
+    {
+        outlook_laws();
+        if keeps_prefixes(event) && old.counts_below() && self.has_counts_of(old) {
+            return Ok(());
+        }
+        let lent = self.lent()?;
+        following.follow(&lent)
+    }
+}
+
+/// Whether an event leaves one's own prefixes.
+fn keeps_prefixes(event: &NodeEvent) -> bool
+    ensures { (r : Router) → result ≡ true → KeepsPrefixes (event_of r event.now) }
+{
+    match event {
+        NodeEvent::Change(
+            Change::Prefix {
+                prefix: _,
+                metric: _,
+            },
+        ) => false,
+        _ => true,
+    }
+}
+
+/// Whether each entry of a level's database has a row of flags.
+fn has_rows(book: &Book) -> bool
+    ensures { result ≡ true → length book.now.rows ≡ length book.now.store.entries }
+{
+    book.store().len() == book.flag_pages().len()
+}
+
+/// Six octets.
+fn are_six(octets: [u8; 6])
+    ensures six { length octets ≡ 6 }
+    ensures small { AllByRecursion (λ octet. octet < 256) octets }
+{
+    let [_a, _b, _c, _d, _e, _f] = octets;
+}
+
+/// A system ID is that of its number. It does nothing.
+fn system_law(system: SystemId)
+    ensures { system_id (system_number system) ≡ system }
+{
+    are_six(system.0);
+}
