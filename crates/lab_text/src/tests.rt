@@ -1,4 +1,6 @@
 //! What no clause says: worked scripts, and each call once with ample memory.
+mod labs;
+
 use super::*;
 use isis_base::Level;
 use isis_edge::MemorySink;

@@ -1,0 +1,77 @@
+#!/usr/bin/env python3
+"""Writes a lab script.
+
+usage: script.py grid N          N x N routers of level 1, each with a prefix, `run 60`
+       script.py datagrams N     two routers; one acknowledges a purge that it doesn't hold again and again, so that N datagrams are sent
+       script.py seconds N       two routers, N seconds by lines `run`
+       script.py hellos N        two routers; one takes the same hello N times
+       script.py wide N         1,024 routers and 4,089 links; one takes the same hello N times
+       script.py refused N       the same text, but its first event line is refused, so that it is read and nothing is played
+"""
+import sys
+
+PAIR = """router A 0000.0000.0001 49.0001 L1
+router B 0000.0000.0002 49.0001 L1
+link X A B 10
+"""
+# A live LSP of system 9 with one second left. A purges it in its next second and sends the purge, datagram 15, to B.
+SHORT = "49535531000000000002831b010012010000001b0001000000000009000000000005ae4201"
+
+
+def grid(n):
+    for row in range(1, n + 1):
+        for column in range(1, n + 1):
+            yield f"router g{row}x{column} 0000.{row:04x}.{column:04x} 49.0001 L1\n"
+    for row in range(1, n + 1):
+        for column in range(1, n):
+            yield f"link h{row}x{column} g{row}x{column} g{row}x{column + 1} 10\n"
+    for row in range(1, n):
+        for column in range(1, n + 1):
+            yield f"link v{row}x{column} g{row}x{column} g{row + 1}x{column} 10\n"
+    for row in range(1, n + 1):
+        for column in range(1, n + 1):
+            yield f"prefix g{row}x{column} 10.{row}.{column}.0/24 10\n"
+    yield "run 60\n"
+
+
+def datagrams(n):
+    yield PAIR + f"run 7\ninject A X {SHORT}\ntick A\npull A X\n"
+    # 14 were sent by the seconds, one by the pull
+    yield f"deliver 15 B\n" * (n - 15)
+
+
+def seconds(n):
+    yield PAIR
+    yield "run 86400\n" * (n // 86400)
+    if n % 86400:
+        yield f"run {n % 86400}\n"
+
+
+def hellos(n):
+    yield PAIR + "run 7\n"
+    yield "deliver 3 B\n" * n
+
+
+def wide(n):
+    for router in range(1024):
+        yield f"router r{router} 0000.0000.{router + 1:04x} 49.0001 L1\n"
+    for step in range(1, 5):
+        for router in range(1022):
+            yield f"link l{step}x{router} r{router} r{(router + step) % 1022} 10\n"
+    yield "link X r1022 r1023 10\npull r1022 X\ndeliver 1 r1023\npull r1023 X\ndeliver 2 r1022\npull r1022 X\n"
+    yield "deliver 3 r1023\n" * n
+
+
+def refused(n):
+    yield PAIR + "deliver 0 B\n"
+    yield "deliver 3 B\n" * n
+
+
+def main():
+    kind, count = sys.argv[1:]
+    made = {"grid": grid, "datagrams": datagrams, "seconds": seconds, "hellos": hellos, "wide": wide, "refused": refused}[kind]
+    sys.stdout.write("isis-lab 1\n")
+    sys.stdout.writelines(made(int(count)))
+
+
+main()
