@@ -2,7 +2,7 @@ use Rattle.std.proofs.Common.{refl}
 use Rattle.router_desk.specs.declared.circuit_config.CircuitConfig.{CircuitConfig}
 use Rattle.router_desk.specs.Limits.{IsCircuit}
 use Rattle.network_lab.proofs.ConfigLemmas.{priority-fits}
-use Rattle.network_lab.proofs.SetupLemmas.{change-setup}
+use Rattle.network_lab.proofs.SetupLemmas.{both-there, change-setup}
 use Rattle.network_lab.proofs.network.Network.set_priority.Goals as goal
 
 pub invariant_of-self : goal.invariant_of-self
@@ -20,3 +20,6 @@ returns-clause-ok c = (change-setup (λ (x : CircuitConfig). record x { priority
     c.self.view_is c.self.invariant c.requires.setup c.requires.there c.index.ensures c.index-2.ensures c.as_slice.ensures c.from-place.ensures c.index-as_slice-place.is c.in_ok-changed.ensures
     (λ (f : IsCircuit c.index-as_slice-place.result). priority-fits c.index-as_slice-place.result c.args.priority f c.requires.priority) (λ x. refl)
     c.in_ok-setup.ensures.config c.in_ok-setup.ensures.router c.in_ok-setup.ensures.reached c.put_setup.ensures.configs c.put_setup.ensures.routers).1
+
+pub put_setup-requires : goal.put_setup-requires
+put_setup-requires c = record { there = both-there c.self.inside.ports.items c.self.inside.ordered.items _ c.args.self.now c.args.router c.self.view_is c.self.invariant c.requires.there.0 }
