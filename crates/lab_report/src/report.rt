@@ -2,6 +2,7 @@
 ghost use Rattle.std.specs.Prelude.{◌≡◌, ◌≤◌, ◌<◌, ◌+◌, ◌++◌, length, if◌then◌else◌, OnOk, IfOk};
 ghost use Rattle.std.specs.List.{flat_map};
 ghost use Rattle.isis_base.specs.Texts.{hex_pair};
+ghost use Rattle.isis_model.specs.Places.{nth};
 ghost use Rattle.isis_base.specs.declared.level.Level.TheVariants as level;
 ghost use Rattle.network_model.specs.Networks.{numbered};
 ghost use Rattle.network_lab.specs.LinkStates.{runs_of, groups_at};
@@ -69,7 +70,7 @@ impl<'n, 't> Text for LabReport<'n, 't> {
         page.extend(self.head)?;
         self.head = b"";
         if let [name, others @ ..] = self.router_names {
-            add_router(page, name, self.net.router(self.router), self.routes[self.router].list())?;
+            add_block(page, name, self.net, &self.routes, self.router)?;
             self.router += 1;
             self.router_names = others;
             return Ok(true);
@@ -92,6 +93,22 @@ impl<'n, 't> Text for LabReport<'n, 't> {
         }
         Ok(false)
     }
+}
+
+/// The block of a router, by its number.
+fn add_block(
+    page: &mut Octets,
+    name: &str,
+    net: &Network,
+    routes: &[&Routes],
+    router: usize,
+) -> Result<(), OutOfMemory>
+    requires there { router < length net.now.seen.routers }
+    requires told { length routes.now ≡ length net.now.seen.routers }
+    ensures { OnOk result (page.new ≡ page.old ++ lines.router_block name.now
+        (nth net.now.seen.routers router) (lines.routes_at (routes_of routes.now) router)) }
+{
+    add_router(page, name, net.router(router), routes[router].list())
 }
 
 /// The routes of each router.
