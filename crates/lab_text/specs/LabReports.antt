@@ -1,5 +1,5 @@
 -- The report of a lab script (own).
-use Rattle.std.specs.Prelude.{◌≡◌, ℕ, List, Result, Ok, Err, Unit, tt}
+use Rattle.std.specs.Prelude.{◌≡◌, ℕ, List, Result, Ok, Err}
 use Rattle.route_table.specs.declared.route.Route.{Route}
 use Rattle.network_model.specs.Networks.{Network}
 use Rattle.network_lab.specs.LabNets.{Seen, LabNet, seen_of}
