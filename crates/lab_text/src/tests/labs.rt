@@ -1,7 +1,6 @@
-//! Tables of lab scripts: each cause of a drop that a link knows, levels, keys, lines `run`, refused events, the greatest number, and the limit of prefixes.
+//! Tables of lab scripts: each cause of a drop that a link knows, levels, keys, lines `run`, refused events, and the greatest number.
 use super::{ends, refused};
-use crate::{Reason, RunFault};
-use network_lab::LimitName;
+use crate::Reason;
 use std::alloc::Global;
 use std::test::Fail;
 
@@ -361,28 +360,3 @@ fn first_unended(alloc: Global) -> Result<Option<u32>, Fail> {
 
 const AWAY: &str =
     "router B 0000.0000.0002 boot 1\nlsp B L1 0000.0000.0001.00-00 2 live\nlsp B L1 0000.0000.0002.00-00 2 live\nlink X L1 down\nagree L1 routers 2 groups 2\nagree L2 routers 0 groups 0\ninjected 1\ndatagrams 14\n";
-
-#[test]
-fn prefixes_are_limited_at_4_096(rt: HostRuntime) -> Result<(), Fail> {
-    let alloc = rt.alloc();
-    let prefixes = Err(RunFault::Limit(LimitName::Prefixes));
-    assert!(rt; ends_behind_prefixes(alloc, "prefix A 9.0.0.0/24 1", prefixes)?);
-    let again = refused(4102, Reason::NotSent);
-    assert!(rt; ends_behind_prefixes(alloc, "prefix A 10.0.0.0/24 2\ndeliver 0 A", again)?);
-    Ok(())
-}
-
-/// Whether a run ends so where A has 4,096 prefixes, and these lines follow.
-fn ends_behind_prefixes(
-    alloc: Global,
-    lines: &str,
-    end: Result<(), RunFault>,
-) -> Result<bool, Fail> {
-    let mut text = String::from_str(alloc, START)?;
-    for number in 0..4096u32 {
-        let (high, low) = (number / 256, number % 256);
-        write!(text, "prefix A 10.{high}.{low}.0/24 1\n")?;
-    }
-    text.push_str(lines)?;
-    ends(alloc, text.as_str(), end, "")
-}
