@@ -25,3 +25,6 @@ mod systems;
 
 pub use following::Following;
 pub use lent::{Lent, ids_law};
+
+#[cfg(test)]
+mod tests;
