@@ -1,2 +1,4 @@
 mod GridLemmas
+mod HeadLemmas
+mod RunLemmas
 mod TallyLemmas

@@ -1,4 +1,5 @@
 pub mod GridLines
+pub mod GridRuns
 pub mod GridText
 pub mod SummaryText
 pub mod Tallies
