@@ -13,11 +13,7 @@ use spf_tree::Hops;
 const GREATEST_COST: u64 = 4_261_412_864;
 
 /// Adds a line for each route, by prefix.
-pub(crate) fn add_routes(
-    page: &mut Octets,
-    name: &str,
-    routes: &[Route],
-) -> Result<(), OutOfMemory>
+pub(crate) fn add_routes(page: &mut Octets, name: &str, routes: &[Route]) -> Result<(), OutOfMemory>
     ensures { OnOk result (page.new
         ≡ page.old ++ flat_map (lines.route_line name.now) routes.now) }
 {

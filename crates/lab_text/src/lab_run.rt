@@ -78,7 +78,13 @@ fn begin<'n>(
     ensures routes { IfOk result (λ report.
         AreAllRoutes net.now.seen.routers (routes_of report.routes.items)) }
 {
-    LabReport::new(alloc, net, router_names_of(script), link_names_of(script), dumps)
+    LabReport::new(
+        alloc,
+        net,
+        router_names_of(script),
+        link_names_of(script),
+        dumps,
+    )
 }
 
 /// The routers' names.
