@@ -1,1 +1,2 @@
+mod GridLemmas
 pub mod ShowLemmas

@@ -1,4 +1,5 @@
 pub mod Commands
+pub mod GridEnds
 pub mod Runs
 pub mod ShowText
 pub mod ShownLeft

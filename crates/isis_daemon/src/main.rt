@@ -1,15 +1,17 @@
 //! The program `isis`.
 //!
 //! `isis lab` reads a script from standard input and writes its report to standard output. `isis show` reads lines of
-//! hex text, each one PDU, and writes their fields. Where the exit code isn't 0, the status's line stands on standard
+//! hex text, each one PDU, and writes their fields. `isis grid N`, with N from 1 to 8, runs a grid of N rows and as many
+//! columns of routers, and writes a summary. Where the exit code isn't 0, the status's line stands on standard
 //! error.
 //!
 //! - `run.rt`: the call `run`, from the octets read to the octets written
-//! - `command.rt`: what the words ask for; `status.rt`: how a run ends
+//! - `command.rt`: what the words ask for; `status.rt`: how a run ends; `grid.rt`: the run of a grid
 //! - `show.rt`: the call `show`, line by line; `show/lines.rt` the lines of a PDU, and `shown.rt` what is still to come
 #![tactic(auto)]
 
 mod command;
+mod grid;
 mod run;
 mod show;
 mod shown;

@@ -1,11 +1,14 @@
 //! The call `run`, from the octets read to the octets written.
-ghost use Rattle.std.specs.Prelude.{◌≡◌, ◌≤◌, [], length, map, Some, None, string_bytes, IfSome, IsSomeAnd, ◌↔◌};
+ghost use Rattle.std.specs.Prelude.{◌≡◌, ◌≤◌, [], length, map, Some, None, string_bytes, IfSome, IsOk, IsSomeAnd, ◌↔◌};
 ghost use Rattle.isis_edge.specs.Faults.{Rose};
 ghost use Rattle.isis_edge.specs.Told.{TellsSame};
-ghost use Rattle.isis_daemon.specs.Commands.{command_of};
+ghost use Rattle.lab_grid.specs.GridRuns.{grid_end, IsClaimedGrid};
+ghost use Rattle.isis_daemon.specs.Commands.{command_of, grid_size_of, AreNone};
+ghost use Rattle.isis_daemon.specs.GridEnds.{GridEnds};
 ghost use Rattle.isis_daemon.specs.Runs.{input_limit, Ends, IsClaimedInput, IsTaken, IsDoneUnlessMemory};
 
-use crate::command::{Command, command_of};
+use crate::command::{Command, command_of, grid_size_of};
+use crate::grid::grid;
 use crate::shown::Shown;
 use crate::status::{INPUT_LIMIT, Status};
 use isis_edge::{Sink, Source, read_whole, write_text};
@@ -16,13 +19,14 @@ use std::alloc::Global;
 /// tested first, then the input is read. Of `lab` it is a script, which is read and played, and at last the report is
 /// written; of `show` it is shown line by line. At `lab` and status 0 the claim of links held after each event of the
 /// script (ISO 10589 7.3.17), where nothing was injected; the report's numbers of links that are up say so too.
+/// At `grid N` no input is read: the script of a grid is run, with the same claim, and its summary is written.
 pub fn run<I: Source, O: Sink>(
     alloc: Global,
     words: &[String],
     input: &mut I,
     output: O,
 ) -> (O, Status)
-    ensures usage { (result.1 ≡ Status.Usage) ↔ (command_of (map string_bytes words.now) ≡ None) }
+    ensures usage { (result.1 ≡ Status.Usage) ↔ AreNone (map string_bytes words.now) }
     ensures untouched { result.1 ≡ Status.Usage
         → (I.left input.new ≡ I.left input.old) × (I.faults input.new ≡ I.faults input.old) × (result.0 ≡ output) }
     ensures ends { IfSome (command_of (map string_bytes words.now))
@@ -40,11 +44,24 @@ pub fn run<I: Source, O: Sink>(
         → IsDoneUnlessMemory result.1) }
     ensures later { (I.faults input.old ≤ I.faults input.new)
         × (O.faults output ≤ O.faults result.0) }
+    ensures grid { IfSome (grid_size_of (map string_bytes words.now))
+        (λ size. GridEnds size (O.held output) (O.held result.0) result.1) }
+    ensures grid_unread { IfSome (grid_size_of (map string_bytes words.now))
+        (λ _. (I.left input.new ≡ I.left input.old) × (I.faults input.new ≡ I.faults input.old)) }
+    ensures grid_claimed { result.1 ≡ Status.Done
+        → IfSome (grid_size_of (map string_bytes words.now)) IsClaimedGrid }
+    ensures grid_complete { IfSome (grid_size_of (map string_bytes words.now))
+        (λ size. IsOk (grid_end size) → ¬ Rose (O.faults output) (O.faults result.0)
+        → IsDoneUnlessMemory result.1) }
 {
+    let mut output = output;
+    if let Some(size) = grid_size_of(words) {
+        let status = grid(alloc, size, &mut output);
+        return (output, status);
+    }
     let Some(command) = command_of(words) else {
         return (output, Status::Usage);
     };
-    let mut output = output;
     let status = execute(alloc, command, input, &mut output);
     (output, status)
 }
