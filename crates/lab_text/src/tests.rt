@@ -40,7 +40,7 @@ const REPORTS: [(&str, &str); 12] = [
     ),
     (
         "isis-lab 1\nrouter A 0000.0000.0001 49.0001 L1\nrouter B 0000.0000.0002 49.0001 L1\nlink X A B 10\nrun 5\ntick A\npull A X\ndeliver 11 B\npull B X\nprefix A 10.0.2.0/24 10\ntick A\ntick A\ntick A\ntick A\ntick A\ndeliver 12 A\n",
-        "isis-report 1\nrouter A 0000.0000.0001 boot 1\nlsp A L1 0000.0000.0001.00-00 3 live\nlsp A L1 0000.0000.0002.00-00 1 live\nrouter B 0000.0000.0002 boot 1\nlsp B L1 0000.0000.0001.00-00 2 live\nlsp B L1 0000.0000.0002.00-00 1 live\nlink X L1 up flags 1 0 ahead 1 0 excepted 0\nagree L1 routers 2 groups 2\nagree L2 routers 0 groups 0\ninjected 0\ndatagrams 12\n",
+        "isis-report 1\nrouter A 0000.0000.0001 boot 1\nlsp A L1 0000.0000.0001.00-00 3 live\nlsp A L1 0000.0000.0002.00-00 1 live\nroute A 10.0.2.0/24 own 10\nrouter B 0000.0000.0002 boot 1\nlsp B L1 0000.0000.0001.00-00 2 live\nlsp B L1 0000.0000.0002.00-00 1 live\nlink X L1 up flags 1 0 ahead 1 0 excepted 0\nagree L1 routers 2 groups 2\nagree L2 routers 0 groups 0\ninjected 0\ndatagrams 12\n",
     ),
     (
         "isis-lab 1\nrouter A 0000.0000.0001 49.0001 L1\nrouter B 0000.0000.0002 49.0001 L1\nlink X A B 10\npull A X\ndeliver 1 B\npull B X\nrestart A\ndeliver 2 A\npull A X\ndeliver 3 B\npull B X\ndeliver 4 A\npull A X\ndeliver 5 B\n",
@@ -52,7 +52,7 @@ const REPORTS: [(&str, &str); 12] = [
     ),
     (
         "isis-lab 1\nrouter A 0000.0000.0001 49.0001 L1\nrouter B 0000.0000.0002 49.0001 L1\nlink X A B 10\nprefix A 10.0.1.0/24 10\nrun 7\nprefix A 10.0.2.0/24 10\nrestart A\nrun 3\n",
-        "isis-report 1\nrouter A 0000.0000.0001 boot 2\nlsp A L1 0000.0000.0001.00-00 3 live\nlsp A L1 0000.0000.0002.00-00 2 live\nrouter B 0000.0000.0002 boot 1\nlsp B L1 0000.0000.0001.00-00 3 live\nlsp B L1 0000.0000.0002.00-00 2 live\nlink X L1 up flags 0 0 ahead 0 0 excepted 0\nagree L1 routers 2 groups 1\nagree L2 routers 0 groups 0\ninjected 0\ndatagrams 26\n",
+        "isis-report 1\nrouter A 0000.0000.0001 boot 2\nlsp A L1 0000.0000.0001.00-00 3 live\nlsp A L1 0000.0000.0002.00-00 2 live\nroute A 10.0.1.0/24 own 10\nroute A 10.0.2.0/24 own 10\nrouter B 0000.0000.0002 boot 1\nlsp B L1 0000.0000.0001.00-00 3 live\nlsp B L1 0000.0000.0002.00-00 2 live\nroute B 10.0.1.0/24 L1 20 via 0000.0000.0001\nroute B 10.0.2.0/24 L1 20 via 0000.0000.0001\nlink X L1 up flags 0 0 ahead 0 0 excepted 0\nagree L1 routers 2 groups 1\nagree L2 routers 0 groups 0\ninjected 0\ndatagrams 26\n",
     ),
 ];
 
