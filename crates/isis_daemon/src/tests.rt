@@ -187,10 +187,22 @@ fn words_and_long_inputs_are_tested(rt: HostRuntime) -> Result<(), Fail> {
 
 /// Grids, and what is summed up of them: the ways from each router to each other, of 10 a link and 10 for the prefix.
 const GRIDS: [(&str, &[u8]); 4] = [
-    ("1", b"grid 1\nrouters 1\nlinks 0\ngroups 1\nroutes 1\ncost 10\ngreatest 10\n"),
-    ("2", b"grid 2\nrouters 4\nlinks 4\ngroups 1\nroutes 16\ncost 320\ngreatest 30\n"),
-    ("3", b"grid 3\nrouters 9\nlinks 12\ngroups 1\nroutes 81\ncost 2250\ngreatest 50\n"),
-    ("4", b"grid 4\nrouters 16\nlinks 24\ngroups 1\nroutes 256\ncost 8960\ngreatest 70\n"),
+    (
+        "1",
+        b"grid 1\nrouters 1\nlinks 0\ngroups 1\nroutes 1\ncost 10\ngreatest 10\n",
+    ),
+    (
+        "2",
+        b"grid 2\nrouters 4\nlinks 4\ngroups 1\nroutes 16\ncost 320\ngreatest 30\n",
+    ),
+    (
+        "3",
+        b"grid 3\nrouters 9\nlinks 12\ngroups 1\nroutes 81\ncost 2250\ngreatest 50\n",
+    ),
+    (
+        "4",
+        b"grid 4\nrouters 16\nlinks 24\ngroups 1\nroutes 256\ncost 8960\ngreatest 70\n",
+    ),
 ];
 
 #[test]
