@@ -1,5 +1,0 @@
-pub mod DeskLemmas
-pub mod HistoryLemmas
-pub mod HexLemmas
-pub mod LineLemmas
-pub mod ToldLemmas
