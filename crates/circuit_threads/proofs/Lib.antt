@@ -1,0 +1,5 @@
+pub mod DeskLemmas
+pub mod HistoryLemmas
+pub mod HexLemmas
+pub mod LineLemmas
+pub mod ToldLemmas

@@ -1,0 +1,38 @@
+-- A shared router as contracts see it: what it was made of, and its passes (own).
+use Rattle.std.specs.Prelude.{ℕ}
+use Rattle.isis_model.specs.Routers.{Router}
+use Rattle.turn_lock.specs.declared.noted.Noted as noted
+use Rattle.turn_lock.specs.declared.pass.Pass.{Pass}
+use Rattle.turn_lock.specs.Passes as passes
+use Rattle.circuit_threads.specs.declared.journal.Journal.{Ghosts}
+use Rattle.circuit_threads.specs.declared.behind.Behind.{Behind}
+use Rattle.circuit_threads.specs.declared.behind.Start.{Start}
+use Rattle.circuit_threads.specs.declared.entry.Note.{Note}
+use Rattle.circuit_threads.specs.declared.shared.SharedRouter.{SharedRouter}
+use Rattle.circuit_threads.specs.Shared.{start_at}
+
+module _ {J : Type 0} {journal : Ghosts J} where
+  -- the router and the journal that it was made of (own)
+  abbrev pub start_of : SharedRouter J journal → Start J
+  start_of s = start_at (λ (b : Behind J journal). b.notes.beginning) s.lock
+
+  abbrev pub first_router : SharedRouter J journal → Router
+  first_router s = (start_of s).router.value
+
+  abbrev pub first_journal : SharedRouter J journal → J
+  first_journal s = (start_of s).journal.value
+
+  -- all turns that its passes had at first (own)
+  abbrev pub all_turns : SharedRouter J journal → ℕ
+  all_turns s = passes.all_turns s.lock
+
+  module _ {tells : noted.Ghosts (Behind J journal) Note (Start J)} where
+    -- the pass is one of its own (own)
+    abbrev pub IsPassOf : SharedRouter J journal → Pass (Behind J journal) Note (Start J) tells
+        → Type 0
+    IsPassOf s p = passes.Belongs s.lock p
+
+    -- all its turns are left or the pass's own (own)
+    abbrev pub HasAll : SharedRouter J journal → Pass (Behind J journal) Note (Start J) tells
+        → Type 0
+    HasAll s p = passes.IsWhole s.lock p

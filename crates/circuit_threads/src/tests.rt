@@ -1,0 +1,265 @@
+//! Calls run once with ample memory, and what no clause says: the text of a journal as it lies behind a
+//! sink, an append that fails, and turns of two threads.
+ghost use Rattle.std.specs.Prelude.{◌≡◌, ◌+◌, ◌≤◌, length, true, IfOk};
+ghost use Rattle.router_desk.specs.Desks.{desk_of};
+ghost use Rattle.router_core.specs.Events.{IsThere};
+ghost use Rattle.turn_lock.specs.Passes.{turns_left, splits};
+ghost use Rattle.circuit_threads.specs.Sharing.{first_router, IsPassOf};
+
+use crate::{Behind, Pass, Receipt, SharedRouter, SubmitFault, TextJournal};
+use isis_base::{
+    AreaAddress, CircuitKind, Level, LevelSet, LspId, NodeId, Octets, OutOfMemory, SystemId,
+};
+use isis_edge::MemorySink;
+use router_core::{NodeEvent, Router};
+use router_desk::{Areas, Change, CircuitConfig, Circuits, Config, DropName, Prefixes};
+use std::alloc::Global;
+use std::sync::Wait;
+use std::test::Fail;
+use std::thread;
+use std::thread::Threads;
+
+type Journal = TextJournal<MemorySink>;
+
+type Shared = SharedRouter<Journal>;
+
+type SharedPass = Pass<Behind<Journal>>;
+
+const SYSTEM: SystemId = SystemId([0, 0, 0, 0, 0, 1]);
+
+/// A router of level 1 with one area and one link, in boot 1.
+fn router(alloc: Global) -> Result<Router, OutOfMemory> {
+    let mut areas = Areas::new(alloc);
+    if let Some(area) = AreaAddress::new(&[0x49, 0, 1]) {
+        areas.push(area)?;
+    }
+    let mut circuits = Circuits::new(alloc);
+    circuits.push(CircuitConfig {
+        kind: CircuitKind::PointToPoint,
+        metric: 10,
+        priority: 64,
+        address: None,
+        key: None,
+    })?;
+    let config = Config {
+        system: SYSTEM,
+        areas,
+        levels: LevelSet::One,
+        leak: false,
+        overload: false,
+        circuits,
+        prefixes: Prefixes::new(alloc),
+        area_key: None,
+        domain_key: None,
+    };
+    if !config.valid() {
+        return Err(OutOfMemory);
+    }
+    match Router::new(alloc, config, 1) {
+        Ok(router) => Ok(router),
+        Err((_back, error)) => Err(error),
+    }
+}
+
+/// A router shared for so many turns, whose journal's sink has that room.
+fn shared(alloc: Global, room: usize, turns: u64) -> Result<(Shared, SharedPass), OutOfMemory>
+    ensures { IfOk result (λ r. IsPassOf r.0 r.1 × (turns_left r.1 ≡ turns)
+        × (splits r.1 ≡ 0)) }
+{
+    let router = router(alloc)?;
+    let sink = MemorySink::new(alloc, room, 100, Vec::new(alloc))?;
+    let Ok(journal) = TextJournal::open(sink) else {
+        return Err(OutOfMemory);
+    };
+    match SharedRouter::new(alloc, router, journal, turns) {
+        Ok(made) => Ok(made),
+        Err((_router, _journal, error)) => Err(error),
+    }
+}
+
+/// The LSPs of level 1 that a router holds, and the sequence number of its own.
+fn held(router: &Router) -> (usize, u32) {
+    let node = NodeId {
+        system: SYSTEM,
+        pseudonode: 0,
+    };
+    let own = LspId { node, number: 0 };
+    let Some(book) = router.book(Level::One) else {
+        return (0, 0);
+    };
+    match book.key(own) {
+        Some(key) => (book.store().len(), key.number),
+        None => (book.store().len(), 0),
+    }
+}
+
+/// Whether two routers say the same of their boot, drops and LSPs, of which they have some.
+fn are_alike(a: &Router, b: &Router) -> bool {
+    let (count, number) = held(a);
+    let (other_count, other_number) = held(b);
+    let same_drops = a.drops(DropName::Frame) == b.drops(DropName::Frame);
+    let same_held = count == other_count && number == other_number;
+    a.boot() == b.boot() && same_drops && same_held && count == 1
+}
+
+/// Whether the shared router has a link.
+fn has_link(shared: &Shared) -> bool
+    ensures there { result ≡ true
+        → IsThere (first_router shared.now) 1 }
+    ensures desk { result ≡ true → 1 ≤ length
+        (desk_of (first_router shared.now).config (first_router shared.now).circuits).circuits }
+{
+    shared.desk().circuit_count() >= 1
+}
+
+/// What an answer says: 0 for an entry, 1 for one whose append failed, 2 for one at which it
+/// stopped, with the entry's number; 3 for want of memory.
+fn told_by(answer: &Result<Receipt, SubmitFault>) -> (u8, u64) {
+    match answer {
+        Ok(receipt) => (0, receipt.entry),
+        Err(SubmitFault::JournalFault(receipt)) => (1, receipt.entry),
+        Err(SubmitFault::Stopped { entry }) => (2, *entry),
+        Err(SubmitFault::OutOfMemory) => (3, 0),
+    }
+}
+
+/// Submits so many seconds.
+fn seconds<R: Wait>(rt: &R, shared: &Shared, pass: SharedPass, turns: u64) -> SharedPass
+    requires lock { IsPassOf shared.now pass }
+    requires left { turns ≤ turns_left pass }
+    ensures lock { IsPassOf shared.now result }
+    ensures left { turns_left result + turns ≡ turns_left pass }
+{
+    let mut pass = pass;
+    for _ in 0..turns {
+        let (next, _) = shared.submit(rt, pass, NodeEvent::Second);
+        pass = next;
+    }
+    pass
+}
+
+/// Submits so many seconds in each of two threads.
+fn two<R: Threads + Wait + Sync>(
+    rt: &R,
+    shared: &Shared,
+    pass: SharedPass,
+    turns: u64,
+) -> SharedPass
+    requires lock { IsPassOf shared.now pass }
+    requires left { turns + turns ≤ turns_left pass }
+    requires splits { splits pass ≤ 1 }
+    ensures lock { IsPassOf shared.now result }
+{
+    let (rest, first) = shared.split(pass, turns);
+    let (rest, second) = shared.split(rest, turns);
+    let (first, second) = thread::join(
+        rt,
+        move || -> SharedPass
+            requires { IsPassOf shared.now first × (turns ≤ turns_left first) }
+            ensures { IsPassOf shared.entry.now result }
+        { seconds(rt, shared, first, turns) },
+        move || -> SharedPass
+            requires { IsPassOf shared.now second × (turns ≤ turns_left second) }
+            ensures { IsPassOf shared.entry.now result }
+        { seconds(rt, shared, second, turns) },
+    );
+    shared.join(shared.join(rest, first), second)
+}
+
+/// Whether a router is as one that is stepped by so many seconds alone.
+fn is_as_stepped(alloc: Global, router: &Router, seconds: u8) -> Result<bool, OutOfMemory> {
+    let mut alone = self::router(alloc)?;
+    for _ in 0..seconds {
+        alone.step(NodeEvent::Second)?;
+    }
+    Ok(are_alike(router, &alone))
+}
+
+/// Whether a journal has so many entries of pass 1, and of pass 2.
+fn has_entries(journal: Journal, count: usize) -> bool {
+    let sink = journal.into_sink();
+    let text = sink.octets();
+    count_of(text, b" 1 second") == count && count_of(text, b" 2 second") == count
+}
+
+/// Whether a shared router ends as one that is stepped by 200 seconds, of which passes 1 and 2 have
+/// 100 each.
+fn ends_as_stepped(alloc: Global, shared: Shared, pass: SharedPass) -> Result<bool, OutOfMemory>
+    requires { IsPassOf shared pass }
+{
+    let Ok((router, journal)) = shared.close(pass) else {
+        return Ok(false);
+    };
+    let same = is_as_stepped(alloc, &router, 200)?;
+    Ok(same && has_entries(journal, 100))
+}
+
+/// How often a piece stands in a text.
+fn count_of(text: &[u8], piece: &[u8]) -> usize {
+    let mut count: usize = 0;
+    for place in 0..text.len() {
+        if text[place..].starts_with(piece) {
+            count = count.wrapping_add(1);
+        }
+    }
+    count
+}
+
+const TEXT: &str = "isis-journal 1
+1 0 second -> done
+2 0 pull 1 -> send 49535531000000000001831401001101000001000000000001001e002401\
+0104034900018101ccf0050200000101
+3 0 take 1 00ff -> drop frame
+4 0 change metric 1 20 -> done
+";
+
+#[test]
+fn a_journal_is_written(rt: HostRuntime) -> Result<(), Fail> {
+    let (shared, pass) = shared(rt.alloc(), 1000, 4)?;
+    assert!(rt; has_link(&shared));
+    let mut datagram = Octets::new(rt.alloc());
+    datagram.extend(&[0x00, 0xff])?;
+    let opened = shared.desk().open(1, datagram);
+    let (pass, _) = shared.submit(&rt, pass, NodeEvent::Second);
+    let (pass, _) = shared.submit(&rt, pass, NodeEvent::Pull { circuit: 1 });
+    let (pass, _) = shared.submit(&rt, pass, NodeEvent::Take(opened));
+    let change = Change::Metric {
+        circuit: 1,
+        metric: 20,
+    };
+    let (pass, _) = shared.submit(&rt, pass, NodeEvent::Change(change));
+    let Ok((_router, journal)) = shared.close(pass) else {
+        panic!(rt; "no turn is out")
+    };
+    let sink = journal.into_sink();
+    assert_eq!(rt; sink.octets(), TEXT.as_bytes());
+    Ok(())
+}
+
+#[test]
+fn an_append_that_fails_stops_all(rt: HostRuntime) -> Result<(), Fail> {
+    let (shared, pass) = shared(rt.alloc(), 42, 3)?;
+    let (pass, first) = shared.submit(&rt, pass, NodeEvent::Second);
+    let (pass, second) = shared.submit(&rt, pass, NodeEvent::Second);
+    let (pass, third) = shared.submit(&rt, pass, NodeEvent::Second);
+    assert_eq!(rt; told_by(&first), (0, 1));
+    assert_eq!(rt; told_by(&second), (1, 2));
+    assert_eq!(rt; told_by(&third), (2, 2));
+    let Ok((_router, journal)) = shared.close(pass) else {
+        panic!(rt; "no turn is out")
+    };
+    let sink = journal.into_sink();
+    assert_eq!(rt;
+        sink.octets(),
+        b"isis-journal 1\n1 0 second -> done\n2 0 seco".as_slice()
+    );
+    Ok(())
+}
+
+#[test]
+fn two_threads_submit(rt: HostRuntime) -> Result<(), Fail> {
+    let (shared, pass) = shared(rt.alloc(), 10_000, 200)?;
+    let pass = two(&rt, &shared, pass, 100);
+    assert!(rt; ends_as_stepped(rt.alloc(), shared, pass)?);
+    Ok(())
+}
