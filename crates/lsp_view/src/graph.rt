@@ -22,9 +22,10 @@ pub fn rows(alloc: Global, store: &Store) -> Result<Vec<Row>, OutOfMemory>
     ensures { IfOk result (λ rows. rows.items ≡ rows_in store.now.entries) }
 {
     let mut rows = Vec::new(alloc);
+    let mut items = Vec::new(alloc);
     for (id, entry) in store.live() {
         if lead(store, id.node).is_some() {
-            match add_rows(alloc, &mut rows, id.node, entry.octets.as_slice()) {
+            match add_rows(&mut items, &mut rows, id.node, entry.octets.as_slice()) {
                 Ok(()) => {}
                 Err(error) => return Err(error),
             }
@@ -33,9 +34,9 @@ pub fn rows(alloc: Global, store: &Store) -> Result<Vec<Row>, OutOfMemory>
     Ok(rows)
 }
 
-/// Adds the rows that the octets of a node's LSP list.
+/// Adds the rows that the octets of a node's LSP list. The list of items is room that is used again.
 fn add_rows(
-    alloc: Global,
+    items: &mut Vec<NeighbourItem>,
     rows: &mut Vec<Row>,
     node: NodeId,
     octets: &[u8],
@@ -43,8 +44,8 @@ fn add_rows(
     ensures { OnOk result (rows.new.items
         ≡ rows.old.items ++ map (row_from node) (neighbours_in octets.now)) }
 {
-    let mut items = Vec::new(alloc);
-    match add_items::<NeighbourItem>(&mut items, NEIGHBOURS, octets) {
+    items.clear();
+    match add_items::<NeighbourItem>(items, NEIGHBOURS, octets) {
         Ok(()) => {}
         Err(error) => return Err(error),
     }

@@ -1,7 +1,5 @@
 -- Events that change no key.
 use Rattle.std.proofs.Common.{◌≡◌, ◌∙◌, ℕ, ◌==◌, nat_lt, Bool, true, false, not, ◌&&◌, ◌||◌, List, [], ◌∷◌, length, Option, Some, None, refl, sym, ap, subst, if◌then◌else◌, eqb, inl, inr}
-use Rattle.std.specs.Option.{option_map}
-use Rattle.std.specs.List.{AllByRecursion}
 use Rattle.std.proofs.lemmas.Bool.{cases_eq, eq-eqb, ne_eqb, eqb-true, and_parts}
 use Rattle.isis_base.specs.declared.level.Level.{Level}
 use Rattle.isis_base.specs.declared.level.Level.TheVariants as level
@@ -11,7 +9,7 @@ use Rattle.isis_model.specs.declared.lsp_case.LspCase.{LspCase}
 use Rattle.isis_model.specs.declared.lsp_case.LspCase.TheVariants as lsp
 use Rattle.isis_model.specs.declared.snp_case.SnpCase.{SnpCase}
 use Rattle.isis_model.specs.declared.snp_case.SnpCase.TheVariants as snp
-use Rattle.isis_model.specs.Maps.{find, set_at}
+use Rattle.isis_model.specs.Maps.{find}
 use Rattle.isis_model.specs.Sets.{has}
 use Rattle.isis_model.specs.Places.{nth}
 use Rattle.isis_model.specs.Ranks.{is_purge, is_live}
@@ -21,7 +19,7 @@ use Rattle.isis_model.specs.LspTable.{is_issued, is_unissued, differs, is_newer,
 use Rattle.isis_model.specs.SnpTable.{SnpEntry, snp_case, sets_flag, snp_row, hear_entry, hear_range}
 use Rattle.isis_model.specs.Openings.{close, open_up, set_open}
 use Rattle.isis_model.specs.Takes.{Scene, whose_of, lsp_taken, take_lsp, entry_taken, take_entry, take_entries, take_range, take_snp}
-use Rattle.isis_model.specs.Routers.{Circuit, LevelState, Router, level_of, book_of, with_book, with_level, with_circuit, is_open}
+use Rattle.isis_model.specs.Routers.{Circuit, LevelState, Router, level_of, book_of, with_level, with_circuit, is_open}
 use Rattle.isis_model.specs.Adjacencies.{Hello, Handshake, common_of, is_same}
 use Rattle.isis_model.specs.Hellos.{follow_circuit, follow, point_circuit, lan_circuit, take_point, take_lan}
 use Rattle.isis_model.specs.Givens.{Given}
@@ -29,7 +27,7 @@ use Rattle.isis_model.specs.Both.{at, alone}
 use Rattle.isis_model.specs.SnpLists.{owed}
 use Rattle.isis_model.specs.Pulls.{Sending, on_circuit, at_circuit, pull_hello, is_csnp_due, pull_csnp, sent, pull_lsps, answered, pull_psnp, pull_level, pull}
 use Rattle.isis_model.specs.Receiving.{scene_of, greeted, taken, take_or_drop, take, drop_of}
-use Rattle.isis_model.specs.Events.{Message, Refused, PointHelloHeard, LanHelloHeard, LspHeard, SnpHeard, Event, Second, Take, Pull, Metric, Overload, Prefix, settled}
+use Rattle.isis_model.specs.Events.{Message, Refused, PointHelloHeard, LanHelloHeard, LspHeard, SnpHeard, Event, Second, Take, Pull, Metric, Overload, Prefix}
 use Rattle.isis_model.specs.Steps.{step, with_metric}
 use Rattle.isis_model.proofs.MapLemmas.{find-set_at}
 use Rattle.router_core.specs.Calm.{is_calm_row, AreClear, IsCalmMessage, IsCalm, SameCounts}
@@ -59,7 +57,7 @@ set-face b id new e f = record {
           | inr other ↦ rw (ne_eqb id q other) refl
         ]
 
-set-changes : (b : Book) (id : ℕ) (new : Option Cell) → rank_of new ≡ rank_of (cell_at b id) → (set_cell b id new).changes ≡ b.changes
+pub set-changes : (b : Book) (id : ℕ) (new : Option Cell) → rank_of new ≡ rank_of (cell_at b id) → (set_cell b id new).changes ≡ b.changes
 unfolding set_cell
 set-changes b id new e = ap (λ (t : Bool). if t then b.changes else risen b.changes) (eq-eqb (rank_of new) (rank_at b id) e)
 
@@ -197,7 +195,7 @@ level-counts : (r : Router) (l : Level) (s : LevelState) → s.book.changes ≡ 
 level-counts r level.One s e = record { one = e; two = refl }
 level-counts r level.Two s e = record { one = refl; two = e }
 
-open-changes : (b : Book) (place : ℕ) (up : Bool) → (set_open b place up).changes ≡ b.changes
+pub open-changes : (b : Book) (place : ℕ) (up : Bool) → (set_open b place up).changes ≡ b.changes
 unfolding open_up close
 open-changes b place true = by-test (has b.opened place)
   where

@@ -20,4 +20,5 @@ pub mod ReachedLemmas
 mod SecondLemmas
 mod QuietLemmas
 pub mod CalmLemmas
+mod LastLemmas
 pub mod RouteLemmas

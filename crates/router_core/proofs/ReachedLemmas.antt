@@ -3,7 +3,9 @@ use Rattle.std.proofs.Common.{◌≡◌, ℕ, zero, suc, ◌+◌, ◌-◌, ◌*�
 use Rattle.std.specs.List.{AllByRecursion}
 use Rattle.isis_base.specs.declared.level.LevelSet.{LevelSet}
 use Rattle.isis_base.specs.declared.level.LevelSet.TheVariants as levels
+use Rattle.isis_base.specs.declared.level.Level.{Level}
 use Rattle.isis_base.specs.declared.level.Level.TheVariants as level
+use Rattle.spf_repair.specs.Changes.{RepairedOf}
 use Rattle.isis_base.specs.declared.prefix.Prefix as base
 use Rattle.isis_tlv.specs.Fits.{IsArea}
 use Rattle.isis_tlv.specs.Spelling.{area_value, area_octets}
@@ -47,8 +49,9 @@ use Rattle.isis_model.specs.Hearings.{hearing}
 use Rattle.isis_model.specs.ContentLaws.{TellsBoth}
 use Rattle.isis_model.proofs.TellLemmas.{course-tells}
 use Rattle.router_routes.specs.Outlooks.{outlook_of}
-use Rattle.router_core.specs.Calm.{AreBelow, SameCounts, KeepsPrefixes}
-use Rattle.router_core.proofs.RouteLemmas.{step-outlook}
+use Rattle.router_routes.specs.Following.{IsLevel}
+use Rattle.router_core.specs.Calm.{AreBelow, SameCounts, Stands, KeepsPrefixes}
+use Rattle.router_core.proofs.RouteLemmas.{step-outlook, step-level}
 use Rattle.router_core.specs.Givens.{given, leaks_of, is_attached}
 use Rattle.router_core.specs.Heard.{HasOctets}
 use Rattle.router_core.specs.Reached.{IsReached}
@@ -223,3 +226,9 @@ pub outlook-stays : (r : Router) (event : Event) → IsReached r → AreBelow r 
 outlook-stays r event h below counts keeps =
     let s = h.speaking in
     step-outlook given r event s.sorted (sorted-after r event s.sorted) (tells r event) below counts keeps
+
+-- so do a level's distances where none of its keys changes
+pub level-stays : (r : Router) (event : Event) (l : Level) (d : RepairedOf) → IsReached r → Stands r (step given r event).router l → IsLevel (outlook_of r) l d → IsLevel (outlook_of (step given r event).router) l d
+level-stays r event l d h stands is =
+    let s = h.speaking in
+    step-level given r event l d s.sorted (sorted-after r event s.sorted) (tells r event) stands is

@@ -1,16 +1,15 @@
 -- What routes look at of a router as it lies, and that it stays where no key changes.
-use Rattle.std.proofs.Common.{◌≡◌, ◌∙◌, ℕ, ◌+◌, ◌-◌, ◌*◌, ◌/◌, ◌%◌, ◌^◌, ◌==◌, ◌<◌, ◌≤◌, nat_lt, Bool, true, false, not, cond, ◌&&◌, List, [], ◌∷◌, ◌++◌, length, map, Option, Some, None, refl, sym, ap, subst, arith, if◌then◌else◌, inl, inr}
+use Rattle.std.proofs.Common.{◌≡◌, ◌∙◌, ℕ, ◌+◌, ◌-◌, ◌*◌, ◌/◌, ◌%◌, ◌^◌, ◌<◌, ◌≤◌, Bool, true, false, not, cond, List, [], ◌∷◌, ◌++◌, length, map, Option, Some, None, refl, sym, ap, subst, arith, if◌then◌else◌, inl, inr}
 use Rattle.std.specs.List.{AllByRecursion}
 use Rattle.std.proofs.lemmas.Bool.{cases_eq, eq-eqb, ne_eqb}
 use Rattle.std.proofs.lemmas.Bool.Decides.{nat_tests}
-use Rattle.isis_base.specs.declared.identifiers.SystemId.{SystemId}
 use Rattle.isis_base.specs.declared.identifiers.NodeId.{NodeId}
 use Rattle.isis_base.specs.declared.identifiers.LspId.{LspId}
 use Rattle.isis_base.specs.declared.level.Level.{Level}
 use Rattle.isis_base.specs.declared.level.Level.TheVariants as level
 use Rattle.isis_base.specs.declared.prefix.Prefix.{Prefix}
 use Rattle.isis_base.specs.declared.key.Key.{Key}
-use Rattle.isis_base.specs.Identifiers.{IsId, lsp_number}
+use Rattle.isis_base.specs.Identifiers.{IsId}
 use Rattle.isis_base.specs.Keys.{rank}
 use Rattle.isis_base.specs.Prefixes.{prefix_from}
 use Rattle.isis_base.proofs.PrefixValues.{prefix_from-prefix}
@@ -20,14 +19,13 @@ use Rattle.isis_model.specs.Maps.{find}
 use Rattle.isis_model.specs.Sorted.{RisesFrom, IsSorted}
 use Rattle.isis_model.specs.Ranks.{is_live}
 use Rattle.isis_model.specs.Cells.{Cell}
-use Rattle.isis_model.specs.Books.{Book, cell_at, rank_of}
+use Rattle.isis_model.specs.Books.{Book, cell_at}
 use Rattle.isis_model.specs.Places.{nth}
 use Rattle.isis_model.specs.Routers.{Router, book_of}
 use Rattle.isis_model.specs.Deeds.{Content, content_of}
-use Rattle.isis_model.specs.ContentLaws.{held_content, SameKey, Tells, TellsBoth}
-use Rattle.isis_model.specs.Hearings.{Source}
+use Rattle.isis_model.specs.ContentLaws.{SameKey, TellsBoth}
 use Rattle.isis_model.specs.Events.{Event, Second, Take, Pull, Metric, Overload, Prefix as ChangePrefix}
-use Rattle.isis_model.specs.Steps.{step}
+use Rattle.isis_model.specs.Steps.{step, with_prefix}
 use Rattle.isis_model.specs.Givens.{Given}
 use Rattle.isis_datagram.specs.Numbers.{lsp_id, system_id, system_number}
 use Rattle.isis_datagram.specs.Reading.{runs_of}
@@ -38,14 +36,16 @@ use Rattle.flag_sync.specs.declared.flag_row.FlagRow.{FlagRow}
 use Rattle.flag_sync.specs.BookStates as sync
 use Rattle.flag_sync.specs.BookStates.{BookState, cells_of}
 use Rattle.lsp_octets.proofs.DraftLemmas.{id-again}
-use Rattle.lsp_view.specs.Views.{own_node}
+use Rattle.lsp_view.specs.Views.{own_node, rows_in, overloaded_in}
+use Rattle.spf_tree.specs.Graphs.{AreUsable}
+use Rattle.spf_repair.specs.Changes.{RepairedOf}
 use Rattle.lsp_wanted.specs.Views.{prefix_pair}
 use Rattle.router_routes.specs.declared.lent.Lent.{Lent}
 use Rattle.router_routes.specs.Told.{told, told_pair, told_in, told_by}
 use Rattle.router_routes.specs.Outlooks.{Outlook, where_run, with_metric, prefixes_by, outlook_of, outlook_in}
-use Rattle.router_routes.specs.Following.{FollowingOf, IsFollowing, IsRooted}
+use Rattle.router_routes.specs.Following.{FollowingOf, IsFollowing, IsLevel, IsRooted}
 use Rattle.router_routes.proofs.LeakLemmas.{maps-same}
-use Rattle.router_core.specs.Calm.{AreBelow, SameCounts, KeepsPrefixes}
+use Rattle.router_core.specs.Calm.{AreBelow, SameCounts, Stands, KeepsPrefixes}
 use Rattle.router_core.proofs.RestLemmas.{Rests, second-rests, take-rests, pull-rests, metric-rests}
 
 -- ---- what the databases tell
@@ -248,3 +248,51 @@ step-rooted given r event t lent f system same is =
       graph_one = is.one.graph.from ∙ root;
       graph_two = is.two.graph.from ∙ root;
     }
+
+-- ---- a level whose keys stay
+
+record SameFrame (r t : Router) : Type 0 where
+  pub system : t.config.system ≡ r.config.system
+  pub runs : t.config.runs ≡ r.config.runs
+
+frame-of : (r t : Router) → SameConfig r t → SameFrame r t
+frame-of r t s = record { system = s.system; runs = s.runs }
+
+prefix-frame : (r : Router) (prefix : ℕ) (metric : Option ℕ) → SameFrame r (with_prefix r prefix metric)
+prefix-frame r prefix None = record { system = refl; runs = refl }
+prefix-frame r prefix (Some metric) = record { system = refl; runs = refl }
+
+step-frame : (given : Given) (r : Router) (event : Event) → SameFrame r (step given r event).router
+unfolding step
+step-frame given r Second = frame-of r (step given r Second).router (step-config given r Second tt)
+step-frame given r (Take place m) = frame-of r (step given r (Take place m)).router (step-config given r (Take place m) tt)
+step-frame given r (Pull place) = frame-of r (step given r (Pull place)).router (step-config given r (Pull place) tt)
+step-frame given r (Metric place metric) = frame-of r (step given r (Metric place metric)).router (step-config given r (Metric place metric) tt)
+step-frame given r (Overload on) = frame-of r (step given r (Overload on)).router (step-config given r (Overload on) tt)
+step-frame given r (ChangePrefix prefix metric) = let p = prefix-frame r prefix metric in record { system = p.system; runs = p.runs }
+
+told-level : (r t : Router) (l : Level) → t.config.runs ≡ r.config.runs → told_by (book_of t l).cells ≡ told_by (book_of r l).cells → at (outlook_of t).told l ≡ at (outlook_of r).told l
+unfolding outlook_of
+told-level r t level.One runs told = ap (λ (b : Both Bool). where_run b.one (told_by (book_of t level.One).cells)) runs ∙ ap (where_run r.config.runs.one) told
+told-level r t level.Two runs told = ap (λ (b : Both Bool). where_run b.two (told_by (book_of t level.Two).cells)) runs ∙ ap (where_run r.config.runs.two) told
+
+is-level : (o p : Outlook) (l : Level) (d : RepairedOf) → p.root ≡ o.root → at p.told l ≡ at o.told l → IsLevel o l d → IsLevel p l d
+is-level o p l d root same is = record {
+  root = is.root ∙ sym root;
+  graph = subst (λ (n : NodeId). AreUsable (rows_in (at p.told l)) (overloaded_in (at p.told l)) n d.graph) (sym root)
+      (subst (λ (ts : List (LspId × Entry)). AreUsable (rows_in ts) (overloaded_in ts) o.root d.graph) (sym same) is.graph);
+}
+
+pub step-level : (given : Given) (r : Router) (event : Event) (l : Level) (d : RepairedOf) → IsSorted r → IsSorted (step given r event).router → TellsBoth given event r (step given r event).router → Stands r (step given r event).router l → IsLevel (outlook_of r) l d → IsLevel (outlook_of (step given r event).router) l d
+step-level given r event l d sorted sorted-then tells stands is =
+    let t = (step given r event).router in
+    let frame = step-frame given r event in
+    let less : (book_of t l).changes < 2 ^ 64 - 1 = subst (λ (n : ℕ). n < 2 ^ 64 - 1) (sym stands.same) stands.below in
+    let same : told_by (book_of t l).cells ≡ told_by (book_of r l).cells = told-same (book_of r l) (book_of t l) (sorted.on l) (sorted-then.on l) ((tells.on l).same stands.same less) in
+    is-level (outlook_of r) (outlook_of t) l d (root-is t ∙ ap (λ (n : ℕ). own_node (system_id n)) frame.system ∙ sym (root-is r)) (told-level r t l frame.runs same) is
+
+-- the same of what is lent
+pub lent-level : (r s t : Router) (lent : Lent) (l : Level) (d : RepairedOf) (stands : Bool) → t ≡ s → outlook_in lent ≡ outlook_of t → (stands ≡ true → Stands r t l) → (Stands r s l → IsLevel (outlook_of r) l d → IsLevel (outlook_of s) l d) → IsLevel (outlook_of r) l d → not stands ≡ false → IsLevel (outlook_in lent) l d
+lent-level r s t lent l d true e same stood law is open-not =
+    subst (λ (o : Outlook). IsLevel o l d) (sym (same ∙ ap outlook_of e)) (law (subst (λ (q : Router). Stands r q l) e (stood refl)) is)
+lent-level r s t lent l d false e same stood law is open-not = absurd (let f : true ≡ false = open-not in cc)

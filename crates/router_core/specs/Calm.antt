@@ -1,5 +1,5 @@
 -- Events of which is known beforehand that no key changes, so that routes stay (own).
-use Rattle.std.specs.Prelude.{◌≡◌, ℕ, ◌-◌, ◌^◌, ◌<◌, Bool, true, false, List}
+use Rattle.std.specs.Prelude.{◌≡◌, ℕ, ◌-◌, ◌^◌, ◌<◌, ◌≤◌, nat_le, Bool, true, false, ◌&&◌, List, [], ◌∷◌}
 use Rattle.std.specs.List.{AllByRecursion}
 use Rattle.isis_base.specs.declared.level.Level.{Level}
 use Rattle.isis_model.specs.declared.lsp_case.LspCase.{LspCase}
@@ -7,6 +7,10 @@ use Rattle.isis_model.specs.declared.lsp_case.LspCase.TheVariants as lsp
 use Rattle.isis_model.specs.declared.whose.Whose.{Whose}
 use Rattle.flag_sync.specs.declared.heard.LspAnswer.{LspAnswer}
 use Rattle.flag_sync.specs.declared.heard.LspAnswer.TheVariants as answer
+use Rattle.isis_base.specs.declared.identifiers.LspId.{LspId}
+use Rattle.lsp_store.specs.declared.entry.Entry.{Entry}
+use Rattle.isis_model.specs.Cells.{Cell}
+use Rattle.isis_model.specs.Sorted.{RisesFrom}
 use Rattle.isis_model.specs.Books.{Book, cell_at}
 use Rattle.isis_model.specs.LspTable.{met}
 use Rattle.isis_model.specs.SnpTable.{SnpEntry, snp_case, sets_flag}
@@ -54,6 +58,11 @@ pub record AreBelow (r : Router) : Type 0 where
 pub record SameCounts (r t : Router) : Type 0 where
   pub on : (level : Level) → (book_of t level).changes ≡ (book_of r level).changes
 
+-- no key of a level changed, and its count is below its end
+pub record Stands (r t : Router) (level : Level) : Type 0 where
+  pub below : (book_of r level).changes < 2 ^ 64 - 1
+  pub same : (book_of t level).changes ≡ (book_of r level).changes
+
 -- whether an event leaves one's own prefixes
 abbrev pub KeepsPrefixes : Event → Type 0
 KeepsPrefixes Second = Unit {0}
@@ -72,3 +81,15 @@ is_calm_answer answer.Confused = false
 is_calm_answer (answer.Outbid above) = false
 is_calm_answer answer.PurgedOwn = false
 is_calm_answer answer.AckPurge = true
+
+-- ---- seconds
+
+-- no entry's time ends within a second (ISO 10589 7.3.16.3)
+abbrev pub all_last : List (LspId × Entry) → Bool
+all_last [] = true
+all_last (pair ∷ entries) = nat_le 2 pair.1.left && all_last entries
+
+-- the same of a book's cells, which are in order
+pub record AreLasting (book : Book) : Type 0 where
+  pub rises : RisesFrom 0 book.cells
+  pub last : AllByRecursion (λ (pair : ℕ × Cell). 2 ≤ pair.1.left) book.cells

@@ -11,3 +11,4 @@ pub mod Pulled
 pub mod PrefixLists
 pub mod Heard
 pub mod Seconds
+pub mod Designated

@@ -1,16 +1,20 @@
 //! What is asked of a router.
-ghost use Rattle.std.specs.Prelude.{◌≡◌, ◌-◌, length, is_some};
+ghost use Rattle.std.specs.Prelude.{◌≡◌, ◌-◌, length, is_some, IfSome};
+ghost use Rattle.std.specs.Option.{option_map};
 ghost use Rattle.isis_model.specs.AdjacencyLaws.{opens};
 ghost use Rattle.isis_model.specs.Drops.{drops_of};
 ghost use Rattle.isis_model.specs.Maps.{find};
 ghost use Rattle.isis_model.specs.Both.{at};
+ghost use Rattle.isis_model.specs.Routers.{book_of};
 ghost use Rattle.router_desk.specs.Desks.{desk_of};
 ghost use Rattle.isis_model.specs.Places.{nth};
 ghost use Rattle.router_desk.specs.Configs.{prefix_number};
+ghost use Rattle.isis_datagram.specs.Numbers.{system_number};
 ghost use Rattle.router_core.specs.Events.{IsThere};
+ghost use Rattle.router_core.specs.Designated.{designated_system};
 
 use crate::machine::Machine;
-use isis_base::{Level, LevelSet, Prefix};
+use isis_base::{Level, LevelSet, Prefix, SystemId};
 use isis_model::DropName;
 use isis_model::laws::states::count_laws;
 use router_desk::Desk;
@@ -51,6 +55,26 @@ impl Machine {
         ensures { result ≡ opens (nth self.now.circuits (circuit - 1)) level }
     {
         self.circuits[usize::from(circuit) - 1].is_open(level)
+    }
+
+    /// The designated system of a LAN and level.
+    pub(crate) fn designated(&self, circuit: u8, level: Level) -> Option<SystemId>
+        requires { IsThere self.now circuit }
+        ensures { IfSome (nth self.now.circuits (circuit - 1)) (λ c. option_map system_number result
+            ≡ designated_system self.now.config (circuit - 1) c level) }
+    {
+        let on = &self.circuits[usize::from(circuit) - 1];
+        match on.designated(self.desk.system(), circuit, level) {
+            Some(designated) => Some(designated.system),
+            None => None,
+        }
+    }
+
+    /// How many changes of keys a level's database has had since the start; the count stands still at its type's end.
+    pub(crate) fn changes(&self, level: Level) -> u64
+        ensures { result ≡ (book_of self.now level).changes }
+    {
+        self.book(level).store().changes()
     }
 
     /// What never changes of its configuration.

@@ -15,13 +15,15 @@
 //! - `second.rt`, `renewal.rt`, `quiet.rt`: a second
 //! - `pull.rt`, `pull_parts.rt`, `hello_sending.rt`, `sending.rt`: what is due is sent
 //! - `at.rt`: one circuit of a list changes
-//! - `calm.rt`, `routes.rt`: which events leave what routes look at, and the routes after an event
+//! - `calm.rt`, `calm_second.rt`, `routes.rt`: which events leave what routes look at, and the routes
+//!   after an event
 //! - `reached.rt`: what always holds, as laws
 #![tactic(auto)]
 
 mod asked;
 mod at;
 mod calm;
+mod calm_second;
 mod changes;
 mod datagrams;
 mod event;

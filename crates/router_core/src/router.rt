@@ -1,15 +1,17 @@
 //! A router.
-ghost use Rattle.std.specs.Prelude.{◌≡◌, ◌≤◌, ◌-◌, true, length, OnOk, OnErr, IfOk, IfErr, MatchOption, false, is_some};
+ghost use Rattle.std.specs.Prelude.{◌≡◌, ◌≤◌, ◌-◌, true, length, OnOk, OnErr, IfOk, IfErr, IfSome, MatchOption, false, is_some};
 ghost use Rattle.std.specs.Option.{option_map};
 ghost use Rattle.std.specs.Result.{result_err};
 ghost use Rattle.isis_model.specs.Both.{at};
 ghost use Rattle.isis_model.specs.Places.{nth};
-ghost use Rattle.isis_model.specs.Routers.{level_of};
 ghost use Rattle.isis_model.specs.Drops.{drops_of};
+ghost use Rattle.isis_datagram.specs.Numbers.{system_number};
+ghost use Rattle.router_core.specs.Designated.{designated_system};
 ghost use Rattle.isis_model.specs.AdjacencyLaws.{opens, place_of};
 ghost use Rattle.isis_model.specs.Steps.{step};
 ghost use Rattle.isis_model.specs.Starts.{start};
-ghost use Rattle.flag_sync.specs.BookStates.{book_of};
+ghost use Rattle.flag_sync.specs.BookStates.{book_of as book_in};
+ghost use Rattle.isis_model.specs.Routers.{book_of, level_of};
 ghost use Rattle.isis_model.specs.Maps.{find};
 ghost use Rattle.router_desk.specs.Configs.{config_of, circuits_of, prefix_number};
 ghost use Rattle.router_desk.specs.Desks.{desk_of};
@@ -25,10 +27,10 @@ ghost use Rattle.router_core.specs.Reached.{IsReached};
 
 use crate::event::NodeEvent;
 use crate::machine::Machine;
-use crate::reached::{event_octets, outlook_laws, reached_laws, start_reached};
+use crate::reached::{event_octets, reached_laws, start_reached};
 use crate::reply::Reply;
 use flag_sync::Book;
-use isis_base::{Level, OutOfMemory, Prefix};
+use isis_base::{Level, OutOfMemory, Prefix, SystemId};
 use purge_ageing::LetGo;
 use route_table::Routes;
 use router_desk::{Config, Desk, DropName};
@@ -118,13 +120,12 @@ impl Router {
         ensures err { OnErr result (self.new ≡ self.old) }
     {
         reached_laws();
-        outlook_laws();
         event_octets(&event);
-        let calm = self.machine.is_calm(&event)?;
-        if calm && self.machine.counts_below() {
-            return self.machine.step(&event, &self.following);
+        match self.machine.step_calmly(&event, &self.following) {
+            Ok(Some(reply)) => Ok(reply),
+            Ok(None) => self.step_aside(&event),
+            Err(error) => Err(error),
         }
-        self.step_aside(&event)
     }
 
     /// An event that may change what routes look at. A copy has it, so that nothing is lost where the
@@ -184,7 +185,7 @@ impl Router {
     pub fn book(&self, level: Level) -> Option<&Book>
         ensures { MatchOption result (at self.now.config.runs level ≡ false)
             (λ book. (at self.now.config.runs level ≡ true)
-            × (book_of book.now ≡ (level_of self.now level).book)) }
+            × (book_in book.now ≡ (level_of self.now level).book)) }
     {
         if self.machine.runs(level) {
             return Some(self.machine.book(level));
@@ -205,6 +206,24 @@ impl Router {
         ensures { result ≡ opens (nth self.now.circuits (circuit - 1)) level }
     {
         self.machine.up(circuit, level)
+    }
+
+    /// The designated system of a LAN and level (ISO 10589 8.4.5), of the circuit counted from 1;
+    /// `None` exactly where the circuit is no LAN with an up neighbour of that level.
+    pub fn designated(&self, circuit: u8, level: Level) -> Option<SystemId>
+        requires { IsThere self.now circuit }
+        ensures { IfSome (nth self.now.circuits (circuit - 1)) (λ c. option_map system_number result
+            ≡ designated_system self.now.config (circuit - 1) c level) }
+    {
+        self.machine.designated(circuit, level)
+    }
+
+    /// How many changes of keys a level's database has had since the start: entries that came and went, and other keys; the
+    /// count stands still at its type's end.
+    pub fn changes(&self, level: Level) -> u64
+        ensures { result ≡ (book_of self.now level).changes }
+    {
+        self.machine.changes(level)
     }
 
     /// How often a cause of a drop was met.

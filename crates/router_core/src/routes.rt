@@ -6,7 +6,7 @@ ghost use Rattle.isis_model.specs.Routers.{Router};
 ghost use Rattle.isis_model.specs.Steps.{step};
 ghost use Rattle.router_routes.specs.Outlooks.{outlook_in, outlook_of};
 ghost use Rattle.router_routes.specs.Following.{IsFollowing};
-ghost use Rattle.router_core.specs.Calm.{AreBelow, KeepsPrefixes, SameCounts};
+ghost use Rattle.router_core.specs.Calm.{AreBelow, KeepsPrefixes, SameCounts, Stands};
 ghost use Rattle.router_core.specs.Events.{event_of};
 ghost use Rattle.router_core.specs.Givens.{given};
 ghost use Rattle.router_core.specs.Reached.{IsReached};
@@ -15,7 +15,7 @@ use crate::event::NodeEvent;
 use crate::machine::Machine;
 use crate::reached::outlook_laws;
 use flag_sync::Book;
-use isis_base::{OutOfMemory, SystemId};
+use isis_base::{Level, OutOfMemory, SystemId};
 use router_desk::Change;
 use router_routes::{Following, Lent, ids_law};
 
@@ -79,8 +79,17 @@ impl Machine {
         if keeps_prefixes(event) && old.counts_below() && self.has_counts_of(old) {
             return Ok(());
         }
+        let (one, two) = (self.stands(old, Level::One), self.stands(old, Level::Two));
         let lent = self.lent()?;
-        following.follow(&lent)
+        following.follow(&lent, !one, !two)
+    }
+
+    /// Whether no key of a level changed since a router was as that one is.
+    fn stands(&self, old: &Machine, level: Level) -> bool
+        ensures { result ≡ true → Stands old.now self.now level }
+    {
+        let before = old.book(level).store().changes();
+        before < u64::MAX && self.book(level).store().changes() == before
     }
 }
 

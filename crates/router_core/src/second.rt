@@ -44,7 +44,10 @@ impl Machine {
 }
 
 /// Circuits a second later.
-fn circuits_later(alloc: Global, circuits: &[Circuit]) -> Result<Vec<Circuit>, OutOfMemory>
+pub(crate) fn circuits_later(
+    alloc: Global,
+    circuits: &[Circuit],
+) -> Result<Vec<Circuit>, OutOfMemory>
     ensures state { IfOk result (λ list. list.items ≡ map later circuits.now) }
     ensures count { IfOk result (λ list. length list.items ≡ length circuits.now) }
     ensures same { IfOk result
@@ -77,7 +80,7 @@ fn circuit_later(circuit: &Circuit) -> Result<Circuit, OutOfMemory>
 }
 
 /// The CSNP counters of all circuits stand at 0 where the router isn't designated.
-fn idle_all(circuits: &mut Vec<Circuit>, system: SystemId)
+pub(crate) fn idle_all(circuits: &mut Vec<Circuit>, system: SystemId)
     requires { length circuits.old.items ≤ 64 }
     ensures state { (config : Config) → config.system ≡ system_number system
         → circuits.new.items ≡ elections.idle_all config 0 circuits.old.items }

@@ -1,7 +1,8 @@
 //! One event of a router.
-ghost use Rattle.std.specs.Prelude.{◌≡◌, IfOk, OnOk, OnErr};
+ghost use Rattle.std.specs.Prelude.{◌≡◌, None, IfOk, IfSome, OnOk, OnErr};
 ghost use Rattle.isis_model.specs.AdjacencyLaws.{place_of};
 ghost use Rattle.isis_model.specs.Steps.{step};
+ghost use Rattle.router_core.specs.Calm.{AreBelow};
 ghost use Rattle.router_core.specs.Events.{event_of, Fits};
 ghost use Rattle.router_routes.specs.Outlooks.{outlook_of};
 ghost use Rattle.router_routes.specs.Following.{IsFollowing};
@@ -11,11 +12,82 @@ ghost use Rattle.router_core.specs.Replies.{Answers};
 
 use crate::event::NodeEvent;
 use crate::machine::Machine;
+use crate::reached::outlook_laws;
 use crate::reply::Reply;
 use isis_base::OutOfMemory;
 use router_routes::Following;
 
 impl Machine {
+    /// An event that is known to leave what routes look at. `None` where that isn't known; then, and at
+    /// `OutOfMemory`, the router is as it was.
+    pub(crate) fn step_calmly(
+        &mut self,
+        event: &NodeEvent,
+        following: &Following,
+    ) -> Result<Option<Reply>, OutOfMemory>
+        requires following { IsFollowing (outlook_of self.old) following.now }
+        requires fits { Fits self.old event.now }
+        requires reached { IsReached self.old }
+        ensures state { IfOk result (λ o. IfSome o (λ reply. self.new
+            ≡ (step given self.old (event_of self.old event.now)).router)) }
+        ensures reply { IfOk result (λ o. IfSome o (λ reply. Answers self.new
+            (place_of (event_of self.old event.now))
+            (step given self.old (event_of self.old event.now)).reply reply)) }
+        ensures outlook { IfOk result (λ o. IfSome o (λ reply.
+            outlook_of self.new ≡ outlook_of self.old)) }
+        ensures other { IfOk result (λ o. o ≡ None → self.new ≡ self.old) }
+        ensures err { OnErr result (self.new ≡ self.old) }
+    {
+        outlook_laws();
+        if !self.counts_below() {
+            return Ok(None);
+        }
+        match event {
+            NodeEvent::Second => match self.calm_second(following) {
+                Ok(true) => Ok(Some(Reply::Done)),
+                Ok(false) => Ok(None),
+                Err(error) => Err(error),
+            },
+            NodeEvent::Take(_) | NodeEvent::Pull { circuit: _ } | NodeEvent::Change(_) => {
+                self.step_if_calm(event, following)
+            }
+        }
+    }
+
+    /// The same of an event other than a second.
+    fn step_if_calm(
+        &mut self,
+        event: &NodeEvent,
+        following: &Following,
+    ) -> Result<Option<Reply>, OutOfMemory>
+        requires following { IsFollowing (outlook_of self.old) following.now }
+        requires fits { Fits self.old event.now }
+        requires reached { IsReached self.old }
+        requires below { AreBelow self.old }
+        ensures state { IfOk result (λ o. IfSome o (λ reply. self.new
+            ≡ (step given self.old (event_of self.old event.now)).router)) }
+        ensures reply { IfOk result (λ o. IfSome o (λ reply. Answers self.new
+            (place_of (event_of self.old event.now))
+            (step given self.old (event_of self.old event.now)).reply reply)) }
+        ensures outlook { IfOk result (λ o. IfSome o (λ reply.
+            outlook_of self.new ≡ outlook_of self.old)) }
+        ensures other { IfOk result (λ o. o ≡ None → self.new ≡ self.old) }
+        ensures err { OnErr result (self.new ≡ self.old) }
+    {
+        outlook_laws();
+        let calm = match self.is_calm(event) {
+            Ok(calm) => calm,
+            Err(error) => return Err(error),
+        };
+        if !calm {
+            return Ok(None);
+        }
+        match self.step(event, following) {
+            Ok(reply) => Ok(Some(reply)),
+            Err(error) => Err(error),
+        }
+    }
+
     /// An event, with what follows the router as it is before it.
     pub(crate) fn step(
         &mut self,

@@ -1,5 +1,5 @@
 -- The walk over two lists of rows in order finds their differences.
-use Rattle.std.proofs.Common.{◌≡◌, ◌∙◌, ℕ, zero, suc, ◌+◌, ◌-◌, ◌^◌, ◌≤◌, ◌<◌, Bool, true, false, cond, min, List, [], ◌∷◌, ◌++◌, length, get_or, refl, sym, ap, subst, arith, ◌⊎◌, inl, inr}
+use Rattle.std.proofs.Common.{◌≡◌, ◌∙◌, ℕ, zero, suc, ◌+◌, ◌-◌, ◌^◌, ◌≤◌, ◌<◌, Bool, true, false, cond, min, List, [], ◌∷◌, ◌++◌, length, take, drop, get_or, refl, sym, ap, subst, arith, ◌⊎◌, inl, inr}
 use Rattle.std.specs.Ordering.{nat_cmp, ordering_then, is_lt}
 use Rattle.std.specs.List.Sorted.{IsSortedByKey}
 use Rattle.std.proofs.lemmas.Bool.{cases_lt, cases_Bool, and_parts, eqb-true, eq-eqb}
@@ -340,3 +340,76 @@ module _ (old now : RepairedOf) (new removed added : List Row) (is : AreDifferen
                   absurd (differ (omega (arith, a, b, r)))
             ];
       }
+
+-- ---- rows that both lists begin or end with
+
+consed : (row : Row) (rows : List Row) (q : Row) → times (row ∷ rows) q ≡ cond (same_row q row) 1 0 + times rows q
+consed row rows q = sum_by-cons (λ y. cond (same_row q y) 1 0) row rows
+
+dropped : (rows : List Row) (k : ℕ) (x d : Row) → k < length rows → times (drop k rows) x ≡ cond (same_row x (get_or rows k d)) 1 0 + times (drop (suc k) rows) x
+dropped [] k x d l = absurd (omega (arith, l))
+dropped (row ∷ rows) zero x d l = consed row rows x
+dropped (row ∷ rows) (suc k) x d l = dropped rows k x d (omega (arith, l))
+
+drop-length : (rows : List Row) (k : ℕ) → k < length rows → length (drop k rows) ≡ length (drop (suc k) rows) + 1
+drop-length [] k l = absurd (omega (arith, l))
+drop-length (row ∷ rows) zero l = omega arith
+drop-length (row ∷ rows) (suc k) l = drop-length rows k (omega (arith, l))
+
+-- what both lists begin with
+pub past-one : (old new removed added : List Row) (k : ℕ) → k < length old → k < length new → ((d : Row) → IsSame (get_or old k d) (get_or new k d)) → AreDifferences (drop (k + 1) old) (drop (k + 1) new) removed added → AreDifferences (drop k old) (drop k new) removed added
+past-one old new removed added k in-old in-new same is =
+    let next : k + 1 ≡ suc k = omega arith in
+    let from : AreDifferences (drop (suc k) old) (drop (suc k) new) removed added = subst (λ (m : ℕ). AreDifferences (drop m old) (drop m new) removed added) next is in
+    record {
+      counts = λ x.
+          let c = from.counts x in
+          let a = dropped old k x x in-old in
+          let b = dropped new k x x in-new in
+          let both = same-rows x (get_or old k x) (get_or new k x) (same x) in
+          omega (arith, c, a, b, both);
+      apart = from.apart;
+      long = let l = from.long in let a = drop-length old k in-old in let b = drop-length new k in-new in omega (arith, l, a, b);
+    }
+
+-- what both lists end with
+pub before-one : (old new removed added : List Row) (i j : ℕ) → i < length old → j < length new → ((d : Row) → IsSame (get_or old i d) (get_or new j d)) → AreDifferences (take i old) (take j new) removed added → AreDifferences (take (i + 1) old) (take (j + 1) new) removed added
+before-one old new removed added i j in-old in-new same is =
+    record {
+      counts = λ x.
+          let c = is.counts x in
+          let a = more_times old i x x in-old in
+          let b = more_times new j x x in-new in
+          let both = same-rows x (get_or old i x) (get_or new j x) (same x) in
+          omega (arith, c, a, b, both);
+      apart = is.apart;
+      long =
+          let l = is.long in
+          let a : length (take i old) ≡ i = length-take i old (omega (arith, in-old)) in
+          let b : length (take j new) ≡ j = length-take j new (omega (arith, in-new)) in
+          let p : length (take (i + 1) old) ≡ i + 1 = length-take (i + 1) old (omega (arith, in-old)) in
+          let q : length (take (j + 1) new) ≡ j + 1 = length-take (j + 1) new (omega (arith, in-new)) in
+          omega (arith, l, a, b, p, q);
+    }
+  where
+    length-take : (n : ℕ) (rows : List Row) → n ≤ length rows → length (take n rows) ≡ n
+    length-take zero rows h = refl
+    length-take (suc n) [] h = absurd (omega (arith, h))
+    length-take (suc n) (row ∷ rows) h = let so-far = length-take n rows (omega (arith, h)) in omega (arith, so-far)
+
+all-same : (old new : List Row) (i j : ℕ) (d e : Row) → i < length old → j < length new → IsSame (get_or old i d) (get_or new j e) → (x : Row) → IsSame (get_or old i x) (get_or new j x)
+all-same old new i j d e in-old in-new same x =
+    subst (λ (a : Row). IsSame a (get_or new j x)) (get_or_default old i d x in-old) (subst (λ (b : Row). IsSame (get_or old i d) b) (get_or_default new j e x in-new) same)
+
+pub past-turn : (old new : List Row) (k : ℕ) (d e : Row) → k < length old → k < length new → IsSame (get_or old k d) (get_or new k e) → ((removed added : List Row) → AreDifferences (drop k old) (drop k new) removed added → AreDifferences old new removed added) → (removed added : List Row) → AreDifferences (drop (k + 1) old) (drop (k + 1) new) removed added → AreDifferences old new removed added
+past-turn old new k d e in-old in-new same so-far removed added is =
+    so-far removed added (past-one old new removed added k in-old in-new (all-same old new k k d e in-old in-new same) is)
+
+pub before-turn : (old new : List Row) (i j : ℕ) (d e : Row) → 0 < i → 0 < j → i ≤ length old → j ≤ length new → IsSame (get_or old (i - 1) d) (get_or new (j - 1) e) → ((removed added : List Row) → AreDifferences (take i old) (take j new) removed added → AreDifferences old new removed added) → (removed added : List Row) → AreDifferences (take (i - 1) old) (take (j - 1) new) removed added → AreDifferences old new removed added
+before-turn old new i j d e some-old some-new in-old in-new same so-far removed added is =
+    let a : i - 1 < length old = omega (arith, some-old, in-old) in
+    let b : j - 1 < length new = omega (arith, some-new, in-new) in
+    let p : i - 1 + 1 ≡ i = omega (arith, some-old) in
+    let q : j - 1 + 1 ≡ j = omega (arith, some-new) in
+    let next = before-one old new removed added (i - 1) (j - 1) a b (all-same old new (i - 1) (j - 1) d e a b same) is in
+    so-far removed added (subst (λ (m : ℕ). AreDifferences (take m old) (take j new) removed added) p (subst (λ (n : ℕ). AreDifferences (take (i - 1 + 1) old) (take n new) removed added) q next))

@@ -1,7 +1,8 @@
 //! The rows that two graphs don't share (own).
-ghost use Rattle.std.specs.Prelude.{◌≡◌, ◌++◌, ◌∷◌, [], ◌<◌, ◌⊎◌, length, IfOk, OnOk};
+ghost use Rattle.std.specs.Prelude.{◌≡◌, ◌++◌, ◌∷◌, [], ◌<◌, ◌⊎◌, true, length, List, IfOk, OnOk};
 ghost use Rattle.std.specs.List.Sorted.{IsPermutation};
-ghost use Rattle.router_routes.specs.Differences.{AreDifferences, AreInOrder, Stands, IsNext};
+ghost use Rattle.spf_tree.specs.declared.row.Row as row;
+ghost use Rattle.router_routes.specs.Differences.{AreDifferences, AreInOrder, IsSame, Stands, IsNext};
 
 use isis_base::OutOfMemory;
 use spf_tree::Row;
@@ -23,6 +24,50 @@ pub(crate) fn rows_apart(
     old: &[Row],
     new: &[Row],
 ) -> Result<(Vec<Row>, Vec<Row>), OutOfMemory>
+    ensures { IfOk result (λ parts. AreDifferences old.now new.now parts.0.items parts.1.items) }
+{
+    let (old, new) = past_first(old, new);
+    let (old, new) = before_last(old, new);
+    rest_apart(alloc, old, new)
+}
+
+/// Both lists without the rows that they begin with alike: after a change of a few rows the others
+/// needn't be put in order.
+fn past_first<'a>(old: &'a [Row], new: &'a [Row]) -> (&'a [Row], &'a [Row])
+    ensures { (removed added : List row.Row)
+        → AreDifferences result.0.now result.1.now removed added
+        → AreDifferences old.now new.now removed added }
+{
+    let mut place = 0;
+    while place < old.len() && place < new.len() && is_same(&old[place], &new[place]) {
+        place += 1;
+    }
+    (&old[place..], &new[place..])
+}
+
+/// Both lists without the rows that they end with alike.
+fn before_last<'a>(old: &'a [Row], new: &'a [Row]) -> (&'a [Row], &'a [Row])
+    ensures { (removed added : List row.Row)
+        → AreDifferences result.0.now result.1.now removed added
+        → AreDifferences old.now new.now removed added }
+{
+    let (mut end, mut other) = (old.len(), new.len());
+    while end > 0 && other > 0 && is_same(&old[end - 1], &new[other - 1]) {
+        end -= 1;
+        other -= 1;
+    }
+    (&old[..end], &new[..other])
+}
+
+/// Whether two rows are alike.
+fn is_same(a: &Row, b: &Row) -> bool
+    ensures { result ≡ true → IsSame a.now b.now }
+{
+    number(a.from) == number(b.from) && number(a.to) == number(b.to) && a.metric == b.metric
+}
+
+/// The differences of rows in any order.
+fn rest_apart(alloc: Global, old: &[Row], new: &[Row]) -> Result<(Vec<Row>, Vec<Row>), OutOfMemory>
     ensures { IfOk result (λ parts. AreDifferences old.now new.now parts.0.items parts.1.items) }
 {
     let old_rows = in_order(copy_of(alloc, old)?);

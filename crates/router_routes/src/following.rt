@@ -1,5 +1,5 @@
 //! The value that follows a router's databases.
-ghost use Rattle.std.specs.Prelude.{◌≡◌, ◌+◌, ◌-◌, ◌^◌, ◌<◌, ◌≤◌, min, length, IfOk, OnOk, OnErr};
+ghost use Rattle.std.specs.Prelude.{◌≡◌, false, ◌+◌, ◌-◌, ◌^◌, ◌<◌, ◌≤◌, min, length, IfOk, OnOk, OnErr};
 ghost use Rattle.isis_base.specs.declared.level.Level.TheVariants as level;
 ghost use Rattle.isis_model.specs.Both.{at};
 ghost use Rattle.lsp_view.specs.Views.{own_node, rows_in, overloaded_in};
@@ -61,18 +61,21 @@ impl Following {
         assembled(alloc, lent, one, two)
     }
 
-    /// Follows what is lent of the router as it is now. A level's distances have one change more
+    /// Follows what is lent of the router as it is now. For each level it is told whether its rows may
+    /// have changed; where they may not, its distances stay. A level's distances have one change more
     /// exactly where some row may be walked another number of times. At `OutOfMemory` all is as it
     /// was.
-    pub fn follow(&mut self, lent: &Lent<'_>) -> Result<(), OutOfMemory>
-        requires { IsRooted (own_node lent.now.system) self.old }
+    pub fn follow(&mut self, lent: &Lent<'_>, one: bool, two: bool) -> Result<(), OutOfMemory>
+        requires rooted { IsRooted (own_node lent.now.system) self.old }
+        requires one { one ≡ false → IsLevel (outlook_in lent.now) level.One self.old.levels.one }
+        requires two { two ≡ false → IsLevel (outlook_in lent.now) level.Two self.old.levels.two }
         ensures follows { OnOk result (IsFollowing (outlook_in lent.now) self.new) }
         ensures one { OnOk result (Counts self.old.levels.one self.new.levels.one) }
         ensures two { OnOk result (Counts self.old.levels.two self.new.levels.two) }
         ensures err { OnErr result (self.new ≡ self.old) }
     {
-        let one = followed(self.alloc, &self.one, runs_one(lent.levels), lent.one)?;
-        let two = followed(self.alloc, &self.two, runs_two(lent.levels), lent.two)?;
+        let one = if_moved(self.alloc, one, &self.one, runs_one(lent.levels), lent.one)?;
+        let two = if_moved(self.alloc, two, &self.two, runs_two(lent.levels), lent.two)?;
         let next = assembled(self.alloc, lent, one, two)?;
         *self = next;
         Ok(())
@@ -114,6 +117,29 @@ fn fresh(alloc: Global, runs: bool, store: &Store, root: NodeId) -> Result<Repai
 {
     let graph = graph_of(alloc, runs, store, root)?;
     Repaired::new(alloc, &graph, root)
+}
+
+/// The distances of a level, repaired where its rows may have changed.
+fn if_moved(
+    alloc: Global,
+    moved: bool,
+    old: &Repaired,
+    runs: bool,
+    store: &Store,
+) -> Result<Repaired, OutOfMemory>
+    requires root { old.now.graph.root ≡ old.now.root }
+    requires stays { moved ≡ false → AreUsable (rows_in (where_run runs (told_in store.now.entries)))
+        (overloaded_in (where_run runs (told_in store.now.entries))) old.now.root old.now.graph }
+    ensures graph { IfOk result (λ new.
+        AreUsable (rows_in (where_run runs (told_in store.now.entries)))
+        (overloaded_in (where_run runs (told_in store.now.entries))) old.now.root new.graph) }
+    ensures root { IfOk result (λ new. new.root ≡ old.now.root) }
+    ensures counts { IfOk result (λ new. Counts old.now new) }
+{
+    if !moved {
+        return old.copy();
+    }
+    followed(alloc, old, runs, store)
 }
 
 /// The distances of a level, repaired for its rows as they are now.

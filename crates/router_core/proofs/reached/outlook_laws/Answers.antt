@@ -1,12 +1,10 @@
-use Rattle.std.proofs.Common.{◌≡◌}
 use Rattle.isis_model.specs.Events.{Event, Second, Take, Pull, Metric, Overload, Prefix}
 use Rattle.isis_model.specs.Routers.{Router}
-use Rattle.isis_model.specs.Steps.{step}
 use Rattle.isis_model.proofs.BondLemmas.{step-stays}
 use Rattle.router_core.specs.Givens.{given}
 use Rattle.router_core.specs.Calm.{IsCalm, KeepsPrefixes}
 use Rattle.router_core.proofs.CalmLemmas.{calm-counts}
-use Rattle.router_core.proofs.ReachedLemmas.{outlook-stays}
+use Rattle.router_core.proofs.ReachedLemmas.{outlook-stays, level-stays}
 use Rattle.router_core.proofs.reached.outlook_laws.Goals as goal
 
 keeps : (r : Router) (event : Event) → IsCalm r event → KeepsPrefixes event
@@ -22,6 +20,9 @@ returns-clause-stays c = outlook-stays
 
 pub returns-clause-calm : goal.returns-clause-calm
 returns-clause-calm c = λ r event reached below calm. outlook-stays r event reached below (calm-counts given r event calm) (keeps r event calm)
+
+pub returns-clause-level : goal.returns-clause-level
+returns-clause-level c = level-stays
 
 pub returns-clause-system : goal.returns-clause-system
 returns-clause-system c = λ r event. (step-stays given r event).system

@@ -1,5 +1,4 @@
-use Rattle.std.proofs.Common.{◌≡◌, ◌∙◌, sym, ap}
-use Rattle.isis_model.specs.Routers.{Router}
+use Rattle.std.proofs.Common.{◌∙◌, sym, ap}
 use Rattle.router_routes.specs.Outlooks.{outlook_of}
 use Rattle.router_core.specs.Machines.{machine_of}
 use Rattle.router_core.proofs.RouteLemmas.{lent-outlook, told-book}

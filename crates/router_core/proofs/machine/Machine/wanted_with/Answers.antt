@@ -1,4 +1,4 @@
-use Rattle.std.proofs.Common.{◌≡◌, map, is_some, IfOk, refl, sym, subst, ◌∙◌, ap}
+use Rattle.std.proofs.Common.{◌≡◌, map, is_some, IfOk, sym, subst, ◌∙◌, ap}
 use Rattle.std.specs.List.{AllByRecursion}
 use Rattle.isis_model.specs.Both.{at}
 use Rattle.isis_model.specs.Configs.{Config}

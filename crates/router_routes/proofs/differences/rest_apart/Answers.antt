@@ -5,7 +5,7 @@ use Rattle.std.proofs.lemmas.List.Sorted.{length_permutation}
 use Rattle.spf_tree.specs.declared.row.Row.{Row}
 use Rattle.spf_repair.proofs.ReplaceLemmas.{moved_times}
 use Rattle.router_routes.proofs.DifferenceLemmas.{differences-by}
-use Rattle.router_routes.proofs.differences.rows_apart.Goals as goal
+use Rattle.router_routes.proofs.differences.rest_apart.Goals as goal
 
 moved-is : (rows copy sorted lent : List Row) → copy ≡ rows → IsPermutation copy sorted → lent ≡ sorted → IsPermutation rows lent
 moved-is rows copy sorted lent e moved f = subst (λ (l : List Row). IsPermutation l lent) e (subst (IsPermutation copy) (sym f) moved)
