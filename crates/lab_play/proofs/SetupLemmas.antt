@@ -1,22 +1,27 @@
 -- What each call that sets a network up keeps.
-use Rattle.std.proofs.Common.{◌≡◌, ◌≢◌, ℕ, zero, suc, ◌+◌, ◌<◌, ◌≤◌, ◌-◌, Bool, true, ◌==◌, ◌||◌, List, [], ◌∷◌, ◌++◌, length, map, take, drop, get_or, Option, Some, None, IfSome, cond, refl, sym, ap, ◌∙◌, subst, arith, length-append}
+use Rattle.std.proofs.Common.{◌≡◌, ◌≢◌, ℕ, zero, suc, ◌+◌, ◌<◌, ◌≤◌, ◌-◌, nat_le, Bool, true, false, ◌==◌, ◌||◌, List, [], ◌∷◌, ◌++◌, length, map, take, drop, get_or, Option, Some, None, IfSome, cond, refl, sym, ap, ◌∙◌, subst, arith, length-append}
 use Rattle.std.proofs.lemmas.Bool.Decides.{nat_tests}
-use Rattle.std.proofs.lemmas.List.{drop_more, take-append-drop, map-append, length-map}
-use Rattle.std.specs.List.{AllByRecursion}
+use Rattle.std.proofs.lemmas.List.{drop_more, at_drop_more, take-append-drop, map-append, length-map}
+use Rattle.std.specs.List.{AllByRecursion, list_any}
 use Rattle.isis_base.specs.declared.identifiers.SystemId.{SystemId}
+use Rattle.isis_base.specs.declared.level.CircuitKind.{CircuitKind}
+use Rattle.isis_base.specs.declared.level.CircuitKind.TheVariants.{PointToPoint, Lan}
 use Rattle.isis_model.specs.Places.{nth, with_nth}
 use Rattle.isis_model.proofs.BookLemmas.{test}
+use Rattle.isis_model.proofs.ListLemmas.{all-map}
 use Rattle.router_desk.specs.declared.circuit_config.CircuitConfig.{CircuitConfig}
 use Rattle.router_desk.specs.declared.config.Config.{Config}
 use Rattle.network_model.specs.declared.end.End as model
-use Rattle.network_lab.specs.LabNets.{LabNet, empty_lab, router_of, with_router, configured, reconfigured, link_circuit, with_circuit, circuit_count as config_count, next_place, with_link, at_circuit, with_changed, with_key}
-use Rattle.network_lab.specs.LabCauses.{HasCircuit}
+use Rattle.network_lab.specs.LabNets.{LabNet, empty_lab, router_of, with_router, configured, reconfigured, new_circuit, with_circuit, with_circuits, circuit_count as config_count, next_place, next_end, with_ends, at_circuit, with_changed, with_key, AreDistinct as AreApart}
+use Rattle.network_lab.specs.LabCauses.{HasCircuit, has_full}
+use Rattle.lab_script.specs.declared.setup.End.{End}
 use Rattle.lab_script.specs.declared.setup.LabLink.{LabLink}
 use Rattle.lab_script.specs.declared.setup.LabRouter.{LabRouter}
-use Rattle.lab_script.specs.LabScripts.{is_end, circuit_count}
+use Rattle.lab_script.specs.LabScripts.{end_routers, is_among, is_end, circuit_count}
 use Rattle.lab_script.specs.LabSound.{AreDistinct, IsLaidLink}
 use Rattle.lab_play.specs.Played.{end_in, ends_of}
-use Rattle.lab_play.specs.Setups.{IsSetup, HasRouters, HasLinks}
+use Rattle.lab_play.specs.Layouts.{priority_in, with_own_priority, with_priorities, with_priorities_on, with_laid}
+use Rattle.lab_play.specs.Setups.{IsSetup, HasRouters, HasLinks, HasEnd, IsNextLink}
 use Rattle.lab_play.proofs.EndLemmas.{count-append}
 
 -- ---- lists
@@ -170,6 +175,10 @@ count-kept : (a : LabNet) (i : ℕ) (change : Config → Config) (o : Option Con
 count-kept a i change None = refl
 count-kept a i change (Some config) = length-with a.configs i (change config)
 
+begun-kept : (a : LabNet) (i : ℕ) (change : Config → Config) (o : Option Config) → (configured a i change o).begun ≡ a.begun
+begun-kept a i change None = refl
+begun-kept a i change (Some config) = refl
+
 links-kept : (a : LabNet) (i : ℕ) (change : Config → Config) (o : Option Config) → (configured a i change o).seen.links ≡ a.seen.links
 links-kept a i change None = refl
 links-kept a i change (Some config) = refl
@@ -184,72 +193,77 @@ place-at a i change more None e h grows = absurd (not-none a.configs i h e)
 place-at a i change more (Some config) e h grows =
     ap (λ (o : Option Config). config_count o) (nth-with a.configs i config (change config) e) ∙ grows config ∙ ap (λ (o : Option Config). config_count o + more) (sym e)
 
--- ---- a link more
+-- ---- circuits more, one of each of some routers
 
-one-more : (metric : ℕ) (config : Config) → length (with_circuit (link_circuit metric) config).circuits ≡ length config.circuits + 1
-one-more metric config = length-append config.circuits (link_circuit metric ∷ [])
+one-more : (c : CircuitConfig) (config : Config) → length (with_circuit c config).circuits ≡ length config.circuits + 1
+one-more c config = length-append config.circuits (c ∷ [])
 
-link-places : (a : LabNet) (i j metric k : ℕ) → i < length a.configs → j < length a.configs → (i ≡ j → ⊥) → next_place (with_link a i j metric) k ≡ next_place a k + cond {A = ℕ} ((i == k) || (j == k)) 1 0
-link-places a i j metric k hi hj apart =
-    test (λ t. (i == k) ≡ t → next_place c k ≡ next_place a k + cond {A = ℕ} ((i == k) || (j == k)) 1 0) (i == k)
-    (λ _ yes. let same : i ≡ k = grind (arith, nat_tests, yes) in
-    let add : cond {A = ℕ} ((i == k) || (j == k)) 1 0 ≡ 1 = ap (λ (t : Bool). cond {A = ℕ} (t || (j == k)) 1 0) yes in
-    let near : next_place b i ≡ next_place a i + 1 = place-at a i change 1 (nth a.configs i) refl hi (one-more metric) in
-    let far : next_place c i ≡ next_place b i = place-beside b j i change (nth b.configs j) (λ e. apart (sym e)) in
-    subst (λ (n : ℕ). next_place c n ≡ next_place a n + cond {A = ℕ} ((i == k) || (j == k)) 1 0) same (omega (arith, near, far, add)))
-    (λ _ no. test (λ t. (j == k) ≡ t → next_place c k ≡ next_place a k + cond {A = ℕ} ((i == k) || (j == k)) 1 0) (j == k)
-    (λ _ yes. let same : j ≡ k = grind (arith, nat_tests, yes) in
-    let add : cond {A = ℕ} ((i == k) || (j == k)) 1 0 ≡ 1 = ap (λ (t : Bool). cond {A = ℕ} (t || (j == k)) 1 0) no ∙ ap (λ (t : Bool). cond {A = ℕ} t 1 0) yes in
-    let near : next_place b j ≡ next_place a j = place-beside a i j change (nth a.configs i) apart in
-    let far : next_place c j ≡ next_place b j + 1 = place-at b j change 1 (nth b.configs j) refl (subst (λ (n : ℕ). j < n) (sym (count-kept a i change (nth a.configs i))) hj) (one-more metric) in
-    subst (λ (n : ℕ). next_place c n ≡ next_place a n + cond {A = ℕ} ((i == k) || (j == k)) 1 0) same (omega (arith, near, far, add)))
-    (λ _ not. let add : cond {A = ℕ} ((i == k) || (j == k)) 1 0 ≡ 0 = ap (λ (t : Bool). cond {A = ℕ} (t || (j == k)) 1 0) no ∙ ap (λ (t : Bool). cond {A = ℕ} t 1 0) not in
-    let near : next_place b k ≡ next_place a k = place-beside a i k change (nth a.configs i) (λ e. grind (arith, nat_tests, no, e)) in
-    let far : next_place c k ≡ next_place b k = place-beside b j k change (nth b.configs j) (λ e. grind (arith, nat_tests, not, e)) in
-    omega (arith, near, far, add)) refl) refl
-  where
-    change : Config → Config
-    change = with_circuit (link_circuit metric)
+circuits-setup : (c : CircuitConfig) (ms : List ℕ) (a : LabNet) → IsSetup a → IsSetup (with_circuits c ms a)
+circuits-setup c [] a h = h
+circuits-setup c (m ∷ ms) a h = circuits-setup c ms (reconfigured a m (with_circuit c)) (setup-kept a m (with_circuit c) (nth a.configs m) h)
 
-    b : LabNet
-    b = reconfigured a i change
+circuits-count : (c : CircuitConfig) (ms : List ℕ) (a : LabNet) → length (with_circuits c ms a).configs ≡ length a.configs
+circuits-count c [] a = refl
+circuits-count c (m ∷ ms) a = circuits-count c ms (reconfigured a m (with_circuit c)) ∙ count-kept a m (with_circuit c) (nth a.configs m)
 
-    c : LabNet
-    c = reconfigured b j change
+circuits-links : (c : CircuitConfig) (ms : List ℕ) (a : LabNet) → (with_circuits c ms a).seen.links ≡ a.seen.links
+circuits-links c [] a = refl
+circuits-links c (m ∷ ms) a = circuits-links c ms (reconfigured a m (with_circuit c)) ∙ links-kept a m (with_circuit c) (nth a.configs m)
 
-pub link-more : (count : ℕ) (links : List LabLink) (a : LabNet) (l : LabLink) → IsLaidLink count links l → HasLinks count links a → HasLinks count (links ++ l ∷ []) (with_link a l.first.router l.second.router l.metric)
-link-more count links a l laid h = record {
+none-beside : (m : ℕ) (ms : List ℕ) → AllByRecursion (λ j. m ≢ j) ms → list_any (λ (j : ℕ). j == m) ms ≡ false
+none-beside m [] h = refl
+none-beside m (j ∷ ms) h =
+    let other : (j == m) ≡ false = grind (arith, nat_tests, h.0) in
+    ap (λ (t : Bool). t || list_any (λ (j : ℕ). j == m) ms) other ∙ none-beside m ms h.1
+
+circuits-places : (c : CircuitConfig) (ms : List ℕ) (a : LabNet) (k : ℕ) → AllByRecursion (λ m. m < length a.configs) ms → AreApart ms
+    → next_place (with_circuits c ms a) k ≡ next_place a k + cond {A = ℕ} (list_any (λ (m : ℕ). m == k) ms) 1 0
+circuits-places c [] a k there apart = omega arith
+circuits-places c (m ∷ ms) a k there apart =
+    let b = reconfigured a m (with_circuit c) in
+    let rest = circuits-places c ms b k (subst (λ (n : ℕ). AllByRecursion (λ j. j < n) ms) (sym (count-kept a m (with_circuit c) (nth a.configs m))) there.1) apart.1 in
+    test (λ t. (m == k) ≡ t → next_place (with_circuits c ms b) k ≡ next_place a k + cond {A = ℕ} (m == k || list_any (λ (j : ℕ). j == k) ms) 1 0) (m == k)
+    (λ _ yes. let same : m ≡ k = grind (arith, nat_tests, yes) in
+    let add : cond {A = ℕ} (m == k || list_any (λ (j : ℕ). j == k) ms) 1 0 ≡ 1 = ap (λ (t : Bool). cond {A = ℕ} (t || list_any (λ (j : ℕ). j == k) ms) 1 0) yes in
+    let none : cond {A = ℕ} (list_any (λ (j : ℕ). j == k) ms) 1 0 ≡ 0 = ap (λ (t : Bool). cond {A = ℕ} t 1 0) (subst (λ (n : ℕ). list_any (λ (j : ℕ). j == n) ms ≡ false) same (none-beside m ms apart.0)) in
+    let here : next_place b k ≡ next_place a k + 1 = subst (λ (n : ℕ). next_place b n ≡ next_place a n + 1) same (place-at a m (with_circuit c) 1 (nth a.configs m) refl there.0 (one-more c)) in
+    omega (arith, rest, here, none, add))
+    (λ _ no. let add : cond {A = ℕ} (m == k || list_any (λ (j : ℕ). j == k) ms) 1 0 ≡ cond {A = ℕ} (list_any (λ (j : ℕ). j == k) ms) 1 0 = ap (λ (t : Bool). cond {A = ℕ} (t || list_any (λ (j : ℕ). j == k) ms) 1 0) no in
+    let here : next_place b k ≡ next_place a k = place-beside a m k (with_circuit c) (nth a.configs m) (λ e. grind (arith, nat_tests, no, e)) in
+    omega (arith, rest, here, add)) refl
+
+circuits-begun : (c : CircuitConfig) (ms : List ℕ) (a : LabNet) → (with_circuits c ms a).begun ≡ a.begun
+circuits-begun c [] a = refl
+circuits-begun c (m ∷ ms) a = circuits-begun c ms (reconfigured a m (with_circuit c)) ∙ begun-kept a m (with_circuit c) (nth a.configs m)
+
+-- ---- a link or LAN more
+
+any-router : (ends : List End) (k : ℕ) → list_any (λ (m : ℕ). m == k) (end_routers ends) ≡ is_among ends k
+any-router [] k = refl
+any-router (e ∷ ends) k = ap (λ (t : Bool). e.router == k || t) (any-router ends k)
+
+row-same : (a : LabNet) (ends : List End) → AllByRecursion (λ e. e.place ≡ next_place a e.router) ends → map (next_end a.configs) (end_routers ends) ≡ map end_in ends
+row-same a [] h = refl
+row-same a (e ∷ ends) h =
+    ap (λ (n : ℕ). record { router = e.router; place = n } ∷ map (next_end a.configs) (end_routers ends)) (sym h.0)
+    ∙ ap (λ (es : List model.End). end_in e ∷ es) (row-same a ends h.1)
+
+pub ends-more : (count : ℕ) (links : List LabLink) (a : LabNet) (l : LabLink) (c : CircuitConfig) → IsNextLink a l → HasLinks count links a → HasLinks count (links ++ l ∷ []) (with_ends a (end_routers l.ends) c)
+ends-more count links a l c next h = record {
   setup = record { early = kept.early; going = kept.going; unsent = kept.unsent; clean = kept.clean; same = kept.same };
-  count_is = count-kept b l.second.router change (nth b.configs l.second.router) ∙ count-kept a l.first.router change (nth a.configs l.first.router) ∙ h.count_is;
-  links_are = ap (λ (ls : List (List model.End)). ls ++ (near ∷ far ∷ []) ∷ []) (links-kept b l.second.router change (nth b.configs l.second.router) ∙ links-kept a l.first.router change (nth a.configs l.first.router) ∙ h.links_are)
-      ∙ ap (λ (e : model.End). map ends_of links ++ (e ∷ far ∷ []) ∷ []) same-near ∙ ap (λ (e : model.End). map ends_of links ++ (end_in l.first ∷ e ∷ []) ∷ []) same-far
+  count_is = circuits-count c (end_routers l.ends) a ∙ h.count_is;
+  links_are = ap (λ (ls : List (List model.End)). ls ++ map (next_end a.configs) (end_routers l.ends) ∷ []) (circuits-links c (end_routers l.ends) a ∙ h.links_are)
+      ∙ ap (λ (es : List model.End). map ends_of links ++ es ∷ []) (row-same a l.ends next.places)
       ∙ sym (map-append ends_of links (l ∷ []));
-  places = λ k. let new = link-places a l.first.router l.second.router l.metric k (subst (λ (n : ℕ). l.first.router < n) (sym h.count_is) laid.first_router) (subst (λ (n : ℕ). l.second.router < n) (sym h.count_is) laid.second_router) laid.apart in
+  places = λ k. let new = circuits-places c (end_routers l.ends) a k next.there next.apart in
       let more = count-append links (l ∷ []) k in
       let old = h.places k in
-      omega (arith, new, more, old);
+      let is : cond {A = ℕ} (list_any (λ (m : ℕ). m == k) (end_routers l.ends)) 1 0 ≡ cond {A = ℕ} (is_end l k) 1 0 = ap (λ (t : Bool). cond {A = ℕ} t 1 0) (any-router l.ends k) in
+      omega (arith, new, more, old, is);
 }
   where
-    change : Config → Config
-    change = with_circuit (link_circuit l.metric)
-
-    b : LabNet
-    b = reconfigured a l.first.router change
-
-    kept : IsSetup (reconfigured b l.second.router change)
-    kept = setup-kept b l.second.router change (nth b.configs l.second.router) (setup-kept a l.first.router change (nth a.configs l.first.router) h.setup)
-
-    near : model.End
-    near = record { router = l.first.router; place = next_place a l.first.router }
-
-    far : model.End
-    far = record { router = l.second.router; place = next_place a l.second.router }
-
-    same-near : near ≡ end_in l.first
-    same-near = ap (λ (n : ℕ). record { router = l.first.router; place = n }) (h.places l.first.router ∙ sym laid.first_place)
-
-    same-far : far ≡ end_in l.second
-    same-far = ap (λ (n : ℕ). record { router = l.second.router; place = n }) (h.places l.second.router ∙ sym laid.second_place)
+    kept : IsSetup (with_circuits c (end_routers l.ends) a)
+    kept = circuits-setup c (end_routers l.ends) a h.setup
 
 -- an end of a link that is still to come has room
 pub room-at : (links : List LabLink) (i : ℕ) (l : LabLink) (router : ℕ) → i < length links → l ≡ get_or links i l → is_end l router ≡ true → circuit_count links router ≤ 64 → circuit_count (take i links) router < 64
@@ -260,7 +274,7 @@ room-at links i l router h is end few =
     let one : cond {A = ℕ} (is_end l router) 1 0 ≡ 1 = ap (λ (t : Bool). cond {A = ℕ} t 1 0) end in
     omega (arith, whole, rest, one, few)
 
--- ---- a key
+-- ---- a circuit changes
 
 same-count : (change : CircuitConfig → CircuitConfig) (circuit : ℕ) (config : Config) → length (with_changed change circuit config).circuits ≡ length config.circuits + 0
 same-count change circuit config = of (nth config.circuits (circuit - 1))
@@ -269,29 +283,109 @@ same-count change circuit config = of (nth config.circuits (circuit - 1))
     of None = omega arith
     of (Some c) = let e = length-with config.circuits (circuit - 1) (change c) in omega (arith, e)
 
-pub key-more : (count : ℕ) (links : List LabLink) (a : LabNet) (router circuit : ℕ) (key : List ℕ) → HasLinks count links a → HasLinks count links (with_key a router circuit key)
-key-more count links a router circuit key h = record {
-  setup = setup-kept a router change (nth a.configs router) h.setup;
-  count_is = count-kept a router change (nth a.configs router) ∙ h.count_is;
-  links_are = links-kept a router change (nth a.configs router) ∙ h.links_are;
-  places = λ k. place k ∙ h.places k;
-}
+pub changed-places : (a : LabNet) (router circuit : ℕ) (f : CircuitConfig → CircuitConfig) (k : ℕ) → next_place (reconfigured a router (with_changed f circuit)) k ≡ next_place a k
+changed-places a router circuit f k =
+    test (λ t. (router == k) ≡ t → next_place (reconfigured a router change) k ≡ next_place a k) (router == k)
+    (λ _ yes. subst (λ (n : ℕ). next_place (reconfigured a router change) n ≡ next_place a n) (grind (arith, nat_tests, yes)) (here (nth a.configs router) refl))
+    (λ _ no. place-beside a router k change (nth a.configs router) (λ e. grind (arith, nat_tests, no, e))) refl
   where
     change : Config → Config
-    change = with_changed (λ (c : CircuitConfig). record c { key = Some key }) circuit
+    change = with_changed f circuit
 
     here : (o : Option Config) → nth a.configs router ≡ o → next_place (configured a router change o) router ≡ next_place a router
     here None e = refl
     here (Some config) e =
-        let grown = same-count (λ (c : CircuitConfig). record c { key = Some key }) circuit config in
+        let grown = same-count f circuit config in
         let new : next_place (configured a router change (Some config)) router ≡ length (change config).circuits = ap (λ (o : Option Config). config_count o) (nth-with a.configs router config (change config) e) in
         let old : next_place a router ≡ length config.circuits = ap (λ (o : Option Config). config_count o) e in
         omega (arith, grown, new, old)
 
-    place : (k : ℕ) → next_place (with_key a router circuit key) k ≡ next_place a k
-    place k = test (λ t. (router == k) ≡ t → next_place (with_key a router circuit key) k ≡ next_place a k) (router == k)
-        (λ _ yes. subst (λ (n : ℕ). next_place (with_key a router circuit key) n ≡ next_place a n) (grind (arith, nat_tests, yes)) (here (nth a.configs router) refl))
-        (λ _ no. place-beside a router k change (nth a.configs router) (λ e. grind (arith, nat_tests, no, e))) refl
+pub changed-count : (a : LabNet) (router circuit : ℕ) (f : CircuitConfig → CircuitConfig) → length (reconfigured a router (with_changed f circuit)).configs ≡ length a.configs
+changed-count a router circuit f = count-kept a router (with_changed f circuit) (nth a.configs router)
+
+pub changed-more : (count : ℕ) (links : List LabLink) (a : LabNet) (router circuit : ℕ) (f : CircuitConfig → CircuitConfig) → HasLinks count links a → HasLinks count links (reconfigured a router (with_changed f circuit))
+changed-more count links a router circuit f h = record {
+  setup = setup-kept a router (with_changed f circuit) (nth a.configs router) h.setup;
+  count_is = changed-count a router circuit f ∙ h.count_is;
+  links_are = links-kept a router (with_changed f circuit) (nth a.configs router) ∙ h.links_are;
+  places = λ k. changed-places a router circuit f k ∙ h.places k;
+}
+
+pub key-more : (count : ℕ) (links : List LabLink) (a : LabNet) (router circuit : ℕ) (key : List ℕ) → HasLinks count links a → HasLinks count links (with_key a router circuit key)
+key-more count links a router circuit key h = changed-more count links a router circuit (λ (c : CircuitConfig). record c { key = Some key }) h
+
+-- ---- priorities
+
+priorities-more : (count : ℕ) (links : List LabLink) (routers : List LabRouter) (ends : List End) (a : LabNet) → HasLinks count links a → HasLinks count links (with_priorities routers ends a)
+priorities-more count links routers [] a h = h
+priorities-more count links routers (e ∷ ends) a h =
+    priorities-more count links routers ends (with_own_priority routers e a)
+    (changed-more count links a e.router (e.place + 1) (λ (c : CircuitConfig). record c { priority = priority_in (nth routers e.router) }) h)
+
+priorities-on : (count : ℕ) (links : List LabLink) (routers : List LabRouter) (k : CircuitKind) (ends : List End) (a : LabNet) → HasLinks count links a → HasLinks count links (with_priorities_on k routers ends a)
+priorities-on count links routers PointToPoint ends a h = h
+priorities-on count links routers Lan ends a h = priorities-more count links routers ends a h
+
+pub laid-more : (count : ℕ) (links : List LabLink) (routers : List LabRouter) (a : LabNet) (l : LabLink) → IsNextLink a l → HasLinks count links a → HasLinks count (links ++ l ∷ []) (with_laid routers l a)
+laid-more count links routers a l next h =
+    priorities-on count (links ++ l ∷ []) routers l.kind l.ends (with_ends a (end_routers l.ends) (new_circuit l.kind l.metric))
+    (ends-more count links a l (new_circuit l.kind l.metric) next h)
+
+-- ---- the next link
+
+-- numbers at other places differ
+apart-here : (n : ℕ) (ns : List ℕ) → ((j : ℕ) → j < length ns → n ≢ get_or ns j 0) → AllByRecursion (λ j. n ≢ j) ns
+apart-here n [] h = tt
+apart-here n (m ∷ ns) h = (h 0 (omega arith), apart-here n ns (λ j lt. h (suc j) (omega (arith, lt))))
+
+are-apart : (ns : List ℕ) → AreDistinct ns → AreApart ns
+are-apart [] h = tt
+are-apart (n ∷ ns) h =
+    (apart-here n ns (λ j lt. h 0 (suc j) 0 (omega arith) (omega (arith, lt))), are-apart ns (λ i j d less lt. h (suc i) (suc j) d (omega (arith, less)) (omega (arith, lt))))
+
+routers-there : (n : ℕ) (ends : List End) → AllByRecursion (λ e. e.router < n) ends → AllByRecursion (λ r. r < n) (end_routers ends)
+routers-there n [] h = tt
+routers-there n (e ∷ ends) h = (h.0, routers-there n ends h.1)
+
+places-next : (links : List LabLink) (a : LabNet) (ends : List End) → ((router : ℕ) → next_place a router ≡ circuit_count links router) → AllByRecursion (λ e. e.place ≡ circuit_count links e.router) ends → AllByRecursion (λ e. e.place ≡ next_place a e.router) ends
+places-next links a [] same h = tt
+places-next links a (e ∷ ends) same h = (h.0 ∙ sym (same e.router), places-next links a ends same h.1)
+
+same-number : (n : ℕ) → (n == n) ≡ true
+same-number n = grind (arith, nat_tests)
+
+or-true : (b : Bool) → (b || true) ≡ true
+or-true true = refl
+or-true false = refl
+
+among-first : (e : End) (ends : List End) → is_among (e ∷ ends) e.router ≡ true
+among-first e ends = ap (λ (t : Bool). t || is_among ends e.router) (same-number e.router)
+
+among-behind : (e : End) (ends : List End) (r : ℕ) → is_among ends r ≡ true → is_among (e ∷ ends) r ≡ true
+among-behind e ends r h = ap (λ (t : Bool). e.router == r || t) h ∙ or-true (e.router == r)
+
+room-among : (a : LabNet) (l : LabLink) (ends : List End) → ((router : ℕ) → is_end l router ≡ true → next_place a router < 64) → ((router : ℕ) → is_among ends router ≡ true → is_end l router ≡ true) → AllByRecursion (λ r. next_place a r < 64) (end_routers ends)
+room-among a l [] room within = tt
+room-among a l (e ∷ ends) room within =
+    (room e.router (within e.router (among-first e ends)), room-among a l ends room (λ r h. within r (among-behind e ends r h)))
+
+none-full : (a : LabNet) (ns : List ℕ) → AllByRecursion (λ r. next_place a r < 64) ns → has_full a.configs ns ≡ false
+none-full a [] h = refl
+none-full a (r ∷ ns) h =
+    let one : nat_le 64 (next_place a r) ≡ false = grind (arith, nat_tests, h.0) in
+    ap (λ (t : Bool). t || has_full a.configs ns) one ∙ none-full a ns h.1
+
+pub next-link : (count : ℕ) (links : List LabLink) (a : LabNet) (l : LabLink) → IsLaidLink count links l → HasLinks count links a → ((router : ℕ) → is_end l router ≡ true → next_place a router < 64) → IsNextLink a l
+next-link count links a l laid h room = record {
+  many = laid.many;
+  there = subst (λ (n : ℕ). AllByRecursion (λ r. r < n) (end_routers l.ends)) (sym h.count_is) (routers-there count l.ends laid.there);
+  apart = are-apart (end_routers l.ends) laid.apart;
+  room = none-full a (end_routers l.ends) (room-among a l l.ends room (λ r x. x));
+  places = places-next links a l.ends h.places laid.places;
+  metric = laid.metric;
+}
+
+-- ---- the circuit of an end
 
 pub circuit-has : (a : LabNet) (router place : ℕ) → router < length a.configs → place < next_place a router → HasCircuit a router (place + 1)
 circuit-has a router place h few = (h, of (nth a.configs router) few)
@@ -299,3 +393,73 @@ circuit-has a router place h few = (h, of (nth a.configs router) few)
     of : (o : Option Config) → place < config_count o → IfSome o (λ (config : Config). (1 ≤ place + 1) × (place + 1 ≤ length config.circuits))
     of None f = tt
     of (Some config) f = (omega arith, omega (arith, f))
+
+has-place : (a : LabNet) (r place : ℕ) → HasCircuit a r (place + 1) → place < next_place a r
+has-place a r place h = of (nth a.configs r) refl h.1
+  where
+    of : (o : Option Config) → nth a.configs r ≡ o → IfSome o (λ (config : Config). (1 ≤ place + 1) × (place + 1 ≤ length config.circuits)) → place < config_count o
+    of None e f = absurd (not-none a.configs r h.0 e)
+    of (Some config) e f = omega (arith, f.1)
+
+-- a change of a circuit keeps all ends
+end-kept : (a : LabNet) (router circuit : ℕ) (f : CircuitConfig → CircuitConfig) (e : End) → HasEnd a e → HasEnd (reconfigured a router (with_changed f circuit)) e
+end-kept a router circuit f e h = (
+  circuit-has (reconfigured a router (with_changed f circuit)) e.router e.place
+      (subst (λ (n : ℕ). e.router < n) (sym (changed-count a router circuit f)) h.0.0)
+      (subst (λ (n : ℕ). e.place < n) (sym (changed-places a router circuit f e.router)) (has-place a e.router e.place h.0)),
+  h.1,
+)
+
+-- ---- a turn of the loop that sets priorities
+
+pub priorities-at : (routers : List LabRouter) (ends : List End) (a : LabNet) (i : ℕ) (d : End) → i < length ends
+    → with_priorities routers (drop i ends) a ≡ with_priorities routers (drop (i + 1) ends) (with_own_priority routers (get_or ends i d) a)
+priorities-at routers ends a i d less = at_drop_more (λ (es : List End). with_priorities routers es a) ends i d less
+
+pub ends-left : (routers : List LabRouter) (ends : List End) (a new : LabNet) (i : ℕ) (d : End) → i < length ends → new ≡ with_own_priority routers (get_or ends i d) a → AllByRecursion (λ e. HasEnd a e) (drop i ends) → AllByRecursion (λ e. HasEnd new e) (drop (i + 1) ends)
+ends-left routers ends a new i d less is all =
+    let told = get_or ends i d in
+    subst (λ (n : LabNet). AllByRecursion (λ e. HasEnd n e) (drop (i + 1) ends)) (sym is)
+    (all-map (λ e. HasEnd a e) (λ e. HasEnd (with_own_priority routers told a) e) (drop (i + 1) ends)
+    (λ e h. end-kept a told.router (told.place + 1) (λ (c : CircuitConfig). record c { priority = priority_in (nth routers told.router) }) e h)
+    (subst (λ (es : List End). AllByRecursion (λ e. HasEnd a e) es) (drop_more ends i d less) all).1)
+
+pub priority-begun : (routers : List LabRouter) (told : End) (a new : LabNet) → new ≡ with_own_priority routers told a → a.begun ≡ false → new.begun ≡ false
+priority-begun routers told a new is early =
+    ap (λ (n : LabNet). n.begun) is ∙ begun-kept a told.router (with_changed (λ (c : CircuitConfig). record c { priority = priority_in (nth routers told.router) }) (told.place + 1)) (nth a.configs told.router) ∙ early
+
+-- ---- what is laid
+
+first-room : (a : LabNet) (r : ℕ) (ns : List ℕ) → has_full a.configs (r ∷ ns) ≡ false → (next_place a r < 64) × (has_full a.configs ns ≡ false)
+first-room a r ns h = by (nat_le 64 (next_place a r)) refl h
+  where
+    by : (t : Bool) → nat_le 64 (next_place a r) ≡ t → (t || has_full a.configs ns) ≡ false → (next_place a r < 64) × (has_full a.configs ns ≡ false)
+    by true e f = absurd (cc)
+    by false e f = (grind (arith, nat_tests, e), f)
+
+ends-have : (a : LabNet) (l : LabLink) (c : CircuitConfig) (ends : List End) → IsNextLink a l → ((r : ℕ) → is_among ends r ≡ true → is_end l r ≡ true) → AllByRecursion (λ r. r < length a.configs) (end_routers ends)
+    → AllByRecursion (λ e. e.place ≡ next_place a e.router) ends → has_full a.configs (end_routers ends) ≡ false → AllByRecursion (λ e. HasEnd (with_ends a (end_routers l.ends) c) e) ends
+ends-have a l c [] next within there places room = tt
+ends-have a l c (e ∷ ends) next within there places room =
+    let free = first-room a e.router (end_routers ends) room in
+    let more = circuits-places c (end_routers l.ends) a e.router next.there next.apart in
+    let one : cond {A = ℕ} (list_any (λ (m : ℕ). m == e.router) (end_routers l.ends)) 1 0 ≡ 1 = ap (λ (t : Bool). cond {A = ℕ} t 1 0) (any-router l.ends e.router ∙ within e.router (among-first e ends)) in
+    let here : e.router < length (with_circuits c (end_routers l.ends) a).configs = subst (λ (n : ℕ). e.router < n) (sym (circuits-count c (end_routers l.ends) a)) there.0 in (
+      (circuit-has (with_ends a (end_routers l.ends) c) e.router e.place here (omega (arith, more, one, places.0)), omega (arith, places.0, free.0)),
+      ends-have a l c ends next (λ r h. within r (among-behind e ends r h)) there.1 places.1 free.1,
+    )
+
+-- the circuits of a link's ends are there once it is laid
+pub laid-ends : (a new : LabNet) (l : LabLink) (c : CircuitConfig) → IsNextLink a l → new ≡ with_ends a (end_routers l.ends) c → AllByRecursion (λ e. HasEnd new e) l.ends
+laid-ends a new l c next is =
+    subst (λ (n : LabNet). AllByRecursion (λ e. HasEnd n e) l.ends) (sym is) (ends-have a l c l.ends next (λ r h. h) next.there next.places next.room)
+
+pub laid-begun : (a new : LabNet) (ns : List ℕ) (c : CircuitConfig) → new ≡ with_ends a ns c → a.begun ≡ false → new.begun ≡ false
+laid-begun a new ns c is early = ap (λ (n : LabNet). n.begun) is ∙ circuits-begun c ns a ∙ early
+
+-- the routers of two ends
+pub two-routers : (ends : List End) (d e : End) → length ends ≡ 2 → (get_or ends 0 d).router ∷ (get_or ends 1 e).router ∷ [] ≡ end_routers ends
+two-routers [] d e h = absurd (omega (arith, h))
+two-routers (x ∷ []) d e h = absurd (omega (arith, h))
+two-routers (x ∷ y ∷ []) d e h = refl
+two-routers (x ∷ y ∷ z ∷ more) d e h = absurd (omega (arith, h))

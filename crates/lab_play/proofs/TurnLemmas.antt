@@ -1,9 +1,8 @@
 -- A turn of each loop that lays a network out.
-use Rattle.std.proofs.Common.{◌≡◌, ℕ, ◌+◌, ◌<◌, ◌≤◌, Bool, true, false, ◌==◌, ◌||◌, List, [], ◌∷◌, ◌++◌, length, take, drop, get_or, refl, sym, ap, ◌∙◌, subst, arith}
-use Rattle.std.proofs.lemmas.Bool.Decides.{nat_tests}
+use Rattle.std.proofs.Common.{◌≡◌, ℕ, ◌+◌, ◌<◌, ◌≤◌, true, List, [], ◌∷◌, ◌++◌, length, take, drop, get_or, refl, sym, ap, ◌∙◌, subst, arith}
 use Rattle.std.proofs.lemmas.List.{drop_more, at_drop_more, take_more}
 use Rattle.std.specs.List.{AllByRecursion}
-use Rattle.network_lab.specs.LabNets.{LabNet, with_router, next_place, with_link}
+use Rattle.network_lab.specs.LabNets.{LabNet, with_router, next_place}
 use Rattle.lab_script.specs.declared.setup.KeyScope.{KeyScope}
 use Rattle.lab_script.specs.declared.setup.KeyScope.TheVariants as scope
 use Rattle.lab_script.specs.declared.setup.LabKey.{LabKey}
@@ -11,9 +10,9 @@ use Rattle.lab_script.specs.declared.setup.LabLink.{LabLink}
 use Rattle.lab_script.specs.declared.setup.LabRouter.{LabRouter}
 use Rattle.lab_script.specs.LabScripts.{LabScript, is_end, circuit_count}
 use Rattle.lab_script.specs.LabSound.{IsLaidLink, IsKeyScope, IsSoundLab}
-use Rattle.lab_play.specs.Layouts.{config_of, with_routers, with_links, with_scope, with_keys}
-use Rattle.lab_play.specs.Setups.{HasRouters, HasLinks, HasScope}
-use Rattle.lab_play.proofs.SetupLemmas.{router-more, link-more, room-at, key-more, circuit-has}
+use Rattle.lab_play.specs.Layouts.{config_of, with_routers, with_laid, with_links, with_scope, with_keys}
+use Rattle.lab_play.specs.Setups.{HasRouters, HasLinks, HasScope, IsNextLink}
+use Rattle.lab_play.proofs.SetupLemmas.{router-more, laid-more, next-link, room-at, key-more, circuit-has}
 
 -- ---- routers
 
@@ -32,11 +31,11 @@ routers-turn keys number routers a i told lt is has =
 
 -- ---- links
 
-pub links-at : (links : List LabLink) (a : LabNet) (i : ℕ) (told : LabLink) → i < length links → told ≡ get_or links i told
-    → with_links (drop i links) a ≡ with_links (drop (i + 1) links) (with_link a told.first.router told.second.router told.metric)
-links-at links a i told lt is =
-    at_drop_more (λ (ls : List LabLink). with_links ls a) links i told lt
-    ∙ ap (λ (x : LabLink). with_links (drop (i + 1) links) (with_link a x.first.router x.second.router x.metric)) (sym is)
+pub links-at : (routers : List LabRouter) (links : List LabLink) (a : LabNet) (i : ℕ) (told : LabLink) → i < length links → told ≡ get_or links i told
+    → with_links routers (drop i links) a ≡ with_links routers (drop (i + 1) links) (with_laid routers told a)
+links-at routers links a i told lt is =
+    at_drop_more (λ (ls : List LabLink). with_links routers ls a) links i told lt
+    ∙ ap (λ (x : LabLink). with_links routers (drop (i + 1) links) (with_laid routers x a)) (sym is)
 
 pub laid-at : (script : LabScript) (links : List LabLink) (i : ℕ) (told : LabLink) → IsSoundLab script → links ≡ script.links → i < length links → told ≡ get_or links i told
     → IsLaidLink (length script.routers) (take i links) told
@@ -44,32 +43,24 @@ laid-at script links i told sound same =
     subst (λ (ls : List LabLink). i < length ls → told ≡ get_or ls i told → IsLaidLink (length script.routers) (take i ls) told) (sym same)
     (λ lt is. subst (λ (x : LabLink). IsLaidLink (length script.routers) (take i script.links) x) (sym is) (sound.laid i told lt))
 
-pub links-turn : (count : ℕ) (links : List LabLink) (a : LabNet) (i : ℕ) (told : LabLink) → i < length links → told ≡ get_or links i told
-    → IsLaidLink count (take i links) told → HasLinks count (take i links) a → HasLinks count (take (i + 1) links) (with_link a told.first.router told.second.router told.metric)
-links-turn count links a i told lt is laid has =
-    subst (λ (ls : List LabLink). HasLinks count ls (with_link a told.first.router told.second.router told.metric))
+pub links-turn : (count : ℕ) (routers : List LabRouter) (links : List LabLink) (a : LabNet) (i : ℕ) (told : LabLink) → i < length links → told ≡ get_or links i told
+    → IsNextLink a told → HasLinks count (take i links) a → HasLinks count (take (i + 1) links) (with_laid routers told a)
+links-turn count routers links a i told lt is next has =
+    subst (λ (ls : List LabLink). HasLinks count ls (with_laid routers told a))
     (sym (take_more links i told lt ∙ ap (λ (x : LabLink). take i links ++ x ∷ []) (sym is)))
-    (link-more count (take i links) a told laid has)
+    (laid-more count (take i links) routers a told next has)
 
 -- an end of the link that is added has room for a circuit
-pub room-for : (script : LabScript) (links : List LabLink) (a : LabNet) (i : ℕ) (told : LabLink) (router : ℕ) → IsSoundLab script → links ≡ script.links → i < length links → told ≡ get_or links i told
+room-for : (script : LabScript) (links : List LabLink) (a : LabNet) (i : ℕ) (told : LabLink) (router : ℕ) → IsSoundLab script → links ≡ script.links → i < length links → told ≡ get_or links i told
     → is_end told router ≡ true → HasLinks (length script.routers) (take i links) a → next_place a router < 64
 room-for script links a i told router sound same lt is end has =
     subst (λ (n : ℕ). n < 64) (sym (has.places router))
     (room-at links i told router lt is end (subst (λ (ls : List LabLink). circuit_count ls router ≤ 64) (sym same) (sound.circuits router)))
 
-or-true : (b : Bool) → (b || true) ≡ true
-or-true true = refl
-or-true false = refl
-
-same-number : (n : ℕ) → (n == n) ≡ true
-same-number n = grind (arith, nat_tests)
-
-pub first-end : (l : LabLink) → is_end l l.first.router ≡ true
-first-end l = ap (λ (t : Bool). t || (l.second.router == l.first.router)) (same-number l.first.router)
-
-pub second-end : (l : LabLink) → is_end l l.second.router ≡ true
-second-end l = ap (λ (t : Bool). (l.first.router == l.second.router) || t) (same-number l.second.router) ∙ or-true (l.first.router == l.second.router)
+pub next-for : (script : LabScript) (links : List LabLink) (a : LabNet) (i : ℕ) (told : LabLink) → IsSoundLab script → links ≡ script.links → i < length links → told ≡ get_or links i told
+    → HasLinks (length script.routers) (take i links) a → IsNextLink a told
+next-for script links a i told sound same lt is has =
+    next-link (length script.routers) (take i links) a told (laid-at script links i told sound same lt is) has (λ router end. room-for script links a i told router sound same lt is end has)
 
 -- ---- keys
 

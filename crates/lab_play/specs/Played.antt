@@ -1,5 +1,5 @@
 -- What a network is while a lab script is played on it (own).
-use Rattle.std.specs.Prelude.{◌≡◌, ℕ, List, [], ◌∷◌, map, length, Result, Ok, Err, None}
+use Rattle.std.specs.Prelude.{◌≡◌, ℕ, List, map, length, Result, Ok, Err, None}
 use Rattle.network_model.specs.declared.end.End as model
 use Rattle.network_model.specs.Networks.{Network}
 use Rattle.network_lab.specs.LabNets.{LabNet, Seen, StandsFor}
@@ -15,7 +15,7 @@ abbrev pub end_in : End → model.End
 end_in e = record { router = e.router; place = e.place }
 
 abbrev pub ends_of : LabLink → List model.End
-ends_of link = end_in link.first ∷ end_in link.second ∷ []
+ends_of link = map end_in link.ends
 
 -- a network has so many routers, and these links
 pub record IsLaid (routers : ℕ) (links : List LabLink) (s : Seen) : Type 0 where

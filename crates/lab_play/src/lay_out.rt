@@ -1,16 +1,19 @@
 //! The network that a lab script's setup lines lay out.
 ghost use Rattle.std.specs.Prelude.{◌≡◌, ◌≢◌, ◌<◌, ◌≤◌, ◌+◌, [], length, false, None, IfOk, OnOk};
+ghost use Rattle.isis_base.specs.declared.level.CircuitKind.TheVariants as kind;
+ghost use Rattle.isis_model.specs.Places.{nth};
+ghost use Rattle.lab_script.specs.LabScripts.{end_routers};
 ghost use Rattle.std.specs.List.{AllByRecursion};
 ghost use Rattle.router_desk.specs.Limits.{IsKey};
-ghost use Rattle.network_lab.specs.LabNets.{StandsFor, empty_lab, next_place, with_router, with_link};
+ghost use Rattle.network_lab.specs.LabNets.{StandsFor, empty_lab, new_circuit, with_router, with_ends};
 ghost use Rattle.lab_play.specs.Layouts as layout;
 ghost use Rattle.lab_play.specs.Layouts.{laid_out, opened};
 ghost use Rattle.lab_play.specs.Played.{IsLaid};
-ghost use Rattle.lab_play.specs.Setups.{HasRouters, HasLinks, HasScope};
+ghost use Rattle.lab_play.specs.Setups.{HasRouters, HasLinks, HasScope, HasEnd, IsNextLink};
 
 use crate::router_config::config_of;
-use isis_base::OutOfMemory;
-use lab_script::{KeyScope, LabKey, LabLink, LabRouter, LabScript};
+use isis_base::{CircuitKind, OutOfMemory};
+use lab_script::{End, KeyScope, LabKey, LabLink, LabRouter, LabScript};
 use network_lab::{LabFault, Network};
 use std::alloc::Global;
 
@@ -26,7 +29,7 @@ pub(crate) fn lay_out(alloc: Global, script: &LabScript<'_>) -> Result<Network, 
         Ok(()) => {}
         Err(error) => return Err(error),
     }
-    match add_links(&mut net, script) {
+    match add_links(alloc, &mut net, script) {
         Ok(()) => {}
         Err(error) => return Err(error),
     }
@@ -78,15 +81,17 @@ fn add_router(
     }
 }
 
-/// Adds the links.
-fn add_links(net: &mut Network, script: &LabScript<'_>) -> Result<(), OutOfMemory>
+/// Adds the links and LANs.
+fn add_links(alloc: Global, net: &mut Network, script: &LabScript<'_>) -> Result<(), OutOfMemory>
     requires { HasLinks (length script.now.routers) [] net.old }
-    ensures value { OnOk result (net.new ≡ layout.with_links script.now.links net.old) }
+    ensures value { OnOk result (net.new
+        ≡ layout.with_links script.now.routers script.now.links net.old) }
     ensures has { OnOk result (HasLinks (length script.now.routers) script.now.links net.new) }
 {
+    let routers = script.routers();
     let links = script.links();
     for link in links {
-        match add_link(net, link) {
+        match add_laid(alloc, net, routers, link) {
             Ok(()) => {}
             Err(error) => return Err(error),
         }
@@ -94,23 +99,124 @@ fn add_links(net: &mut Network, script: &LabScript<'_>) -> Result<(), OutOfMemor
     Ok(())
 }
 
-/// Adds a link where there is room for one.
-fn add_link(net: &mut Network, link: &LabLink<'_>) -> Result<(), OutOfMemory>
-    requires first { link.now.first.router < length net.old.configs }
-    requires second { link.now.second.router < length net.old.configs }
-    requires apart { link.now.first.router ≢ link.now.second.router }
-    requires metric { link.now.metric ≤ 16777215 }
+/// Adds a link or LAN where there is room for one.
+fn add_laid(
+    alloc: Global,
+    net: &mut Network,
+    routers: &[LabRouter<'_>],
+    link: &LabLink<'_>,
+) -> Result<(), OutOfMemory>
+    requires next { IsNextLink net.old link.now }
+    requires priorities { AllByRecursion (λ router. router.priority ≤ 127) routers.now }
     requires early { net.old.begun ≡ false }
     requires few { length net.old.seen.links < 4096 }
-    requires near { next_place net.old link.now.first.router < 64 }
-    requires far { next_place net.old link.now.second.router < 64 }
-    ensures { OnOk result (net.new
-        ≡ with_link net.old link.now.first.router link.now.second.router link.now.metric) }
+    ensures { OnOk result (net.new ≡ layout.with_laid routers.now link.now net.old) }
 {
-    match net.add_link([link.first.router, link.second.router], link.metric) {
+    match link.kind {
+        CircuitKind::PointToPoint => add_point(net, link),
+        CircuitKind::Lan => add_lan(alloc, net, routers, link),
+    }
+}
+
+/// Adds a point-to-point link where there is room for one.
+fn add_point(net: &mut Network, link: &LabLink<'_>) -> Result<(), OutOfMemory>
+    requires kind { link.now.kind ≡ kind.PointToPoint }
+    requires next { IsNextLink net.old link.now }
+    requires early { net.old.begun ≡ false }
+    requires few { length net.old.seen.links < 4096 }
+    ensures { OnOk result (net.new ≡ with_ends net.old (end_routers link.now.ends)
+        (new_circuit kind.PointToPoint link.now.metric)) }
+{
+    let ends = link.ends.as_slice();
+    match net.add_link([ends[0].router, ends[1].router], link.metric) {
         Ok(_) => Ok(()),
         Err(LabFault::OutOfMemory) => Err(OutOfMemory),
         Err(_) => unreachable!(),
+    }
+}
+
+/// Adds a LAN where there is room for one; each of its circuits has the priority of its router.
+fn add_lan(
+    alloc: Global,
+    net: &mut Network,
+    routers: &[LabRouter<'_>],
+    link: &LabLink<'_>,
+) -> Result<(), OutOfMemory>
+    requires kind { link.now.kind ≡ kind.Lan }
+    requires next { IsNextLink net.old link.now }
+    requires priorities { AllByRecursion (λ router. router.priority ≤ 127) routers.now }
+    requires early { net.old.begun ≡ false }
+    requires few { length net.old.seen.links < 4096 }
+    ensures { OnOk result (net.new ≡ layout.with_priorities routers.now link.now.ends
+        (with_ends net.old (end_routers link.now.ends) (new_circuit kind.Lan link.now.metric))) }
+{
+    let ends = link.ends.as_slice();
+    let members = routers_of(alloc, ends)?;
+    match net.add_lan(members.as_slice(), link.metric) {
+        Ok(_) => {}
+        Err(LabFault::OutOfMemory) => return Err(OutOfMemory),
+        Err(_) => unreachable!(),
+    }
+    set_priorities(net, routers, ends)
+}
+
+/// The routers of these ends.
+fn routers_of(alloc: Global, ends: &[End]) -> Result<Vec<usize>, OutOfMemory>
+    ensures { IfOk result (λ routers. routers.items ≡ end_routers ends.now) }
+{
+    let mut routers = Vec::new(alloc);
+    for end in ends {
+        match routers.push(end.router) {
+            Ok(()) => {}
+            Err(_) => return Err(OutOfMemory),
+        }
+    }
+    Ok(routers)
+}
+
+/// Gives each of these ends the priority of its router.
+fn set_priorities(
+    net: &mut Network,
+    routers: &[LabRouter<'_>],
+    ends: &[End],
+) -> Result<(), OutOfMemory>
+    requires there { AllByRecursion (λ e. HasEnd net.old e) ends.now }
+    requires priorities { AllByRecursion (λ router. router.priority ≤ 127) routers.now }
+    requires early { net.old.begun ≡ false }
+    ensures { OnOk result (net.new ≡ layout.with_priorities routers.now ends.now net.old) }
+{
+    for end in ends {
+        match set_priority(net, routers, end) {
+            Ok(()) => {}
+            Err(error) => return Err(error),
+        }
+    }
+    Ok(())
+}
+
+/// Gives an end the priority of its router.
+fn set_priority(net: &mut Network, routers: &[LabRouter<'_>], end: &End) -> Result<(), OutOfMemory>
+    requires there { HasEnd net.old end.now }
+    requires priorities { AllByRecursion (λ router. router.priority ≤ 127) routers.now }
+    requires early { net.old.begun ≡ false }
+    ensures { OnOk result (net.new ≡ layout.with_own_priority routers.now end.now net.old) }
+{
+    let priority = priority_of(routers, end.router);
+    match net.set_priority(end.router, end.place as u8 + 1, priority) {
+        Ok(()) => Ok(()),
+        Err(_) => Err(OutOfMemory),
+    }
+}
+
+/// The priority of the router of this number; 0 where there is none.
+fn priority_of(routers: &[LabRouter<'_>], router: usize) -> u8
+    requires { AllByRecursion (λ router. router.priority ≤ 127) routers.now }
+    ensures value { result ≡ layout.priority_in (nth routers.now router) }
+    ensures small { result ≤ 127 }
+{
+    match routers.get(router) {
+        Some(router) => router.priority,
+        None => 0,
     }
 }
 

@@ -1,25 +1,29 @@
 -- What holds of lab scripts with a line more.
 use Rattle.std.proofs.Common.{◌≡◌, ◌≢◌, ◌∙◌, ℕ, zero, suc, ◌+◌, ◌<◌, ◌≤◌, Bool, true, false, cond, List, [], ◌∷◌, ◌++◌, length, map, take, get_or, Option, Some, None, inl, inr, refl, sym, ap, subst, arith, length-append}
 use Rattle.std.specs.Prelude.{◌==◌, ◌||◌, nat_le, option_and_then}
-use Rattle.std.specs.List.{AllByRecursion, slice_get}
+use Rattle.std.specs.List.{AllByRecursion, list_any, slice_get}
 use Rattle.std.specs.Str.{bytes_eq}
 use Rattle.isis_base.specs.declared.identifiers.SystemId.{SystemId}
-use Rattle.std.proofs.lemmas.Bool.{cases_Bool, cases_lt, eqb-true, le-leb, or_cases, false≢true}
+use Rattle.std.proofs.lemmas.Bool.{cases_Bool, cases_lt, eqb-true, eq-eqb, le-leb, or_cases, false≢true}
 use Rattle.std.proofs.lemmas.Slice.Eq.{bytes_eq-Decides}
-use Rattle.std.proofs.lemmas.List.{get_or_append_left, take-append-le, map-append}
+use Rattle.std.proofs.lemmas.List.{get_or_append_left, take-append-le, map-append, length-map}
 use Rattle.std.proofs.lemmas.List.Sums.{sum_by-append, sum_by-take-le, count_by_more_yes}
 use Rattle.std.proofs.lemmas.Option.{get_or_from_slice_get, slice_get_within}
 use Rattle.std.proofs.Math.Seq.{get_or-append_seam, take-append_seam}
+use Rattle.isis_base.specs.declared.level.CircuitKind.{CircuitKind}
+use Rattle.isis_base.specs.declared.level.CircuitKind.TheVariants.{PointToPoint, Lan}
 use Rattle.isis_model.proofs.ListLemmas.{all-append, all-map}
+use Rattle.lab_script.specs.declared.setup.End.{End}
 use Rattle.lab_script.specs.declared.setup.LabKey.{LabKey}
 use Rattle.lab_script.specs.declared.setup.LabLink.{LabLink}
 use Rattle.lab_script.specs.declared.setup.LabRouter.{LabRouter}
 use Rattle.lab_script.specs.declared.setup.KeyScope.{KeyScope}
 use Rattle.lab_script.specs.declared.setup.KeyScope.TheVariants as scope
-use Rattle.lab_script.specs.LabScripts.{LabScript, has_system, is_end, circuit_count, place_on, place_at}
+use Rattle.lab_script.specs.Counts.{has_twice}
+use Rattle.lab_script.specs.LabScripts.{LabScript, has_system, end_routers, is_among, is_end, circuit_count, place_among, place_on, place_at, next_ends, link_between}
 use Rattle.lab_script.specs.declared.deeds.LabLine.{LabLine}
-use Rattle.lab_script.specs.LabJudged.{has_begun, is_full}
-use Rattle.lab_script.specs.LabSound.{AreDistinct, IsLaidLink, IsKeyScope, IsLabKey, IsDeed, IsSoundLab}
+use Rattle.lab_script.specs.LabJudged.{has_begun, is_full, is_some_full}
+use Rattle.lab_script.specs.LabSound.{AreDistinct, HasEnds, IsLaidLink, IsKeyScope, IsLabKey, IsDeed, IsSoundLab}
 
 -- ---- lists with an item more
 
@@ -54,15 +58,25 @@ count-push links link router =
 count-more : (links : List LabLink) (link : LabLink) (router : ℕ) → circuit_count links router ≤ circuit_count (links ++ link ∷ []) router
 count-more links link router = omega (arith, count-push links link router)
 
-few-push : (links : List LabLink) (link : LabLink) (router : ℕ) → circuit_count links router ≤ 64 → circuit_count links link.first.router < 64 → circuit_count links link.second.router < 64 → circuit_count (links ++ link ∷ []) router ≤ 64
-few-push links link router h first second =
+-- what holds of the router of each end holds of each router among them
+at-end : (P : ℕ → Type 0) (ends : List End) (router : ℕ) → AllByRecursion (λ e. P e.router) ends → is_among ends router ≡ true → P router
+at-end P [] router all among = absurd (false≢true among)
+at-end P (e ∷ ends) router all among =
+    elim (or_cases (e.router == router) (is_among ends router) among) [
+      | inl here ↦ subst P (eqb-true e.router router here) all.0
+      | inr behind ↦ at-end P ends router all.1 behind
+    ]
+
+-- each router of these ends has room for a circuit
+abbrev pub HasRoom : List LabLink → List End → Type 0
+HasRoom links ends = AllByRecursion (λ e. circuit_count links e.router < 64) ends
+
+few-push : (links : List LabLink) (link : LabLink) (router : ℕ) → circuit_count links router ≤ 64 → HasRoom links link.ends → circuit_count (links ++ link ∷ []) router ≤ 64
+few-push links link router h room =
     elim (cases_Bool (is_end link router)) [
       | inl ends ↦
           (let one : cond {A = ℕ} (is_end link router) 1 0 ≡ 1 = ap (λ (t : Bool). cond {A = ℕ} t 1 0) ends in
-          elim (or_cases (link.first.router == router) (link.second.router == router) ends) [
-            | inl a ↦ (let e = ap (circuit_count links) (eqb-true link.first.router router a) in omega (arith, count-push links link router, one, e, first))
-            | inr b ↦ (let e = ap (circuit_count links) (eqb-true link.second.router router b) in omega (arith, count-push links link router, one, e, second))
-          ])
+          omega (arith, count-push links link router, one, at-end (λ (r : ℕ). circuit_count links r < 64) link.ends router room ends))
       | inr free ↦ (let none : cond {A = ℕ} (is_end link router) 1 0 ≡ 0 = ap (λ (t : Bool). cond {A = ℕ} t 1 0) free in omega (arith, count-push links link router, none, h))
     ]
 
@@ -70,11 +84,10 @@ few-push links link router h first second =
 
 laid-more : (n m : ℕ) (before : List LabLink) (link : LabLink) → n ≤ m → IsLaidLink n before link → IsLaidLink m before link
 laid-more n m before link le h = record {
-  first_router = omega (arith, h.first_router);
-  second_router = omega (arith, h.second_router);
+  many = h.many;
+  there = all-map (λ e. e.router < n) (λ e. e.router < m) link.ends (λ e lt. omega (arith, le, lt)) h.there;
   apart = h.apart;
-  first_place = h.first_place;
-  second_place = h.second_place;
+  places = h.places;
   metric = h.metric;
 }
 
@@ -95,11 +108,11 @@ key-more n m old new key le more h = record {
 abbrev pub systems_of : List LabRouter → List SystemId
 systems_of routers = map (λ (r : LabRouter). r.system) routers
 
-none-first : (t u : Bool) → (t || u) ≡ false → t ≡ false
+pub none-first : (t u : Bool) → (t || u) ≡ false → t ≡ false
 none-first true u e = e
 none-first false u e = refl
 
-none-behind : (t u : Bool) → (t || u) ≡ false → u ≡ false
+pub none-behind : (t u : Bool) → (t || u) ≡ false → u ≡ false
 none-behind true u e = absurd (false≢true (sym e))
 none-behind false u e = e
 
@@ -127,8 +140,8 @@ IsSoundLab-router s router h few priority new early =
     }
 
 -- a link more
-pub IsSoundLab-link : (s : LabScript) (link : LabLink) → IsSoundLab s → length s.links < 4096 → IsLaidLink (length s.routers) s.links link → circuit_count s.links link.first.router < 64 → circuit_count s.links link.second.router < 64 → s.lines ≡ [] → IsSoundLab (record s { links = s.links ++ link ∷ [] })
-IsSoundLab-link s link h few new first second early = record {
+pub IsSoundLab-link : (s : LabScript) (link : LabLink) → IsSoundLab s → length s.links < 4096 → IsLaidLink (length s.routers) s.links link → HasRoom s.links link.ends → s.lines ≡ [] → IsSoundLab (record s { links = s.links ++ link ∷ [] })
+IsSoundLab-link s link h few new room early = record {
   routers = h.routers;
   links = omega (arith, length-append s.links (link ∷ []), few);
   systems = h.systems;
@@ -144,7 +157,7 @@ IsSoundLab-link s link h few new first second early = record {
             subst (λ (before : List LabLink). IsLaidLink (length s.routers) before (get_or (s.links ++ link ∷ []) i d)) (sym (ap (λ (n : ℕ). take n (s.links ++ link ∷ [])) at ∙ take-append_seam s.links (link ∷ [])))
             (subst (λ (l : LabLink). IsLaidLink (length s.routers) s.links l) (sym (push-at s.links link d i at)) new))
       ];
-  circuits = λ router. few-push s.links link router (h.circuits router) first second;
+  circuits = λ router. few-push s.links link router (h.circuits router) room;
   keys = all-map (λ key. IsLabKey (length s.routers) s.links key) (λ key. IsLabKey (length s.routers) (s.links ++ link ∷ []) key) s.keys
       (λ key k. key-more (length s.routers) (length s.routers) s.links (s.links ++ link ∷ []) key (omega arith) (λ r. count-more s.links link r) k) h.keys;
   lines = subst (λ (lines : List _). AllByRecursion (λ line. IsDeed (length s.routers) (s.links ++ link ∷ []) line.deed) lines) (sym early) tt;
@@ -159,27 +172,19 @@ counted-at links i d router less end =
     let most = sum_by-take-le (λ (l : LabLink). cond (is_end l router) 1 0) links (i + 1) in
     omega (arith, one, most)
 
-place-counted : (before : List LabLink) (n : ℕ) (link : LabLink) (router place : ℕ) → IsLaidLink n before link → place_on link router ≡ Some place → (is_end link router ≡ true) × (place ≡ circuit_count before router)
-place-counted before n link router place h e =
-    elim (cases_Bool (link.first.router == router)) [
-      | inl a ↦
-          (let same = eqb-true link.first.router router a in
-          let here : Some link.first.place ≡ Some place = sym (ap (λ (t : Bool). cond t (Some link.first.place) (cond (link.second.router == router) (Some link.second.place) None)) a) ∙ e in
-          let at : link.first.place ≡ place = cc in
-          (ap (λ (t : Bool). t || link.second.router == router) a, sym at ∙ h.first_place ∙ ap (circuit_count before) same))
-      | inr na ↦
-          (let rest : cond (link.second.router == router) (Some link.second.place) None ≡ Some place = sym (ap (λ (t : Bool). cond t (Some link.first.place) (cond (link.second.router == router) (Some link.second.place) None)) na) ∙ e in
-          elim (cases_Bool (link.second.router == router)) [
-            | inl b ↦
-                (let same = eqb-true link.second.router router b in
-                let here : Some link.second.place ≡ Some place = sym (ap (λ (t : Bool). cond {A = Option ℕ} t (Some link.second.place) None) b) ∙ rest in
-                let at : link.second.place ≡ place = cc in
-                (ap (λ (t : Bool). t || link.second.router == router) na ∙ b, sym at ∙ h.second_place ∙ ap (circuit_count before) same))
-            | inr nb ↦
-                (let none : cond {A = Option ℕ} (link.second.router == router) (Some link.second.place) None ≡ None = ap (λ (t : Bool). cond {A = Option ℕ} t (Some link.second.place) None) nb in
-                let no : ◌≡◌ {A = Option ℕ} None (Some place) = sym none ∙ rest in
-                cc)
-          ])
+place-counted : (before : List LabLink) (ends : List End) (router place : ℕ) → AllByRecursion (λ e. e.place ≡ circuit_count before e.router) ends → place_among ends router ≡ Some place → (is_among ends router ≡ true) × (place ≡ circuit_count before router)
+place-counted before [] router place all e = absurd (cc)
+place-counted before (x ∷ ends) router place all e =
+    elim (cases_Bool (x.router == router)) [
+      | inl here ↦
+          (let same = eqb-true x.router router here in
+          let got : Some x.place ≡ Some place = sym (ap (λ (t : Bool). cond t (Some x.place) (place_among ends router)) here) ∙ e in
+          let at : x.place ≡ place = cc in
+          (ap (λ (t : Bool). t || is_among ends router) here, sym at ∙ all.0 ∙ ap (circuit_count before) same))
+      | inr other ↦
+          (let got : place_among ends router ≡ Some place = sym (ap (λ (t : Bool). cond t (Some x.place) (place_among ends router)) other) ∙ e in
+          let behind = place-counted before ends router place all.1 got in
+          (ap (λ (t : Bool). t || is_among ends router) other ∙ behind.0, behind.1))
     ]
 
 place-of : (s : LabScript) (i router place : ℕ) → IsSoundLab s → (o : Option LabLink) → slice_get s.links i ≡ o → option_and_then (λ (l : LabLink). place_on l router) o ≡ Some place → place < circuit_count s.links router
@@ -188,7 +193,7 @@ place-of s i router place h (Some link) at e =
     let less = slice_get_within s.links i link at in
     let got = get_or_from_slice_get s.links i link link at in
     let laid = subst (λ (l : LabLink). IsLaidLink (length s.routers) (take i s.links) l) got (h.laid i link less) in
-    let both = place-counted (take i s.links) (length s.routers) link router place laid e in
+    let both = place-counted (take i s.links) link.ends router place laid.places e in
     let end : is_end (get_or s.links i link) router ≡ true = ap (λ (l : LabLink). is_end l router) got ∙ both.0 in
     omega (arith, both.1, counted-at s.links i link router less end)
 
@@ -213,3 +218,49 @@ room-left links router e =
       | inl less ↦ less
       | inr full ↦ absurd (false≢true (sym e ∙ le-leb 64 (circuit_count links router) full))
     ]
+
+-- ---- the next link
+
+ends-many : (k : CircuitKind) (ns : List ℕ) (ends : List End) → length ends ≡ length ns → HasEnds k ns → HasEnds k ends
+ends-many PointToPoint ns ends same h = same ∙ h
+ends-many Lan ns ends same h = (omega (arith, same, h.0), omega (arith, same, h.1))
+
+ends-there : (n : ℕ) (links : List LabLink) (ns : List ℕ) → AllByRecursion (λ r. r < n) ns → AllByRecursion (λ e. e.router < n) (next_ends links ns)
+ends-there n links [] all = tt
+ends-there n links (r ∷ ns) all = (all.0, ends-there n links ns all.1)
+
+ends-places : (links : List LabLink) (ns : List ℕ) → AllByRecursion (λ e. e.place ≡ circuit_count links e.router) (next_ends links ns)
+ends-places links [] = tt
+ends-places links (r ∷ ns) = (refl, ends-places links ns)
+
+ends-routers : (links : List LabLink) (ns : List ℕ) → end_routers (next_ends links ns) ≡ ns
+ends-routers links [] = refl
+ends-routers links (r ∷ ns) = ap (λ (rs : List ℕ). r ∷ rs) (ends-routers links ns)
+
+absent : (ns : List ℕ) (n : ℕ) → list_any (λ (o : ℕ). o == n) ns ≡ false → (j : ℕ) (d : ℕ) → j < length ns → get_or ns j d ≢ n
+absent [] n none j d less same = absurd (omega arith)
+absent (m ∷ ns) n none zero d less same = false≢true (sym (none-first (m == n) (list_any (λ (o : ℕ). o == n) ns) none) ∙ eq-eqb m n same)
+absent (m ∷ ns) n none (suc j) d less same = absent ns n (none-behind (m == n) (list_any (λ (o : ℕ). o == n) ns) none) j d (omega arith) same
+
+distinct-once : (ns : List ℕ) → has_twice ns ≡ false → AreDistinct ns
+distinct-once [] once i j d less within same = absurd (omega (arith, within))
+distinct-once (n ∷ ns) once zero zero d less within same = absurd (omega (arith, less))
+distinct-once (n ∷ ns) once zero (suc j) d less within same = absent ns n (none-first (list_any (λ (o : ℕ). o == n) ns) (has_twice ns) once) j d (omega (arith, within)) (sym same)
+distinct-once (n ∷ ns) once (suc i) zero d less within same = absurd (omega (arith, less))
+distinct-once (n ∷ ns) once (suc i) (suc j) d less within same = distinct-once ns (none-behind (list_any (λ (o : ℕ). o == n) ns) (has_twice ns) once) i j d (omega (arith, less)) (omega (arith, within)) same
+
+-- a link between routers of which none stands twice is laid
+pub laid-next : (n : ℕ) (links : List LabLink) (name : List ℕ) (k : CircuitKind) (ns : List ℕ) (metric : ℕ) → HasEnds k ns → AllByRecursion (λ r. r < n) ns → has_twice ns ≡ false → metric ≤ 16777215 → IsLaidLink n links (link_between links name k ns metric)
+laid-next n links name k ns metric many there once small = record {
+  many = ends-many k ns (next_ends links ns) (length-map ns _) many;
+  there = ends-there n links ns there;
+  apart = subst (λ (rs : List ℕ). AreDistinct rs) (sym (ends-routers links ns)) (distinct-once ns once);
+  places = ends-places links ns;
+  metric = small;
+}
+
+-- routers of which none is full have room
+pub room-next : (links : List LabLink) (ns : List ℕ) → is_some_full links ns ≡ false → HasRoom links (next_ends links ns)
+room-next links [] none = tt
+room-next links (r ∷ ns) none =
+    (room-left links r (none-first (is_full links r) (is_some_full links ns) none), room-next links ns (none-behind (is_full links r) (is_some_full links ns) none))

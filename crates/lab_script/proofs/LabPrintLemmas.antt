@@ -29,14 +29,15 @@ use Rattle.network_model.specs.declared.word.PduWord.TheVariants.{Hello, Lsp, Cs
 use Rattle.lab_script.specs.declared.named.NamedDeed.{NamedDeed}
 use Rattle.lab_script.specs.declared.named.NamedDeed.TheVariants as deed
 use Rattle.lab_script.specs.declared.named.NamedLine.{NamedLine}
-use Rattle.lab_script.specs.declared.named.NamedLine.TheVariants.{Router, Link, Key, Event}
+use Rattle.lab_script.specs.declared.named.NamedLine.TheVariants.{Router, Link, Lan, Key, Event}
 use Rattle.lab_script.specs.declared.named.NamedScope.{NamedScope}
 use Rattle.lab_script.specs.declared.named.NamedScope.TheVariants as scope
-use Rattle.lab_script.specs.Fields.{name_of}
+use Rattle.lab_script.specs.Fields.{name_of, are_names}
 use Rattle.lab_script.specs.Forms.{field, flag, last, done}
+use Rattle.lab_script.proofs.MemberLemmas.{members-of}
 use Rattle.lab_script.specs.HexTexts.{is_hex, hex_of, key_octets_of, octets_in}
 use Rattle.lab_script.specs.LabFields.{number_to, metric_of, prefix_metric_of, seconds_of, system_of, prefix_of, pdus_of, scope_of}
-use Rattle.lab_script.specs.LabLines.{lab_line_of, priority_form}
+use Rattle.lab_script.specs.LabLines.{lab_line_of, priority_form, members_form, HasMembers}
 use Rattle.lab_script.specs.Printed.{IsName}
 use Rattle.lab_script.specs.LabPrinted.{AreOctets, IsSomeOctets, IsRouterLine, IsScopeLine, IsDeedLine, IsLabLine, hex_text, flag_words, pdus_text, scope_text, prefix_metric_text, deed_words, lab_words}
 use Rattle.lab_script.proofs.FieldLemmas.{own}
@@ -182,6 +183,16 @@ deed-words (deed.Run seconds without except) h = run-words seconds without excep
 link-words : (name first second : List ℕ) (metric : ℕ) → IsLabLine (Link name first second metric) → lab_line_of (lab_words (Link name first second metric)) ≡ Some (Link name first second metric)
 link-words name first second metric h = rw (h.0, h.1, h.2) (ap (λ (o : Option ℕ). option_and_then (λ metric. done (Link name first second metric) []) o) (metric-read metric h.3))
 
+members-read : (names : List (List ℕ)) → HasMembers names → are_names names ≡ true → members_form names ≡ Some names
+members-read names many h =
+    let both : ((nat_le 2 (length names) && nat_le (length names) 64) && are_names names) ≡ true = rw (le-leb 2 (length names) many.0, le-leb (length names) 64 many.1, h) in
+    members-of names ∙ ap (λ (t : Bool). cond {A = Option (List (List ℕ))} t (Some names) None) both
+
+lan-words : (name : List ℕ) (metric : ℕ) (members : List (List ℕ)) → IsLabLine (Lan name metric members) → lab_line_of (lab_words (Lan name metric members)) ≡ Some (Lan name metric members)
+lan-words name metric members h = rw h.0 (
+    ap (λ (o : Option ℕ). option_and_then (λ m. last members_form (λ ms. Lan name m ms) members) o) (metric-read metric h.1)
+    ∙ ap (option_map (λ ms. Lan name metric ms)) (members-read members h.2 h.3))
+
 key-words : (router : List ℕ) (s : NamedScope) (key : List ℕ) → IsLabLine (Key router s key) → lab_line_of (lab_words (Key router s key)) ≡ Some (Key router s key)
 key-words router s key h = rw h.0 (
     ap (λ (o : Option NamedScope). option_and_then (λ s. field key_octets_of (λ key. done (Key router s key)) (hex_text key ∷ [])) o) (scope-read s h.1)
@@ -211,5 +222,6 @@ router-words name system area levels leak priority h =
 pub lab_line_of-words : (line : NamedLine) → IsLabLine line → lab_line_of (lab_words line) ≡ Some line
 lab_line_of-words (Router router) h = router-words router.name router.system router.area router.levels router.leak router.priority h
 lab_line_of-words (Link name first second metric) h = link-words name first second metric h
+lab_line_of-words (Lan name metric members) h = lan-words name metric members h
 lab_line_of-words (Key router s key) h = key-words router s key h
 lab_line_of-words (Event d) h = deed-words d h

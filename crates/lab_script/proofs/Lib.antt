@@ -5,6 +5,7 @@ pub mod IdLemmas
 pub mod KeyLemmas
 pub mod LabIndexLemmas
 pub mod LabLemmas
+pub mod MemberLemmas
 pub mod LinkLemmas
 pub mod NameLemmas
 pub mod ReadLemmas

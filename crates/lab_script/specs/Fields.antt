@@ -28,6 +28,10 @@ has_plain_lead [] = false
 has_plain_lead (first ∷ []) = true
 has_plain_lead (first ∷ second ∷ rest) = not (first == 48)
 
+-- each word is a name
+abbrev pub are_names : List (List ℕ) → Bool
+are_names words = list_all is_name words
+
 -- a decimal number without sign or leading zero (own)
 abbrev pub is_numeral : List ℕ → Bool
 is_numeral word = has_plain_lead word && list_all is_ascii_digit word

@@ -1,5 +1,5 @@
 -- What forms of lines are made of. A form takes the words of a line one after another.
-use Rattle.std.specs.Prelude.{ℕ, Bool, true, false, List, [], ◌∷◌, Option, Some, None, option_and_then, if◌then◌else◌}
+use Rattle.std.specs.Prelude.{ℕ, ◌&&◌, nat_le, Bool, true, false, List, [], ◌∷◌, length, Option, Some, None, option_and_then, if◌then◌else◌}
 use Rattle.std.specs.Option.{option_map}
 use Rattle.std.specs.Str.{bytes_eq}
 
@@ -59,3 +59,14 @@ given default (Some x) = x
 -- what the last words say, and what is made of it
 abbrev pub last : {X Y : Type 0} → Form X → (X → Y) → Form Y
 last form made words = option_map made (form words)
+
+-- what each of the words says
+abbrev pub each : {X : Type 0} → (List ℕ → Option X) → Form (List X)
+each read [] = Some []
+each read (word ∷ words) =
+    option_and_then (λ x. option_map (λ xs. x ∷ xs) (each read words)) (read word)
+
+-- a field that stands as often as there are words, within these bounds
+abbrev pub several : {X : Type 0} → ℕ → ℕ → (List ℕ → Option X) → Form (List X)
+several least most read words =
+    if nat_le least (length words) && nat_le (length words) most then each read words else None

@@ -1,5 +1,8 @@
 -- The reasons for which a line of a lab script is refused where it stands, its limits, and what it says else (own).
-use Rattle.std.specs.Prelude.{ℕ, ◌==◌, ◌||◌, nat_le, Bool, List, [], ◌∷◌, ◌++◌, length, Option, Some, None, is_some, Result, Ok, Err, if◌then◌else◌}
+use Rattle.std.specs.Prelude.{ℕ, ◌||◌, nat_le, Bool, List, [], ◌∷◌, ◌++◌, length, Option, Some, None, is_some, Result, Ok, Err, if◌then◌else◌}
+use Rattle.std.specs.List.{list_any}
+use Rattle.isis_base.specs.declared.level.CircuitKind.{CircuitKind}
+use Rattle.isis_base.specs.declared.level.CircuitKind.TheVariants as kind
 use Rattle.network_lab.specs.declared.faults.LimitName.TheVariants.{Routers, Links, Circuits}
 use Rattle.network_lab.specs.declared.key_net.TheConstants.{ROUTER_LIMIT, LINK_LIMIT}
 use Rattle.lab_script.specs.declared.setup.TheConstants.{CIRCUIT_LIMIT}
@@ -20,6 +23,7 @@ use Rattle.lab_script.specs.declared.setup.KeyScope.TheVariants as scope
 use Rattle.lab_script.specs.declared.setup.LabLink.{LabLink}
 use Rattle.lab_script.specs.declared.setup.LabRouter.{LabRouter}
 use Rattle.lab_script.specs.declared.circuit.Circuit.{Circuit}
+use Rattle.lab_script.specs.Counts.{has_twice}
 use Rattle.lab_script.specs.LabLines.{lab_line_of, is_unbuilt}
 use Rattle.lab_script.specs.LabScripts.{LabScript, router_names, link_names, has_system, circuit_count, place_at, link_between}
 use Rattle.lab_script.specs.Names.{number_of_name}
@@ -100,21 +104,32 @@ with_router script number router =
 abbrev pub is_full : List LabLink → ℕ → Bool
 is_full links router = nat_le CIRCUIT_LIMIT (circuit_count links router)
 
--- the script with a link more between the routers of these numbers
-abbrev pub with_link : LabScript → ℕ → List ℕ → ℕ → ℕ → ℕ → Result LabScript ScriptFault
-with_link script number name first second metric =
-    if is_some (number_of_name (link_names script.links) name) || first == second
+-- some of these routers has all of them
+abbrev pub is_some_full : List LabLink → List ℕ → Bool
+is_some_full links routers = list_any (λ router. is_full links router) routers
+
+-- the script with a link more, of this kind, between the routers of these numbers
+abbrev pub with_link : LabScript → ℕ → List ℕ → CircuitKind → List ℕ → ℕ
+    → Result LabScript ScriptFault
+with_link script number name kind routers metric =
+    if is_some (number_of_name (link_names script.links) name) || has_twice routers
     then refused number Again
     else if nat_le LINK_LIMIT (length script.links) then Err (Limit Links)
-    else if is_full script.links first || is_full script.links second then Err (Limit Circuits)
+    else if is_some_full script.links routers then Err (Limit Circuits)
     else Ok (record script {
-      links = script.links ++ link_between script.links name first second metric ∷ [];
+      links = script.links ++ link_between script.links name kind routers metric ∷ [];
     })
 
 -- the routers of two names
 abbrev pub ends_at : LabScript → List ℕ → List ℕ → Result (ℕ × ℕ) Reason
 ends_at script first second =
     router_at script first then λ a. router_at script second then λ b. Ok (a, b)
+
+-- the routers of these names
+abbrev pub routers_at : LabScript → List (List ℕ) → Result (List ℕ) Reason
+routers_at script [] = Ok []
+routers_at script (name ∷ names) =
+    router_at script name then λ r. routers_at script names then λ rs. Ok (r ∷ rs)
 
 -- what a router's key is for
 abbrev pub scope_at : LabScript → List ℕ → NamedScope → Result (ℕ × KeyScope) Reason
@@ -145,7 +160,10 @@ with_line script number (line.Router router) =
     unless_late script number (with_router script number router)
 with_line script number (line.Link name first second metric) =
     unless_late script number (where_known number (ends_at script first second)
-    λ ends. with_link script number name ends.0 ends.1 metric)
+    λ ends. with_link script number name kind.PointToPoint (ends.0 ∷ ends.1 ∷ []) metric)
+with_line script number (line.Lan name metric members) =
+    unless_late script number (where_known number (routers_at script members)
+    λ routers. with_link script number name kind.Lan routers metric)
 with_line script number (line.Key router scope key) =
     unless_late script number (where_known number (scope_at script router scope)
     λ at. Ok (record script {

@@ -6,9 +6,9 @@ use Rattle.isis_base.specs.Levels.{levels_of}
 use Rattle.lab_script.specs.declared.named.NamedDeed.{NamedDeed}
 use Rattle.lab_script.specs.declared.named.NamedDeed.TheVariants as deed
 use Rattle.lab_script.specs.declared.named.NamedLine.{NamedLine}
-use Rattle.lab_script.specs.declared.named.NamedLine.TheVariants.{Router, Link, Key, Event}
+use Rattle.lab_script.specs.declared.named.NamedLine.TheVariants.{Router, Link, Lan, Key, Event}
 use Rattle.lab_script.specs.Fields.{name_of, copy_of}
-use Rattle.lab_script.specs.Forms.{Form, field, flag, option, given, last, done, of_forms}
+use Rattle.lab_script.specs.Forms.{Form, field, flag, option, given, last, several, done, of_forms}
 use Rattle.lab_script.specs.HexTexts.{hex_of, key_octets_of}
 use Rattle.lab_script.specs.LabFields.{metric_of, prefix_metric_of, priority_of, seconds_of, system_of, prefix_of, on_of, pdus_of, scope_of}
 
@@ -33,6 +33,15 @@ router_form = field name_of λ name. field system_of λ system. field area_of λ
 abbrev pub link_form : Form NamedLine
 link_form = field name_of λ name. field name_of λ first. field name_of λ second.
     field metric_of λ metric. done (Link name first second metric)
+
+-- 2 to 64 names (own)
+abbrev pub members_form : Form (List (List ℕ))
+members_form = several 2 64 name_of
+
+-- `lan NAME METRIC A B ..` (own)
+abbrev pub lan_form : Form NamedLine
+lan_form = field name_of λ name. field metric_of λ metric. last members_form λ members.
+    Lan name metric members
 
 -- `key ROUTER area|domain|LINK HEX` (own)
 abbrev pub key_form : Form NamedLine
@@ -88,6 +97,7 @@ abbrev pub lab_forms : List (List ℕ × Form NamedLine)
 lab_forms =
     (codes "router", router_form) ∷
     (codes "link", link_form) ∷
+    (codes "lan", lan_form) ∷
     (codes "key", key_form) ∷
     (codes "tick", tick_form) ∷
     (codes "pull", pull_form) ∷
@@ -122,9 +132,14 @@ IsDeedInRange (deed.Inject router link octets) = 1 ≤ length octets
 IsDeedInRange (deed.Run seconds without except) = (1 ≤ seconds) × (seconds ≤ 86400)
 IsDeedInRange other = Unit {0}
 
+-- a LAN has 2 to 64 members (own)
+abbrev pub HasMembers : {X : Type 0} → List X → Type 0
+HasMembers members = (2 ≤ length members) × (length members ≤ 64)
+
 -- the numbers of a line are in their ranges
 abbrev pub IsInRange : NamedLine → Type 0
 IsInRange (Router router) = router.priority ≤ 127
 IsInRange (Link name first second metric) = metric ≤ 16777215
+IsInRange (Lan name metric members) = (metric ≤ 16777215) × HasMembers members
 IsInRange (Key router scope key) = IsKeyLength key
 IsInRange (Event deed) = IsDeedInRange deed

@@ -11,10 +11,12 @@ use Rattle.network_model.specs.declared.word.PduWord.TheVariants.{Hello, Lsp, Cs
 use Rattle.lab_script.specs.declared.named.NamedDeed.{NamedDeed}
 use Rattle.lab_script.specs.declared.named.NamedDeed.TheVariants as deed
 use Rattle.lab_script.specs.declared.named.NamedLine.{NamedLine}
-use Rattle.lab_script.specs.declared.named.NamedLine.TheVariants.{Router, Link, Key, Event}
+use Rattle.lab_script.specs.declared.named.NamedLine.TheVariants.{Router, Link, Lan, Key, Event}
 use Rattle.lab_script.specs.declared.named.NamedScope.{NamedScope}
 use Rattle.lab_script.specs.declared.named.NamedScope.TheVariants as scope
 use Rattle.lab_script.specs.declared.setup.LabRouter.{LabRouter}
+use Rattle.lab_script.specs.Fields.{are_names}
+use Rattle.lab_script.specs.LabLines.{HasMembers}
 use Rattle.lab_script.specs.Printed.{IsName}
 
 -- ---- fields in their ranges
@@ -61,6 +63,8 @@ abbrev pub IsLabLine : NamedLine → Type 0
 IsLabLine (Router router) = IsRouterLine router
 IsLabLine (Link name first second metric) =
     IsName name × IsName first × IsName second × (metric ≤ 16777215)
+IsLabLine (Lan name metric members) =
+    IsName name × (metric ≤ 16777215) × HasMembers members × (are_names members ≡ true)
 IsLabLine (Key router scope key) =
     IsName router × IsScopeLine scope × IsSomeOctets key × (length key ≤ 128)
 IsLabLine (Event deed) = IsDeedLine deed
@@ -125,6 +129,7 @@ lab_words (Router router) =
     ++ codes "priority" ∷ decimal router.priority ∷ []
 lab_words (Link name first second metric) =
     codes "link" ∷ name ∷ first ∷ second ∷ decimal metric ∷ []
+lab_words (Lan name metric members) = codes "lan" ∷ name ∷ decimal metric ∷ members
 lab_words (Key router scope key) =
     codes "key" ∷ router ∷ scope_text scope ∷ hex_text key ∷ []
 lab_words (Event deed) = deed_words deed

@@ -1,26 +1,34 @@
 -- What holds of every lab script that was read.
 use Rattle.std.specs.Prelude.{◌≡◌, ◌≢◌, ℕ, ◌<◌, ◌≤◌, List, map, length, take, slice_index_or, IfSome, IsSome}
 use Rattle.std.specs.List.{AllByRecursion}
+use Rattle.isis_base.specs.declared.level.CircuitKind.{CircuitKind}
+use Rattle.isis_base.specs.declared.level.CircuitKind.TheVariants as kind
 use Rattle.lab_script.specs.declared.setup.KeyScope.{KeyScope}
 use Rattle.lab_script.specs.declared.setup.KeyScope.TheVariants as scope
 use Rattle.lab_script.specs.declared.setup.LabKey.{LabKey}
 use Rattle.lab_script.specs.declared.setup.LabLink.{LabLink}
 use Rattle.lab_script.specs.declared.deeds.LabDeed.{LabDeed}
 use Rattle.lab_script.specs.declared.deeds.LabDeed.TheVariants as deed
-use Rattle.lab_script.specs.LabScripts.{LabScript, circuit_count, place_at}
+use Rattle.lab_script.specs.LabLines.{HasMembers}
+use Rattle.lab_script.specs.LabScripts.{LabScript, end_routers, circuit_count, place_at}
 
 -- no item stands twice
 abbrev pub AreDistinct : {X : Type 0} → List X → Type 0
 AreDistinct xs = (i j : ℕ) (d : _) → i < j → j < length xs
     → slice_index_or xs i d ≢ slice_index_or xs j d
 
--- a link joins two of so many routers, each by its next circuit behind those of the links before
+-- a point-to-point link has two ends, a LAN 2 to 64 (own)
+abbrev pub HasEnds : {X : Type 0} → CircuitKind → List X → Type 0
+HasEnds kind.PointToPoint ends = length ends ≡ 2
+HasEnds kind.Lan ends = HasMembers ends
+
+-- a link joins some of so many routers, none of them twice, each by its next circuit behind those of
+-- the links before
 pub record IsLaidLink (routers : ℕ) (before : List LabLink) (link : LabLink) : Type 0 where
-  pub first_router : link.first.router < routers
-  pub second_router : link.second.router < routers
-  pub apart : link.first.router ≢ link.second.router
-  pub first_place : link.first.place ≡ circuit_count before link.first.router
-  pub second_place : link.second.place ≡ circuit_count before link.second.router
+  pub many : HasEnds link.kind link.ends
+  pub there : AllByRecursion (λ e. e.router < routers) link.ends
+  pub apart : AreDistinct (end_routers link.ends)
+  pub places : AllByRecursion (λ e. e.place ≡ circuit_count before e.router) link.ends
   pub metric : link.metric ≤ 16777215
 
 -- a router is there and an end of a link

@@ -33,7 +33,8 @@ pub(crate) fn read_name(word: &[u8]) -> Option<Name<'_>>
     }
 }
 
-fn reads_name(word: &[u8]) -> bool
+/// Whether a word is a name.
+pub(crate) fn reads_name(word: &[u8]) -> bool
     ensures { result ≡ is_name word.now }
 {
     match word {

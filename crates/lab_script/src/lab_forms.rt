@@ -10,6 +10,7 @@ use crate::lab_fields::{
     read_own_prefix, read_pdus, read_prefix_metric, read_priority, read_scope, read_seconds,
     read_system_id,
 };
+use crate::members::Members;
 use crate::named::{NamedDeed, NamedLine};
 use crate::setup::LabRouter;
 use crate::words::Words;
@@ -26,6 +27,9 @@ pub(crate) fn read_lab_line(line: &[u8]) -> Option<NamedLine<'_>>
     }
     if first == b"link".as_slice() {
         return link(words);
+    }
+    if first == b"lan".as_slice() {
+        return lan(words);
     }
     if first == b"key".as_slice() {
         return key(words);
@@ -122,6 +126,20 @@ fn link<'a>(mut words: Words<'a>) -> Option<NamedLine<'a>>
         first,
         second,
         metric,
+    })
+}
+
+fn lan<'a>(mut words: Words<'a>) -> Option<NamedLine<'a>>
+    ensures value { result ≡ form.lan_form words.entry }
+    ensures within { IfSome result (λ line. IsInRange line) }
+{
+    let name = read_name(words.next()?)?;
+    let metric = read_metric(words.next()?)?;
+    let members = Members::read(words)?;
+    Some(NamedLine::Lan {
+        name,
+        metric,
+        members,
     })
 }
 

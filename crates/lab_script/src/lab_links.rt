@@ -1,14 +1,18 @@
 //! The links of a lab script so far, and their look-ups.
-ghost use Rattle.std.specs.Prelude.{◌≡◌, ◌≢◌, ◌<◌, ◌≤◌, ℕ, None, ◌+◌, [], ◌∷◌, ◌++◌, length, slice_index_or, slice_set, IfSome, OnOk, OnErr};
-ghost use Rattle.lab_script.specs.Counts.{CountsSame};
+ghost use Rattle.std.specs.Prelude.{◌≡◌, ◌<◌, ◌≤◌, ◌+◌, ◌==◌, ℕ, None, false, [], ◌∷◌, ◌++◌, length, slice_index_or, IfOk, IfSome, OnOk, OnErr};
+ghost use Rattle.std.specs.List.{AllByRecursion, count_by, list_any};
+ghost use Rattle.lab_script.specs.Counts as counts;
+ghost use Rattle.lab_script.specs.Counts.{CountsSame, one_more};
 ghost use Rattle.lab_script.specs.LabScripts as script;
-ghost use Rattle.lab_script.specs.LabScripts.{link_names, circuit_count, place_at, link_between};
+ghost use Rattle.lab_script.specs.LabScripts.{link_names, circuit_count, place_at, next_ends, link_between};
 ghost use Rattle.lab_script.specs.Names.{number_of_name};
 ghost use Rattle.lab_script.specs.Words.{texts};
 
 use crate::name::Name;
 use crate::names::Names;
+use crate::script_list::ScriptList;
 use crate::setup::{End, LabLink};
+use isis_base::CircuitKind;
 use std::alloc::{AllocError, Global};
 use std::marker::Model;
 
@@ -76,38 +80,57 @@ impl<'a> LabLinks<'a> {
         ensures { result ≡ place_at self.now link router }
     {
         let link = self.list.get(link)?;
-        place_on(link, router)
+        place_among(link.ends.as_slice(), router)
     }
 
-    /// Adds a link of a new name between two routers, each of which has room for a circuit.
+    /// Adds a link of a new name and this kind between some of so many routers, none of them twice.
     pub(crate) fn add(
         &mut self,
         name: Name<'a>,
-        first: usize,
-        second: usize,
+        kind: CircuitKind,
+        routers: &[usize],
+        known: usize,
         metric: u32,
     ) -> Result<(), AllocError>
         requires name { number_of_name (link_names self.old) name ≡ None }
-        requires apart { first ≢ second }
-        requires first { circuit_count self.old first < 64 }
-        requires second { circuit_count self.old second < 64 }
+        requires there { AllByRecursion (λ router. router < known) routers.now }
+        requires apart { counts.has_twice routers.now ≡ false }
+        requires many { length routers.now ≤ 64 }
+        requires few { (router : ℕ) → circuit_count self.old router ≤ 64 }
         ensures ok { OnOk result (self.new
-            ≡ self.old ++ link_between self.old name.entry first second metric ∷ []) }
+            ≡ self.old ++ link_between self.old name.entry kind routers.now metric ∷ []) }
         ensures err { OnErr result (self.new ≡ self.old) }
     {
+        let ends = self.next_ends(routers)?;
         self.list.reserve(1)?;
-        make_room(&mut self.circuits, first)?;
-        make_room(&mut self.circuits, second)?;
+        make_room(&mut self.circuits, known)?;
         self.names.add(name.letters())?;
-        let first = next_end(&mut self.circuits, first);
-        let second = next_end(&mut self.circuits, second);
+        count_all(&mut self.circuits, routers);
         self.list.push_reserved(LabLink {
             name,
-            first,
-            second,
+            kind,
+            ends,
             metric,
         });
         Ok(())
+    }
+
+    /// An end at each of these routers, by its next circuit.
+    fn next_ends(&self, routers: &[usize]) -> Result<ScriptList<End>, AllocError>
+        ensures { IfOk result (λ ends. ends ≡ next_ends self.now routers.now) }
+    {
+        let mut ends = ScriptList::new(*self.list.allocator());
+        for router in routers {
+            let place = self.circuits(*router);
+            match ends.push(End {
+                router: *router,
+                place,
+            }) {
+                Ok(()) => {}
+                Err(error) => return Err(error),
+            }
+        }
+        Ok(ends)
     }
 
     /// The links, in the order of their numbers.
@@ -125,17 +148,42 @@ impl<'a> LabLinks<'a> {
     }
 }
 
-/// The place of a router's circuit on a link, where the router is an end of it.
-fn place_on(link: &LabLink<'_>, router: usize) -> Option<usize>
-    ensures { result ≡ script.place_on link.now router }
+/// The place of a router's circuit among ends, where the router is one of them.
+fn place_among(ends: &[End], router: usize) -> Option<usize>
+    ensures { result ≡ script.place_among ends.now router }
 {
-    if link.first.router == router {
-        return Some(link.first.place);
-    }
-    if link.second.router == router {
-        return Some(link.second.place);
+    for end in ends {
+        if end.router == router {
+            return Some(end.place);
+        }
     }
     None
+}
+
+/// Whether some number stands twice.
+pub(crate) fn has_twice(numbers: &[usize]) -> bool
+    ensures { result ≡ counts.has_twice numbers.now }
+{
+    let mut left = numbers;
+    while let [first, behind @ ..] = left {
+        if has(behind, *first) {
+            return true;
+        }
+        left = behind;
+    }
+    false
+}
+
+/// Whether a number stands here.
+fn has(numbers: &[usize], number: usize) -> bool
+    ensures { result ≡ list_any (λ other. other == number) numbers.now }
+{
+    for other in numbers {
+        if *other == number {
+            return true;
+        }
+    }
+    false
 }
 
 /// Makes the counts reach to a router; a count more is 0.
@@ -153,15 +201,24 @@ fn make_room(counts: &mut Vec<usize>, router: usize) -> Result<(), AllocError>
     Ok(())
 }
 
-/// The next end at a router, which is counted.
-fn next_end(counts: &mut Vec<usize>, router: usize) -> End
-    requires there { router < length counts.old.items }
-    requires room { slice_index_or counts.old.items router 0 < 64 }
-    ensures router { result.router ≡ router }
-    ensures place { result.place ≡ slice_index_or counts.old.items router 0 }
-    ensures counted { counts.new.items ≡ slice_set counts.old.items router (slice_index_or counts.old.items router 0 + 1) }
+/// Counts a circuit more at each of these routers.
+fn count_all(counts: &mut Vec<usize>, routers: &[usize])
+    requires there { AllByRecursion (λ router. router < length counts.old.items) routers.now }
+    requires many { length routers.now ≤ 64 }
+    requires few { (router : ℕ) → slice_index_or counts.old.items router 0 ≤ 64 }
+    ensures { (router : ℕ) → slice_index_or counts.new.items router 0
+        ≡ slice_index_or counts.old.items router 0 + count_by (λ other. other == router) routers.now }
 {
-    let place = counts[router];
-    counts[router] = place + 1;
-    End { router, place }
+    for router in routers {
+        count_one(counts, *router);
+    }
+}
+
+/// Counts a circuit more at a router.
+fn count_one(counts: &mut Vec<usize>, router: usize)
+    requires there { router < length counts.old.items }
+    requires few { slice_index_or counts.old.items router 0 < 128 }
+    ensures { counts.new.items ≡ one_more counts.old.items router }
+{
+    counts[router] = counts[router] + 1;
 }

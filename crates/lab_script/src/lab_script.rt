@@ -1,10 +1,11 @@
 //! A lab script, line by line.
-ghost use Rattle.std.specs.Prelude.{◌≡◌, ◌≢◌, ◌<◌, ◌≤◌, false, length, IfOk, IfSome, IsSome};
-ghost use Rattle.lab_script.specs.Gives.{Gives};
+ghost use Rattle.std.specs.Prelude.{◌≡◌, ◌<◌, ◌≤◌, false, Ok, length, IfOk, IfSome};
+ghost use Rattle.std.specs.List.{AllByRecursion};
+ghost use Rattle.lab_script.specs.Gives.{Gives, Answers};
 ghost use Rattle.lab_script.specs.LabJudged as judged;
-ghost use Rattle.lab_script.specs.LabLines.{IsInRange, IsDeedInRange, IsKeyLength};
+ghost use Rattle.lab_script.specs.LabLines.{IsInRange, IsDeedInRange, IsKeyLength, HasMembers};
 ghost use Rattle.lab_script.specs.LabScripts.{nothing_laid, router_names, link_names, place_at, circuit_count};
-ghost use Rattle.lab_script.specs.LabSound.{IsSoundLab, IsDeed, IsKeyScope, IsEnd, IsCircuit};
+ghost use Rattle.lab_script.specs.LabSound.{IsSoundLab, IsDeed, IsKeyScope, IsEnd, IsCircuit, HasEnds};
 ghost use Rattle.lab_script.specs.Names.{number_of_name};
 ghost use Rattle.lab_script.specs.Words.{texts, words_of};
 ghost use Rattle.lab_script.specs.declared.named.NamedLine.TheVariants as line;
@@ -13,12 +14,15 @@ use crate::circuit::Circuit;
 use crate::deeds::{LabDeed, LabLine};
 use crate::hexes::Hex;
 use crate::lab_forms::{is_unbuilt, read_lab_line};
-use crate::lab_links::LabLinks;
+use crate::lab_links::{LabLinks, has_twice};
+use crate::members::Members;
 use crate::name::Name;
 use crate::named::{NamedDeed, NamedLine, NamedScope};
 use crate::reason::{Reason, ScriptFault, limited, refused};
 use crate::routers::Routers;
+use crate::script_list::ScriptList;
 use crate::setup::{CIRCUIT_LIMIT, KeyScope, LabKey, LabLink, LabRouter};
+use isis_base::CircuitKind;
 use network_lab::{LINK_LIMIT, LimitName, ROUTER_LIMIT};
 use std::alloc::Global;
 use std::marker::Model;
@@ -146,6 +150,11 @@ impl<'a> LabScript<'a> {
                 second,
                 metric,
             } => self.hear_link(number, name, first, second, metric),
+            NamedLine::Lan {
+                name,
+                metric,
+                members,
+            } => self.hear_lan(number, name, metric, members),
             NamedLine::Key { router, scope, key } => self.hear_key(number, router, scope, key),
             NamedLine::Event { deed } => self.hear_event(number, deed),
         }
@@ -188,34 +197,58 @@ impl<'a> LabScript<'a> {
             Ok(ends) => ends,
             Err(reason) => return refused(number, reason),
         };
-        self.add_link(number, name, a, b, metric)
+        self.add_link(number, name, CircuitKind::PointToPoint, &[a, b], metric)
     }
 
-    /// Adds a link between the routers of these numbers, unless it is refused or passes a limit.
+    fn hear_lan(
+        &mut self,
+        number: usize,
+        name: Name<'a>,
+        metric: u32,
+        members: Members<'a>,
+    ) -> Result<(), ScriptFault>
+        requires metric { metric ≤ 16777215 }
+        requires many { HasMembers members }
+        ensures { Gives result self.new
+            (judged.with_line self.old number (line.Lan name.entry metric members.entry)) }
+    {
+        if self.has_begun() {
+            return refused(number, Reason::Late);
+        }
+        let routers = match self.routers_at(number, members) {
+            Ok(routers) => routers,
+            Err(fault) => return Err(fault),
+        };
+        self.add_link(number, name, CircuitKind::Lan, routers.as_slice(), metric)
+    }
+
+    /// Adds a link of this kind between the routers of these numbers, unless it is refused or passes a limit.
     fn add_link(
         &mut self,
         number: usize,
         name: Name<'a>,
-        a: usize,
-        b: usize,
+        kind: CircuitKind,
+        routers: &[usize],
         metric: u32,
     ) -> Result<(), ScriptFault>
         requires metric { metric ≤ 16777215 }
-        requires first { a < length self.old.routers }
-        requires second { b < length self.old.routers }
+        requires many { HasEnds kind routers.now }
+        requires there { AllByRecursion (λ router. router < length self.old.routers) routers.now }
         requires early { judged.has_begun self.old ≡ false }
-        ensures { Gives result self.new (judged.with_link self.old number name.entry a b metric) }
+        ensures { Gives result self.new
+            (judged.with_link self.old number name.entry kind routers.now metric) }
     {
-        if self.links.find(name.letters()).is_some() || a == b {
+        if self.links.find(name.letters()).is_some() || has_twice(routers) {
             return refused(number, Reason::Again);
         }
         if self.links.count() >= LINK_LIMIT {
             return limited(LimitName::Links);
         }
-        if self.is_full(a) || self.is_full(b) {
+        if self.is_some_full(routers) {
             return limited(LimitName::Circuits);
         }
-        self.links.add(name, a, b, metric)?;
+        let known = self.routers.count();
+        self.links.add(name, kind, routers, known, metric)?;
         Ok(())
     }
 
@@ -268,6 +301,18 @@ impl<'a> LabScript<'a> {
         self.links.circuits(router) >= CIRCUIT_LIMIT
     }
 
+    /// Whether some of these routers has all of them.
+    fn is_some_full(&self, routers: &[usize]) -> bool
+        ensures { result ≡ judged.is_some_full self.now.links routers.now }
+    {
+        for router in routers {
+            if self.is_full(*router) {
+                return true;
+            }
+        }
+        false
+    }
+
     /// The router of a name.
     fn router_at(&self, name: &Name<'a>) -> Result<usize, Reason>
         ensures value { result ≡ judged.router_at self.now name.now }
@@ -288,6 +333,33 @@ impl<'a> LabScript<'a> {
         let first = self.router_at(first)?;
         let second = self.router_at(second)?;
         Ok((first, second))
+    }
+
+    /// The routers of these names; the line of this number is refused where one of them isn't there.
+    fn routers_at(
+        &self,
+        number: usize,
+        names: Members<'a>,
+    ) -> Result<ScriptList<usize>, ScriptFault>
+        ensures value { Answers result
+            (judged.where_known number (judged.routers_at self.now names.entry) Ok) }
+        ensures there { IfOk result
+            (λ routers. AllByRecursion (λ router. router < length self.now.routers) routers) }
+        ensures many { IfOk result (λ routers. length routers ≡ length names.entry) }
+    {
+        let mut left = names;
+        let mut routers = ScriptList::new(*self.keys.allocator());
+        while let Some(name) = left.next() {
+            let router = match self.router_at(&name) {
+                Ok(router) => router,
+                Err(reason) => return refused(number, reason),
+            };
+            match routers.push(router) {
+                Ok(()) => {}
+                Err(error) => return Err(ScriptFault::from(error)),
+            }
+        }
+        Ok(routers)
     }
 
     /// The circuit of a router on a link, by their names.

@@ -11,6 +11,7 @@
 //! - `line.rt`, `forms.rt`: a line of a keys script, and the line of some words; `named.rt`, `lab_forms.rt`: those of lab
 //!   scripts
 //! - `names.rt`, `links.rt`: names and links so far, and their look-ups; `events.rt`: what waits to be played
+//! - `script_list.rt`: a growing list that contracts see as the list; `members.rt`: the names that end a LAN's line
 //! - `routers.rt`, `lab_links.rt`, `circuit.rt`: a lab script's routers, links and circuits so far, and their look-ups
 //! - `setup.rt`, `deeds.rt`: what the lines of a lab script say
 //! - `reason.rt`: why a line is refused, and why a script can't be read
@@ -33,12 +34,14 @@ mod lab_script;
 pub mod laws;
 mod line;
 mod links;
+mod members;
 mod name;
 mod named;
 mod names;
 mod reason;
 mod routers;
 mod script;
+mod script_list;
 mod setup;
 #[cfg(test)]
 mod tests;
@@ -53,4 +56,5 @@ pub use lab_script::LabScript;
 pub use name::Name;
 pub use reason::{Reason, ScriptFault};
 pub use script::{Script, read_script};
+pub use script_list::ScriptList;
 pub use setup::{CIRCUIT_LIMIT, End, KeyScope, LabKey, LabLink, LabRouter};

@@ -1,5 +1,6 @@
 //! A line of a lab script, whose routers and links are named.
 use crate::hexes::Hex;
+use crate::members::Members;
 use crate::name::Name;
 use crate::setup::LabRouter;
 use isis_base::Prefix;
@@ -59,7 +60,7 @@ pub(crate) enum NamedDeed<'a> {
     },
 }
 
-/// A line of a lab script: one of three kinds of setup lines, or an event.
+/// A line of a lab script: one of four kinds of setup lines, or an event.
 #[derive(Drop)]
 pub(crate) enum NamedLine<'a> {
     Router {
@@ -70,6 +71,11 @@ pub(crate) enum NamedLine<'a> {
         first: Name<'a>,
         second: Name<'a>,
         metric: u32,
+    },
+    Lan {
+        name: Name<'a>,
+        metric: u32,
+        members: Members<'a>,
     },
     Key {
         router: Name<'a>,

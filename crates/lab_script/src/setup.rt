@@ -1,7 +1,8 @@
 //! What the setup lines of a lab script say: its routers, its links and the keys that they are given.
 use crate::hexes::Hex;
 use crate::name::Name;
-use isis_base::{AreaAddress, LevelSet, SystemId};
+use crate::script_list::ScriptList;
+use isis_base::{AreaAddress, CircuitKind, LevelSet, SystemId};
 
 /// How many circuits a router may have.
 pub const CIRCUIT_LIMIT: usize = 64;
@@ -27,12 +28,13 @@ pub struct End {
     pub place: usize,
 }
 
-/// A point-to-point link of a lab script.
+/// A link or a LAN of a lab script, by its kind and its ends: two of a point-to-point link, those of a LAN as its line
+/// names its members.
 #[derive(Drop)]
 pub struct LabLink<'a> {
     pub name: Name<'a>,
-    pub first: End,
-    pub second: End,
+    pub kind: CircuitKind,
+    pub ends: ScriptList<End>,
     pub metric: u32,
 }
 

@@ -214,7 +214,15 @@ fn are_routers_worked(routers: &[LabRouter<'_>]) -> bool {
 
 fn are_links_worked(links: &[LabLink<'_>]) -> bool {
     match links {
-        [_, link] => is_end(&link.first, 1) && is_end(&link.second, 0) && link.metric == 16_777_215,
+        [_, link] => are_ends_worked(link.ends.as_slice()) && link.metric == 16_777_215,
+        _ => false,
+    }
+}
+
+/// Whether these are the second circuits of router 1 and of router 0.
+fn are_ends_worked(ends: &[End]) -> bool {
+    match ends {
+        [first, second] => is_end(first, 1) && is_end(second, 0),
         _ => false,
     }
 }

@@ -29,9 +29,17 @@ impl<'a> Words<'a> {
         Words { left: Some(line) }
     }
 
+    /// The same words, to be taken again.
+    pub(crate) fn again(&self) -> Words<'a>
+        ensures { result ≡ self.now }
+    {
+        Words { left: self.left }
+    }
+
     /// Takes the next word.
     pub(crate) fn next(&mut self) -> Option<&'a [u8]>
-        ensures { MatchOption result (self.old ≡ []) (λ word. self.old ≡ word.now ∷ self.new) }
+        ensures { MatchOption result ((self.old ≡ []) × (self.new ≡ []))
+            (λ word. self.old ≡ word.now ∷ self.new) }
     {
         match self.left {
             Some(text) => {

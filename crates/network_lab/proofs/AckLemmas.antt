@@ -124,7 +124,7 @@ pub ack-clears : (net : Network) (e f : Port) (link n : ℕ) (a : Router) (l : L
 unfolding apply
 ack-clears net e f link n a l h reached none there k t now =
     subst (λ (x : Router). srm_at (book_of x l) h.id e.place ≡ false) (some-same new t (sym (nth-set net.routers e.router a new k.at) ∙ (sym routers_are ∙ now)))
-    (read-taken a d e.place l k.entries h (reached.routers e.router a k.at).reached point legible k.lists k.once k.frees k.taken)
+    (read-taken a d e.place l k.entries h (reached.routers e.router a k.at) point legible k.lists k.once k.frees k.taken)
   where
     d : Datagram
     d = k.datagram

@@ -1,6 +1,5 @@
 -- Another configuration of a router before the run.
 use Rattle.std.proofs.Common.{◌≡◌, ℕ, zero, suc, ◌+◌, ◌-◌, ◌≤◌, List, [], ◌∷◌, ◌++◌, map, take, length, true, false, Option, Some, sym, ap, ◌∙◌, arith}
-use Rattle.isis_base.specs.declared.level.CircuitKind.TheVariants.{PointToPoint}
 use Rattle.isis_model.specs.Places.{nth, with_nth}
 use Rattle.isis_model.specs.Routers.{Router}
 use Rattle.network_model.specs.declared.end.End.{End}
@@ -36,7 +35,7 @@ net-config ports ordered a i config new h begun at fit same = record {
   ported = h.ported;
   sorted = h.sorted;
   wired = h.wired;
-  pairs = h.pairs;
+  apart = h.apart;
   few = h.few;
   small = h.small;
   setup = λ e. record {
@@ -77,9 +76,5 @@ pub priority-fits : (c : CircuitConfig) (priority : ℕ) → IsCircuit c → pri
 priority-fits c priority h k = record { metric = h.metric; priority = k; key = h.key }
 
 -- another circuit of a configuration
-pub fit-with : (config : Config) (place : ℕ) (c : CircuitConfig) → IsFit config → IsCircuit c → c.kind ≡ PointToPoint → IsReached (router_of (with_circuit_at config place c)) → IsFit (with_circuit_at config place c)
-fit-with config place c f fits point reached = record {
-  valid = valid-with config place c f.valid fits;
-  points = all-with (λ (c : CircuitConfig). c.kind ≡ PointToPoint) config.circuits place c f.points point;
-  reached = reached;
-}
+pub fit-with : (config : Config) (place : ℕ) (c : CircuitConfig) → IsFit config → IsCircuit c → IsReached (router_of (with_circuit_at config place c)) → IsFit (with_circuit_at config place c)
+fit-with config place c f fits reached = record { valid = valid-with config place c f.valid fits; reached = reached }

@@ -20,3 +20,4 @@ pub mod ReachedLemmas
 pub mod StartLemmas
 pub mod AlongLemmas
 pub mod AckLemmas
+pub mod JoinLemmas

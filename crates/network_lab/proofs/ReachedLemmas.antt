@@ -1,19 +1,12 @@
 -- What is kept of a network in its run, by each event.
 use Rattle.std.proofs.Common.{◌≡◌, ℕ, zero, suc, ◌+◌, ◌-◌, ◌^◌, ◌<◌, ◌==◌, nat_lt, Bool, true, false, not, List, [], ◌∷◌, map, Option, Some, None, IfSome, if◌then◌else◌, refl, sym, ap, ◌∙◌, subst, arith}
 use Rattle.std.specs.List.{AllByRecursion}
-use Rattle.std.proofs.lemmas.List.{length-map}
-use Rattle.isis_base.specs.declared.level.Level.TheVariants as level
-use Rattle.isis_model.specs.Sets.{has}
 use Rattle.isis_model.specs.Places.{nth}
 use Rattle.isis_model.specs.Books.{risen}
 use Rattle.isis_model.specs.Routers.{Circuit, Router}
-use Rattle.isis_model.specs.Starts.{started}
 use Rattle.isis_model.specs.Events.{Event, Refused, Second, Take, Pull, Metric, Overload, Prefix}
 use Rattle.isis_model.specs.declared.drop_name.DropName.TheVariants as drop
 use Rattle.isis_model.specs.Steps.{step}
-use Rattle.isis_model.specs.AdjacencyLaws.{is_point, FollowsAdjacencies}
-use Rattle.isis_model.proofs.BondLemmas.{step-stays}
-use Rattle.isis_model.proofs.StepLemmas.{step-keeps}
 use Rattle.isis_datagram.specs.Reading.{read}
 use Rattle.isis_datagram.proofs.GoodLemmas.{Small, good-read}
 use Rattle.isis_datagram.proofs.KeptLemmas.{kept-tells}
@@ -28,29 +21,12 @@ use Rattle.network_model.specs.Speakers.{AreSpeaking, AreOctets}
 use Rattle.network_model.specs.Kept.{AreFollowing}
 use Rattle.network_model.proofs.ChangeLemmas.{each-router}
 use Rattle.network_model.proofs.KeptLemmas.{apply-kept}
-use Rattle.network_model.proofs.RestartLemmas.{quiet-point}
 use Rattle.network_lab.specs.LabNets.{Seen, sent_of, seen_of}
-use Rattle.network_lab.specs.Reached.{IsInRun, AreInRun, IsReachedNet, HasRun, AreSmall, IsFitting, Happens}
+use Rattle.network_lab.specs.Reached.{AreInRun, IsReachedNet, HasRun, AreSmall, IsFitting, Happens}
 use Rattle.network_lab.proofs.LinkLemmas.{all-at}
 use Rattle.network_lab.proofs.StateLemmas.{at-if}
 
 -- ---- a router
-
-points-after : (r : Router) (ev : Event) → FollowsAdjacencies r → FollowsAdjacencies (step given r ev).router → (place : ℕ) → is_point (nth (step given r ev).router.circuits place) ≡ is_point (nth r.circuits place)
-points-after r ev old new place =
-    sym (new.points level.One place) ∙ ap (λ (n : ℕ). has n place) ((step-keeps given r ev).on level.One).floods.kinds ∙ old.points level.One place
-
-run-step : (r : Router) (ev : Event) → IsInRun r → IsReached (step given r ev).router → IsInRun (step given r ev).router
-run-step r ev h new = record {
-  reached = new;
-  points = λ place l. points-after r ev h.reached.follows new.follows place ∙ h.points place (subst (λ (n : ℕ). place < n) (step-stays given r ev).circuits l);
-}
-
-run-restart : (r : Router) → IsInRun r → r.boot < 16777215 → IsInRun (restarted r)
-run-restart r h b = record {
-  reached = restart-reached r (r.boot + 1) h.reached (omega (arith, b));
-  points = λ place l. quiet-point r.circuits place ∙ h.points place (subst (λ (n : ℕ). place < n) (length-map r.circuits started) l);
-}
 
 taken-reached : (r : Router) (place : ℕ) (octets : List ℕ) → IsReached r → Small octets → IsReached (step given r (taking r place octets)).router
 taken-reached r place octets h small = of (nth r.circuits place)
@@ -63,7 +39,7 @@ taken-reached r place octets h small = of (nth r.circuits place)
 
 moved-run : (net : Network) (i : ℕ) (link : Option ℕ) (ev : Event) (o : Option Router) → nth net.routers i ≡ o → AreInRun net.routers → ((r : Router) → o ≡ Some r → IsReached r → IsReached (step given r ev).router) → AreInRun (moved_if given net i link ev o).routers
 moved-run net i link ev None q all new = all
-moved-run net i link ev (Some r) q all new = each-router IsInRun net.routers i r (step given r ev).router q (run-step r ev (all i r q) (new r refl (all i r q).reached)) all
+moved-run net i link ev (Some r) q all new = each-router IsReached net.routers i r (step given r ev).router q (new r refl (all i r q)) all
 
 pull-run : (net : Network) (i link : ℕ) (o : Option ℕ) → AreInRun net.routers → AreInRun (pull_at given net i link o).routers
 pull-run net i link None all = all
@@ -71,11 +47,11 @@ pull-run net i link (Some place) all = moved-run net i (Some link) (Pull place) 
 
 restart-run : (net : Network) (i : ℕ) (o : Option Router) → nth net.routers i ≡ o → AreInRun net.routers → IfSome o (λ r. r.boot < 16777215) → AreInRun (restart_at net i o).routers
 restart-run net i None q all fits = all
-restart-run net i (Some r) q all fits = each-router IsInRun net.routers i r (restarted r) q (run-restart r (all i r q) fits) all
+restart-run net i (Some r) q all fits = each-router IsReached net.routers i r (restarted r) q (restart-reached r (r.boot + 1) (all i r q) (omega (arith, fits))) all
 
 delivered-run : (net : Network) (i : ℕ) (d : Datagram) (place : ℕ) (o : Option Router) → nth net.routers i ≡ o → AreInRun net.routers → Small (octets_of d) → AreInRun (deliver_at given net i d place o).routers
 delivered-run net i d place None q all small = all
-delivered-run net i d place (Some r) q all small = each-router IsInRun net.routers i r (step given r (taking r place (octets_of d))).router q (run-step r (taking r place (octets_of d)) (all i r q) (taken-reached r place (octets_of d) (all i r q).reached small)) all
+delivered-run net i d place (Some r) q all small = each-router IsReached net.routers i r (step given r (taking r place (octets_of d))).router q (taken-reached r place (octets_of d) (all i r q) small) all
 
 arrive-run : (net : Network) (i : ℕ) (a : Arrival) → AreInRun net.routers → ((d : Datagram) (place : ℕ) → a ≡ Arrives d place → Small (octets_of d)) → AreInRun (arrive given net i a).routers
 arrive-run net i NotSent all small = all
@@ -119,10 +95,10 @@ routers-after net (Inject i link octets) all small fits q = absurd (cc)
 -- ---- the network
 
 speak : (net : Network) → AreInRun net.routers → AreSpeaking net
-speak net all i r e = (all i r e).reached.speaking
+speak net all i r e = (all i r e).speaking
 
 follow : (net : Network) → AreInRun net.routers → AreFollowing net
-follow net all i r e = (all i r e).reached.follows
+follow net all i r e = (all i r e).follows
 
 by-event : (net : Network) (h : Happening) → is_injection h ≡ false → IsReachedNet net → IsFitting net h → AreOctets (apply given net h) → IsReachedNet (apply given net h)
 by-event net h q r fits octets =

@@ -1,17 +1,14 @@
 -- A network in its run, from its start, and what is claimed of it.
-use Rattle.std.proofs.Common.{◌≡◌, ℕ, zero, suc, ◌<◌, ◌≤◌, ◌&&◌, not, Bool, true, false, List, [], ◌∷◌, map, length, Option, Some, None, IfSome, if◌then◌else◌, refl, sym, ap, ◌∙◌, subst, arith}
+use Rattle.std.proofs.Common.{◌≡◌, ℕ, zero, suc, ◌<◌, ◌≤◌, ◌&&◌, Bool, true, false, List, [], ◌∷◌, map, length, Option, Some, None, IfSome, if◌then◌else◌, refl, sym, ap, ◌∙◌, subst}
 use Rattle.std.specs.List.{AllByRecursion}
 use Rattle.isis_base.specs.declared.level.Level.{Level}
-use Rattle.isis_base.specs.declared.level.CircuitKind.{CircuitKind}
 use Rattle.isis_model.specs.Both.{at}
 use Rattle.isis_model.specs.Places.{nth}
 use Rattle.isis_model.specs.Routers.{Router}
-use Rattle.isis_model.specs.Starts.{started}
 use Rattle.isis_model.specs.AdjacencyLaws.{opens, is_point, bond_at, no_bond}
-use Rattle.router_desk.specs.declared.circuit_config.CircuitConfig.{CircuitConfig}
 use Rattle.router_desk.specs.declared.config.Config.{Config}
-use Rattle.router_desk.specs.Desks.{is_lan}
-use Rattle.router_desk.specs.Configs.{config_of, circuit_of, circuits_of}
+use Rattle.router_core.specs.Reached.{IsReached}
+use Rattle.router_desk.specs.Configs.{config_of, circuits_of}
 use Rattle.network_model.specs.declared.end.End.{End}
 use Rattle.network_model.specs.Networks.{Network}
 use Rattle.network_model.specs.Ports.{Port}
@@ -20,28 +17,20 @@ use Rattle.network_model.proofs.KeptLemmas.{fresh-kept, kept-claim, start-alone}
 use Rattle.link_states.specs.LinkStates as link
 use Rattle.link_states.specs.LinkStates.{state_of, no_state}
 use Rattle.network_lab.specs.LabNets.{Seen, LabNet, router_of}
-use Rattle.network_lab.specs.Reached.{IsInRun, AreInRun, IsReachedNet, HasRun}
-use Rattle.network_lab.specs.LabInside.{AreWired, ArePointed, IsPair, IsFit, IsSetUp, IsNet}
+use Rattle.network_lab.specs.Reached.{AreInRun, IsReachedNet, HasRun}
+use Rattle.network_lab.specs.LabInside.{AreWired, AreApart, IsFit, IsSetUp, IsNet}
 use Rattle.network_lab.specs.Claims.{IsClaimed, IsEndIn}
 use Rattle.link_states.specs.declared.state.LinkState.{LinkState}
-use Rattle.network_lab.specs.LinkStates.{pair_of, state_between, state_of_pair, state_at, IsWithin, AreWithin}
+use Rattle.network_lab.specs.LinkStates.{pair_of, state_between, is_point_in, state_of_ends, state_of_pair, state_at, IsWithin, AreWithin}
 use Rattle.network_lab.proofs.PlaceLemmas.{some-same, nth-there, of-place}
 use Rattle.network_lab.proofs.LinkLemmas.{all-at}
 use Rattle.network_lab.proofs.StateLemmas.{ends-are}
 
 -- ---- the start
 
-point-started : (cs : List CircuitConfig) → ArePointed cs → (place : ℕ) → place < length (map started (map circuit_of cs)) → is_point (nth (map started (map circuit_of cs)) place) ≡ true
-point-started [] p place l = absurd (omega (arith, l))
-point-started (c ∷ cs) p zero l = ap (λ (k : CircuitKind). not (is_lan k)) p.0
-point-started (c ∷ cs) p (suc place) l = point-started cs p.1 place (omega (arith, l))
-
-fit-run : (config : Config) → IsFit config → IsInRun (router_of config)
-fit-run config f = record { reached = f.reached; points = point-started config.circuits f.points }
-
 configs-run : (configs : List Config) → AllByRecursion IsFit configs → AreInRun (map router_of configs)
 configs-run [] h i r e = absurd (cc)
-configs-run (c ∷ configs) h zero r e = subst IsInRun (some-same (router_of c) r e) (fit-run c h.0)
+configs-run (c ∷ configs) h zero r e = subst IsReached (some-same (router_of c) r e) h.0.reached
 configs-run (c ∷ configs) h (suc i) r e = configs-run configs h.1 i r e
 
 configs-alone : (configs : List Config) (i : ℕ) (r : Router) → nth (map router_of configs) i ≡ Some r → (place : ℕ) → bond_at r place ≡ no_bond
@@ -57,8 +46,8 @@ opening-reached configs s h w = record {
   routers = all;
   kept = fresh-kept (opening s) (record {
     wired = record { once = w.once };
-    speaking = λ i r e. (all i r e).reached.speaking;
-    following = λ i r e. (all i r e).reached.follows;
+    speaking = λ i r e. (all i r e).speaking;
+    following = λ i r e. (all i r e).follows;
     alone = subst (λ (rs : List Router). (i : ℕ) (r : Router) → nth rs i ≡ Some r → (place : ℕ) → bond_at r place ≡ no_bond) (sym h.routers) (configs-alone configs);
     nothing = refl;
   });
@@ -120,39 +109,53 @@ state-within a b p q level f = by (at a.config.runs level && at b.config.runs le
 
 within-pair : (s : Seen) → HasRun s → s.injected ≡ 0 → (l : ℕ) (e f : End) (level : Level) → nth s.links l ≡ Some (e ∷ f ∷ []) → (e.router ≡ f.router → ⊥) → IsEndIn s.routers e → IsEndIn s.routers f → IsWithin (state_at s.routers (e ∷ f ∷ []) level)
 within-pair s h none l e f level at_l apart near far =
-    subst IsWithin (sym (ap (λ (o : Option Router). state_between o e.place (nth s.routers f.router) f.place level) near.at ∙ ap (λ (o : Option Router). state_between (Some near.r) e.place o f.place level) far.at))
-    (state-within near.r far.r e.place f.place level (λ up_e up_f.
-    let c = claimed-in s h none l p q near.r far.r level (record {
-      ends = at_l;
-      apart = apart;
-      near = near.at;
-      far = far.at;
-      near_system = refl;
-      far_system = refl;
-      near_point = (h.reached.routers e.router near.r (ap (λ (s : Seen). nth s.routers e.router) h.seen ∙ near.at)).points e.place near.there;
-      far_point = (h.reached.routers f.router far.r (ap (λ (s : Seen). nth s.routers f.router) h.seen ∙ far.at)).points f.place far.there;
-      up = record { near = up_e; far = up_f };
-    }) in (c.near, c.far)))
+    subst IsWithin (sym (ap (λ (o : Option Router). of-ends o (nth s.routers f.router)) near.at ∙ ap (λ (o : Option Router). of-ends (Some near.r) o) far.at))
+    (by (at near.r.config.runs level && is_point (nth near.r.circuits e.place)) (at far.r.config.runs level && is_point (nth far.r.circuits f.place)) refl refl)
   where
+    of-ends : Option Router → Option Router → LinkState
+    of-ends o w =
+        if is_point_in o e.place level && is_point_in w f.place level
+        then state_between o e.place w f.place level else no_state
+
     p : Port
     p = record { router = e.router; place = e.place; system = near.r.config.system }
 
     q : Port
     q = record { router = f.router; place = f.place; system = far.r.config.system }
 
+    by : (x y : Bool) → (at near.r.config.runs level && is_point (nth near.r.circuits e.place)) ≡ x → (at far.r.config.runs level && is_point (nth far.r.circuits f.place)) ≡ y
+        → IsWithin (if x && y then state_of near.r e.place far.r f.place level else no_state)
+    by true true t u = state-within near.r far.r e.place f.place level (λ up_e up_f.
+        let c = claimed-in s h none l p q near.r far.r level (record {
+          ends = at_l;
+          apart = apart;
+          near = near.at;
+          far = far.at;
+          near_system = refl;
+          far_system = refl;
+          near_point = (both-true (at near.r.config.runs level) (is_point (nth near.r.circuits e.place)) t).1;
+          far_point = (both-true (at far.r.config.runs level) (is_point (nth far.r.circuits f.place)) u).1;
+          up = record { near = up_e; far = up_f };
+        }) in (c.near, c.far))
+    by true false t u = λ up. absurd (cc)
+    by false y t u = λ up. absurd (cc)
+
 pub are-within : (ports : List (List ℕ)) (ordered : List (List End)) (a : LabNet) → IsNet ports ordered a → a.stopped ≡ None → AreWithin a.seen
 are-within ports ordered a h going none l ends level e =
-    of ends e (all-at IsPair a.seen.links l ends h.pairs e) (ends-are ports ordered a h l ends e)
+    of ends e (all-at AreApart a.seen.links l ends h.apart e) (ends-are ports ordered a h l ends e)
   where
-    of : (ends : List End) → nth a.seen.links l ≡ Some ends → IsPair ends → AllByRecursion (IsEndIn a.seen.routers) ends → IsWithin (state_at a.seen.routers ends level)
-    of [] e p there = absurd p
-    of (x ∷ []) e p there = absurd p
-    of (x ∷ y ∷ []) e p there = within-pair a.seen (has-run ports ordered a h going none) none l x y level e p there.0 there.1.0
-    of (x ∷ y ∷ z ∷ ends) e p there = absurd p
+    none-up : IsWithin no_state
+    none-up up = absurd (cc)
+
+    of : (ends : List End) → nth a.seen.links l ≡ Some ends → AreApart ends → AllByRecursion (IsEndIn a.seen.routers) ends → IsWithin (state_at a.seen.routers ends level)
+    of [] e p there = none-up
+    of (x ∷ []) e p there = none-up
+    of (x ∷ y ∷ []) e p there = within-pair a.seen (has-run ports ordered a h going none) none l x y level e p.0.0 there.0 there.1.0
+    of (x ∷ y ∷ z ∷ ends) e p there = none-up
 
 -- of the pair that was found
 pub pair-within : (s : Seen) (l : ℕ) (level : Level) (o : Option (End × End)) (near far : End) (x : LinkState) → l < length s.links → IfSome (nth s.links l) (λ (ends : List End). o ≡ pair_of ends) → o ≡ Some (near, far)
-    → x ≡ state_between (nth s.routers near.router) near.place (nth s.routers far.router) far.place level → AreWithin s → s.injected ≡ 0 → IsWithin x
+    → x ≡ state_of_ends s.routers level (near, far) → AreWithin s → s.injected ≡ 0 → IsWithin x
 pair-within s l level o near far x h pair is at w none =
     let there = nth-there s.links l h in
     let found : pair_of there.0 ≡ Some (near, far) = sym (of-place (λ (ends : List End). o ≡ pair_of ends) (nth s.links l) there.0 there.1 pair) ∙ is in

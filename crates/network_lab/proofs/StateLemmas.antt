@@ -1,16 +1,23 @@
 -- The ends of a network's links are there, and how the links stand.
-use Rattle.std.proofs.Common.{◌≡◌, ℕ, zero, suc, ◌+◌, ◌-◌, ◌<◌, List, [], ◌∷◌, ◌++◌, Bool, drop, get_or, length, map, unwrap_or, Option, Some, None, IfSome, refl, sym, ap, ◌∙◌, subst, arith, append_assoc}
+use Rattle.std.proofs.Common.{◌≡◌, ℕ, zero, suc, ◌+◌, ◌-◌, ◌<◌, ◌&&◌, not, true, false, is_some, MatchOption, option_map, List, [], ◌∷◌, ◌++◌, Bool, drop, get_or, length, map, unwrap_or, Option, Some, None, IfSome, refl, sym, ap, ◌∙◌, subst, arith, append_assoc}
 use Rattle.std.specs.List.{AllByRecursion, flat_map}
 use Rattle.isis_base.specs.declared.level.Level.{Level}
 use Rattle.isis_model.specs.Places.{nth}
-use Rattle.isis_model.specs.Routers.{Router}
+use Rattle.std.proofs.lemmas.Option.{slice_get-map}
+use Rattle.isis_base.specs.declared.level.CircuitKind.{CircuitKind}
+use Rattle.isis_model.specs.Both.{at}
+use Rattle.isis_model.specs.Routers.{Circuit, Router}
+use Rattle.isis_model.specs.AdjacencyLaws.{is_point}
+use Rattle.router_desk.specs.Desks as kind
+use Rattle.router_desk.specs.declared.desk_circuit.DeskCircuit.{DeskCircuit}
 use Rattle.network_model.specs.declared.end.End.{End}
 use Rattle.network_lab.specs.LabNets.{LabNet}
 use Rattle.network_lab.specs.LabInside.{counts_of, IsEndThere, AreEndsThere, IsNet}
 use Rattle.network_lab.specs.Claims.{IsEndIn, AreEnds}
 use Rattle.link_states.specs.declared.state.LinkState.{LinkState}
 use Rattle.link_states.specs.LinkStates.{state_of}
-use Rattle.network_lab.specs.LinkStates.{pair_of, runs_at, runs_of, state_between, joined_pair, listed, joined_by}
+use Rattle.network_lab.specs.LinkStates.{pair_of, is_point_in, runs_at, runs_of, state_between, joined_pair, listed, joined_by}
+use Rattle.network_lab.proofs.PlaceLemmas.{some-same, nth-slice_get}
 use Rattle.network_lab.proofs.LinkLemmas.{all-at}
 
 in-routers : (rs : List Router) (i place : ℕ) → place < unwrap_or (nth (counts_of rs) i) 0 → (r : Router) × (nth rs i ≡ Some r) × (place < length r.circuits)
@@ -111,3 +118,31 @@ pairs-on rs level links k xs found h f = of (nth links k) refl f
         → (xs ++ listed found) ++ flat_map (joined_by rs level) (drop (k + 1) links) ≡ xs ++ flat_map (joined_by rs level) (drop k links)
     of None e g = absurd (not-past links k h e)
     of (Some ends) e g = ap (λ (o : Option (ℕ × ℕ)). (xs ++ listed o) ++ flat_map (joined_by rs level) (drop (k + 1) links)) g ∙ pairs-step rs level links k ends xs e
+
+-- ---- circuits
+
+pub some-of : {X : Type 0} (o : Option X) (N : Type 0) (P : X → Type 0) → MatchOption o N P → is_some o ≡ true → (x : X) × P x
+some-of None N P m e = absurd (cc)
+some-of (Some x) N P m e = (x, m)
+
+point-kind : (lan : Bool) → kind.is_point (kind.kind_of_circuit lan) ≡ not lan
+point-kind true = refl
+point-kind false = refl
+
+-- whether an end is point-to-point, by its router's desk
+pub point-at : (rs : List Router) (e : End) (level : Level) (r : Router) (desk : kind.DeskView) (found : CircuitKind) (circuit : ℕ) (b : Bool) → at r.config.runs level ≡ true → nth rs e.router ≡ Some r → circuit ≡ e.place + 1
+    → desk ≡ kind.desk_of r.config r.circuits → option_map (λ (c : DeskCircuit). c.kind) (kind.circuit_at desk circuit) ≡ Some found → b ≡ kind.is_point found → b ≡ is_point_in (nth rs e.router) e.place level
+point-at rs e level r desk found circuit b runs there n d k p =
+    p ∙ (of (nth r.circuits e.place) (sym (ap (option_map (λ (c : DeskCircuit). c.kind)) shown) ∙ k)
+    ∙ sym (ap (λ (o : Option Router). is_point_in o e.place level) there ∙ ap (λ (t : Bool). t && is_point (nth r.circuits e.place)) runs))
+  where
+    shown : kind.circuit_at desk circuit ≡ option_map kind.desk_circuit (nth r.circuits e.place)
+    shown =
+        ap (λ (d : kind.DeskView). kind.circuit_at d circuit) d
+        ∙ (slice_get-map kind.desk_circuit r.circuits (circuit - 1)
+        ∙ (ap (option_map kind.desk_circuit) (nth-slice_get r.circuits (circuit - 1))
+        ∙ ap (λ (k : ℕ). option_map kind.desk_circuit (nth r.circuits k)) (omega (arith, n))))
+
+    of : (o : Option Circuit) → option_map (λ (c : DeskCircuit). c.kind) (option_map kind.desk_circuit o) ≡ Some found → kind.is_point found ≡ is_point o
+    of None q = absurd (cc)
+    of (Some c) q = ap kind.is_point (sym (some-same (kind.kind_of_circuit c.lan) found q)) ∙ point-kind c.lan

@@ -1,5 +1,5 @@
 -- When each fault of a network of routers comes (own).
-use Rattle.std.specs.Prelude.{◌≡◌, ℕ, ◌≤◌, ◌<◌, ◌⊎◌, length, Option, Some, None, IfSome}
+use Rattle.std.specs.Prelude.{◌≡◌, ℕ, ◌≤◌, ◌<◌, nat_le, Bool, true, false, ◌||◌, List, [], ◌∷◌, length, Option, Some, None, IfSome}
 use Rattle.isis_model.specs.Places.{nth}
 use Rattle.router_core.specs.Givens.{given}
 use Rattle.network_model.specs.declared.word.PduWord.{PduWord}
@@ -8,7 +8,8 @@ use Rattle.network_model.specs.RunLines.{run_line}
 use Rattle.network_lab.specs.declared.faults.LabFault.{LabFault}
 use Rattle.network_lab.specs.declared.faults.LabFault.TheVariants as fault
 use Rattle.network_lab.specs.declared.faults.LimitName.TheVariants as limit
-use Rattle.network_lab.specs.LabNets.{LabNet, next_place}
+use Rattle.router_desk.specs.declared.config.Config.{Config}
+use Rattle.network_lab.specs.LabNets.{LabNet, circuit_count}
 
 -- when a router isn't added
 abbrev pub RouterCause : LabNet → LabFault → Type 0
@@ -16,13 +17,19 @@ RouterCause a (fault.Limit limit.Routers) = 1024 ≤ length a.configs
 RouterCause a fault.OutOfMemory = Unit {0}
 RouterCause a fault = ⊥
 
--- when a link isn't added: the links are looked at before the circuits
-abbrev pub LinkCause : LabNet → ℕ → ℕ → LabFault → Type 0
-LinkCause a i j (fault.Limit limit.Links) = 4096 ≤ length a.seen.links
-LinkCause a i j (fault.Limit limit.Circuits) =
-    (length a.seen.links < 4096) × ((64 ≤ next_place a i) ⊎ (64 ≤ next_place a j))
-LinkCause a i j fault.OutOfMemory = Unit {0}
-LinkCause a i j fault = ⊥
+-- one of these routers has all the circuits that it may have
+abbrev pub has_full : List Config → List ℕ → Bool
+has_full configs [] = false
+has_full configs (i ∷ routers) =
+    nat_le 64 (circuit_count (nth configs i)) || has_full configs routers
+
+-- when a link or LAN of these routers isn't added: the links are looked at before the circuits
+abbrev pub LinkCause : LabNet → List ℕ → LabFault → Type 0
+LinkCause a routers (fault.Limit limit.Links) = 4096 ≤ length a.seen.links
+LinkCause a routers (fault.Limit limit.Circuits) =
+    (length a.seen.links < 4096) × (has_full a.configs routers ≡ true)
+LinkCause a routers fault.OutOfMemory = Unit {0}
+LinkCause a routers fault = ⊥
 
 -- a router has the circuit of this number, counted from 1
 abbrev pub HasCircuit : LabNet → ℕ → ℕ → Type 0

@@ -1,18 +1,16 @@
 -- How a network of routers lies in memory.
-use Rattle.std.specs.Prelude.{◌≡◌, ◌≢◌, ℕ, ◌≤◌, ◌<◌, true, false, List, [], ◌∷◌, map, length, unwrap_or, Some, None}
+use Rattle.std.specs.Prelude.{◌≡◌, ℕ, ◌≤◌, ◌<◌, true, false, List, [], map, length, unwrap_or, Some, None}
 use Rattle.std.specs.List.{AllByRecursion}
-use Rattle.isis_base.specs.declared.level.CircuitKind.TheVariants.{PointToPoint}
 use Rattle.isis_model.specs.Places.{nth}
 use Rattle.isis_model.specs.Routers.{Router}
 use Rattle.router_desk.specs.declared.config.Config.{Config}
-use Rattle.router_desk.specs.declared.circuit_config.CircuitConfig.{CircuitConfig}
 use Rattle.router_desk.specs.Limits.{IsValid}
 use Rattle.router_core.specs.Reached.{IsReached}
 use Rattle.network_model.specs.declared.end.End.{End}
 use Rattle.network_model.specs.Networks.{place_in}
 use Rattle.network_model.specs.RunLines.{by_router, link_of}
 use Rattle.network_lab.specs.declared.network.Network.TheInside.{Inside}
-use Rattle.network_lab.specs.LabNets.{Seen, LabNet, router_of}
+use Rattle.network_lab.specs.LabNets.{Seen, LabNet, router_of, AreDistinct}
 use Rattle.network_lab.specs.Reached.{AreSmall, HasRun}
 
 -- what is seen of the fields
@@ -50,26 +48,18 @@ pub record ArePorts (ports : List (List ℕ)) (links : List (List End)) : Type 0
   pub each : (router : ℕ) (list : List ℕ) → nth ports router ≡ Some list
       → (place : ℕ) → link_of router place 0 links ≡ nth list place
 
--- two ends of different routers
-abbrev pub IsPair : List End → Type 0
-IsPair [] = ⊥
-IsPair (e ∷ []) = ⊥
-IsPair (e ∷ f ∷ []) = e.router ≢ f.router
-IsPair (e ∷ f ∷ g ∷ ends) = ⊥
+-- the ends are of different routers
+abbrev pub AreApart : List End → Type 0
+AreApart ends = AreDistinct (map (λ (e : End). e.router) ends)
 
 -- a router's place belongs to one link
 pub record AreWired (links : List (List End)) : Type 0 where
   pub once : (link other router place : ℕ) → place_in (nth links link) router ≡ Some place
       → place_in (nth links other) router ≡ Some place → link ≡ other
 
--- all circuits are point-to-point
-abbrev pub ArePointed : List CircuitConfig → Type 0
-ArePointed circuits = AllByRecursion (λ (c : CircuitConfig). c.kind ≡ PointToPoint) circuits
-
--- a configuration whose router can be reached, of point-to-point circuits
+-- a configuration whose router can be reached
 pub record IsFit (config : Config) : Type 0 where
   pub valid : IsValid config
-  pub points : ArePointed config.circuits
   pub reached : IsReached (router_of config)
 
 -- before an event the routers are at their start, of such configurations, and nothing was sent
@@ -79,7 +69,7 @@ pub record IsSetUp (configs : List Config) (seen : Seen) : Type 0 where
   pub nothing : seen.sent ≡ []
   pub none : seen.injected ≡ 0
 
--- Routers, configurations and links have the same circuits; a link joins two routers, and the ends
+-- Routers, configurations and links have the same circuits; a link joins different routers, and the ends
 -- of each are at hand in order of their routers too; not too much was sent; and in a run that wasn't
 -- stopped, where nothing was injected, it is seen as a network in its run.
 pub record IsNet (ports : List (List ℕ)) (ordered : List (List End)) (net : LabNet) : Type 0 where
@@ -89,7 +79,7 @@ pub record IsNet (ports : List (List ℕ)) (ordered : List (List End)) (net : La
   pub ported : ArePorts ports net.seen.links
   pub sorted : ordered ≡ map by_router net.seen.links
   pub wired : AreWired net.seen.links
-  pub pairs : AllByRecursion IsPair net.seen.links
+  pub apart : AllByRecursion AreApart net.seen.links
   pub few : length net.seen.sent ≤ 262144
   pub small : AreSmall net.seen.sent
   pub setup : net.begun ≡ false → IsSetUp net.configs net.seen

@@ -1,6 +1,8 @@
 -- What a network of routers is seen as: what it was set up with, and where its run stands (own).
-use Rattle.std.specs.Prelude.{◌≡◌, ℕ, ◌-◌, Bool, false, List, [], ◌∷◌, ◌++◌, map, length, Option, Some, None}
-use Rattle.isis_base.specs.declared.level.CircuitKind.TheVariants.{PointToPoint}
+use Rattle.std.specs.Prelude.{◌≡◌, ◌≢◌, ℕ, ◌-◌, Bool, false, List, [], ◌∷◌, ◌++◌, map, length, Option, Some, None}
+use Rattle.std.specs.List.{AllByRecursion}
+use Rattle.isis_base.specs.declared.level.CircuitKind.{CircuitKind}
+use Rattle.isis_base.specs.declared.level.CircuitKind.TheVariants.{PointToPoint, Lan}
 use Rattle.isis_model.specs.Places.{nth, with_nth}
 use Rattle.isis_model.specs.Routers.{Router}
 use Rattle.isis_model.specs.Starts.{start}
@@ -83,10 +85,10 @@ configured a i change (Some config) = with_config a i (change config)
 abbrev pub reconfigured : LabNet → ℕ → (Config → Config) → LabNet
 reconfigured a i change = configured a i change (nth a.configs i)
 
--- a point-to-point circuit of this metric: priority 64, no address, no key (own)
-abbrev pub link_circuit : ℕ → CircuitConfig
-link_circuit metric = record {
-  kind = PointToPoint;
+-- a circuit of this kind and metric: priority 64, no address, no key (own)
+abbrev pub new_circuit : CircuitKind → ℕ → CircuitConfig
+new_circuit kind metric = record {
+  kind = kind;
   metric = metric;
   priority = 64;
   address = None;
@@ -105,14 +107,35 @@ circuit_count (Some config) = length config.circuits
 abbrev pub next_place : LabNet → ℕ → ℕ
 next_place a i = circuit_count (nth a.configs i)
 
--- a link of two routers, each with its next circuit (own)
+-- a router's next circuit as an end (own)
+abbrev pub next_end : List Config → ℕ → End
+next_end configs i = record { router = i; place = circuit_count (nth configs i) }
+
+-- each of these routers has this circuit more (own)
+abbrev pub with_circuits : CircuitConfig → List ℕ → LabNet → LabNet
+with_circuits c [] a = a
+with_circuits c (i ∷ routers) a = with_circuits c routers (reconfigured a i (with_circuit c))
+
+-- own
+abbrev pub with_row : List End → LabNet → LabNet
+with_row ends a = record a { seen = record a.seen { links = a.seen.links ++ ends ∷ [] } }
+
+-- a link or LAN of these routers, which is this circuit of each, its next one (own)
+abbrev pub with_ends : LabNet → List ℕ → CircuitConfig → LabNet
+with_ends a routers c = with_row (map (next_end a.configs) routers) (with_circuits c routers a)
+
+-- a point-to-point link of two routers (own)
 abbrev pub with_link : LabNet → ℕ → ℕ → ℕ → LabNet
-with_link a i j metric =
-    let near : End = record { router = i; place = next_place a i } in
-    let far : End = record { router = j; place = next_place a j } in
-    let change = with_circuit (link_circuit metric) in
-    let b = reconfigured (reconfigured a i change) j change in
-    record b { seen = record b.seen { links = b.seen.links ++ (near ∷ far ∷ []) ∷ [] } }
+with_link a i j metric = with_ends a (i ∷ j ∷ []) (new_circuit PointToPoint metric)
+
+-- a LAN of these routers (own)
+abbrev pub with_lan : LabNet → List ℕ → ℕ → LabNet
+with_lan a routers metric = with_ends a routers (new_circuit Lan metric)
+
+-- no number stands twice (own)
+abbrev pub AreDistinct : List ℕ → Type 0
+AreDistinct [] = Unit {0}
+AreDistinct (i ∷ list) = AllByRecursion (λ j. i ≢ j) list × AreDistinct list
 
 -- own
 abbrev pub at_circuit : (CircuitConfig → CircuitConfig) → ℕ → List CircuitConfig → Option CircuitConfig

@@ -1,5 +1,5 @@
 -- What an event does to what is seen of a network, and how a call that carries it out ends (own).
-use Rattle.std.specs.Prelude.{◌≡◌, ℕ, ◌<◌, ◌==◌, not, true, List, [], ◌∷◌, ◌++◌, map, length, Option, Some, None, Result, Ok, Err, IfErr, OnOk, if◌then◌else◌}
+use Rattle.std.specs.Prelude.{◌≡◌, ℕ, ◌<◌, ◌==◌, not, true, List, ◌++◌, map, length, Option, Some, None, Result, Ok, Err, IfErr, OnOk, if◌then◌else◌}
 use Rattle.isis_model.specs.Places.{nth, with_nth}
 use Rattle.isis_model.specs.Routers.{Router}
 use Rattle.isis_model.specs.Events.{Event}
@@ -8,7 +8,6 @@ use Rattle.isis_model.specs.AdjacencyLaws.{place_of}
 use Rattle.router_desk.specs.declared.circuit_config.CircuitConfig.{CircuitConfig}
 use Rattle.router_desk.specs.declared.config.Config.{Config}
 use Rattle.router_core.specs.Givens.{given}
-use Rattle.network_model.specs.declared.end.End.{End}
 use Rattle.network_model.specs.Networks.{Network}
 use Rattle.network_model.specs.Runs.{posted, boot_of}
 use Rattle.network_lab.specs.declared.sent.SentDatagram.{SentDatagram}
@@ -19,10 +18,6 @@ use Rattle.network_lab.specs.declared.faults.LimitName.TheVariants as limit
 use Rattle.network_lab.specs.LabNets.{Seen, LabNet, StandsFor, sent_of}
 use Rattle.network_lab.specs.LabEvents.{refusal, after}
 use Rattle.network_lab.specs.LabCauses.{IsStop}
-
--- the ends of a link, by their routers and places
-abbrev pub two_ends : ℕ → ℕ → ℕ → ℕ → List End
-two_ends i m j n = record { router = i; place = m } ∷ record { router = j; place = n } ∷ []
 
 -- a configuration with another circuit at a place
 abbrev pub with_circuit_at : Config → ℕ → CircuitConfig → Config

@@ -12,5 +12,6 @@ pub mod LinkStates
 pub mod Reached
 pub mod Acknowledged
 pub mod LabInside
+pub mod Joining
 pub mod LabSteps
 pub mod LabRuns

@@ -5,6 +5,7 @@ use Rattle.isis_base.specs.declared.level.Level.{Level}
 use Rattle.isis_model.specs.Both.{at}
 use Rattle.isis_model.specs.Places.{nth}
 use Rattle.isis_model.specs.Routers.{Router}
+use Rattle.isis_model.specs.AdjacencyLaws.{is_point}
 use Rattle.network_model.specs.declared.end.End.{End}
 use Rattle.link_states.specs.declared.state.LinkState.{LinkState}
 use Rattle.link_states.specs.LinkStates.{state_of, no_state}
@@ -29,18 +30,34 @@ state_between None p b q level = no_state
 state_between (Some a) p None q level = no_state
 state_between (Some a) p (Some b) q level = state_of a p b q level
 
--- the two ends of a link; a LAN has no such pair
+-- the two ends of a link, or of a LAN of two
 abbrev pub pair_of : List End → Option (End × End)
 pair_of [] = None
 pair_of (e ∷ []) = None
 pair_of (e ∷ f ∷ []) = Some (e, f)
 pair_of (e ∷ f ∷ g ∷ ends) = None
 
+-- whether a circuit is point-to-point and its router runs the level (ISO 10589 6.3)
+abbrev pub is_point_in : Option Router → ℕ → Level → Bool
+is_point_in None place level = false
+is_point_in (Some r) place level = at r.config.runs level && is_point (nth r.circuits place)
+
+abbrev pub are_points : List Router → Level → End × End → Bool
+are_points routers level pair = is_point_in (nth routers pair.0.router) pair.0.place level
+    && is_point_in (nth routers pair.1.router) pair.1.place level
+
+-- own
+abbrev pub state_of_ends : List Router → Level → End × End → LinkState
+state_of_ends routers level pair =
+    if are_points routers level pair
+    then state_between (nth routers pair.0.router) pair.0.place (nth routers pair.1.router)
+    pair.1.place level
+    else no_state
+
+-- a LAN of two is no link
 abbrev pub state_of_pair : List Router → Level → Option (End × End) → LinkState
 state_of_pair routers level None = no_state
-state_of_pair routers level (Some pair) =
-    state_between (nth routers pair.0.router) pair.0.place (nth routers pair.1.router) pair.1.place
-    level
+state_of_pair routers level (Some pair) = state_of_ends routers level pair
 
 -- how the two ends of a link stand
 abbrev pub state_at : List Router → List End → Level → LinkState

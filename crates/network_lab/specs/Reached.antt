@@ -1,9 +1,8 @@
 -- Networks of the model in their run: their routers are such as can be reached (own).
-use Rattle.std.specs.Prelude.{◌≡◌, ℕ, ◌<◌, true, List, [], ◌∷◌, length, Some, IfSome}
+use Rattle.std.specs.Prelude.{◌≡◌, ℕ, ◌<◌, List, [], ◌∷◌, Some, IfSome}
 use Rattle.std.specs.List.{AllByRecursion}
 use Rattle.isis_model.specs.Places.{nth}
 use Rattle.isis_model.specs.Routers.{Router}
-use Rattle.isis_model.specs.AdjacencyLaws.{is_point}
 use Rattle.router_core.specs.Events.{FitsPrefix}
 use Rattle.router_core.specs.Givens.{given}
 use Rattle.router_core.specs.Reached.{IsReached}
@@ -15,13 +14,8 @@ use Rattle.network_lab.specs.LabNets.{Seen, seen_of}
 
 -- ---- networks
 
--- a router that can be reached, of point-to-point circuits (own)
-pub record IsInRun (r : Router) : Type 0 where
-  pub reached : IsReached r
-  pub points : (place : ℕ) → place < length r.circuits → is_point (nth r.circuits place) ≡ true
-
 abbrev pub AreInRun : List Router → Type 0
-AreInRun routers = (i : ℕ) (r : Router) → nth routers i ≡ Some r → IsInRun r
+AreInRun routers = (i : ℕ) (r : Router) → nth routers i ≡ Some r → IsReached r
 
 -- its routers can be reached, and what is kept of a whole network holds (own)
 pub record IsReachedNet (net : Network) : Type 0 where

@@ -7,7 +7,8 @@
 //! - `key_net.rt`: the plain network; `laws.rt`: its limits, pinned by laws
 //! - `held.rt`: the newest keys of one router, by LSP ID
 //! - `network.rt`: the network of routers, and what is read of it; `event.rt`, `sent.rt`: its events and datagrams
-//! - `setup.rt`: how it is set up; `applying.rt`: one event; `running.rt`: a line `run`
+//! - `setup.rt`: how it is set up; `joining.rt`: the routers that a link or LAN joins
+//! - `applying.rt`: one event; `running.rt`: a line `run`
 //! - `states.rt`: how links stand, and which routers agree
 //! - `taking.rt`: a router of a list takes an event; `ends.rt`, `places.rt`, `row.rt`: circuits, ends, places
 #![tactic(auto)]
@@ -17,6 +18,7 @@ mod ends;
 mod event;
 mod faults;
 mod held;
+mod joining;
 mod key_net;
 pub mod laws;
 mod network;

@@ -29,6 +29,13 @@ impl<T> Row<T> {
         }
     }
 
+    /// The list of these items.
+    pub(crate) fn of(items: Vec<T>) -> Row<T>
+        ensures { result ≡ items.items }
+    {
+        Row { items }
+    }
+
     /// The items, lent.
     pub(crate) fn as_slice(&self) -> &[T]
         ensures { result.now ≡ self.now }

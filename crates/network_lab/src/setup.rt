@@ -1,17 +1,17 @@
 //! How a network of routers is set up.
-ghost use Rattle.std.specs.Prelude.{◌≡◌, ◌≢◌, ◌<◌, ◌≤◌, ◌⊎◌, false, [], length, Some, Err, vec_len, vec_capacity, IfOk, IfErr, OnOk, OnErr, slice_index};
+ghost use Rattle.std.specs.Prelude.{◌≡◌, ◌≢◌, ◌<◌, ◌≤◌, true, false, [], ◌∷◌, length, Some, Err, vec_len, vec_capacity, IfOk, IfErr, OnOk, OnErr, slice_index};
 ghost use Rattle.std.specs.List.{AllByRecursion};
 ghost use Rattle.isis_model.specs.Places.{nth, with_nth};
 ghost use Rattle.router_desk.specs.Limits.{IsCircuit, IsKey, IsValid};
 ghost use Rattle.router_core.specs.Reached.{IsReached};
 ghost use Rattle.network_lab.specs.declared.faults.LabFault.TheVariants.{Limit};
 ghost use Rattle.network_lab.specs.declared.faults.LimitName.TheVariants.{Routers, Links, Circuits};
-ghost use Rattle.network_lab.specs.LabNets.{next_place, with_router, with_link, with_key, with_priority, router_of, link_circuit, with_circuit};
-ghost use Rattle.network_model.specs.RunLines.{by_router};
-ghost use Rattle.network_lab.specs.LabSteps.{two_ends, with_circuit_at};
-ghost use Rattle.network_lab.specs.LabCauses.{RouterCause, LinkCause, HasCircuit};
+ghost use Rattle.network_lab.specs.LabNets.{with_router, new_circuit, with_ends, with_link, with_lan, with_key, with_priority, router_of, AreDistinct};
+ghost use Rattle.network_lab.specs.LabSteps.{with_circuit_at};
+ghost use Rattle.network_lab.specs.LabCauses.{RouterCause, LinkCause, HasCircuit, has_full};
 
 use crate::faults::{LabFault, LimitName};
+use crate::joining::{ends_of, has_full, joined_all, ordered_of, put_all};
 use crate::key_net::{LINK_LIMIT, ROUTER_LIMIT};
 use crate::network::Network;
 use crate::places::put_at;
@@ -21,9 +21,6 @@ use network_model::End;
 use router_core::Router;
 use router_desk::{CircuitConfig, Circuits, Config};
 use std::alloc::{AllocError, Global};
-
-/// The most circuits of a router.
-const CIRCUIT_LIMIT: usize = 64;
 
 impl Network {
     /// Adds a router and answers its number, counted from 0. `Limit(Routers)` exactly where 1,024
@@ -52,7 +49,7 @@ impl Network {
     }
 
     /// Adds a point-to-point link between two routers and answers its number, counted from 0. Each
-    /// end gets its next circuit. `Limit(Links)` exactly where 4,096 links are there, or else
+    /// end gets its next circuit. `Limit(Links)` exactly where 4,096 links and LANs are there, or else
     /// `Limit(Circuits)` exactly where an end has 64 circuits.
     pub fn add_link(&mut self, ends: [usize; 2], metric: u32) -> Result<usize, LabFault>
         requires there { (slice_index ends 0 < length self.old.configs)
@@ -63,28 +60,36 @@ impl Network {
         ensures number { IfOk result (λ link. link ≡ length self.old.seen.links) }
         ensures ok { OnOk result (self.new
             ≡ with_link self.old (slice_index ends 0) (slice_index ends 1) metric) }
-        ensures cause { IfErr result (λ fault. LinkCause self.old (slice_index ends 0)
-            (slice_index ends 1) fault) }
+        ensures cause { IfErr result (LinkCause self.old
+            (slice_index ends 0 ∷ slice_index ends 1 ∷ [])) }
         ensures links { 4096 ≤ length self.old.seen.links → result ≡ Err (Limit Links) }
         ensures circuits { length self.old.seen.links < 4096
-            → (64 ≤ next_place self.old (slice_index ends 0))
-            ⊎ (64 ≤ next_place self.old (slice_index ends 1))
+            → has_full self.old.configs (slice_index ends 0 ∷ slice_index ends 1 ∷ []) ≡ true
             → result ≡ Err (Limit Circuits) }
         ensures err { OnErr result (self.new ≡ self.old) }
     {
-        let link = self.links.len();
-        if link >= LINK_LIMIT {
-            return Err(LabFault::Limit(LimitName::Links));
-        }
         let [near, far] = ends;
-        if self.next_place(near) >= CIRCUIT_LIMIT {
-            return Err(LabFault::Limit(LimitName::Circuits));
-        }
-        if self.next_place(far) >= CIRCUIT_LIMIT {
-            return Err(LabFault::Limit(LimitName::Circuits));
-        }
-        self.join(near, far, metric)?;
-        Ok(link)
+        self.add_ends(&[near, far], CircuitKind::PointToPoint, metric)
+    }
+
+    /// Adds a LAN of 2 to 64 routers and answers its number, counted from 0. Each member gets its
+    /// next circuit. `Limit(Links)` exactly where 4,096 links and LANs are there, or else
+    /// `Limit(Circuits)` exactly where a member has 64 circuits.
+    pub fn add_lan(&mut self, members: &[usize], metric: u32) -> Result<usize, LabFault>
+        requires many { (2 ≤ length members.now) × (length members.now ≤ 64) }
+        requires there { AllByRecursion (λ i. i < length self.old.configs) members.now }
+        requires apart { AreDistinct members.now }
+        requires metric { metric ≤ 16777215 }
+        requires setup { self.old.begun ≡ false }
+        ensures number { IfOk result (λ link. link ≡ length self.old.seen.links) }
+        ensures ok { OnOk result (self.new ≡ with_lan self.old members.now metric) }
+        ensures cause { IfErr result (LinkCause self.old members.now) }
+        ensures links { 4096 ≤ length self.old.seen.links → result ≡ Err (Limit Links) }
+        ensures circuits { length self.old.seen.links < 4096
+            → has_full self.old.configs members.now ≡ true → result ≡ Err (Limit Circuits) }
+        ensures err { OnErr result (self.new ≡ self.old) }
+    {
+        self.add_ends(members, CircuitKind::Lan, metric)
     }
 
     /// Sets the key of the hellos of a router's circuit, counted from 1. It answers `OutOfMemory`
@@ -122,38 +127,70 @@ impl Network {
         Ok(())
     }
 
-    /// A link between two routers that have room for it.
-    fn join(&mut self, near: usize, far: usize, metric: u32) -> Result<(), OutOfMemory>
-        requires there { (near < length self.old.configs) × (far < length self.old.configs) }
-        requires apart { near ≢ far }
-        requires room { (next_place self.old near < 64) × (next_place self.old far < 64) }
+    /// Adds a link or LAN of these routers.
+    fn add_ends(
+        &mut self,
+        members: &[usize],
+        kind: CircuitKind,
+        metric: u32,
+    ) -> Result<usize, LabFault>
+        requires there { AllByRecursion (λ i. i < length self.old.configs) members.now }
+        requires apart { AreDistinct members.now }
         requires metric { metric ≤ 16777215 }
         requires setup { self.old.begun ≡ false }
-        ensures ok { OnOk result (self.new ≡ with_link self.old near far metric) }
+        ensures number { IfOk result (λ link. link ≡ length self.old.seen.links) }
+        ensures ok { OnOk result (self.new
+            ≡ with_ends self.old members.now (new_circuit kind metric)) }
+        ensures cause { IfErr result (LinkCause self.old members.now) }
+        ensures links { 4096 ≤ length self.old.seen.links → result ≡ Err (Limit Links) }
+        ensures circuits { length self.old.seen.links < 4096
+            → has_full self.old.configs members.now ≡ true → result ≡ Err (Limit Circuits) }
         ensures err { OnErr result (self.new ≡ self.old) }
     {
         let link = self.links.len();
-        let places = [self.next_place(near), self.next_place(far)];
-        let near_ports = self.ports[near].with(link)?;
-        let far_ports = self.ports[far].with(link)?;
-        let rows = rows_of(self.alloc, [near, far], places)?;
-        make_link_room(&mut self.links, &mut self.ordered)?;
-        let setups = joined(self.alloc, &self.configs[near], &self.configs[far], metric)?;
-        self.links.push_reserved(rows.ends);
-        self.ordered.push_reserved(rows.ordered);
-        put_at(&mut self.ports, near, near_ports);
-        put_at(&mut self.ports, far, far_ports);
-        put_setup(&mut self.configs, &mut self.routers, near, setups.near);
-        put_setup(&mut self.configs, &mut self.routers, far, setups.far);
-        Ok(())
+        if link >= LINK_LIMIT {
+            return Err(LabFault::Limit(LimitName::Links));
+        }
+        if has_full(&self.configs, members) {
+            return Err(LabFault::Limit(LimitName::Circuits));
+        }
+        self.join(members, kind, metric)?;
+        Ok(link)
     }
 
-    /// The place of a router's next circuit.
-    fn next_place(&self, router: usize) -> usize
-        requires { router < length self.now.configs }
-        ensures { result ≡ next_place self.now router }
+    /// A link or LAN of routers that have room for it.
+    fn join(
+        &mut self,
+        members: &[usize],
+        kind: CircuitKind,
+        metric: u32,
+    ) -> Result<(), OutOfMemory>
+        requires there { AllByRecursion (λ i. i < length self.old.configs) members.now }
+        requires room { has_full self.old.configs members.now ≡ false }
+        requires apart { AreDistinct members.now }
+        requires metric { metric ≤ 16777215 }
+        requires setup { self.old.begun ≡ false }
+        ensures ok { OnOk result (self.new
+            ≡ with_ends self.old members.now (new_circuit kind metric)) }
+        ensures err { OnErr result (self.new ≡ self.old) }
     {
-        self.configs[router].circuits.len()
+        let link = self.links.len();
+        let ends = ends_of(self.alloc, &self.configs, members)?;
+        let ordered = ordered_of(self.alloc, &ends)?;
+        make_link_room(&mut self.links, &mut self.ordered)?;
+        let joined = joined_all(
+            self.alloc,
+            &self.configs,
+            &self.ports,
+            members,
+            link,
+            kind,
+            metric,
+        )?;
+        self.links.push_reserved(ends);
+        self.ordered.push_reserved(ordered);
+        put_all(&mut self.configs, &mut self.routers, &mut self.ports, joined);
+        Ok(())
     }
 }
 
@@ -177,13 +214,13 @@ fn make_room(
 
 /// A configuration, and the router of it at its start.
 #[derive(Drop)]
-struct Setup {
-    config: Config,
-    router: Router,
+pub(crate) struct Setup {
+    pub(crate) config: Config,
+    pub(crate) router: Router,
 }
 
 /// The router of a configuration at its start, with the configuration.
-fn setup_of(alloc: Global, config: Config) -> Result<Setup, OutOfMemory>
+pub(crate) fn setup_of(alloc: Global, config: Config) -> Result<Setup, OutOfMemory>
     requires { IsValid config }
     ensures config { IfOk result (λ setup. setup.config ≡ config) }
     ensures router { IfOk result (λ setup. setup.router ≡ router_of config) }
@@ -258,58 +295,6 @@ fn copy_of(
     list[at].copy()
 }
 
-/// The setups of both ends of a link.
-#[derive(Drop)]
-struct Setups {
-    near: Setup,
-    far: Setup,
-}
-
-/// Two configurations, each with a point-to-point circuit more.
-fn joined(alloc: Global, near: &Config, far: &Config, metric: u32) -> Result<Setups, OutOfMemory>
-    requires valid { IsValid near.now × IsValid far.now }
-    requires room { (length near.now.circuits < 64) × (length far.now.circuits < 64) }
-    requires metric { metric ≤ 16777215 }
-    ensures near { IfOk result (λ setups. setups.near.config
-        ≡ with_circuit (link_circuit metric) near.now) }
-    ensures near_router { IfOk result (λ setups. setups.near.router
-        ≡ router_of (with_circuit (link_circuit metric) near.now)) }
-    ensures far { IfOk result (λ setups. setups.far.config
-        ≡ with_circuit (link_circuit metric) far.now) }
-    ensures far_router { IfOk result (λ setups. setups.far.router
-        ≡ router_of (with_circuit (link_circuit metric) far.now)) }
-    ensures reached { IfOk result (λ setups. IsReached setups.near.router
-        × IsReached setups.far.router) }
-{
-    let far = joined_one(alloc, far, metric)?;
-    match joined_one(alloc, near, metric) {
-        Ok(near) => Ok(Setups { near, far }),
-        Err(error) => Err(error),
-    }
-}
-
-/// A configuration with a point-to-point circuit more.
-fn joined_one(alloc: Global, config: &Config, metric: u32) -> Result<Setup, OutOfMemory>
-    requires valid { IsValid config.now }
-    requires room { length config.now.circuits < 64 }
-    requires metric { metric ≤ 16777215 }
-    ensures config { IfOk result (λ setup. setup.config
-        ≡ with_circuit (link_circuit metric) config.now) }
-    ensures router { IfOk result (λ setup. setup.router
-        ≡ router_of (with_circuit (link_circuit metric) config.now)) }
-    ensures reached { IfOk result (λ setup. IsReached setup.router) }
-{
-    let mut copy = config.copy()?;
-    copy.circuits.push(CircuitConfig {
-        kind: CircuitKind::PointToPoint,
-        metric,
-        priority: 64,
-        address: None,
-        key: None,
-    })?;
-    setup_of(alloc, copy)
-}
-
 /// Makes room for one more link.
 fn make_link_room(links: &mut Vec<Row<End>>, ordered: &mut Vec<Row<End>>) -> Result<(), AllocError>
     ensures links { links.new.items ≡ links.old.items }
@@ -321,60 +306,8 @@ fn make_link_room(links: &mut Vec<Row<End>>, ordered: &mut Vec<Row<End>>) -> Res
     ordered.reserve(1)
 }
 
-/// The ends of a link, as they were given and in order of their routers.
-#[derive(Drop)]
-struct Rows {
-    ends: Row<End>,
-    ordered: Row<End>,
-}
-
-/// The ends of a link, both ways.
-fn rows_of(alloc: Global, routers: [usize; 2], places: [usize; 2]) -> Result<Rows, OutOfMemory>
-    ensures ends { IfOk result (λ rows. rows.ends ≡ two_ends (slice_index routers 0)
-        (slice_index places 0) (slice_index routers 1) (slice_index places 1)) }
-    ensures ordered { IfOk result (λ rows. rows.ordered ≡ by_router (two_ends
-        (slice_index routers 0) (slice_index places 0) (slice_index routers 1)
-        (slice_index places 1))) }
-{
-    let ends = link_row(alloc, routers, places)?;
-    let ordered = ordered_row(alloc, routers, places)?;
-    Ok(Rows { ends, ordered })
-}
-
-/// The ends of a link.
-fn link_row(alloc: Global, routers: [usize; 2], places: [usize; 2]) -> Result<Row<End>, OutOfMemory>
-    ensures { IfOk result (λ row. row ≡ two_ends (slice_index routers 0) (slice_index places 0)
-        (slice_index routers 1) (slice_index places 1)) }
-{
-    let near = End {
-        router: routers[0],
-        place: places[0],
-    };
-    let far = End {
-        router: routers[1],
-        place: places[1],
-    };
-    let row = Row::new(alloc).with(near)?;
-    row.with(far)
-}
-
-/// The ends of a link in order of their routers.
-fn ordered_row(
-    alloc: Global,
-    routers: [usize; 2],
-    places: [usize; 2],
-) -> Result<Row<End>, OutOfMemory>
-    ensures { IfOk result (λ row. row ≡ by_router (two_ends (slice_index routers 0)
-        (slice_index places 0) (slice_index routers 1) (slice_index places 1))) }
-{
-    if routers[0] < routers[1] {
-        return link_row(alloc, routers, places);
-    }
-    link_row(alloc, [routers[1], routers[0]], [places[1], places[0]])
-}
-
 /// Another configuration of a router before the run, with the router of it.
-fn put_setup(configs: &mut Vec<Config>, routers: &mut Vec<Router>, router: usize, setup: Setup)
+pub(crate) fn put_setup(configs: &mut Vec<Config>, routers: &mut Vec<Router>, router: usize, setup: Setup)
     requires there { (router < length configs.old.items) × (router < length routers.old.items) }
     ensures configs { configs.new.items ≡ with_nth configs.old.items router setup.config }
     ensures routers { routers.new.items ≡ with_nth routers.old.items router setup.router }

@@ -2,6 +2,7 @@
 ghost use Rattle.std.specs.Prelude.{◌≡◌, ◌<◌, ◌+◌, ◌++◌, drop, length, Some, None, IfSome, IfOk, OnOk};
 ghost use Rattle.std.specs.List.{flat_map};
 ghost use Rattle.isis_model.specs.Places.{nth};
+ghost use Rattle.router_desk.specs.Desks as desk;
 ghost use Rattle.router_core.specs.Events.{IsThere};
 ghost use Rattle.link_states.specs.LinkStates.{no_state as no_link_state};
 ghost use Rattle.network_lab.specs.Claims.{IsEndIn};
@@ -9,14 +10,14 @@ ghost use Rattle.network_lab.specs.LinkStates as state;
 ghost use Rattle.network_lab.specs.LinkStates.{state_at, groups_at, IsWithin};
 
 use crate::network::Network;
-use isis_base::{Level, OutOfMemory};
+use isis_base::{CircuitKind, Level, OutOfMemory};
 use link_states::{Groups, LinkState, joined_groups, link_state};
 use network_model::End;
 use router_core::Router;
 
 impl Network {
     /// How the two ends of a point-to-point link stand at a level. All its numbers are 0 where an
-    /// end doesn't run the level. Where the link is up, the run wasn't stopped and nothing was
+    /// end doesn't run the level, and of a LAN. Where the link is up, the run wasn't stopped and nothing was
     /// injected, no end is ahead in more LSP IDs than its SRM flags on the link (ISO 10589 7.3.17).
     pub fn link_state(&self, link: usize, level: Level) -> LinkState
         requires { link < length self.now.seen.links }
@@ -56,6 +57,18 @@ impl Network {
     fn pair_state(&self, near: End, far: End, level: Level) -> LinkState
         requires near { IsEndIn self.now.seen.routers near }
         requires far { IsEndIn self.now.seen.routers far }
+        ensures { result ≡ state.state_of_ends self.now.seen.routers level (near, far) }
+    {
+        if !self.is_point(near, level) || !self.is_point(far, level) {
+            return no_state();
+        }
+        self.state_between(near, far, level)
+    }
+
+    /// How two ends of a point-to-point link stand at a level.
+    fn state_between(&self, near: End, far: End, level: Level) -> LinkState
+        requires near { IsEndIn self.now.seen.routers near }
+        requires far { IsEndIn self.now.seen.routers far }
         ensures { result ≡ state.state_between (nth self.now.seen.routers near.router) near.place
             (nth self.now.seen.routers far.router) far.place level }
     {
@@ -64,6 +77,17 @@ impl Network {
         let near_router = self.router_of(near);
         let far_router = self.router_of(far);
         link_state(near_router, near_circuit, far_router, far_circuit, level)
+    }
+
+    /// Whether an end's circuit is point-to-point and its router runs the level.
+    fn is_point(&self, end: End, level: Level) -> bool
+        requires { IsEndIn self.now.seen.routers end }
+        ensures { result
+            ≡ state.is_point_in (nth self.now.seen.routers end.router) end.place level }
+    {
+        let circuit = self.circuit_of(end);
+        let router = self.router_of(end);
+        router.book(level).is_some() && is_point(router.desk().kind(circuit))
     }
 
     /// The router of an end.
@@ -165,6 +189,16 @@ impl Network {
             return Some((near.router, far.router));
         }
         None
+    }
+}
+
+/// Whether a circuit is point-to-point.
+fn is_point(kind: CircuitKind) -> bool
+    ensures { result ≡ desk.is_point kind }
+{
+    match kind {
+        CircuitKind::PointToPoint => true,
+        CircuitKind::Lan => false,
     }
 }
 

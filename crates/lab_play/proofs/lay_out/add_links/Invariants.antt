@@ -6,6 +6,6 @@ use Rattle.lab_play.proofs.lay_out.add_links.Given as goal
 -- the links so far, and those that are left
 abbrev pub invariant-loop-link : goal.invariant-loop-link
 invariant-loop-link l = record {
-  left : layout.with_links (drop l.link-index l.links) l.net ≡ layout.with_links l.links l.fn.net;
+  left : layout.with_links l.routers (drop l.link-index l.links) l.net ≡ layout.with_links l.routers l.links l.fn.net;
   has : HasLinks (length l.script.routers) (take l.link-index l.links) l.net;
 }

@@ -1,4 +1,3 @@
-use Rattle.std.proofs.Common.{refl}
 use Rattle.router_desk.specs.declared.circuit_config.CircuitConfig.{CircuitConfig}
 use Rattle.router_desk.specs.Limits.{IsCircuit}
 use Rattle.network_lab.proofs.ConfigLemmas.{priority-fits}
@@ -10,7 +9,7 @@ invariant_of-self c = (change-setup (λ (x : CircuitConfig). record x { priority
     c.self.inside.ports.items c.self.inside.ordered.items c.self.inside.links.items c.self.inside.configs.items c.put_setup.new.configs.items c.self.inside.routers.items c.put_setup.new.routers.items c.self.inside.sent.items c.self.inside.injected c.self.inside.begun c.self.inside.stopped
     c.args.self.now c.args.router c.args.circuit c.from-place.result c.index.result.now c.index-2.result.now c.in_ok-setup.setup.config c.in_ok-setup.setup.router c.as_slice.result.now c.index-as_slice-place.result c.in_ok-changed.changed
     c.self.view_is c.self.invariant c.requires.setup c.requires.there c.index.ensures c.index-2.ensures c.as_slice.ensures c.from-place.ensures c.index-as_slice-place.is c.in_ok-changed.ensures
-    (λ (f : IsCircuit c.index-as_slice-place.result). priority-fits c.index-as_slice-place.result c.args.priority f c.requires.priority) (λ x. refl)
+    (λ (f : IsCircuit c.index-as_slice-place.result). priority-fits c.index-as_slice-place.result c.args.priority f c.requires.priority)
     c.in_ok-setup.ensures.config c.in_ok-setup.ensures.router c.in_ok-setup.ensures.reached c.put_setup.ensures.configs c.put_setup.ensures.routers).0
 
 pub returns-clause-ok : goal.returns-clause-ok
@@ -18,7 +17,7 @@ returns-clause-ok c = (change-setup (λ (x : CircuitConfig). record x { priority
     c.self.inside.ports.items c.self.inside.ordered.items c.self.inside.links.items c.self.inside.configs.items c.put_setup.new.configs.items c.self.inside.routers.items c.put_setup.new.routers.items c.self.inside.sent.items c.self.inside.injected c.self.inside.begun c.self.inside.stopped
     c.args.self.now c.args.router c.args.circuit c.from-place.result c.index.result.now c.index-2.result.now c.in_ok-setup.setup.config c.in_ok-setup.setup.router c.as_slice.result.now c.index-as_slice-place.result c.in_ok-changed.changed
     c.self.view_is c.self.invariant c.requires.setup c.requires.there c.index.ensures c.index-2.ensures c.as_slice.ensures c.from-place.ensures c.index-as_slice-place.is c.in_ok-changed.ensures
-    (λ (f : IsCircuit c.index-as_slice-place.result). priority-fits c.index-as_slice-place.result c.args.priority f c.requires.priority) (λ x. refl)
+    (λ (f : IsCircuit c.index-as_slice-place.result). priority-fits c.index-as_slice-place.result c.args.priority f c.requires.priority)
     c.in_ok-setup.ensures.config c.in_ok-setup.ensures.router c.in_ok-setup.ensures.reached c.put_setup.ensures.configs c.put_setup.ensures.routers).1
 
 pub put_setup-requires : goal.put_setup-requires
