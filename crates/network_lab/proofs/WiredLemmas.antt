@@ -37,7 +37,6 @@ split links ends l router place e = of (nth links l) (ap (λ (o : Option (List E
         by true t e = inr (grind (arith, nat_tests, t), e)
         by false t e = absurd (cc)
 
-
 -- the last link has no end yet
 pub wired-row : (links : List (List End)) → AreWired links → AreWired (links ++ ([] ∷ []))
 wired-row links w = record {

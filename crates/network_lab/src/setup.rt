@@ -159,12 +159,7 @@ impl Network {
     }
 
     /// A link or LAN of routers that have room for it.
-    fn join(
-        &mut self,
-        members: &[usize],
-        kind: CircuitKind,
-        metric: u32,
-    ) -> Result<(), OutOfMemory>
+    fn join(&mut self, members: &[usize], kind: CircuitKind, metric: u32) -> Result<(), OutOfMemory>
         requires there { AllByRecursion (λ i. i < length self.old.configs) members.now }
         requires room { has_full self.old.configs members.now ≡ false }
         requires apart { AreDistinct members.now }
@@ -189,7 +184,12 @@ impl Network {
         )?;
         self.links.push_reserved(ends);
         self.ordered.push_reserved(ordered);
-        put_all(&mut self.configs, &mut self.routers, &mut self.ports, joined);
+        put_all(
+            &mut self.configs,
+            &mut self.routers,
+            &mut self.ports,
+            joined,
+        );
         Ok(())
     }
 }
@@ -307,7 +307,12 @@ fn make_link_room(links: &mut Vec<Row<End>>, ordered: &mut Vec<Row<End>>) -> Res
 }
 
 /// Another configuration of a router before the run, with the router of it.
-pub(crate) fn put_setup(configs: &mut Vec<Config>, routers: &mut Vec<Router>, router: usize, setup: Setup)
+pub(crate) fn put_setup(
+    configs: &mut Vec<Config>,
+    routers: &mut Vec<Router>,
+    router: usize,
+    setup: Setup,
+)
     requires there { (router < length configs.old.items) × (router < length routers.old.items) }
     ensures configs { configs.new.items ≡ with_nth configs.old.items router setup.config }
     ensures routers { routers.new.items ≡ with_nth routers.old.items router setup.router }
