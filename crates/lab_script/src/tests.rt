@@ -17,6 +17,7 @@ tick A|form
 issue A 0000.0000.0001.00-00 0 live|form
 issue A 0000.0000.0001.00-00 4294967296 live|form
 pass 01 A B|form
+pass 340282366920938463463374607431768211455 A B;pass 340282366920938463463374607431768211456 A B|form
 link A Z|name
 #;;router D;issue Z 0000.0000.0001.00-00 1 live|name
 router C|again
@@ -305,7 +306,13 @@ fn limits_come_at_the_line_that_passes_them(rt: HostRuntime) -> Result<(), Fail>
     );
     let full = lab_text(alloc, 128, 64)?;
     assert_eq!(rt; fault_behind(alloc, &full, "")?, None);
+    assert_eq!(rt; fault_behind(alloc, &full, "# The last line.")?, None);
     assert_eq!(rt; fault_behind(alloc, &full, "link A r1000 r1001 1")?, links);
+    let again = Some(ScriptFault::Refused {
+        line: 4226,
+        reason: Reason::Again,
+    });
+    assert_eq!(rt; fault_behind(alloc, &full, "link A r1000 r1000 1")?, again);
     let some = lab_text(alloc, 128, 1)?;
     assert_eq!(rt;
         fault_behind(alloc, &some, "link A r1000 r1127 1")?,

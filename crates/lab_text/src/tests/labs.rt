@@ -116,6 +116,10 @@ const DROPS: [(&str, &str, &str); 24] = [
 /// The head of an LSP of 1,493 octets, one more than may be taken; behind it stand zeros.
 const LONG: &str = "49535531000000000009831b01001401000005d504b0000000000009000000000000000003";
 
+/// The head of an LSP of 1,492 octets, the most that may be taken, with its checksum; behind it stand zeros.
+const LONGEST: &str =
+    "49535531000000000001831b01001201000005d404b0000000000009000000000001b93a01000100";
+
 /// What the two hold behind `run 7`, and the links behind that.
 const HELD: &str =
     "isis-report 1\nrouter A 0000.0000.0001 boot 1\nlsp A L1 0000.0000.0001.00-00 2 live\nlsp A L1 0000.0000.0002.00-00 2 live\nrouter B 0000.0000.0002 boot 1\nlsp B L1 0000.0000.0001.00-00 2 live\nlsp B L1 0000.0000.0002.00-00 2 live\n";
@@ -123,10 +127,28 @@ const HELD: &str =
 const AGREED: &str =
     "link X L1 up flags 0 0 ahead 0 0 excepted 0\nagree L1 routers 2 groups 1\nagree L2 routers 0 groups 0\ninjected 1\ndatagrams 14\n";
 
+/// The same where B has the longest LSP too.
+const LONGEST_HELD: &str =
+    "lsp B L1 0000.0000.0009.00-00 1 live\nlink X L1 up flags 0 0 ahead 0 1 excepted 0\nagree L1 routers 2 groups 1\nagree L2 routers 0 groups 0\ninjected 1\ndatagrams 14\n";
+
 #[test]
 fn each_cause_of_a_drop_is_told(rt: HostRuntime) -> Result<(), Fail> {
     assert_eq!(rt; first_undropped(rt.alloc())?, None);
+    assert!(rt; is_longest_held(rt.alloc())?);
     Ok(())
+}
+
+/// Whether B holds the longest LSP that may be taken.
+fn is_longest_held(alloc: Global) -> Result<bool, Fail> {
+    let mut text = String::from_str(alloc, START)?;
+    text.push_str("run 7\ninject B X ")?;
+    text.push_str(LONGEST)?;
+    for _ in 0..731u32 {
+        text.push_str("0000")?;
+    }
+    let mut report = String::from_str(alloc, HELD)?;
+    report.push_str(LONGEST_HELD)?;
+    ends(alloc, text.as_str(), Ok(()), report.as_str())
 }
 
 /// The first datagram that isn't dropped for its cause, with all else as before, counted from 0.
