@@ -1,8 +1,10 @@
 -- Labels are one list alone, so groups are a function of the pairs.
 use Rattle.std.proofs.Common.{◌≡◌, ℕ, zero, suc, ◌+◌, ◌<◌, ◌≤◌, Bool, true, false, ◌&&◌, List, [], ◌∷◌, ◌++◌, length, slice_get, slice_index, if◌then◌else◌, refl, sym, ap, ◌∙◌, subst, arith, append_assoc, append-nil}
 use Rattle.link_states.specs.Parents.{AreOwn, AreLabels, merged}
+use Rattle.link_states.specs.Joined.{AreGroups}
 use Rattle.link_states.specs.Tags.{is_on, labelled_groups}
 use Rattle.link_states.specs.Grouped.{with_pair, with_pairs, numbers_from, groups_of}
+use Rattle.link_states.proofs.GroupLemmas.{groups-are}
 use Rattle.link_states.proofs.LabelLemmas.{leads-same, labels-merge, labels-skip, labels-none, part-from, part-not}
 
 -- ---- numbers in order
@@ -56,8 +58,16 @@ labels-one runs ps a b l m = all-same a b (l.size ∙ sym m.size) (λ r h.
     let high = least runs ps b a m l r here in
     omega (arith, low, high))
 
+labels-all : (runs : List Bool) (ps : List (ℕ × ℕ)) → AreLabels runs ps (with_pairs runs (numbers_from 0 (length runs)) ps)
+labels-all runs ps = all-pairs runs [] ps (numbers_from 0 (length runs)) (labels-none runs (numbers_from 0 (length runs)) (numbers-are (length runs)))
+
+-- the groups of whichever pairs
+pub groups-of : (runs : List Bool) (ps : List (ℕ × ℕ)) → AreGroups runs ps (groups_of runs ps)
+unfolding groups_of
+groups-of runs ps = groups-are runs ps (with_pairs runs (numbers_from 0 (length runs)) ps) (labels-all runs ps)
+
 pub labels-of : (runs : List Bool) (ps : List (ℕ × ℕ)) (labels : List ℕ) → AreLabels runs ps labels → labelled_groups runs labels (length runs) ≡ groups_of runs ps
 unfolding groups_of
 labels-of runs ps labels l =
     ap (λ (ls : List ℕ). labelled_groups runs ls (length runs))
-    (labels-one runs ps labels (with_pairs runs (numbers_from 0 (length runs)) ps) l (all-pairs runs [] ps (numbers_from 0 (length runs)) (labels-none runs (numbers_from 0 (length runs)) (numbers-are (length runs)))))
+    (labels-one runs ps labels (with_pairs runs (numbers_from 0 (length runs)) ps) l (labels-all runs ps))

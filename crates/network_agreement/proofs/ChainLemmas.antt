@@ -59,20 +59,23 @@ clean-agrees net l i j a b id kept none c x y ka kb =
     let far = subst (λ (r : Router). IsKept r l id) (sym same_b) kb in
     ap (λ (r : Router). live_at r l id) (sym same_a) ∙ clean-ends net l i j id kept none c near far ∙ ap (λ (r : Router). live_at r l id) same_b
 
+-- routers that are joined hold the same live LSP where neither let it go
+pub joined-agrees : (net : Network) (l : Level) (i j : ℕ) (a b : Router) (id : ℕ) → IsKeptNet net → net.injected ≡ 0 → AreAgreed net net.takings → AreJoined net l i j
+    → nth net.routers i ≡ Some a → nth net.routers j ≡ Some b → IsKept a l id → IsKept b l id → live_at a l id ≡ live_at b l id
+joined-agrees net l i j a b id kept none agreed (Clean q) x y ka kb = clean-agrees net l i j a b id kept none q x y ka kb
+joined-agrees net l i j a b id kept none agreed (CleanBack q) x y ka kb = sym (clean-agrees net l j i b a id kept none q y x kb ka)
+joined-agrees net l i j a b id kept none agreed (Swept link q) x y ka kb = swept-live net link l i j a b id kept.speaking agreed q x y
+joined-agrees net l i j a b id kept none agreed (SweptBack link q) x y ka kb = sym (swept-live net link l j i b a id kept.speaking agreed q y x)
+
 pub chain-agrees : (net : Network) (l : Level) (i j : ℕ) (a b : Router) (id : ℕ) → IsKeptNet net → net.injected ≡ 0 → AreAgreed net net.takings → Leads net l i j → IsKeptBy net l i id
     → nth net.routers i ≡ Some a → nth net.routers j ≡ Some b → live_at a l id ≡ live_at b l id
 chain-agrees net l i j a b id kept none agreed (Stays _) by x y = ap (λ (r : Router). live_at r l id) (same-router a b (sym x ∙ y))
 chain-agrees net l i k a b id kept none agreed (Along _ j _ c z joined rest) by x y =
-    first joined ∙ chain-agrees net l j k c b id kept none agreed rest (record { kept = λ m r v q. by.kept m r (Along i j m c z joined v) q }) z y
+    joined-agrees net l i j a c id kept none agreed joined x z ka kc
+    ∙ chain-agrees net l j k c b id kept none agreed rest (record { kept = λ m r v q. by.kept m r (Along i j m c z joined v) q }) z y
   where
     ka : IsKept a l id
     ka = by.kept i a (Stays i) x
 
     kc : IsKept c l id
     kc = by.kept j c (Along i j j c z joined (Stays j)) z
-
-    first : AreJoined net l i j → live_at a l id ≡ live_at c l id
-    first (Clean q) = clean-agrees net l i j a c id kept none q x z ka kc
-    first (CleanBack q) = sym (clean-agrees net l j i c a id kept none q z x kc ka)
-    first (Swept link q) = swept-live net link l i j a c id kept.speaking agreed q x z
-    first (SweptBack link q) = sym (swept-live net link l j i c a id kept.speaking agreed q z x)
