@@ -14,7 +14,7 @@ use Rattle.network_lab.specs.LabNets.{seen_of}
 use Rattle.network_lab.specs.Claims.{IsClaimed}
 use Rattle.network_lab.specs.Reached.{IsReachedNet, IsFitting, AreFitting}
 use Rattle.network_lab.proofs.ReachedLemmas.{risen-some, apply-reached}
-use Rattle.network_lab.proofs.StartLemmas.{claimed-in}
+use Rattle.network_lab.proofs.AgreeLemmas.{claimed-in}
 
 -- ---- what was sent stays, and what was injected
 
@@ -88,8 +88,8 @@ along net (e ∷ first) rest r fits small none =
     (λ k. apply-reached net e (r (apply-none net e k)) fits.0 (run-before (apply given net e) (first ++ rest) small) k) fits.1 small none
 
 pub claimed-along : (net : Network) (first rest : List Happening) → IsReachedNet net → AreFitting net (first ++ rest) → AreOctets (run given net (first ++ rest)) → IsClaimed (seen_of (run given net first))
-claimed-along net first rest r fits small none =
-    claimed-in (seen_of (run given net first)) (record { net = run given net first; seen = refl; reached = along net first rest (λ _. r) fits small none }) none
+claimed-along net first rest r fits small =
+    claimed-in (seen_of (run given net first)) (λ none. record { net = run given net first; seen = refl; reached = along net first rest (λ _. r) fits small none })
 
 -- ---- events that fit
 

@@ -1,5 +1,5 @@
 -- What an event of the model does to what is seen of a network.
-use Rattle.std.proofs.Common.{◌≡◌, ℕ, ◌<◌, ◌≤◌, ◌==◌, ◌&&◌, not, nat_le, Bool, true, false, List, [], length, Option, Some, None, Result, Ok, Err, is_some, if◌then◌else◌, refl, sym, ap, ◌∙◌, subst, arith}
+use Rattle.std.proofs.Common.{◌≡◌, ℕ, ◌<◌, ◌≤◌, ◌==◌, ◌&&◌, not, nat_le, Bool, true, false, List, [], ◌++◌, length, Option, Some, None, Result, Ok, Err, is_some, if◌then◌else◌, refl, sym, ap, ◌∙◌, subst, arith}
 use Rattle.std.specs.Option.{option_map}
 use Rattle.std.proofs.lemmas.List.{map-append, length-map}
 use Rattle.isis_model.specs.Places.{nth, with_nth}
@@ -25,34 +25,38 @@ use Rattle.network_lab.specs.declared.faults.LabFault.TheVariants as fault
 use Rattle.network_lab.specs.declared.faults.LimitName.TheVariants as limit
 use Rattle.network_lab.specs.LabNets.{Seen, LabNet, sent_of, seen_of}
 use Rattle.network_lab.specs.LabEvents.{refusal, after, unless_on, unless_arrives, past_boots, unless_changes, IsChange, change_of}
+use Rattle.network_lab.specs.declared.heard_range.HeardRange.{HeardRange}
+use Rattle.network_lab.specs.LabTakings.{kept_ranges, IsHeard}
 use Rattle.network_lab.specs.LabSteps.{moved_in, StopCause, delivered_on, Taken, Ending, Done, Stopped}
 use Rattle.network_lab.proofs.PlaceLemmas.{some-same, numbered-map}
 
-moved-is : (net : Network) (i : ℕ) (link : Option ℕ) (ev : Event) (r : Router) (takings : List Taking) → seen_of (moved given net i link ev r takings) ≡ moved_in (seen_of net) i link ev r
-moved-is net i link ev r takings =
+moved-is : (net : Network) (i : ℕ) (link : Option ℕ) (ev : Event) (r : Router) (takings : List Taking) (range : Option HeardRange) → takings ≡ kept_ranges range (step given r ev)
+    → seen_of (moved given net i link ev r takings) ≡ moved_in (seen_of net) i link ev r range
+moved-is net i link ev r takings range e =
     let o = step given r ev in
-    ap (λ (ds : List SentDatagram). record { routers = with_nth net.routers i o.router; links = net.links; sent = ds; injected = net.injected })
+    ap (λ (ds : List SentDatagram). record { routers = with_nth net.routers i o.router; links = net.links; sent = ds; injected = net.injected; takings = takings ++ net.takings })
     (map-append sent_of net.datagrams (posted i link o.router (place_of ev) o.reply))
+    ∙ ap (λ (ts : List Taking). record (moved_in (seen_of net) i link ev r range) { takings = ts ++ net.takings }) e
 
 -- a router that is there takes an event
-pub moved-at : (net : Network) (s : Seen) → seen_of net ≡ s → (i : ℕ) (link : Option ℕ) (ev : Event) (r : Router) → nth s.routers i ≡ Some r → seen_of (moved_if given net i link ev (nth net.routers i)) ≡ moved_in s i link ev r
+pub moved-at : (net : Network) (s : Seen) → seen_of net ≡ s → (i : ℕ) (link : Option ℕ) (ev : Event) (r : Router) → nth s.routers i ≡ Some r → seen_of (moved_if given net i link ev (nth net.routers i)) ≡ moved_in s i link ev r None
 moved-at net s e i link ev r h =
     let p : nth net.routers i ≡ Some r = ap (λ (s : Seen). nth s.routers i) e ∙ h in
-    ap (λ (o : Option Router). seen_of (moved_if given net i link ev o)) p ∙ (moved-is net i link ev r [] ∙ ap (λ (s : Seen). moved_in s i link ev r) e)
+    ap (λ (o : Option Router). seen_of (moved_if given net i link ev o)) p ∙ (moved-is net i link ev r [] None refl ∙ ap (λ (s : Seen). moved_in s i link ev r None) e)
 
 pub place-seen : (net : Network) (s : Seen) → seen_of net ≡ s → (link i : ℕ) → place_at net link i ≡ place_in (nth s.links link) i
 place-seen net s e link i = ap (λ (s : Seen). place_in (nth s.links link) i) e
 
 -- ---- seconds and pulls
 
-pub tick-done : (s : Seen) (i : ℕ) (r : Router) → nth s.routers i ≡ Some r → (net : Network) → seen_of net ≡ s → (refusal net (event.Tick i) ≡ None) × (seen_of (after net (event.Tick i)) ≡ moved_in s i None Second r)
+pub tick-done : (s : Seen) (i : ℕ) (r : Router) → nth s.routers i ≡ Some r → (net : Network) → seen_of net ≡ s → (refusal net (event.Tick i) ≡ None) × (seen_of (after net (event.Tick i)) ≡ moved_in s i None Second r None)
 unfolding apply
 tick-done s i r h net e = (refl, moved-at net s e i None Second r h)
 
 pub pull-off : (s : Seen) (link i : ℕ) → place_in (nth s.links link) i ≡ None → (net : Network) → seen_of net ≡ s → refusal net (event.Pull i link) ≡ Some fault.NotOn
 pull-off s link i h net e = ap unless_on (place-seen net s e link i ∙ h)
 
-pub pull-done : (s : Seen) (link i place : ℕ) (r : Router) → place_in (nth s.links link) i ≡ Some place → nth s.routers i ≡ Some r → (net : Network) → seen_of net ≡ s → (refusal net (event.Pull i link) ≡ None) × (seen_of (after net (event.Pull i link)) ≡ moved_in s i (Some link) (Pull place) r)
+pub pull-done : (s : Seen) (link i place : ℕ) (r : Router) → place_in (nth s.links link) i ≡ Some place → nth s.routers i ≡ Some r → (net : Network) → seen_of net ≡ s → (refusal net (event.Pull i link) ≡ None) × (seen_of (after net (event.Pull i link)) ≡ moved_in s i (Some link) (Pull place) r None)
 unfolding apply
 pull-done s link i place r p h net e =
     let at : place_at net link i ≡ Some place = place-seen net s e link i ∙ p in
@@ -81,19 +85,19 @@ pub deliver-off : (s : Seen) (n i : ℕ) (f : LabFault) → delivered_on s (numb
 deliver-off s n i f h net e = deliver-off-of net i (numbered net.datagrams n) f (ap (λ (s : Seen). delivered_on s (option_map sent_of (numbered net.datagrams n)) i) e ∙ (ap (λ (o : Option SentDatagram). delivered_on s o i) (numbered-seen net s e n) ∙ h))
 
 -- a datagram that is delivered on a link
-record Lands (net : Network) (n i link : ℕ) (octets : List ℕ) : Type 0 where
+record Lands (net : Network) (n i link : ℕ) (x : SentDatagram) : Type 0 where
   d : Datagram
   arrives : arrival net (numbered net.datagrams n) i ≡ on_place d (place_at net link i)
   on : d.link ≡ link
-  says : octets_of d ≡ octets
+  same : sent_of d ≡ x
 
-lands-of : (net : Network) (s : Seen) → seen_of net ≡ s → (n i link : ℕ) (x : SentDatagram) (o : Option Datagram) → numbered net.datagrams n ≡ o → numbered s.sent n ≡ Some x → delivered_on s (numbered s.sent n) i ≡ Ok link → Lands net n i link x.octets
+lands-of : (net : Network) (s : Seen) → seen_of net ≡ s → (n i link : ℕ) (x : SentDatagram) (o : Option Datagram) → numbered net.datagrams n ≡ o → numbered s.sent n ≡ Some x → delivered_on s (numbered s.sent n) i ≡ Ok link → Lands net n i link x
 lands-of net s e n i link x None q g h = absurd (let w = sym (ap (option_map sent_of) q) ∙ (numbered-seen net s e n ∙ g) in cc)
 lands-of net s e n i link x (Some d) q g h = record {
   d = d;
   arrives = ap (λ (o : Option Datagram). arrival net o i) q ∙ (by.1 ∙ ap (λ (k : ℕ). on_place d (place_at net k i)) by.0);
   on = by.0;
-  says = ap (λ (y : SentDatagram). y.octets) same;
+  same = same;
 }
   where
     there : Some (sent_of d) ≡ Some x
@@ -118,28 +122,30 @@ deliver-on s n i link place x g h p net e =
     let l = lands-of net s e n i link x (numbered net.datagrams n) refl g h in
     ap (λ (a : _). unless_arrives (length net.datagrams) a) (l.arrives ∙ ap (on_place l.d) (place-seen net s e link i ∙ p))
 
-arrived : (net : Network) (s : Seen) → seen_of net ≡ s → (i link place : ℕ) (octets : List ℕ) (r : Router) → nth s.routers i ≡ Some r → seen_of (arrive_at given net i link place octets (nth net.routers i)) ≡ moved_in s i (Some link) (taking r place octets) r
+arrived : (net : Network) (s : Seen) → seen_of net ≡ s → (i link place : ℕ) (octets : List ℕ) (r : Router) → nth s.routers i ≡ Some r → seen_of (arrive_at given net i link place octets (nth net.routers i)) ≡ moved_in s i (Some link) (taking r place octets) r None
 arrived net s e i link place octets r h =
     let p : nth net.routers i ≡ Some r = ap (λ (s : Seen). nth s.routers i) e ∙ h in
-    ap (λ (o : Option Router). seen_of (arrive_at given net i link place octets o)) p ∙ (moved-is net i (Some link) (taking r place octets) r [] ∙ ap (λ (s : Seen). moved_in s i (Some link) (taking r place octets) r) e)
+    ap (λ (o : Option Router). seen_of (arrive_at given net i link place octets o)) p ∙ (moved-is net i (Some link) (taking r place octets) r [] None refl ∙ ap (λ (s : Seen). moved_in s i (Some link) (taking r place octets) r None) e)
 
-delivered : (net : Network) (s : Seen) → seen_of net ≡ s → (i place : ℕ) (d : Datagram) (r : Router) → nth s.routers i ≡ Some r → seen_of (deliver_at given net i d place (nth net.routers i)) ≡ moved_in s i (Some d.link) (taking r place (octets_of d)) r
-delivered net s e i place d r h =
+delivered : (net : Network) (s : Seen) → seen_of net ≡ s → (i place : ℕ) (d : Datagram) (r : Router) (range : Option HeardRange) → ranges_in given i r place d ≡ kept_ranges range (step given r (taking r place (octets_of d))) → nth s.routers i ≡ Some r
+    → seen_of (deliver_at given net i d place (nth net.routers i)) ≡ moved_in s i (Some d.link) (taking r place (octets_of d)) r range
+delivered net s e i place d r range ranges h =
     let p : nth net.routers i ≡ Some r = ap (λ (s : Seen). nth s.routers i) e ∙ h in
     let event = taking r place (octets_of d) in
-    ap (λ (o : Option Router). seen_of (deliver_at given net i d place o)) p ∙ (moved-is net i (Some d.link) event r (ranges_in given i r place d) ∙ ap (λ (s : Seen). moved_in s i (Some d.link) event r) e)
+    ap (λ (o : Option Router). seen_of (deliver_at given net i d place o)) p ∙ (moved-is net i (Some d.link) event r (ranges_in given i r place d) range ranges ∙ ap (λ (s : Seen). moved_in s i (Some d.link) event r range) e)
 
-pub deliver-done : (s : Seen) (n i link place : ℕ) (x : SentDatagram) (octets : List ℕ) (r : Router) → octets ≡ x.octets → numbered s.sent n ≡ Some x → delivered_on s (numbered s.sent n) i ≡ Ok link → place_in (nth s.links link) i ≡ Some place → nth s.routers i ≡ Some r → (net : Network) → seen_of net ≡ s
-    → (refusal net (event.Deliver n i) ≡ None) × (seen_of (after net (event.Deliver n i)) ≡ moved_in s i (Some link) (taking r place octets) r)
+pub deliver-done : (s : Seen) (n i link place : ℕ) (x : SentDatagram) (r : Router) (range : Option HeardRange) → IsHeard i place r x range → numbered s.sent n ≡ Some x → delivered_on s (numbered s.sent n) i ≡ Ok link → place_in (nth s.links link) i ≡ Some place → nth s.routers i ≡ Some r → (net : Network) → seen_of net ≡ s
+    → (refusal net (event.Deliver n i) ≡ None) × (seen_of (after net (event.Deliver n i)) ≡ moved_in s i (Some link) (taking r place x.octets) r range)
 unfolding apply
-deliver-done s n i link place x octets r o g h p k net e =
+deliver-done s n i link place x r range hears g h p k net e =
     let l = lands-of net s e n i link x (numbered net.datagrams n) refl g h in
-    let says : octets_of l.d ≡ octets = l.says ∙ sym o in (
+    let says : octets_of l.d ≡ x.octets = ap (λ (y : SentDatagram). y.octets) l.same in
+    let ranges : ranges_in given i r place l.d ≡ kept_ranges range (step given r (taking r place (octets_of l.d))) = hears.each l.d l.same ∙ ap (λ (b : List ℕ). kept_ranges range (step given r (taking r place b))) (sym says) in (
       deliver-on s n i link place x g h p net e,
       ap (λ (a : _). seen_of (arrive given net i a)) (l.arrives ∙ ap (on_place l.d) (place-seen net s e link i ∙ p))
-          ∙ (delivered net s e i place l.d r k
-          ∙ (ap (λ (k : ℕ). moved_in s i (Some k) (taking r place (octets_of l.d)) r) l.on
-          ∙ ap (λ (b : List ℕ). moved_in s i (Some link) (taking r place b) r) says)),
+          ∙ (delivered net s e i place l.d r range ranges k
+          ∙ (ap (λ (k : ℕ). moved_in s i (Some k) (taking r place (octets_of l.d)) r range) l.on
+          ∙ ap (λ (b : List ℕ). moved_in s i (Some link) (taking r place b) r range) says)),
     )
 
 -- ---- injections
@@ -148,7 +154,7 @@ pub inject-off : (s : Seen) (link i : ℕ) (octets : List ℕ) → place_in (nth
 inject-off s link i octets h net e = ap unless_on (place-seen net s e link i ∙ h)
 
 pub inject-done : (s : Seen) (link i place : ℕ) (octets : List ℕ) (r : Router) → place_in (nth s.links link) i ≡ Some place → nth s.routers i ≡ Some r → (net : Network) → seen_of net ≡ s
-    → (refusal net (event.Inject i link octets) ≡ None) × (seen_of (after net (event.Inject i link octets)) ≡ moved_in (record s { injected = risen s.injected }) i (Some link) (taking r place octets) r)
+    → (refusal net (event.Inject i link octets) ≡ None) × (seen_of (after net (event.Inject i link octets)) ≡ moved_in (record s { injected = risen s.injected }) i (Some link) (taking r place octets) r None)
 unfolding apply
 inject-done s link i place octets r p h net e =
     let at : place_at net link i ≡ Some place = place-seen net s e link i ∙ p in
@@ -191,7 +197,7 @@ change-after net i (change.Prefix prefix metric) = refl
 change-after net i (change.Overload on) = refl
 
 pub change-done : (s : Seen) (i : ℕ) (c : Change) (r : Router) → nth s.routers i ≡ Some r → unless_changes (Some r) c ≡ None → (net : Network) → seen_of net ≡ s
-    → (refusal net (event.Change i c) ≡ None) × (seen_of (after net (event.Change i c)) ≡ moved_in s i None (core.change_of c) r)
+    → (refusal net (event.Change i c) ≡ None) × (seen_of (after net (event.Change i c)) ≡ moved_in s i None (core.change_of c) r None)
 change-done s i c r h u net e = (
   ap (λ (o : Option Router). unless_changes o c) (ap (λ (s : Seen). nth s.routers i) e ∙ h) ∙ u,
   ap seen_of (change-after net i c) ∙ moved-at net s e i None (core.change_of c) r h,

@@ -10,6 +10,7 @@ use Rattle.isis_model.specs.Places.{nth, with_nth}
 use Rattle.isis_model.specs.Routers.{Router}
 use Rattle.isis_model.proofs.ListLemmas.{all-append}
 use Rattle.network_model.specs.declared.end.End.{End}
+use Rattle.network_model.specs.Networks.{Taking}
 use Rattle.network_model.specs.RunLines.{by_router, is_end, link_of}
 use Rattle.router_desk.specs.declared.circuit_config.CircuitConfig.{CircuitConfig}
 use Rattle.router_desk.specs.declared.config.Config.{Config}
@@ -89,10 +90,10 @@ none-first : {A : Type 0} (o : Option A) → first_of o None ≡ o
 none-first None = refl
 none-first (Some x) = refl
 
-pub net-row : (ports : List (List ℕ)) (ordered links : List (List End)) (configs : List Config) (rs : List Router) (ds : List SentDatagram) (n : ℕ) (begun : Bool) (stopped : Option LabFault)
-    → IsNet ports ordered (lab configs rs links ds n begun stopped) → begun ≡ false
-    → IsNet ports (map by_router (links ++ ([] ∷ []))) (lab configs rs (links ++ ([] ∷ [])) ds n begun stopped)
-net-row ports ordered links configs rs ds n begun stopped h b = record {
+pub net-row : (ports : List (List ℕ)) (ordered links : List (List End)) (configs : List Config) (rs : List Router) (ds : List SentDatagram) (n : ℕ) (ts : List Taking) (begun : Bool) (stopped : Option LabFault)
+    → IsNet ports ordered (lab configs rs links ds n ts begun stopped) → begun ≡ false
+    → IsNet ports (map by_router (links ++ ([] ∷ []))) (lab configs rs (links ++ ([] ∷ [])) ds n ts begun stopped)
+net-row ports ordered links configs rs ds n ts begun stopped h b = record {
   routers = h.routers;
   configs = h.configs;
   ends = all-append (AreEndsThere (map length ports)) links ([] ∷ []) h.ends (tt, tt);
@@ -102,7 +103,7 @@ net-row ports ordered links configs rs ds n begun stopped h b = record {
   apart = all-append AreApart links ([] ∷ []) h.apart (tt, tt);
   few = h.few;
   small = h.small;
-  setup = λ e. record { fit = (h.setup e).fit; routers = (h.setup e).routers; nothing = (h.setup e).nothing; none = (h.setup e).none };
+  setup = λ e. record { fit = (h.setup e).fit; routers = (h.setup e).routers; nothing = (h.setup e).nothing; none = (h.setup e).none; untaken = (h.setup e).untaken };
   run = λ e _ _. absurd (let clash : true ≡ false = sym e ∙ b in cc);
 }
 
@@ -164,13 +165,13 @@ ports-end ports base row i p at_i off h = record { each = λ router list e place
         let is : is_end router place grown ≡ is_end router place row = end-snoc router place row end ∙ (ap (λ (b : Bool). is_end router place row || (b && length p == place)) t ∙ or-no (is_end router place row)) in
         new router place (is_end router place row) is ∙ old router place list other
 
-pub net-end : (ports : List (List ℕ)) (base : List (List End)) (row : List End) (configs : List Config) (rs : List Router) (ds : List SentDatagram) (n : ℕ) (begun : Bool) (stopped : Option LabFault) (kind : CircuitKind) (metric i : ℕ) (p : List ℕ) (config : Config)
-    → IsNet ports (map by_router (base ++ (row ∷ []))) (lab configs rs (base ++ (row ∷ [])) ds n begun stopped) → begun ≡ false
+pub net-end : (ports : List (List ℕ)) (base : List (List End)) (row : List End) (configs : List Config) (rs : List Router) (ds : List SentDatagram) (n : ℕ) (ts : List Taking) (begun : Bool) (stopped : Option LabFault) (kind : CircuitKind) (metric i : ℕ) (p : List ℕ) (config : Config)
+    → IsNet ports (map by_router (base ++ (row ∷ []))) (lab configs rs (base ++ (row ∷ [])) ds n ts begun stopped) → begun ≡ false
     → AllByRecursion (λ (e : End). e.router ≢ i) row → nth ports i ≡ Some p → nth configs i ≡ Some config → length config.circuits < 64 → metric ≤ 16777215
     → IsReached (router_of (with_circuit (new_circuit kind metric) config))
     → IsNet (with_nth ports i (p ++ (length base ∷ []))) (map by_router (base ++ ((row ++ (record { router = i; place = length config.circuits } ∷ [])) ∷ [])))
-    (lab (with_nth configs i (with_circuit (new_circuit kind metric) config)) (with_nth rs i (router_of (with_circuit (new_circuit kind metric) config))) (base ++ ((row ++ (record { router = i; place = length config.circuits } ∷ [])) ∷ [])) ds n begun stopped)
-net-end ports base row configs rs ds n begun stopped kind metric i p config h b off at_i on_i room fits reached = record {
+    (lab (with_nth configs i (with_circuit (new_circuit kind metric) config)) (with_nth rs i (router_of (with_circuit (new_circuit kind metric) config))) (base ++ ((row ++ (record { router = i; place = length config.circuits } ∷ [])) ∷ [])) ds n ts begun stopped)
+net-end ports base row configs rs ds n ts begun stopped kind metric i p config h b off at_i on_i room fits reached = record {
   routers = ap counts_of routers_are ∙ (setup-counts configs_now ∙ counts_are);
   configs = counts_are;
   ends = ends_there;
@@ -185,11 +186,12 @@ net-end ports base row configs rs ds n begun stopped kind metric i p config h b 
     routers = routers_are;
     nothing = s.nothing;
     none = s.none;
+    untaken = s.untaken;
   };
   run = λ e _ _. absurd (let clash : true ≡ false = sym e ∙ b in cc);
 }
   where
-    s : IsSetUp configs (lab configs rs (base ++ (row ∷ [])) ds n begun stopped).seen
+    s : IsSetUp configs (lab configs rs (base ++ (row ∷ [])) ds n ts begun stopped).seen
     s = h.setup b
 
     k : ℕ
@@ -298,17 +300,17 @@ pub off-nobody : (routers : List ℕ) → AreOff [] routers
 off-nobody [] = tt
 off-nobody (r ∷ routers) = (tt, off-nobody routers)
 
-net-all : (joined : List Joined) (ports : List (List ℕ)) (base : List (List End)) (row : List End) (configs : List Config) (rs : List Router) (ds : List SentDatagram) (n : ℕ) (begun : Bool) (stopped : Option LabFault) (kind : CircuitKind) (metric : ℕ)
-    → IsNet ports (map by_router (base ++ (row ∷ []))) (lab configs rs (base ++ (row ∷ [])) ds n begun stopped) → begun ≡ false → metric ≤ 16777215
+net-all : (joined : List Joined) (ports : List (List ℕ)) (base : List (List End)) (row : List End) (configs : List Config) (rs : List Router) (ds : List SentDatagram) (n : ℕ) (ts : List Taking) (begun : Bool) (stopped : Option LabFault) (kind : CircuitKind) (metric : ℕ)
+    → IsNet ports (map by_router (base ++ (row ∷ []))) (lab configs rs (base ++ (row ∷ [])) ds n ts begun stopped) → begun ≡ false → metric ≤ 16777215
     → AreJoined configs ports (length base) (new_circuit kind metric) joined → AreDistinct (routers_in joined) → AreOff row (routers_in joined)
-    → IsNet (ports_with joined ports) (map by_router (base ++ ((row ++ ends_with joined configs) ∷ []))) (lab (configs_with joined configs) (routers_with joined rs) (base ++ ((row ++ ends_with joined configs) ∷ [])) ds n begun stopped)
-net-all [] ports base row configs rs ds n begun stopped kind metric h b fits are distinct off =
-    subst (λ (r : List End). IsNet ports (map by_router (base ++ (r ∷ []))) (lab configs rs (base ++ (r ∷ [])) ds n begun stopped)) (sym (append-nil row)) h
-net-all (j ∷ joined) ports base row configs rs ds n begun stopped kind metric h b fits are distinct off =
-    subst (λ (r : List End). IsNet (ports_with joined ports_now) (map by_router (base ++ (r ∷ []))) (lab (configs_with joined configs_now) (routers_with joined routers_now) (base ++ (r ∷ [])) ds n begun stopped))
+    → IsNet (ports_with joined ports) (map by_router (base ++ ((row ++ ends_with joined configs) ∷ []))) (lab (configs_with joined configs) (routers_with joined rs) (base ++ ((row ++ ends_with joined configs) ∷ [])) ds n ts begun stopped)
+net-all [] ports base row configs rs ds n ts begun stopped kind metric h b fits are distinct off =
+    subst (λ (r : List End). IsNet ports (map by_router (base ++ (r ∷ []))) (lab configs rs (base ++ (r ∷ [])) ds n ts begun stopped)) (sym (append-nil row)) h
+net-all (j ∷ joined) ports base row configs rs ds n ts begun stopped kind metric h b fits are distinct off =
+    subst (λ (r : List End). IsNet (ports_with joined ports_now) (map by_router (base ++ (r ∷ []))) (lab (configs_with joined configs_now) (routers_with joined routers_now) (base ++ (r ∷ [])) ds n ts begun stopped))
     (append_assoc row (next_end configs j.router ∷ []) (ends_with joined configs_now))
-    (net-all joined ports_now base (row ++ (next_end configs j.router ∷ [])) configs_now routers_now ds n begun stopped kind metric
-    (subst (λ (e : End). IsNet ports_now (map by_router (base ++ ((row ++ (e ∷ [])) ∷ []))) (lab configs_now routers_now (base ++ ((row ++ (e ∷ [])) ∷ [])) ds n begun stopped)) (sym end_is) step)
+    (net-all joined ports_now base (row ++ (next_end configs j.router ∷ [])) configs_now routers_now ds n ts begun stopped kind metric
+    (subst (λ (e : End). IsNet ports_now (map by_router (base ++ ((row ++ (e ∷ [])) ∷ []))) (lab configs_now routers_now (base ++ ((row ++ (e ∷ [])) ∷ [])) ds n ts begun stopped)) (sym end_is) step)
     b fits (joined-later configs ports (length base) (new_circuit kind metric) j.router j.setup.config j.ports joined are.1 distinct.0) distinct.1 (off-snoc row (next_end configs j.router) (routers_in joined) off.1 distinct.0))
   where
     f : IsJoined configs ports (length base) (new_circuit kind metric) j
@@ -332,12 +334,12 @@ net-all (j ∷ joined) ports base row configs rs ds n begun stopped kind metric 
     three : (P : List (List ℕ) → List Config → List Router → Type 0) (a d : List (List ℕ)) (x y : List Config) (z w : List Router) → a ≡ d → x ≡ y → z ≡ w → P a x z → P d y w
     three P a d x y z w p q r h = subst (λ (c : List Router). P d y c) r (subst (λ (c : List Config). P d c z) q (subst (λ (c : List (List ℕ)). P c x z) p h))
 
-    step : IsNet ports_now (map by_router (base ++ ((row ++ (record { router = j.router; place = length f.config.circuits } ∷ [])) ∷ []))) (lab configs_now routers_now (base ++ ((row ++ (record { router = j.router; place = length f.config.circuits } ∷ [])) ∷ [])) ds n begun stopped)
-    step = three (λ ports configs rs. IsNet ports (map by_router (base ++ ((row ++ (record { router = j.router; place = length f.config.circuits } ∷ [])) ∷ []))) (lab configs rs (base ++ ((row ++ (record { router = j.router; place = length f.config.circuits } ∷ [])) ∷ [])) ds n begun stopped))
+    step : IsNet ports_now (map by_router (base ++ ((row ++ (record { router = j.router; place = length f.config.circuits } ∷ [])) ∷ []))) (lab configs_now routers_now (base ++ ((row ++ (record { router = j.router; place = length f.config.circuits } ∷ [])) ∷ [])) ds n ts begun stopped)
+    step = three (λ ports configs rs. IsNet ports (map by_router (base ++ ((row ++ (record { router = j.router; place = length f.config.circuits } ∷ [])) ∷ []))) (lab configs rs (base ++ ((row ++ (record { router = j.router; place = length f.config.circuits } ∷ [])) ∷ [])) ds n ts begun stopped))
         (with_nth ports j.router (f.list ++ (length base ∷ []))) ports_now (with_nth configs j.router (with_circuit (new_circuit kind metric) f.config)) configs_now
         (with_nth rs j.router (router_of (with_circuit (new_circuit kind metric) f.config))) routers_now
         (ap (with_nth ports j.router) (sym f.ports_is)) (ap (with_nth configs j.router) (sym f.config_is)) (ap (with_nth rs j.router) (sym f.router_is))
-        (net-end ports base row configs rs ds n begun stopped kind metric j.router f.list f.config h b off.0 f.list_at f.config_at f.room fits (subst IsReached f.router_is f.reached))
+        (net-end ports base row configs rs ds n ts begun stopped kind metric j.router f.list f.config h b off.0 f.list_at f.config_at f.room fits (subst IsReached f.router_is f.reached))
 
 -- ---- the same as one after another
 
@@ -360,31 +362,31 @@ all-same : (configs : List Config) (rs : List ℕ) → AllByRecursion (λ r. nth
 all-same configs [] = tt
 all-same configs (r ∷ rs) = (refl, all-same configs rs)
 
-with-all : (joined : List Joined) (ports : List (List ℕ)) (links : List (List End)) (configs : List Config) (rs : List Router) (ds : List SentDatagram) (n : ℕ) (begun : Bool) (stopped : Option LabFault) (link : ℕ) (c : CircuitConfig)
+with-all : (joined : List Joined) (ports : List (List ℕ)) (links : List (List End)) (configs : List Config) (rs : List Router) (ds : List SentDatagram) (n : ℕ) (ts : List Taking) (begun : Bool) (stopped : Option LabFault) (link : ℕ) (c : CircuitConfig)
     → AreJoined configs ports link c joined → AreDistinct (routers_in joined)
-    → lab (configs_with joined configs) (routers_with joined rs) links ds n begun stopped ≡ with_circuits c (routers_in joined) (lab configs rs links ds n begun stopped)
-with-all [] ports links configs rs ds n begun stopped link c are distinct = refl
-with-all (j ∷ joined) ports links configs rs ds n begun stopped link c are distinct =
-    with-all joined (with_nth ports j.router j.ports) links (with_nth configs j.router j.setup.config) (with_nth rs j.router j.setup.router) ds n begun stopped link c
+    → lab (configs_with joined configs) (routers_with joined rs) links ds n ts begun stopped ≡ with_circuits c (routers_in joined) (lab configs rs links ds n ts begun stopped)
+with-all [] ports links configs rs ds n ts begun stopped link c are distinct = refl
+with-all (j ∷ joined) ports links configs rs ds n ts begun stopped link c are distinct =
+    with-all joined (with_nth ports j.router j.ports) links (with_nth configs j.router j.setup.config) (with_nth rs j.router j.setup.router) ds n ts begun stopped link c
     (joined-later configs ports link c j.router j.setup.config j.ports joined are.1 distinct.0) distinct.1
-    ∙ ap (with_circuits c (routers_in joined)) (two are.0.config_is are.0.router_is ∙ sym (ap (configured (lab configs rs links ds n begun stopped) j.router (with_circuit c)) are.0.config_at))
+    ∙ ap (with_circuits c (routers_in joined)) (two are.0.config_is are.0.router_is ∙ sym (ap (configured (lab configs rs links ds n ts begun stopped) j.router (with_circuit c)) are.0.config_at))
   where
-    two : {x y : Config} {z w : Router} → x ≡ y → z ≡ w → lab (with_nth configs j.router x) (with_nth rs j.router z) links ds n begun stopped ≡ lab (with_nth configs j.router y) (with_nth rs j.router w) links ds n begun stopped
+    two : {x y : Config} {z w : Router} → x ≡ y → z ≡ w → lab (with_nth configs j.router x) (with_nth rs j.router z) links ds n ts begun stopped ≡ lab (with_nth configs j.router y) (with_nth rs j.router w) links ds n ts begun stopped
     two e f = cc
 
 -- ---- the whole
 
-pub join-all : (ports ports_now : List (List ℕ)) (ordered ordered_now links links_now : List (List End)) (configs configs_now : List Config) (rs rs_now : List Router) (ds : List SentDatagram) (n : ℕ) (begun : Bool) (stopped : Option LabFault) (old : LabNet)
+pub join-all : (ports ports_now : List (List ℕ)) (ordered ordered_now links links_now : List (List End)) (configs configs_now : List Config) (rs rs_now : List Router) (ds : List SentDatagram) (n : ℕ) (ts : List Taking) (begun : Bool) (stopped : Option LabFault) (old : LabNet)
     (members : List ℕ) (kind : CircuitKind) (metric link : ℕ) (joined : List Joined) (row row_ordered : List End)
-    → lab configs rs links ds n begun stopped ≡ old → IsNet ports ordered (lab configs rs links ds n begun stopped) → old.begun ≡ false
+    → lab configs rs links ds n ts begun stopped ≡ old → IsNet ports ordered (lab configs rs links ds n ts begun stopped) → old.begun ≡ false
     → AreDistinct members → metric ≤ 16777215 → link ≡ length links
     → AreJoined configs ports link (new_circuit kind metric) joined → routers_in joined ≡ members
     → row ≡ map (next_end configs) members → row_ordered ≡ by_router row
     → links_now ≡ links ++ (row ∷ []) → ordered_now ≡ ordered ++ (row_ordered ∷ [])
     → configs_now ≡ configs_with joined configs → rs_now ≡ routers_with joined rs → ports_now ≡ ports_with joined ports
-    → IsNet ports_now ordered_now (lab configs_now rs_now links_now ds n begun stopped) × (lab configs_now rs_now links_now ds n begun stopped ≡ with_ends old members (new_circuit kind metric))
-join-all ports ports_now ordered ordered_now links links_now configs configs_now rs rs_now ds n begun stopped old members kind metric link joined row row_ordered is h b distinct fits link_is are in_is row_is ordered_is ls os cs rns ps = (
-  five (λ ports ordered links configs rs. IsNet ports ordered (lab configs rs links ds n begun stopped)) (ports_with joined ports) ports_now (map by_router (links ++ (ends_with joined configs ∷ []))) ordered_now (links ++ (ends_with joined configs ∷ [])) links_now (configs_with joined configs) configs_now (routers_with joined rs) rs_now ps sorted ls_now cs rns net,
+    → IsNet ports_now ordered_now (lab configs_now rs_now links_now ds n ts begun stopped) × (lab configs_now rs_now links_now ds n ts begun stopped ≡ with_ends old members (new_circuit kind metric))
+join-all ports ports_now ordered ordered_now links links_now configs configs_now rs rs_now ds n ts begun stopped old members kind metric link joined row row_ordered is h b distinct fits link_is are in_is row_is ordered_is ls os cs rns ps = (
+  five (λ ports ordered links configs rs. IsNet ports ordered (lab configs rs links ds n ts begun stopped)) (ports_with joined ports) ports_now (map by_router (links ++ (ends_with joined configs ∷ []))) ordered_now (links ++ (ends_with joined configs ∷ [])) links_now (configs_with joined configs) configs_now (routers_with joined rs) rs_now ps sorted ls_now cs rns net,
   view,
 )
   where
@@ -400,8 +402,8 @@ join-all ports ports_now ordered ordered_now links links_now configs configs_now
     begun_is : begun ≡ false
     begun_is = ap (λ (a : LabNet). a.begun) is ∙ b
 
-    net : IsNet (ports_with joined ports) (map by_router (links ++ (ends_with joined configs ∷ []))) (lab (configs_with joined configs) (routers_with joined rs) (links ++ (ends_with joined configs ∷ [])) ds n begun stopped)
-    net = net-all joined ports links [] configs rs ds n begun stopped kind metric (net-row ports ordered links configs rs ds n begun stopped h begun_is) begun_is fits are_in distinct_in (off-nobody (routers_in joined))
+    net : IsNet (ports_with joined ports) (map by_router (links ++ (ends_with joined configs ∷ []))) (lab (configs_with joined configs) (routers_with joined rs) (links ++ (ends_with joined configs ∷ [])) ds n ts begun stopped)
+    net = net-all joined ports links [] configs rs ds n ts begun stopped kind metric (net-row ports ordered links configs rs ds n ts begun stopped h begun_is) begun_is fits are_in distinct_in (off-nobody (routers_in joined))
 
     ls_now : links_now ≡ links ++ (ends_with joined configs ∷ [])
     ls_now = ls ∙ ap (λ (r : List End). links ++ (r ∷ [])) row_with
@@ -415,13 +417,13 @@ join-all ports ports_now ordered ordered_now links links_now configs configs_now
     five : (P : List (List ℕ) → List (List End) → List (List End) → List Config → List Router → Type 0) (a a1 : List (List ℕ)) (b b1 c c1 : List (List End)) (d d1 : List Config) (e e1 : List Router) → a1 ≡ a → b1 ≡ b → c1 ≡ c → d1 ≡ d → e1 ≡ e → P a b c d e → P a1 b1 c1 d1 e1
     five P a a1 b b1 c c1 d d1 e e1 p q r s t x = subst (λ (y : List Router). P a1 b1 c1 d1 y) (sym t) (subst (λ (y : List Config). P a1 b1 c1 y e) (sym s) (subst (λ (y : List (List End)). P a1 b1 y d e) (sym r) (subst (λ (y : List (List End)). P a1 y c d e) (sym q) (subst (λ (y : List (List ℕ)). P y b c d e) (sym p) x))))
 
-    three : {a d : List Config} {x y : List Router} {z w : List (List End)} → a ≡ d → x ≡ y → z ≡ w → lab a x z ds n begun stopped ≡ lab d y w ds n begun stopped
+    three : {a d : List Config} {x y : List Router} {z w : List (List End)} → a ≡ d → x ≡ y → z ≡ w → lab a x z ds n ts begun stopped ≡ lab d y w ds n ts begun stopped
     three p q r = cc
 
-    view : lab configs_now rs_now links_now ds n begun stopped ≡ with_ends old members (new_circuit kind metric)
+    view : lab configs_now rs_now links_now ds n ts begun stopped ≡ with_ends old members (new_circuit kind metric)
     view =
         three cs rns ls
-        ∙ (ap (with_row row) (with-all joined ports links configs rs ds n begun stopped (length links) (new_circuit kind metric) are_in distinct_in)
-        ∙ (ap (λ (r : List End). with_row r (with_circuits (new_circuit kind metric) (routers_in joined) (lab configs rs links ds n begun stopped))) row_is
-        ∙ (ap (λ (m : List ℕ). with_row (map (next_end configs) members) (with_circuits (new_circuit kind metric) m (lab configs rs links ds n begun stopped))) in_is
+        ∙ (ap (with_row row) (with-all joined ports links configs rs ds n ts begun stopped (length links) (new_circuit kind metric) are_in distinct_in)
+        ∙ (ap (λ (r : List End). with_row r (with_circuits (new_circuit kind metric) (routers_in joined) (lab configs rs links ds n ts begun stopped))) row_is
+        ∙ (ap (λ (m : List ℕ). with_row (map (next_end configs) members) (with_circuits (new_circuit kind metric) m (lab configs rs links ds n ts begun stopped))) in_is
         ∙ ap (λ (a : LabNet). with_ends a members (new_circuit kind metric)) is)))

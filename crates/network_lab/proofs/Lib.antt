@@ -10,6 +10,8 @@ pub mod WiredLemmas
 pub mod LinkLemmas
 pub mod RunLemmas
 pub mod StepLemmas
+pub mod HearLemmas
+pub mod LanLemmas
 pub mod TakeLemmas
 pub mod LoopLemmas
 pub mod ConfigLemmas
@@ -18,6 +20,7 @@ pub mod SetupLemmas
 pub mod StateLemmas
 pub mod ReachedLemmas
 pub mod StartLemmas
+pub mod AgreeLemmas
 pub mod AlongLemmas
 pub mod AckLemmas
 pub mod JoinLemmas

@@ -21,6 +21,8 @@ use Rattle.network_model.specs.Speakers.{AreSpeaking, AreOctets}
 use Rattle.network_model.specs.Kept.{AreFollowing}
 use Rattle.network_model.proofs.ChangeLemmas.{each-router}
 use Rattle.network_model.proofs.KeptLemmas.{apply-kept}
+use Rattle.network_agreement.proofs.OriginLemmas.{apply-origins}
+use Rattle.network_agreement.proofs.SweepLemmas.{apply-true, apply-agreed}
 use Rattle.network_lab.specs.LabNets.{Seen, sent_of, seen_of}
 use Rattle.network_lab.specs.Reached.{AreInRun, IsReachedNet, HasRun, AreSmall, IsFitting, Happens}
 use Rattle.network_lab.proofs.LinkLemmas.{all-at}
@@ -103,7 +105,13 @@ follow net all i r e = (all i r e).follows
 by-event : (net : Network) (h : Happening) → is_injection h ≡ false → IsReachedNet net → IsFitting net h → AreOctets (apply given net h) → IsReachedNet (apply given net h)
 by-event net h q r fits octets =
     let all = routers-after net h r.routers r.kept.octets fits q in
-    record { routers = all; kept = apply-kept leaks_of is_attached net h r.kept octets (speak (apply given net h) all) (follow (apply given net h) all) }
+    record {
+      routers = all;
+      kept = apply-kept leaks_of is_attached net h r.kept octets (speak (apply given net h) all) (follow (apply given net h) all);
+      origins = apply-origins leaks_of is_attached net h q r.kept.octets r.kept.speaking (speak (apply given net h) all) r.origins;
+      tells = apply-true leaks_of is_attached net h q r.kept.speaking r.tells;
+      agreed = apply-agreed leaks_of is_attached net h q r.origins r.tells r.agreed;
+    }
 
 pub risen-some : (n : ℕ) → risen n ≡ 0 → ⊥
 risen-some zero e = absurd (cc)

@@ -5,22 +5,23 @@ use Rattle.isis_model.specs.Places.{nth}
 use Rattle.isis_model.specs.Routers.{Circuit, Router}
 use Rattle.isis_model.specs.Datagrams.{Sent}
 use Rattle.isis_model.specs.Events as model
-use Rattle.network_model.specs.Runs.{posts, posted}
+use Rattle.network_model.specs.Runs.{changes_of, posts, posted}
 use Rattle.network_model.specs.Runs.{post as post_of}
 use Rattle.router_core.specs.Replies.{datagrams_on, Answers}
 use Rattle.router_desk.specs.declared.cause.DropCause.{DropCause}
 use Rattle.router_core.specs.declared.reply.Reply.{Reply}
 use Rattle.router_core.specs.declared.reply.Reply.TheVariants as reply
-use Rattle.network_lab.specs.LabNets.{sent_of}
+use Rattle.network_lab.specs.declared.sent.Changes.{Changes}
+use Rattle.network_lab.specs.LabNets.{counts_in, sent_of}
 use Rattle.network_lab.specs.declared.sent.SentDatagram.{SentDatagram}
 use Rattle.network_lab.specs.declared.faults.LabFault.{LabFault}
 use Rattle.network_lab.specs.LabSteps.{sent_by, StopCause}
 
-each-sent : (i link : ℕ) (t : Router) (place : ℕ) (c : Circuit) (out : List Sent) → map sent_of (map (post_of i link t place c) out) ≡ map (sent_by i t.boot link) (datagrams_on t place (Some c) out)
+each-sent : (i link : ℕ) (t : Router) (place : ℕ) (c : Circuit) (out : List Sent) → map sent_of (map (post_of i link t place c) out) ≡ map (sent_by i t.boot (counts_in (changes_of t)) link) (datagrams_on t place (Some c) out)
 each-sent i link t place c [] = refl
 each-sent i link t place c (s ∷ out) = ap (λ (ds : _). sent_of (post_of i link t place c s) ∷ ds) (each-sent i link t place c out)
 
-on-sent : (i link : ℕ) (t : Router) (place : ℕ) (c : Option Circuit) (out : List Sent) → map sent_of (posts i link t place c out) ≡ map (sent_by i t.boot link) (datagrams_on t place c out)
+on-sent : (i link : ℕ) (t : Router) (place : ℕ) (c : Option Circuit) (out : List Sent) → map sent_of (posts i link t place c out) ≡ map (sent_by i t.boot (counts_in (changes_of t)) link) (datagrams_on t place c out)
 on-sent i link t place None out = refl
 on-sent i link t place (Some c) out = each-sent i link t place c out
 
@@ -31,10 +32,10 @@ same-send : (a b : List (List ℕ)) → reply.Send a ≡ reply.Send b → a ≡ 
 same-send a b e = cc
 
 -- an answer that sends
-pub sends : (i link : ℕ) (t : Router) (place : ℕ) (m : model.Reply) (ds : List (List ℕ)) → Answers t place m (reply.Send ds) → map sent_of (posted i (Some link) t place m) ≡ map (sent_by i t.boot link) ds
+pub sends : (i link : ℕ) (t : Router) (place : ℕ) (m : model.Reply) (ds : List (List ℕ)) → Answers t place m (reply.Send ds) → map sent_of (posted i (Some link) t place m) ≡ map (sent_by i t.boot (counts_in (changes_of t)) link) ds
 sends i link t place model.Done ds e = absurd (cc)
 sends i link t place (model.Dropped cause) ds e = absurd (not-drop ds e.0 e.1)
-sends i link t place (model.Send out) ds e = on-sent i link t place (nth t.circuits place) out ∙ ap (λ (xs : List (List ℕ)). map (sent_by i t.boot link) xs) (sym (same-send ds _ e))
+sends i link t place (model.Send out) ds e = on-sent i link t place (nth t.circuits place) out ∙ ap (λ (xs : List (List ℕ)). map (sent_by i t.boot (counts_in (changes_of t)) link) xs) (sym (same-send ds _ e))
 
 -- an answer that sends nothing
 pub done-sends : (i link : ℕ) (t : Router) (place : ℕ) (m : model.Reply) → Answers t place m reply.Done → map sent_of (posted i (Some link) t place m) ≡ []
@@ -49,26 +50,27 @@ drop-sends i link t place (model.Send out) cause e = absurd (cc)
 
 -- ---- whatever the link
 
-sent-is : (sender link boot : ℕ) (lk : Option ℕ) (answer : Reply) (ds items : List (List ℕ)) (r : Router) (place : ℕ) (m : model.Reply) → lk ≡ Some link → answer ≡ reply.Send ds → items ≡ ds → Answers r place m answer → boot ≡ r.boot → map sent_of (posted sender lk r place m) ≡ map (sent_by sender boot link) items
-sent-is sender link boot lk answer ds items r place m on is same ans at =
+sent-is : (sender link boot : ℕ) (changes : Changes) (lk : Option ℕ) (answer : Reply) (ds items : List (List ℕ)) (r : Router) (place : ℕ) (m : model.Reply) → lk ≡ Some link → answer ≡ reply.Send ds → items ≡ ds → Answers r place m answer → boot ≡ r.boot → changes ≡ counts_in (changes_of r) → map sent_of (posted sender lk r place m) ≡ map (sent_by sender boot changes link) items
+sent-is sender link boot changes lk answer ds items r place m on is same ans at counts =
     ap (λ (o : Option ℕ). map sent_of (posted sender o r place m)) on
     ∙ (sends sender link r place m ds (subst (λ (a : Reply). Answers r place m a) is ans)
-    ∙ (ap (λ (b : ℕ). map (sent_by sender b link) ds) (sym at) ∙ ap (λ (xs : List (List ℕ)). map (sent_by sender boot link) xs) (sym same)))
+    ∙ (ap (λ (b : ℕ). map (sent_by sender b (counts_in (changes_of r)) link) ds) (sym at)
+    ∙ (ap (λ (cs : Changes). map (sent_by sender boot cs link) ds) (sym counts) ∙ ap (λ (xs : List (List ℕ)). map (sent_by sender boot changes link) xs) (sym same))))
 
-pub send-ok : {U E : Type 0} (res : Result U E) (sender link boot : ℕ) (lk : Option ℕ) (answer : Reply) (ds items : List (List ℕ)) (sent new : List SentDatagram) → lk ≡ Some link → answer ≡ reply.Send ds → items ≡ ds → OnOk res (new ≡ sent ++ map (sent_by sender boot link) items)
-    → OnOk res ((r : Router) (place : ℕ) (m : model.Reply) → Answers r place m answer → boot ≡ r.boot → new ≡ sent ++ map sent_of (posted sender lk r place m))
-send-ok (Err e) sender link boot lk answer ds items sent new on is same h = tt
-send-ok (Ok u) sender link boot lk answer ds items sent new on is same h = λ r place m ans at. h ∙ ap (λ (xs : List SentDatagram). sent ++ xs) (sym (sent-is sender link boot lk answer ds items r place m on is same ans at))
+pub send-ok : {U E : Type 0} (res : Result U E) (sender link boot : ℕ) (changes : Changes) (lk : Option ℕ) (answer : Reply) (ds items : List (List ℕ)) (sent new : List SentDatagram) → lk ≡ Some link → answer ≡ reply.Send ds → items ≡ ds → OnOk res (new ≡ sent ++ map (sent_by sender boot changes link) items)
+    → OnOk res ((r : Router) (place : ℕ) (m : model.Reply) → Answers r place m answer → boot ≡ r.boot → changes ≡ counts_in (changes_of r) → new ≡ sent ++ map sent_of (posted sender lk r place m))
+send-ok (Err e) sender link boot changes lk answer ds items sent new on is same h = tt
+send-ok (Ok u) sender link boot changes lk answer ds items sent new on is same h = λ r place m ans at counts. h ∙ ap (λ (xs : List SentDatagram). sent ++ xs) (sym (sent-is sender link boot changes lk answer ds items r place m on is same ans at counts))
 
-pub send-err : {U : Type 0} (res : Result U LabFault) (sender link boot count : ℕ) (lk : Option ℕ) (answer : Reply) (ds items : List (List ℕ)) → lk ≡ Some link → answer ≡ reply.Send ds → items ≡ ds → IfErr res (StopCause (count + length items))
-    → IfErr res (λ fault. (r : Router) (place : ℕ) (m : model.Reply) → Answers r place m answer → boot ≡ r.boot → StopCause (count + length (map sent_of (posted sender lk r place m))) fault)
-send-err (Ok u) sender link boot count lk answer ds items on is same h = tt
-send-err (Err f) sender link boot count lk answer ds items on is same h = λ r place m ans at. subst (λ (n : ℕ). StopCause (count + n) f) (sym (ap length (sent-is sender link boot lk answer ds items r place m on is same ans at) ∙ length-map items (sent_by sender boot link))) h
+pub send-err : {U : Type 0} (res : Result U LabFault) (sender link boot count : ℕ) (changes : Changes) (lk : Option ℕ) (answer : Reply) (ds items : List (List ℕ)) → lk ≡ Some link → answer ≡ reply.Send ds → items ≡ ds → IfErr res (StopCause (count + length items))
+    → IfErr res (λ fault. (r : Router) (place : ℕ) (m : model.Reply) → Answers r place m answer → boot ≡ r.boot → changes ≡ counts_in (changes_of r) → StopCause (count + length (map sent_of (posted sender lk r place m))) fault)
+send-err (Ok u) sender link boot count changes lk answer ds items on is same h = tt
+send-err (Err f) sender link boot count changes lk answer ds items on is same h = λ r place m ans at counts. subst (λ (n : ℕ). StopCause (count + n) f) (sym (ap length (sent-is sender link boot changes lk answer ds items r place m on is same ans at counts) ∙ length-map items (sent_by sender boot changes link))) h
 
-pub send-done : (sender boot : ℕ) (lk : Option ℕ) (answer : Reply) (sent : List SentDatagram) → answer ≡ reply.Done → (r : Router) (place : ℕ) (m : model.Reply) → Answers r place m answer → boot ≡ r.boot → sent ≡ sent ++ map sent_of (posted sender lk r place m)
-send-done sender boot None answer sent is r place m ans at = sym (append-nil sent)
-send-done sender boot (Some link) answer sent is r place m ans at = sym (append-nil sent) ∙ ap (λ (xs : List SentDatagram). sent ++ xs) (sym (done-sends sender link r place m (subst (λ (a : Reply). Answers r place m a) is ans)))
+pub send-done : (sender boot : ℕ) (changes : Changes) (lk : Option ℕ) (answer : Reply) (sent : List SentDatagram) → answer ≡ reply.Done → (r : Router) (place : ℕ) (m : model.Reply) → Answers r place m answer → boot ≡ r.boot → changes ≡ counts_in (changes_of r) → sent ≡ sent ++ map sent_of (posted sender lk r place m)
+send-done sender boot changes None answer sent is r place m ans at counts = sym (append-nil sent)
+send-done sender boot changes (Some link) answer sent is r place m ans at counts = sym (append-nil sent) ∙ ap (λ (xs : List SentDatagram). sent ++ xs) (sym (done-sends sender link r place m (subst (λ (a : Reply). Answers r place m a) is ans)))
 
-pub send-drop : (sender boot : ℕ) (lk : Option ℕ) (answer : Reply) (cause : DropCause) (sent : List SentDatagram) → answer ≡ reply.Dropped cause → (r : Router) (place : ℕ) (m : model.Reply) → Answers r place m answer → boot ≡ r.boot → sent ≡ sent ++ map sent_of (posted sender lk r place m)
-send-drop sender boot None answer cause sent is r place m ans at = sym (append-nil sent)
-send-drop sender boot (Some link) answer cause sent is r place m ans at = sym (append-nil sent) ∙ ap (λ (xs : List SentDatagram). sent ++ xs) (sym (drop-sends sender link r place m cause (subst (λ (a : Reply). Answers r place m a) is ans)))
+pub send-drop : (sender boot : ℕ) (changes : Changes) (lk : Option ℕ) (answer : Reply) (cause : DropCause) (sent : List SentDatagram) → answer ≡ reply.Dropped cause → (r : Router) (place : ℕ) (m : model.Reply) → Answers r place m answer → boot ≡ r.boot → changes ≡ counts_in (changes_of r) → sent ≡ sent ++ map sent_of (posted sender lk r place m)
+send-drop sender boot changes None answer cause sent is r place m ans at counts = sym (append-nil sent)
+send-drop sender boot changes (Some link) answer cause sent is r place m ans at counts = sym (append-nil sent) ∙ ap (λ (xs : List SentDatagram). sent ++ xs) (sym (drop-sends sender link r place m cause (subst (λ (a : Reply). Answers r place m a) is ans)))

@@ -3,6 +3,7 @@ use Rattle.std.proofs.Common.{◌≡◌, ℕ, ◌-◌, ◌<◌, ◌≤◌, List,
 use Rattle.isis_model.specs.Places.{nth, with_nth}
 use Rattle.isis_model.specs.Routers.{Router}
 use Rattle.network_model.specs.declared.end.End.{End}
+use Rattle.network_model.specs.Networks.{Taking}
 use Rattle.router_desk.specs.declared.circuit_config.CircuitConfig.{CircuitConfig}
 use Rattle.router_desk.specs.declared.config.Config.{Config}
 use Rattle.router_desk.specs.Limits.{IsCircuit, IsValid}
@@ -19,39 +20,39 @@ use Rattle.network_lab.proofs.PlaceLemmas.{some-same, nth-get, of-place, length-
 use Rattle.std.proofs.lemmas.List.{length-map}
 use Rattle.network_lab.proofs.ConfigLemmas.{net-config, config-is, fit-with}
 
-abbrev pub lab : List Config → List Router → List (List End) → List SentDatagram → ℕ → Bool → Option LabFault → LabNet
-lab configs rs links ds n begun stopped = record {
+abbrev pub lab : List Config → List Router → List (List End) → List SentDatagram → ℕ → List Taking → Bool → Option LabFault → LabNet
+lab configs rs links ds n ts begun stopped = record {
   configs = configs;
-  seen = record { routers = rs; links = links; sent = ds; injected = n };
+  seen = record { routers = rs; links = links; sent = ds; injected = n; takings = ts };
   begun = begun;
   stopped = stopped;
 }
 
-pub router-more : (ports ports_now : List (List ℕ)) (ordered links : List (List End)) (configs configs_now : List Config) (rs rs_now : List Router) (ds : List SentDatagram) (n : ℕ) (begun : Bool) (stopped : Option LabFault) (config : Config)
-    → IsNet ports ordered (lab configs rs links ds n begun stopped) → begun ≡ false → IsValid config → IsReached (router_of config) → config.circuits ≡ []
+pub router-more : (ports ports_now : List (List ℕ)) (ordered links : List (List End)) (configs configs_now : List Config) (rs rs_now : List Router) (ds : List SentDatagram) (n : ℕ) (ts : List Taking) (begun : Bool) (stopped : Option LabFault) (config : Config)
+    → IsNet ports ordered (lab configs rs links ds n ts begun stopped) → begun ≡ false → IsValid config → IsReached (router_of config) → config.circuits ≡ []
     → configs_now ≡ configs ++ (config ∷ []) → rs_now ≡ rs ++ (router_of config ∷ []) → ports_now ≡ ports ++ ([] ∷ [])
-    → IsNet ports_now ordered (lab configs_now rs_now links ds n begun stopped)
-router-more ports ports_now ordered links configs configs_now rs rs_now ds n begun stopped config h b valid reached bare c r p =
-    subst (λ (xs : List (List ℕ)). IsNet xs ordered (lab configs_now rs_now links ds n begun stopped)) (sym p)
-    (subst (λ (xs : List Router). IsNet (ports ++ ([] ∷ [])) ordered (lab configs_now xs links ds n begun stopped)) (sym r)
-    (subst (λ (xs : List Config). IsNet (ports ++ ([] ∷ [])) ordered (lab xs (rs ++ (router_of config ∷ [])) links ds n begun stopped)) (sym c)
-    (net-router ports ordered (lab configs rs links ds n begun stopped) config h b (record { valid = valid; reached = reached }) bare)))
+    → IsNet ports_now ordered (lab configs_now rs_now links ds n ts begun stopped)
+router-more ports ports_now ordered links configs configs_now rs rs_now ds n ts begun stopped config h b valid reached bare c r p =
+    subst (λ (xs : List (List ℕ)). IsNet xs ordered (lab configs_now rs_now links ds n ts begun stopped)) (sym p)
+    (subst (λ (xs : List Router). IsNet (ports ++ ([] ∷ [])) ordered (lab configs_now xs links ds n ts begun stopped)) (sym r)
+    (subst (λ (xs : List Config). IsNet (ports ++ ([] ∷ [])) ordered (lab xs (rs ++ (router_of config ∷ [])) links ds n ts begun stopped)) (sym c)
+    (net-router ports ordered (lab configs rs links ds n ts begun stopped) config h b (record { valid = valid; reached = reached }) bare)))
 
-pub config-new : (ports : List (List ℕ)) (ordered links : List (List End)) (configs configs_now : List Config) (rs rs_now : List Router) (ds : List SentDatagram) (n : ℕ) (begun : Bool) (stopped : Option LabFault) (i : ℕ) (config new : Config)
-    → IsNet ports ordered (lab configs rs links ds n begun stopped) → begun ≡ false → nth configs i ≡ Some config → IsFit new → length new.circuits ≡ length config.circuits
+pub config-new : (ports : List (List ℕ)) (ordered links : List (List End)) (configs configs_now : List Config) (rs rs_now : List Router) (ds : List SentDatagram) (n : ℕ) (ts : List Taking) (begun : Bool) (stopped : Option LabFault) (i : ℕ) (config new : Config)
+    → IsNet ports ordered (lab configs rs links ds n ts begun stopped) → begun ≡ false → nth configs i ≡ Some config → IsFit new → length new.circuits ≡ length config.circuits
     → configs_now ≡ with_nth configs i new → rs_now ≡ with_nth rs i (router_of new)
-    → IsNet ports ordered (lab configs_now rs_now links ds n begun stopped)
-config-new ports ordered links configs configs_now rs rs_now ds n begun stopped i config new h b at fit same c r =
-    subst (λ (xs : List Router). IsNet ports ordered (lab configs_now xs links ds n begun stopped)) (sym r)
-    (subst (λ (xs : List Config). IsNet ports ordered (lab xs (with_nth rs i (router_of new)) links ds n begun stopped)) (sym c)
-    (net-config ports ordered (lab configs rs links ds n begun stopped) i config new h b at fit same))
+    → IsNet ports ordered (lab configs_now rs_now links ds n ts begun stopped)
+config-new ports ordered links configs configs_now rs rs_now ds n ts begun stopped i config new h b at fit same c r =
+    subst (λ (xs : List Router). IsNet ports ordered (lab configs_now xs links ds n ts begun stopped)) (sym r)
+    (subst (λ (xs : List Config). IsNet ports ordered (lab xs (with_nth rs i (router_of new)) links ds n ts begun stopped)) (sym c)
+    (net-config ports ordered (lab configs rs links ds n ts begun stopped) i config new h b at fit same))
 
-pub config-view : (links : List (List End)) (configs configs_now : List Config) (rs rs_now : List Router) (ds : List SentDatagram) (n : ℕ) (begun : Bool) (stopped : Option LabFault) (old : LabNet) (i : ℕ) (new : Config)
-    → lab configs rs links ds n begun stopped ≡ old → configs_now ≡ with_nth configs i new → rs_now ≡ with_nth rs i (router_of new)
-    → lab configs_now rs_now links ds n begun stopped ≡ with_config old i new
-config-view links configs configs_now rs rs_now ds n begun stopped old i new is c r =
-    ap (λ (xs : List Config). lab xs rs_now links ds n begun stopped) c
-    ∙ (ap (λ (xs : List Router). lab (with_nth configs i new) xs links ds n begun stopped) r
+pub config-view : (links : List (List End)) (configs configs_now : List Config) (rs rs_now : List Router) (ds : List SentDatagram) (n : ℕ) (ts : List Taking) (begun : Bool) (stopped : Option LabFault) (old : LabNet) (i : ℕ) (new : Config)
+    → lab configs rs links ds n ts begun stopped ≡ old → configs_now ≡ with_nth configs i new → rs_now ≡ with_nth rs i (router_of new)
+    → lab configs_now rs_now links ds n ts begun stopped ≡ with_config old i new
+config-view links configs configs_now rs rs_now ds n ts begun stopped old i new is c r =
+    ap (λ (xs : List Config). lab xs rs_now links ds n ts begun stopped) c
+    ∙ (ap (λ (xs : List Router). lab (with_nth configs i new) xs links ds n ts begun stopped) r
     ∙ ap (λ (a : LabNet). with_config a i new) is)
 
 pub both-there : (ports : List (List ℕ)) (ordered : List (List End)) (a old : LabNet) (i : ℕ) → a ≡ old → IsNet ports ordered a → i < length old.configs → (i < length a.configs) × (i < length a.seen.routers)
@@ -72,14 +73,14 @@ port-at ports ordered a i p h l e = nth-get ports i p (let m = sym (length-map a
 
 -- ---- another circuit of a router
 
-pub change-setup : (change : CircuitConfig → CircuitConfig) (ports : List (List ℕ)) (ordered links : List (List End)) (configs configs_now : List Config) (rs rs_now : List Router) (ds : List SentDatagram) (n : ℕ) (begun : Bool) (stopped : Option LabFault) (old : LabNet) (i circuit from : ℕ) (first config setup_config : Config) (setup_router : Router) (slice : List CircuitConfig) (item changed : CircuitConfig)
-    → lab configs rs links ds n begun stopped ≡ old → IsNet ports ordered (lab configs rs links ds n begun stopped) → old.begun ≡ false → HasCircuit old i circuit
+pub change-setup : (change : CircuitConfig → CircuitConfig) (ports : List (List ℕ)) (ordered links : List (List End)) (configs configs_now : List Config) (rs rs_now : List Router) (ds : List SentDatagram) (n : ℕ) (ts : List Taking) (begun : Bool) (stopped : Option LabFault) (old : LabNet) (i circuit from : ℕ) (first config setup_config : Config) (setup_router : Router) (slice : List CircuitConfig) (item changed : CircuitConfig)
+    → lab configs rs links ds n ts begun stopped ≡ old → IsNet ports ordered (lab configs rs links ds n ts begun stopped) → old.begun ≡ false → HasCircuit old i circuit
     → first ≡ get_or configs i first → config ≡ get_or configs i config → slice ≡ first.circuits → from ≡ circuit → item ≡ get_or slice (from - 1) item → changed ≡ item → (IsCircuit item → IsCircuit (change item))
     → setup_config ≡ with_circuit_at config (from - 1) (change changed) → setup_router ≡ router_of (with_circuit_at config (from - 1) (change changed)) → IsReached setup_router → configs_now ≡ with_nth configs i setup_config → rs_now ≡ with_nth rs i setup_router
-    → IsNet ports ordered (lab configs_now rs_now links ds n begun stopped) × (lab configs_now rs_now links ds n begun stopped ≡ reconfigured old i (with_changed change circuit))
-change-setup change ports ordered links configs configs_now rs rs_now ds n begun stopped old i circuit from first config setup_config setup_router slice item changed is h b there e1 e2 sl fr it ch fits sc sr reached cn rn = (
-  config-new ports ordered links configs configs_now rs rs_now ds n begun stopped i config new h begun_is at fit (length-with config.circuits (circuit - 1) (change item)) configs_are routers_are,
-  config-view links configs configs_now rs rs_now ds n begun stopped old i new is configs_are routers_are ∙ sym (config-is old i circuit change config item (ap (λ (l : LabNet). nth l.configs i) (sym is) ∙ at) here),
+    → IsNet ports ordered (lab configs_now rs_now links ds n ts begun stopped) × (lab configs_now rs_now links ds n ts begun stopped ≡ reconfigured old i (with_changed change circuit))
+change-setup change ports ordered links configs configs_now rs rs_now ds n ts begun stopped old i circuit from first config setup_config setup_router slice item changed is h b there e1 e2 sl fr it ch fits sc sr reached cn rn = (
+  config-new ports ordered links configs configs_now rs rs_now ds n ts begun stopped i config new h begun_is at fit (length-with config.circuits (circuit - 1) (change item)) configs_are routers_are,
+  config-view links configs configs_now rs rs_now ds n ts begun stopped old i new is configs_are routers_are ∙ sym (config-is old i circuit change config item (ap (λ (l : LabNet). nth l.configs i) (sym is) ∙ at) here),
 )
   where
     inside : i < length configs
@@ -111,7 +112,7 @@ change-setup change ports ordered links configs configs_now rs rs_now ds n begun
     begun_is = ap (λ (l : LabNet). l.begun) is ∙ b
 
     old_fit : IsFit config
-    old_fit = fit-at ports ordered (lab configs rs links ds n begun stopped) i config h begun_is at
+    old_fit = fit-at ports ordered (lab configs rs links ds n ts begun stopped) i config h begun_is at
 
     fit : IsFit new
     fit = fit-with config (circuit - 1) (change item) old_fit (fits (all-at IsCircuit config.circuits (circuit - 1) item old_fit.valid.circuits here))

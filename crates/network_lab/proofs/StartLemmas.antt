@@ -2,9 +2,12 @@
 use Rattle.std.proofs.Common.{◌≡◌, ℕ, zero, suc, ◌<◌, ◌≤◌, ◌&&◌, Bool, true, false, List, [], ◌∷◌, map, length, Option, Some, None, IfSome, if◌then◌else◌, refl, sym, ap, ◌∙◌, subst}
 use Rattle.std.specs.List.{AllByRecursion}
 use Rattle.isis_base.specs.declared.level.Level.{Level}
+use Rattle.isis_base.specs.declared.level.Level.TheVariants as level
 use Rattle.isis_model.specs.Both.{at}
 use Rattle.isis_model.specs.Places.{nth}
-use Rattle.isis_model.specs.Routers.{Router}
+use Rattle.isis_model.specs.Routers.{Circuit, Router, book_of}
+use Rattle.isis_model.specs.Configs as model
+use Rattle.isis_model.specs.Starts.{start}
 use Rattle.isis_model.specs.AdjacencyLaws.{opens, is_point, bond_at, no_bond}
 use Rattle.router_desk.specs.declared.config.Config.{Config}
 use Rattle.router_core.specs.Reached.{IsReached}
@@ -14,12 +17,15 @@ use Rattle.network_model.specs.Networks.{Network}
 use Rattle.network_model.specs.Ports.{Port}
 use Rattle.network_model.specs.Counts.{ahead, flags}
 use Rattle.network_model.proofs.KeptLemmas.{fresh-kept, kept-claim, start-alone}
+use Rattle.network_agreement.specs.Origins.{HoldsNothing}
+use Rattle.network_agreement.proofs.OriginLemmas.{start-origins}
+use Rattle.network_agreement.proofs.SweepLemmas.{start-true}
 use Rattle.link_states.specs.LinkStates as link
 use Rattle.link_states.specs.LinkStates.{state_of, no_state}
 use Rattle.network_lab.specs.LabNets.{Seen, LabNet, router_of}
-use Rattle.network_lab.specs.Reached.{AreInRun, IsReachedNet, HasRun}
+use Rattle.network_lab.specs.Reached.{AreInRun, HoldNothing, IsReachedNet, HasRun}
 use Rattle.network_lab.specs.LabInside.{AreWired, AreApart, IsFit, IsSetUp, IsNet}
-use Rattle.network_lab.specs.Claims.{IsClaimed, IsEndIn}
+use Rattle.network_lab.specs.Claims.{AreClaimed, IsEndIn}
 use Rattle.link_states.specs.declared.state.LinkState.{LinkState}
 use Rattle.network_lab.specs.LinkStates.{pair_of, state_between, is_point_in, state_of_ends, state_of_pair, state_at, IsWithin, AreWithin}
 use Rattle.network_lab.proofs.PlaceLemmas.{some-same, nth-there, of-place}
@@ -38,6 +44,15 @@ configs-alone [] i r e place = absurd (cc)
 configs-alone (c ∷ configs) zero r e place = subst (λ (r : Router). bond_at r place ≡ no_bond) (some-same (router_of c) r e) (start-alone (config_of c) 1 (circuits_of c) place)
 configs-alone (c ∷ configs) (suc i) r e place = configs-alone configs i r e place
 
+start-empty : (config : model.Config) (boot : ℕ) (circuits : List Circuit) (level : Level) → (book_of (start config boot circuits) level).cells ≡ []
+start-empty config boot circuits level.One = refl
+start-empty config boot circuits level.Two = refl
+
+configs-empty : (configs : List Config) → HoldNothing (map router_of configs)
+configs-empty [] i r level e = absurd (cc)
+configs-empty (c ∷ configs) zero r level e = subst (λ (r : Router). (book_of r level).cells ≡ []) (some-same (router_of c) r e) (start-empty (config_of c) 1 (circuits_of c) level)
+configs-empty (c ∷ configs) (suc i) r level e = configs-empty configs i r level e
+
 abbrev opening : Seen → Network
 opening s = record { routers = s.routers; links = s.links; datagrams = []; injected = s.injected; past = []; takings = [] }
 
@@ -51,10 +66,19 @@ opening-reached configs s h w = record {
     alone = subst (λ (rs : List Router). (i : ℕ) (r : Router) → nth rs i ≡ Some r → (place : ℕ) → bond_at r place ≡ no_bond) (sym h.routers) (configs-alone configs);
     nothing = refl;
   });
+  origins = start-origins (opening s) nothing;
+  tells = start-true (opening s) nothing;
+  agreed = tt;
 }
   where
     all : AreInRun s.routers
     all = subst AreInRun (sym h.routers) (configs-run configs h.fit)
+
+    nothing : HoldsNothing (opening s)
+    nothing = record { empty = subst HoldNothing (sym h.routers) (configs-empty configs); nothing = refl }
+
+pub nothing-held : (ports : List (List ℕ)) (ordered : List (List End)) (a : LabNet) → IsNet ports ordered a → a.begun ≡ false → HoldNothing a.seen.routers
+nothing-held ports ordered a h early = subst HoldNothing (sym (h.setup early).routers) (configs-empty a.configs)
 
 pub has-run : (ports : List (List ℕ)) (ordered : List (List End)) (a : LabNet) → IsNet ports ordered a → a.stopped ≡ None → a.seen.injected ≡ 0 → HasRun a.seen
 has-run ports ordered a h going none = by a.begun refl
@@ -63,14 +87,14 @@ has-run ports ordered a h going none = by a.begun refl
     by true q = h.run q going none
     by false q = record {
       net = opening a.seen;
-      seen = ap (λ (ds : List _). record a.seen { sent = ds }) (sym (h.setup q).nothing);
+      seen = ap (λ (ds : List _). record a.seen { sent = ds; takings = [] }) (sym (h.setup q).nothing) ∙ ap (λ (ts : List _). record a.seen { takings = ts }) (sym (h.setup q).untaken);
       reached = opening-reached a.configs a.seen (h.setup q) h.wired;
     }
 
 -- ---- claims
 
-pub claimed-in : (s : Seen) → HasRun s → IsClaimed s
-claimed-in s h none link e f a b level up =
+pub links-in : (s : Seen) → HasRun s → AreClaimed s
+links-in s h none link e f a b level up =
     kept-claim h.net e f link a b level h.reached.kept (ap (λ (s : Seen). s.injected) h.seen ∙ none) (record {
       link_is = record {
         joins = record { ends = ap (λ (s : Seen). nth s.links link) h.seen ∙ up.ends; apart = up.apart };
@@ -88,12 +112,9 @@ claimed-in s h none link e f a b level up =
     far : nth h.net.routers f.router ≡ Some b
     far = ap (λ (s : Seen). nth s.routers f.router) h.seen ∙ up.far
 
-pub are-claimed : (ports : List (List ℕ)) (ordered : List (List End)) (a : LabNet) → IsNet ports ordered a → a.stopped ≡ None → IsClaimed a.seen
-are-claimed ports ordered a h going none = claimed-in a.seen (has-run ports ordered a h going none) none
-
 -- ---- numbers of links
 
-both-true : (a b : Bool) → (a && b) ≡ true → (a ≡ true) × (b ≡ true)
+pub both-true : (a b : Bool) → (a && b) ≡ true → (a ≡ true) × (b ≡ true)
 both-true true b e = (refl, e)
 both-true false b e = absurd (cc)
 
@@ -126,7 +147,7 @@ within-pair s h none l e f level at_l apart near far =
     by : (x y : Bool) → (at near.r.config.runs level && is_point (nth near.r.circuits e.place)) ≡ x → (at far.r.config.runs level && is_point (nth far.r.circuits f.place)) ≡ y
         → IsWithin (if x && y then state_of near.r e.place far.r f.place level else no_state)
     by true true t u = state-within near.r far.r e.place f.place level (λ up_e up_f.
-        let c = claimed-in s h none l p q near.r far.r level (record {
+        let c = links-in s h none l p q near.r far.r level (record {
           ends = at_l;
           apart = apart;
           near = near.at;

@@ -19,7 +19,7 @@ use Rattle.router_core.specs.Events as core
 use Rattle.router_core.specs.Events.{event_of}
 use Rattle.router_core.specs.Givens.{given}
 use Rattle.network_model.specs.declared.end.End.{End}
-use Rattle.network_model.specs.Networks.{Network, place_on, place_in, numbered, restarted}
+use Rattle.network_model.specs.Networks.{Taking, Network, place_on, place_in, numbered, restarted}
 use Rattle.network_model.specs.Runs as model
 use Rattle.network_model.specs.Runs.{taking, boot_of}
 use Rattle.network_lab.specs.declared.sent.SentDatagram.{SentDatagram}
@@ -28,10 +28,12 @@ use Rattle.network_lab.specs.declared.event.LabEvent.TheVariants as event
 use Rattle.network_lab.specs.declared.faults.LabFault.{LabFault}
 use Rattle.network_lab.specs.declared.faults.LabFault.TheVariants as fault
 use Rattle.network_lab.specs.declared.faults.LimitName.TheVariants as limit
-use Rattle.network_lab.specs.LabNets.{Seen, LabNet}
-use Rattle.network_lab.specs.LabEvents.{unless_changes, change_of}
+use Rattle.network_lab.specs.LabNets.{Seen, LabNet, seen_of}
+use Rattle.network_lab.specs.LabEvents.{refusal, after, unless_changes, change_of}
 use Rattle.network_lab.specs.LabCauses.{IsStop}
 use Rattle.network_lab.specs.LabInside.{counts_of, AreEndsThere, IsNet}
+use Rattle.network_lab.specs.declared.heard_range.HeardRange.{HeardRange}
+use Rattle.network_lab.specs.LabTakings.{kept_ranges, IsHeard}
 use Rattle.network_lab.specs.LabSteps.{moved_in, posted_in, StopCause, delivered_on, Taken, Ending, Done, Refused, Stopped}
 use Rattle.network_lab.proofs.PlaceLemmas.{nth-there, nth-less, nth-get, nth-map, of-place, to-place, some-same, length-with}
 use Rattle.network_lab.proofs.LinkLemmas.{all-at}
@@ -44,52 +46,52 @@ use Rattle.network_lab.proofs.LabLemmas.{net-goes}
 
 -- ---- a router takes an event
 
-view : List Config → List Router → List (List End) → List SentDatagram → ℕ → Bool → Option LabFault → LabNet
-view configs rs links ds n begun stopped = record {
+view : List Config → List Router → List (List End) → List SentDatagram → ℕ → List Taking → Bool → Option LabFault → LabNet
+view configs rs links ds n ts begun stopped = record {
   configs = configs;
-  seen = record { routers = rs; links = links; sent = ds; injected = n };
+  seen = record { routers = rs; links = links; sent = ds; injected = n; takings = ts };
   begun = begun;
   stopped = stopped;
 }
 
-taken-of : (configs : List Config) (rs now : List Router) (links : List (List End)) (ds sent : List SentDatagram) (n : ℕ) (begun : Bool) (i : ℕ) (link : Option ℕ) (event : NodeEvent) (res : Result (Unit {0}) LabFault) (r : Router)
-    → OnOk res (now ≡ with_nth rs i (step given r (event_of r event)).router) → OnOk res (sent ≡ ds ++ posted_in i link (event_of r event) r) → IfErr res (StopCause (length ds + length (posted_in i link (event_of r event) r))) → counts_of now ≡ counts_of rs
-    → Taken (view configs rs links ds n begun None) (view configs now links sent n true (result_err res)) (moved_in (view configs rs links ds n begun None).seen i link (event_of r event) r) res
+taken-of : (configs : List Config) (rs now : List Router) (links : List (List End)) (ds sent : List SentDatagram) (n : ℕ) (ts us : List Taking) (begun : Bool) (i : ℕ) (link : Option ℕ) (event : NodeEvent) (range : Option HeardRange) (res : Result (Unit {0}) LabFault) (r : Router)
+    → OnOk res (now ≡ with_nth rs i (step given r (event_of r event)).router) → OnOk res (sent ≡ ds ++ posted_in i link (event_of r event) r) → OnOk res (us ≡ kept_ranges range (step given r (event_of r event)) ++ ts) → IfErr res (StopCause (length ds + length (posted_in i link (event_of r event) r))) → counts_of now ≡ counts_of rs
+    → Taken (view configs rs links ds n ts begun None) (view configs now links sent n us true (result_err res)) (moved_in (view configs rs links ds n ts begun None).seen i link (event_of r event) r range) res
 unfolding view
-taken-of configs rs now links ds sent n begun i link event (Ok u) r a b c k = record {
-  done = both a b;
+taken-of configs rs now links ds sent n ts us begun i link event range (Ok u) r a b w c k = record {
+  done = both a b w;
   stop = tt;
   cause = tt;
   size = record { links = refl; routers = sym (length-map now (λ (r : Router). length r.circuits)) ∙ (ap length k ∙ length-map rs (λ (r : Router). length r.circuits)) };
 }
   where
-    both : {x y : List Router} {v w : List SentDatagram} → x ≡ y → v ≡ w → view configs x links v n true None ≡ view configs y links w n true None
-    both e f = cc
-taken-of configs rs now links ds sent n begun i link event (Err f) r a b c k = record {
+    both : {x y : List Router} {v w : List SentDatagram} {p q : List Taking} → x ≡ y → v ≡ w → p ≡ q → view configs x links v n p true None ≡ view configs y links w n q true None
+    both e f g = cc
+taken-of configs rs now links ds sent n ts us begun i link event range (Err f) r a b w c k = record {
   done = tt;
   stop = refl;
   cause = subst (λ (m : ℕ). StopCause m f) (sym (length-append ds (posted_in i link (event_of r event) r))) c;
   size = record { links = refl; routers = sym (length-map now (λ (r : Router). length r.circuits)) ∙ (ap length k ∙ length-map rs (λ (r : Router). length r.circuits)) };
 }
 
-pub take-ends : (configs : List Config) (rs now : List Router) (links : List (List End)) (ds sent : List SentDatagram) (n : ℕ) (begun : Bool) (stopped stop : Option LabFault) (old : LabNet) (i : ℕ) (link : Option ℕ) (event : NodeEvent) (res : Result (Unit {0}) LabFault)
-    → (record { configs = configs; seen = record { routers = rs; links = links; sent = ds; injected = n }; begun = begun; stopped = stopped }) ≡ old → old.stopped ≡ None
-    → OnOk res (IfSome (nth rs i) (λ r. now ≡ with_nth rs i (step given r (event_of r event)).router)) → OnOk res (IfSome (nth rs i) (λ r. sent ≡ ds ++ posted_in i link (event_of r event) r)) → IfErr res (λ f. IfSome (nth rs i) (λ r. StopCause (length ds + length (posted_in i link (event_of r event) r)) f))
+pub take-ends : (configs : List Config) (rs now : List Router) (links : List (List End)) (ds sent : List SentDatagram) (n : ℕ) (ts us : List Taking) (begun : Bool) (stopped stop : Option LabFault) (old : LabNet) (i : ℕ) (link : Option ℕ) (event : NodeEvent) (range : Option HeardRange) (res : Result (Unit {0}) LabFault)
+    → (record { configs = configs; seen = record { routers = rs; links = links; sent = ds; injected = n; takings = ts }; begun = begun; stopped = stopped }) ≡ old → old.stopped ≡ None
+    → OnOk res (IfSome (nth rs i) (λ r. now ≡ with_nth rs i (step given r (event_of r event)).router)) → OnOk res (IfSome (nth rs i) (λ r. sent ≡ ds ++ posted_in i link (event_of r event) r)) → OnOk res (IfSome (nth rs i) (λ r. us ≡ kept_ranges range (step given r (event_of r event)) ++ ts)) → IfErr res (λ f. IfSome (nth rs i) (λ r. StopCause (length ds + length (posted_in i link (event_of r event) r)) f))
     → counts_of now ≡ counts_of rs → stop ≡ result_err res
-    → IfSome (nth old.seen.routers i) (λ r. Taken old (record { configs = configs; seen = record { routers = now; links = links; sent = sent; injected = n }; begun = true; stopped = stop }) (moved_in old.seen i link (event_of r event) r) res)
+    → IfSome (nth old.seen.routers i) (λ r. Taken old (record { configs = configs; seen = record { routers = now; links = links; sent = sent; injected = n; takings = us }; begun = true; stopped = stop }) (moved_in old.seen i link (event_of r event) r range) res)
 unfolding view
-take-ends configs rs now links ds sent n begun stopped stop old i link event res is running a b c k s =
-    subst (λ (old : LabNet). IfSome (nth old.seen.routers i) (λ r. Taken old (record { configs = configs; seen = record { routers = now; links = links; sent = sent; injected = n }; begun = true; stopped = stop }) (moved_in old.seen i link (event_of r event) r) res)) (none ∙ is)
-    (subst (λ (stop : Option LabFault). IfSome (nth rs i) (λ r. Taken (view configs rs links ds n begun None) (view configs now links sent n true stop) (moved_in (view configs rs links ds n begun None).seen i link (event_of r event) r) res)) (sym s) (of (nth rs i) refl res a b c))
+take-ends configs rs now links ds sent n ts us begun stopped stop old i link event range res is running a b w c k s =
+    subst (λ (old : LabNet). IfSome (nth old.seen.routers i) (λ r. Taken old (record { configs = configs; seen = record { routers = now; links = links; sent = sent; injected = n; takings = us }; begun = true; stopped = stop }) (moved_in old.seen i link (event_of r event) r range) res)) (none ∙ is)
+    (subst (λ (stop : Option LabFault). IfSome (nth rs i) (λ r. Taken (view configs rs links ds n ts begun None) (view configs now links sent n us true stop) (moved_in (view configs rs links ds n ts begun None).seen i link (event_of r event) r range) res)) (sym s) (of (nth rs i) refl res a b w c))
   where
-    none : view configs rs links ds n begun None ≡ view configs rs links ds n begun stopped
-    none = ap (λ (x : Option LabFault). view configs rs links ds n begun x) (sym (ap (λ (l : LabNet). l.stopped) is ∙ running))
+    none : view configs rs links ds n ts begun None ≡ view configs rs links ds n ts begun stopped
+    none = ap (λ (x : Option LabFault). view configs rs links ds n ts begun x) (sym (ap (λ (l : LabNet). l.stopped) is ∙ running))
 
-    of : (o : Option Router) → nth rs i ≡ o → (res : Result (Unit {0}) LabFault) → OnOk res (IfSome o (λ r. now ≡ with_nth rs i (step given r (event_of r event)).router)) → OnOk res (IfSome o (λ r. sent ≡ ds ++ posted_in i link (event_of r event) r)) → IfErr res (λ f. IfSome o (λ r. StopCause (length ds + length (posted_in i link (event_of r event) r)) f))
-        → IfSome o (λ r. Taken (view configs rs links ds n begun None) (view configs now links sent n true (result_err res)) (moved_in (view configs rs links ds n begun None).seen i link (event_of r event) r) res)
-    of None q res a b c = tt
-    of (Some r) q (Ok u) a b c = taken-of configs rs now links ds sent n begun i link event (Ok u) r a b c k
-    of (Some r) q (Err f) a b c = taken-of configs rs now links ds sent n begun i link event (Err f) r a b c k
+    of : (o : Option Router) → nth rs i ≡ o → (res : Result (Unit {0}) LabFault) → OnOk res (IfSome o (λ r. now ≡ with_nth rs i (step given r (event_of r event)).router)) → OnOk res (IfSome o (λ r. sent ≡ ds ++ posted_in i link (event_of r event) r)) → OnOk res (IfSome o (λ r. us ≡ kept_ranges range (step given r (event_of r event)) ++ ts)) → IfErr res (λ f. IfSome o (λ r. StopCause (length ds + length (posted_in i link (event_of r event) r)) f))
+        → IfSome o (λ r. Taken (view configs rs links ds n ts begun None) (view configs now links sent n us true (result_err res)) (moved_in (view configs rs links ds n ts begun None).seen i link (event_of r event) r range) res)
+    of None q res a b w c = tt
+    of (Some r) q (Ok u) a b w c = taken-of configs rs now links ds sent n ts us begun i link event range (Ok u) r a b w c k
+    of (Some r) q (Err f) a b w c = taken-of configs rs now links ds sent n ts us begun i link event range (Err f) r a b w c k
 
 -- a datagram that is delivered is there
 heard : (a : Seen) (o : Option SentDatagram) (i link : ℕ) → delivered_on a o i ≡ Ok link → (x : SentDatagram) × (o ≡ Some x)
@@ -102,23 +104,23 @@ each-place : {A : Type 0} (Q : A → Type 0) (o : Option A) → ((x : A) → o �
 each-place Q None f = tt
 each-place Q (Some x) f = f x refl
 
-pub take-runs : (ports : List (List ℕ)) (ordered : List (List End)) (configs : List Config) (rs now : List Router) (links : List (List End)) (ds sent : List SentDatagram) (n : ℕ) (begun : Bool) (stopped stop : Option LabFault) (old : LabNet) (i : ℕ) (link : Option ℕ) (event : NodeEvent) (res : Result (Unit {0}) LabFault)
-    → (record { configs = configs; seen = record { routers = rs; links = links; sent = ds; injected = n }; begun = begun; stopped = stopped }) ≡ old → old.stopped ≡ None → i < length old.seen.routers
-    → IsNet ports ordered (record { configs = configs; seen = record { routers = rs; links = links; sent = ds; injected = n }; begun = begun; stopped = stopped })
-    → OnOk res (IfSome (nth rs i) (λ r. now ≡ with_nth rs i (step given r (event_of r event)).router)) → OnOk res (IfSome (nth rs i) (λ r. sent ≡ ds ++ posted_in i link (event_of r event) r)) → AreSmall sent → stop ≡ result_err res
-    → IfSome (nth old.seen.routers i) (λ r. Happen old.seen (moved_in old.seen i link (event_of r event) r))
-    → stop ≡ None → n ≡ 0 → HasRun (record { routers = now; links = links; sent = sent; injected = n })
-take-runs ports ordered configs rs now links ds sent n begun stopped stop old i link event (Err f) is running inside h a b small s happens going none = absurd (let clash = sym s ∙ going in cc)
-take-runs ports ordered configs rs now links ds sent n begun stopped stop old i link event (Ok u) is running inside h a b small s happens going none =
+pub take-runs : (ports : List (List ℕ)) (ordered : List (List End)) (configs : List Config) (rs now : List Router) (links : List (List End)) (ds sent : List SentDatagram) (n : ℕ) (ts us : List Taking) (begun : Bool) (stopped stop : Option LabFault) (old : LabNet) (i : ℕ) (link : Option ℕ) (event : NodeEvent) (range : Option HeardRange) (res : Result (Unit {0}) LabFault)
+    → (record { configs = configs; seen = record { routers = rs; links = links; sent = ds; injected = n; takings = ts }; begun = begun; stopped = stopped }) ≡ old → old.stopped ≡ None → i < length old.seen.routers
+    → IsNet ports ordered (record { configs = configs; seen = record { routers = rs; links = links; sent = ds; injected = n; takings = ts }; begun = begun; stopped = stopped })
+    → OnOk res (IfSome (nth rs i) (λ r. now ≡ with_nth rs i (step given r (event_of r event)).router)) → OnOk res (IfSome (nth rs i) (λ r. sent ≡ ds ++ posted_in i link (event_of r event) r)) → OnOk res (IfSome (nth rs i) (λ r. us ≡ kept_ranges range (step given r (event_of r event)) ++ ts)) → AreSmall sent → stop ≡ result_err res
+    → IfSome (nth old.seen.routers i) (λ r. Happen old.seen (moved_in old.seen i link (event_of r event) r range))
+    → stop ≡ None → n ≡ 0 → HasRun (record { routers = now; links = links; sent = sent; injected = n; takings = us })
+take-runs ports ordered configs rs now links ds sent n ts us begun stopped stop old i link event range (Err f) is running inside h a b w small s happens going none = absurd (let clash = sym s ∙ going in cc)
+take-runs ports ordered configs rs now links ds sent n ts us begun stopped stop old i link event range (Ok u) is running inside h a b w small s happens going none =
     run-goes later before.net before.reached
-    (subst (λ (x : Seen). Happens before.net x) (later-is) (subst (λ (x : Seen). Happens before.net (moved_in x i link (event_of r event) r)) (sym seen) (happened (ap (λ (x : Seen). x.injected) (sym seen) ∙ none) before.net (before.seen ∙ seen))))
+    (subst (λ (x : Seen). Happens before.net x) (later-is) (subst (λ (x : Seen). Happens before.net (moved_in x i link (event_of r event) r range)) (sym seen) (happened (ap (λ (x : Seen). x.injected) (sym seen) ∙ none) before.net (before.seen ∙ seen))))
     small none
   where
     later : Seen
-    later = record { routers = now; links = links; sent = sent; injected = n }
+    later = record { routers = now; links = links; sent = sent; injected = n; takings = us }
 
     first : Seen
-    first = record { routers = rs; links = links; sent = ds; injected = n }
+    first = record { routers = rs; links = links; sent = ds; injected = n; takings = ts }
 
     seen : first ≡ old.seen
     seen = ap (λ (l : LabNet). l.seen) is
@@ -135,54 +137,81 @@ take-runs ports ordered configs rs now links ds sent n begun stopped stop old i 
     at : nth rs i ≡ Some r
     at = ap (λ (x : Seen). nth x.routers i) seen ∙ there.1
 
-    happened : Happen old.seen (moved_in old.seen i link (event_of r event) r)
-    happened = of-place (λ r. Happen old.seen (moved_in old.seen i link (event_of r event) r)) (nth old.seen.routers i) r there.1 happens
+    happened : Happen old.seen (moved_in old.seen i link (event_of r event) r range)
+    happened = of-place (λ r. Happen old.seen (moved_in old.seen i link (event_of r event) r range)) (nth old.seen.routers i) r there.1 happens
 
-    both : {x y : List Router} {v w : List SentDatagram} → x ≡ y → v ≡ w → ◌≡◌ {A = Seen} (record { routers = x; links = links; sent = v; injected = n }) (record { routers = y; links = links; sent = w; injected = n })
-    both e f = cc
+    both : {x y : List Router} {v w : List SentDatagram} {p q : List Taking} → x ≡ y → v ≡ w → p ≡ q → ◌≡◌ {A = Seen} (record { routers = x; links = links; sent = v; injected = n; takings = p }) (record { routers = y; links = links; sent = w; injected = n; takings = q })
+    both e f g = cc
 
-    later-is : moved_in first i link (event_of r event) r ≡ later
-    later-is = sym (both (of-place (λ r. now ≡ with_nth rs i (step given r (event_of r event)).router) (nth rs i) r at a) (of-place (λ r. sent ≡ ds ++ posted_in i link (event_of r event) r) (nth rs i) r at b))
+    later-is : moved_in first i link (event_of r event) r range ≡ later
+    later-is = sym (both (of-place (λ r. now ≡ with_nth rs i (step given r (event_of r event)).router) (nth rs i) r at a) (of-place (λ r. sent ≡ ds ++ posted_in i link (event_of r event) r) (nth rs i) r at b)
+        (of-place (λ r. us ≡ kept_ranges range (step given r (event_of r event)) ++ ts) (nth rs i) r at w))
 
-pub take-goes : (ports : List (List ℕ)) (ordered : List (List End)) (configs : List Config) (rs now : List Router) (links : List (List End)) (ds sent : List SentDatagram) (n : ℕ) (begun : Bool) (stopped stop : Option LabFault) (old : LabNet) (i : ℕ) (link : Option ℕ) (event : NodeEvent) (res : Result (Unit {0}) LabFault)
-    → (record { configs = configs; seen = record { routers = rs; links = links; sent = ds; injected = n }; begun = begun; stopped = stopped }) ≡ old → old.stopped ≡ None → i < length old.seen.routers
-    → IsNet ports ordered (record { configs = configs; seen = record { routers = rs; links = links; sent = ds; injected = n }; begun = begun; stopped = stopped })
-    → OnOk res (IfSome (nth rs i) (λ r. now ≡ with_nth rs i (step given r (event_of r event)).router)) → OnOk res (IfSome (nth rs i) (λ r. sent ≡ ds ++ posted_in i link (event_of r event) r)) → AreSmall sent → stop ≡ result_err res
-    → IfSome (nth old.seen.routers i) (λ r. Happen old.seen (moved_in old.seen i link (event_of r event) r))
+pub take-goes : (ports : List (List ℕ)) (ordered : List (List End)) (configs : List Config) (rs now : List Router) (links : List (List End)) (ds sent : List SentDatagram) (n : ℕ) (ts us : List Taking) (begun : Bool) (stopped stop : Option LabFault) (old : LabNet) (i : ℕ) (link : Option ℕ) (event : NodeEvent) (range : Option HeardRange) (res : Result (Unit {0}) LabFault)
+    → (record { configs = configs; seen = record { routers = rs; links = links; sent = ds; injected = n; takings = ts }; begun = begun; stopped = stopped }) ≡ old → old.stopped ≡ None → i < length old.seen.routers
+    → IsNet ports ordered (record { configs = configs; seen = record { routers = rs; links = links; sent = ds; injected = n; takings = ts }; begun = begun; stopped = stopped })
+    → OnOk res (IfSome (nth rs i) (λ r. now ≡ with_nth rs i (step given r (event_of r event)).router)) → OnOk res (IfSome (nth rs i) (λ r. sent ≡ ds ++ posted_in i link (event_of r event) r)) → OnOk res (IfSome (nth rs i) (λ r. us ≡ kept_ranges range (step given r (event_of r event)) ++ ts)) → AreSmall sent → stop ≡ result_err res
+    → IfSome (nth old.seen.routers i) (λ r. Happen old.seen (moved_in old.seen i link (event_of r event) r range))
     → counts_of now ≡ counts_of rs → length sent ≤ 262144
-    → IsNet ports ordered (record { configs = configs; seen = record { routers = now; links = links; sent = sent; injected = n }; begun = true; stopped = stop })
-take-goes ports ordered configs rs now links ds sent n begun stopped stop old i link event res is running inside h a b small s happens counts few =
-    net-goes ports ordered (record { configs = configs; seen = record { routers = rs; links = links; sent = ds; injected = n }; begun = begun; stopped = stopped }) now sent n stop h counts few small
-    (take-runs ports ordered configs rs now links ds sent n begun stopped stop old i link event res is running inside h a b small s happens)
+    → IsNet ports ordered (record { configs = configs; seen = record { routers = now; links = links; sent = sent; injected = n; takings = us }; begun = true; stopped = stop })
+take-goes ports ordered configs rs now links ds sent n ts us begun stopped stop old i link event range res is running inside h a b w small s happens counts few =
+    net-goes ports ordered (record { configs = configs; seen = record { routers = rs; links = links; sent = ds; injected = n; takings = ts }; begun = begun; stopped = stopped }) now sent n us stop h counts few small
+    (take-runs ports ordered configs rs now links ds sent n ts us begun stopped stop old i link event range res is running inside h a b w small s happens)
 
 pub give-happens : (s : Seen) (rs : List Router) (i link place : ℕ) (e : NodeEvent) (octets : List ℕ) → rs ≡ s.routers → IfSome (nth rs i) (λ r. event_of r e ≡ taking r place octets)
-    → IfSome (nth s.routers i) (λ r. Happen s (moved_in s i (Some link) (taking r place octets) r)) → IfSome (nth s.routers i) (λ r. Happen s (moved_in s i (Some link) (event_of r e) r))
+    → IfSome (nth s.routers i) (λ r. Happen s (moved_in s i (Some link) (taking r place octets) r None)) → IfSome (nth s.routers i) (λ r. Happen s (moved_in s i (Some link) (event_of r e) r None))
 give-happens s rs i link place e octets same is h = of (nth s.routers i) (subst (λ (xs : List Router). IfSome (nth xs i) (λ r. event_of r e ≡ taking r place octets)) same is) h
   where
-    of : (o : Option Router) → IfSome o (λ r. event_of r e ≡ taking r place octets) → IfSome o (λ r. Happen s (moved_in s i (Some link) (taking r place octets) r)) → IfSome o (λ r. Happen s (moved_in s i (Some link) (event_of r e) r))
+    of : (o : Option Router) → IfSome o (λ r. event_of r e ≡ taking r place octets) → IfSome o (λ r. Happen s (moved_in s i (Some link) (taking r place octets) r None)) → IfSome o (λ r. Happen s (moved_in s i (Some link) (event_of r e) r None))
     of None q h = tt
-    of (Some r) q h = subst (λ (x : Event). Happen s (moved_in s i (Some link) x r)) (sym q) h
+    of (Some r) q h = subst (λ (x : Event). Happen s (moved_in s i (Some link) x r None)) (sym q) h
 
 -- ---- seconds and pulls
 
-pub tick-happens : (old : LabNet) (i : ℕ) → IfSome (nth old.seen.routers i) (λ r. Happen old.seen (moved_in old.seen i None Second r))
-tick-happens old i = each-place (λ r. Happen old.seen (moved_in old.seen i None Second r)) (nth old.seen.routers i)
+pub tick-happens : (old : LabNet) (i : ℕ) → IfSome (nth old.seen.routers i) (λ r. Happen old.seen (moved_in old.seen i None Second r None))
+tick-happens old i = each-place (λ r. Happen old.seen (moved_in old.seen i None Second r None)) (nth old.seen.routers i)
     (λ r q none net e. record { event = model.Tick i; fits = tt; seen = (tick-done old.seen i r q net e).1 })
 
 pub pull-happens : (old : LabNet) (i link circuit : ℕ) (o : Option ℕ) → o ≡ Some circuit → option_map (λ circuit. circuit - 1) o ≡ place_in (nth old.seen.links link) i
-    → IfSome (nth old.seen.routers i) (λ r. Happen old.seen (moved_in old.seen i (Some link) (Pull (circuit - 1)) r))
-pull-happens old i link circuit o q e = each-place (λ r. Happen old.seen (moved_in old.seen i (Some link) (Pull (circuit - 1)) r)) (nth old.seen.routers i)
+    → IfSome (nth old.seen.routers i) (λ r. Happen old.seen (moved_in old.seen i (Some link) (Pull (circuit - 1)) r None))
+pull-happens old i link circuit o q e = each-place (λ r. Happen old.seen (moved_in old.seen i (Some link) (Pull (circuit - 1)) r None)) (nth old.seen.routers i)
     (λ r at none net k. record { event = model.PullOn i link; fits = tt; seen = (pull-done old.seen link i (circuit - 1) r (sym e ∙ ap (option_map (λ circuit. circuit - 1)) q) at net k).1 })
 
-pub deliver-happens : (old : LabNet) (n i link circuit : ℕ) (o : Option ℕ) (octets : List ℕ) → delivered_on old.seen (numbered old.seen.sent n) i ≡ Ok link → o ≡ Some circuit → option_map (λ circuit. circuit - 1) o ≡ place_in (nth old.seen.links link) i
-    → ((x : SentDatagram) → numbered old.seen.sent n ≡ Some x → octets ≡ x.octets)
-    → IfSome (nth old.seen.routers i) (λ r. Happen old.seen (moved_in old.seen i (Some link) (taking r (circuit - 1) octets) r))
-deliver-happens old n i link circuit o octets d q e same = each-place (λ r. Happen old.seen (moved_in old.seen i (Some link) (taking r (circuit - 1) octets) r)) (nth old.seen.routers i)
-    (λ r at none net k. let x = heard old.seen (numbered old.seen.sent n) i link d in record {
-      event = model.Deliver n i;
-      fits = tt;
-      seen = (deliver-done old.seen n i link (circuit - 1) x.0 octets r (same x.0 x.1) x.1 d (sym e ∙ ap (option_map (λ circuit. circuit - 1)) q) at net k).1;
-    })
+-- what a router hears in the datagram of a number
+abbrev Hears : LabNet → ℕ → ℕ → ℕ → NodeEvent → Option HeardRange → Type 0
+Hears old n i circuit ev range =
+    IfSome (nth old.seen.routers i) (λ r. IfSome (nth old.seen.sent (n - 1)) (λ d. event_of r ev ≡ taking r (circuit - 1) d.octets))
+    × IfSome (nth old.seen.routers i) (λ r. IfSome (nth old.seen.sent (n - 1)) (λ d. IsHeard i (circuit - 1) r d range))
+
+numbered-nth : {A : Type 0} (xs : List A) (n : ℕ) (x : A) → numbered xs n ≡ Some x → nth xs (n - 1) ≡ Some x
+numbered-nth xs zero x e = absurd (cc)
+numbered-nth xs (suc n) x e = ap (nth xs) (less n) ∙ e
+  where
+    less : (n : ℕ) → suc n - 1 ≡ n
+    less n = omega arith
+
+-- a router takes a datagram that is delivered
+hears-done : (old : LabNet) (n i link circuit : ℕ) (o : Option ℕ) (ev : NodeEvent) (range : Option HeardRange) (r : Router) → delivered_on old.seen (numbered old.seen.sent n) i ≡ Ok link → o ≡ Some circuit → option_map (λ circuit. circuit - 1) o ≡ place_in (nth old.seen.links link) i
+    → Hears old n i circuit ev range → nth old.seen.routers i ≡ Some r → (net : Network) → seen_of net ≡ old.seen
+    → (refusal net (event.Deliver n i) ≡ None) × (seen_of (after net (event.Deliver n i)) ≡ moved_in old.seen i (Some link) (event_of r ev) r range)
+hears-done old n i link circuit o ev range r d q e hears at net k = (done.0, done.1 ∙ ap (λ (v : Event). moved_in old.seen i (Some link) v r range) (sym (at_r (λ r d. event_of r ev ≡ taking r (circuit - 1) d.octets) hears.0)))
+  where
+    x : (x : SentDatagram) × (numbered old.seen.sent n ≡ Some x)
+    x = heard old.seen (numbered old.seen.sent n) i link d
+
+    at_r : (P : Router → SentDatagram → Type 0) → IfSome (nth old.seen.routers i) (λ r. IfSome (nth old.seen.sent (n - 1)) (P r)) → P r x.0
+    at_r P h = of-place (P r) (nth old.seen.sent (n - 1)) x.0 (numbered-nth old.seen.sent n x.0 x.1)
+        (of-place (λ (r : Router). IfSome (nth old.seen.sent (n - 1)) (P r)) (nth old.seen.routers i) r at h)
+
+    done : (refusal net (event.Deliver n i) ≡ None) × (seen_of (after net (event.Deliver n i)) ≡ moved_in old.seen i (Some link) (taking r (circuit - 1) x.0.octets) r range)
+    done = deliver-done old.seen n i link (circuit - 1) x.0 r range (at_r (λ r d. IsHeard i (circuit - 1) r d range) hears.1) x.1 d (sym e ∙ ap (option_map (λ circuit. circuit - 1)) q) at net k
+
+pub deliver-happens : (old : LabNet) (n i link circuit : ℕ) (o : Option ℕ) (ev : NodeEvent) (range : Option HeardRange) → delivered_on old.seen (numbered old.seen.sent n) i ≡ Ok link → o ≡ Some circuit → option_map (λ circuit. circuit - 1) o ≡ place_in (nth old.seen.links link) i
+    → IfSome (nth old.seen.routers i) (λ r. IfSome (nth old.seen.sent (n - 1)) (λ d. event_of r ev ≡ taking r (circuit - 1) d.octets))
+    → IfSome (nth old.seen.routers i) (λ r. IfSome (nth old.seen.sent (n - 1)) (λ d. IsHeard i (circuit - 1) r d range))
+    → IfSome (nth old.seen.routers i) (λ r. Happen old.seen (moved_in old.seen i (Some link) (event_of r ev) r range))
+deliver-happens old n i link circuit o ev range d q e says hears = each-place (λ r. Happen old.seen (moved_in old.seen i (Some link) (event_of r ev) r range)) (nth old.seen.routers i)
+    (λ r at none net k. record { event = model.Deliver n i; fits = tt; seen = (hears-done old n i link circuit o ev range r d q e (says, hears) at net k).1 })
 
 pub inject-happens : (mid : LabNet) (n i : ℕ) (later : Router → Seen) → mid.seen.injected ≡ risen n → IfSome (nth mid.seen.routers i) (λ r. Happen mid.seen (later r))
 inject-happens mid n i later is = each-place (λ r. Happen mid.seen (later r)) (nth mid.seen.routers i) (λ r at none net k. absurd (risen-some n (sym is ∙ none)))
@@ -192,8 +221,8 @@ change-fits net i (change.Metric circuit metric) r q h = tt
 change-fits net i (change.Prefix prefix metric) r q h = to-place (λ (r : Router). core.FitsPrefix r (prefix_number prefix) metric) (nth net.routers i) r q h
 change-fits net i (change.Overload on) r q h = tt
 
-pub change-happens : (old : LabNet) (i : ℕ) (c : Change) (r : Router) → nth old.seen.routers i ≡ Some r → core.FitsChange r c → unless_changes (Some r) c ≡ None → IfSome (nth old.seen.routers i) (λ r. Happen old.seen (moved_in old.seen i None (core.change_of c) r))
-change-happens old i c r q fits h = to-place (λ (r : Router). Happen old.seen (moved_in old.seen i None (core.change_of c) r)) (nth old.seen.routers i) r q
+pub change-happens : (old : LabNet) (i : ℕ) (c : Change) (r : Router) → nth old.seen.routers i ≡ Some r → core.FitsChange r c → unless_changes (Some r) c ≡ None → IfSome (nth old.seen.routers i) (λ r. Happen old.seen (moved_in old.seen i None (core.change_of c) r None))
+change-happens old i c r q fits h = to-place (λ (r : Router). Happen old.seen (moved_in old.seen i None (core.change_of c) r None)) (nth old.seen.routers i) r q
     (λ none net e. record { event = change_of i c; fits = change-fits net i c r (ap (λ (s : Seen). nth s.routers i) e ∙ q) fits; seen = (change-done old.seen i c r q h net e).1 })
 
 pub restart-happens : (old : LabNet) (i : ℕ) (r : Router) → nth old.seen.routers i ≡ Some r → r.boot < 16777215 → Happen old.seen (record old.seen { routers = with_nth old.seen.routers i (restarted r) })
@@ -203,44 +232,44 @@ restart-happens old i r q b none net e = record {
   seen = (restart-done old.seen i r q b net e).1;
 }
 
-pub restart-goes : (ports : List (List ℕ)) (ordered : List (List End)) (configs : List Config) (rs now : List Router) (links : List (List End)) (ds : List SentDatagram) (n : ℕ) (begun : Bool) (stopped : Option LabFault) (i : ℕ) (r : Router)
-    → IsNet ports ordered (record { configs = configs; seen = record { routers = rs; links = links; sent = ds; injected = n }; begun = begun; stopped = stopped })
+pub restart-goes : (ports : List (List ℕ)) (ordered : List (List End)) (configs : List Config) (rs now : List Router) (links : List (List End)) (ds : List SentDatagram) (n : ℕ) (ts : List Taking) (begun : Bool) (stopped : Option LabFault) (i : ℕ) (r : Router)
+    → IsNet ports ordered (record { configs = configs; seen = record { routers = rs; links = links; sent = ds; injected = n; takings = ts }; begun = begun; stopped = stopped })
     → nth rs i ≡ Some r → r.boot < 16777215 → now ≡ with_nth rs i (restarted r) → counts_of now ≡ counts_of rs
-    → IsNet ports ordered (record { configs = configs; seen = record { routers = now; links = links; sent = ds; injected = n }; begun = true; stopped = stopped })
-restart-goes ports ordered configs rs now links ds n begun stopped i r h at b is counts = net-goes ports ordered whole now ds n stopped h counts h.few h.small runs
+    → IsNet ports ordered (record { configs = configs; seen = record { routers = now; links = links; sent = ds; injected = n; takings = ts }; begun = true; stopped = stopped })
+restart-goes ports ordered configs rs now links ds n ts begun stopped i r h at b is counts = net-goes ports ordered whole now ds n ts stopped h counts h.few h.small runs
   where
     whole : LabNet
-    whole = record { configs = configs; seen = record { routers = rs; links = links; sent = ds; injected = n }; begun = begun; stopped = stopped }
+    whole = record { configs = configs; seen = record { routers = rs; links = links; sent = ds; injected = n; takings = ts }; begun = begun; stopped = stopped }
 
-    runs : stopped ≡ None → n ≡ 0 → HasRun (record { routers = now; links = links; sent = ds; injected = n })
+    runs : stopped ≡ None → n ≡ 0 → HasRun (record { routers = now; links = links; sent = ds; injected = n; takings = ts })
     runs going none =
         let before = has-run ports ordered whole h going none in
-        run-goes (record { routers = now; links = links; sent = ds; injected = n }) before.net before.reached
-        (subst (λ (xs : List Router). Happens before.net (record { routers = xs; links = links; sent = ds; injected = n })) (sym is) (restart-happens whole i r at b none before.net before.seen)) h.small none
+        run-goes (record { routers = now; links = links; sent = ds; injected = n; takings = ts }) before.net before.reached
+        (subst (λ (xs : List Router). Happens before.net (record { routers = xs; links = links; sent = ds; injected = n; takings = ts })) (sym is) (restart-happens whole i r at b none before.net before.seen)) h.small none
 
-pub same-goes : (ports : List (List ℕ)) (ordered : List (List End)) (configs : List Config) (rs now : List Router) (links : List (List End)) (ds : List SentDatagram) (n : ℕ) (begun : Bool) (stopped : Option LabFault)
-    → IsNet ports ordered (record { configs = configs; seen = record { routers = rs; links = links; sent = ds; injected = n }; begun = begun; stopped = stopped })
+pub same-goes : (ports : List (List ℕ)) (ordered : List (List End)) (configs : List Config) (rs now : List Router) (links : List (List End)) (ds : List SentDatagram) (n : ℕ) (ts : List Taking) (begun : Bool) (stopped : Option LabFault)
+    → IsNet ports ordered (record { configs = configs; seen = record { routers = rs; links = links; sent = ds; injected = n; takings = ts }; begun = begun; stopped = stopped })
     → now ≡ rs
-    → IsNet ports ordered (record { configs = configs; seen = record { routers = now; links = links; sent = ds; injected = n }; begun = true; stopped = stopped })
-same-goes ports ordered configs rs now links ds n begun stopped h is = net-goes ports ordered whole now ds n stopped h (ap counts_of is) h.few h.small
-    (λ going none. subst (λ (xs : List Router). HasRun (record { routers = xs; links = links; sent = ds; injected = n })) (sym is) (has-run ports ordered whole h going none))
+    → IsNet ports ordered (record { configs = configs; seen = record { routers = now; links = links; sent = ds; injected = n; takings = ts }; begun = true; stopped = stopped })
+same-goes ports ordered configs rs now links ds n ts begun stopped h is = net-goes ports ordered whole now ds n ts stopped h (ap counts_of is) h.few h.small
+    (λ going none. subst (λ (xs : List Router). HasRun (record { routers = xs; links = links; sent = ds; injected = n; takings = ts })) (sym is) (has-run ports ordered whole h going none))
   where
     whole : LabNet
-    whole = record { configs = configs; seen = record { routers = rs; links = links; sent = ds; injected = n }; begun = begun; stopped = stopped }
+    whole = record { configs = configs; seen = record { routers = rs; links = links; sent = ds; injected = n; takings = ts }; begun = begun; stopped = stopped }
 
-pub tick-ends : (old new : LabNet) (i : ℕ) (res : Result (Unit {0}) LabFault) → i < length old.seen.routers → old.stopped ≡ None → IfSome (nth old.seen.routers i) (λ r. Taken old new (moved_in old.seen i None Second r) res) → Ending (event.Tick i) old new res
+pub tick-ends : (old new : LabNet) (i : ℕ) (res : Result (Unit {0}) LabFault) → i < length old.seen.routers → old.stopped ≡ None → IfSome (nth old.seen.routers i) (λ r. Taken old new (moved_in old.seen i None Second r None) res) → Ending (event.Tick i) old new res
 tick-ends old new i res h running t =
     let there = nth-there old.seen.routers i h in
-    taken-ends (event.Tick i) old new (moved_in old.seen i None Second there.0) res running (of-place (λ r. Taken old new (moved_in old.seen i None Second r) res) (nth old.seen.routers i) there.0 there.1 t) (tick-done old.seen i there.0 there.1)
+    taken-ends (event.Tick i) old new (moved_in old.seen i None Second there.0 None) res running (of-place (λ r. Taken old new (moved_in old.seen i None Second r None) res) (nth old.seen.routers i) there.0 there.1 t) (tick-done old.seen i there.0 there.1)
 
 pub pull-off-ends : (old : LabNet) (i link : ℕ) (o : Option ℕ) → o ≡ None → option_map (λ circuit. circuit - 1) o ≡ place_in (nth old.seen.links link) i → Ending (event.Pull i link) old old (Err fault.NotOn)
 pull-off-ends old i link o q e = Refused fault.NotOn refl refl (λ s. s) (λ net s. pull-off old.seen link i (sym e ∙ ap (option_map (λ circuit. circuit - 1)) q) net s.seen)
 
 pub pull-ends : (old new : LabNet) (i link circuit : ℕ) (o : Option ℕ) (res : Result (Unit {0}) LabFault) → i < length old.seen.routers → old.stopped ≡ None → o ≡ Some circuit → option_map (λ circuit. circuit - 1) o ≡ place_in (nth old.seen.links link) i
-    → IfSome (nth old.seen.routers i) (λ r. Taken old new (moved_in old.seen i (Some link) (Pull (circuit - 1)) r) res) → Ending (event.Pull i link) old new res
+    → IfSome (nth old.seen.routers i) (λ r. Taken old new (moved_in old.seen i (Some link) (Pull (circuit - 1)) r None) res) → Ending (event.Pull i link) old new res
 pull-ends old new i link circuit o res h running q e t =
     let there = nth-there old.seen.routers i h in
-    taken-ends (event.Pull i link) old new (moved_in old.seen i (Some link) (Pull (circuit - 1)) there.0) res running (of-place (λ r. Taken old new (moved_in old.seen i (Some link) (Pull (circuit - 1)) r) res) (nth old.seen.routers i) there.0 there.1 t)
+    taken-ends (event.Pull i link) old new (moved_in old.seen i (Some link) (Pull (circuit - 1)) there.0 None) res running (of-place (λ r. Taken old new (moved_in old.seen i (Some link) (Pull (circuit - 1)) r None) res) (nth old.seen.routers i) there.0 there.1 t)
     (pull-done old.seen link i (circuit - 1) there.0 (sym e ∙ ap (option_map (λ circuit. circuit - 1)) q) there.1)
 
 -- ---- deliveries
@@ -269,14 +298,14 @@ deliver-stops old new n i link circuit o res h q e bad is =
     Stopped fault.OutOfMemory bad (ap (λ (a : LabNet). a.stopped) is) (record { links = ap (λ (a : LabNet). a.seen.links) is; routers = ap (λ (a : LabNet). length a.seen.routers) is })
     (λ net s. (deliver-on old.seen n i link (circuit - 1) x.0 x.1 h (sym e ∙ ap (option_map (λ circuit. circuit - 1)) q) net s.seen, tt))
 
-pub deliver-ends : (old new : LabNet) (n i link circuit : ℕ) (o : Option ℕ) (octets : List ℕ) (res : Result (Unit {0}) LabFault) → i < length old.seen.routers → old.stopped ≡ None → delivered_on old.seen (numbered old.seen.sent n) i ≡ Ok link → o ≡ Some circuit → option_map (λ circuit. circuit - 1) o ≡ place_in (nth old.seen.links link) i
-    → ((x : SentDatagram) → numbered old.seen.sent n ≡ Some x → octets ≡ x.octets)
-    → IfSome (nth old.seen.routers i) (λ r. Taken old new (moved_in old.seen i (Some link) (taking r (circuit - 1) octets) r) res) → Ending (event.Deliver n i) old new res
-deliver-ends old new n i link circuit o octets res h running d q e same t =
+pub deliver-ends : (old new : LabNet) (n i link circuit : ℕ) (o : Option ℕ) (ev : NodeEvent) (range : Option HeardRange) (res : Result (Unit {0}) LabFault) → i < length old.seen.routers → old.stopped ≡ None → delivered_on old.seen (numbered old.seen.sent n) i ≡ Ok link → o ≡ Some circuit → option_map (λ circuit. circuit - 1) o ≡ place_in (nth old.seen.links link) i
+    → IfSome (nth old.seen.routers i) (λ r. IfSome (nth old.seen.sent (n - 1)) (λ d. event_of r ev ≡ taking r (circuit - 1) d.octets))
+    → IfSome (nth old.seen.routers i) (λ r. IfSome (nth old.seen.sent (n - 1)) (λ d. IsHeard i (circuit - 1) r d range))
+    → IfSome (nth old.seen.routers i) (λ r. Taken old new (moved_in old.seen i (Some link) (event_of r ev) r range) res) → Ending (event.Deliver n i) old new res
+deliver-ends old new n i link circuit o ev range res h running d q e says hears t =
     let there = nth-there old.seen.routers i h in
-    let x = heard old.seen (numbered old.seen.sent n) i link d in
-    taken-ends (event.Deliver n i) old new (moved_in old.seen i (Some link) (taking there.0 (circuit - 1) octets) there.0) res running (of-place (λ r. Taken old new (moved_in old.seen i (Some link) (taking r (circuit - 1) octets) r) res) (nth old.seen.routers i) there.0 there.1 t)
-    (deliver-done old.seen n i link (circuit - 1) x.0 octets there.0 (same x.0 x.1) x.1 d (sym e ∙ ap (option_map (λ circuit. circuit - 1)) q) there.1)
+    taken-ends (event.Deliver n i) old new (moved_in old.seen i (Some link) (event_of there.0 ev) there.0 range) res running (of-place (λ r. Taken old new (moved_in old.seen i (Some link) (event_of r ev) r range) res) (nth old.seen.routers i) there.0 there.1 t)
+    (hears-done old n i link circuit o ev range there.0 d q e (says, hears) there.1)
 
 -- ---- injections
 
@@ -285,9 +314,9 @@ inject-off-ends old i link octets o q e = Refused fault.NotOn refl refl (λ s. s
 
 pub inject-ends : (old mid new : LabNet) (i link circuit : ℕ) (octets : List ℕ) (o : Option ℕ) (res : Result (Unit {0}) LabFault) → i < length old.seen.routers → old.stopped ≡ None → o ≡ Some circuit → option_map (λ circuit. circuit - 1) o ≡ place_in (nth old.seen.links link) i
     → mid ≡ record old { seen = record old.seen { injected = risen old.seen.injected }; begun = true }
-    → IfSome (nth mid.seen.routers i) (λ r. Taken mid new (moved_in mid.seen i (Some link) (taking r (circuit - 1) octets) r) res) → Ending (event.Inject i link octets) old new res
+    → IfSome (nth mid.seen.routers i) (λ r. Taken mid new (moved_in mid.seen i (Some link) (taking r (circuit - 1) octets) r None) res) → Ending (event.Inject i link octets) old new res
 inject-ends old mid new i link circuit octets o res h running q e m t =
-    ends-of (taken-ends-of res (of-place (λ r. Taken (risen-of) new (moved_in (risen-of).seen i (Some link) (taking r (circuit - 1) octets) r) res) (nth old.seen.routers i) there.0 there.1 (subst (λ (m : LabNet). IfSome (nth m.seen.routers i) (λ r. Taken m new (moved_in m.seen i (Some link) (taking r (circuit - 1) octets) r) res)) m t)))
+    ends-of (taken-ends-of res (of-place (λ r. Taken (risen-of) new (moved_in (risen-of).seen i (Some link) (taking r (circuit - 1) octets) r None) res) (nth old.seen.routers i) there.0 there.1 (subst (λ (m : LabNet). IfSome (nth m.seen.routers i) (λ r. Taken m new (moved_in m.seen i (Some link) (taking r (circuit - 1) octets) r None) res)) m t)))
   where
     there : (x : Router) × (nth old.seen.routers i ≡ Some x)
     there = nth-there old.seen.routers i h
@@ -296,7 +325,7 @@ inject-ends old mid new i link circuit octets o res h running q e m t =
     risen-of = record old { seen = record old.seen { injected = risen old.seen.injected }; begun = true }
 
     seen : Seen
-    seen = moved_in (risen-of).seen i (Some link) (taking there.0 (circuit - 1) octets) there.0
+    seen = moved_in (risen-of).seen i (Some link) (taking there.0 (circuit - 1) octets) there.0 None
 
     -- the same from the network before
     taken-ends-of : (res : Result (Unit {0}) LabFault) → Taken risen-of new seen res → Taken old new seen res
@@ -337,9 +366,9 @@ pub change-off-ends : (old : LabNet) (i : ℕ) (c : Change) (r : Router) (f : La
 change-off-ends old i c r f q h = Refused f refl refl (subst (λ (o : Option LabFault). IfSome o (λ f. IsStop f → ⊥)) h (calm-change r c)) (λ net s. change-off old.seen i c r f q h net s.seen)
 
 pub change-ends : (old new : LabNet) (i : ℕ) (c : Change) (r : Router) (res : Result (Unit {0}) LabFault) → old.stopped ≡ None → nth old.seen.routers i ≡ Some r → unless_changes (Some r) c ≡ None
-    → IfSome (nth old.seen.routers i) (λ r. Taken old new (moved_in old.seen i None (core.change_of c) r) res) → Ending (event.Change i c) old new res
+    → IfSome (nth old.seen.routers i) (λ r. Taken old new (moved_in old.seen i None (core.change_of c) r None) res) → Ending (event.Change i c) old new res
 change-ends old new i c r res running q h t =
-    taken-ends (event.Change i c) old new (moved_in old.seen i None (core.change_of c) r) res running (of-place (λ r. Taken old new (moved_in old.seen i None (core.change_of c) r) res) (nth old.seen.routers i) r q t) (change-done old.seen i c r q h)
+    taken-ends (event.Change i c) old new (moved_in old.seen i None (core.change_of c) r None) res running (of-place (λ r. Taken old new (moved_in old.seen i None (core.change_of c) r None) res) (nth old.seen.routers i) r q t) (change-done old.seen i c r q h)
 
 -- ---- what an answer is made of
 
@@ -358,47 +387,38 @@ pub ok-claimed : (new : LabNet) (res : Result (Unit {0}) LabFault) → OnOk res 
 ok-claimed new (Ok u) going f = f going
 ok-claimed new (Err e) going f = tt
 
-numbered-nth : {A : Type 0} (xs : List A) (n : ℕ) (x : A) → numbered xs n ≡ Some x → nth xs (n - 1) ≡ Some x
-numbered-nth xs zero x e = absurd (cc)
-numbered-nth xs (suc n) x e = ap (nth xs) (less n) ∙ e
-  where
-    less : (n : ℕ) → suc n - 1 ≡ n
-    less n = omega arith
-
 pub delivered-there : (a : Seen) (n i link : ℕ) → delivered_on a (numbered a.sent n) i ≡ Ok link → n - 1 < length a.sent
 delivered-there a n i link h = let x = heard a (numbered a.sent n) i link h in nth-less a.sent (n - 1) x.0 (numbered-nth a.sent n x.0 x.1)
 
--- the octets of the datagram that an index gives
-pub octets-same : (xs sent : List SentDatagram) (n : ℕ) (y : SentDatagram) (octets : List ℕ) → xs ≡ sent → y ≡ get_or xs (n - 1) y → octets ≡ y.octets → (x : SentDatagram) → numbered sent n ≡ Some x → octets ≡ x.octets
-octets-same xs sent n y octets same e o x q =
-    let there : nth xs (n - 1) ≡ Some x = numbered-nth xs n x (ap (λ (s : List SentDatagram). numbered s n) same ∙ q) in
-    o ∙ ap (λ (d : SentDatagram). d.octets) (some-same y x (sym (nth-get xs (n - 1) y (nth-less xs (n - 1) x there) e) ∙ there))
+pub delivered-number : (a : Seen) (n i link : ℕ) → delivered_on a (numbered a.sent n) i ≡ Ok link → 1 ≤ n
+delivered-number a zero i link h = absurd (cc)
+delivered-number a (suc n) i link h = omega arith
 
 -- a router by its place
 pub here : (rs : List Router) (old : LabNet) (i : ℕ) (r : Router) → rs ≡ old.seen.routers → i < length old.seen.routers → r ≡ get_or rs i r → nth old.seen.routers i ≡ Some r
 here rs old i r same h e = ap (λ (xs : List Router). nth xs i) (sym same) ∙ nth-get rs i r (subst (λ (xs : List Router). i < length xs) (sym same) h) e
 
-pub restart-is : (configs : List Config) (rs now : List Router) (links : List (List End)) (ds : List SentDatagram) (n : ℕ) (begun : Bool) (stopped : Option LabFault) (old : LabNet) (i : ℕ) (r : Router)
-    → (record { configs = configs; seen = record { routers = rs; links = links; sent = ds; injected = n }; begun = begun; stopped = stopped }) ≡ old → now ≡ with_nth rs i (restarted r)
-    → (record { configs = configs; seen = record { routers = now; links = links; sent = ds; injected = n }; begun = true; stopped = stopped }) ≡ record old { seen = record old.seen { routers = with_nth old.seen.routers i (restarted r) }; begun = true }
+pub restart-is : (configs : List Config) (rs now : List Router) (links : List (List End)) (ds : List SentDatagram) (n : ℕ) (ts : List Taking) (begun : Bool) (stopped : Option LabFault) (old : LabNet) (i : ℕ) (r : Router)
+    → (record { configs = configs; seen = record { routers = rs; links = links; sent = ds; injected = n; takings = ts }; begun = begun; stopped = stopped }) ≡ old → now ≡ with_nth rs i (restarted r)
+    → (record { configs = configs; seen = record { routers = now; links = links; sent = ds; injected = n; takings = ts }; begun = true; stopped = stopped }) ≡ record old { seen = record old.seen { routers = with_nth old.seen.routers i (restarted r) }; begun = true }
 unfolding view
-restart-is configs rs now links ds n begun stopped old i r is e =
-    ap (λ (xs : List Router). view configs xs links ds n true stopped) e ∙ ap (λ (l : LabNet). record l { seen = record l.seen { routers = with_nth l.seen.routers i (restarted r) }; begun = true }) is
+restart-is configs rs now links ds n ts begun stopped old i r is e =
+    ap (λ (xs : List Router). view configs xs links ds n ts true stopped) e ∙ ap (λ (l : LabNet). record l { seen = record l.seen { routers = with_nth l.seen.routers i (restarted r) }; begun = true }) is
 
-pub stop-is : (configs : List Config) (rs now : List Router) (links : List (List End)) (ds : List SentDatagram) (n : ℕ) (begun : Bool) (stopped : Option LabFault) (old new : LabNet)
-    → (record { configs = configs; seen = record { routers = rs; links = links; sent = ds; injected = n }; begun = begun; stopped = stopped }) ≡ old → now ≡ rs
-    → new ≡ record { configs = configs; seen = record { routers = now; links = links; sent = ds; injected = n }; begun = true; stopped = Some fault.OutOfMemory }
+pub stop-is : (configs : List Config) (rs now : List Router) (links : List (List End)) (ds : List SentDatagram) (n : ℕ) (ts : List Taking) (begun : Bool) (stopped : Option LabFault) (old new : LabNet)
+    → (record { configs = configs; seen = record { routers = rs; links = links; sent = ds; injected = n; takings = ts }; begun = begun; stopped = stopped }) ≡ old → now ≡ rs
+    → new ≡ record { configs = configs; seen = record { routers = now; links = links; sent = ds; injected = n; takings = ts }; begun = true; stopped = Some fault.OutOfMemory }
     → new ≡ record old { begun = true; stopped = Some fault.OutOfMemory }
 unfolding view
-stop-is configs rs now links ds n begun stopped old new is e q =
-    q ∙ (ap (λ (xs : List Router). view configs xs links ds n true (Some fault.OutOfMemory)) e ∙ ap (λ (l : LabNet). record l { begun = true; stopped = Some fault.OutOfMemory }) is)
+stop-is configs rs now links ds n ts begun stopped old new is e q =
+    q ∙ (ap (λ (xs : List Router). view configs xs links ds n ts true (Some fault.OutOfMemory)) e ∙ ap (λ (l : LabNet). record l { begun = true; stopped = Some fault.OutOfMemory }) is)
 
-pub inject-is : (configs : List Config) (rs : List Router) (links : List (List End)) (ds : List SentDatagram) (n m : ℕ) (begun : Bool) (stopped : Option LabFault) (old : LabNet)
-    → (record { configs = configs; seen = record { routers = rs; links = links; sent = ds; injected = n }; begun = begun; stopped = stopped }) ≡ old → m ≡ risen n
-    → (record { configs = configs; seen = record { routers = rs; links = links; sent = ds; injected = m }; begun = true; stopped = stopped }) ≡ record old { seen = record old.seen { injected = risen old.seen.injected }; begun = true }
+pub inject-is : (configs : List Config) (rs : List Router) (links : List (List End)) (ds : List SentDatagram) (n m : ℕ) (ts : List Taking) (begun : Bool) (stopped : Option LabFault) (old : LabNet)
+    → (record { configs = configs; seen = record { routers = rs; links = links; sent = ds; injected = n; takings = ts }; begun = begun; stopped = stopped }) ≡ old → m ≡ risen n
+    → (record { configs = configs; seen = record { routers = rs; links = links; sent = ds; injected = m; takings = ts }; begun = true; stopped = stopped }) ≡ record old { seen = record old.seen { injected = risen old.seen.injected }; begun = true }
 unfolding view
-inject-is configs rs links ds n m begun stopped old is e =
-    ap (λ (k : ℕ). view configs rs links ds k true stopped) e ∙ ap (λ (l : LabNet). record l { seen = record l.seen { injected = risen l.seen.injected }; begun = true }) is
+inject-is configs rs links ds n m ts begun stopped old is e =
+    ap (λ (k : ℕ). view configs rs links ds k ts true stopped) e ∙ ap (λ (l : LabNet). record l { seen = record l.seen { injected = risen l.seen.injected }; begun = true }) is
 
 -- ---- a circuit of a link
 

@@ -1,4 +1,5 @@
--- What is claimed of the links of a network (ISO 10589 7.3.17, RFC 5303 3.2; the words: own).
+-- What is claimed of the links of a network, and of the routers that they join (ISO 10589 7.3.17, RFC 5303
+-- 3.2; the words: own).
 use Rattle.std.specs.Prelude.{◌≡◌, ◌≢◌, ℕ, ◌<◌, true, List, [], ◌∷◌, length, Some}
 use Rattle.std.specs.List.{AllByRecursion}
 use Rattle.isis_base.specs.declared.level.Level.{Level}
@@ -10,6 +11,7 @@ use Rattle.network_model.specs.Ports.{Port}
 use Rattle.network_model.specs.Links.{IsUp}
 use Rattle.network_model.specs.Kept.{IsClaimedOf}
 use Rattle.network_lab.specs.LabNets.{Seen}
+use Rattle.network_lab.specs.Agreements.{AreAgreeing}
 
 -- a point-to-point link of two routers that is up at a level (own)
 pub record IsUpLink (s : Seen) (link : ℕ) (e f : Port) (a b : Router) (level : Level) : Type 0 where
@@ -27,9 +29,14 @@ pub record IsUpLink (s : Seen) (link : ℕ) (e f : Port) (a b : Router) (level :
 -- where nothing was injected, each end of every link that is up names the other, and what one end
 -- holds the other holds as new or newer, or its SRM flag stands; so no end is ahead in more LSP IDs
 -- than its flags (own)
-abbrev pub IsClaimed : Seen → Type 0
-IsClaimed s = s.injected ≡ 0 → (link : ℕ) (e f : Port) (a b : Router) (level : Level)
+abbrev pub AreClaimed : Seen → Type 0
+AreClaimed s = s.injected ≡ 0 → (link : ℕ) (e f : Port) (a b : Router) (level : Level)
     → IsUpLink s link e f a b level → IsClaimedOf e f a b level
+
+-- what is claimed of links, and that routers of one group agree (own)
+pub record IsClaimed (s : Seen) : Type 0 where
+  pub links : AreClaimed s
+  pub groups : AreAgreeing s
 
 -- an end of a link is there: its router, and the router's circuit (own)
 pub record IsEndIn (routers : List Router) (e : End) : Type 0 where

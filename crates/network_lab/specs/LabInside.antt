@@ -20,6 +20,7 @@ seen_in a = record {
   links = a.links.items;
   sent = a.sent.items;
   injected = a.injected;
+  takings = a.sweeps;
 }
 
 -- the network that the fields stand for
@@ -68,6 +69,7 @@ pub record IsSetUp (configs : List Config) (seen : Seen) : Type 0 where
   pub routers : seen.routers ≡ map router_of configs
   pub nothing : seen.sent ≡ []
   pub none : seen.injected ≡ 0
+  pub untaken : seen.takings ≡ []
 
 -- Routers, configurations and links have the same circuits; a link joins different routers, and the ends
 -- of each are at hand in order of their routers too; not too much was sent; and in a run that wasn't

@@ -3,6 +3,7 @@ use Rattle.std.specs.Prelude.{◌≡◌, ◌≢◌, ℕ, ◌-◌, Bool, false, L
 use Rattle.std.specs.List.{AllByRecursion}
 use Rattle.isis_base.specs.declared.level.CircuitKind.{CircuitKind}
 use Rattle.isis_base.specs.declared.level.CircuitKind.TheVariants.{PointToPoint, Lan}
+use Rattle.isis_model.specs.Both.{Both}
 use Rattle.isis_model.specs.Places.{nth, with_nth}
 use Rattle.isis_model.specs.Routers.{Router}
 use Rattle.isis_model.specs.Starts.{start}
@@ -10,17 +11,20 @@ use Rattle.router_desk.specs.declared.circuit_config.CircuitConfig.{CircuitConfi
 use Rattle.router_desk.specs.declared.config.Config.{Config}
 use Rattle.router_desk.specs.Configs.{config_of, circuits_of}
 use Rattle.network_model.specs.declared.end.End.{End}
-use Rattle.network_model.specs.Networks.{Datagram, octets_of, Network}
+use Rattle.network_model.specs.Networks.{Datagram, octets_of, Taking, Network}
 use Rattle.network_lab.specs.declared.faults.LabFault.{LabFault}
+use Rattle.network_lab.specs.declared.sent.Changes.{Changes}
 use Rattle.network_lab.specs.declared.sent.SentDatagram.{SentDatagram}
 
 -- What is seen of a network: the routers, the links and LANs by their ends, the datagrams that were
--- sent, in order, and how many were injected (own).
+-- sent, in order, how many were injected, and the ranges of CSNPs that were taken cleanly on LANs, the
+-- latest first (own).
 pub record Seen : Type 0 where
   pub routers : List Router
   pub links : List (List End)
   pub sent : List SentDatagram
   pub injected : ℕ
+  pub takings : List Taking
 
 -- A network in its run: the configurations that it was set up with, what is seen of it, whether an
 -- event was applied, and the fault that stopped it, if any (own).
@@ -32,9 +36,20 @@ pub record LabNet : Type 0 where
 
 -- ---- networks that it stands for
 
--- a datagram as it was sent: its sender, the sender's boot, its link and its octets (own)
+-- counts of changed keys, level by level (own)
+abbrev pub counts_in : Both ℕ → Changes
+counts_in changes = record { one = changes.one; two = changes.two }
+
+-- a datagram as it was sent: its sender, the sender's boot and counts of changed keys, its link and its
+-- octets (own)
 abbrev pub sent_of : Datagram → SentDatagram
-sent_of d = record { sender = d.sender; boot = d.boot; link = d.link; octets = octets_of d }
+sent_of d = record {
+  sender = d.sender;
+  boot = d.boot;
+  changes = counts_in d.changes;
+  link = d.link;
+  octets = octets_of d;
+}
 
 -- what is seen of a network of the model (own)
 abbrev pub seen_of : Network → Seen
@@ -43,6 +58,7 @@ seen_of net = record {
   links = net.links;
   sent = map sent_of net.datagrams;
   injected = net.injected;
+  takings = net.takings;
 }
 
 -- it stands for each network that is seen so (own)
@@ -52,7 +68,7 @@ pub record StandsFor (net : Network) (a : LabNet) : Type 0 where
 -- ---- how it is set up
 
 abbrev pub nothing_seen : Seen
-nothing_seen = record { routers = []; links = []; sent = []; injected = 0 }
+nothing_seen = record { routers = []; links = []; sent = []; injected = 0; takings = [] }
 
 -- no router and no link (own)
 abbrev pub empty_lab : LabNet

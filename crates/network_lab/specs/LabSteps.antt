@@ -10,12 +10,15 @@ use Rattle.router_desk.specs.declared.config.Config.{Config}
 use Rattle.router_core.specs.Givens.{given}
 use Rattle.network_model.specs.Networks.{Network}
 use Rattle.network_model.specs.Runs.{posted, boot_of}
+use Rattle.network_lab.specs.declared.sent.Changes.{Changes}
 use Rattle.network_lab.specs.declared.sent.SentDatagram.{SentDatagram}
+use Rattle.network_lab.specs.declared.heard_range.HeardRange.{HeardRange}
 use Rattle.network_lab.specs.declared.event.LabEvent.{LabEvent}
 use Rattle.network_lab.specs.declared.faults.LabFault.{LabFault}
 use Rattle.network_lab.specs.declared.faults.LabFault.TheVariants as fault
 use Rattle.network_lab.specs.declared.faults.LimitName.TheVariants as limit
 use Rattle.network_lab.specs.LabNets.{Seen, LabNet, StandsFor, sent_of}
+use Rattle.network_lab.specs.LabTakings.{kept_ranges}
 use Rattle.network_lab.specs.LabEvents.{refusal, after}
 use Rattle.network_lab.specs.LabCauses.{IsStop}
 
@@ -24,10 +27,10 @@ abbrev pub with_circuit_at : Config → ℕ → CircuitConfig → Config
 with_circuit_at config place c =
     record config { circuits = with_nth config.circuits place c }
 
--- a datagram of a router in a boot, on a link
-abbrev pub sent_by : ℕ → ℕ → ℕ → List ℕ → SentDatagram
-sent_by sender boot link octets =
-    record { sender = sender; boot = boot; link = link; octets = octets }
+-- a datagram of a router in a boot and at counts of changed keys, on a link
+abbrev pub sent_by : ℕ → ℕ → Changes → ℕ → List ℕ → SentDatagram
+sent_by sender boot changes link octets =
+    record { sender = sender; boot = boot; changes = changes; link = link; octets = octets }
 
 -- what a router sends in an event, as it is seen
 abbrev pub posted_in : ℕ → Option ℕ → Event → Router → List SentDatagram
@@ -35,11 +38,13 @@ posted_in i link event r =
     let o = step given r event in
     map sent_of (posted i link o.router (place_of event) o.reply)
 
--- a router takes an event, and what it sends on the link joins the datagrams
-abbrev pub moved_in : Seen → ℕ → Option ℕ → Event → Router → Seen
-moved_in a i link event r = record a {
+-- a router takes an event: what it sends on the link joins the datagrams, and the range that it heard
+-- those that were taken, where it takes that
+abbrev pub moved_in : Seen → ℕ → Option ℕ → Event → Router → Option HeardRange → Seen
+moved_in a i link event r heard = record a {
   routers = with_nth a.routers i (step given r event).router;
   sent = a.sent ++ posted_in i link event r;
+  takings = kept_ranges heard (step given r event) ++ a.takings;
 }
 
 -- why what is sent isn't kept: there are so many datagrams then, or memory was wanting

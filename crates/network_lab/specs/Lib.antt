@@ -6,8 +6,12 @@ pub mod Limits
 pub mod KeysHeld
 pub mod LabNets
 pub mod LabEvents
+pub mod LabTakings
+pub mod Hearing
 pub mod LabCauses
+pub mod Agreements
 pub mod Claims
+pub mod LanStates
 pub mod LinkStates
 pub mod Reached
 pub mod Acknowledged

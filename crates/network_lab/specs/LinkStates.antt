@@ -1,5 +1,5 @@
 -- How the links of a network stand, and which routers agree (own).
-use Rattle.std.specs.Prelude.{◌≡◌, ℕ, ◌≤◌, ◌==◌, Bool, true, false, ◌&&◌, List, [], ◌∷◌, map, slice_index, Option, Some, None, if◌then◌else◌}
+use Rattle.std.specs.Prelude.{◌≡◌, ℕ, ◌+◌, ◌≤◌, ◌==◌, Bool, true, false, ◌&&◌, List, [], ◌∷◌, ◌++◌, map, slice_index, Option, Some, None, if◌then◌else◌}
 use Rattle.std.specs.List.{flat_map}
 use Rattle.isis_base.specs.declared.level.Level.{Level}
 use Rattle.isis_model.specs.Both.{at}
@@ -11,6 +11,7 @@ use Rattle.link_states.specs.declared.state.LinkState.{LinkState}
 use Rattle.link_states.specs.LinkStates.{state_of, no_state}
 use Rattle.link_states.specs.Grouped.{groups_of}
 use Rattle.network_lab.specs.LabNets.{Seen}
+use Rattle.network_lab.specs.LanStates.{sweeper_at}
 
 -- whether a router runs a level
 abbrev pub runs_in : Option Router → Level → Bool
@@ -91,9 +92,34 @@ listed (Some pair) = pair ∷ []
 abbrev pub joined_by : List Router → Level → List End → List (ℕ × ℕ)
 joined_by routers level ends = listed (joined_pair routers level (pair_of ends))
 
-abbrev pub pairs_of : Seen → Level → List (ℕ × ℕ)
-pairs_of s level = flat_map (joined_by s.routers level) s.links
+-- ---- LANs
 
--- the groups of the routers that run a level, which its clean links join
+-- own
+abbrev pub with_sweeper : ℕ → Option ℕ → Option (ℕ × ℕ)
+with_sweeper member None = None
+with_sweeper member (Some other) = Some (member, other)
+
+-- a member of a LAN, with the end by which it is swept at a level
+abbrev pub swept_pair : Seen → ℕ → Level → End → List (ℕ × ℕ)
+swept_pair s link level e = listed (with_sweeper e.router (sweeper_at s link e.router level))
+
+-- ---- groups
+
+-- the pairs of routers that a link or LAN joins at a level
+abbrev pub pairs_on : Seen → Level → ℕ → List End → List (ℕ × ℕ)
+pairs_on s level link ends =
+    joined_by s.routers level ends ++ flat_map (swept_pair s link level) ends
+
+-- so of these links and LANs, of which the first has this number
+abbrev pub pairs_from : Seen → Level → ℕ → List (List End) → List (ℕ × ℕ)
+pairs_from s level link [] = []
+pairs_from s level link (ends ∷ links) =
+    pairs_on s level link ends ++ pairs_from s level (link + 1) links
+
+-- the pairs of routers that clean links join, and those of a swept member and the end that sweeps it
+abbrev pub pairs_of : Seen → Level → List (ℕ × ℕ)
+pairs_of s level = pairs_from s level 0 s.links
+
+-- the groups of the routers that run a level, which its clean links and its sweeps join
 abbrev pub groups_at : Seen → Level → List (List ℕ)
 groups_at s level = groups_of (runs_of s.routers level) (pairs_of s level)

@@ -2,13 +2,16 @@
 use Rattle.std.specs.Prelude.{◌≡◌, ℕ, ◌<◌, List, [], ◌∷◌, Some, IfSome}
 use Rattle.std.specs.List.{AllByRecursion}
 use Rattle.isis_model.specs.Places.{nth}
-use Rattle.isis_model.specs.Routers.{Router}
+use Rattle.isis_base.specs.declared.level.Level.{Level}
+use Rattle.isis_model.specs.Routers.{Router, book_of}
 use Rattle.router_core.specs.Events.{FitsPrefix}
 use Rattle.router_core.specs.Givens.{given}
 use Rattle.router_core.specs.Reached.{IsReached}
 use Rattle.network_model.specs.Networks.{Network}
 use Rattle.network_model.specs.Runs.{Happening, Tick, PullOn, Deliver, Restart, SetMetric, SetOverload, SetPrefix, Inject, apply}
 use Rattle.network_model.specs.Kept.{IsKeptNet}
+use Rattle.network_agreement.specs.Origins.{HaveOrigins}
+use Rattle.network_agreement.specs.Sweeps.{AreTrue, AreAgreed}
 use Rattle.network_lab.specs.declared.sent.SentDatagram.{SentDatagram}
 use Rattle.network_lab.specs.LabNets.{Seen, seen_of}
 
@@ -17,10 +20,20 @@ use Rattle.network_lab.specs.LabNets.{Seen, seen_of}
 abbrev pub AreInRun : List Router → Type 0
 AreInRun routers = (i : ℕ) (r : Router) → nth routers i ≡ Some r → IsReached r
 
--- its routers can be reached, and what is kept of a whole network holds (own)
+-- no router holds anything (own)
+abbrev pub HoldNothing : List Router → Type 0
+HoldNothing routers = (i : ℕ) (r : Router) (level : Level) → nth routers i ≡ Some r
+    → (book_of r level).cells ≡ []
+
+-- its routers can be reached; what is kept of a whole network holds; live LSPs come from the routers
+-- of their systems; and CSNPs tell what their senders hold, and who took one holds the same, while
+-- the keys of both stand (own)
 pub record IsReachedNet (net : Network) : Type 0 where
   pub routers : AreInRun net.routers
   pub kept : IsKeptNet net
+  pub origins : HaveOrigins net
+  pub tells : AreTrue net
+  pub agreed : AreAgreed net net.takings
 
 -- what is seen is that of such a network (own)
 pub record HasRun (s : Seen) : Type 0 where

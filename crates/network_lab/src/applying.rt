@@ -16,6 +16,7 @@ ghost use Rattle.network_lab.specs.Claims.{IsClaimed};
 
 use crate::event::LabEvent;
 use crate::faults::{LabFault, LimitName};
+use crate::heard_range::HeardRange;
 use crate::network::Network;
 use crate::places::{boot_at, one_more, place_at};
 use crate::taking::{restart_at, take_at, taking_at};
@@ -88,7 +89,7 @@ impl Network {
         requires running { self.old.stopped ≡ None }
         ensures { Ending (event.Tick router) self.old self.new result }
     {
-        self.take(router, None, NodeEvent::Second)
+        self.take(router, None, NodeEvent::Second, None)
     }
 
     /// A router is asked for what is due on its circuit of a link.
@@ -99,7 +100,7 @@ impl Network {
     {
         match self.circuit_on(link, router) {
             None => Err(LabFault::NotOn),
-            Some(circuit) => self.take(router, Some(link), NodeEvent::Pull { circuit }),
+            Some(circuit) => self.take(router, Some(link), NodeEvent::Pull { circuit }, None),
         }
     }
 
@@ -115,8 +116,8 @@ impl Network {
         };
         match self.circuit_on(link, router) {
             None => Err(LabFault::NotOn),
-            Some(circuit) => match self.sent[number - 1].octets.copy() {
-                Ok(octets) => self.give(router, link, circuit, octets),
+            Some(circuit) => match self.hearing(number, router, circuit) {
+                Ok(hearing) => self.take(router, Some(link), hearing.event, hearing.heard),
                 Err(_) => self.stop(),
             },
         }
@@ -148,7 +149,7 @@ impl Network {
         if let Some(fault) = change_fault(&self.routers[router], change) {
             return Err(fault);
         }
-        self.take(router, None, NodeEvent::Change(change))
+        self.take(router, None, NodeEvent::Change(change), None)
     }
 
     /// A router is given octets on its circuit of a link.
@@ -187,7 +188,7 @@ impl Network {
     }
 
     /// The number of a router's circuit on a link, counted from 1.
-    fn circuit_on(&self, link: usize, router: usize) -> Option<u8>
+    pub(crate) fn circuit_on(&self, link: usize, router: usize) -> Option<u8>
         requires { router < length self.now.seen.routers }
         ensures place { option_map (λ circuit. circuit - 1) result
             ≡ place_in (nth self.now.seen.links link) router }
@@ -211,26 +212,41 @@ impl Network {
         requires circuit { IfSome (nth self.old.seen.routers router) (λ r. IsThere r circuit) }
         requires running { self.old.stopped ≡ None }
         requires happens { IfSome (nth self.old.seen.routers router) (λ r. Happen self.old.seen
-            (moved_in self.old.seen router (Some link) (taking r (circuit - 1) octets) r)) }
+            (moved_in self.old.seen router (Some link) (taking r (circuit - 1) octets) r None)) }
         ensures { IfSome (nth self.old.seen.routers router) (λ r. Taken self.old self.new
-            (moved_in self.old.seen router (Some link) (taking r (circuit - 1) octets) r) result) }
+            (moved_in self.old.seen router (Some link) (taking r (circuit - 1) octets) r None) result) }
     {
         let event = taking_at(&self.routers, router, circuit, octets);
-        self.take(router, Some(link), event)
+        self.take(router, Some(link), event, None)
     }
 
-    /// A router takes an event, and what it sends goes out on the link.
-    fn take(&mut self, router: usize, link: Option<usize>, event: NodeEvent) -> Result<(), LabFault>
+    /// A router takes an event: what it sends goes out on the link, and the range that it heard is kept, where it
+    /// takes that.
+    fn take(
+        &mut self,
+        router: usize,
+        link: Option<usize>,
+        event: NodeEvent,
+        heard: Option<HeardRange>,
+    ) -> Result<(), LabFault>
         requires there { router < length self.old.seen.routers }
         requires fits { IfSome (nth self.old.seen.routers router) (λ r. Fits r event) }
         requires running { self.old.stopped ≡ None }
         requires happens { IfSome (nth self.old.seen.routers router) (λ r. Happen self.old.seen
-            (moved_in self.old.seen router link (event_of r event) r)) }
+            (moved_in self.old.seen router link (event_of r event) r heard)) }
         ensures { IfSome (nth self.old.seen.routers router) (λ r. Taken self.old self.new
-            (moved_in self.old.seen router link (event_of r event) r) result) }
+            (moved_in self.old.seen router link (event_of r event) r heard) result) }
     {
         self.begun = true;
-        let taken = take_at(&mut self.routers, &mut self.sent, router, link, event);
+        let taken = take_at(
+            &mut self.routers,
+            &mut self.sent,
+            &mut self.sweeps,
+            router,
+            link,
+            event,
+            heard,
+        );
         self.stopped = taken.err();
         taken
     }

@@ -17,7 +17,9 @@ ghost use Rattle.network_model.specs.Ports.{Port};
 ghost use Rattle.network_model.specs.Kept.{IsPointLink};
 ghost use Rattle.network_model.specs.Speakers.{AreOctets};
 ghost use Rattle.network_lab.specs.declared.key_net.TheConstants.{ROUTER_LIMIT, LINK_LIMIT};
-ghost use Rattle.network_lab.specs.LabNets.{seen_of};
+ghost use Rattle.network_agreement.specs.Sweeps.{IsSweptBy};
+ghost use Rattle.network_lab.specs.LabNets.{Seen, seen_of};
+ghost use Rattle.network_lab.specs.LanStates.{swept_by};
 ghost use Rattle.network_lab.specs.Claims.{IsClaimed};
 ghost use Rattle.network_lab.specs.Reached.{IsReachedNet, IsFitting, AreFitting};
 ghost use Rattle.network_lab.specs.Acknowledged.{IsTaken, Acknowledges};
@@ -40,6 +42,15 @@ pub fn run_laws()
     ensures claimed { (net : Network) (first rest : List Happening) → IsReachedNet net
         → AreFitting net (first ++ rest) → AreOctets (run given net (first ++ rest))
         → IsClaimed (seen_of (run given net first)) }
+{}
+
+/// A member of a LAN that is seen as swept by another router is swept by it in each network of the model that is seen
+/// so: the ranges that it took cleanly, at the present boots and counts of changed keys of both, cover all LSP IDs (ISO
+/// 10589 7.3.15.2).
+pub fn sweep_laws()
+    ensures { (s : Seen) (net : Network) (link : ℕ) (level : Level) (member other : ℕ)
+        → swept_by s link level member other ≡ true → seen_of net ≡ s
+        → IsSweptBy net link level member other }
 {}
 
 /// Where a router takes, on a point-to-point circuit, a sequence number PDU that lists an LSP ID once

@@ -9,7 +9,8 @@
 //! - `network.rt`: the network of routers, and what is read of it; `event.rt`, `sent.rt`: its events and datagrams
 //! - `setup.rt`: how it is set up; `joining.rt`: the routers that a link or LAN joins
 //! - `applying.rt`: one event; `running.rt`: a line `run`
-//! - `states.rt`: how links stand, and which routers agree
+//! - `states.rt`: how links stand, and which routers agree; `lan_state.rt`, `lan_states.rt`: how the members of LANs do
+//! - `hearing.rt`, `heard_range.rt`: the ranges of CSNPs that routers hear on LANs without a flag
 //! - `taking.rt`: a router of a list takes an event; `ends.rt`, `places.rt`, `row.rt`: circuits, ends, places
 #![tactic(auto)]
 
@@ -17,9 +18,13 @@ mod applying;
 mod ends;
 mod event;
 mod faults;
+mod heard_range;
+mod hearing;
 mod held;
 mod joining;
 mod key_net;
+mod lan_state;
+mod lan_states;
 pub mod laws;
 mod network;
 mod places;
@@ -35,6 +40,7 @@ mod tests;
 pub use event::LabEvent;
 pub use faults::{LabFault, LimitName};
 pub use key_net::{KeyNet, LINK_LIMIT, ROUTER_LIMIT};
+pub use lan_state::LanState;
 pub use link_states::{Groups, LinkState};
 pub use network::Network;
-pub use sent::SentDatagram;
+pub use sent::{Changes, SentDatagram};

@@ -1,5 +1,5 @@
 //! A network of routers, and what is read of it.
-ghost use Rattle.std.specs.Prelude.{◌≡◌, ◌<◌, ◌≤◌, ◌-◌, length, Some, None};
+ghost use Rattle.std.specs.Prelude.{◌≡◌, ◌<◌, ◌≤◌, ◌-◌, false, length, Some, None};
 ghost use Rattle.std.specs.Option.{option_map};
 ghost use Rattle.isis_model.specs.Places.{nth};
 ghost use Rattle.network_model.specs.Networks.{numbered};
@@ -7,12 +7,13 @@ ghost use Rattle.network_model.specs.RunLines.{link_of as link_at};
 ghost use Rattle.network_lab.specs.LabNets.{empty_lab};
 ghost use Rattle.network_lab.specs.Claims.{AreEnds, IsClaimed};
 ghost use Rattle.network_lab.specs.LinkStates.{AreWithin};
-ghost use Rattle.network_lab.specs.Reached.{AreSmall, HasRun};
+ghost use Rattle.network_lab.specs.Reached.{AreSmall, HasRun, HoldNothing};
 
 use crate::faults::LabFault;
 use crate::places::sent_at;
 use crate::row::Row;
 use crate::sent::SentDatagram;
+use lan_sweeps::Sweeps;
 use network_model::End;
 use router_core::Router;
 use router_desk::Config;
@@ -34,6 +35,7 @@ pub struct Network {
     pub(crate) ports: Vec<Row<usize>>,
     pub(crate) sent: Vec<SentDatagram>,
     pub(crate) injected: u64,
+    pub(crate) sweeps: Sweeps,
     pub(crate) begun: bool,
     pub(crate) stopped: Option<LabFault>,
 }
@@ -63,13 +65,14 @@ impl Network {
             ports: Vec::new(alloc),
             sent: Vec::new(alloc),
             injected: 0,
+            sweeps: Sweeps::new(alloc),
             begun: false,
             stopped: None,
         }
     }
 
     /// What always holds of a network: at most 262,144 datagrams were sent, all of octets, and the
-    /// ends of links are there. In a run that wasn't stopped, where nothing was injected, it is seen
+    /// ends of links are there. Before an event no router holds anything. In a run that wasn't stopped, where nothing was injected, it is seen
     /// as a network whose routers can be reached; the claim of each link that is up holds; and no
     /// end of one is ahead in more LSP IDs than its SRM flags. It does nothing.
     pub fn facts(&self)
@@ -78,6 +81,7 @@ impl Network {
         ensures ends { AreEnds self.now.seen }
         ensures run { self.now.stopped ≡ None → self.now.seen.injected ≡ 0
             → HasRun self.now.seen }
+        ensures fresh { self.now.begun ≡ false → HoldNothing self.now.seen.routers }
         ensures claimed { self.now.stopped ≡ None → IsClaimed self.now.seen }
         ensures within { self.now.stopped ≡ None → AreWithin self.now.seen }
     {

@@ -6,9 +6,11 @@ ghost use Rattle.isis_model.specs.Books.{risen};
 ghost use Rattle.network_model.specs.Networks.{place_on as place_among, place_in, numbered};
 ghost use Rattle.network_model.specs.RunLines.{ends_of};
 ghost use Rattle.network_model.specs.Runs.{boot_of};
+ghost use Rattle.network_lab.specs.LabTakings.{counts_at};
 
 use crate::row::Row;
-use crate::sent::SentDatagram;
+use crate::sent::{Changes, SentDatagram};
+use isis_base::Level;
 use network_model::End;
 use router_core::Router;
 
@@ -78,6 +80,19 @@ pub(crate) fn boot_at(routers: &[Router], router: usize) -> u32
     match routers.get(router) {
         Some(router) => router.boot(),
         None => 0,
+    }
+}
+
+/// The counts of changed keys of a router, 0 where it isn't there.
+pub(crate) fn changes_at(routers: &[Router], router: usize) -> Changes
+    ensures { result ≡ counts_at (nth routers.now router) }
+{
+    match routers.get(router) {
+        Some(router) => Changes {
+            one: router.changes(Level::One),
+            two: router.changes(Level::Two),
+        },
+        None => Changes { one: 0, two: 0 },
     }
 }
 

@@ -33,7 +33,7 @@ impl Network {
     }
 
     /// The groups of the routers that run a level: those that are joined by links that are up and
-    /// without flags.
+    /// without flags, and each member of a LAN with the end that sweeps it.
     pub fn agreed(&self, level: Level) -> Result<Groups, OutOfMemory>
         ensures { IfOk result (λ groups. groups ≡ groups_at self.now.seen level) }
     {
@@ -141,18 +141,37 @@ impl Network {
         self.router(router).book(level).is_some()
     }
 
-    /// The pairs of routers that clean links join at a level.
+    /// The pairs of routers that clean links join at a level, and of swept members and the ends that sweep them.
     fn pairs(&self, level: Level) -> Result<Vec<(usize, usize)>, OutOfMemory>
         ensures { IfOk result (λ pairs. pairs.items ≡ state.pairs_of self.now.seen level) }
     {
         let mut pairs = Vec::new(self.alloc);
         for link in 0..self.links() {
-            match self.add_pair(&mut pairs, link, level) {
+            match self.add_pairs(&mut pairs, link, level) {
                 Ok(()) => {}
                 Err(error) => return Err(error),
             }
         }
         Ok(pairs)
+    }
+
+    /// Adds the pairs of routers that a link or LAN joins at a level.
+    fn add_pairs(
+        &self,
+        pairs: &mut Vec<(usize, usize)>,
+        link: usize,
+        level: Level,
+    ) -> Result<(), OutOfMemory>
+        requires { link < length self.now.seen.links }
+        ensures { OnOk result (pairs.new.items ++ state.pairs_from self.now.seen level (link + 1)
+            (drop (link + 1) self.now.seen.links)
+            ≡ pairs.old.items ++ state.pairs_from self.now.seen level link
+            (drop link self.now.seen.links)) }
+    {
+        match self.add_pair(pairs, link, level) {
+            Ok(()) => self.add_swept(pairs, link, level),
+            Err(error) => Err(error),
+        }
     }
 
     /// Adds the pair of routers that a link joins at a level, if any.
@@ -163,15 +182,58 @@ impl Network {
         level: Level,
     ) -> Result<(), OutOfMemory>
         requires { link < length self.now.seen.links }
-        ensures { OnOk result (pairs.new.items
-            ++ flat_map (state.joined_by self.now.seen.routers level)
-            (drop (link + 1) self.now.seen.links)
-            ≡ pairs.old.items ++ flat_map (state.joined_by self.now.seen.routers level)
-            (drop link self.now.seen.links)) }
+        ensures { OnOk result (IfSome (nth self.now.seen.links link) (λ ends. pairs.new.items
+            ≡ pairs.old.items ++ state.joined_by self.now.seen.routers level ends)) }
     {
         match self.joined_by(link, level) {
             Some(pair) => {
                 pairs.push(pair)?;
+                Ok(())
+            }
+            None => Ok(()),
+        }
+    }
+
+    /// Adds the members of a LAN that are swept at a level, each with the end that sweeps it.
+    fn add_swept(
+        &self,
+        pairs: &mut Vec<(usize, usize)>,
+        link: usize,
+        level: Level,
+    ) -> Result<(), OutOfMemory>
+        requires { link < length self.now.seen.links }
+        ensures { OnOk result (IfSome (nth self.now.seen.links link) (λ ends. pairs.new.items
+            ≡ pairs.old.items ++ flat_map (state.swept_pair self.now.seen link level) ends)) }
+    {
+        for place in 0..self.ends(link).len() {
+            match self.add_member(pairs, link, place, level) {
+                Ok(()) => {}
+                Err(error) => return Err(error),
+            }
+        }
+        Ok(())
+    }
+
+    /// Adds a member of a LAN, where it is swept at a level, with the end that sweeps it.
+    fn add_member(
+        &self,
+        pairs: &mut Vec<(usize, usize)>,
+        link: usize,
+        place: usize,
+        level: Level,
+    ) -> Result<(), OutOfMemory>
+        requires link { link < length self.now.seen.links }
+        requires place { IfSome (nth self.now.seen.links link) (λ ends. place < length ends) }
+        ensures { OnOk result (IfSome (nth self.now.seen.links link) (λ ends. pairs.new.items
+            ++ flat_map (state.swept_pair self.now.seen link level) (drop (place + 1) ends)
+            ≡ pairs.old.items
+            ++ flat_map (state.swept_pair self.now.seen link level) (drop place ends))) }
+    {
+        self.facts();
+        let member = self.ends(link)[place].router;
+        match self.sweeper(link, member, level) {
+            Some(other) => {
+                pairs.push((member, other))?;
                 Ok(())
             }
             None => Ok(()),

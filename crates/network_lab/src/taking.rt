@@ -1,8 +1,9 @@
 //! A router of a list takes an event, and what it sends joins what was sent.
-ghost use Rattle.std.specs.Prelude.{◌≡◌, ℕ, ◌+◌, ◌-◌, ◌<◌, ◌≤◌, ◌++◌, map, length, Some, IfSome, IfOk, IfErr, OnOk, OnErr};
+ghost use Rattle.std.specs.Prelude.{◌≡◌, ℕ, ◌+◌, ◌-◌, ◌<◌, ◌≤◌, ◌++◌, ◌==◌, ◌&&◌, not, map, length, Some, IfSome, IfOk, IfErr, OnOk, OnErr};
 ghost use Rattle.std.specs.List.{AllByRecursion};
 ghost use Rattle.isis_model.specs.Places.{nth, with_nth};
 ghost use Rattle.isis_model.specs.Routers as model;
+ghost use Rattle.isis_model.specs.Routers.{book_of};
 ghost use Rattle.isis_model.specs.Events as events;
 ghost use Rattle.isis_model.specs.Steps.{step};
 ghost use Rattle.isis_model.specs.AdjacencyLaws.{place_of};
@@ -10,30 +11,36 @@ ghost use Rattle.router_core.specs.Events.{event_of, Fits, IsThere};
 ghost use Rattle.router_core.specs.Givens.{given};
 ghost use Rattle.router_core.specs.Replies.{Answers};
 ghost use Rattle.network_model.specs.Networks.{restarted};
-ghost use Rattle.network_model.specs.Runs.{taking, boot_of, posted};
-ghost use Rattle.network_lab.specs.LabNets.{sent_of};
+ghost use Rattle.network_model.specs.Runs.{taking, boot_of, posted, changes_of as counts_of_keys};
+ghost use Rattle.network_lab.specs.LabNets.{counts_in, sent_of};
+ghost use Rattle.network_lab.specs.LabTakings.{is_taken, kept_ranges};
 ghost use Rattle.network_lab.specs.LabInside.{counts_of};
 ghost use Rattle.network_lab.specs.LabSteps.{sent_by, posted_in, StopCause};
 ghost use Rattle.network_lab.specs.Reached.{AreSmall};
 
 use crate::faults::{LabFault, LimitName};
-use crate::places::{boot_at, put_at};
-use crate::sent::SentDatagram;
-use isis_base::{Octets, OutOfMemory};
+use crate::heard_range::HeardRange;
+use crate::places::{boot_at, changes_at, put_at};
+use crate::sent::{Changes, SentDatagram};
+use isis_base::{Level, Octets, OutOfMemory};
 use isis_model::laws::adjacencies::step_bonds;
+use lan_sweeps::Sweeps;
 use router_core::{NodeEvent, Reply, Router};
 use router_desk::laws::reading_law;
 
 /// The most datagrams of a network.
 pub(crate) const SENT_LIMIT: usize = 262144;
 
-/// A router takes an event, and what it sends on the link joins what was sent.
+/// A router takes an event: what it sends on the link joins what was sent, and the range that it heard those that
+/// were taken, where it takes that.
 pub(crate) fn take_at(
     routers: &mut Vec<Router>,
     sent: &mut Vec<SentDatagram>,
+    sweeps: &mut Sweeps,
     router: usize,
     link: Option<usize>,
     event: NodeEvent,
+    heard: Option<HeardRange>,
 ) -> Result<(), LabFault>
     requires there { router < length routers.old.items }
     requires fits { IfSome (nth routers.old.items router) (λ r. Fits r event) }
@@ -43,6 +50,8 @@ pub(crate) fn take_at(
         ≡ with_nth routers.old.items router (step given r (event_of r event)).router)) }
     ensures sent { OnOk result (IfSome (nth routers.old.items router) (λ r. sent.new.items
         ≡ sent.old.items ++ posted_in router link (event_of r event) r)) }
+    ensures takings { OnOk result (IfSome (nth routers.old.items router) (λ r. sweeps.new
+        ≡ kept_ranges heard (step given r (event_of r event)) ++ sweeps.old)) }
     ensures cause { IfErr result (λ fault. IfSome (nth routers.old.items router) (λ r.
         StopCause (length sent.old.items + length (posted_in router link (event_of r event) r))
         fault)) }
@@ -54,8 +63,66 @@ pub(crate) fn take_at(
         Ok(reply) => reply,
         Err(_) => return Err(LabFault::OutOfMemory),
     };
+    match keep(sweeps, routers, router, &reply, heard) {
+        Ok(()) => {}
+        Err(_) => return Err(LabFault::OutOfMemory),
+    }
     let boot = boot_at(routers, router);
-    send(sent, router, boot, link, reply)
+    let changes = changes_at(routers, router);
+    send(sent, router, boot, changes, link, reply)
+}
+
+/// The range that a router heard joins those that were taken, where it takes that.
+fn keep(
+    sweeps: &mut Sweeps,
+    routers: &[Router],
+    router: usize,
+    reply: &Reply,
+    heard: Option<HeardRange>,
+) -> Result<(), OutOfMemory>
+    ensures { OnOk result ((r : model.Router) (place : ℕ) (m : events.Reply)
+        → Answers r place m reply.now → nth routers.now router ≡ Some r
+        → sweeps.new ≡ kept_ranges heard (record { router = r; reply = m }) ++ sweeps.old) }
+{
+    match heard {
+        None => Ok(()),
+        Some(range) => {
+            if is_kept(routers, router, reply, range) {
+                return sweeps.take(range.key, range.first, range.last);
+            }
+            Ok(())
+        }
+    }
+}
+
+/// Whether a range that a router heard is taken: the datagram isn't dropped, and no key changed.
+fn is_kept(routers: &[Router], router: usize, reply: &Reply, range: HeardRange) -> bool
+    ensures { (r : model.Router) (place : ℕ) (m : events.Reply) → Answers r place m reply.now
+        → nth routers.now router ≡ Some r
+        → result ≡ (is_taken m && (book_of r range.key.level).changes == range.key.changes) }
+{
+    !is_dropped(reply) && count_at(routers, router, range.key.level) == range.key.changes
+}
+
+/// Whether a datagram that was taken was dropped.
+fn is_dropped(reply: &Reply) -> bool
+    ensures { (r : model.Router) (place : ℕ) (m : events.Reply) → Answers r place m reply.now
+        → not result ≡ is_taken m }
+{
+    match reply {
+        Reply::Dropped(_) => true,
+        Reply::Done | Reply::Send(_) => false,
+    }
+}
+
+/// How many changes of keys a level's database of a router has had.
+fn count_at(routers: &[Router], router: usize, level: Level) -> u64
+    ensures { IfSome (nth routers.now router) (λ r. result ≡ (book_of r level).changes) }
+{
+    match routers.get(router) {
+        Some(router) => router.changes(level),
+        None => 0,
+    }
 }
 
 /// What a router answers in a boot joins what was sent, where it sends on a link.
@@ -63,16 +130,17 @@ fn send(
     sent: &mut Vec<SentDatagram>,
     sender: usize,
     boot: u32,
+    changes: Changes,
     link: Option<usize>,
     reply: Reply,
 ) -> Result<(), LabFault>
     requires few { length sent.old.items ≤ 262144 }
     requires small { AreSmall sent.old.items }
     ensures ok { OnOk result ((r : model.Router) (place : ℕ) (m : events.Reply)
-        → Answers r place m reply → boot ≡ r.boot
+        → Answers r place m reply → boot ≡ r.boot → changes ≡ counts_in (counts_of_keys r)
         → sent.new.items ≡ sent.old.items ++ map sent_of (posted sender link r place m)) }
     ensures cause { IfErr result (λ fault. (r : model.Router) (place : ℕ) (m : events.Reply)
-        → Answers r place m reply → boot ≡ r.boot
+        → Answers r place m reply → boot ≡ r.boot → changes ≡ counts_in (counts_of_keys r)
         → StopCause (length sent.old.items + length (map sent_of (posted sender link r place m)))
         fault) }
     ensures few { length sent.new.items ≤ 262144 }
@@ -80,7 +148,7 @@ fn send(
 {
     match (link, reply) {
         (Some(link), Reply::Send(datagrams)) => {
-            post(sent, sender, boot, link, datagrams.into_items())
+            post(sent, sender, boot, changes, link, datagrams.into_items())
         }
         (Some(_), Reply::Done) => Ok(()),
         (Some(_), Reply::Dropped(_)) => Ok(()),
@@ -109,13 +177,14 @@ fn post(
     sent: &mut Vec<SentDatagram>,
     sender: usize,
     boot: u32,
+    changes: Changes,
     link: usize,
     items: Vec<Octets>,
 ) -> Result<(), LabFault>
     requires few { length sent.old.items ≤ 262144 }
     requires small { AreSmall sent.old.items }
     ensures ok { OnOk result (sent.new.items
-        ≡ sent.old.items ++ map (sent_by sender boot link) items.items) }
+        ≡ sent.old.items ++ map (sent_by sender boot changes link) items.items) }
     ensures cause { IfErr result (StopCause (length sent.old.items + length items.items)) }
     ensures few { length sent.new.items ≤ 262144 }
     ensures small { AreSmall sent.new.items }
@@ -124,7 +193,7 @@ fn post(
     let past = items.len() > room;
     let mut kept = items;
     kept.truncate(room);
-    post_all(sent, sender, boot, link, kept)?;
+    post_all(sent, sender, boot, changes, link, kept)?;
     if past {
         return Err(LabFault::Limit(LimitName::Datagrams));
     }
@@ -137,12 +206,13 @@ fn post_all(
     sent: &mut Vec<SentDatagram>,
     sender: usize,
     boot: u32,
+    changes: Changes,
     link: usize,
     items: Vec<Octets>,
 ) -> Result<(), OutOfMemory>
     requires { AreSmall sent.old.items }
     ensures ok { OnOk result (sent.new.items
-        ≡ sent.old.items ++ map (sent_by sender boot link) items.items) }
+        ≡ sent.old.items ++ map (sent_by sender boot changes link) items.items) }
     ensures few { length sent.new.items ≤ length sent.old.items + length items.items }
     ensures small { AreSmall sent.new.items }
 {
@@ -151,6 +221,7 @@ fn post_all(
         let datagram = SentDatagram {
             sender,
             boot,
+            changes,
             link,
             octets,
         };

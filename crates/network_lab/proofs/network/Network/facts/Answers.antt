@@ -1,11 +1,12 @@
-use Rattle.std.proofs.Common.{◌≡◌, None, subst}
+use Rattle.std.proofs.Common.{◌≡◌, false, None, subst}
 use Rattle.network_lab.specs.LabNets.{LabNet}
 use Rattle.network_lab.specs.LabInside.{lab_of}
 use Rattle.network_lab.specs.Claims.{AreEnds, IsClaimed}
 use Rattle.network_lab.specs.LinkStates.{AreWithin}
-use Rattle.network_lab.specs.Reached.{HasRun}
+use Rattle.network_lab.specs.Reached.{HasRun, HoldNothing}
 use Rattle.network_lab.proofs.StateLemmas.{ends-are}
-use Rattle.network_lab.proofs.StartLemmas.{has-run, are-claimed, are-within}
+use Rattle.network_lab.proofs.StartLemmas.{has-run, nothing-held, are-within}
+use Rattle.network_lab.proofs.AgreeLemmas.{are-claimed}
 use Rattle.network_lab.proofs.network.Network.facts.Goals as goal
 
 pub returns-clause-ends : goal.returns-clause-ends
@@ -17,6 +18,11 @@ pub returns-clause-run : goal.returns-clause-run
 returns-clause-run c =
     subst (λ (a : LabNet). a.stopped ≡ None → a.seen.injected ≡ 0 → HasRun a.seen) c.self.view_is
     (has-run c.self.inside.ports.items c.self.inside.ordered.items (lab_of c.self.inside) c.self.invariant)
+
+pub returns-clause-fresh : goal.returns-clause-fresh
+returns-clause-fresh c =
+    subst (λ (a : LabNet). a.begun ≡ false → HoldNothing a.seen.routers) c.self.view_is
+    (nothing-held c.self.inside.ports.items c.self.inside.ordered.items (lab_of c.self.inside) c.self.invariant)
 
 pub returns-clause-claimed : goal.returns-clause-claimed
 returns-clause-claimed c =
