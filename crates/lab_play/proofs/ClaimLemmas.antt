@@ -18,6 +18,9 @@ use Rattle.network_model.specs.RunLines.{run_line}
 use Rattle.network_model.specs.LineEvents.{line_events}
 use Rattle.network_model.specs.Speakers.{AreOctets}
 use Rattle.network_model.proofs.LineLemmas.{run-append, line-run, line-all}
+use Rattle.network_agreement.specs.Origins.{HoldsNothing}
+use Rattle.network_agreement.proofs.OriginLemmas.{start-origins}
+use Rattle.network_agreement.proofs.SweepLemmas.{start-true}
 use Rattle.network_lab.specs.declared.faults.LabFault.{LabFault}
 use Rattle.network_lab.specs.declared.faults.LabFault.TheVariants as lab
 use Rattle.network_lab.specs.declared.faults.LimitName.TheVariants as limit
@@ -25,7 +28,7 @@ use Rattle.network_lab.specs.declared.event.LabEvent.TheVariants as event
 use Rattle.network_lab.specs.LabNets.{Seen, LabNet, StandsFor, sent_of, seen_of}
 use Rattle.network_lab.specs.LabEvents.{refusal, after, past_boots, unless_changes}
 use Rattle.network_lab.specs.LinkStates.{AreWithin}
-use Rattle.network_lab.specs.Reached.{AreInRun, IsReachedNet, HasRun, AreSmall, AreFitting}
+use Rattle.network_lab.specs.Reached.{AreInRun, HoldNothing, IsReachedNet, HasRun, AreSmall, AreFitting}
 use Rattle.network_lab.proofs.EventLemmas.{fits-change}
 use Rattle.network_lab.proofs.ReachedLemmas.{small-octets}
 use Rattle.network_lab.proofs.AlongLemmas.{claimed-along, calm-fits, fits-append}
@@ -160,20 +163,26 @@ kept-as net other r l d n k = record {
     on : (link router : ℕ) → place_at net link router ≡ place_at other link router
     on link router = ap (λ (ls : List (List End)). place_in (nth ls link) router) (sym l)
 
-start-reached : (a : LabNet) → StandsFor (opened a) a → HasRun a.seen → IsReachedNet (opened a)
-start-reached a s h = record {
+start-reached : (a : LabNet) → StandsFor (opened a) a → HasRun a.seen → HoldNothing a.seen.routers → IsReachedNet (opened a)
+start-reached a s h fresh = record {
   routers = subst AreInRun (ap (λ (x : Seen). x.routers) h.seen) h.reached.routers;
   kept = kept-as h.net (opened a) (ap (λ (x : Seen). x.routers) (sym h.seen)) (ap (λ (x : Seen). x.links) (sym h.seen))
       (sym (no-datagrams h.net.datagrams (ap (λ (x : Seen). x.sent) (h.seen ∙ sym s.seen)))) (sym (ap (λ (x : Seen). x.injected) (h.seen ∙ sym s.seen))) h.reached.kept;
+  origins = start-origins (opened a) nothing;
+  tells = start-true (opened a) nothing;
+  agreed = tt;
 }
+  where
+    nothing : HoldsNothing (opened a)
+    nothing = record { empty = fresh; nothing = refl }
 
 -- ---- the script
 
-pub claimed-run : (script : LabScript) (laid after : LabNet) (m : Network) → IsSoundLab script → laid ≡ laid_out script → StandsFor (opened laid) laid → (laid.seen.injected ≡ 0 → HasRun laid.seen)
+pub claimed-run : (script : LabScript) (laid after : LabNet) (m : Network) → IsSoundLab script → laid ≡ laid_out script → StandsFor (opened laid) laid → (laid.seen.injected ≡ 0 → HasRun laid.seen) → HoldNothing laid.seen.routers
     → end_of script ≡ Ok m → StandsFor m after → AreSmall after.seen.sent → AreWithin after.seen → IsClaimedRun script
 unfolding script_events
-claimed-run script laid after m sound is first began e last small numbers =
-    let reached : IsReachedNet (start_of script) = subst (λ (a : LabNet). IsReachedNet (opened a)) is (start-reached laid first (began (sym (ap (λ (x : Seen). x.injected) first.seen)))) in
+claimed-run script laid after m sound is first began fresh e last small numbers =
+    let reached : IsReachedNet (start_of script) = subst (λ (a : LabNet). IsReachedNet (opened a)) is (start-reached laid first (began (sym (ap (λ (x : Seen). x.injected) first.seen))) fresh) in
     let c = lines-carried (length script.routers) script.links (start_of script) m script.lines sound.lines e in
     record {
       each = λ front rest q. claimed-along (start_of script) front rest reached

@@ -18,6 +18,7 @@ pub record IsSetup (a : LabNet) : Type 0 where
   pub going : a.stopped ≡ None
   pub unsent : a.seen.sent ≡ []
   pub clean : a.seen.injected ≡ 0
+  pub untaken : a.seen.takings ≡ []
   pub same : length a.seen.routers ≡ length a.configs
 
 -- it has these routers, none of which has a circuit

@@ -23,6 +23,7 @@ pub(crate) fn lay_out(alloc: Global, script: &LabScript<'_>) -> Result<Network, 
     ensures is { IfOk result (λ net. IsLaid (length script.now.routers) script.now.links net.seen) }
     ensures stands { IfOk result (λ net. StandsFor (opened net) net) }
     ensures goes_on { IfOk result (λ net. net.stopped ≡ None) }
+    ensures early { IfOk result (λ net. net.begun ≡ false) }
 {
     let mut net = Network::new(alloc);
     match add_routers(alloc, &mut net, script) {

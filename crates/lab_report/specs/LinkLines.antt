@@ -1,15 +1,16 @@
--- The lines of links in a report, and of the routers that agree (own).
-use Rattle.std.specs.Prelude.{ℕ, Bool, false, ◌&&◌, List, [], ◌∷◌, ◌++◌, Option, Some, None, codes, decimal, slice_index, if◌then◌else◌}
+-- The lines of links and LANs in a report, and of the routers that agree (own).
+use Rattle.std.specs.Prelude.{ℕ, Bool, false, List, [], ◌++◌, Option, Some, None, codes, decimal, slice_index, if◌then◌else◌}
 use Rattle.isis_base.specs.declared.level.Level.{Level}
 use Rattle.isis_base.specs.declared.level.Level.TheVariants as level
 use Rattle.isis_base.specs.Levels.{level_text}
-use Rattle.isis_model.specs.Both.{at}
 use Rattle.isis_model.specs.Places.{nth}
 use Rattle.isis_model.specs.Routers.{Router}
 use Rattle.network_model.specs.declared.end.End.{End}
 use Rattle.link_states.specs.declared.state.LinkState.{LinkState}
 use Rattle.network_lab.specs.LabNets.{Seen}
-use Rattle.network_lab.specs.LinkStates.{state_at, runs_at, runs_of}
+use Rattle.network_lab.specs.LinkStates.{state_at, pair_of, are_points}
+use Rattle.network_model.specs.RunLines.{ends_of}
+use Rattle.lab_report.specs.LanLines.{member_lines}
 
 -- ` up flags F G ahead P Q excepted E`
 unfoldable pub up_words : LinkState → List ℕ
@@ -26,20 +27,27 @@ link_line name level state =
     codes "link " ++ name ++ codes " " ++ level_text level
     ++ (if state.up then up_words state else codes " down\n")
 
--- whether both ends of a link run a level
-abbrev pub both_run : List Router → List End → Level → Bool
-both_run routers (e ∷ f ∷ []) level = runs_at routers e.router level && runs_at routers f.router level
-both_run routers ends level = false
+-- whether two ends are those of a point-to-point link and run the level (ISO 10589 6.3)
+abbrev pub both_run : List Router → Level → Option (End × End) → Bool
+both_run routers level None = false
+both_run routers level (Some pair) = are_points routers level pair
 
--- a link whose two ends run the level has a line of it
-unfoldable pub link_at : List ℕ → Seen → Option (List End) → Level → List ℕ
-link_at name s None level = []
-link_at name s (Some ends) level =
-    if both_run s.routers ends level then link_line name level (state_at s.routers ends level)
-    else []
+-- a point-to-point link whose two ends run the level has a line of it
+unfoldable pub link_at : List ℕ → Seen → List End → Level → List ℕ
+link_at name s ends level =
+    if both_run s.routers level (pair_of ends)
+    then link_line name level (state_at s.routers ends level) else []
 
-abbrev pub link_lines : List ℕ → Seen → Option (List End) → List ℕ
-link_lines name s ends = link_at name s ends level.One ++ link_at name s ends level.Two
+-- the lines of a link or LAN of this number, at a level
+abbrev pub level_lines : List (List ℕ) → List ℕ → Seen → ℕ → List End → Level → List ℕ
+level_lines routers name s link ends level =
+    link_at name s ends level ++ member_lines routers name s link level ends
+
+-- those of both levels; the routers have these names
+abbrev pub link_lines : List (List ℕ) → List ℕ → Seen → ℕ → List ℕ
+link_lines routers name s link =
+    level_lines routers name s link (ends_of (nth s.links link)) level.One
+    ++ level_lines routers name s link (ends_of (nth s.links link)) level.Two
 
 -- `agree LEVEL routers R groups G`
 unfoldable pub agree_line : Level → ℕ → ℕ → List ℕ

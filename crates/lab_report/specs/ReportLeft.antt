@@ -1,13 +1,10 @@
 -- What is still to come of a report, and how many calls make it at most.
-use Rattle.std.specs.Prelude.{ℕ, ◌+◌, Bool, List, [], ◌∷◌, ◌++◌, length, map, if◌then◌else◌}
+use Rattle.std.specs.Prelude.{ℕ, ◌+◌, List, [], ◌++◌, length, map, if◌then◌else◌}
 use Rattle.std.specs.Borrow.{Bor}
 use Rattle.route_table.specs.declared.route.Route.{Route}
 use Rattle.lab_report.specs.declared.left.LabReport.{LabReport}
+use Rattle.lab_report.specs.Names.{texts}
 use Rattle.lab_report.specs.Reports.{router_blocks, link_blocks, net_lines, datagram_lines}
-
--- the texts of lent names
-abbrev pub texts : List (Bor (List ℕ)) → List (List ℕ)
-texts names = map (λ name. name.now) names
 
 -- the routes of lent tables
 abbrev pub routes_of : List (Bor (List Route)) → List (List Route)
@@ -17,7 +14,7 @@ routes_of tables = map (λ table. table.now) tables
 abbrev pub lines_left : LabReport → List ℕ
 lines_left left =
     left.head.now ++ (router_blocks left.net.now.seen (routes_of left.routes.items) left.router (texts left.router_names.now)
-    ++ (link_blocks left.net.now.seen left.link (texts left.link_names.now)
+    ++ (link_blocks (texts left.routers.now) left.net.now.seen left.link (texts left.link_names.now)
     ++ ((if left.is_open then net_lines left.net.now.seen else [])
     ++ datagram_lines (texts left.routers.now) (texts left.links.now) left.net.now.seen
     left.dumps.now)))

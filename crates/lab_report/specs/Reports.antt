@@ -14,6 +14,7 @@ use Rattle.router_routes.specs.Candidates.{AreRoutesOf}
 use Rattle.network_lab.specs.declared.sent.SentDatagram.{SentDatagram}
 use Rattle.network_lab.specs.LabNets.{Seen}
 use Rattle.network_lab.specs.LinkStates.{runs_of, groups_at}
+use Rattle.lab_report.specs.Names.{name_at}
 use Rattle.lab_report.specs.RouterLines.{router_lines}
 use Rattle.lab_report.specs.LinkLines.{link_lines, agree_line}
 
@@ -42,11 +43,12 @@ router_blocks s routes router (name ∷ names) =
     router_block name (nth s.routers router) (routes_at routes router)
     ++ router_blocks s routes (router + 1) names
 
--- the lines of the links from this number on, whose names these are
-abbrev pub link_blocks : Seen → ℕ → List (List ℕ) → List ℕ
-link_blocks s link [] = []
-link_blocks s link (name ∷ names) =
-    link_lines name s (nth s.links link) ++ link_blocks s (link + 1) names
+-- the lines of the links and LANs from this number on, whose names these are; the routers have
+-- those names
+abbrev pub link_blocks : List (List ℕ) → Seen → ℕ → List (List ℕ) → List ℕ
+link_blocks routers s link [] = []
+link_blocks routers s link (name ∷ names) =
+    link_lines routers name s link ++ link_blocks routers s (link + 1) names
 
 -- ---- the network
 
@@ -71,13 +73,6 @@ net_lines s = agree_lines s level.One ++ (agree_lines s level.Two ++ total_lines
 
 -- ---- datagrams that are told
 
-abbrev pub or_nothing : Option (List ℕ) → List ℕ
-or_nothing None = []
-or_nothing (Some name) = name
-
-unfoldable pub name_at : List (List ℕ) → ℕ → List ℕ
-name_at names n = or_nothing (nth names n)
-
 -- `datagram K ROUTER LINK HEX`
 unfoldable pub datagram_line : List (List ℕ) → List (List ℕ) → ℕ → ℕ → ℕ → List ℕ → List ℕ
 datagram_line routers links number sender link octets =
@@ -101,5 +96,5 @@ datagram_lines routers links s (number ∷ numbers) =
 -- with the datagrams of these numbers
 abbrev pub report_text : List (List ℕ) → List (List ℕ) → List ℕ → List (List Route) → Seen → List ℕ
 report_text routers links dumps routes s =
-    head_line ++ (router_blocks s routes 0 routers ++ (link_blocks s 0 links
+    head_line ++ (router_blocks s routes 0 routers ++ (link_blocks routers s 0 links
     ++ (net_lines s ++ datagram_lines routers links s dumps)))

@@ -1,5 +1,5 @@
 -- The lines of a router in a report (own).
-use Rattle.std.specs.Prelude.{ℕ, nat_lt, List, [], ◌∷◌, ◌++◌, Option, Some, None, codes, decimal, if◌then◌else◌}
+use Rattle.std.specs.Prelude.{ℕ, nat_lt, List, [], ◌∷◌, ◌++◌, Some, None, codes, decimal, if◌then◌else◌}
 use Rattle.std.specs.List.{flat_map}
 use Rattle.isis_base.specs.declared.identifiers.SystemId.{SystemId}
 use Rattle.isis_base.specs.declared.level.Level.{Level}

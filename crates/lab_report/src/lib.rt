@@ -1,11 +1,16 @@
 //! The report of a network of routers, made as it is written.
 //!
-//! - `router_lines.rt`, `route_lines.rt`, `link_lines.rt`: the lines of a router, of its routes, and of a link
+//! - `router_lines.rt`, `route_lines.rt`: the lines of a router, and of its routes
+//! - `link_lines.rt`, `lan_lines.rt`: the lines of a link, and of a LAN's members; `ends.rt`: the circuits at their ends
+//! - `names.rt`: the names of routers and links
 //! - `left.rt`: what is still to come of a report; `report.rt`: the report
 #![tactic(auto)]
 
+mod ends;
+mod lan_lines;
 mod left;
 mod link_lines;
+mod names;
 mod report;
 mod route_lines;
 mod router_lines;

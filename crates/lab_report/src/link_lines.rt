@@ -1,32 +1,54 @@
-//! The lines of links in a report, and of the routers that agree.
+//! The lines of links and LANs in a report.
 ghost use Rattle.std.specs.Prelude.{◌≡◌, ◌++◌, ◌<◌, length, OnOk};
 ghost use Rattle.isis_model.specs.Places.{nth};
-ghost use Rattle.network_lab.specs.LinkStates.{runs_at};
+ghost use Rattle.network_model.specs.RunLines.{ends_of};
+ghost use Rattle.network_lab.specs.LinkStates.{runs_at, pair_of};
 ghost use Rattle.lab_report.specs.LinkLines as lines;
+ghost use Rattle.lab_report.specs.Names.{texts};
 
+use crate::ends::is_point;
+use crate::lan_lines::add_members;
 use crate::router_lines::level_word;
 use isis_base::{Level, Octets, OutOfMemory, add_number};
 use network_lab::{LinkState, Network};
-use network_model::End;
 
-/// Adds the lines of a link: one for each level that its two ends run.
+/// Adds the lines of a link or LAN: of a link one for each level that its two ends run, of a LAN one
+/// for each level and each member that runs it.
 pub(crate) fn add_link(
     page: &mut Octets,
+    routers: &[&str],
     name: &str,
     net: &Network,
     link: usize,
 ) -> Result<(), OutOfMemory>
     requires { link < length net.now.seen.links }
-    ensures { OnOk result (page.new ≡ page.old
-        ++ lines.link_lines name.now net.now.seen (nth net.now.seen.links link)) }
+    ensures { OnOk result (page.new
+        ≡ page.old ++ lines.link_lines (texts routers.now) name.now net.now.seen link) }
 {
-    add_level(page, name, net, link, Level::One)?;
-    add_level(page, name, net, link, Level::Two)
+    add_level(page, routers, name, net, link, Level::One)?;
+    add_level(page, routers, name, net, link, Level::Two)
 }
 
-/// The line of a link's level, where its two ends run it.
-#[tactic(auto, unfolding(crate::specs::LinkLines::link_at))]
+/// The lines of a level.
 fn add_level(
+    page: &mut Octets,
+    routers: &[&str],
+    name: &str,
+    net: &Network,
+    link: usize,
+    level: Level,
+) -> Result<(), OutOfMemory>
+    requires { link < length net.now.seen.links }
+    ensures { OnOk result (page.new ≡ page.old ++ lines.level_lines (texts routers.now) name.now
+        net.now.seen link (ends_of (nth net.now.seen.links link)) level) }
+{
+    add_point(page, name, net, link, level)?;
+    add_members(page, routers, name, net, link, level)
+}
+
+/// The line of a point-to-point link's level, where its two ends run it.
+#[tactic(auto, unfolding(crate::specs::LinkLines::link_at))]
+fn add_point(
     page: &mut Octets,
     name: &str,
     net: &Network,
@@ -35,22 +57,25 @@ fn add_level(
 ) -> Result<(), OutOfMemory>
     requires { link < length net.now.seen.links }
     ensures { OnOk result (page.new ≡ page.old
-        ++ lines.link_at name.now net.now.seen (nth net.now.seen.links link) level) }
+        ++ lines.link_at name.now net.now.seen (ends_of (nth net.now.seen.links link)) level) }
 {
-    if !both_run(net, net.ends(link), level) {
+    if !both_run(net, link, level) {
         return Ok(());
     }
     add_state(page, name, level, net.link_state(link, level))
 }
 
-/// Whether the two ends of a link run a level.
-fn both_run(net: &Network, ends: &[End], level: Level) -> bool
-    ensures { result ≡ lines.both_run net.now.seen.routers ends.now level }
+/// Whether a link is point-to-point and its two ends run a level.
+fn both_run(net: &Network, link: usize, level: Level) -> bool
+    requires { link < length net.now.seen.links }
+    ensures { result ≡ lines.both_run net.now.seen.routers level
+        (pair_of (ends_of (nth net.now.seen.links link))) }
 {
-    let [near, far] = ends else {
-        return false;
-    };
-    runs(net, near.router, level) && runs(net, far.router, level)
+    net.facts();
+    match net.ends(link) {
+        [near, far] => is_point(net, *near, level) && is_point(net, *far, level),
+        _ => false,
+    }
 }
 
 /// Whether a router runs a level.

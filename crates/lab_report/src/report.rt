@@ -9,10 +9,12 @@ ghost use Rattle.network_lab.specs.LinkStates.{runs_of, groups_at};
 ghost use Rattle.lab_report.specs.LinkLines.{agree_line};
 ghost use Rattle.lab_report.specs.Reports as lines;
 ghost use Rattle.lab_report.specs.Reports.{AreAllRoutes, report_text};
-ghost use Rattle.lab_report.specs.ReportLeft.{texts, routes_of, lines_left, calls_left};
+ghost use Rattle.lab_report.specs.Names.{texts};
+ghost use Rattle.lab_report.specs.ReportLeft.{routes_of, lines_left, calls_left};
 
 use crate::left::{GroupCounts, LabReport};
 use crate::link_lines::{add_link, runs};
+use crate::names::add_name;
 use crate::router_lines::{add_router, level_word};
 use isis_base::{Level, Octets, OutOfMemory, add_hex, add_number};
 use isis_edge::Text;
@@ -76,7 +78,7 @@ impl<'n, 't> Text for LabReport<'n, 't> {
             return Ok(true);
         }
         if let [name, others @ ..] = self.link_names {
-            add_link(page, name, self.net, self.link)?;
+            add_link(page, self.routers, name, self.net, self.link)?;
             self.link += 1;
             self.link_names = others;
             return Ok(true);
@@ -245,17 +247,6 @@ fn add_told(
     page.extend(b" ")?;
     add_octets(page, told.octets)?;
     page.extend(b"\n")
-}
-
-/// A name, by its number.
-#[tactic(auto, unfolding(crate::specs::Reports::name_at))]
-fn add_name(page: &mut Octets, names: &[&str], number: usize) -> Result<(), OutOfMemory>
-    ensures { OnOk result (page.new ≡ page.old ++ lines.name_at (texts names.now) number) }
-{
-    match names.get(number) {
-        Some(name) => page.extend(name.as_bytes()),
-        None => Ok(()),
-    }
 }
 
 /// Octets in hex.

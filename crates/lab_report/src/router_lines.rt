@@ -280,7 +280,7 @@ fn add_drop(
 }
 
 /// A router's system ID.
-fn system_of(router: &Router) -> SystemId
+pub(crate) fn system_of(router: &Router) -> SystemId
     ensures { system_id router.now.config.system ≡ result }
 {
     let system = router.desk().system();

@@ -15,7 +15,7 @@ use Rattle.lab_script.specs.declared.named.NamedLine.TheVariants as line
 use Rattle.lab_script.specs.declared.named.NamedScope.{NamedScope}
 use Rattle.lab_script.specs.declared.named.NamedScope.TheVariants as by_name
 use Rattle.lab_script.specs.declared.reason.Reason.{Reason}
-use Rattle.lab_script.specs.declared.reason.Reason.TheVariants.{NotBuilt, Form, Late, Name, Again, NotOn}
+use Rattle.lab_script.specs.declared.reason.Reason.TheVariants.{Form, Late, Name, Again, NotOn}
 use Rattle.lab_script.specs.declared.reason.ScriptFault.{ScriptFault}
 use Rattle.lab_script.specs.declared.reason.ScriptFault.TheVariants.{Refused, Limit}
 use Rattle.lab_script.specs.declared.setup.KeyScope.{KeyScope}
@@ -24,7 +24,7 @@ use Rattle.lab_script.specs.declared.setup.LabLink.{LabLink}
 use Rattle.lab_script.specs.declared.setup.LabRouter.{LabRouter}
 use Rattle.lab_script.specs.declared.circuit.Circuit.{Circuit}
 use Rattle.lab_script.specs.Counts.{has_twice}
-use Rattle.lab_script.specs.LabLines.{lab_line_of, is_unbuilt}
+use Rattle.lab_script.specs.LabLines.{lab_line_of}
 use Rattle.lab_script.specs.LabScripts.{LabScript, router_names, link_names, has_system, circuit_count, place_at, link_between}
 use Rattle.lab_script.specs.Names.{number_of_name}
 
@@ -180,6 +180,4 @@ with_form script number (Some line) = with_line script number line
 
 -- the script with a line of these words more
 abbrev pub with_words : LabScript → ℕ → List (List ℕ) → Result LabScript ScriptFault
-with_words script number words =
-    if is_unbuilt words then refused number NotBuilt
-    else with_form script number (lab_line_of words)
+with_words script number words = with_form script number (lab_line_of words)

@@ -1,6 +1,5 @@
 -- The lines of a lab script, a table of forms (own).
-use Rattle.std.specs.Prelude.{ℕ, ◌≤◌, Bool, false, List, [], ◌∷◌, length, codes, IfSome}
-use Rattle.std.specs.Str.{bytes_eq}
+use Rattle.std.specs.Prelude.{ℕ, ◌≤◌, List, [], ◌∷◌, length, codes, IfSome}
 use Rattle.isis_base.specs.AreaTexts.{area_of}
 use Rattle.isis_base.specs.Levels.{levels_of}
 use Rattle.lab_script.specs.declared.named.NamedDeed.{NamedDeed}
@@ -114,11 +113,6 @@ lab_forms =
 -- the line of these words; none where they have no form
 abbrev pub lab_line_of : Form NamedLine
 lab_line_of = of_forms lab_forms
-
--- the lines that aren't played yet: LANs (own)
-abbrev pub is_unbuilt : List (List ℕ) → Bool
-is_unbuilt [] = false
-is_unbuilt (first ∷ words) = bytes_eq first (codes "lan")
 
 -- a key has 1 to 128 octets
 abbrev pub IsKeyLength : List ℕ → Type 0

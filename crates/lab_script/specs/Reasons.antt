@@ -1,12 +1,11 @@
 -- The words of reasons.
 use Rattle.std.specs.Prelude.{ℕ, List, codes}
 use Rattle.lab_script.specs.declared.reason.Reason.{Reason}
-use Rattle.lab_script.specs.declared.reason.Reason.TheVariants.{Head, NotBuilt, Form, Late, Name, Again, NotOn, NotSent, Stale}
+use Rattle.lab_script.specs.declared.reason.Reason.TheVariants.{Head, Form, Late, Name, Again, NotOn, NotSent, Stale}
 
 -- a reason's word (own)
 abbrev pub reason_word : Reason → List ℕ
 reason_word Head = codes "head"
-reason_word NotBuilt = codes "not-built"
 reason_word Form = codes "form"
 reason_word Late = codes "late"
 reason_word Name = codes "name"

@@ -67,17 +67,6 @@ pub(crate) fn read_lab_line(line: &[u8]) -> Option<NamedLine<'_>>
     None
 }
 
-/// Whether a line isn't played yet: a LAN's.
-pub(crate) fn is_unbuilt(line: &[u8]) -> bool
-    ensures { result ≡ form.is_unbuilt (words_of line.now) }
-{
-    let mut words = Words::of(line);
-    match words.next() {
-        Some(first) => first == b"lan".as_slice(),
-        None => false,
-    }
-}
-
 fn router<'a>(mut words: Words<'a>) -> Option<NamedLine<'a>>
     ensures value { result ≡ form.router_form words.entry }
     ensures within { IfSome result (λ line. IsInRange line) }

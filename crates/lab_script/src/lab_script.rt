@@ -13,7 +13,7 @@ ghost use Rattle.lab_script.specs.declared.named.NamedLine.TheVariants as line;
 use crate::circuit::Circuit;
 use crate::deeds::{LabDeed, LabLine};
 use crate::hexes::Hex;
-use crate::lab_forms::{is_unbuilt, read_lab_line};
+use crate::lab_forms::read_lab_line;
 use crate::lab_links::{LabLinks, has_twice};
 use crate::members::Members;
 use crate::name::Name;
@@ -129,9 +129,6 @@ impl<'a> LabScript<'a> {
     pub(crate) fn hear(&mut self, number: usize, text: &'a [u8]) -> Result<(), ScriptFault>
         ensures { Gives result self.new (judged.with_words self.old number (words_of text.now)) }
     {
-        if is_unbuilt(text) {
-            return refused(number, Reason::NotBuilt);
-        }
         let Some(line) = read_lab_line(text) else {
             return refused(number, Reason::Form);
         };

@@ -3,8 +3,7 @@
 //! Keys scripts are of a plain network that passes numbered copies of LSPs' keys; lab scripts are of whole networks of
 //! routers. The lines and the order of the reasons are this project's own. A line's form is one row of a table, its words
 //! are taken one after another, and a script borrows the text that it was read from. Names, system IDs and a router's
-//! circuits are found by look-ups, so a line costs what it says, not what came before. Lines of LANs are
-//! refused as not built.
+//! circuits are found by look-ups, so a line costs what it says, not what came before.
 //!
 //! - `cuts.rt`: a text up to a mark, and what stands behind it; `words.rt`: the words of a line
 //! - `name.rt`, `hexes.rt`: names, and octets in hex; `fields.rt`, `lab_fields.rt`: what a word says

@@ -13,8 +13,6 @@ use std::fmt;
 pub enum Reason {
     /// Line 1 is no head of a script.
     Head,
-    /// This program doesn't play such scripts yet.
-    NotBuilt,
     /// The line has none of the forms of lines, or a field that is none or out of its range.
     Form,
     /// A setup line after an event line.
@@ -37,7 +35,6 @@ impl fmt::Display for Reason {
     fn fmt<W: fmt::Write>(&self, f: &mut fmt::Formatter<W>) -> fmt::Result {
         match self {
             Reason::Head => write!(f, "head"),
-            Reason::NotBuilt => write!(f, "not-built"),
             Reason::Form => write!(f, "form"),
             Reason::Late => write!(f, "late"),
             Reason::Name => write!(f, "name"),

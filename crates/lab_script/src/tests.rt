@@ -29,8 +29,13 @@ issue A 0000.0000.0001.00-00 1 live;pass 1 C A|not-on";
 const LAB_START: &str =
     "isis-lab 1\nrouter A 0000.0000.0001 49.0001 L1\nrouter B 0000.0000.0002 49.0001 L1L2 priority 0\nrouter C 0000.0000.00ab 49.0002 L2 priority 127\nlink l A B 10\n";
 
-const LAB_REFUSED: &str = "lan n 10 A B|not-built
-lan|not-built
+const LAB_REFUSED: &str = "lan n 10 A|form
+lan n A B 10|form
+tick A;lan n 10 A B|late
+lan n 10 A Z|name
+lan l 10 A B|again
+lan n 10 A B A|again
+lan n 10 A B;pull C n|not-on
 router D 0000.0000.0004 49 L1 leak priority 128|form
 router D 0000.0000.0004 49 L1 priority 4 leak|form
 tick A;router leak 0000.0000.0004 49 L1L2 leak|late
@@ -125,7 +130,6 @@ fn is_refused(alloc: Global, start: &str, lines: &[u8], reason: &[u8]) -> Result
 fn word_of(reason: Reason) -> &'static str {
     match reason {
         Reason::Head => "head",
-        Reason::NotBuilt => "not-built",
         Reason::Form => "form",
         Reason::Late => "late",
         Reason::Name => "name",

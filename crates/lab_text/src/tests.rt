@@ -134,10 +134,10 @@ fn refused(line: usize, reason: Reason) -> Result<(), RunFault> {
 #[test]
 fn reasons_print_their_words(rt: HostRuntime) -> Result<(), Fail> {
     let mut word = String::new(rt.alloc());
-    for reason in [Reason::Head, Reason::NotBuilt, Reason::Late, Reason::Stale] {
+    for reason in [Reason::Head, Reason::Late, Reason::Stale] {
         write!(word, " {reason}")?;
     }
-    assert_eq!(rt; word.as_str(), " head not-built late stale");
+    assert_eq!(rt; word.as_str(), " head late stale");
     let limit = ScriptFault::Limit(LimitName::Links);
     assert_eq!(rt; RunFault::from(limit), RunFault::Limit(LimitName::Links));
     Ok(())

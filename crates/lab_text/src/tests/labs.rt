@@ -1,4 +1,5 @@
-//! Tables of lab scripts: each cause of a drop that a link knows, levels, keys, lines `run`, refused events, and the greatest number.
+//! Tables of lab scripts: each cause of a drop that a link knows, levels, keys, lines `run`, LANs, refused events, and the greatest
+//! number.
 use super::{ends, refused};
 use crate::Reason;
 use std::alloc::Global;
@@ -305,6 +306,56 @@ fn first_wrong(alloc: Global) -> Result<Option<usize>, Fail> {
             text,
             "router B 0000.0000.0002 {second}\nlink X A B 10\n{lines}"
         )?;
+        if !ends(alloc, text.as_str(), Ok(()), report)? {
+            return Ok(Some(row));
+        }
+    }
+    Ok(None)
+}
+
+/// Three routers on a LAN.
+const LAN: &str =
+    "isis-lab 1\nrouter A 0000.0000.0001 49.0001 L1\nrouter B 0000.0000.0002 49.0001 L1\nrouter C 0000.0000.0003 49.0001 L1\nlan N 10 A B C\n";
+
+/// A LAN of two, on both levels; the priority makes A speak for it.
+const TWO: &str =
+    "isis-lab 1\nrouter A 0000.0000.0001 49.0001 L1L2\nrouter B 0000.0000.0002 49.0001 L1L2 priority 0\nlan N 10 A B\n";
+
+/// Scripts with LANs, lines behind them, and the report.
+const LANS: [(&str, &str, &str); 4] = [
+    (
+        LAN,
+        "run 20 except C\n",
+        "isis-report 1\nrouter A 0000.0000.0001 boot 1\nlsp A L1 0000.0000.0001.00-00 2 live\nlsp A L1 0000.0000.0002.00-00 2 live\nlsp A L1 0000.0000.0002.01-00 1 live\nrouter B 0000.0000.0002 boot 1\nlsp B L1 0000.0000.0001.00-00 2 live\nlsp B L1 0000.0000.0002.00-00 2 live\nlsp B L1 0000.0000.0002.01-00 1 live\nrouter C 0000.0000.0003 boot 1\nlan N L1 A sees 0000.0000.0002 swept yes\nlan N L1 B sees 0000.0000.0002\nlan N L1 C sees none\nagree L1 routers 3 groups 2\nagree L2 routers 0 groups 0\ninjected 0\ndatagrams 14\n",
+    ),
+    (
+        LAN,
+        "run 20 except C\nrun 30\n",
+        "isis-report 1\nrouter A 0000.0000.0001 boot 1\nlsp A L1 0000.0000.0001.00-00 3 live\nlsp A L1 0000.0000.0002.00-00 3 live\nlsp A L1 0000.0000.0002.01-00 1 purged\nlsp A L1 0000.0000.0003.00-00 2 live\nlsp A L1 0000.0000.0003.01-00 1 live\ndrop A not-designated 2\nrouter B 0000.0000.0002 boot 1\nlsp B L1 0000.0000.0001.00-00 3 live\nlsp B L1 0000.0000.0002.00-00 3 live\nlsp B L1 0000.0000.0002.01-00 1 purged\nlsp B L1 0000.0000.0003.00-00 2 live\nlsp B L1 0000.0000.0003.01-00 1 live\ndrop B not-designated 2\nrouter C 0000.0000.0003 boot 1\nlsp C L1 0000.0000.0001.00-00 3 live\nlsp C L1 0000.0000.0002.00-00 3 live\nlsp C L1 0000.0000.0002.01-00 1 purged\nlsp C L1 0000.0000.0003.00-00 2 live\nlsp C L1 0000.0000.0003.01-00 1 live\nlan N L1 A sees 0000.0000.0003 swept yes\nlan N L1 B sees 0000.0000.0003 swept yes\nlan N L1 C sees 0000.0000.0003\nagree L1 routers 3 groups 1\nagree L2 routers 0 groups 0\ninjected 0\ndatagrams 41\n",
+    ),
+    (
+        LAN,
+        "run 20 without csnp\n",
+        "isis-report 1\nrouter A 0000.0000.0001 boot 1\nlsp A L1 0000.0000.0001.00-00 2 live\nlsp A L1 0000.0000.0002.00-00 2 live\nlsp A L1 0000.0000.0003.00-00 2 live\nlsp A L1 0000.0000.0003.01-00 1 live\nrouter B 0000.0000.0002 boot 1\nlsp B L1 0000.0000.0001.00-00 2 live\nlsp B L1 0000.0000.0002.00-00 2 live\nlsp B L1 0000.0000.0003.00-00 2 live\nlsp B L1 0000.0000.0003.01-00 1 live\nrouter C 0000.0000.0003 boot 1\nlsp C L1 0000.0000.0001.00-00 2 live\nlsp C L1 0000.0000.0002.00-00 2 live\nlsp C L1 0000.0000.0003.00-00 2 live\nlsp C L1 0000.0000.0003.01-00 1 live\nlan N L1 A sees 0000.0000.0003 swept no\nlan N L1 B sees 0000.0000.0003 swept no\nlan N L1 C sees 0000.0000.0003\nagree L1 routers 3 groups 3\nagree L2 routers 0 groups 0\ninjected 0\ndatagrams 15\n",
+    ),
+    (
+        TWO,
+        "run 20\n",
+        "isis-report 1\nrouter A 0000.0000.0001 boot 1\nlsp A L1 0000.0000.0001.00-00 2 live\nlsp A L1 0000.0000.0001.01-00 1 live\nlsp A L1 0000.0000.0002.00-00 2 live\nlsp A L2 0000.0000.0001.00-00 2 live\nlsp A L2 0000.0000.0001.01-00 1 live\nlsp A L2 0000.0000.0002.00-00 2 live\nrouter B 0000.0000.0002 boot 1\nlsp B L1 0000.0000.0001.00-00 2 live\nlsp B L1 0000.0000.0001.01-00 1 live\nlsp B L1 0000.0000.0002.00-00 2 live\nlsp B L2 0000.0000.0001.00-00 2 live\nlsp B L2 0000.0000.0001.01-00 1 live\nlsp B L2 0000.0000.0002.00-00 2 live\nlan N L1 A sees 0000.0000.0001\nlan N L1 B sees 0000.0000.0001 swept yes\nlan N L2 A sees 0000.0000.0001\nlan N L2 B sees 0000.0000.0001 swept yes\nagree L1 routers 2 groups 1\nagree L2 routers 2 groups 1\ninjected 0\ndatagrams 28\n",
+    ),
+];
+
+#[test]
+fn lans_are_reported_as_worked(rt: HostRuntime) -> Result<(), Fail> {
+    assert_eq!(rt; first_wrong_lan(rt.alloc())?, None);
+    Ok(())
+}
+
+/// The first script with LANs that isn't reported as worked, counted from 0.
+fn first_wrong_lan(alloc: Global) -> Result<Option<usize>, Fail> {
+    for (row, (start, lines, report)) in LANS.iter().enumerate() {
+        let mut text = String::from_str(alloc, start)?;
+        text.push_str(lines)?;
         if !ends(alloc, text.as_str(), Ok(()), report)? {
             return Ok(Some(row));
         }
