@@ -6,7 +6,10 @@ usage: script.py grid N          N x N routers of level 1, each with a prefix, `
        script.py seconds N       two routers, N seconds by lines `run`
        script.py hellos N        two routers; one takes the same hello N times
        script.py wide N         1,024 routers and 4,089 links; one takes the same hello N times
-       script.py refused N       the same text, but its first event line is refused, so that it is read and nothing is played
+       script.py lan N          one LAN of N routers of level 1, `run 60`
+       script.py ring N         16 LANs of N routers in a ring: the last router of each is the first of the next, `run 60`
+       script.py agreed N       the 1,024 routers and 4,089 links, N seconds of level 1
+       script.py refused N       the text of `hellos`, but its first event line is refused, so that it is read and nothing is played
 """
 import sys
 
@@ -52,13 +55,40 @@ def hellos(n):
     yield "deliver 3 B\n" * n
 
 
-def wide(n):
-    for router in range(1024):
+def router_lines(n):
+    for router in range(n):
         yield f"router r{router} 0000.0000.{router + 1:04x} 49.0001 L1\n"
+
+
+def lan(n):
+    yield from router_lines(n)
+    yield "lan N 10 " + " ".join(f"r{router}" for router in range(n)) + "\nrun 60\n"
+
+
+def ring(n):
+    count = 16 * (n - 1)
+    yield from router_lines(count)
+    for place in range(16):
+        yield f"lan N{place} 10 " + " ".join(f"r{(place * (n - 1) + member) % count}" for member in range(n)) + "\n"
+    yield "run 60\n"
+
+
+def wide_links():
+    yield from router_lines(1024)
     for step in range(1, 5):
         for router in range(1022):
             yield f"link l{step}x{router} r{router} r{(router + step) % 1022} 10\n"
-    yield "link X r1022 r1023 10\npull r1022 X\ndeliver 1 r1023\npull r1023 X\ndeliver 2 r1022\npull r1022 X\n"
+    yield "link X r1022 r1023 10\n"
+
+
+def agreed(n):
+    yield from wide_links()
+    yield f"run {n}\n"
+
+
+def wide(n):
+    yield from wide_links()
+    yield "pull r1022 X\ndeliver 1 r1023\npull r1023 X\ndeliver 2 r1022\npull r1022 X\n"
     yield "deliver 3 r1023\n" * n
 
 
@@ -69,7 +99,7 @@ def refused(n):
 
 def main():
     kind, count = sys.argv[1:]
-    made = {"grid": grid, "datagrams": datagrams, "seconds": seconds, "hellos": hellos, "wide": wide, "refused": refused}[kind]
+    made = {"grid": grid, "datagrams": datagrams, "seconds": seconds, "hellos": hellos, "wide": wide, "lan": lan, "ring": ring, "agreed": agreed, "refused": refused}[kind]
     sys.stdout.write("isis-lab 1\n")
     sys.stdout.writelines(made(int(count)))
 
