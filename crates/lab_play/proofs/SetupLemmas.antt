@@ -85,7 +85,7 @@ router-more routers a router config same none h = record {
     going = h.setup.going;
     unsent = h.setup.unsent;
     clean = h.setup.clean;
-    untaken = h.setup.untaken;
+    unnoted = h.setup.unnoted;
     same = length-append a.seen.routers (router_of config ∷ []) ∙ ap (λ (n : ℕ). n + 1) h.setup.same ∙ sym (length-append a.configs (config ∷ []));
   };
   systems = map-append (λ (c : Config). c.system) a.configs (config ∷ []) ∙ ap (λ (ss : List SystemId). ss ++ config.system ∷ []) h.systems ∙ ap (λ (s : SystemId). map (λ (r : LabRouter). r.system) routers ++ s ∷ []) same ∙ sym (map-append (λ (r : LabRouter). r.system) routers (router ∷ []));
@@ -95,7 +95,7 @@ router-more routers a router config same none h = record {
 
 pub no-routers : HasRouters [] empty_lab
 no-routers = record {
-  setup = record { early = refl; going = refl; unsent = refl; clean = refl; untaken = refl; same = refl };
+  setup = record { early = refl; going = refl; unsent = refl; clean = refl; unnoted = refl; same = refl };
   systems = refl;
   bare = λ k. refl;
   linkless = refl;
@@ -169,7 +169,7 @@ setup-kept a i change (Some config) h = record {
   going = h.going;
   unsent = h.unsent;
   clean = h.clean;
-  untaken = h.untaken;
+  unnoted = h.unnoted;
   same = length-with a.seen.routers i (router_of (change config)) ∙ h.same ∙ sym (length-with a.configs i (change config));
 }
 
@@ -252,7 +252,7 @@ row-same a (e ∷ ends) h =
 
 pub ends-more : (count : ℕ) (links : List LabLink) (a : LabNet) (l : LabLink) (c : CircuitConfig) → IsNextLink a l → HasLinks count links a → HasLinks count (links ++ l ∷ []) (with_ends a (end_routers l.ends) c)
 ends-more count links a l c next h = record {
-  setup = record { early = kept.early; going = kept.going; unsent = kept.unsent; clean = kept.clean; untaken = kept.untaken; same = kept.same };
+  setup = record { early = kept.early; going = kept.going; unsent = kept.unsent; clean = kept.clean; unnoted = kept.unnoted; same = kept.same };
   count_is = circuits-count c (end_routers l.ends) a ∙ h.count_is;
   links_are = ap (λ (ls : List (List model.End)). ls ++ map (next_end a.configs) (end_routers l.ends) ∷ []) (circuits-links c (end_routers l.ends) a ∙ h.links_are)
       ∙ ap (λ (es : List model.End). map ends_of links ++ es ∷ []) (row-same a l.ends next.places)

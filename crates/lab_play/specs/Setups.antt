@@ -1,7 +1,7 @@
 -- What holds of a network while a lab script lays it out (own).
 use Rattle.std.specs.Prelude.{◌≡◌, ℕ, ◌+◌, ◌<◌, ◌≤◌, false, List, [], map, length, None}
 use Rattle.std.specs.List.{AllByRecursion}
-use Rattle.network_lab.specs.LabNets.{LabNet, next_place, AreDistinct}
+use Rattle.network_lab.specs.LabNets.{LabNet, nothing_noted, next_place, AreDistinct}
 use Rattle.network_lab.specs.LabCauses.{HasCircuit, has_full}
 use Rattle.lab_script.specs.declared.setup.KeyScope.{KeyScope}
 use Rattle.lab_script.specs.declared.setup.KeyScope.TheVariants as scope
@@ -18,7 +18,7 @@ pub record IsSetup (a : LabNet) : Type 0 where
   pub going : a.stopped ≡ None
   pub unsent : a.seen.sent ≡ []
   pub clean : a.seen.injected ≡ 0
-  pub untaken : a.seen.takings ≡ []
+  pub unnoted : a.seen.noted ≡ nothing_noted
   pub same : length a.seen.routers ≡ length a.configs
 
 -- it has these routers, none of which has a circuit

@@ -2,12 +2,15 @@
 use Rattle.std.specs.Prelude.{◌≡◌, ℕ, ◌+◌, Bool, List, [], ◌∷◌, ◌++◌, length, Option, Some, None, codes, decimal, if◌then◌else◌}
 use Rattle.std.specs.List.{flat_map}
 use Rattle.std.specs.Option.{unwrap_or}
-use Rattle.isis_base.specs.Texts.{hex_pair}
+use Rattle.isis_base.specs.Texts.{hex_pair, lsp_text}
+use Rattle.isis_base.specs.Levels.{level_text}
 use Rattle.isis_base.specs.declared.level.Level.{Level}
 use Rattle.isis_base.specs.declared.level.Level.TheVariants as level
 use Rattle.isis_model.specs.Places.{nth}
 use Rattle.isis_model.specs.Routers.{Router}
+use Rattle.isis_datagram.specs.Numbers.{lsp_id}
 use Rattle.network_model.specs.Networks.{numbered}
+use Rattle.own_histories.specs.Sightings.{doubled_in}
 use Rattle.route_table.specs.declared.route.Route.{Route}
 use Rattle.router_routes.specs.Outlooks.{outlook_of}
 use Rattle.router_routes.specs.Candidates.{AreRoutesOf}
@@ -62,6 +65,15 @@ abbrev pub agree_lines : Seen → Level → List ℕ
 agree_lines s level =
     agree_line level (count_on (runs_of s.routers level)) (length (groups_at s level))
 
+-- `doubled LEVEL LSPID`
+unfoldable pub doubled_line : Level → ℕ → List ℕ
+doubled_line level id =
+    codes "doubled " ++ level_text level ++ codes " " ++ lsp_text (lsp_id id) ++ codes "\n"
+
+-- the LSP IDs of a level of which their own router held two contents live under one number, in order
+abbrev pub doubled_lines : Seen → Level → List ℕ
+doubled_lines s level = flat_map (doubled_line level) (doubled_in s.noted.past level)
+
 -- how many datagrams were injected, and how many were sent
 unfoldable pub total_lines : Seen → List ℕ
 total_lines s =
@@ -69,7 +81,9 @@ total_lines s =
     ++ codes "\n"
 
 abbrev pub net_lines : Seen → List ℕ
-net_lines s = agree_lines s level.One ++ (agree_lines s level.Two ++ total_lines s)
+net_lines s =
+    agree_lines s level.One ++ (agree_lines s level.Two
+    ++ (doubled_lines s level.One ++ (doubled_lines s level.Two ++ total_lines s)))
 
 -- ---- datagrams that are told
 

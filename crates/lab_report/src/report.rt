@@ -12,6 +12,7 @@ ghost use Rattle.lab_report.specs.Reports.{AreAllRoutes, report_text};
 ghost use Rattle.lab_report.specs.Names.{texts};
 ghost use Rattle.lab_report.specs.ReportLeft.{routes_of, lines_left, calls_left};
 
+use crate::doubled_lines::add_doubled;
 use crate::left::{GroupCounts, LabReport};
 use crate::link_lines::{add_link, runs};
 use crate::names::add_name;
@@ -136,7 +137,7 @@ fn group_count(net: &Network, level: Level) -> Result<usize, OutOfMemory>
     Ok(groups.len())
 }
 
-/// The lines of the network: which routers agree, and how much was injected and sent.
+/// The lines of the network: which routers agree, which LSP IDs are doubled, and how much was injected and sent.
 fn add_net(page: &mut Octets, net: &Network, groups: GroupCounts) -> Result<(), OutOfMemory>
     requires one { groups.one ≡ length (groups_at net.now.seen level.One) }
     requires two { groups.two ≡ length (groups_at net.now.seen level.Two) }
@@ -144,6 +145,8 @@ fn add_net(page: &mut Octets, net: &Network, groups: GroupCounts) -> Result<(), 
 {
     add_agree(page, Level::One, count(net, Level::One), groups.one)?;
     add_agree(page, Level::Two, count(net, Level::Two), groups.two)?;
+    add_doubled(page, net, Level::One)?;
+    add_doubled(page, net, Level::Two)?;
     add_totals(page, net)
 }
 

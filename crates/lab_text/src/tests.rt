@@ -52,7 +52,7 @@ const REPORTS: [(&str, &str); 12] = [
     ),
     (
         "isis-lab 1\nrouter A 0000.0000.0001 49.0001 L1\nrouter B 0000.0000.0002 49.0001 L1\nlink X A B 10\nprefix A 10.0.1.0/24 10\nrun 7\nprefix A 10.0.2.0/24 10\nrestart A\nrun 3\n",
-        "isis-report 1\nrouter A 0000.0000.0001 boot 2\nlsp A L1 0000.0000.0001.00-00 3 live\nlsp A L1 0000.0000.0002.00-00 2 live\nroute A 10.0.1.0/24 own 10\nroute A 10.0.2.0/24 own 10\nrouter B 0000.0000.0002 boot 1\nlsp B L1 0000.0000.0001.00-00 3 live\nlsp B L1 0000.0000.0002.00-00 2 live\nroute B 10.0.1.0/24 L1 20 via 0000.0000.0001\nroute B 10.0.2.0/24 L1 20 via 0000.0000.0001\nlink X L1 up flags 0 0 ahead 0 0 excepted 0\nagree L1 routers 2 groups 1\nagree L2 routers 0 groups 0\ninjected 0\ndatagrams 26\n",
+        "isis-report 1\nrouter A 0000.0000.0001 boot 2\nlsp A L1 0000.0000.0001.00-00 3 live\nlsp A L1 0000.0000.0002.00-00 2 live\nroute A 10.0.1.0/24 own 10\nroute A 10.0.2.0/24 own 10\nrouter B 0000.0000.0002 boot 1\nlsp B L1 0000.0000.0001.00-00 3 live\nlsp B L1 0000.0000.0002.00-00 2 live\nroute B 10.0.1.0/24 L1 20 via 0000.0000.0001\nroute B 10.0.2.0/24 L1 20 via 0000.0000.0001\nlink X L1 up flags 0 0 ahead 0 0 excepted 0\nagree L1 routers 2 groups 1\nagree L2 routers 0 groups 0\ndoubled L1 0000.0000.0001.00-00\ninjected 0\ndatagrams 26\n",
     ),
 ];
 

@@ -15,6 +15,7 @@ use Rattle.network_model.specs.RunLines.{ends_of}
 use Rattle.network_agreement.specs.LiveViews.{live_at}
 use Rattle.network_agreement.specs.Chains.{IsClean, AreJoined, Clean, CleanBack, Swept, SweptBack}
 use Rattle.network_agreement.proofs.ChainLemmas.{joined-agrees}
+use Rattle.network_agreement.proofs.SweepLemmas.{swept-live}
 use Rattle.link_states.specs.declared.state.LinkState.{LinkState}
 use Rattle.link_states.specs.LinkStates as link
 use Rattle.link_states.specs.LinkStates.{state_of, no_state}
@@ -26,9 +27,10 @@ use Rattle.network_lab.specs.Reached.{HasRun}
 use Rattle.network_lab.specs.Claims.{IsClaimed}
 use Rattle.network_lab.specs.LanStates.{swept_by, sees_at, router_among, if_swept, sweeper_at}
 use Rattle.network_lab.specs.LinkStates.{runs_of, is_point_in, is_clean, state_between, state_of_ends, listed, joined_by, with_sweeper, swept_pair, pairs_on, pairs_from, pairs_of, groups_at}
-use Rattle.network_lab.specs.Agreements.{AreTogether, IsKeptInGroup, AreAgreeing}
+use Rattle.network_lab.specs.Agreements.{AreTogether, IsKeptInGroup, AreAgreeing, AreSweptAlike}
 use Rattle.network_lab.proofs.StartLemmas.{both-true, has-run, links-in}
 use Rattle.network_lab.proofs.LanLemmas.{swept-is}
+use Rattle.network_lab.proofs.BodyLemmas.{one-body}
 
 -- ---- clean links
 
@@ -224,6 +226,14 @@ agreeing-in s h none level i j a b id t k x y =
     let led = (groups-of (runs_of s.routers level) (pairs_of s level)).led t.group i j t.listed t.near t.far in
     along s h level none i j id b t.group t.listed t.near k y led.0 i a led.1 t.near x
 
+-- ---- sweeps
+
+swept-alike : (s : Seen) → HasRun s → AreSweptAlike s
+swept-alike s h none link level i j id a b e x y =
+    swept-live h.net link level i j a b id (λ i r e. (h.reached.routers i r e).speaking) h.reached.agreed
+    (swept-is s h.net link level i j (if-swept s link level i j (router_among s.routers (sees_at s link i level) (ends_of (nth s.links link))) e) h.seen)
+    (ap (λ (s : Seen). nth s.routers i) h.seen ∙ x) (ap (λ (s : Seen). nth s.routers j) h.seen ∙ y)
+
 -- ---- claims
 
 -- of what is seen of a network in its run, where nothing was injected
@@ -231,6 +241,8 @@ pub claimed-in : (s : Seen) → (s.injected ≡ 0 → HasRun s) → IsClaimed s
 claimed-in s h = record {
   links = λ none. links-in s (h none) none;
   groups = λ none. agreeing-in s (h none) none;
+  sweeps = λ none. swept-alike s (h none) none;
+  bodies = λ none. one-body s (h none) none;
 }
 
 pub are-claimed : (ports : List (List ℕ)) (ordered : List (List End)) (a : LabNet) → IsNet ports ordered a → a.stopped ≡ None → IsClaimed a.seen

@@ -1,5 +1,5 @@
 -- What an event of the model does to what is seen of a network.
-use Rattle.std.proofs.Common.{◌≡◌, ℕ, ◌<◌, ◌≤◌, ◌==◌, ◌&&◌, not, nat_le, Bool, true, false, List, [], ◌++◌, length, Option, Some, None, Result, Ok, Err, is_some, if◌then◌else◌, refl, sym, ap, ◌∙◌, subst, arith}
+use Rattle.std.proofs.Common.{◌≡◌, ℕ, ◌<◌, ◌≤◌, ◌==◌, ◌&&◌, not, nat_le, Bool, true, false, List, [], ◌∷◌, ◌++◌, length, Option, Some, None, Result, Ok, Err, is_some, if◌then◌else◌, refl, sym, ap, ◌∙◌, subst, arith}
 use Rattle.std.specs.Option.{option_map}
 use Rattle.std.proofs.lemmas.List.{map-append, length-map}
 use Rattle.isis_model.specs.Places.{nth, with_nth}
@@ -34,9 +34,9 @@ moved-is : (net : Network) (i : ℕ) (link : Option ℕ) (ev : Event) (r : Route
     → seen_of (moved given net i link ev r takings) ≡ moved_in (seen_of net) i link ev r range
 moved-is net i link ev r takings range e =
     let o = step given r ev in
-    ap (λ (ds : List SentDatagram). record { routers = with_nth net.routers i o.router; links = net.links; sent = ds; injected = net.injected; takings = takings ++ net.takings })
+    ap (λ (ds : List SentDatagram). record { routers = with_nth net.routers i o.router; links = net.links; sent = ds; injected = net.injected; noted = record { past = o.router ∷ net.past; takings = takings ++ net.takings } })
     (map-append sent_of net.datagrams (posted i link o.router (place_of ev) o.reply))
-    ∙ ap (λ (ts : List Taking). record (moved_in (seen_of net) i link ev r range) { takings = ts ++ net.takings }) e
+    ∙ ap (λ (ts : List Taking). record (moved_in (seen_of net) i link ev r range) { noted = record { past = o.router ∷ net.past; takings = ts ++ net.takings } }) e
 
 -- a router that is there takes an event
 pub moved-at : (net : Network) (s : Seen) → seen_of net ≡ s → (i : ℕ) (link : Option ℕ) (ev : Event) (r : Router) → nth s.routers i ≡ Some r → seen_of (moved_if given net i link ev (nth net.routers i)) ≡ moved_in s i link ev r None

@@ -10,13 +10,13 @@ use Rattle.isis_model.specs.Places.{nth, with_nth}
 use Rattle.isis_model.specs.Routers.{Router}
 use Rattle.isis_model.proofs.ListLemmas.{all-append}
 use Rattle.network_model.specs.declared.end.End.{End}
-use Rattle.network_model.specs.Networks.{Taking}
 use Rattle.network_model.specs.RunLines.{by_router, is_end, link_of}
 use Rattle.router_desk.specs.declared.circuit_config.CircuitConfig.{CircuitConfig}
 use Rattle.router_desk.specs.declared.config.Config.{Config}
 use Rattle.router_desk.specs.Limits.{IsValid}
 use Rattle.router_core.specs.Reached.{IsReached}
 use Rattle.network_lab.specs.declared.joining.Joined.{Joined}
+use Rattle.network_lab.specs.declared.notes.Notes.{Notes}
 use Rattle.network_lab.specs.declared.sent.SentDatagram.{SentDatagram}
 use Rattle.network_lab.specs.declared.faults.LabFault.{LabFault}
 use Rattle.network_lab.specs.LabNets.{LabNet, router_of, circuit_count, configured, with_circuit, with_circuits, with_row, with_ends, new_circuit, next_end, AreDistinct}
@@ -90,7 +90,7 @@ none-first : {A : Type 0} (o : Option A) → first_of o None ≡ o
 none-first None = refl
 none-first (Some x) = refl
 
-pub net-row : (ports : List (List ℕ)) (ordered links : List (List End)) (configs : List Config) (rs : List Router) (ds : List SentDatagram) (n : ℕ) (ts : List Taking) (begun : Bool) (stopped : Option LabFault)
+pub net-row : (ports : List (List ℕ)) (ordered links : List (List End)) (configs : List Config) (rs : List Router) (ds : List SentDatagram) (n : ℕ) (ts : Notes) (begun : Bool) (stopped : Option LabFault)
     → IsNet ports ordered (lab configs rs links ds n ts begun stopped) → begun ≡ false
     → IsNet ports (map by_router (links ++ ([] ∷ []))) (lab configs rs (links ++ ([] ∷ [])) ds n ts begun stopped)
 net-row ports ordered links configs rs ds n ts begun stopped h b = record {
@@ -165,7 +165,7 @@ ports-end ports base row i p at_i off h = record { each = λ router list e place
         let is : is_end router place grown ≡ is_end router place row = end-snoc router place row end ∙ (ap (λ (b : Bool). is_end router place row || (b && length p == place)) t ∙ or-no (is_end router place row)) in
         new router place (is_end router place row) is ∙ old router place list other
 
-pub net-end : (ports : List (List ℕ)) (base : List (List End)) (row : List End) (configs : List Config) (rs : List Router) (ds : List SentDatagram) (n : ℕ) (ts : List Taking) (begun : Bool) (stopped : Option LabFault) (kind : CircuitKind) (metric i : ℕ) (p : List ℕ) (config : Config)
+pub net-end : (ports : List (List ℕ)) (base : List (List End)) (row : List End) (configs : List Config) (rs : List Router) (ds : List SentDatagram) (n : ℕ) (ts : Notes) (begun : Bool) (stopped : Option LabFault) (kind : CircuitKind) (metric i : ℕ) (p : List ℕ) (config : Config)
     → IsNet ports (map by_router (base ++ (row ∷ []))) (lab configs rs (base ++ (row ∷ [])) ds n ts begun stopped) → begun ≡ false
     → AllByRecursion (λ (e : End). e.router ≢ i) row → nth ports i ≡ Some p → nth configs i ≡ Some config → length config.circuits < 64 → metric ≤ 16777215
     → IsReached (router_of (with_circuit (new_circuit kind metric) config))
@@ -300,7 +300,7 @@ pub off-nobody : (routers : List ℕ) → AreOff [] routers
 off-nobody [] = tt
 off-nobody (r ∷ routers) = (tt, off-nobody routers)
 
-net-all : (joined : List Joined) (ports : List (List ℕ)) (base : List (List End)) (row : List End) (configs : List Config) (rs : List Router) (ds : List SentDatagram) (n : ℕ) (ts : List Taking) (begun : Bool) (stopped : Option LabFault) (kind : CircuitKind) (metric : ℕ)
+net-all : (joined : List Joined) (ports : List (List ℕ)) (base : List (List End)) (row : List End) (configs : List Config) (rs : List Router) (ds : List SentDatagram) (n : ℕ) (ts : Notes) (begun : Bool) (stopped : Option LabFault) (kind : CircuitKind) (metric : ℕ)
     → IsNet ports (map by_router (base ++ (row ∷ []))) (lab configs rs (base ++ (row ∷ [])) ds n ts begun stopped) → begun ≡ false → metric ≤ 16777215
     → AreJoined configs ports (length base) (new_circuit kind metric) joined → AreDistinct (routers_in joined) → AreOff row (routers_in joined)
     → IsNet (ports_with joined ports) (map by_router (base ++ ((row ++ ends_with joined configs) ∷ []))) (lab (configs_with joined configs) (routers_with joined rs) (base ++ ((row ++ ends_with joined configs) ∷ [])) ds n ts begun stopped)
@@ -362,7 +362,7 @@ all-same : (configs : List Config) (rs : List ℕ) → AllByRecursion (λ r. nth
 all-same configs [] = tt
 all-same configs (r ∷ rs) = (refl, all-same configs rs)
 
-with-all : (joined : List Joined) (ports : List (List ℕ)) (links : List (List End)) (configs : List Config) (rs : List Router) (ds : List SentDatagram) (n : ℕ) (ts : List Taking) (begun : Bool) (stopped : Option LabFault) (link : ℕ) (c : CircuitConfig)
+with-all : (joined : List Joined) (ports : List (List ℕ)) (links : List (List End)) (configs : List Config) (rs : List Router) (ds : List SentDatagram) (n : ℕ) (ts : Notes) (begun : Bool) (stopped : Option LabFault) (link : ℕ) (c : CircuitConfig)
     → AreJoined configs ports link c joined → AreDistinct (routers_in joined)
     → lab (configs_with joined configs) (routers_with joined rs) links ds n ts begun stopped ≡ with_circuits c (routers_in joined) (lab configs rs links ds n ts begun stopped)
 with-all [] ports links configs rs ds n ts begun stopped link c are distinct = refl
@@ -376,7 +376,7 @@ with-all (j ∷ joined) ports links configs rs ds n ts begun stopped link c are 
 
 -- ---- the whole
 
-pub join-all : (ports ports_now : List (List ℕ)) (ordered ordered_now links links_now : List (List End)) (configs configs_now : List Config) (rs rs_now : List Router) (ds : List SentDatagram) (n : ℕ) (ts : List Taking) (begun : Bool) (stopped : Option LabFault) (old : LabNet)
+pub join-all : (ports ports_now : List (List ℕ)) (ordered ordered_now links links_now : List (List End)) (configs configs_now : List Config) (rs rs_now : List Router) (ds : List SentDatagram) (n : ℕ) (ts : Notes) (begun : Bool) (stopped : Option LabFault) (old : LabNet)
     (members : List ℕ) (kind : CircuitKind) (metric link : ℕ) (joined : List Joined) (row row_ordered : List End)
     → lab configs rs links ds n ts begun stopped ≡ old → IsNet ports ordered (lab configs rs links ds n ts begun stopped) → old.begun ≡ false
     → AreDistinct members → metric ≤ 16777215 → link ≡ length links

@@ -8,9 +8,9 @@ use Rattle.isis_model.specs.Routers.{Router}
 use Rattle.isis_model.proofs.ListLemmas.{all-map, all-append}
 use Rattle.isis_model.proofs.BookLemmas.{same-or}
 use Rattle.network_model.specs.declared.end.End.{End}
-use Rattle.network_model.specs.Networks.{Taking}
 use Rattle.network_model.specs.RunLines.{is_end, link_of}
 use Rattle.router_desk.specs.declared.config.Config.{Config}
+use Rattle.network_lab.specs.declared.notes.Notes.{Notes}
 use Rattle.network_lab.specs.declared.sent.SentDatagram.{SentDatagram}
 use Rattle.network_lab.specs.declared.faults.LabFault.{LabFault}
 use Rattle.network_lab.specs.LabNets.{LabNet, router_of, with_router}
@@ -20,9 +20,9 @@ use Rattle.network_lab.proofs.PlaceLemmas.{if-no, self, differ, some-same}
 
 -- ---- a run
 
-pub net-goes : (ports : List (List ℕ)) (ordered : List (List End)) (old : LabNet) (rs : List Router) (ds : List SentDatagram) (n : ℕ) (ts : List Taking) (stop : Option LabFault) → IsNet ports ordered old → counts_of rs ≡ counts_of old.seen.routers → length ds ≤ 262144
-    → AreSmall ds → (stop ≡ None → n ≡ 0 → HasRun (record { routers = rs; links = old.seen.links; sent = ds; injected = n; takings = ts }))
-    → IsNet ports ordered (record { configs = old.configs; seen = record { routers = rs; links = old.seen.links; sent = ds; injected = n; takings = ts }; begun = true; stopped = stop })
+pub net-goes : (ports : List (List ℕ)) (ordered : List (List End)) (old : LabNet) (rs : List Router) (ds : List SentDatagram) (n : ℕ) (ts : Notes) (stop : Option LabFault) → IsNet ports ordered old → counts_of rs ≡ counts_of old.seen.routers → length ds ≤ 262144
+    → AreSmall ds → (stop ≡ None → n ≡ 0 → HasRun (record { routers = rs; links = old.seen.links; sent = ds; injected = n; noted = ts }))
+    → IsNet ports ordered (record { configs = old.configs; seen = record { routers = rs; links = old.seen.links; sent = ds; injected = n; noted = ts }; begun = true; stopped = stop })
 net-goes ports ordered old rs ds n ts stop h same few small run = record {
   routers = same ∙ h.routers;
   configs = h.configs;

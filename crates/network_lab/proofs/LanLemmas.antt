@@ -68,10 +68,10 @@ not-swept s link member other level b c e f h = by b c e f h
     by false false e f h = ap (λ (x : Bool). if not x && false then Some other else None) e ∙ ap (λ (y : Bool). if not (other == member) && y then Some other else None) f
 
 pub swept-at : (s : Seen) (link member other : ℕ) (level : Level) (a b : Router) → nth s.routers member ≡ Some a → nth s.routers other ≡ Some b
-    → swept_by s link level member other ≡ (is_counted a level && is_counted b level && is_whole (moment_of link level member a other b) s.takings)
+    → swept_by s link level member other ≡ (is_counted a level && is_counted b level && is_whole (moment_of link level member a other b) s.noted.takings)
 swept-at s link member other level a b at_a at_b =
-    ap (λ (o : Option Router). swept_between s.takings link level member o other (nth s.routers other)) at_a
-    ∙ ap (λ (o : Option Router). swept_between s.takings link level member (Some a) other o) at_b
+    ap (λ (o : Option Router). swept_between s.noted.takings link level member o other (nth s.routers other)) at_a
+    ∙ ap (λ (o : Option Router). swept_between s.noted.takings link level member (Some a) other o) at_b
 
 -- ---- who is swept is swept in the model's networks
 

@@ -21,6 +21,7 @@ pub mod StateLemmas
 pub mod ReachedLemmas
 pub mod StartLemmas
 pub mod AgreeLemmas
+pub mod BodyLemmas
 pub mod AlongLemmas
 pub mod AckLemmas
 pub mod JoinLemmas

@@ -3,11 +3,11 @@ use Rattle.std.proofs.Common.{◌≡◌, ℕ, ◌-◌, ◌<◌, ◌≤◌, List,
 use Rattle.isis_model.specs.Places.{nth, with_nth}
 use Rattle.isis_model.specs.Routers.{Router}
 use Rattle.network_model.specs.declared.end.End.{End}
-use Rattle.network_model.specs.Networks.{Taking}
 use Rattle.router_desk.specs.declared.circuit_config.CircuitConfig.{CircuitConfig}
 use Rattle.router_desk.specs.declared.config.Config.{Config}
 use Rattle.router_desk.specs.Limits.{IsCircuit, IsValid}
 use Rattle.router_core.specs.Reached.{IsReached}
+use Rattle.network_lab.specs.declared.notes.Notes.{Notes}
 use Rattle.network_lab.specs.declared.sent.SentDatagram.{SentDatagram}
 use Rattle.network_lab.specs.declared.faults.LabFault.{LabFault}
 use Rattle.network_lab.specs.LabNets.{LabNet, router_of, reconfigured, with_changed, with_config}
@@ -20,15 +20,15 @@ use Rattle.network_lab.proofs.PlaceLemmas.{some-same, nth-get, of-place, length-
 use Rattle.std.proofs.lemmas.List.{length-map}
 use Rattle.network_lab.proofs.ConfigLemmas.{net-config, config-is, fit-with}
 
-abbrev pub lab : List Config → List Router → List (List End) → List SentDatagram → ℕ → List Taking → Bool → Option LabFault → LabNet
+abbrev pub lab : List Config → List Router → List (List End) → List SentDatagram → ℕ → Notes → Bool → Option LabFault → LabNet
 lab configs rs links ds n ts begun stopped = record {
   configs = configs;
-  seen = record { routers = rs; links = links; sent = ds; injected = n; takings = ts };
+  seen = record { routers = rs; links = links; sent = ds; injected = n; noted = ts };
   begun = begun;
   stopped = stopped;
 }
 
-pub router-more : (ports ports_now : List (List ℕ)) (ordered links : List (List End)) (configs configs_now : List Config) (rs rs_now : List Router) (ds : List SentDatagram) (n : ℕ) (ts : List Taking) (begun : Bool) (stopped : Option LabFault) (config : Config)
+pub router-more : (ports ports_now : List (List ℕ)) (ordered links : List (List End)) (configs configs_now : List Config) (rs rs_now : List Router) (ds : List SentDatagram) (n : ℕ) (ts : Notes) (begun : Bool) (stopped : Option LabFault) (config : Config)
     → IsNet ports ordered (lab configs rs links ds n ts begun stopped) → begun ≡ false → IsValid config → IsReached (router_of config) → config.circuits ≡ []
     → configs_now ≡ configs ++ (config ∷ []) → rs_now ≡ rs ++ (router_of config ∷ []) → ports_now ≡ ports ++ ([] ∷ [])
     → IsNet ports_now ordered (lab configs_now rs_now links ds n ts begun stopped)
@@ -38,7 +38,7 @@ router-more ports ports_now ordered links configs configs_now rs rs_now ds n ts 
     (subst (λ (xs : List Config). IsNet (ports ++ ([] ∷ [])) ordered (lab xs (rs ++ (router_of config ∷ [])) links ds n ts begun stopped)) (sym c)
     (net-router ports ordered (lab configs rs links ds n ts begun stopped) config h b (record { valid = valid; reached = reached }) bare)))
 
-pub config-new : (ports : List (List ℕ)) (ordered links : List (List End)) (configs configs_now : List Config) (rs rs_now : List Router) (ds : List SentDatagram) (n : ℕ) (ts : List Taking) (begun : Bool) (stopped : Option LabFault) (i : ℕ) (config new : Config)
+pub config-new : (ports : List (List ℕ)) (ordered links : List (List End)) (configs configs_now : List Config) (rs rs_now : List Router) (ds : List SentDatagram) (n : ℕ) (ts : Notes) (begun : Bool) (stopped : Option LabFault) (i : ℕ) (config new : Config)
     → IsNet ports ordered (lab configs rs links ds n ts begun stopped) → begun ≡ false → nth configs i ≡ Some config → IsFit new → length new.circuits ≡ length config.circuits
     → configs_now ≡ with_nth configs i new → rs_now ≡ with_nth rs i (router_of new)
     → IsNet ports ordered (lab configs_now rs_now links ds n ts begun stopped)
@@ -47,7 +47,7 @@ config-new ports ordered links configs configs_now rs rs_now ds n ts begun stopp
     (subst (λ (xs : List Config). IsNet ports ordered (lab xs (with_nth rs i (router_of new)) links ds n ts begun stopped)) (sym c)
     (net-config ports ordered (lab configs rs links ds n ts begun stopped) i config new h b at fit same))
 
-pub config-view : (links : List (List End)) (configs configs_now : List Config) (rs rs_now : List Router) (ds : List SentDatagram) (n : ℕ) (ts : List Taking) (begun : Bool) (stopped : Option LabFault) (old : LabNet) (i : ℕ) (new : Config)
+pub config-view : (links : List (List End)) (configs configs_now : List Config) (rs rs_now : List Router) (ds : List SentDatagram) (n : ℕ) (ts : Notes) (begun : Bool) (stopped : Option LabFault) (old : LabNet) (i : ℕ) (new : Config)
     → lab configs rs links ds n ts begun stopped ≡ old → configs_now ≡ with_nth configs i new → rs_now ≡ with_nth rs i (router_of new)
     → lab configs_now rs_now links ds n ts begun stopped ≡ with_config old i new
 config-view links configs configs_now rs rs_now ds n ts begun stopped old i new is c r =
@@ -73,7 +73,7 @@ port-at ports ordered a i p h l e = nth-get ports i p (let m = sym (length-map a
 
 -- ---- another circuit of a router
 
-pub change-setup : (change : CircuitConfig → CircuitConfig) (ports : List (List ℕ)) (ordered links : List (List End)) (configs configs_now : List Config) (rs rs_now : List Router) (ds : List SentDatagram) (n : ℕ) (ts : List Taking) (begun : Bool) (stopped : Option LabFault) (old : LabNet) (i circuit from : ℕ) (first config setup_config : Config) (setup_router : Router) (slice : List CircuitConfig) (item changed : CircuitConfig)
+pub change-setup : (change : CircuitConfig → CircuitConfig) (ports : List (List ℕ)) (ordered links : List (List End)) (configs configs_now : List Config) (rs rs_now : List Router) (ds : List SentDatagram) (n : ℕ) (ts : Notes) (begun : Bool) (stopped : Option LabFault) (old : LabNet) (i circuit from : ℕ) (first config setup_config : Config) (setup_router : Router) (slice : List CircuitConfig) (item changed : CircuitConfig)
     → lab configs rs links ds n ts begun stopped ≡ old → IsNet ports ordered (lab configs rs links ds n ts begun stopped) → old.begun ≡ false → HasCircuit old i circuit
     → first ≡ get_or configs i first → config ≡ get_or configs i config → slice ≡ first.circuits → from ≡ circuit → item ≡ get_or slice (from - 1) item → changed ≡ item → (IsCircuit item → IsCircuit (change item))
     → setup_config ≡ with_circuit_at config (from - 1) (change changed) → setup_router ≡ router_of (with_circuit_at config (from - 1) (change changed)) → IsReached setup_router → configs_now ≡ with_nth configs i setup_config → rs_now ≡ with_nth rs i setup_router

@@ -87,7 +87,7 @@ has-run ports ordered a h going none = by a.begun refl
     by true q = h.run q going none
     by false q = record {
       net = opening a.seen;
-      seen = ap (λ (ds : List _). record a.seen { sent = ds; takings = [] }) (sym (h.setup q).nothing) ∙ ap (λ (ts : List _). record a.seen { takings = ts }) (sym (h.setup q).untaken);
+      seen = ap (λ (ds : List _). record a.seen { sent = ds; noted = nothing_noted }) (sym (h.setup q).nothing) ∙ ap (λ (ns : _). record a.seen { noted = ns }) (sym (h.setup q).unnoted);
       reached = opening-reached a.configs a.seen (h.setup q) h.wired;
     }
 

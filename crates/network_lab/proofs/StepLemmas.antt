@@ -14,14 +14,15 @@ use Rattle.router_core.specs.Events.{event_of}
 use Rattle.router_core.specs.Givens.{given}
 use Rattle.router_core.specs.Replies.{Answers}
 use Rattle.std.specs.Option.{option_map}
-use Rattle.network_model.specs.Networks.{Taking, restarted}
+use Rattle.network_model.specs.Networks.{restarted}
 use Rattle.network_model.specs.Runs.{changes_of, boot_of, posted}
+use Rattle.network_lab.specs.declared.notes.Notes.{Notes}
 use Rattle.network_lab.specs.declared.sent.SentDatagram.{SentDatagram}
 use Rattle.network_lab.specs.declared.faults.LabFault.{LabFault}
 use Rattle.network_lab.specs.declared.sent.Changes.{Changes}
 use Rattle.network_lab.specs.declared.heard_range.HeardRange.{HeardRange}
 use Rattle.network_lab.specs.LabNets.{counts_in, sent_of}
-use Rattle.network_lab.specs.LabTakings.{is_taken, counts_at, kept_ranges}
+use Rattle.network_lab.specs.LabTakings.{is_taken, counts_at, kept_ranges, noted_in}
 use Rattle.lan_sweeps.specs.Sweeps.{taking_at}
 use Rattle.isis_base.specs.Identifiers.{lsp_number}
 use Rattle.network_lab.specs.LabSteps.{posted_in, StopCause}
@@ -48,21 +49,21 @@ counts-now : (old now : List Router) (i : ℕ) (event : NodeEvent) (r : Router) 
 counts-now old now i event r changes q h b = b ∙ ap counts_at (ap (λ (rs : List Router). nth rs i) h ∙ nth-set old i r (step given r (event_of r event)).router q)
 
 -- a range that is kept where it was heard
-pub take-keeps : {U E : Type 0} (res : Result U E) (old now : List Router) (i : ℕ) (event : NodeEvent) (reply : Reply) (range : Option HeardRange) (ts us : List Taking)
+pub take-keeps : {U E : Type 0} (res : Result U E) (old now : List Router) (i : ℕ) (event : NodeEvent) (reply : Reply) (range : Option HeardRange) (ts us : Notes)
     → IfSome (nth old i) (Now old now i event) → IfSome (nth old i) (Says event reply)
-    → ((r : Router) (place : ℕ) (m : model.Reply) → Answers r place m reply → nth now i ≡ Some r → us ≡ kept_ranges range (record { router = r; reply = m }) ++ ts)
-    → OnOk res (IfSome (nth old i) (λ r. us ≡ kept_ranges range (step given r (event_of r event)) ++ ts))
+    → ((r : Router) (place : ℕ) (m : model.Reply) → Answers r place m reply → nth now i ≡ Some r → us ≡ noted_in range (record { router = r; reply = m }) ts)
+    → OnOk res (IfSome (nth old i) (λ r. us ≡ noted_in range (step given r (event_of r event)) ts))
 take-keeps (Err e) old now i event reply range ts us h k s = tt
 take-keeps (Ok u) old now i event reply range ts us h k s = of (nth old i) refl h k
   where
-    of : (o : Option Router) → nth old i ≡ o → IfSome o (Now old now i event) → IfSome o (Says event reply) → IfSome o (λ r. us ≡ kept_ranges range (step given r (event_of r event)) ++ ts)
+    of : (o : Option Router) → nth old i ≡ o → IfSome o (Now old now i event) → IfSome o (Says event reply) → IfSome o (λ r. us ≡ noted_in range (step given r (event_of r event)) ts)
     of None q h k = tt
     of (Some r) q h k = s (step given r (event_of r event)).router (place_of (event_of r event)) (step given r (event_of r event)).reply k (ap (λ (rs : List Router). nth rs i) h ∙ nth-set old i r (step given r (event_of r event)).router q)
 
 -- what was kept, by the routers as they lie in memory
-pub keeps-there : (now there : List Router) (i : ℕ) (reply : Reply) (range : Option HeardRange) (ts us : List Taking) → there ≡ now
-    → ((r : Router) (place : ℕ) (m : model.Reply) → Answers r place m reply → nth there i ≡ Some r → us ≡ kept_ranges range (record { router = r; reply = m }) ++ ts)
-    → (r : Router) (place : ℕ) (m : model.Reply) → Answers r place m reply → nth now i ≡ Some r → us ≡ kept_ranges range (record { router = r; reply = m }) ++ ts
+pub keeps-there : (now there : List Router) (i : ℕ) (reply : Reply) (range : Option HeardRange) (ts us : Notes) → there ≡ now
+    → ((r : Router) (place : ℕ) (m : model.Reply) → Answers r place m reply → nth there i ≡ Some r → us ≡ noted_in range (record { router = r; reply = m }) ts)
+    → (r : Router) (place : ℕ) (m : model.Reply) → Answers r place m reply → nth now i ≡ Some r → us ≡ noted_in range (record { router = r; reply = m }) ts
 keeps-there now there i reply range ts us same f r place m a at = f r place m a (ap (λ (rs : List Router). nth rs i) same ∙ at)
 
 pub take-sends : {U E : Type 0} (res : Result U E) (old now : List Router) (i : ℕ) (link : Option ℕ) (boot : ℕ) (changes : Changes) (event : NodeEvent) (reply : Reply) (sent new : List SentDatagram)

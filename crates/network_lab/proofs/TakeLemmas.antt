@@ -19,9 +19,10 @@ use Rattle.router_core.specs.Events as core
 use Rattle.router_core.specs.Events.{event_of}
 use Rattle.router_core.specs.Givens.{given}
 use Rattle.network_model.specs.declared.end.End.{End}
-use Rattle.network_model.specs.Networks.{Taking, Network, place_on, place_in, numbered, restarted}
+use Rattle.network_model.specs.Networks.{Network, place_on, place_in, numbered, restarted}
 use Rattle.network_model.specs.Runs as model
 use Rattle.network_model.specs.Runs.{taking, boot_of}
+use Rattle.network_lab.specs.declared.notes.Notes.{Notes}
 use Rattle.network_lab.specs.declared.sent.SentDatagram.{SentDatagram}
 use Rattle.network_lab.specs.declared.event.LabEvent.{LabEvent}
 use Rattle.network_lab.specs.declared.event.LabEvent.TheVariants as event
@@ -33,7 +34,7 @@ use Rattle.network_lab.specs.LabEvents.{refusal, after, unless_changes, change_o
 use Rattle.network_lab.specs.LabCauses.{IsStop}
 use Rattle.network_lab.specs.LabInside.{counts_of, AreEndsThere, IsNet}
 use Rattle.network_lab.specs.declared.heard_range.HeardRange.{HeardRange}
-use Rattle.network_lab.specs.LabTakings.{kept_ranges, IsHeard}
+use Rattle.network_lab.specs.LabTakings.{noted_in, IsHeard}
 use Rattle.network_lab.specs.LabSteps.{moved_in, posted_in, StopCause, delivered_on, Taken, Ending, Done, Refused, Stopped}
 use Rattle.network_lab.proofs.PlaceLemmas.{nth-there, nth-less, nth-get, nth-map, of-place, to-place, some-same, length-with}
 use Rattle.network_lab.proofs.LinkLemmas.{all-at}
@@ -46,16 +47,16 @@ use Rattle.network_lab.proofs.LabLemmas.{net-goes}
 
 -- ---- a router takes an event
 
-view : List Config → List Router → List (List End) → List SentDatagram → ℕ → List Taking → Bool → Option LabFault → LabNet
+view : List Config → List Router → List (List End) → List SentDatagram → ℕ → Notes → Bool → Option LabFault → LabNet
 view configs rs links ds n ts begun stopped = record {
   configs = configs;
-  seen = record { routers = rs; links = links; sent = ds; injected = n; takings = ts };
+  seen = record { routers = rs; links = links; sent = ds; injected = n; noted = ts };
   begun = begun;
   stopped = stopped;
 }
 
-taken-of : (configs : List Config) (rs now : List Router) (links : List (List End)) (ds sent : List SentDatagram) (n : ℕ) (ts us : List Taking) (begun : Bool) (i : ℕ) (link : Option ℕ) (event : NodeEvent) (range : Option HeardRange) (res : Result (Unit {0}) LabFault) (r : Router)
-    → OnOk res (now ≡ with_nth rs i (step given r (event_of r event)).router) → OnOk res (sent ≡ ds ++ posted_in i link (event_of r event) r) → OnOk res (us ≡ kept_ranges range (step given r (event_of r event)) ++ ts) → IfErr res (StopCause (length ds + length (posted_in i link (event_of r event) r))) → counts_of now ≡ counts_of rs
+taken-of : (configs : List Config) (rs now : List Router) (links : List (List End)) (ds sent : List SentDatagram) (n : ℕ) (ts us : Notes) (begun : Bool) (i : ℕ) (link : Option ℕ) (event : NodeEvent) (range : Option HeardRange) (res : Result (Unit {0}) LabFault) (r : Router)
+    → OnOk res (now ≡ with_nth rs i (step given r (event_of r event)).router) → OnOk res (sent ≡ ds ++ posted_in i link (event_of r event) r) → OnOk res (us ≡ noted_in range (step given r (event_of r event)) ts) → IfErr res (StopCause (length ds + length (posted_in i link (event_of r event) r))) → counts_of now ≡ counts_of rs
     → Taken (view configs rs links ds n ts begun None) (view configs now links sent n us true (result_err res)) (moved_in (view configs rs links ds n ts begun None).seen i link (event_of r event) r range) res
 unfolding view
 taken-of configs rs now links ds sent n ts us begun i link event range (Ok u) r a b w c k = record {
@@ -65,7 +66,7 @@ taken-of configs rs now links ds sent n ts us begun i link event range (Ok u) r 
   size = record { links = refl; routers = sym (length-map now (λ (r : Router). length r.circuits)) ∙ (ap length k ∙ length-map rs (λ (r : Router). length r.circuits)) };
 }
   where
-    both : {x y : List Router} {v w : List SentDatagram} {p q : List Taking} → x ≡ y → v ≡ w → p ≡ q → view configs x links v n p true None ≡ view configs y links w n q true None
+    both : {x y : List Router} {v w : List SentDatagram} {p q : Notes} → x ≡ y → v ≡ w → p ≡ q → view configs x links v n p true None ≡ view configs y links w n q true None
     both e f g = cc
 taken-of configs rs now links ds sent n ts us begun i link event range (Err f) r a b w c k = record {
   done = tt;
@@ -74,20 +75,20 @@ taken-of configs rs now links ds sent n ts us begun i link event range (Err f) r
   size = record { links = refl; routers = sym (length-map now (λ (r : Router). length r.circuits)) ∙ (ap length k ∙ length-map rs (λ (r : Router). length r.circuits)) };
 }
 
-pub take-ends : (configs : List Config) (rs now : List Router) (links : List (List End)) (ds sent : List SentDatagram) (n : ℕ) (ts us : List Taking) (begun : Bool) (stopped stop : Option LabFault) (old : LabNet) (i : ℕ) (link : Option ℕ) (event : NodeEvent) (range : Option HeardRange) (res : Result (Unit {0}) LabFault)
-    → (record { configs = configs; seen = record { routers = rs; links = links; sent = ds; injected = n; takings = ts }; begun = begun; stopped = stopped }) ≡ old → old.stopped ≡ None
-    → OnOk res (IfSome (nth rs i) (λ r. now ≡ with_nth rs i (step given r (event_of r event)).router)) → OnOk res (IfSome (nth rs i) (λ r. sent ≡ ds ++ posted_in i link (event_of r event) r)) → OnOk res (IfSome (nth rs i) (λ r. us ≡ kept_ranges range (step given r (event_of r event)) ++ ts)) → IfErr res (λ f. IfSome (nth rs i) (λ r. StopCause (length ds + length (posted_in i link (event_of r event) r)) f))
+pub take-ends : (configs : List Config) (rs now : List Router) (links : List (List End)) (ds sent : List SentDatagram) (n : ℕ) (ts us : Notes) (begun : Bool) (stopped stop : Option LabFault) (old : LabNet) (i : ℕ) (link : Option ℕ) (event : NodeEvent) (range : Option HeardRange) (res : Result (Unit {0}) LabFault)
+    → (record { configs = configs; seen = record { routers = rs; links = links; sent = ds; injected = n; noted = ts }; begun = begun; stopped = stopped }) ≡ old → old.stopped ≡ None
+    → OnOk res (IfSome (nth rs i) (λ r. now ≡ with_nth rs i (step given r (event_of r event)).router)) → OnOk res (IfSome (nth rs i) (λ r. sent ≡ ds ++ posted_in i link (event_of r event) r)) → OnOk res (IfSome (nth rs i) (λ r. us ≡ noted_in range (step given r (event_of r event)) ts)) → IfErr res (λ f. IfSome (nth rs i) (λ r. StopCause (length ds + length (posted_in i link (event_of r event) r)) f))
     → counts_of now ≡ counts_of rs → stop ≡ result_err res
-    → IfSome (nth old.seen.routers i) (λ r. Taken old (record { configs = configs; seen = record { routers = now; links = links; sent = sent; injected = n; takings = us }; begun = true; stopped = stop }) (moved_in old.seen i link (event_of r event) r range) res)
+    → IfSome (nth old.seen.routers i) (λ r. Taken old (record { configs = configs; seen = record { routers = now; links = links; sent = sent; injected = n; noted = us }; begun = true; stopped = stop }) (moved_in old.seen i link (event_of r event) r range) res)
 unfolding view
 take-ends configs rs now links ds sent n ts us begun stopped stop old i link event range res is running a b w c k s =
-    subst (λ (old : LabNet). IfSome (nth old.seen.routers i) (λ r. Taken old (record { configs = configs; seen = record { routers = now; links = links; sent = sent; injected = n; takings = us }; begun = true; stopped = stop }) (moved_in old.seen i link (event_of r event) r range) res)) (none ∙ is)
+    subst (λ (old : LabNet). IfSome (nth old.seen.routers i) (λ r. Taken old (record { configs = configs; seen = record { routers = now; links = links; sent = sent; injected = n; noted = us }; begun = true; stopped = stop }) (moved_in old.seen i link (event_of r event) r range) res)) (none ∙ is)
     (subst (λ (stop : Option LabFault). IfSome (nth rs i) (λ r. Taken (view configs rs links ds n ts begun None) (view configs now links sent n us true stop) (moved_in (view configs rs links ds n ts begun None).seen i link (event_of r event) r range) res)) (sym s) (of (nth rs i) refl res a b w c))
   where
     none : view configs rs links ds n ts begun None ≡ view configs rs links ds n ts begun stopped
     none = ap (λ (x : Option LabFault). view configs rs links ds n ts begun x) (sym (ap (λ (l : LabNet). l.stopped) is ∙ running))
 
-    of : (o : Option Router) → nth rs i ≡ o → (res : Result (Unit {0}) LabFault) → OnOk res (IfSome o (λ r. now ≡ with_nth rs i (step given r (event_of r event)).router)) → OnOk res (IfSome o (λ r. sent ≡ ds ++ posted_in i link (event_of r event) r)) → OnOk res (IfSome o (λ r. us ≡ kept_ranges range (step given r (event_of r event)) ++ ts)) → IfErr res (λ f. IfSome o (λ r. StopCause (length ds + length (posted_in i link (event_of r event) r)) f))
+    of : (o : Option Router) → nth rs i ≡ o → (res : Result (Unit {0}) LabFault) → OnOk res (IfSome o (λ r. now ≡ with_nth rs i (step given r (event_of r event)).router)) → OnOk res (IfSome o (λ r. sent ≡ ds ++ posted_in i link (event_of r event) r)) → OnOk res (IfSome o (λ r. us ≡ noted_in range (step given r (event_of r event)) ts)) → IfErr res (λ f. IfSome o (λ r. StopCause (length ds + length (posted_in i link (event_of r event) r)) f))
         → IfSome o (λ r. Taken (view configs rs links ds n ts begun None) (view configs now links sent n us true (result_err res)) (moved_in (view configs rs links ds n ts begun None).seen i link (event_of r event) r range) res)
     of None q res a b w c = tt
     of (Some r) q (Ok u) a b w c = taken-of configs rs now links ds sent n ts us begun i link event range (Ok u) r a b w c k
@@ -104,12 +105,12 @@ each-place : {A : Type 0} (Q : A → Type 0) (o : Option A) → ((x : A) → o �
 each-place Q None f = tt
 each-place Q (Some x) f = f x refl
 
-pub take-runs : (ports : List (List ℕ)) (ordered : List (List End)) (configs : List Config) (rs now : List Router) (links : List (List End)) (ds sent : List SentDatagram) (n : ℕ) (ts us : List Taking) (begun : Bool) (stopped stop : Option LabFault) (old : LabNet) (i : ℕ) (link : Option ℕ) (event : NodeEvent) (range : Option HeardRange) (res : Result (Unit {0}) LabFault)
-    → (record { configs = configs; seen = record { routers = rs; links = links; sent = ds; injected = n; takings = ts }; begun = begun; stopped = stopped }) ≡ old → old.stopped ≡ None → i < length old.seen.routers
-    → IsNet ports ordered (record { configs = configs; seen = record { routers = rs; links = links; sent = ds; injected = n; takings = ts }; begun = begun; stopped = stopped })
-    → OnOk res (IfSome (nth rs i) (λ r. now ≡ with_nth rs i (step given r (event_of r event)).router)) → OnOk res (IfSome (nth rs i) (λ r. sent ≡ ds ++ posted_in i link (event_of r event) r)) → OnOk res (IfSome (nth rs i) (λ r. us ≡ kept_ranges range (step given r (event_of r event)) ++ ts)) → AreSmall sent → stop ≡ result_err res
+pub take-runs : (ports : List (List ℕ)) (ordered : List (List End)) (configs : List Config) (rs now : List Router) (links : List (List End)) (ds sent : List SentDatagram) (n : ℕ) (ts us : Notes) (begun : Bool) (stopped stop : Option LabFault) (old : LabNet) (i : ℕ) (link : Option ℕ) (event : NodeEvent) (range : Option HeardRange) (res : Result (Unit {0}) LabFault)
+    → (record { configs = configs; seen = record { routers = rs; links = links; sent = ds; injected = n; noted = ts }; begun = begun; stopped = stopped }) ≡ old → old.stopped ≡ None → i < length old.seen.routers
+    → IsNet ports ordered (record { configs = configs; seen = record { routers = rs; links = links; sent = ds; injected = n; noted = ts }; begun = begun; stopped = stopped })
+    → OnOk res (IfSome (nth rs i) (λ r. now ≡ with_nth rs i (step given r (event_of r event)).router)) → OnOk res (IfSome (nth rs i) (λ r. sent ≡ ds ++ posted_in i link (event_of r event) r)) → OnOk res (IfSome (nth rs i) (λ r. us ≡ noted_in range (step given r (event_of r event)) ts)) → AreSmall sent → stop ≡ result_err res
     → IfSome (nth old.seen.routers i) (λ r. Happen old.seen (moved_in old.seen i link (event_of r event) r range))
-    → stop ≡ None → n ≡ 0 → HasRun (record { routers = now; links = links; sent = sent; injected = n; takings = us })
+    → stop ≡ None → n ≡ 0 → HasRun (record { routers = now; links = links; sent = sent; injected = n; noted = us })
 take-runs ports ordered configs rs now links ds sent n ts us begun stopped stop old i link event range (Err f) is running inside h a b w small s happens going none = absurd (let clash = sym s ∙ going in cc)
 take-runs ports ordered configs rs now links ds sent n ts us begun stopped stop old i link event range (Ok u) is running inside h a b w small s happens going none =
     run-goes later before.net before.reached
@@ -117,10 +118,10 @@ take-runs ports ordered configs rs now links ds sent n ts us begun stopped stop 
     small none
   where
     later : Seen
-    later = record { routers = now; links = links; sent = sent; injected = n; takings = us }
+    later = record { routers = now; links = links; sent = sent; injected = n; noted = us }
 
     first : Seen
-    first = record { routers = rs; links = links; sent = ds; injected = n; takings = ts }
+    first = record { routers = rs; links = links; sent = ds; injected = n; noted = ts }
 
     seen : first ≡ old.seen
     seen = ap (λ (l : LabNet). l.seen) is
@@ -140,22 +141,22 @@ take-runs ports ordered configs rs now links ds sent n ts us begun stopped stop 
     happened : Happen old.seen (moved_in old.seen i link (event_of r event) r range)
     happened = of-place (λ r. Happen old.seen (moved_in old.seen i link (event_of r event) r range)) (nth old.seen.routers i) r there.1 happens
 
-    both : {x y : List Router} {v w : List SentDatagram} {p q : List Taking} → x ≡ y → v ≡ w → p ≡ q → ◌≡◌ {A = Seen} (record { routers = x; links = links; sent = v; injected = n; takings = p }) (record { routers = y; links = links; sent = w; injected = n; takings = q })
+    both : {x y : List Router} {v w : List SentDatagram} {p q : Notes} → x ≡ y → v ≡ w → p ≡ q → ◌≡◌ {A = Seen} (record { routers = x; links = links; sent = v; injected = n; noted = p }) (record { routers = y; links = links; sent = w; injected = n; noted = q })
     both e f g = cc
 
     later-is : moved_in first i link (event_of r event) r range ≡ later
     later-is = sym (both (of-place (λ r. now ≡ with_nth rs i (step given r (event_of r event)).router) (nth rs i) r at a) (of-place (λ r. sent ≡ ds ++ posted_in i link (event_of r event) r) (nth rs i) r at b)
-        (of-place (λ r. us ≡ kept_ranges range (step given r (event_of r event)) ++ ts) (nth rs i) r at w))
+        (of-place (λ r. us ≡ noted_in range (step given r (event_of r event)) ts) (nth rs i) r at w))
 
-pub take-goes : (ports : List (List ℕ)) (ordered : List (List End)) (configs : List Config) (rs now : List Router) (links : List (List End)) (ds sent : List SentDatagram) (n : ℕ) (ts us : List Taking) (begun : Bool) (stopped stop : Option LabFault) (old : LabNet) (i : ℕ) (link : Option ℕ) (event : NodeEvent) (range : Option HeardRange) (res : Result (Unit {0}) LabFault)
-    → (record { configs = configs; seen = record { routers = rs; links = links; sent = ds; injected = n; takings = ts }; begun = begun; stopped = stopped }) ≡ old → old.stopped ≡ None → i < length old.seen.routers
-    → IsNet ports ordered (record { configs = configs; seen = record { routers = rs; links = links; sent = ds; injected = n; takings = ts }; begun = begun; stopped = stopped })
-    → OnOk res (IfSome (nth rs i) (λ r. now ≡ with_nth rs i (step given r (event_of r event)).router)) → OnOk res (IfSome (nth rs i) (λ r. sent ≡ ds ++ posted_in i link (event_of r event) r)) → OnOk res (IfSome (nth rs i) (λ r. us ≡ kept_ranges range (step given r (event_of r event)) ++ ts)) → AreSmall sent → stop ≡ result_err res
+pub take-goes : (ports : List (List ℕ)) (ordered : List (List End)) (configs : List Config) (rs now : List Router) (links : List (List End)) (ds sent : List SentDatagram) (n : ℕ) (ts us : Notes) (begun : Bool) (stopped stop : Option LabFault) (old : LabNet) (i : ℕ) (link : Option ℕ) (event : NodeEvent) (range : Option HeardRange) (res : Result (Unit {0}) LabFault)
+    → (record { configs = configs; seen = record { routers = rs; links = links; sent = ds; injected = n; noted = ts }; begun = begun; stopped = stopped }) ≡ old → old.stopped ≡ None → i < length old.seen.routers
+    → IsNet ports ordered (record { configs = configs; seen = record { routers = rs; links = links; sent = ds; injected = n; noted = ts }; begun = begun; stopped = stopped })
+    → OnOk res (IfSome (nth rs i) (λ r. now ≡ with_nth rs i (step given r (event_of r event)).router)) → OnOk res (IfSome (nth rs i) (λ r. sent ≡ ds ++ posted_in i link (event_of r event) r)) → OnOk res (IfSome (nth rs i) (λ r. us ≡ noted_in range (step given r (event_of r event)) ts)) → AreSmall sent → stop ≡ result_err res
     → IfSome (nth old.seen.routers i) (λ r. Happen old.seen (moved_in old.seen i link (event_of r event) r range))
     → counts_of now ≡ counts_of rs → length sent ≤ 262144
-    → IsNet ports ordered (record { configs = configs; seen = record { routers = now; links = links; sent = sent; injected = n; takings = us }; begun = true; stopped = stop })
+    → IsNet ports ordered (record { configs = configs; seen = record { routers = now; links = links; sent = sent; injected = n; noted = us }; begun = true; stopped = stop })
 take-goes ports ordered configs rs now links ds sent n ts us begun stopped stop old i link event range res is running inside h a b w small s happens counts few =
-    net-goes ports ordered (record { configs = configs; seen = record { routers = rs; links = links; sent = ds; injected = n; takings = ts }; begun = begun; stopped = stopped }) now sent n us stop h counts few small
+    net-goes ports ordered (record { configs = configs; seen = record { routers = rs; links = links; sent = ds; injected = n; noted = ts }; begun = begun; stopped = stopped }) now sent n us stop h counts few small
     (take-runs ports ordered configs rs now links ds sent n ts us begun stopped stop old i link event range res is running inside h a b w small s happens)
 
 pub give-happens : (s : Seen) (rs : List Router) (i link place : ℕ) (e : NodeEvent) (octets : List ℕ) → rs ≡ s.routers → IfSome (nth rs i) (λ r. event_of r e ≡ taking r place octets)
@@ -232,30 +233,30 @@ restart-happens old i r q b none net e = record {
   seen = (restart-done old.seen i r q b net e).1;
 }
 
-pub restart-goes : (ports : List (List ℕ)) (ordered : List (List End)) (configs : List Config) (rs now : List Router) (links : List (List End)) (ds : List SentDatagram) (n : ℕ) (ts : List Taking) (begun : Bool) (stopped : Option LabFault) (i : ℕ) (r : Router)
-    → IsNet ports ordered (record { configs = configs; seen = record { routers = rs; links = links; sent = ds; injected = n; takings = ts }; begun = begun; stopped = stopped })
+pub restart-goes : (ports : List (List ℕ)) (ordered : List (List End)) (configs : List Config) (rs now : List Router) (links : List (List End)) (ds : List SentDatagram) (n : ℕ) (ts : Notes) (begun : Bool) (stopped : Option LabFault) (i : ℕ) (r : Router)
+    → IsNet ports ordered (record { configs = configs; seen = record { routers = rs; links = links; sent = ds; injected = n; noted = ts }; begun = begun; stopped = stopped })
     → nth rs i ≡ Some r → r.boot < 16777215 → now ≡ with_nth rs i (restarted r) → counts_of now ≡ counts_of rs
-    → IsNet ports ordered (record { configs = configs; seen = record { routers = now; links = links; sent = ds; injected = n; takings = ts }; begun = true; stopped = stopped })
+    → IsNet ports ordered (record { configs = configs; seen = record { routers = now; links = links; sent = ds; injected = n; noted = ts }; begun = true; stopped = stopped })
 restart-goes ports ordered configs rs now links ds n ts begun stopped i r h at b is counts = net-goes ports ordered whole now ds n ts stopped h counts h.few h.small runs
   where
     whole : LabNet
-    whole = record { configs = configs; seen = record { routers = rs; links = links; sent = ds; injected = n; takings = ts }; begun = begun; stopped = stopped }
+    whole = record { configs = configs; seen = record { routers = rs; links = links; sent = ds; injected = n; noted = ts }; begun = begun; stopped = stopped }
 
-    runs : stopped ≡ None → n ≡ 0 → HasRun (record { routers = now; links = links; sent = ds; injected = n; takings = ts })
+    runs : stopped ≡ None → n ≡ 0 → HasRun (record { routers = now; links = links; sent = ds; injected = n; noted = ts })
     runs going none =
         let before = has-run ports ordered whole h going none in
-        run-goes (record { routers = now; links = links; sent = ds; injected = n; takings = ts }) before.net before.reached
-        (subst (λ (xs : List Router). Happens before.net (record { routers = xs; links = links; sent = ds; injected = n; takings = ts })) (sym is) (restart-happens whole i r at b none before.net before.seen)) h.small none
+        run-goes (record { routers = now; links = links; sent = ds; injected = n; noted = ts }) before.net before.reached
+        (subst (λ (xs : List Router). Happens before.net (record { routers = xs; links = links; sent = ds; injected = n; noted = ts })) (sym is) (restart-happens whole i r at b none before.net before.seen)) h.small none
 
-pub same-goes : (ports : List (List ℕ)) (ordered : List (List End)) (configs : List Config) (rs now : List Router) (links : List (List End)) (ds : List SentDatagram) (n : ℕ) (ts : List Taking) (begun : Bool) (stopped : Option LabFault)
-    → IsNet ports ordered (record { configs = configs; seen = record { routers = rs; links = links; sent = ds; injected = n; takings = ts }; begun = begun; stopped = stopped })
+pub same-goes : (ports : List (List ℕ)) (ordered : List (List End)) (configs : List Config) (rs now : List Router) (links : List (List End)) (ds : List SentDatagram) (n : ℕ) (ts : Notes) (begun : Bool) (stopped : Option LabFault)
+    → IsNet ports ordered (record { configs = configs; seen = record { routers = rs; links = links; sent = ds; injected = n; noted = ts }; begun = begun; stopped = stopped })
     → now ≡ rs
-    → IsNet ports ordered (record { configs = configs; seen = record { routers = now; links = links; sent = ds; injected = n; takings = ts }; begun = true; stopped = stopped })
+    → IsNet ports ordered (record { configs = configs; seen = record { routers = now; links = links; sent = ds; injected = n; noted = ts }; begun = true; stopped = stopped })
 same-goes ports ordered configs rs now links ds n ts begun stopped h is = net-goes ports ordered whole now ds n ts stopped h (ap counts_of is) h.few h.small
-    (λ going none. subst (λ (xs : List Router). HasRun (record { routers = xs; links = links; sent = ds; injected = n; takings = ts })) (sym is) (has-run ports ordered whole h going none))
+    (λ going none. subst (λ (xs : List Router). HasRun (record { routers = xs; links = links; sent = ds; injected = n; noted = ts })) (sym is) (has-run ports ordered whole h going none))
   where
     whole : LabNet
-    whole = record { configs = configs; seen = record { routers = rs; links = links; sent = ds; injected = n; takings = ts }; begun = begun; stopped = stopped }
+    whole = record { configs = configs; seen = record { routers = rs; links = links; sent = ds; injected = n; noted = ts }; begun = begun; stopped = stopped }
 
 pub tick-ends : (old new : LabNet) (i : ℕ) (res : Result (Unit {0}) LabFault) → i < length old.seen.routers → old.stopped ≡ None → IfSome (nth old.seen.routers i) (λ r. Taken old new (moved_in old.seen i None Second r None) res) → Ending (event.Tick i) old new res
 tick-ends old new i res h running t =
@@ -398,24 +399,24 @@ delivered-number a (suc n) i link h = omega arith
 pub here : (rs : List Router) (old : LabNet) (i : ℕ) (r : Router) → rs ≡ old.seen.routers → i < length old.seen.routers → r ≡ get_or rs i r → nth old.seen.routers i ≡ Some r
 here rs old i r same h e = ap (λ (xs : List Router). nth xs i) (sym same) ∙ nth-get rs i r (subst (λ (xs : List Router). i < length xs) (sym same) h) e
 
-pub restart-is : (configs : List Config) (rs now : List Router) (links : List (List End)) (ds : List SentDatagram) (n : ℕ) (ts : List Taking) (begun : Bool) (stopped : Option LabFault) (old : LabNet) (i : ℕ) (r : Router)
-    → (record { configs = configs; seen = record { routers = rs; links = links; sent = ds; injected = n; takings = ts }; begun = begun; stopped = stopped }) ≡ old → now ≡ with_nth rs i (restarted r)
-    → (record { configs = configs; seen = record { routers = now; links = links; sent = ds; injected = n; takings = ts }; begun = true; stopped = stopped }) ≡ record old { seen = record old.seen { routers = with_nth old.seen.routers i (restarted r) }; begun = true }
+pub restart-is : (configs : List Config) (rs now : List Router) (links : List (List End)) (ds : List SentDatagram) (n : ℕ) (ts : Notes) (begun : Bool) (stopped : Option LabFault) (old : LabNet) (i : ℕ) (r : Router)
+    → (record { configs = configs; seen = record { routers = rs; links = links; sent = ds; injected = n; noted = ts }; begun = begun; stopped = stopped }) ≡ old → now ≡ with_nth rs i (restarted r)
+    → (record { configs = configs; seen = record { routers = now; links = links; sent = ds; injected = n; noted = ts }; begun = true; stopped = stopped }) ≡ record old { seen = record old.seen { routers = with_nth old.seen.routers i (restarted r) }; begun = true }
 unfolding view
 restart-is configs rs now links ds n ts begun stopped old i r is e =
     ap (λ (xs : List Router). view configs xs links ds n ts true stopped) e ∙ ap (λ (l : LabNet). record l { seen = record l.seen { routers = with_nth l.seen.routers i (restarted r) }; begun = true }) is
 
-pub stop-is : (configs : List Config) (rs now : List Router) (links : List (List End)) (ds : List SentDatagram) (n : ℕ) (ts : List Taking) (begun : Bool) (stopped : Option LabFault) (old new : LabNet)
-    → (record { configs = configs; seen = record { routers = rs; links = links; sent = ds; injected = n; takings = ts }; begun = begun; stopped = stopped }) ≡ old → now ≡ rs
-    → new ≡ record { configs = configs; seen = record { routers = now; links = links; sent = ds; injected = n; takings = ts }; begun = true; stopped = Some fault.OutOfMemory }
+pub stop-is : (configs : List Config) (rs now : List Router) (links : List (List End)) (ds : List SentDatagram) (n : ℕ) (ts : Notes) (begun : Bool) (stopped : Option LabFault) (old new : LabNet)
+    → (record { configs = configs; seen = record { routers = rs; links = links; sent = ds; injected = n; noted = ts }; begun = begun; stopped = stopped }) ≡ old → now ≡ rs
+    → new ≡ record { configs = configs; seen = record { routers = now; links = links; sent = ds; injected = n; noted = ts }; begun = true; stopped = Some fault.OutOfMemory }
     → new ≡ record old { begun = true; stopped = Some fault.OutOfMemory }
 unfolding view
 stop-is configs rs now links ds n ts begun stopped old new is e q =
     q ∙ (ap (λ (xs : List Router). view configs xs links ds n ts true (Some fault.OutOfMemory)) e ∙ ap (λ (l : LabNet). record l { begun = true; stopped = Some fault.OutOfMemory }) is)
 
-pub inject-is : (configs : List Config) (rs : List Router) (links : List (List End)) (ds : List SentDatagram) (n m : ℕ) (ts : List Taking) (begun : Bool) (stopped : Option LabFault) (old : LabNet)
-    → (record { configs = configs; seen = record { routers = rs; links = links; sent = ds; injected = n; takings = ts }; begun = begun; stopped = stopped }) ≡ old → m ≡ risen n
-    → (record { configs = configs; seen = record { routers = rs; links = links; sent = ds; injected = m; takings = ts }; begun = true; stopped = stopped }) ≡ record old { seen = record old.seen { injected = risen old.seen.injected }; begun = true }
+pub inject-is : (configs : List Config) (rs : List Router) (links : List (List End)) (ds : List SentDatagram) (n m : ℕ) (ts : Notes) (begun : Bool) (stopped : Option LabFault) (old : LabNet)
+    → (record { configs = configs; seen = record { routers = rs; links = links; sent = ds; injected = n; noted = ts }; begun = begun; stopped = stopped }) ≡ old → m ≡ risen n
+    → (record { configs = configs; seen = record { routers = rs; links = links; sent = ds; injected = m; noted = ts }; begun = true; stopped = stopped }) ≡ record old { seen = record old.seen { injected = risen old.seen.injected }; begun = true }
 unfolding view
 inject-is configs rs links ds n m ts begun stopped old is e =
     ap (λ (k : ℕ). view configs rs links ds k ts true stopped) e ∙ ap (λ (l : LabNet). record l { seen = record l.seen { injected = risen l.seen.injected }; begun = true }) is

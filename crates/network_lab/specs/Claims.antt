@@ -11,7 +11,7 @@ use Rattle.network_model.specs.Ports.{Port}
 use Rattle.network_model.specs.Links.{IsUp}
 use Rattle.network_model.specs.Kept.{IsClaimedOf}
 use Rattle.network_lab.specs.LabNets.{Seen}
-use Rattle.network_lab.specs.Agreements.{AreAgreeing}
+use Rattle.network_lab.specs.Agreements.{AreAgreeing, AreSweptAlike, HaveOneBody}
 
 -- a point-to-point link of two routers that is up at a level (own)
 pub record IsUpLink (s : Seen) (link : ℕ) (e f : Port) (a b : Router) (level : Level) : Type 0 where
@@ -33,10 +33,13 @@ abbrev pub AreClaimed : Seen → Type 0
 AreClaimed s = s.injected ≡ 0 → (link : ℕ) (e f : Port) (a b : Router) (level : Level)
     → IsUpLink s link e f a b level → IsClaimedOf e f a b level
 
--- what is claimed of links, and that routers of one group agree (own)
+-- what is claimed of links, that routers of one group agree, and members of LANs with those that sweep
+-- them, and that what is held under one number is the same (own)
 pub record IsClaimed (s : Seen) : Type 0 where
   pub links : AreClaimed s
   pub groups : AreAgreeing s
+  pub sweeps : AreSweptAlike s
+  pub bodies : HaveOneBody s
 
 -- an end of a link is there: its router, and the router's circuit (own)
 pub record IsEndIn (routers : List Router) (e : End) : Type 0 where

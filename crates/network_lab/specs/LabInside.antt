@@ -10,7 +10,7 @@ use Rattle.network_model.specs.declared.end.End.{End}
 use Rattle.network_model.specs.Networks.{place_in}
 use Rattle.network_model.specs.RunLines.{by_router, link_of}
 use Rattle.network_lab.specs.declared.network.Network.TheInside.{Inside}
-use Rattle.network_lab.specs.LabNets.{Seen, LabNet, router_of, AreDistinct}
+use Rattle.network_lab.specs.LabNets.{Seen, LabNet, nothing_noted, router_of, AreDistinct}
 use Rattle.network_lab.specs.Reached.{AreSmall, HasRun}
 
 -- what is seen of the fields
@@ -20,7 +20,7 @@ seen_in a = record {
   links = a.links.items;
   sent = a.sent.items;
   injected = a.injected;
-  takings = a.sweeps;
+  noted = a.notes;
 }
 
 -- the network that the fields stand for
@@ -69,7 +69,7 @@ pub record IsSetUp (configs : List Config) (seen : Seen) : Type 0 where
   pub routers : seen.routers ≡ map router_of configs
   pub nothing : seen.sent ≡ []
   pub none : seen.injected ≡ 0
-  pub untaken : seen.takings ≡ []
+  pub unnoted : seen.noted ≡ nothing_noted
 
 -- Routers, configurations and links have the same circuits; a link joins different routers, and the ends
 -- of each are at hand in order of their routers too; not too much was sent; and in a run that wasn't

@@ -11,20 +11,22 @@ use Rattle.router_desk.specs.declared.circuit_config.CircuitConfig.{CircuitConfi
 use Rattle.router_desk.specs.declared.config.Config.{Config}
 use Rattle.router_desk.specs.Configs.{config_of, circuits_of}
 use Rattle.network_model.specs.declared.end.End.{End}
-use Rattle.network_model.specs.Networks.{Datagram, octets_of, Taking, Network}
+use Rattle.network_model.specs.Networks.{Datagram, octets_of, Network}
 use Rattle.network_lab.specs.declared.faults.LabFault.{LabFault}
+use Rattle.network_lab.specs.declared.notes.Notes.{Notes}
 use Rattle.network_lab.specs.declared.sent.Changes.{Changes}
 use Rattle.network_lab.specs.declared.sent.SentDatagram.{SentDatagram}
 
 -- What is seen of a network: the routers, the links and LANs by their ends, the datagrams that were
--- sent, in order, how many were injected, and the ranges of CSNPs that were taken cleanly on LANs, the
+-- sent, in order, how many were injected, and what is noted of the run: the states that routers were in
+-- after the events that they took, and the ranges of CSNPs that were taken cleanly on LANs, both the
 -- latest first (own).
 pub record Seen : Type 0 where
   pub routers : List Router
   pub links : List (List End)
   pub sent : List SentDatagram
   pub injected : ℕ
-  pub takings : List Taking
+  pub noted : Notes
 
 -- A network in its run: the configurations that it was set up with, what is seen of it, whether an
 -- event was applied, and the fault that stopped it, if any (own).
@@ -58,7 +60,7 @@ seen_of net = record {
   links = net.links;
   sent = map sent_of net.datagrams;
   injected = net.injected;
-  takings = net.takings;
+  noted = record { past = net.past; takings = net.takings };
 }
 
 -- it stands for each network that is seen so (own)
@@ -67,8 +69,11 @@ pub record StandsFor (net : Network) (a : LabNet) : Type 0 where
 
 -- ---- how it is set up
 
+abbrev pub nothing_noted : Notes
+nothing_noted = record { past = []; takings = [] }
+
 abbrev pub nothing_seen : Seen
-nothing_seen = record { routers = []; links = []; sent = []; injected = 0; takings = [] }
+nothing_seen = record { routers = []; links = []; sent = []; injected = 0; noted = nothing_noted }
 
 -- no router and no link (own)
 abbrev pub empty_lab : LabNet

@@ -18,7 +18,7 @@ use Rattle.network_lab.specs.declared.faults.LabFault.{LabFault}
 use Rattle.network_lab.specs.declared.faults.LabFault.TheVariants as fault
 use Rattle.network_lab.specs.declared.faults.LimitName.TheVariants as limit
 use Rattle.network_lab.specs.LabNets.{Seen, LabNet, StandsFor, sent_of}
-use Rattle.network_lab.specs.LabTakings.{kept_ranges}
+use Rattle.network_lab.specs.LabTakings.{noted_in}
 use Rattle.network_lab.specs.LabEvents.{refusal, after}
 use Rattle.network_lab.specs.LabCauses.{IsStop}
 
@@ -38,13 +38,13 @@ posted_in i link event r =
     let o = step given r event in
     map sent_of (posted i link o.router (place_of event) o.reply)
 
--- a router takes an event: what it sends on the link joins the datagrams, and the range that it heard
--- those that were taken, where it takes that
+-- a router takes an event: what it sends on the link joins the datagrams, its state what is noted, and
+-- the range that it heard too, where it takes that
 abbrev pub moved_in : Seen → ℕ → Option ℕ → Event → Router → Option HeardRange → Seen
 moved_in a i link event r heard = record a {
   routers = with_nth a.routers i (step given r event).router;
   sent = a.sent ++ posted_in i link event r;
-  takings = kept_ranges heard (step given r event) ++ a.takings;
+  noted = noted_in heard (step given r event) a.noted;
 }
 
 -- why what is sent isn't kept: there are so many datagrams then, or memory was wanting

@@ -1,6 +1,6 @@
 -- Which ranges of CSNPs a router takes cleanly on a LAN, as they are kept (ISO 10589 7.3.15.2; the
 -- words: own).
-use Rattle.std.specs.Prelude.{◌≡◌, ℕ, ◌==◌, Bool, true, false, ◌&&◌, List, [], ◌∷◌, Option, Some, None, if◌then◌else◌}
+use Rattle.std.specs.Prelude.{◌≡◌, ℕ, ◌==◌, Bool, true, false, ◌&&◌, List, [], ◌∷◌, ◌++◌, Option, Some, None, if◌then◌else◌}
 use Rattle.isis_base.specs.Identifiers.{lsp_number}
 use Rattle.isis_model.specs.Routers.{Router, book_of}
 use Rattle.isis_model.specs.Events.{Reply, Done, Dropped, Send, Outcome}
@@ -9,6 +9,7 @@ use Rattle.router_core.specs.Givens.{given}
 use Rattle.network_model.specs.Networks.{Datagram, Taking}
 use Rattle.network_model.specs.Runs.{changes_of, taking, ranges_in}
 use Rattle.lan_sweeps.specs.Sweeps.{taking_at}
+use Rattle.network_lab.specs.declared.notes.Notes.{Notes}
 use Rattle.network_lab.specs.declared.sent.Changes.{Changes}
 use Rattle.network_lab.specs.declared.sent.SentDatagram.{SentDatagram}
 use Rattle.network_lab.specs.declared.heard_range.HeardRange.{HeardRange}
@@ -31,6 +32,13 @@ kept_ranges None o = []
 kept_ranges (Some h) o =
     if is_taken o.reply && (book_of o.router h.key.level).changes == h.key.changes
     then taking_at h.key (lsp_number h.first) (lsp_number h.last) ∷ [] else []
+
+-- what is noted then: the router's state, and the range that it heard, where it takes that
+abbrev pub noted_in : Option HeardRange → Outcome → Notes → Notes
+noted_in heard o noted = record {
+  past = o.router ∷ noted.past;
+  takings = kept_ranges heard o ++ noted.takings;
+}
 
 -- what a router heard in a datagram, on its circuit at a place, are the ranges that it takes of it
 pub record IsHeard (i place : ℕ) (r : Router) (d : SentDatagram) (heard : Option HeardRange) : Type 0 where

@@ -46,7 +46,7 @@ swept_between takings link level member (Some a) other (Some b) =
 -- cleanly, at the present boots and counts of both, cover all LSP IDs (7.3.15.2)
 abbrev pub swept_by : Seen → ℕ → Level → ℕ → ℕ → Bool
 swept_by s link level member other =
-    swept_between s.takings link level member (nth s.routers member) other (nth s.routers other)
+    swept_between s.noted.takings link level member (nth s.routers member) other (nth s.routers other)
 
 -- ---- whom a member sees
 

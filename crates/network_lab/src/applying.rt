@@ -241,7 +241,7 @@ impl Network {
         let taken = take_at(
             &mut self.routers,
             &mut self.sent,
-            &mut self.sweeps,
+            &mut self.notes,
             router,
             link,
             event,

@@ -73,7 +73,7 @@ impl Network {
             sent_boot: there.boot(),
             sent_changes: there.changes(level),
         };
-        key.changes < u64::MAX && key.sent_changes < u64::MAX && self.sweeps.is_whole(key)
+        key.changes < u64::MAX && key.sent_changes < u64::MAX && self.notes.takings.is_whole(key)
     }
 }
 

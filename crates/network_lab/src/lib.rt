@@ -11,6 +11,7 @@
 //! - `applying.rt`: one event; `running.rt`: a line `run`
 //! - `states.rt`: how links stand, and which routers agree; `lan_state.rt`, `lan_states.rt`: how the members of LANs do
 //! - `hearing.rt`, `heard_range.rt`: the ranges of CSNPs that routers hear on LANs without a flag
+//! - `notes.rt`: what is noted of a run
 //! - `taking.rt`: a router of a list takes an event; `ends.rt`, `places.rt`, `row.rt`: circuits, ends, places
 #![tactic(auto)]
 
@@ -27,6 +28,7 @@ mod lan_state;
 mod lan_states;
 pub mod laws;
 mod network;
+mod notes;
 mod places;
 mod row;
 mod running;

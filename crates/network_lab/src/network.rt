@@ -4,16 +4,21 @@ ghost use Rattle.std.specs.Option.{option_map};
 ghost use Rattle.isis_model.specs.Places.{nth};
 ghost use Rattle.network_model.specs.Networks.{numbered};
 ghost use Rattle.network_model.specs.RunLines.{link_of as link_at};
+ghost use Rattle.flag_sync.specs.Walks.{numbers_of};
+ghost use Rattle.own_histories.specs.Sightings.{doubled_in};
 ghost use Rattle.network_lab.specs.LabNets.{empty_lab};
 ghost use Rattle.network_lab.specs.Claims.{AreEnds, IsClaimed};
 ghost use Rattle.network_lab.specs.LinkStates.{AreWithin};
 ghost use Rattle.network_lab.specs.Reached.{AreSmall, HasRun, HoldNothing};
 
 use crate::faults::LabFault;
+use crate::notes::Notes;
 use crate::places::sent_at;
 use crate::row::Row;
 use crate::sent::SentDatagram;
+use isis_base::{Level, LspId};
 use lan_sweeps::Sweeps;
+use own_histories::Histories;
 use network_model::End;
 use router_core::Router;
 use router_desk::Config;
@@ -35,7 +40,7 @@ pub struct Network {
     pub(crate) ports: Vec<Row<usize>>,
     pub(crate) sent: Vec<SentDatagram>,
     pub(crate) injected: u64,
-    pub(crate) sweeps: Sweeps,
+    pub(crate) notes: Notes,
     pub(crate) begun: bool,
     pub(crate) stopped: Option<LabFault>,
 }
@@ -65,7 +70,10 @@ impl Network {
             ports: Vec::new(alloc),
             sent: Vec::new(alloc),
             injected: 0,
-            sweeps: Sweeps::new(alloc),
+            notes: Notes {
+                past: Histories::new(alloc),
+                takings: Sweeps::new(alloc),
+            },
             begun: false,
             stopped: None,
         }
@@ -152,6 +160,14 @@ impl Network {
         ensures { result ≡ length self.now.seen.sent }
     {
         self.sent.len()
+    }
+
+    /// The LSP IDs of a level that are doubled, in order: the router of their system held two contents, the flags octet and
+    /// the TLVs, live under one number in the run so far (own).
+    pub fn doubled(&self, level: Level) -> &[LspId]
+        ensures { numbers_of result.now ≡ doubled_in self.now.seen.noted.past level }
+    {
+        self.notes.past.doubled(level)
     }
 
     /// How many datagrams were injected.

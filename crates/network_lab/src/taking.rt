@@ -1,5 +1,5 @@
 //! A router of a list takes an event, and what it sends joins what was sent.
-ghost use Rattle.std.specs.Prelude.{◌≡◌, ℕ, ◌+◌, ◌-◌, ◌<◌, ◌≤◌, ◌++◌, ◌==◌, ◌&&◌, not, map, length, Some, IfSome, IfOk, IfErr, OnOk, OnErr};
+ghost use Rattle.std.specs.Prelude.{◌≡◌, ℕ, ◌+◌, ◌-◌, ◌<◌, ◌≤◌, ◌∷◌, ◌++◌, ◌==◌, ◌&&◌, not, map, length, Some, IfSome, IfOk, IfErr, OnOk, OnErr};
 ghost use Rattle.std.specs.List.{AllByRecursion};
 ghost use Rattle.isis_model.specs.Places.{nth, with_nth};
 ghost use Rattle.isis_model.specs.Routers as model;
@@ -13,30 +13,32 @@ ghost use Rattle.router_core.specs.Replies.{Answers};
 ghost use Rattle.network_model.specs.Networks.{restarted};
 ghost use Rattle.network_model.specs.Runs.{taking, boot_of, posted, changes_of as counts_of_keys};
 ghost use Rattle.network_lab.specs.LabNets.{counts_in, sent_of};
-ghost use Rattle.network_lab.specs.LabTakings.{is_taken, kept_ranges};
+ghost use Rattle.network_lab.specs.LabTakings.{is_taken, kept_ranges, noted_in};
 ghost use Rattle.network_lab.specs.LabInside.{counts_of};
 ghost use Rattle.network_lab.specs.LabSteps.{sent_by, posted_in, StopCause};
 ghost use Rattle.network_lab.specs.Reached.{AreSmall};
 
 use crate::faults::{LabFault, LimitName};
 use crate::heard_range::HeardRange;
+use crate::notes::Notes;
 use crate::places::{boot_at, changes_at, put_at};
 use crate::sent::{Changes, SentDatagram};
 use isis_base::{Level, Octets, OutOfMemory};
 use isis_model::laws::adjacencies::step_bonds;
 use lan_sweeps::Sweeps;
+use own_histories::Histories;
 use router_core::{NodeEvent, Reply, Router};
 use router_desk::laws::reading_law;
 
 /// The most datagrams of a network.
 pub(crate) const SENT_LIMIT: usize = 262144;
 
-/// A router takes an event: what it sends on the link joins what was sent, and the range that it heard those that
-/// were taken, where it takes that.
+/// A router takes an event: what it sends on the link joins what was sent, its state what is noted, and the range that it
+/// heard too, where it takes that.
 pub(crate) fn take_at(
     routers: &mut Vec<Router>,
     sent: &mut Vec<SentDatagram>,
-    sweeps: &mut Sweeps,
+    notes: &mut Notes,
     router: usize,
     link: Option<usize>,
     event: NodeEvent,
@@ -50,8 +52,8 @@ pub(crate) fn take_at(
         ≡ with_nth routers.old.items router (step given r (event_of r event)).router)) }
     ensures sent { OnOk result (IfSome (nth routers.old.items router) (λ r. sent.new.items
         ≡ sent.old.items ++ posted_in router link (event_of r event) r)) }
-    ensures takings { OnOk result (IfSome (nth routers.old.items router) (λ r. sweeps.new
-        ≡ kept_ranges heard (step given r (event_of r event)) ++ sweeps.old)) }
+    ensures noted { OnOk result (IfSome (nth routers.old.items router) (λ r. notes.new
+        ≡ noted_in heard (step given r (event_of r event)) notes.old)) }
     ensures cause { IfErr result (λ fault. IfSome (nth routers.old.items router) (λ r.
         StopCause (length sent.old.items + length (posted_in router link (event_of r event) r))
         fault)) }
@@ -63,13 +65,46 @@ pub(crate) fn take_at(
         Ok(reply) => reply,
         Err(_) => return Err(LabFault::OutOfMemory),
     };
-    match keep(sweeps, routers, router, &reply, heard) {
+    match note(notes, routers, router, &reply, heard) {
         Ok(()) => {}
         Err(_) => return Err(LabFault::OutOfMemory),
     }
     let boot = boot_at(routers, router);
     let changes = changes_at(routers, router);
     send(sent, router, boot, changes, link, reply)
+}
+
+/// A router's state after an event is noted, and the range that it heard, where it takes that.
+fn note(
+    notes: &mut Notes,
+    routers: &[Router],
+    router: usize,
+    reply: &Reply,
+    heard: Option<HeardRange>,
+) -> Result<(), OutOfMemory>
+    ensures { OnOk result ((r : model.Router) (place : ℕ) (m : events.Reply)
+        → Answers r place m reply.now → nth routers.now router ≡ Some r
+        → notes.new ≡ noted_in heard (record { router = r; reply = m }) notes.old) }
+{
+    match note_state(&mut notes.past, routers, router) {
+        Ok(()) => keep(&mut notes.takings, routers, router, reply, heard),
+        Err(error) => Err(error),
+    }
+}
+
+/// A router's state is noted.
+fn note_state(
+    histories: &mut Histories,
+    routers: &[Router],
+    router: usize,
+) -> Result<(), OutOfMemory>
+    ensures { OnOk result ((r : model.Router) → nth routers.now router ≡ Some r
+        → histories.new ≡ r ∷ histories.old) }
+{
+    match routers.get(router) {
+        Some(router) => histories.note(router),
+        None => Ok(()),
+    }
 }
 
 /// The range that a router heard joins those that were taken, where it takes that.

@@ -1,5 +1,5 @@
 -- What is seen, and what is remembered of it.
-use Rattle.std.proofs.Common.{◌≡◌, ℕ, zero, suc, ◌<◌, ◌==◌, ◌&&◌, ◌⊎◌, cond, Bool, true, false, List, [], ◌∷◌, drop, Option, Some, None, if◌then◌else◌, ⊎_elim, refl, sym, ap, ap₂, ◌∙◌, subst, arith}
+use Rattle.std.proofs.Common.{◌≡◌, ℕ, zero, suc, ◌+◌, ◌*◌, ◌/◌, ◌<◌, nat_le, ◌==◌, ◌&&◌, ◌⊎◌, cond, Bool, true, false, List, [], ◌∷◌, ◌++◌, drop, Option, Some, None, if◌then◌else◌, ⊎_elim, refl, sym, ap, ap₂, ◌∙◌, subst, arith}
 use Rattle.std.proofs.lemmas.Bool.{cases_eq, cases_order}
 use Rattle.std.proofs.lemmas.Bool.Decides.{nat_tests}
 use Rattle.std.proofs.lemmas.Option.{none-some, same_Some}
@@ -9,14 +9,13 @@ use Rattle.std.specs.BTreeMap.{is_at}
 use Rattle.std.specs.Option.{option_map}
 use Rattle.std.specs.Ordering.{nat_cmp, is_eq}
 use Rattle.std.specs.declared.cmp.Ordering.TheVariants.{Less, Equal, Greater}
-use Rattle.isis_base.specs.declared.identifiers.SystemId.{SystemId}
 use Rattle.isis_base.specs.declared.identifiers.LspId.{LspId}
 use Rattle.isis_base.specs.Identifiers.{lsp_number}
 use Rattle.isis_base.specs.Keys.{rank}
 use Rattle.isis_model.specs.Maps.{find}
 use Rattle.isis_model.specs.Ranks.{is_live, number_of}
 use Rattle.isis_model.specs.LetGos.{with_id}
-use Rattle.isis_model.specs.Routers.{Contents}
+use Rattle.isis_model.specs.Routers.{Contents, Router}
 use Rattle.isis_model.specs.OwnLsps.{same_contents}
 use Rattle.lsp_store.specs.Maps.{between}
 use Rattle.lsp_store.specs.declared.entry.Entry.{Entry}
@@ -25,23 +24,29 @@ use Rattle.flag_sync.specs.BookStates.{cells_of, AreBeside}
 use Rattle.flag_sync.specs.Walks.{numbers_of}
 use Rattle.purge_ageing.specs.Ids.{IsPlace}
 use Rattle.own_histories.specs.declared.said.Said.{Said}
-use Rattle.own_histories.specs.Sightings.{Sighting, own_id, is_own, own_lsps, after, earlier, first_of, doubled_with, doubled_of, Memory, key_of, Remembers}
-use Rattle.own_histories.specs.Entries.{contents_of, kept_of, seen_of, live_of, Left}
+use Rattle.own_histories.specs.Sightings.{Sighting, is_own, own_lsps, after, earlier, first_of, doubled_with, doubled_of, Memory, key_of, Remembers}
+use Rattle.own_histories.specs.Entries.{contents_of, kept_of, seen_of, live_of, Left, past_after}
 
 -- ---- entries and cells
 
 -- the entries of the range show what the cells of one's own show
-pub live-own : (system : SystemId) (es : List (LspId × Entry)) (rs : List (LspId × FlagRow)) → AreBeside es rs → live_of (between (lsp_number (own_id system 0 0)) (lsp_number (own_id system 255 255)) es) ≡ own_lsps system (cells_of es rs)
-live-own system [] [] b = refl
-live-own system [] (r ∷ rs) b = absurd b
-live-own system (e ∷ es) [] b = absurd b
-live-own system (e ∷ es) (r ∷ rs) b = cases (is_own system (lsp_number e.0)) (live-own system es rs b.1)
+own-range : (system id : ℕ) → (nat_le (65536 * system) id && nat_le id (65536 * system + 65535)) ≡ is_own system id
+own-range system id = grind (arith, nat_tests)
+
+pub live-own : (system first last : ℕ) → first ≡ 65536 * system → last ≡ 65536 * system + 65535 → (es : List (LspId × Entry)) (rs : List (LspId × FlagRow)) → AreBeside es rs → live_of (between first last es) ≡ own_lsps system (cells_of es rs)
+live-own system first last low high [] [] b = refl
+live-own system first last low high [] (r ∷ rs) b = absurd b
+live-own system first last low high (e ∷ es) [] b = absurd b
+live-own system first last low high (e ∷ es) (r ∷ rs) b = here ∙ cases (is_own system (lsp_number e.0)) (live-own system first last low high es rs b.1)
   where
     rest : List (LspId × Entry)
-    rest = between (lsp_number (own_id system 0 0)) (lsp_number (own_id system 255 255)) es
+    rest = between first last es
 
     mine : List Sighting
     mine = own_lsps system (cells_of es rs)
+
+    here : live_of (between first last (e ∷ es)) ≡ live_of (if is_own system (lsp_number e.0) then e ∷ rest else rest)
+    here = ap₂ (λ (m n : ℕ). live_of (if nat_le m (lsp_number e.0) && nat_le (lsp_number e.0) n then e ∷ rest else rest)) low high ∙ ap (λ (t : Bool). live_of (if t then e ∷ rest else rest)) (own-range system (lsp_number e.0))
 
     cases : (own : Bool) → live_of rest ≡ mine → live_of (if own then e ∷ rest else rest) ≡ (if own && is_live (rank e.1.key) then seen_of e ∷ mine else mine)
     cases true h = ap (λ (xs : List Sighting). if is_live (rank e.1.key) then seen_of e ∷ xs else xs) h
@@ -231,10 +236,16 @@ with-held (x ∷ xs) n (suc i) at =
 
 -- ---- the whole range is seen
 
-pub note-all : (old now : Memory) (system : SystemId) (es left : List (LspId × Entry)) (rs : List (LspId × FlagRow)) (seen : List Sighting) → AreBeside es rs → left ≡ [] → ((whole : List Sighting) → Left old (live_of (between (lsp_number (own_id system 0 0)) (lsp_number (own_id system 255 255)) es)) whole → Left now (live_of left) whole) → Remembers old seen → Remembers now (after (own_lsps system (cells_of es rs)) seen)
-note-all old now system es left rs seen beside none f h =
-    let range = live_of (between (lsp_number (own_id system 0 0)) (lsp_number (own_id system 255 255)) es) in
+pub note-all : (old now : Memory) (system first last : ℕ) (es left : List (LspId × Entry)) (rs : List (LspId × FlagRow)) (seen : List Sighting) → first ≡ 65536 * system → last ≡ 65536 * system + 65535 → AreBeside es rs → left ≡ [] → ((whole : List Sighting) → Left old (live_of (between first last es)) whole → Left now (live_of left) whole) → Remembers old seen → Remembers now (after (own_lsps system (cells_of es rs)) seen)
+note-all old now system first last es left rs seen low high beside none f h =
+    let range = live_of (between first last es) in
     let whole = after range seen in
     let l = f whole (left-all old seen range h) in
-    subst (λ (xs : List Sighting). Remembers now (after xs seen)) (live-own system es rs beside)
+    subst (λ (xs : List Sighting). Remembers now (after xs seen)) (live-own system first last low high es rs beside)
     (left-none now whole (subst (λ (xs : List Sighting). Left now xs whole) (ap live_of none) l))
+
+-- ---- states that were
+
+pub past-end : (rs : List Router) (r : Router) (past : List Router) → past_after (rs ++ r ∷ []) past ≡ r ∷ past_after rs past
+past-end [] r past = refl
+past-end (x ∷ rs) r past = past-end rs r (x ∷ past)

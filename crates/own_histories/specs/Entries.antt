@@ -1,16 +1,17 @@
 -- What is seen of entries, one by one (own).
 use Rattle.std.specs.Prelude.{◌≡◌, ℕ, List, [], ◌∷◌, drop, Option, true, false, Some, None, if◌then◌else◌}
 use Rattle.isis_base.specs.declared.identifiers.LspId.{LspId}
+use Rattle.isis_base.specs.declared.level.Level.TheVariants as level
 use Rattle.isis_base.specs.Identifiers.{lsp_number}
 use Rattle.isis_base.specs.Keys.{rank}
 use Rattle.isis_model.specs.Ranks.{is_live, number_of}
-use Rattle.isis_model.specs.Routers.{Contents}
+use Rattle.isis_model.specs.Routers.{Contents, Router}
 use Rattle.isis_model.specs.OwnLsps.{same_contents}
 use Rattle.lsp_store.specs.declared.entry.Entry.{Entry}
 use Rattle.own_histories.specs.declared.look.Look.{Look}
 use Rattle.own_histories.specs.declared.look.Look.TheVariants.{New, Same, Other}
 use Rattle.own_histories.specs.declared.said.Said.{Said}
-use Rattle.own_histories.specs.Sightings.{Sighting, Memory, Remembers, after}
+use Rattle.own_histories.specs.Sightings.{Sighting, Memory, Remembers, after, sightings_of}
 
 -- what is kept of contents
 abbrev pub contents_of : Said → Contents
@@ -47,3 +48,15 @@ pub record Left (memory : Memory) (more whole : List Sighting) : Type 0 where
   pub seen : List Sighting
   pub have : Remembers memory seen
   pub rest : after more seen ≡ whole
+
+-- ---- both levels
+
+-- states in the order in which they were, as a list with the latest first
+abbrev pub past_after : List Router → List Router → List Router
+past_after [] past = past
+past_after (r ∷ rs) past = past_after rs (r ∷ past)
+
+-- each level's memory is of what routers in these states held
+pub record Keep (one two : Memory) (past : List Router) : Type 0 where
+  pub one : Remembers one (sightings_of past level.One)
+  pub two : Remembers two (sightings_of past level.Two)

@@ -1,14 +1,11 @@
 -- What routers held of their own LSP IDs, and which of these are doubled (own).
-use Rattle.std.specs.Prelude.{◌≡◌, ℕ, ◌+◌, ◌*◌, ◌<◌, ◌==◌, ◌&&◌, nat_le, Bool, List, [], ◌∷◌, drop, Option, Some, None, if◌then◌else◌}
-use Rattle.isis_base.specs.declared.identifiers.SystemId.{SystemId}
-use Rattle.isis_base.specs.declared.identifiers.NodeId.{NodeId}
-use Rattle.isis_base.specs.declared.identifiers.LspId.{LspId}
-use Rattle.isis_base.specs.Identifiers.{lsp_number}
+use Rattle.std.specs.Prelude.{◌≡◌, ℕ, ◌+◌, ◌*◌, ◌/◌, ◌<◌, ◌==◌, ◌&&◌, Bool, List, [], ◌∷◌, drop, Option, Some, None, if◌then◌else◌}
+use Rattle.isis_base.specs.declared.level.Level.{Level}
 use Rattle.isis_model.specs.Maps.{find}
 use Rattle.isis_model.specs.Ranks.{is_live, number_of}
 use Rattle.isis_model.specs.Cells.{Cell}
 use Rattle.isis_model.specs.LetGos.{with_id}
-use Rattle.isis_model.specs.Routers.{Contents}
+use Rattle.isis_model.specs.Routers.{Contents, Router, book_of}
 use Rattle.isis_model.specs.OwnLsps.{same_contents}
 
 -- ---- what is seen
@@ -28,19 +25,12 @@ sighting id cell = record {
   contents = record { flags = cell.flags; tlvs = drop 27 cell.octets };
 }
 
--- the LSP ID of a system with a pseudonode number and an LSP number
-abbrev pub own_id : SystemId → ℕ → ℕ → LspId
-own_id system pseudonode number =
-    let node : NodeId = record { system = system; pseudonode = pseudonode } in
-    record { node = node; number = number }
-
--- whether an LSP ID is a system's own: from system.00-00 to system.ff-ff (ISO 10589 9.8)
-abbrev pub is_own : SystemId → ℕ → Bool
-is_own system id =
-    nat_le (lsp_number (own_id system 0 0)) id && nat_le id (lsp_number (own_id system 255 255))
+-- whether an LSP ID is a system's own: its first six octets are the system ID (ISO 10589 9.8)
+abbrev pub is_own : ℕ → ℕ → Bool
+is_own system id = id / 65536 == system
 
 -- what a system holds live of its own LSP IDs, in order
-abbrev pub own_lsps : SystemId → List (ℕ × Cell) → List Sighting
+abbrev pub own_lsps : ℕ → List (ℕ × Cell) → List Sighting
 own_lsps system [] = []
 own_lsps system (pair ∷ cells) =
     if is_own system pair.0 && is_live pair.1.rank
@@ -51,6 +41,12 @@ own_lsps system (pair ∷ cells) =
 abbrev pub after : List Sighting → List Sighting → List Sighting
 after [] seen = seen
 after (s ∷ more) seen = after more (s ∷ seen)
+
+-- what routers in these states held live of their own LSP IDs of a level, the latest state first
+abbrev pub sightings_of : List Router → Level → List Sighting
+sightings_of [] level = []
+sightings_of (r ∷ past) level =
+    after (own_lsps r.config.system (book_of r level).cells) (sightings_of past level)
 
 -- ---- what is doubled
 
@@ -77,6 +73,11 @@ doubled_with (Some first) s ids =
 unfoldable pub doubled_of : List Sighting → List ℕ
 doubled_of [] = []
 doubled_of (s ∷ seen) = doubled_with (first_of seen s.id s.number) s (doubled_of seen)
+
+-- the LSP IDs of a level of which a router of their system, in these states, held two contents live
+-- under one number, in order (own)
+abbrev pub doubled_in : List Router → Level → List ℕ
+doubled_in past level = doubled_of (sightings_of past level)
 
 -- ---- what is remembered
 

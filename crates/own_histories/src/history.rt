@@ -1,5 +1,5 @@
 //! What routers held of their own LSP IDs.
-ghost use Rattle.std.specs.Prelude.{◌≡◌, ◌==◌, ◌<◌, ℕ, List, [], ◌∷◌, OnOk, MatchResult, if◌then◌else◌, Some};
+ghost use Rattle.std.specs.Prelude.{◌≡◌, ◌==◌, ◌<◌, ◌*◌, ℕ, List, [], ◌∷◌, OnOk, MatchResult, if◌then◌else◌, Some};
 ghost use Rattle.isis_base.specs.Identifiers.{lsp_number};
 ghost use Rattle.isis_model.specs.Maps.{find};
 ghost use Rattle.isis_model.specs.LetGos.{with_id};
@@ -8,7 +8,8 @@ ghost use Rattle.flag_sync.specs.Walks.{numbers_of};
 ghost use Rattle.lsp_store.specs.declared.entry.Entry.{Entry as StoreEntry};
 ghost use Rattle.isis_base.specs.declared.identifiers.LspId.{LspId as AnId};
 ghost use Rattle.purge_ageing.specs.Ids.{Rises, IsPlace, IsGap};
-ghost use Rattle.own_histories.specs.Sightings.{Sighting, Remembers, after, own_lsps, own_id, key_of, doubled_of};
+ghost use Rattle.isis_datagram.specs.Numbers.{system_number};
+ghost use Rattle.own_histories.specs.Sightings.{Sighting, Remembers, after, own_lsps, key_of, doubled_of};
 ghost use Rattle.own_histories.specs.Entries.{live_of, Compares, Left};
 
 use crate::look::Look;
@@ -19,6 +20,9 @@ use lsp_store::Entry;
 use std::alloc::Global;
 use std::collections::BTreeMap;
 use std::marker::Model;
+
+/// The last LSP ID of a system, counted from its first.
+const LAST_OWN: u64 = 65535;
 
 /// What routers held live of their own LSP IDs on one level: of each LSP ID and number the contents
 /// that were seen first, and the LSP IDs that are doubled.
@@ -61,9 +65,14 @@ impl History {
     pub fn note(&mut self, system: SystemId, book: &Book) -> Result<(), OutOfMemory>
         requires { AreBeside book.now.store.entries book.now.rows }
         ensures { OnOk result ((seen : List Sighting) → Remembers self.old seen
-            → Remembers self.new (after (own_lsps system (book_of book.now).cells) seen)) }
+            → Remembers self.new
+            (after (own_lsps (system_number system) (book_of book.now).cells) seen)) }
     {
-        let (start, end) = (own_id(system, 0, 0), own_id(system, 255, 255));
+        let first = first_of(system);
+        let (start, end) = (
+            LspId::from_number(first),
+            LspId::from_number(first + LAST_OWN),
+        );
         let mut entries = book.store().range(start, end);
         while let Some((id, entry)) = entries.next() {
             match self.note_entry(id, entry) {
@@ -154,12 +163,15 @@ impl History {
     }
 }
 
-/// The LSP ID of a system with a pseudonode number and an LSP number.
-fn own_id(system: SystemId, pseudonode: u8, number: u8) -> LspId
-    ensures { result ≡ own_id system pseudonode number }
+/// The first LSP ID of a system, as a number.
+fn first_of(system: SystemId) -> u64
+    ensures { result ≡ 65536 * system_number system }
 {
-    let node = NodeId { system, pseudonode };
-    LspId { node, number }
+    let node = NodeId {
+        system,
+        pseudonode: 0,
+    };
+    LspId { node, number: 0 }.to_number()
 }
 
 /// An LSP ID and a number as one number.

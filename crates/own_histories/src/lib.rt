@@ -5,12 +5,15 @@
 //! whenever it is told to, and keeps the contents that it saw first of each LSP ID and number.
 //! The words are this project's own.
 //!
-//! - `history.rt`: the history; `said.rt`: contents that are kept; `look.rt`: how contents compare
+//! - `histories.rt`: what the routers of a network held, on both levels
+//! - `history.rt`: the history of a level; `said.rt`: contents that are kept; `look.rt`: how contents compare
 //!   with the first ones
 #![tactic(auto)]
 
+mod histories;
 mod history;
 mod look;
 mod said;
 
+pub use histories::Histories;
 pub use history::History;

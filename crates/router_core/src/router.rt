@@ -193,6 +193,13 @@ impl Router {
         None
     }
 
+    /// A level's database, whether the level is run or not.
+    pub fn database(&self, level: Level) -> &Book
+        ensures { book_in result.now ≡ book_of self.now level }
+    {
+        self.machine.book(level)
+    }
+
     /// The LSP IDs of a level that were let go since the start.
     pub fn let_go(&self, level: Level) -> &LetGo
         ensures { result.now ≡ (level_of self.now level).gone }

@@ -18,7 +18,7 @@ returns-clause-cause c =
     c.in-Ok.ensures.state c.in-Ok.ensures.reply (c.boot_at-boot.ensures ∙ ap (λ (rs : List Router). boot_of (nth rs c.args.router)) c.deref-2.ensures.value)
     (c.changes_at-changes.ensures ∙ ap (λ (rs : List Router). counts_at (nth rs c.args.router)) c.deref-3.ensures.value) c.send.ensures.cause
 
-pub returns-clause-takings : goal.returns-clause-takings
-returns-clause-takings c =
-    take-keeps c.send.result c.args.routers.now.items c.step_at.new.routers.items c.args.router c.args.event c.in-Ok.reply c.args.heard c.args.sweeps.now c.keep.new.sweeps
-    c.in-Ok.ensures.state c.in-Ok.ensures.reply (keeps-there c.step_at.new.routers.items c.deref.result.now c.args.router c.in-Ok.reply c.args.heard c.args.sweeps.now c.keep.new.sweeps c.deref.ensures.value c.in-Ok-keep.ensures)
+pub returns-clause-noted : goal.returns-clause-noted
+returns-clause-noted c =
+    take-keeps c.send.result c.args.routers.now.items c.step_at.new.routers.items c.args.router c.args.event c.in-Ok.reply c.args.heard c.args.notes.now c.note.new.notes
+    c.in-Ok.ensures.state c.in-Ok.ensures.reply (keeps-there c.step_at.new.routers.items c.deref.result.now c.args.router c.in-Ok.reply c.args.heard c.args.notes.now c.note.new.notes c.deref.ensures.value c.in-Ok-note.ensures)

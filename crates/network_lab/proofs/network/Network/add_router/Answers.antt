@@ -10,7 +10,7 @@ snoc e f = cc
 pub invariant_of-self-2 : goal.invariant_of-self-2
 invariant_of-self-2 c =
     let i = c.self.inside in
-    router-more i.ports.items _ i.ordered.items i.links.items i.configs.items _ i.routers.items _ i.sent.items i.injected i.sweeps i.begun i.stopped c.args.config
+    router-more i.ports.items _ i.ordered.items i.links.items i.configs.items _ i.routers.items _ i.sent.items i.injected i.notes i.begun i.stopped c.args.config
     c.self.invariant (ap (λ (l : LabNet). l.begun) c.self.view_is ∙ c.requires.setup) c.requires.valid (subst IsReached c.in_ok-setup.ensures.router c.in_ok-setup.ensures.reached) c.requires.bare
     (c.push_reserved.ensures.items ∙ snoc c.make_room.ensures.configs c.in_ok-setup.ensures.config)
     (c.push_reserved-2.ensures.items ∙ snoc c.make_room.ensures.routers c.in_ok-setup.ensures.router)

@@ -9,5 +9,5 @@ returns-in-Some c =
     let i = c.self.inside in
     inject-ends c.args.self.now _ c.give.new.self c.args.router c.args.link c.in-Some.circuit c.args.octets c.circuit_on.result c.give.result
     c.requires.there c.requires.running c.in-Some.is c.circuit_on.ensures.place
-    (inject-is i.configs.items i.routers.items i.links.items i.sent.items i.injected c.one_more-self-inside.result i.sweeps i.begun i.stopped c.args.self.now c.self.view_is c.one_more-self-inside.ensures)
+    (inject-is i.configs.items i.routers.items i.links.items i.sent.items i.injected c.one_more-self-inside.result i.notes i.begun i.stopped c.args.self.now c.self.view_is c.one_more-self-inside.ensures)
     c.give.ensures

@@ -38,7 +38,7 @@ put_all-requires-clause-ports c =
 pub invariant_of-self-2 : goal.invariant_of-self-2
 invariant_of-self-2 c =
     let i = c.self.inside in
-    (join-all i.ports.items c.put_all.new.ports.items i.ordered.items c.push_reserved-2.new.self.items i.links.items c.push_reserved.new.self.items i.configs.items c.put_all.new.configs.items i.routers.items c.put_all.new.routers.items i.sent.items i.injected i.sweeps i.begun i.stopped c.args.self.now
+    (join-all i.ports.items c.put_all.new.ports.items i.ordered.items c.push_reserved-2.new.self.items i.links.items c.push_reserved.new.self.items i.configs.items c.put_all.new.configs.items i.routers.items c.put_all.new.routers.items i.sent.items i.injected i.notes i.begun i.stopped c.args.self.now
     c.args.members.now c.args.kind c.args.metric c.len-link.result c.in_ok-joined.joined.items c.in_ok-ends.ends c.in_ok-ordered.ordered
     c.self.view_is c.self.invariant c.requires.setup c.requires.apart c.requires.metric
     (let e = c.len-link.ensures in let v : vec_len c.self.inside.links ≡ length c.self.inside.links.items = omega arith in omega (arith, e, v))
@@ -53,7 +53,7 @@ invariant_of-self-2 c =
 pub returns-clause-ok : goal.returns-clause-ok
 returns-clause-ok c =
     let i = c.self.inside in
-    (join-all i.ports.items c.put_all.new.ports.items i.ordered.items c.push_reserved-2.new.self.items i.links.items c.push_reserved.new.self.items i.configs.items c.put_all.new.configs.items i.routers.items c.put_all.new.routers.items i.sent.items i.injected i.sweeps i.begun i.stopped c.args.self.now
+    (join-all i.ports.items c.put_all.new.ports.items i.ordered.items c.push_reserved-2.new.self.items i.links.items c.push_reserved.new.self.items i.configs.items c.put_all.new.configs.items i.routers.items c.put_all.new.routers.items i.sent.items i.injected i.notes i.begun i.stopped c.args.self.now
     c.args.members.now c.args.kind c.args.metric c.len-link.result c.in_ok-joined.joined.items c.in_ok-ends.ends c.in_ok-ordered.ordered
     c.self.view_is c.self.invariant c.requires.setup c.requires.apart c.requires.metric
     (let e = c.len-link.ensures in let v : vec_len c.self.inside.links ≡ length c.self.inside.links.items = omega arith in omega (arith, e, v))

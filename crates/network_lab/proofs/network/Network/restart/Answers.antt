@@ -26,7 +26,7 @@ returns-in-Ok c =
     let q = here i.routers.items c.args.self.now c.args.router c.index.result.now (ap (λ (l : LabNet). l.seen.routers) c.self.view_is) c.requires.there c.index.ensures in
     let p = nth-get i.routers.items c.args.router c.index.result.now (omega (arith, c.requires.there, s)) c.index.ensures in
     restart-ends c.args.self.now _ c.args.router c.index.result.now c.requires.running q (omega (arith, c.if-boot-ge-LAST_BOOT.false, c.boot.ensures))
-    (restart-is i.configs.items i.routers.items c.restart_at.new.routers.items i.links.items i.sent.items i.injected i.sweeps i.begun i.stopped c.args.self.now c.args.router c.index.result.now c.self.view_is
+    (restart-is i.configs.items i.routers.items c.restart_at.new.routers.items i.links.items i.sent.items i.injected i.notes i.begun i.stopped c.args.self.now c.args.router c.index.result.now c.self.view_is
     (of-place (λ (r : Router). c.restart_at.new.routers.items ≡ with_nth i.routers.items c.args.router (restarted r)) (nth i.routers.items c.args.router) c.index.result.now p c.in-Ok.ensures.state))
 
 pub returns-in-Err : goal.returns-in-Err
@@ -34,14 +34,14 @@ returns-in-Err c =
     let i = c.self.inside in
     let q = here i.routers.items c.args.self.now c.args.router c.index.result.now (ap (λ (l : LabNet). l.seen.routers) c.self.view_is) c.requires.there c.index.ensures in
     restart-stops c.args.self.now c.stop.new.self c.args.router c.index.result.now c.stop.result q (omega (arith, c.if-boot-ge-LAST_BOOT.false, c.boot.ensures)) c.stop.ensures.result
-    (stop-is i.configs.items i.routers.items c.restart_at.new.routers.items i.links.items i.sent.items i.injected i.sweeps i.begun i.stopped c.args.self.now c.stop.new.self c.self.view_is c.in-Err.ensures.err c.stop.ensures.stopped)
+    (stop-is i.configs.items i.routers.items c.restart_at.new.routers.items i.links.items i.sent.items i.injected i.notes i.begun i.stopped c.args.self.now c.stop.new.self c.self.view_is c.in-Err.ensures.err c.stop.ensures.stopped)
 
 pub invariant_of-self : goal.invariant_of-self
 invariant_of-self c =
     let i = c.self.inside in
     let s = ap (λ (l : LabNet). length l.seen.routers) c.self.view_is in
     let p = nth-get i.routers.items c.args.router c.index.result.now (omega (arith, c.requires.there, s)) c.index.ensures in
-    restart-goes i.ports.items i.ordered.items i.configs.items i.routers.items c.restart_at.new.routers.items i.links.items i.sent.items i.injected i.sweeps i.begun i.stopped c.args.router c.index.result.now
+    restart-goes i.ports.items i.ordered.items i.configs.items i.routers.items c.restart_at.new.routers.items i.links.items i.sent.items i.injected i.notes i.begun i.stopped c.args.router c.index.result.now
     c.self.invariant p (omega (arith, c.if-boot-ge-LAST_BOOT.false, c.boot.ensures))
     (of-place (λ (r : Router). c.restart_at.new.routers.items ≡ with_nth i.routers.items c.args.router (restarted r)) (nth i.routers.items c.args.router) c.index.result.now p c.in-Ok.ensures.state)
     c.restart_at.ensures.counts
@@ -49,4 +49,4 @@ invariant_of-self c =
 pub invariant_of-self-in-Err : goal.invariant_of-self-in-Err
 invariant_of-self-in-Err c =
     let i = c.self.inside in
-    same-goes i.ports.items i.ordered.items i.configs.items i.routers.items c.restart_at.new.routers.items i.links.items i.sent.items i.injected i.sweeps i.begun i.stopped c.self.invariant c.in-Err.ensures.err
+    same-goes i.ports.items i.ordered.items i.configs.items i.routers.items c.restart_at.new.routers.items i.links.items i.sent.items i.injected i.notes i.begun i.stopped c.self.invariant c.in-Err.ensures.err

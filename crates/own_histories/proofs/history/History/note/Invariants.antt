@@ -1,13 +1,13 @@
 use Rattle.std.proofs.Common.{List, length}
 use Rattle.isis_base.specs.Identifiers.{lsp_number}
 use Rattle.lsp_store.specs.Maps.{between}
-use Rattle.own_histories.specs.Sightings.{Sighting, own_id}
+use Rattle.own_histories.specs.Sightings.{Sighting}
 use Rattle.own_histories.specs.Entries.{live_of, Left}
 use Rattle.own_histories.proofs.history.History.note.Given as goal
 
 abbrev pub invariant-loop-id : goal.invariant-loop-id
 invariant-loop-id l =
-    (whole : List Sighting) → Left l.fn.self (live_of (between (lsp_number (own_id l.fn.system 0 0)) (lsp_number (own_id l.fn.system 255 255)) l.book.store.entries)) whole → Left l.self (live_of l.entries) whole
+    (whole : List Sighting) → Left l.fn.self (live_of (between (lsp_number l.start) (lsp_number l.end) l.book.store.entries)) whole → Left l.self (live_of l.entries) whole
 
 abbrev pub decreases-loop-id : goal.decreases-loop-id
 decreases-loop-id l = length l.entries
