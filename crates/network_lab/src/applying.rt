@@ -37,9 +37,11 @@ impl Network {
     /// network after the event. `NotSent`, `Stale`, `NotOn`, `Limit(Prefixes)` and `Limit(Boots)`
     /// come exactly where the event is refused, which changes nothing; `Limit(Datagrams)` where it
     /// sends past 262,144 datagrams. After `Limit(Datagrams)` or `OutOfMemory` each later call
-    /// answers the same. At Ok, where nothing was injected, the claim of each point-to-point link
-    /// that is up holds (ISO 10589 7.3.17): each end names the other, and what one end holds the
-    /// other holds as new or newer, or its SRM flag stands.
+    /// answers the same. At Ok, where nothing was injected, the claims hold (ISO 10589 7.3.17): each
+    /// end of a point-to-point link that is up names the other, and what one end holds the other
+    /// holds as new or newer, or its SRM flag stands; routers of one group, and a member of a LAN with
+    /// the router that sweeps it, hold the same live LSPs; and what is held live under one number is
+    /// the same, unless the LSP ID is doubled. A change also changes the router's configuration.
     pub fn apply(&mut self, event: LabEvent) -> Result<(), LabFault>
         requires there { IsEvent self.old.seen event }
         ensures run { OnOk result ((net : ModelNetwork) → StandsFor net self.old

@@ -80,9 +80,10 @@ impl Network {
     }
 
     /// What always holds of a network: at most 262,144 datagrams were sent, all of octets, and the
-    /// ends of links are there. Before an event no router holds anything. In a run that wasn't stopped, where nothing was injected, it is seen
-    /// as a network whose routers can be reached; the claim of each link that is up holds; and no
-    /// end of one is ahead in more LSP IDs than its SRM flags. It does nothing.
+    /// ends of links are there. Before an event no router holds anything. In a run that wasn't
+    /// stopped, where nothing was injected, it is seen as a network whose routers can be reached; the
+    /// claims of links, groups, sweeps and contents hold; and no end of a link is ahead in more LSP
+    /// IDs than its SRM flags. It does nothing.
     pub fn facts(&self)
         ensures few { length self.now.seen.sent ≤ 262144 }
         ensures small { AreSmall self.now.seen.sent }
