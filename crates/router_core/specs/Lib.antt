@@ -12,3 +12,4 @@ pub mod PrefixLists
 pub mod Heard
 pub mod Seconds
 pub mod Designated
+pub mod NamedBoots

@@ -7,6 +7,7 @@ ghost use Rattle.isis_model.specs.Places.{nth};
 ghost use Rattle.isis_model.specs.Drops.{drops_of};
 ghost use Rattle.isis_datagram.specs.Numbers.{system_number};
 ghost use Rattle.router_core.specs.Designated.{designated_system};
+ghost use Rattle.router_core.specs.NamedBoots.{named_boot};
 ghost use Rattle.isis_model.specs.AdjacencyLaws.{opens, place_of};
 ghost use Rattle.isis_model.specs.Steps.{step};
 ghost use Rattle.isis_model.specs.Starts.{start};
@@ -193,6 +194,13 @@ impl Router {
         None
     }
 
+    /// A level's database, whether the level is run or not.
+    pub fn database(&self, level: Level) -> &Book
+        ensures { book_in result.now ≡ book_of self.now level }
+    {
+        self.machine.book(level)
+    }
+
     /// The LSP IDs of a level that were let go since the start.
     pub fn let_go(&self, level: Level) -> &LetGo
         ensures { result.now ≡ (level_of self.now level).gone }
@@ -206,6 +214,15 @@ impl Router {
         ensures { result ≡ opens (nth self.now.circuits (circuit - 1)) level }
     {
         self.machine.up(circuit, level)
+    }
+
+    /// The boot number that the neighbour of a point-to-point circuit, counted from 1, tells: its extended circuit ID
+    /// divided by 256 (RFC 5303 3.1; the parts: own). `None` exactly on a LAN, and where the adjacency isn't Up.
+    pub fn names_boot(&self, circuit: u8) -> Option<u32>
+        requires { IsThere self.now circuit }
+        ensures { IfSome (nth self.now.circuits (circuit - 1)) (λ c. result ≡ named_boot c) }
+    {
+        self.machine.names_boot(circuit)
     }
 
     /// The designated system of a LAN and level (ISO 10589 8.4.5), of the circuit counted from 1;
