@@ -22,3 +22,4 @@ mod QuietLemmas
 pub mod CalmLemmas
 mod LastLemmas
 pub mod RouteLemmas
+mod LeakedUpLemmas

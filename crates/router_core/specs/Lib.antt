@@ -13,3 +13,4 @@ pub mod Heard
 pub mod Seconds
 pub mod Designated
 pub mod NamedBoots
+pub mod LeakedUp

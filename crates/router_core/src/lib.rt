@@ -17,7 +17,7 @@
 //! - `at.rt`: one circuit of a list changes
 //! - `calm.rt`, `calm_second.rt`, `routes.rt`: which events leave what routes look at, and the routes
 //!   after an event
-//! - `reached.rt`: what always holds, as laws
+//! - `reached.rt`: what always holds, as laws; `laws.rt`: what follows for all routers
 #![tactic(auto)]
 
 mod asked;
@@ -29,6 +29,7 @@ mod datagrams;
 mod event;
 mod hello_sending;
 mod hellos;
+pub mod laws;
 mod levels;
 mod machine;
 mod making;
