@@ -23,3 +23,6 @@ pub mod CalmLemmas
 mod LastLemmas
 pub mod RouteLemmas
 mod LeakedUpLemmas
+mod FaceLemmas
+mod KeepLemmas
+mod SettledLemmas

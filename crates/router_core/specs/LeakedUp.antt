@@ -7,8 +7,8 @@ use Rattle.route_table.specs.declared.rank.Rank.TheVariants as rank
 use Rattle.route_table.specs.declared.route.Route.{Route}
 use Rattle.router_desk.specs.Configs.{prefix_number}
 
--- a prefix has a route of rank One: the best way to it is within level 1, and came over no up/down bit
--- (RFC 5302 3.2)
+-- a prefix has a route of rank One: the best way to it is within level 1, and came over no up/down
+-- bit (RFC 5302 3.2)
 pub record HasLevelOneRoute (routes : List Route) (prefix : ℕ) : Type 0 where
   pub route : Route
   pub held : Contains routes route

@@ -14,3 +14,4 @@ pub mod Seconds
 pub mod Designated
 pub mod NamedBoots
 pub mod LeakedUp
+pub mod Settled

@@ -28,6 +28,7 @@ ghost use Rattle.router_core.specs.Reached.{IsReached};
 
 use crate::event::NodeEvent;
 use crate::machine::Machine;
+use crate::marks::Marks;
 use crate::reached::{event_octets, reached_laws, start_reached};
 use crate::reply::Reply;
 use flag_sync::Book;
@@ -41,11 +42,13 @@ use std::alloc::Global;
 use std::marker::Model;
 
 /// One router. Contracts see it as the machine of isis_model, in a state that is reached: what always
-/// holds of such states, `facts` tells. Its routes follow its databases.
+/// holds of such states, `facts` tells. Its routes follow its databases, and levels are marked whose own
+/// LSPs say what is wanted.
 #[derive(Drop)]
 pub struct Router {
     machine: Machine,
     following: Following,
+    marks: Marks,
 }
 
 impl Model for Router {
@@ -56,7 +59,7 @@ impl Model for Router {
 
     ghost view = { λ r. r.machine };
 
-    ghost invariant = { λ r. IsWhole r.machine r.following };
+    ghost invariant = { λ r. IsWhole r.machine r.following r.marks };
 }
 
 impl Router {
@@ -76,7 +79,11 @@ impl Router {
             Err(error) => return Err((config, error)),
         };
         match followed(alloc, &machine) {
-            Ok(following) => Ok(Router { machine, following }),
+            Ok(following) => Ok(Router {
+                machine,
+                following,
+                marks: Marks::none(),
+            }),
             Err(error) => Err((config, error)),
         }
     }
@@ -98,7 +105,11 @@ impl Router {
         reached_laws();
         let machine = self.machine.restarted(boot)?;
         let following = followed(self.machine.alloc, &machine)?;
-        Ok(Router { machine, following })
+        Ok(Router {
+            machine,
+            following,
+            marks: Marks::none(),
+        })
     }
 
     /// What never changes of its configuration.
@@ -122,7 +133,10 @@ impl Router {
     {
         reached_laws();
         event_octets(&event);
-        match self.machine.step_calmly(&event, &self.following) {
+        match self
+            .machine
+            .step_calmly(&event, &self.following, &mut self.marks)
+        {
             Ok(Some(reply)) => Ok(reply),
             Ok(None) => self.step_aside(&event),
             Err(error) => Err(error),
@@ -148,6 +162,7 @@ impl Router {
         match machine.follow_routes(&mut self.following, &self.machine, event) {
             Ok(()) => {
                 self.machine = machine;
+                self.marks = Marks::none();
                 Ok(reply)
             }
             Err(error) => Err(error),
