@@ -1,6 +1,6 @@
 -- What becomes of a wanted fragment (ISO 10589 7.3.5, 7.3.6, 7.3.16.1; the five seconds between
 -- issues, and what an exhausted number does: own).
-use Rattle.std.specs.Prelude.{ℕ, ◌+◌, ◌==◌, nat_le, Bool, true, ◌&&◌, ◌||◌, not, Option, Some, None, if◌then◌else◌}
+use Rattle.std.specs.Prelude.{ℕ, ◌+◌, ◌==◌, nat_le, nat_lt, Bool, true, ◌&&◌, ◌||◌, not, List, [], ◌∷◌, Option, Some, None, if◌then◌else◌}
 use Rattle.isis_base.specs.declared.level.Level.{Level}
 use Rattle.isis_model.specs.Ranks.{number_of}
 use Rattle.isis_model.specs.Cells.{Cell}
@@ -26,6 +26,11 @@ issue_above number = if number == last_number then Exhausted else Number (number
 abbrev pub issue_next : Option Issued → ℕ → Bool → Issue
 issue_next issued rank same =
     if is_issue_due issued same then issue_above (number_of rank) else Wait
+
+-- whether none is to be issued anew a second later for its age alone (7.3.5)
+abbrev pub all_rest : List (ℕ × Issued) → Bool
+all_rest [] = true
+all_rest (pair ∷ own) = nat_lt pair.1.age 899 && all_rest own
 
 -- whether what is issued says the same; nothing does where it isn't (7.3.6)
 abbrev pub says_same : Option Issued → Contents → Bool

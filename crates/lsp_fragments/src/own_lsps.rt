@@ -8,8 +8,8 @@ ghost use Rattle.isis_model.specs.Ranks.{number_of};
 ghost use Rattle.isis_model.specs.Routers.{Issued};
 ghost use Rattle.isis_model.specs.Seconds.{older};
 ghost use Rattle.isis_model.specs.Sorted.{RisesFrom};
-ghost use Rattle.lsp_fragments.specs.Issues.{issue_next, issue_above};
-ghost use Rattle.lsp_fragments.specs.Kept.{issued_from, first_id};
+ghost use Rattle.lsp_fragments.specs.Issues.{all_rest, issue_next, issue_above};
+ghost use Rattle.lsp_fragments.specs.Kept.{all_issued, issued_from, first_id};
 
 use crate::by_id::{age_all, copy_of, id_above, id_from, kept_of, place_of, put_at, take_out};
 use crate::issue::Issue;
@@ -156,6 +156,13 @@ impl OwnLsps {
         }
     }
 
+    /// Whether none is to be issued anew a second later for its age alone (ISO 10589 7.3.5).
+    pub fn rests(&self) -> bool
+        ensures { result ≡ all_rest self.now.issued }
+    {
+        all_rest(&self.list)
+    }
+
     /// A second more since each issue.
     pub fn second(&mut self)
         ensures issued { self.new.issued
@@ -172,6 +179,20 @@ impl OwnLsps {
         let list = copy_of(*self.list.allocator(), &self.list)?;
         Ok(OwnLsps { list })
     }
+}
+
+/// Whether none is to be issued anew a second later for its age alone.
+fn all_rest(list: &[Kept]) -> bool
+    ensures { result ≡ all_rest (all_issued list.now) }
+{
+    let mut left = list;
+    while let [kept, more @ ..] = left {
+        if kept.age >= REFRESH - 1 {
+            return false;
+        }
+        left = more;
+    }
+    true
 }
 
 /// The number of a key, 0 of none.

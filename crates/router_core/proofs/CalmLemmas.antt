@@ -37,7 +37,7 @@ true-false e = cc
 
 -- ---- cells with the same keys and checksums
 
-record Face (a b : Book) : Type 0 where
+pub record Face (a b : Book) : Type 0 where
   pub rank : (id : ℕ) → rank_of (cell_at b id) ≡ rank_of (cell_at a id)
   pub sum : (id : ℕ) → checksum_of (cell_at b id) ≡ checksum_of (cell_at a id)
   pub changes : b.changes ≡ a.changes
@@ -102,7 +102,7 @@ taken-book scene state place w h snp.Newer e = absurd (true-false e)
 taken-book scene state place w h snp.Asked e = absurd (true-false e)
 taken-book scene state place w h snp.Unasked e = refl
 
-take-face : (scene : Scene) (state : LevelState) (system place : ℕ) (h : SnpEntry) → ((w : Whose) → sets_flag (snp_case w (cell_at state.book h.id) h) ≡ false) → Face state.book (take_entry scene state system place h).book
+pub take-face : (scene : Scene) (state : LevelState) (system place : ℕ) (h : SnpEntry) → ((w : Whose) → sets_flag (snp_case w (cell_at state.book h.id) h) ≡ false) → Face state.book (take_entry scene state system place h).book
 unfolding take_entry
 take-face scene state system place h clear =
     let w = whose_of system state h.id in
@@ -112,7 +112,7 @@ same-case : (w : Whose) (a b : Option Cell) (h : SnpEntry) → rank_of b ≡ ran
 unfolding snp_case
 same-case w a b h e f = rw (e, f) refl
 
-clear-face : (a b : Book) (entries : List SnpEntry) → Face a b → AreClear a entries → AreClear b entries
+pub clear-face : (a b : Book) (entries : List SnpEntry) → Face a b → AreClear a entries → AreClear b entries
 clear-face a b [] face clear = tt
 clear-face a b (h ∷ entries) face clear =
     ((λ w. ap sets_flag (same-case w (cell_at a h.id) (cell_at b h.id) h (face.rank h.id) (face.sum h.id)) ∙ clear.0 w), clear-face a b entries face clear.1)

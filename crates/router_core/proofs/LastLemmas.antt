@@ -21,9 +21,8 @@ use Rattle.isis_model.proofs.RisingLemmas.{all-found}
 use Rattle.flag_sync.specs.declared.flag_row.FlagRow.{FlagRow}
 use Rattle.lsp_store.specs.Databases.{Database}
 use Rattle.flag_sync.specs.BookStates.{BookState, book_of, cells_of}
-use Rattle.router_levels.specs.Views.{LevelView}
 use Rattle.router_core.specs.Calm.{all_last, AreLasting}
-use Rattle.router_core.specs.Seconds.{follow_one, follow_first, level_later, later_or}
+use Rattle.router_core.specs.Seconds.{follow_one, follow_first, level_later}
 use Rattle.router_core.proofs.CalmLemmas.{set-changes}
 
 abbrev Last : ℕ × Cell → Type 0
@@ -162,9 +161,6 @@ later-changes s level cs l =
     let first = follow_first (waited s) level cs (length cs) in
     let still : Still (waited s).book first.book = follow-still (waited s) level cs (length cs) wait.lasting in
     age-changes first still.lasting ∙ (still.changes ∙ wait.changes)
-
-pub part-changes : (part : Option LevelView) (s : LevelState) (level : Level) (cs : List Circuit) → part ≡ None → AreLasting s.book → (later_or part (level_later s level cs)).book.changes ≡ s.book.changes
-part-changes part s level cs e l = ap (λ (o : Option LevelView). (later_or o (level_later s level cs)).book.changes) e ∙ later-changes s level cs l
 
 pub lasting-of : (b : BookState) (store : Database) (entries : List (LspId × Entry)) (t : Bool) → RisesFrom 0 (book_of b).cells → t ≡ all_last entries → entries ≡ store.entries → store ≡ b.store → t ≡ true → AreLasting (book_of b)
 lasting-of b store entries t rises is same lent e = record {

@@ -22,3 +22,7 @@ mod QuietLemmas
 pub mod CalmLemmas
 mod LastLemmas
 pub mod RouteLemmas
+mod LeakedUpLemmas
+mod FaceLemmas
+mod KeepLemmas
+mod SettledLemmas

@@ -93,11 +93,11 @@ pub waits-turn : (P : ℕ × Contents → Type 0) (ws all rest : List Wanted) (w
 waits-turn P ws all rest w is p f a = f (subst (λ (xs : List Wanted). AllByRecursion P (map wanted_of xs)) (sym is) (p, a))
 
 -- nothing is left
-pub quiet-end : (own : List (ℕ × Issued)) (k : ℕ) (o : Option LspId) (left all : List Wanted) → length left < 1 → o ≡ None
+pub list-end : (P : ℕ × Contents → Type 0) (own : List (ℕ × Issued)) (k : ℕ) (o : Option LspId) (left all : List Wanted) → length left < 1 → o ≡ None
     → option_map lsp_number o ≡ first_id (issued_from k own) → (numbers (issued_from k own) ≡ numbers (map wanted_of left) → numbers own ≡ numbers (map wanted_of all))
-    → (AllByRecursion (Waits own) (map wanted_of left) → AllByRecursion (Waits own) (map wanted_of all)) → IsQuiet own (map wanted_of all)
-quiet-end own k o (x ∷ left) all h e head f g = absurd (omega (arith, h))
-quiet-end own k o [] all h e head f g = record { waits = g tt; same = f (of (issued_from k own) (sym head ∙ ap (option_map lsp_number) e)) }
+    → (AllByRecursion P (map wanted_of left) → AllByRecursion P (map wanted_of all)) → AllByRecursion P (map wanted_of all) × (numbers own ≡ numbers (map wanted_of all))
+list-end P own k o (x ∷ left) all h e head f g = absurd (omega (arith, h))
+list-end P own k o [] all h e head f g = (g tt, f (of (issued_from k own) (sym head ∙ ap (option_map lsp_number) e)))
   where
     none : (n : ℕ) → Some n ≡ None → ⊥
     none n e = cc
@@ -105,6 +105,11 @@ quiet-end own k o [] all h e head f g = record { waits = g tt; same = f (of (iss
     of : (xs : List (ℕ × Issued)) → first_id xs ≡ None → numbers xs ≡ []
     of [] e = refl
     of (q ∷ xs) e = absurd (none q.0 e)
+
+pub quiet-end : (own : List (ℕ × Issued)) (k : ℕ) (o : Option LspId) (left all : List Wanted) → length left < 1 → o ≡ None
+    → option_map lsp_number o ≡ first_id (issued_from k own) → (numbers (issued_from k own) ≡ numbers (map wanted_of left) → numbers own ≡ numbers (map wanted_of all))
+    → (AllByRecursion (Waits own) (map wanted_of left) → AllByRecursion (Waits own) (map wanted_of all)) → IsQuiet own (map wanted_of all)
+quiet-end own k o left all h e head f g = let ends = list-end (Waits own) own k o left all h e head f g in record { waits = ends.0; same = ends.1 }
 
 -- ---- the level stays
 

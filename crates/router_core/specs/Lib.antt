@@ -12,3 +12,6 @@ pub mod PrefixLists
 pub mod Heard
 pub mod Seconds
 pub mod Designated
+pub mod NamedBoots
+pub mod LeakedUp
+pub mod Settled

@@ -6,6 +6,8 @@ use Rattle.isis_model.specs.AdjacencyLaws.{FollowsAdjacencies, AreBonds, AreIdle
 use Rattle.isis_datagram.specs.Speakers.{IsSpeaking}
 use Rattle.router_routes.specs.Outlooks.{outlook_of}
 use Rattle.router_routes.specs.Following.{FollowingOf, IsFollowing}
+use Rattle.router_core.specs.declared.marks.Marks.{Marks}
+use Rattle.router_core.specs.Settled.{AreTrue}
 
 -- Whatever it sends is legible; its books follow its adjacencies, a neighbour is kept exactly
 -- outside Down, and CSNP counters stand at 0 where it isn't designated; there are 19 counters of
@@ -20,7 +22,8 @@ pub record IsReached (r : Router) : Type 0 where
   pub few : length r.config.prefixes ≤ 4096
   pub prefixes : RisesFrom 0 r.config.prefixes
 
--- it is reached, and its routes follow it
-pub record IsWhole (r : Router) (f : FollowingOf) : Type 0 where
+-- it is reached, its routes follow it, and its marks are true
+pub record IsWhole (r : Router) (f : FollowingOf) (marks : Marks) : Type 0 where
   pub reached : IsReached r
   pub following : IsFollowing (outlook_of r) f
+  pub marks_hold : AreTrue marks r

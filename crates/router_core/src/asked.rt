@@ -12,6 +12,7 @@ ghost use Rattle.router_desk.specs.Configs.{prefix_number};
 ghost use Rattle.isis_datagram.specs.Numbers.{system_number};
 ghost use Rattle.router_core.specs.Events.{IsThere};
 ghost use Rattle.router_core.specs.Designated.{designated_system};
+ghost use Rattle.router_core.specs.NamedBoots.{named_boot};
 
 use crate::machine::Machine;
 use isis_base::{Level, LevelSet, Prefix, SystemId};
@@ -55,6 +56,18 @@ impl Machine {
         ensures { result ≡ opens (nth self.now.circuits (circuit - 1)) level }
     {
         self.circuits[usize::from(circuit) - 1].is_open(level)
+    }
+
+    /// The boot number that the neighbour of a point-to-point circuit tells.
+    pub(crate) fn names_boot(&self, circuit: u8) -> Option<u32>
+        requires { IsThere self.now circuit }
+        ensures { IfSome (nth self.now.circuits (circuit - 1)) (λ c. result ≡ named_boot c) }
+    {
+        let on = &self.circuits[usize::from(circuit) - 1];
+        if on.is_lan() {
+            return None;
+        }
+        on.names_boot()
     }
 
     /// The designated system of a LAN and level.

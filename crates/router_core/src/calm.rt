@@ -6,7 +6,8 @@ ghost use Rattle.router_desk.specs.Opening.{IsOpenedBy};
 ghost use Rattle.router_reading.specs.Heard.{message_of};
 ghost use Rattle.isis_model.specs.Routers.{Router, book_of};
 ghost use Rattle.flag_sync.specs.Heard.{entries_of};
-ghost use Rattle.router_core.specs.Calm.{AreClear, is_calm_answer, IsCalm, IsCalmMessage};
+ghost use Rattle.router_core.specs.Calm.{AreClear, is_calm_answer, IsCalm, IsCalmMessage, IsKnown};
+ghost use Rattle.router_core.specs.Settled.{IsAside, IsGreeting, IsNoHello, IsPointHello};
 ghost use Rattle.router_core.specs.Events.{change_of, event_of, Fits, IsThere};
 
 use crate::event::NodeEvent;
@@ -17,57 +18,85 @@ use router_desk::{Change, Opened};
 use router_reading::laws::numbered_law;
 use router_reading::{Heard, hear};
 
+/// What is known of an event before it.
+#[derive(Clone, Copy)]
+pub(crate) struct Known {
+    /// It changes no key.
+    pub(crate) calm: bool,
+    /// Nor what own LSPs are made from: it is no hello, no second and no change of the configuration.
+    pub(crate) aside: bool,
+    /// It is a point-to-point hello.
+    pub(crate) greets: bool,
+}
+
 impl Machine {
-    /// Whether an event is known to change no key: what is sent, hellos, LSPs that aren't newer than
-    /// what is held, sequence number PDUs that set no flag, metrics and overload.
-    pub(crate) fn is_calm(&self, event: &NodeEvent) -> Result<bool, OutOfMemory>
+    /// What is known of an event. What is sent, hellos, LSPs that aren't newer than what is held, sequence number
+    /// PDUs that set no flag, metrics and overload change no key.
+    pub(crate) fn known_of(&self, event: &NodeEvent) -> Result<Known, OutOfMemory>
         requires { Fits self.now event.now }
-        ensures { IfOk result (λ calm. calm ≡ true → IsCalm self.now (event_of self.now event.now)) }
+        ensures { IfOk result (λ known. IsKnown known
+            (IsCalm self.now (event_of self.now event.now)) (IsAside (event_of self.now event.now))
+            (IsGreeting (event_of self.now event.now))) }
     {
         match event {
-            NodeEvent::Second => Ok(false),
-            NodeEvent::Take(opened) => self.takes_calmly(opened),
-            NodeEvent::Pull { circuit: _ } => Ok(true),
-            NodeEvent::Change(change) => Ok(is_calm_change(*change)),
+            NodeEvent::Second => Ok(NOTHING),
+            NodeEvent::Take(opened) => self.known_of_taken(opened),
+            NodeEvent::Pull { circuit: _ } => Ok(ASIDE),
+            NodeEvent::Change(change) => Ok(Known {
+                calm: is_calm_change(*change),
+                aside: false,
+                greets: false,
+            }),
         }
     }
 
-    /// Whether a datagram that was opened is known to change no key.
-    fn takes_calmly(&self, opened: &Opened) -> Result<bool, OutOfMemory>
+    /// What is known of a datagram that was opened.
+    fn known_of_taken(&self, opened: &Opened) -> Result<Known, OutOfMemory>
         requires there { IsThere self.now opened.now.circuit }
         requires opened { IsOpenedBy (desk_of self.now.config self.now.circuits) opened.now }
-        ensures { IfOk result (λ calm. calm ≡ true → IsCalmMessage self.now
-            (opening.message_of self.now.config.system opened.now.seen)) }
+        ensures { IfOk result (λ known. IsKnown known
+            (IsCalmMessage self.now (opening.message_of self.now.config.system opened.now.seen))
+            (IsNoHello (opening.message_of self.now.config.system opened.now.seen))
+            (IsPointHello (opening.message_of self.now.config.system opened.now.seen))) }
     {
         self.opened_facts(opened);
         numbered_law();
         let seen = match opened.seen() {
             Ok(seen) => seen,
-            Err(_) => return Ok(true),
+            Err(_) => return Ok(ASIDE),
         };
         let heard = hear(self.alloc, self.desk.system(), &seen)?;
-        Ok(self.hears_calmly(&heard))
+        Ok(self.known_of_heard(&heard))
     }
 
-    /// Whether what is heard is known to change no key.
-    fn hears_calmly(&self, heard: &Heard<'_>) -> bool
-        ensures { result ≡ true → IsCalmMessage self.now (message_of heard.now) }
+    /// What is known of what is heard.
+    fn known_of_heard(&self, heard: &Heard<'_>) -> Known
+        ensures { IsKnown result (IsCalmMessage self.now (message_of heard.now))
+            (IsNoHello (message_of heard.now)) (IsPointHello (message_of heard.now)) }
     {
         match heard {
-            Heard::PointHello(_) => true,
-            Heard::LanHello(_, _) => true,
+            Heard::PointHello(_) => GREETING,
+            Heard::LanHello(_, _) => HELLO,
             Heard::Lsp {
                 level,
                 snpa: _,
                 lsp,
-            } => is_calm_row(self.level(*level).lsp_case(self.desk.system(), lsp)),
+            } => Known {
+                calm: is_calm_row(self.level(*level).lsp_case(self.desk.system(), lsp)),
+                aside: true,
+                greets: false,
+            },
             Heard::Snp {
                 level,
                 snpa: _,
                 source: _,
                 range: _,
                 entries,
-            } => self.are_clear(*level, entries.as_slice()),
+            } => Known {
+                calm: self.are_clear(*level, entries.as_slice()),
+                aside: true,
+                greets: false,
+            },
         }
     }
 
@@ -85,6 +114,34 @@ impl Machine {
         true
     }
 }
+
+/// Nothing.
+const NOTHING: Known = Known {
+    calm: false,
+    aside: false,
+    greets: false,
+};
+
+/// No key changes, but perhaps an adjacency.
+const HELLO: Known = Known {
+    calm: true,
+    aside: false,
+    greets: false,
+};
+
+/// The same, but of a point-to-point adjacency.
+const GREETING: Known = Known {
+    calm: true,
+    aside: false,
+    greets: true,
+};
+
+/// Nothing that own LSPs are made from changes.
+const ASIDE: Known = Known {
+    calm: true,
+    aside: true,
+    greets: false,
+};
 
 /// Whether a change of the configuration leaves one's own prefixes.
 fn is_calm_change(change: Change) -> bool

@@ -1,69 +1,123 @@
 //! Seconds in which no key changes (own).
-ghost use Rattle.std.specs.Prelude.{◌≡◌, true, false, List, IfOk, OnErr};
-ghost use Rattle.isis_base.specs.declared.level.Level as level;
+ghost use Rattle.std.specs.Prelude.{◌≡◌, ◌≤◌, true, false, List, Some, length, IfOk, IfSome, OnErr};
+ghost use Rattle.std.specs.List.{AllByRecursion};
 ghost use Rattle.isis_model.specs.Events.{Done, settled};
-ghost use Rattle.isis_model.specs.Routers as model;
+ghost use Rattle.isis_model.specs.OwnLsps as own;
+ghost use Rattle.isis_model.specs.Routers.{Circuit, Router, book_of, level_of};
 ghost use Rattle.isis_model.specs.Seconds.{second};
-ghost use Rattle.flag_sync.specs.BookStates.{book_of};
-ghost use Rattle.router_levels.specs.Views.{state_of};
+ghost use Rattle.isis_model.specs.Wanted as model;
+ghost use Rattle.flag_sync.specs.BookStates as books;
 ghost use Rattle.router_routes.specs.Outlooks.{outlook_of};
 ghost use Rattle.router_routes.specs.Following.{IsFollowing};
 ghost use Rattle.router_core.specs.Calm.{all_last, AreLasting, SameCounts};
 ghost use Rattle.router_core.specs.Givens.{given};
+ghost use Rattle.router_core.specs.Machines.{IsFit};
 ghost use Rattle.router_core.specs.Reached.{IsReached};
-ghost use Rattle.router_core.specs.Seconds.{later_or, level_later};
+ghost use Rattle.router_core.specs.Seconds.{level_later};
+ghost use Rattle.router_core.specs.Settled.{AreTrue, IsSettled, IsSettledAt, faces};
 
+use crate::faces::keep_faces;
 use crate::machine::Machine;
-use crate::renewal::pass;
+use crate::marks::Marks;
+use crate::quiet::{is_quiet, is_settled};
+use crate::renewal::pass_in_place;
 use crate::second::{circuits_later, idle_all};
 use flag_sync::Book;
 use isis_base::{Level, OutOfMemory};
 use lsp_store::{Entry, Pairs};
-use router_levels::LevelParts;
+use router_circuits::Circuit;
 use router_routes::Following;
 
 impl Machine {
     /// A second, where it is known that no key changes in it: none of a level's own LSPs is to be issued
     /// or purged, and no entry's time ends. Whether that is so; else, and at `OutOfMemory`, the router is
-    /// as it was.
-    pub(crate) fn calm_second(&mut self, following: &Following) -> Result<bool, OutOfMemory>
+    /// as it was. What is wanted is made only for levels that aren't marked (own).
+    pub(crate) fn calm_second(
+        &mut self,
+        following: &Following,
+        marks: &mut Marks,
+    ) -> Result<bool, OutOfMemory>
         requires reached { IsReached self.old }
         requires following { IsFollowing (outlook_of self.old) following.now }
+        requires marks { AreTrue marks.old self.old }
         ensures state { IfOk result (λ calm. calm ≡ true → self.new ≡ (settled
             (record { router = second given self.old; reply = Done })).router) }
         ensures counts { IfOk result (λ calm. calm ≡ true → SameCounts self.old self.new) }
         ensures other { IfOk result (λ calm. calm ≡ false → self.new ≡ self.old) }
         ensures err { OnErr result (self.new ≡ self.old) }
+        ensures marks { outlook_of self.new ≡ outlook_of self.old → AreTrue marks.new self.new }
     {
         let mut circuits = circuits_later(self.alloc, &self.circuits)?;
-        let one = self.level_renewed(&circuits, Level::One, following)?;
-        let two = self.level_renewed(&circuits, Level::Two, following)?;
-        if !is_calm_level(&self.one, &one) || !is_calm_level(&self.two, &two) {
-            return Ok(false);
-        }
-        pass(&mut self.one, one, &circuits, Level::One);
-        pass(&mut self.two, two, &circuits, Level::Two);
+        let keeps = keep_faces(&self.circuits, &circuits);
+        let one = match self.calm_level(&circuits, Level::One, following, keeps && marks.one) {
+            Ok(Some(one)) => one,
+            Ok(None) => return Ok(false),
+            Err(error) => return Err(error),
+        };
+        let two = match self.calm_level(&circuits, Level::Two, following, keeps && marks.two) {
+            Ok(Some(two)) => two,
+            Ok(None) => return Ok(false),
+            Err(error) => return Err(error),
+        };
+        pass_in_place(&mut self.one, &circuits, Level::One);
+        pass_in_place(&mut self.two, &circuits, Level::Two);
         idle_all(&mut circuits, self.desk.system());
         self.circuits = circuits;
+        *marks = Marks { one, two };
         Ok(true)
     }
-}
 
-/// Whether a level isn't made anew, and no key of it changes within a second.
-fn is_calm_level(on: &LevelParts, later: &Option<LevelParts>) -> bool
-    ensures { (l : level.Level) (circuits : List model.Circuit) → result ≡ true
-        → (later_or later.now (level_later (state_of on.now) l circuits)).book.changes
-        ≡ (state_of on.now).book.changes }
-{
-    match later {
-        Some(_) => false,
-        None => lasts(on.book()),
+    /// Whether none of a level's own LSPs is to be issued or purged within a second, and no entry's time
+    /// ends, with the circuits as they then are: then whether its own LSPs say what is then wanted, and
+    /// else `None`. Where it is marked and the circuits say what they said, only ages are looked at.
+    fn calm_level(
+        &self,
+        circuits: &[Circuit],
+        level: Level,
+        following: &Following,
+        marked: bool,
+    ) -> Result<Option<bool>, OutOfMemory>
+        requires few { length circuits.now ≤ 64 }
+        requires fit { AllByRecursion IsFit circuits.now }
+        requires following { IsFollowing (outlook_of self.now) following.now }
+        requires marked { marked ≡ true
+            → IsSettledAt self.now level × (faces circuits.now ≡ faces self.now.circuits) }
+        ensures calm { (r : Router) → r.config ≡ self.now.config → r.circuits ≡ circuits.now
+            → IfOk result (λ o. IfSome o (λ settled.
+            level_later (level_of self.now level) level circuits.now ≡ own.renew given r
+            level (level_later (level_of self.now level) level circuits.now)
+            (model.wanted given self.now r level))) }
+        ensures counts { IfOk result (λ o. IfSome o (λ settled. (list : List Circuit)
+            → (level_later (level_of self.now level) level list).book.changes
+            ≡ (book_of self.now level).changes)) }
+        ensures settled { (r : Router) → r.config ≡ self.now.config
+            → faces r.circuits ≡ faces circuits.now → IfOk result (λ o. o ≡ Some true
+            → IsSettled (level_of self.now level).own (model.wanted given self.now r level)) }
+    {
+        let on = self.level(level);
+        if !lasts(on.book()) {
+            return Ok(None);
+        }
+        let own = on.own();
+        if marked && own.rests() {
+            return Ok(Some(true));
+        }
+        let wanted = self.wanted_with(circuits, level, following)?;
+        if is_settled(own, &wanted) && own.rests() {
+            return Ok(Some(true));
+        }
+        let mut later = own.copy()?;
+        later.second();
+        if is_quiet(&later, &wanted) {
+            return Ok(Some(false));
+        }
+        Ok(None)
     }
 }
 
 /// Whether no entry's time ends within a second (ISO 10589 7.3.16.3).
 fn lasts(book: &Book) -> bool
-    ensures { result ≡ true → AreLasting (book_of book.now) }
+    ensures { result ≡ true → AreLasting (books.book_of book.now) }
 {
     book.order_law();
     all_last(book.store().pages().pairs())

@@ -12,12 +12,13 @@
 //! - `opening.rt`, `taking.rt`: an opened datagram is taken, or dropped; `hellos.rt`, `own.rt`:
 //!   hellos; `levels.rt`, `take.rt`: LSPs; `snps.rt`: sequence number PDUs
 //! - `wanted.rt`: drafts of own LSPs that are wanted
-//! - `second.rt`, `renewal.rt`, `quiet.rt`: a second
+//! - `second.rt`, `renewal.rt`, `quiet.rt`: a second; `marks.rt`, `faces.rt`: levels of which it is known that a
+//!   second issues nothing but for age
 //! - `pull.rt`, `pull_parts.rt`, `hello_sending.rt`, `sending.rt`: what is due is sent
 //! - `at.rt`: one circuit of a list changes
 //! - `calm.rt`, `calm_second.rt`, `routes.rt`: which events leave what routes look at, and the routes
 //!   after an event
-//! - `reached.rt`: what always holds, as laws
+//! - `reached.rt`: what always holds, as laws; `laws.rt`: what follows for all routers
 #![tactic(auto)]
 
 mod asked;
@@ -27,11 +28,14 @@ mod calm_second;
 mod changes;
 mod datagrams;
 mod event;
+mod faces;
 mod hello_sending;
 mod hellos;
+pub mod laws;
 mod levels;
 mod machine;
 mod making;
+mod marks;
 mod opening;
 mod own;
 mod prefix_list;
@@ -56,6 +60,7 @@ pub use datagrams::Datagrams;
 pub use event::NodeEvent;
 pub use reply::Reply;
 pub use router::Router;
+pub use router_desk::{Change, CircuitConfig, Config, Desk, DropCause, DropName, Opened};
 
 #[cfg(test)]
 mod tests;

@@ -1,4 +1,4 @@
-//! Whether a second issues and purges none of a level's own LSPs.
+//! Whether own LSPs say what is wanted, and whether a second issues and purges none.
 ghost use Rattle.std.specs.Prelude.{◌≡◌, true, Some, map};
 ghost use Rattle.std.specs.Option.{option_map};
 ghost use Rattle.isis_base.specs.Identifiers.{lsp_number};
@@ -6,6 +6,7 @@ ghost use Rattle.isis_model.specs.Maps.{find};
 ghost use Rattle.lsp_fragments.specs.Issues.{says_same};
 ghost use Rattle.lsp_wanted.specs.Views.{contents_of, wanted_of};
 ghost use Rattle.router_core.specs.Seconds.{IsQuiet, Waits};
+ghost use Rattle.router_core.specs.Settled.{IsSettled, Says};
 
 use isis_base::LspId;
 use lsp_fragments::{Issue, OwnLsps};
@@ -27,7 +28,37 @@ pub(crate) fn is_quiet(own: &OwnLsps, wanted: &[Wanted]) -> bool
         next = own.next_above(want.id);
         left = more;
     }
+    !next.is_some()
+}
+
+/// Whether each fragment that is wanted is issued with those contents, and nothing else is issued
+/// (ISO 10589 7.3.6).
+pub(crate) fn is_settled(own: &OwnLsps, wanted: &[Wanted]) -> bool
+    ensures { result ≡ true → IsSettled own.now.issued (map wanted_of wanted.now) }
+{
+    let mut next = own.next_from(LspId::from_number(0));
+    let mut left = wanted;
+    while let [want, more @ ..] = left {
+        if !is_next(next, want.id) {
+            return false;
+        }
+        if !is_said(own, want) {
+            return false;
+        }
+        next = own.next_above(want.id);
+        left = more;
+    }
     next.is_none()
+}
+
+/// Whether what is wanted of an LSP ID is issued.
+fn is_said(own: &OwnLsps, want: &Wanted) -> bool
+    ensures { result ≡ true → Says own.now.issued (wanted_of want.now) }
+{
+    match own.contents(want.id) {
+        Some((tlvs, flags)) => flags == want.flags && tlvs == want.tlvs.as_slice(),
+        None => false,
+    }
 }
 
 /// Whether the next LSP ID is this one.

@@ -145,7 +145,7 @@ pub(crate) fn pass(
 }
 
 /// A second of a level, with the circuits as they then are, before its own LSPs are followed.
-fn pass_in_place(on: &mut LevelParts, circuits: &[Circuit], level: Level)
+pub(crate) fn pass_in_place(on: &mut LevelParts, circuits: &[Circuit], level: Level)
     requires few { length circuits.now ≤ 64 }
     requires same { on.old.book.circuits ≡ length circuits.now }
     ensures state { state_of on.new ≡ level_later (state_of on.old) level circuits.now }

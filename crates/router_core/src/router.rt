@@ -7,6 +7,7 @@ ghost use Rattle.isis_model.specs.Places.{nth};
 ghost use Rattle.isis_model.specs.Drops.{drops_of};
 ghost use Rattle.isis_datagram.specs.Numbers.{system_number};
 ghost use Rattle.router_core.specs.Designated.{designated_system};
+ghost use Rattle.router_core.specs.NamedBoots.{named_boot};
 ghost use Rattle.isis_model.specs.AdjacencyLaws.{opens, place_of};
 ghost use Rattle.isis_model.specs.Steps.{step};
 ghost use Rattle.isis_model.specs.Starts.{start};
@@ -27,6 +28,7 @@ ghost use Rattle.router_core.specs.Reached.{IsReached};
 
 use crate::event::NodeEvent;
 use crate::machine::Machine;
+use crate::marks::Marks;
 use crate::reached::{event_octets, reached_laws, start_reached};
 use crate::reply::Reply;
 use flag_sync::Book;
@@ -40,11 +42,13 @@ use std::alloc::Global;
 use std::marker::Model;
 
 /// One router. Contracts see it as the machine of isis_model, in a state that is reached: what always
-/// holds of such states, `facts` tells. Its routes follow its databases.
+/// holds of such states, `facts` tells. Its routes follow its databases, and levels are marked whose own
+/// LSPs say what is wanted.
 #[derive(Drop)]
 pub struct Router {
     machine: Machine,
     following: Following,
+    marks: Marks,
 }
 
 impl Model for Router {
@@ -55,7 +59,7 @@ impl Model for Router {
 
     ghost view = { λ r. r.machine };
 
-    ghost invariant = { λ r. IsWhole r.machine r.following };
+    ghost invariant = { λ r. IsWhole r.machine r.following r.marks };
 }
 
 impl Router {
@@ -75,7 +79,11 @@ impl Router {
             Err(error) => return Err((config, error)),
         };
         match followed(alloc, &machine) {
-            Ok(following) => Ok(Router { machine, following }),
+            Ok(following) => Ok(Router {
+                machine,
+                following,
+                marks: Marks::none(),
+            }),
             Err(error) => Err((config, error)),
         }
     }
@@ -97,7 +105,11 @@ impl Router {
         reached_laws();
         let machine = self.machine.restarted(boot)?;
         let following = followed(self.machine.alloc, &machine)?;
-        Ok(Router { machine, following })
+        Ok(Router {
+            machine,
+            following,
+            marks: Marks::none(),
+        })
     }
 
     /// What never changes of its configuration.
@@ -121,7 +133,10 @@ impl Router {
     {
         reached_laws();
         event_octets(&event);
-        match self.machine.step_calmly(&event, &self.following) {
+        match self
+            .machine
+            .step_calmly(&event, &self.following, &mut self.marks)
+        {
             Ok(Some(reply)) => Ok(reply),
             Ok(None) => self.step_aside(&event),
             Err(error) => Err(error),
@@ -147,6 +162,7 @@ impl Router {
         match machine.follow_routes(&mut self.following, &self.machine, event) {
             Ok(()) => {
                 self.machine = machine;
+                self.marks = Marks::none();
                 Ok(reply)
             }
             Err(error) => Err(error),
@@ -213,6 +229,15 @@ impl Router {
         ensures { result ≡ opens (nth self.now.circuits (circuit - 1)) level }
     {
         self.machine.up(circuit, level)
+    }
+
+    /// The boot number that the neighbour of a point-to-point circuit, counted from 1, tells: its extended circuit ID
+    /// divided by 256 (RFC 5303 3.1; the parts: own). `None` exactly on a LAN, and where the adjacency isn't Up.
+    pub fn names_boot(&self, circuit: u8) -> Option<u32>
+        requires { IsThere self.now circuit }
+        ensures { IfSome (nth self.now.circuits (circuit - 1)) (λ c. result ≡ named_boot c) }
+    {
+        self.machine.names_boot(circuit)
     }
 
     /// The designated system of a LAN and level (ISO 10589 8.4.5), of the circuit counted from 1;

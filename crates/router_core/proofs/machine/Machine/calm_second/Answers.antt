@@ -1,23 +1,55 @@
-use Rattle.std.proofs.Common.{◌≡◌, List, map, sym, ap, ◌∙◌}
+use Rattle.std.proofs.Common.{◌≡◌, List, None, Some, map, refl, sym, ap, ◌∙◌, subst}
 use Rattle.isis_base.specs.declared.level.Level.TheVariants as level
 use Rattle.isis_model.specs.Elections.{idle_all}
-use Rattle.isis_model.specs.Routers.{Circuit, Router}
+use Rattle.isis_model.specs.Events.{Done, settled}
+use Rattle.isis_model.specs.Routers.{Circuit, LevelState, Router}
+use Rattle.isis_model.specs.Seconds.{second}
 use Rattle.router_levels.specs.Views.{state_of}
+use Rattle.router_routes.specs.Outlooks.{outlook_of}
+use Rattle.router_core.specs.Givens.{given}
 use Rattle.router_core.specs.Machines.{machine_of}
 use Rattle.router_core.specs.Seconds.{later}
+use Rattle.router_core.specs.Settled.{faces}
+use Rattle.router_core.proofs.KeepLemmas.{idle-faces}
+use Rattle.router_core.proofs.QuietLemmas.{later-own}
 use Rattle.router_core.proofs.SecondLemmas.{second-of, later-part}
+use Rattle.router_core.proofs.SettledLemmas.{calm-marks, some-told}
 use Rattle.router_core.proofs.machine.Machine.calm_second.Goals as goal
 
 -- src/calm_second.rt
 pub returns-clause-state : goal.returns-clause-state
 returns-clause-state c =
-    let r = c.args.self.now in
-    let circuits : c.in_ok-circuits.circuits.items ≡ map later r.circuits =
-    c.in_ok-circuits.ensures.state ∙ ap (λ (cs : List Circuit). map later cs) (c.deref.ensures.value ∙ ap (λ (q : Router). q.circuits) c.self.view_is) in
-    λ e. second-of r (machine_of c.self.inside) (state_of c.pass.new.on) (state_of c.pass-2.new.on) c.idle_all.new.circuits.items c.self.view_is
-    (c.idle_all.ensures.state r.config (sym (c.system.ensures ∙ ap (λ (q : Router). q.config.system) c.self.view_is))
-    ∙ ap (λ (cs : List Circuit). idle_all r.config 0 cs) circuits)
-    (later-part r level.One r.levels.one c.in_ok-one.one (state_of c.self.inside.one) (state_of c.pass.new.on) c.deref-2.result.now c.deref-4.result.now
-    (ap (λ (q : Router). q.levels.one) c.self.view_is) (c.deref-2.ensures.value ∙ circuits) (c.deref-4.ensures.value ∙ circuits) c.pass.ensures.state (λ q a b. c.in_ok-one.ensures.state r q c.requires.following a b))
-    (later-part r level.Two r.levels.two c.in_ok-two.two (state_of c.self.inside.two) (state_of c.pass-2.new.on) c.deref-3.result.now c.deref-5.result.now
-    (ap (λ (q : Router). q.levels.two) c.self.view_is) (c.deref-3.ensures.value ∙ circuits) (c.deref-5.ensures.value ∙ circuits) c.pass-2.ensures.state (λ q a b. c.in_ok-two.ensures.state r q c.requires.following a b))
+    let v = machine_of c.self.inside in
+    let circuits : c.in_ok-circuits.circuits.items ≡ map later v.circuits =
+    c.in_ok-circuits.ensures.state ∙ ap (λ (cs : List Circuit). map later cs) c.deref.ensures.value in
+    let t : Router = record v {
+      circuits = c.idle_all.new.circuits.items;
+      levels = record { one = state_of c.pass_in_place.new.on; two = state_of c.pass_in_place-2.new.on };
+    } in
+    λ e. subst (λ (q : Router). t ≡ (settled (record { router = second given q; reply = Done })).router) c.self.view_is
+    (second-of v v (state_of c.pass_in_place.new.on) (state_of c.pass_in_place-2.new.on) c.idle_all.new.circuits.items refl
+    (c.idle_all.ensures.state v.config (sym c.system.ensures) ∙ ap (λ (cs : List Circuit). idle_all v.config 0 cs) circuits)
+    (later-part v level.One v.levels.one None (state_of c.self.inside.one) (state_of c.pass_in_place.new.on) c.deref-4.result.now c.deref-6.result.now
+    refl (c.deref-4.ensures.value ∙ circuits) (c.deref-6.ensures.value ∙ circuits) c.pass_in_place.ensures.state (λ q a b. some-told _ _ _ c.in-Ok-Some.field-0-is (c.in-Ok-Some.ensures.calm q a b)))
+    (later-part v level.Two v.levels.two None (state_of c.self.inside.two) (state_of c.pass_in_place-2.new.on) c.deref-5.result.now c.deref-7.result.now
+    refl (c.deref-5.ensures.value ∙ circuits) (c.deref-7.ensures.value ∙ circuits) c.pass_in_place-2.ensures.state (λ q a b. some-told _ _ _ c.in-Ok-Some-calm_level.field-0-is (c.in-Ok-Some-calm_level.ensures.calm q a b))))
+
+-- src/calm_second.rt
+pub returns-clause-marks : goal.returns-clause-marks
+returns-clause-marks c =
+    let v = machine_of c.self.inside in
+    let t : Router = record v {
+      circuits = c.idle_all.new.circuits.items;
+      levels = record { one = state_of c.pass_in_place.new.on; two = state_of c.pass_in_place-2.new.on };
+    } in
+    let same : faces t.circuits ≡ faces c.in_ok-circuits.circuits.items =
+    ap faces (c.idle_all.ensures.state v.config (sym c.system.ensures)) ∙ idle-faces v.config 0 c.in_ok-circuits.circuits.items in
+    λ stays. let outlook : outlook_of t ≡ outlook_of v = stays ∙ ap outlook_of (sym c.self.view_is) in
+    record {
+      one = λ h. calm-marks v t level.One outlook
+          (ap (λ (s : LevelState). s.own) c.pass_in_place.ensures.state ∙ later-own (state_of c.self.inside.one) level.One c.deref-6.result.now)
+          (c.in-Ok-Some.ensures.settled t refl (same ∙ ap faces (sym c.deref-4.ensures.value)) (c.in-Ok-Some.field-0-is ∙ ap Some h));
+      two = λ h. calm-marks v t level.Two outlook
+          (ap (λ (s : LevelState). s.own) c.pass_in_place-2.ensures.state ∙ later-own (state_of c.self.inside.two) level.Two c.deref-7.result.now)
+          (c.in-Ok-Some-calm_level.ensures.settled t refl (same ∙ ap faces (sym c.deref-5.ensures.value)) (c.in-Ok-Some-calm_level.field-0-is ∙ ap Some h));
+    }

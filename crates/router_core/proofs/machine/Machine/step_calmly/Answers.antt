@@ -27,3 +27,7 @@ returns-in-Ok-true-clause-outlook c =
     ∙ c.outlook_laws.ensures.stays r event c.requires.reached (c.counts_below.ensures c.if-not-counts_below.false)
     (subst (SameCounts r) state (c.in-Ok-true.ensures.counts c.in-Ok-true.field-0-test))
     (subst (λ (e : NodeEvent). KeepsPrefixes (event_of r e)) (sym c.in-Second.is) tt)
+
+-- src/stepping.rt
+pub returns-in-Ok-true-clause-marks : goal.returns-in-Ok-true-clause-marks
+returns-in-Ok-true-clause-marks c = c.in-Ok-true.ensures.marks (returns-in-Ok-true-clause-outlook c)

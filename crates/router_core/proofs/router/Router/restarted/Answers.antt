@@ -7,6 +7,7 @@ pub invariant_of-result : goal.invariant_of-result
 invariant_of-result c = record {
   reached = subst IsReached (sym c.in_ok-machine.ensures) (c.reached_laws.ensures.restart c.self.inside.machine c.args.boot c.self.invariant.reached (omega (arith, c.requires)));
   following = c.in_ok-following.ensures;
+  marks_hold = c.none.ensures _;
 }
 
 -- src/router.rt

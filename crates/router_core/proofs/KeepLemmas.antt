@@ -1,0 +1,368 @@
+-- What leaves all that own LSPs are made from.
+use Rattle.std.proofs.Common.{◌≡◌, ℕ, zero, suc, ◌+◌, ◌==◌, ◌≤◌, nat_lt, Bool, true, false, not, ◌&&◌, List, [], ◌∷◌, length, drop, get_or, ◌<◌, Option, Some, None, if◌then◌else◌, option_map, is_some, refl, sym, ap, ◌∙◌, subst, arith}
+use Rattle.isis_tlv.specs.declared.three_way.Adj.TheVariants.{Down}
+use Rattle.isis_base.specs.declared.level.Level.{Level}
+use Rattle.isis_base.specs.declared.level.Level.TheVariants as level
+use Rattle.isis_model.specs.Both.{Both, at}
+use Rattle.isis_model.specs.Places.{nth, with_nth}
+use Rattle.isis_model.specs.Sets.{has}
+use Rattle.isis_model.specs.Configs.{Config}
+use Rattle.isis_model.specs.Adjacencies.{Handshake, Hello, Neighbour, PointAdj, common_of, is_same}
+use Rattle.isis_model.specs.AdjacencyLaws.{place_of}
+use Rattle.isis_model.specs.Routers.{Circuit, CircuitLevel, LanNeighbour, LevelState, Router, book_of, with_level, with_circuit, level_of}
+use Rattle.isis_model.specs.Elections.{idle_all}
+use Rattle.isis_model.specs.Hellos.{follow, point_circuit, take_point}
+use Rattle.isis_model.specs.Events.{Message, Refused, PointHelloHeard, LanHelloHeard, LspHeard, SnpHeard, Event, Second, Take, Pull, Metric, Overload, Prefix, Done, Outcome, settled}
+use Rattle.isis_model.specs.Seconds.{is_over, held_less, point_kept, point_less, heard_less}
+use Rattle.isis_model.specs.SnpLists.{owed}
+use Rattle.isis_model.specs.Pulls.{csnp_sent, Sending, on_circuit, at_circuit, pull_hello, pull_csnp, pull_lsps, pull_psnp, pull_level, pull, with_part, is_csnp_due}
+use Rattle.isis_model.specs.declared.whose.Whose.{Whose}
+use Rattle.isis_model.specs.declared.drop_name.DropName.{DropName}
+use Rattle.isis_model.specs.declared.lsp_case.LspCase.{LspCase}
+use Rattle.isis_model.specs.declared.lsp_case.LspCase.TheVariants as lsp
+use Rattle.isis_model.specs.declared.snp_case.SnpCase.{SnpCase}
+use Rattle.isis_model.specs.declared.snp_case.SnpCase.TheVariants as snp
+use Rattle.isis_model.specs.Cells.{Heard}
+use Rattle.isis_model.specs.Books.{cell_at}
+use Rattle.isis_model.specs.LspTable.{met}
+use Rattle.isis_model.specs.SnpTable.{SnpEntry, snp_case, sets_flag}
+use Rattle.isis_model.specs.Takes.{Scene, whose_of, lsp_taken, take_lsp, entry_taken, take_entry, take_entries, take_range, take_snp}
+use Rattle.isis_model.specs.Givens.{Given}
+use Rattle.isis_model.specs.Receiving.{scene_of, greeted, taken, take_or_drop, take, drop_of}
+use Rattle.isis_model.specs.Steps.{sent_all, step}
+use Rattle.isis_model.proofs.BookLemmas.{choose}
+use Rattle.adjacency.specs.Lans.{neighbours}
+use Rattle.router_core.specs.Seconds.{later}
+use Rattle.router_core.specs.Calm.{is_calm_row, AreClear, IsCalmMessage, IsCalm}
+use Rattle.router_core.proofs.CalmLemmas.{take-face, clear-face}
+use Rattle.router_core.proofs.IdleLemmas.{nth-with}
+use Rattle.router_core.specs.Settled.{lan_face, heard_face, level_face, neighbour_face, point_face, face, faces, IsAside, IsNoHello, IsGreeting, Keeps, point_at}
+
+true-false : true ≡ false → ⊥
+true-false e = cc
+
+pub keeps-refl : (r : Router) → Keeps r r
+keeps-refl r = record { config = refl; circuits = refl; one = refl; two = refl }
+
+pub keeps-trans : (r s t : Router) → Keeps r s → Keeps s t → Keeps r t
+keeps-trans r s t f g = record { config = g.config ∙ f.config; circuits = g.circuits ∙ f.circuits; one = g.one ∙ f.one; two = g.two ∙ f.two }
+
+pub keeps-level : (r : Router) (l : Level) (s : LevelState) → s.own ≡ (level_of r l).own → Keeps r (with_level r l s)
+keeps-level r level.One s e = record { config = refl; circuits = refl; one = e; two = refl }
+keeps-level r level.Two s e = record { config = refl; circuits = refl; one = refl; two = e }
+
+-- a list in which one circuit is another of the same face
+pub faces-with : (cs : List Circuit) (place : ℕ) (old c : Circuit) → nth cs place ≡ Some old → face c ≡ face old → faces (with_nth cs place c) ≡ faces cs
+faces-with [] place old c e f = refl
+faces-with (x ∷ cs) zero old c e f = ap (λ (y : Circuit). y ∷ faces cs) (f ∙ ap face (sym (same x old e)))
+  where
+    same : (x y : Circuit) → Some x ≡ Some y → x ≡ y
+    same x y e = cc
+faces-with (x ∷ cs) (suc place) old c e f = ap (λ (ys : List Circuit). face x ∷ ys) (faces-with cs place old c e f)
+
+pub keeps-circuit : (r : Router) (place : ℕ) (old c : Circuit) → nth r.circuits place ≡ Some old → face c ≡ face old → Keeps r (with_circuit r place c)
+keeps-circuit r place old c e f = record { config = refl; circuits = faces-with r.circuits place old c e f; one = refl; two = refl }
+
+pub keeps-follow : (r : Router) (anew : Bool) (place : ℕ) (c : Circuit) → Keeps r (follow r anew place c)
+keeps-follow r anew place c = record { config = refl; circuits = refl; one = refl; two = refl }
+
+-- ---- the end of an event
+
+pub idle-faces : (config : Config) (k : ℕ) (cs : List Circuit) → faces (idle_all config k cs) ≡ faces cs
+idle-faces config k [] = refl
+idle-faces config k (c ∷ cs) = ap (λ (ys : List Circuit). face c ∷ ys) (idle-faces config (k + 1) cs)
+
+pub settled-keeps : (o : Outcome) → Keeps o.router (settled o).router
+settled-keeps o = record { config = refl; circuits = idle-faces o.router.config 0 o.router.circuits; one = refl; two = refl }
+
+-- ---- a pull
+
+part-face : (c : Circuit) (l : Level) (part : CircuitLevel) → level_face part ≡ level_face (at c.levels l) → face (with_part c l part) ≡ face c
+part-face c level.One part e = ap (λ (x : CircuitLevel). record (face c) { levels = record { one = x; two = level_face c.levels.two } }) e
+part-face c level.Two part e = ap (λ (x : CircuitLevel). record (face c) { levels = record { one = level_face c.levels.one; two = x } }) e
+
+hello-keeps : (s : Sending) (place : ℕ) (c : Circuit) → nth s.router.circuits place ≡ Some c → Keeps s.router (pull_hello s place c).router
+unfolding pull_hello
+hello-keeps s place c e = choose (λ (u : Sending). Keeps s.router u.router) (c.hello == 0) _ s
+    (λ _. keeps-circuit s.router place c (record c { hello = 10 }) e refl) (λ _. keeps-refl s.router)
+
+csnp-keeps : (s : Sending) (place : ℕ) (l : Level) (c : Circuit) → nth s.router.circuits place ≡ Some c → Keeps s.router (pull_csnp s place l c).router
+unfolding pull_csnp
+csnp-keeps s place l c e = choose (λ (u : Sending). Keeps s.router u.router) (is_csnp_due s.router.config place c l) _ s
+    (λ _. keeps-circuit s.router place c (with_part c l (csnp_sent c.lan (at c.levels l))) e (part-face c l (csnp_sent c.lan (at c.levels l)) refl)) (λ _. keeps-refl s.router)
+
+lsps-keeps : (s : Sending) (place : ℕ) (l : Level) → Keeps s.router (pull_lsps s place l).router
+unfolding pull_lsps
+lsps-keeps s place l = keeps-level s.router l _ refl
+
+psnp-keeps : (s : Sending) (place : ℕ) (l : Level) (c : Circuit) → nth s.router.circuits place ≡ Some c → Keeps s.router (pull_psnp s place l c).router
+unfolding pull_psnp
+psnp-keeps s place l c e =
+    let new = with_part c l (record (at c.levels l) { psnp = 2 }) in
+    choose (λ (u : Sending). Keeps s.router u.router) (nat_lt 0 (length (owed place (book_of s.router l))) && (at c.levels l).psnp == 0) _ s
+    (λ _. keeps-trans s.router (with_circuit s.router place new) _ (keeps-circuit s.router place c new e (part-face c l (record (at c.levels l) { psnp = 2 }) refl)) (keeps-level (with_circuit s.router place new) l _ refl)) (λ _. keeps-refl s.router)
+
+at-keeps : (s : Sending) (place : ℕ) (f : Circuit → Sending) → ((c : Circuit) → nth s.router.circuits place ≡ Some c → Keeps s.router (f c).router) → Keeps s.router (at_circuit s place f).router
+at-keeps s place f g = of (nth s.router.circuits place) refl
+  where
+    of : (c : Option Circuit) → nth s.router.circuits place ≡ c → Keeps s.router (on_circuit c s f).router
+    of None e = keeps-refl s.router
+    of (Some c) e = g c e
+
+level-keeps : (s : Sending) (place : ℕ) (l : Level) → Keeps s.router (pull_level s place l).router
+unfolding pull_level
+level-keeps s place l =
+    let csnp = at_circuit s place (pull_csnp s place l) in
+    let lsps = pull_lsps csnp place l in
+    choose (λ (u : Sending). Keeps s.router u.router) (has (book_of s.router l).opened place) (at_circuit lsps place (pull_psnp lsps place l)) s
+    (λ _. keeps-trans s.router csnp.router _ (at-keeps s place (pull_csnp s place l) (λ c e. csnp-keeps s place l c e))
+    (keeps-trans csnp.router lsps.router _ (lsps-keeps csnp place l) (at-keeps lsps place (pull_psnp lsps place l) (λ c e. psnp-keeps lsps place l c e))))
+    (λ _. keeps-refl s.router)
+
+pub pull-keeps : (r : Router) (place : ℕ) → Keeps r (pull r place).router
+unfolding pull
+pull-keeps r place =
+    let start : Sending = record { router = r; out = [] } in
+    let one = at_circuit start place (pull_hello start place) in
+    let two = pull_level one place level.One in
+    keeps-trans r one.router _ (at-keeps start place (pull_hello start place) (λ c e. hello-keeps start place c e))
+    (keeps-trans one.router two.router _ (level-keeps one place level.One) (level-keeps two place level.Two))
+
+-- ---- a second in which no holding time ends
+
+abbrev kept-less : Bool → ℕ × LanNeighbour → List (ℕ × LanNeighbour) → List (ℕ × LanNeighbour)
+kept-less over p heard = if over then heard_less heard else (p.0, record p.1 { neighbour = held_less p.1.neighbour }) ∷ heard_less heard
+
+short : (heard : List (ℕ × LanNeighbour)) → length (heard_less heard) ≤ length heard
+short [] = omega arith
+short (p ∷ heard) = of (is_over p.1.neighbour) (short heard)
+  where
+    of : (t : Bool) → length (heard_less heard) ≤ length heard → length (kept-less t p heard) ≤ suc (length heard)
+    of true e = omega (arith, e)
+    of false e = omega (arith, e)
+
+-- where none goes, all that counts of them stays
+pub heard-less-face : (heard : List (ℕ × LanNeighbour)) → length (heard_less heard) ≡ length heard → heard_face (heard_less heard) ≡ heard_face heard
+heard-less-face [] e = refl
+heard-less-face (p ∷ heard) e = of (is_over p.1.neighbour) (λ f. heard-less-face heard f) (short heard) e
+  where
+    of : (t : Bool) → (length (heard_less heard) ≡ length heard → heard_face (heard_less heard) ≡ heard_face heard) → length (heard_less heard) ≤ length heard
+        → length (kept-less t p heard) ≡ suc (length heard) → heard_face (kept-less t p heard) ≡ heard_face (p ∷ heard)
+    of true f h e = absurd (omega (arith, h, e))
+    of false f h e = ap (λ (ys : List (ℕ × LanNeighbour)). (p.0, lan_face p.1) ∷ ys) (f (omega (arith, e)))
+
+-- whether a point-to-point neighbour is kept stays, so that its face does
+pub point-less-face : (p : PointAdj) → is_some (point_less p).neighbour ≡ is_some p.neighbour → point_face (point_less p) ≡ point_face p
+point-less-face p e = of p.neighbour refl e
+  where
+    bad : false ≡ true → ⊥
+    bad e = cc
+
+    faced : Option Neighbour → PointAdj
+    faced o = record { state = p.state; neighbour = option_map neighbour_face o }
+
+    by-time : (n : Neighbour) (t : Bool) → p.neighbour ≡ Some n → is_some (if t then record { state = Down; neighbour = None } else record p { neighbour = Some (held_less n) }).neighbour ≡ true
+        → point_face (if t then record { state = Down; neighbour = None } else record p { neighbour = Some (held_less n) }) ≡ point_face p
+    by-time n true f e = absurd (bad e)
+    by-time n false f e = ap (λ (o : Option Neighbour). faced o) (sym f)
+
+    of : (o : Option Neighbour) → p.neighbour ≡ o → is_some (point_kept o p).neighbour ≡ is_some o → point_face (point_kept o p) ≡ point_face p
+    of None f e = refl
+    of (Some n) f e = by-time n (is_over n) f e
+
+pub point-none-face : (p : PointAdj) → is_some p.neighbour ≡ false → point_face (point_less p) ≡ point_face p
+point-none-face p e = of p.neighbour refl e
+  where
+    of : (o : Option Neighbour) → p.neighbour ≡ o → is_some o ≡ false → point_face (point_kept o p) ≡ point_face p
+    of None f e = refl
+    of (Some n) f e = absurd (true-false e)
+
+pub length-heard : (heard : List (ℕ × LanNeighbour)) → length (neighbours heard) ≡ length heard
+length-heard [] = refl
+length-heard (p ∷ heard) = ap suc (length-heard heard)
+
+-- one circuit a second later
+pub later-face : (c d : Circuit) → d ≡ later c → point_face d.point ≡ point_face c.point → length d.levels.one.heard ≡ length c.levels.one.heard → length d.levels.two.heard ≡ length c.levels.two.heard → face d ≡ face c
+later-face c d is p one two =
+    let heard-one : heard_face d.levels.one.heard ≡ heard_face c.levels.one.heard =
+    subst (λ (x : Circuit). length x.levels.one.heard ≡ length c.levels.one.heard → heard_face x.levels.one.heard ≡ heard_face c.levels.one.heard) (sym is) (heard-less-face c.levels.one.heard) one in
+    let heard-two : heard_face d.levels.two.heard ≡ heard_face c.levels.two.heard =
+    subst (λ (x : Circuit). length x.levels.two.heard ≡ length c.levels.two.heard → heard_face x.levels.two.heard ≡ heard_face c.levels.two.heard) (sym is) (heard-less-face c.levels.two.heard) two in
+    ap (λ (x : Circuit). shape x d) is
+    ∙ (ap (λ (q : PointAdj). with-parts q (heard_face d.levels.one.heard) (heard_face d.levels.two.heard)) p
+    ∙ (ap (λ (h : List (ℕ × LanNeighbour)). with-parts (point_face c.point) h (heard_face d.levels.two.heard)) heard-one
+    ∙ ap (λ (h : List (ℕ × LanNeighbour)). with-parts (point_face c.point) (heard_face c.levels.one.heard) h) heard-two))
+  where
+    with-parts : PointAdj → List (ℕ × LanNeighbour) → List (ℕ × LanNeighbour) → Circuit
+    with-parts q one two = record (face c) {
+      point = q;
+      levels = record {
+        one = record { heard = one; csnp = 0; psnp = 0; due = false };
+        two = record { heard = two; csnp = 0; psnp = 0; due = false };
+      };
+    }
+
+    -- what a second leaves of the one, and the adjacencies of the other
+    shape : Circuit → Circuit → Circuit
+    shape x y = record (face x) {
+      point = point_face y.point;
+      levels = record { one = level_face y.levels.one; two = level_face y.levels.two };
+    }
+
+-- ---- circuits, one by one
+
+count-up : (n : ℕ) → suc n ≡ n + 1
+count-up n = omega arith
+
+opens-from : {A : Type 0} (xs : List A) (i : ℕ) (d : A) → i < length xs → drop i xs ≡ get_or xs i d ∷ drop (suc i) xs
+opens-from [] i d h = absurd (omega (arith, h))
+opens-from (x ∷ xs) zero d h = refl
+opens-from (x ∷ xs) (suc i) d h = opens-from xs i d (omega (arith, h))
+
+pub drop-opens : {A : Type 0} (xs : List A) (i : ℕ) (d : A) → i < length xs → drop i xs ≡ get_or xs i d ∷ drop (i + 1) xs
+drop-opens xs i d h = subst (λ (n : ℕ). drop i xs ≡ get_or xs i d ∷ drop n xs) (count-up i) (opens-from xs i d h)
+
+pub faces-turn : (cs ds : List Circuit) (i : ℕ) (c d e f : Circuit) → i < length cs → i < length ds → c ≡ get_or cs i e → d ≡ get_or ds i f → face d ≡ face c
+    → (faces (drop i ds) ≡ faces (drop i cs) → faces ds ≡ faces cs) → faces (drop (i + 1) ds) ≡ faces (drop (i + 1) cs) → faces ds ≡ faces cs
+faces-turn cs ds i c d e f h k p q same go rest =
+    go (ap faces (drop-opens ds i f k)
+    ∙ (ap (λ (x : Circuit). face x ∷ faces (drop (i + 1) ds)) (sym q)
+    ∙ (ap (λ (x : Circuit). x ∷ faces (drop (i + 1) ds)) same
+    ∙ (ap (λ (xs : List Circuit). face c ∷ xs) rest
+    ∙ (ap (λ (x : Circuit). face x ∷ faces (drop (i + 1) cs)) p ∙ sym (ap faces (drop-opens cs i e h)))))))
+
+drop-all : {A : Type 0} (xs : List A) (i : ℕ) → length xs ≤ i → drop i xs ≡ []
+drop-all [] zero h = refl
+drop-all [] (suc i) h = refl
+drop-all (x ∷ xs) zero h = absurd (omega (arith, h))
+drop-all (x ∷ xs) (suc i) h = drop-all xs i (omega (arith, h))
+
+pub faces-end : (cs ds : List Circuit) (i : ℕ) → length cs ≤ i → length ds ≤ i → (faces (drop i ds) ≡ faces (drop i cs) → faces ds ≡ faces cs) → faces ds ≡ faces cs
+faces-end cs ds i h k go = go (ap faces (drop-all ds i k ∙ sym (drop-all cs i h)))
+
+-- ---- a datagram that isn't a hello
+
+lsp-own : (scene : Scene) (state : LevelState) (place : ℕ) (w : Whose) (h : Heard) (row : LspCase) → is_calm_row row ≡ true → (lsp_taken scene state place w h row).own ≡ state.own
+lsp-own scene state place w h lsp.Outbid calm = absurd (true-false (sym calm))
+lsp-own scene state place w h lsp.PurgedOwn calm = refl
+lsp-own scene state place w h lsp.AckPurge calm = refl
+lsp-own scene state place w h lsp.Confused calm = refl
+lsp-own scene state place w h lsp.Stored calm = refl
+lsp-own scene state place w h lsp.Same calm = refl
+lsp-own scene state place w h lsp.Older calm = refl
+
+take-own : (scene : Scene) (state : LevelState) (place : ℕ) (w : Whose) (h : Heard) → is_calm_row (met state.book w h) ≡ true → (take_lsp scene state place w h).own ≡ state.own
+unfolding take_lsp
+take-own scene state place w h calm = lsp-own scene state place w h (met state.book w h) calm
+
+entry-own : (scene : Scene) (state : LevelState) (place : ℕ) (w : Whose) (h : SnpEntry) (row : SnpCase) → sets_flag row ≡ false → (entry_taken scene state place w h row).own ≡ state.own
+entry-own scene state place w h snp.Nothing e = refl
+entry-own scene state place w h snp.Outbid e = absurd (true-false e)
+entry-own scene state place w h snp.Confused e = refl
+entry-own scene state place w h snp.Same e = refl
+entry-own scene state place w h snp.Older e = refl
+entry-own scene state place w h snp.Newer e = refl
+entry-own scene state place w h snp.Asked e = refl
+entry-own scene state place w h snp.Unasked e = refl
+
+one-own : (scene : Scene) (state : LevelState) (system place : ℕ) (h : SnpEntry) → ((w : Whose) → sets_flag (snp_case w (cell_at state.book h.id) h) ≡ false) → (take_entry scene state system place h).own ≡ state.own
+unfolding take_entry
+one-own scene state system place h clear =
+    let w = whose_of system state h.id in
+    entry-own scene state place w h (snp_case w (cell_at state.book h.id) h) (clear w)
+
+entries-own : (scene : Scene) (state : LevelState) (system place : ℕ) (entries : List SnpEntry) → AreClear state.book entries → (take_entries scene state system place entries).own ≡ state.own
+entries-own scene state system place [] clear = refl
+entries-own scene state system place (h ∷ entries) clear =
+    let next = take_entry scene state system place h in
+    entries-own scene next system place entries (clear-face state.book next.book entries (take-face scene state system place h clear.0) clear.1) ∙ one-own scene state system place h clear.0
+
+range-own : (state : LevelState) (place : ℕ) (range : Option (ℕ × ℕ)) (entries : List SnpEntry) → (take_range state place range entries).own ≡ state.own
+range-own state place None entries = refl
+range-own state place (Some range) entries = refl
+
+snp-own : (scene : Scene) (state : LevelState) (system place : ℕ) (range : Option (ℕ × ℕ)) (entries : List SnpEntry) → AreClear state.book entries → (take_snp scene state system place range entries).own ≡ state.own
+unfolding take_snp
+snp-own scene state system place range entries clear =
+    range-own (take_entries scene state system place entries) place range entries ∙ entries-own scene state system place entries clear
+
+taken-keeps : (given : Given) (r : Router) (place : ℕ) (c : Circuit) (m : Message) → IsCalmMessage r m → IsNoHello m → Keeps r (taken given r place c m).router
+taken-keeps given r place c (Refused cause) calm aside = keeps-refl r
+taken-keeps given r place c (PointHelloHeard h) calm aside = absurd aside
+taken-keeps given r place c (LanHelloHeard l h) calm aside = absurd aside
+taken-keeps given r place c (LspHeard l snpa h) calm aside =
+    let state = level_of r l in
+    let w = whose_of r.config.system state h.id in
+    keeps-level r l (take_lsp (scene_of given r l) state place w h) (take-own (scene_of given r l) state place w h calm)
+taken-keeps given r place c (SnpHeard l snpa source range entries) calm aside =
+    keeps-level r l (take_snp (scene_of given r l) (level_of r l) r.config.system place range entries) (snp-own (scene_of given r l) (level_of r l) r.config.system place range entries calm)
+
+drop-keeps : (given : Given) (r : Router) (place : ℕ) (c : Circuit) (m : Message) (o : Option DropName) → IsCalmMessage r m → IsNoHello m → Keeps r (take_or_drop given r place c m o).router
+drop-keeps given r place c m (Some cause) calm aside = record { config = refl; circuits = refl; one = refl; two = refl }
+drop-keeps given r place c m None calm aside = keeps-trans r (taken given r place c m).router _ (taken-keeps given r place c m calm aside) (settled-keeps (taken given r place c m))
+
+take-keeps : (given : Given) (r : Router) (place : ℕ) (m : Message) (o : Option Circuit) → IsCalmMessage r m → IsNoHello m → Keeps r (take given r place m o).router
+take-keeps given r place m None calm aside = keeps-refl r
+take-keeps given r place m (Some c) calm aside = drop-keeps given r place c m (drop_of r place c m) calm aside
+
+-- what is calm and no hello, second or change leaves all that own LSPs are made from
+pub step-keeps : (given : Given) (r : Router) (event : Event) → IsCalm r event → IsAside event → Keeps r (step given r event).router
+unfolding step
+step-keeps given r Second calm aside = absurd aside
+step-keeps given r (Take place m) calm aside = take-keeps given r place m (nth r.circuits place) calm aside
+step-keeps given r (Pull place) calm aside = keeps-trans r (pull r place).router _ (pull-keeps r place) (settled-keeps (sent_all (pull r place)))
+step-keeps given r (Metric place metric) calm aside = absurd aside
+step-keeps given r (Overload on) calm aside = absurd aside
+step-keeps given r (Prefix prefix metric) calm aside = absurd aside
+
+-- ---- a point-to-point hello
+
+abbrev faced : Option Circuit → Option PointAdj
+faced o = option_map (λ (c : Circuit). point_face c.point) o
+
+idle-point : (config : Config) (k : ℕ) (cs : List Circuit) (i : ℕ) → faced (nth (idle_all config k cs) i) ≡ faced (nth cs i)
+idle-point config k [] i = refl
+idle-point config k (c ∷ cs) zero = refl
+idle-point config k (c ∷ cs) (suc i) = idle-point config (k + 1) cs i
+
+some-same : {A : Type 0} (x y : A) → Some x ≡ Some y → x ≡ y
+some-same x y e = cc
+
+greeted-face : (c : Circuit) (common : Both Bool) (h : Hello) (shake : Handshake) → point_face (point_circuit c common h shake).point ≡ point_face c.point → face (point_circuit c common h shake) ≡ face c
+greeted-face c common h shake e = ap (λ (p : PointAdj). record (face c) { point = p }) e
+
+point-keeps : (r : Router) (place : ℕ) (c : Circuit) (h : Hello) (shake : Handshake) → nth r.circuits place ≡ Some c → faced (nth (take_point r place c h shake).circuits place) ≡ faced (nth r.circuits place) → Keeps r (take_point r place c h shake)
+unfolding take_point
+point-keeps r place c h shake n e =
+    let common = common_of r.config h in
+    let new = point_circuit c common h shake in
+    let same : point_face new.point ≡ point_face c.point = some-same _ _ (sym (ap faced (nth-with r.circuits place c new n)) ∙ (e ∙ ap faced n)) in
+    keeps-trans r (with_circuit r place new) _ (keeps-circuit r place c new n (greeted-face c common h shake same)) (keeps-follow (with_circuit r place new) (not (is_same c.point.neighbour common h shake.extended)) place new)
+
+greeted-keeps : (r : Router) (place : ℕ) (c : Circuit) (h : Hello) (o : Option Handshake) → nth r.circuits place ≡ Some c → faced (nth (greeted r place c h o).circuits place) ≡ faced (nth r.circuits place) → Keeps r (greeted r place c h o)
+greeted-keeps r place c h None n e = keeps-refl r
+greeted-keeps r place c h (Some shake) n e = point-keeps r place c h shake n e
+
+-- one that leaves what own LSPs look at of the adjacency leaves all that they are made from
+pub hello-keeps-own : (given : Given) (r : Router) (event : Event) → IsGreeting event → point_at (step given r event).router (place_of event) ≡ point_at r (place_of event) → Keeps r (step given r event).router
+unfolding step
+hello-keeps-own given r Second is e = absurd is
+hello-keeps-own given r (Take place (Refused cause)) is e = absurd is
+hello-keeps-own given r (Take place (PointHelloHeard h)) is e = of (nth r.circuits place) refl e
+  where
+    by-drop : (c : Circuit) (d : Option DropName) → nth r.circuits place ≡ Some c → faced (nth (take_or_drop given r place c (PointHelloHeard h) d).router.circuits place) ≡ faced (nth r.circuits place) → Keeps r (take_or_drop given r place c (PointHelloHeard h) d).router
+    by-drop c (Some cause) n e = record { config = refl; circuits = refl; one = refl; two = refl }
+    by-drop c None n e =
+        let to = greeted r place c h h.handshake in
+        keeps-trans r to _ (greeted-keeps r place c h h.handshake n (sym (idle-point to.config 0 to.circuits place) ∙ e)) (settled-keeps (record { router = to; reply = Done }))
+
+    of : (o : Option Circuit) → nth r.circuits place ≡ o → faced (nth (take given r place (PointHelloHeard h) o).router.circuits place) ≡ faced (nth r.circuits place) → Keeps r (take given r place (PointHelloHeard h) o).router
+    of None n e = keeps-refl r
+    of (Some c) n e = by-drop c (drop_of r place c (PointHelloHeard h)) n e
+hello-keeps-own given r (Take place (LanHelloHeard l h)) is e = absurd is
+hello-keeps-own given r (Take place (LspHeard l snpa h)) is e = absurd is
+hello-keeps-own given r (Take place (SnpHeard l snpa source range entries)) is e = absurd is
+hello-keeps-own given r (Pull place) is e = absurd is
+hello-keeps-own given r (Metric place metric) is e = absurd is
+hello-keeps-own given r (Overload on) is e = absurd is
+hello-keeps-own given r (Prefix prefix metric) is e = absurd is

@@ -1,9 +1,0 @@
-use Rattle.std.proofs.Common.{sym, subst}
-use Rattle.router_core.specs.declared.event.NodeEvent.{NodeEvent}
-use Rattle.router_core.specs.Calm.{IsCalm}
-use Rattle.router_core.specs.Events.{event_of}
-use Rattle.router_core.proofs.machine.Machine.is_calm.Goals as goal
-
--- src/calm.rt
-pub returns-in-Change : goal.returns-in-Change
-returns-in-Change c = λ e. subst (λ (event : NodeEvent). IsCalm c.args.self.now (event_of c.args.self.now event)) (sym c.in-Change.is) (c.is_calm_change.ensures c.args.self.now e)

@@ -1,0 +1,30 @@
+use Rattle.std.proofs.Common.{◌≡◌, Some, IfSome, sym, subst}
+use Rattle.std.proofs.lemmas.Bool.{and_parts}
+use Rattle.adjacency.specs.Views.{point_of}
+use Rattle.isis_model.specs.AdjacencyLaws.{place_of}
+use Rattle.isis_model.specs.Routers.{Router}
+use Rattle.isis_model.specs.Steps.{step}
+use Rattle.router_core.specs.Events.{event_of}
+use Rattle.router_core.specs.Givens.{given}
+use Rattle.router_core.specs.Settled.{AreTrue, point_at, point_face}
+use Rattle.router_core.proofs.KeepLemmas.{hello-keeps-own}
+use Rattle.router_core.proofs.SettledLemmas.{marks-keep, not-false}
+use Rattle.router_core.proofs.machine.Machine.step_if_calm.Goals as goal
+
+-- src/stepping.rt
+pub returns-in-Ok-step-clause-marks : goal.returns-in-Ok-step-clause-marks
+returns-in-Ok-step-clause-marks c =
+    let q = c.args.self.now in
+    let event = event_of q c.args.event.now in
+    let t = (step given q event).router in
+    let state : c.step.new.self ≡ t = c.in-Ok-step.ensures.state in
+    let calm = c.in-Ok.ensures.no_key (not-false c.in-Ok.known.calm c.if-not-known.false) in
+    let stays = c.outlook_laws.ensures.calm q event c.requires.reached c.requires.below calm in
+    let after = c.after.ensures q event c.requires.marks calm c.in-Ok.ensures.no_own stays in
+    subst (λ (x : Router). AreTrue c.or.result x) (sym state) (c.or.ensures t
+    (λ e. let both = and_parts c.in-Ok.known.greets c.are_alike-alike.result e in
+    marks-keep c.args.marks.now q t (hello-keeps-own given q event (c.in-Ok.ensures.greeting both.0)
+    (c.are_alike-alike.ensures q t (place_of event) (c.point_on-before.ensures q)
+    (subst (λ (x : Router). IfSome c.point_on.result (λ point. point_at x (place_of event) ≡ Some (point_face (point_of point)))) state (c.point_on.ensures q)) both.1))
+    stays c.requires.marks)
+    after.1)

@@ -1,0 +1,55 @@
+//! Marks of levels whose own LSPs say what is wanted.
+ghost use Rattle.std.specs.Prelude.{◌≡◌, true};
+ghost use Rattle.isis_model.specs.Events.{Event};
+ghost use Rattle.isis_model.specs.Routers.{Router};
+ghost use Rattle.isis_model.specs.Steps.{step};
+ghost use Rattle.router_routes.specs.Outlooks.{outlook_of};
+ghost use Rattle.router_core.specs.Calm.{IsCalm};
+ghost use Rattle.router_core.specs.Givens.{given};
+ghost use Rattle.router_core.specs.Settled.{AreTrue, IsAside};
+
+/// For each level whether it is known that each fragment that it wants is issued with those contents,
+/// and nothing else is issued (ISO 10589 7.3.6; that it is marked: own). So a second of a marked level
+/// needn't make what is wanted.
+#[derive(Clone, Copy)]
+pub(crate) struct Marks {
+    pub(crate) one: bool,
+    pub(crate) two: bool,
+}
+
+impl Marks {
+    /// Nothing is known.
+    pub(crate) fn none() -> Marks
+        ensures { (r : Router) → AreTrue result r }
+    {
+        Marks {
+            one: false,
+            two: false,
+        }
+    }
+
+    /// What is known after an event that changes no key: all that was, where it leaves what own LSPs
+    /// are made from, and else nothing.
+    pub(crate) fn after(self, aside: bool) -> Marks
+        ensures { (r : Router) (event : Event) → AreTrue self r → IsCalm r event
+            → (aside ≡ true → IsAside event)
+            → outlook_of (step given r event).router ≡ outlook_of r
+            → AreTrue result r × AreTrue result (step given r event).router }
+    {
+        if aside {
+            return self;
+        }
+        Marks::none()
+    }
+
+    /// These where the adjacency is alike, and else others.
+    pub(crate) fn or(self, alike: bool, others: Marks) -> Marks
+        ensures { (r : Router) → (alike ≡ true → AreTrue self r) → AreTrue others r
+            → AreTrue result r }
+    {
+        if alike {
+            return self;
+        }
+        others
+    }
+}
