@@ -22,6 +22,16 @@ note_of pass event (Err fault.OutOfMemory) = Nothing
 note_of pass event (Err (fault.JournalFault r)) = Marked (entry_of pass event r)
 note_of pass event (Err (fault.Stopped n)) = Nothing
 
+-- the pass that comes back from a submit, whatever it answers; and the answer (own)
+abbrev pub pass_of : {P : Type 0} → Result (P × Receipt) (P × SubmitFault) → P
+pass_of (Ok done) = done.0
+pass_of (Err failed) = failed.0
+
+abbrev pub answer_of : {P : Type 0} → Result (P × Receipt) (P × SubmitFault)
+    → Result Receipt SubmitFault
+answer_of (Ok done) = Ok done.1
+answer_of (Err failed) = Err failed.1
+
 -- the entries of the notes are those that the replay gives, and this one is marked, if one is (own)
 pub record Replays (start : Router) (notes : List Note) (stop : Option ℕ) : Type 0 where
   pub lines : (replay (opening start) notes).lines ≡ map line_of (entries notes)

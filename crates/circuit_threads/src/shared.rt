@@ -1,14 +1,12 @@
 //! The shared router.
-ghost use Rattle.std.specs.Prelude.{◌≡◌, ◌+◌, ◌<◌, ◌≤◌, ◌^◌, List, IfOk, IfErr, IsOkAnd};
+ghost use Rattle.std.specs.Prelude.{◌≡◌, ◌+◌, ◌<◌, ◌≤◌, ◌^◌, IfOk, IfErr, IsOkAnd};
 ghost use Rattle.router_desk.specs.Desks.{desk_of};
 ghost use Rattle.router_core.specs.Events.{Fits};
-ghost use Rattle.turn_lock.specs.Passes.{turns_left, label, splits, seen, IsFirst, OwnsSeen, OwnsAll, KeepsRest, IsSplitOff, JoinsInto, AreWords};
-ghost use Rattle.circuit_threads.specs.Answered.{note_of, IsAnswered};
+ghost use Rattle.turn_lock.specs.Passes.{turns_left, label, splits, seen, IsFirst, OwnsSeen, OwnsAll, KeepsRest, IsSplitOff, JoinsInto};
+ghost use Rattle.circuit_threads.specs.Answered.{note_of, pass_of, answer_of, IsAnswered};
 ghost use Rattle.circuit_threads.specs.Shared.{start_at, first_desk, KeepsPrefixes, Closed};
 ghost use Rattle.circuit_threads.specs.Told.{nothing_told};
 ghost use Rattle.circuit_threads.specs.Turns.{TookTurn, EndsWith};
-ghost use Rattle.circuit_threads.specs.declared.entry.Note as declared;
-ghost use mathlib.Core.List.{IsPrefix};
 
 use crate::behind::Behind;
 use crate::entry::{Receipt, SubmitFault};
@@ -29,7 +27,7 @@ pub struct SharedRouter<J: Journal + Drop> {
 }
 
 impl<J: Journal + Drop> SharedRouter<J> {
-    ghost use Rattle.circuit_threads.specs.Sharing.{start_of, first_router, first_journal, all_turns, IsPassOf, HasAll};
+    ghost use Rattle.circuit_threads.specs.Sharing.{start_of, first_router, first_journal, all_turns, IsPassOf, HasAll, Closes};
 
     /// A shared router, and a pass with all its turns. Without memory the router and the journal
     /// come back.
@@ -69,31 +67,38 @@ impl<J: Journal + Drop> SharedRouter<J> {
         &self.desk
     }
 
-    /// Takes one turn, in which the event is done, and its entry appended. `OutOfMemory` and
-    /// `Stopped` say that it wasn't done; at `JournalFault` it was done, but its entry wasn't
-    /// appended, and no later one will be. It may wait for the turns before.
+    /// Takes one turn, in which the event is done, and its entry appended. The pass comes back in
+    /// any case. `OutOfMemory` and `Stopped` say that the event wasn't done; at `JournalFault` it
+    /// was done, but its entry wasn't appended, and no later one will be. It may wait for the
+    /// turns before.
     pub fn submit<R: Wait>(
         &self,
         rt: &R,
         pass: Pass<Behind<J>>,
         event: NodeEvent,
-    ) -> (Pass<Behind<J>>, Result<Receipt, SubmitFault>)
+    ) -> Result<(Pass<Behind<J>>, Receipt), (Pass<Behind<J>>, SubmitFault)>
         requires lock { IsPassOf self.now pass }
         requires left { 0 < turns_left pass }
         requires fits { Fits (first_router self.now) event }
         requires prefixes { KeepsPrefixes event }
-        ensures lock { IsPassOf self.now result.0 }
-        ensures turn { TookTurn pass result.0 }
-        ensures seen { EndsWith (seen pass) (note_of (label pass) event result.1) (seen result.0) }
-        ensures answer { IsAnswered (first_router self.now) (seen result.0) result.1 }
-        ensures below { OwnsSeen result.0 }
-        ensures whole { HasAll self.now result.0 → OwnsAll result.0 }
+        ensures lock { IsPassOf self.now (pass_of result) }
+        ensures turn { TookTurn pass (pass_of result) }
+        ensures seen { EndsWith (seen pass) (note_of (label pass) event (answer_of result))
+            (seen (pass_of result)) }
+        ensures answer { IsAnswered (first_router self.now) (seen (pass_of result))
+            (answer_of result) }
+        ensures below { OwnsSeen (pass_of result) }
+        ensures whole { HasAll self.now (pass_of result) → OwnsAll (pass_of result) }
     {
         let label = pass.label();
         let copy = event.copy();
         let (turn, mut behind) = self.lock.enter(rt, pass);
         let answer = behind.take(label, event, copy);
-        (self.lock.leave(turn, behind), answer)
+        let pass = self.lock.leave(turn, behind);
+        match answer {
+            Ok(receipt) => Ok((pass, receipt)),
+            Err(fault) => Err((pass, fault)),
+        }
     }
 
     /// Cuts a pass in two. The second has `turns`, and the first the rest. The n-th pass split from
@@ -124,10 +129,7 @@ impl<J: Journal + Drop> SharedRouter<J> {
     /// The router and the journal, unless a turn was entered and never left, which no submit does.
     pub fn close(self, pass: Pass<Behind<J>>) -> Result<(Router, J), TurnOut>
         requires lock { IsPassOf self pass }
-        ensures out { IfErr result (λ out. AreWords self.lock pass out.tickets out.serving
-            × (out.serving < out.tickets)) }
-        ensures seen { IfOk result (λ r. (notes : List declared.Note) × IsPrefix (seen pass) notes
-            × Closed J.tells J.faults (start_of self) notes r.0 r.1) }
+        ensures words { Closes self pass result }
         ensures whole { HasAll self pass → IsOkAnd result (λ r.
             Closed J.tells J.faults (start_of self) (seen pass) r.0 r.1) }
     {

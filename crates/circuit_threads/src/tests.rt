@@ -4,6 +4,7 @@ ghost use Rattle.std.specs.Prelude.{◌≡◌, ◌+◌, ◌≤◌, length, true,
 ghost use Rattle.router_desk.specs.Desks.{desk_of};
 ghost use Rattle.router_core.specs.Events.{IsThere};
 ghost use Rattle.turn_lock.specs.Passes.{turns_left, splits};
+ghost use Rattle.circuit_threads.specs.Answered.{pass_of};
 ghost use Rattle.circuit_threads.specs.Sharing.{first_router, IsPassOf};
 
 use crate::{Behind, Pass, Receipt, SharedRouter, SubmitFault, TextJournal};
@@ -24,6 +25,8 @@ type Journal = TextJournal<MemorySink>;
 type Shared = SharedRouter<Journal>;
 
 type SharedPass = Pass<Behind<Journal>>;
+
+type Answer = Result<(SharedPass, Receipt), (SharedPass, SubmitFault)>;
 
 const SYSTEM: SystemId = SystemId([0, 0, 0, 0, 0, 1]);
 
@@ -112,14 +115,22 @@ fn has_link(shared: &Shared) -> bool
     shared.desk().circuit_count() >= 1
 }
 
-/// What an answer says: 0 for an entry, 1 for one whose append failed, 2 for one at which it
-/// stopped, with the entry's number; 3 for want of memory.
-fn told_by(answer: &Result<Receipt, SubmitFault>) -> (u8, u64) {
+/// The pass of a submit, and what its answer says: 0 for an entry, 1 for one whose append failed, 2
+/// for one at which it stopped, with the entry's number; 3 for want of memory.
+fn told_by(answer: Answer) -> (SharedPass, (u8, u64))
+    ensures { result.0 ≡ pass_of answer }
+{
     match answer {
-        Ok(receipt) => (0, receipt.entry),
-        Err(SubmitFault::JournalFault(receipt)) => (1, receipt.entry),
-        Err(SubmitFault::Stopped { entry }) => (2, *entry),
-        Err(SubmitFault::OutOfMemory) => (3, 0),
+        Ok((pass, receipt)) => (pass, (0, receipt.entry)),
+        Err((pass, fault)) => (pass, fault_told(&fault)),
+    }
+}
+
+fn fault_told(fault: &SubmitFault) -> (u8, u64) {
+    match fault {
+        SubmitFault::JournalFault(receipt) => (1, receipt.entry),
+        SubmitFault::Stopped { entry } => (2, *entry),
+        SubmitFault::OutOfMemory => (3, 0),
     }
 }
 
@@ -132,7 +143,7 @@ fn seconds<R: Wait>(rt: &R, shared: &Shared, pass: SharedPass, turns: u64) -> Sh
 {
     let mut pass = pass;
     for _ in 0..turns {
-        let (next, _) = shared.submit(rt, pass, NodeEvent::Second);
+        let (next, _) = told_by(shared.submit(rt, pass, NodeEvent::Second));
         pass = next;
     }
     pass
@@ -220,14 +231,14 @@ fn a_journal_is_written(rt: HostRuntime) -> Result<(), Fail> {
     let mut datagram = Octets::new(rt.alloc());
     datagram.extend(&[0x00, 0xff])?;
     let opened = shared.desk().open(1, datagram);
-    let (pass, _) = shared.submit(&rt, pass, NodeEvent::Second);
-    let (pass, _) = shared.submit(&rt, pass, NodeEvent::Pull { circuit: 1 });
-    let (pass, _) = shared.submit(&rt, pass, NodeEvent::Take(opened));
+    let (pass, _) = told_by(shared.submit(&rt, pass, NodeEvent::Second));
+    let (pass, _) = told_by(shared.submit(&rt, pass, NodeEvent::Pull { circuit: 1 }));
+    let (pass, _) = told_by(shared.submit(&rt, pass, NodeEvent::Take(opened)));
     let change = Change::Metric {
         circuit: 1,
         metric: 20,
     };
-    let (pass, _) = shared.submit(&rt, pass, NodeEvent::Change(change));
+    let (pass, _) = told_by(shared.submit(&rt, pass, NodeEvent::Change(change)));
     let Ok((_router, journal)) = shared.close(pass) else {
         panic!(rt; "no turn is out")
     };
@@ -239,12 +250,12 @@ fn a_journal_is_written(rt: HostRuntime) -> Result<(), Fail> {
 #[test]
 fn an_append_that_fails_stops_all(rt: HostRuntime) -> Result<(), Fail> {
     let (shared, pass) = shared(rt.alloc(), 42, 3)?;
-    let (pass, first) = shared.submit(&rt, pass, NodeEvent::Second);
-    let (pass, second) = shared.submit(&rt, pass, NodeEvent::Second);
-    let (pass, third) = shared.submit(&rt, pass, NodeEvent::Second);
-    assert_eq!(rt; told_by(&first), (0, 1));
-    assert_eq!(rt; told_by(&second), (1, 2));
-    assert_eq!(rt; told_by(&third), (2, 2));
+    let (pass, first) = told_by(shared.submit(&rt, pass, NodeEvent::Second));
+    let (pass, second) = told_by(shared.submit(&rt, pass, NodeEvent::Second));
+    let (pass, third) = told_by(shared.submit(&rt, pass, NodeEvent::Second));
+    assert_eq!(rt; first, (0, 1));
+    assert_eq!(rt; second, (1, 2));
+    assert_eq!(rt; third, (2, 2));
     let Ok((_router, journal)) = shared.close(pass) else {
         panic!(rt; "no turn is out")
     };

@@ -1,5 +1,5 @@
 //! Rows of the tables for LSPs and entries that are heard, and each call of a book once.
-ghost use Rattle.std.specs.Prelude.{◌≡◌, ◌≤◌, IfOk, length};
+ghost use Rattle.std.specs.Prelude.{◌≡◌, ◌<◌, ◌≤◌, IfOk, length};
 
 use crate::{Book, EntryAnswer, LspAnswer, LspHeard, Whose};
 use isis_base::{CircuitKind, Key, LspEntry, LspId, Octets, OutOfMemory};
@@ -92,37 +92,113 @@ fn held(alloc: Global) -> Result<Book, OutOfMemory>
     Ok(book)
 }
 
-/// What is held of the LSP ID, with its flags on the three circuits.
+/// The entry of the LSP ID, its octets by their number. All is 0 where there is none, and but for
+/// the seconds left where it is empty.
 #[derive(Clone, Copy, Debug, PartialEq, Eq)]
-struct Shown {
+struct Kept {
     number: u32,
     purged: bool,
+    checksum: u16,
+    flags: u8,
+    left: u16,
+    length: usize,
+}
+
+/// What is held of the LSP ID, with its flags on the three circuits, and the seconds that SRM
+/// waits.
+#[derive(Clone, Copy, Debug, PartialEq, Eq)]
+struct Shown {
+    kept: Kept,
     srm: [bool; 3],
     ssn: [bool; 3],
+    waits: [u64; 3],
+}
+
+fn now_kept(book: &Book) -> Kept {
+    let id = LspId::from_number(ID);
+    let Some(entry) = book.store().get(id) else {
+        return NOTHING;
+    };
+    let (number, purged) = match entry.key {
+        Some(key) => (key.number, key.purged),
+        None => (0, false),
+    };
+    Kept {
+        number,
+        purged,
+        checksum: entry.checksum,
+        flags: entry.flags,
+        left: entry.left,
+        length: entry.octets.len(),
+    }
+}
+
+/// The seconds that SRM of the LSP ID waits on the circuit of this place.
+fn wait(book: &Book, place: u32) -> u64
+    requires { place < 64 }
+{
+    let Some(row) = book.flags.get(LspId::from_number(ID)) else {
+        return 0;
+    };
+    let [ones, twos, fours] = row.waits;
+    ((ones >> place) & 1) | (((twos >> place) & 1) << 1) | (((fours >> place) & 1) << 2)
 }
 
 fn now_held(book: &Book) -> Shown
     requires { book.now.circuits ≡ 3 }
 {
     let id = LspId::from_number(ID);
-    let (number, purged) = match book.store().key(id) {
-        Some(key) => (key.number, key.purged),
-        None => (0, false),
-    };
     Shown {
-        number,
-        purged,
+        kept: now_kept(book),
         srm: [book.srm(1, id), book.srm(2, id), book.srm(3, id)],
         ssn: [book.ssn(1, id), book.ssn(2, id), book.ssn(3, id)],
+        waits: [wait(book, 0), wait(book, 1), wait(book, 2)],
     }
 }
 
-fn cell(number: u32, purged: bool, srm: [bool; 3], ssn: [bool; 3]) -> Shown {
+/// What is held, where no SRM waits.
+fn cell(kept: Kept, srm: [bool; 3], ssn: [bool; 3]) -> Shown {
+    let waits = [0, 0, 0];
     Shown {
-        number,
-        purged,
+        kept,
         srm,
         ssn,
+        waits,
+    }
+}
+
+/// The entry of number 2, whose SRM waits five seconds on circuit 1.
+fn sent(srm: [bool; 3], ssn: [bool; 3]) -> Shown {
+    let waits = [5, 0, 0];
+    Shown {
+        kept: TWO,
+        srm,
+        ssn,
+        waits,
+    }
+}
+
+/// A live entry, which was heard.
+fn live(number: u32, checksum: u16, left: u16) -> Kept {
+    Kept {
+        number,
+        purged: false,
+        checksum,
+        flags: 1,
+        left,
+        length: 40,
+    }
+}
+
+/// A purge, which is kept as a header.
+fn purge(number: u32, flags: u8) -> Kept {
+    Kept {
+        number,
+        purged: true,
+        checksum: 0,
+        flags,
+        left: 60,
+        length: 27,
     }
 }
 
@@ -138,10 +214,10 @@ fn after_lsp(
     if circuit < 1 || circuit > 3 || heard.number == 0 {
         return None;
     }
-    let octets = [2u8; 30];
+    let octets = [2u8; 40];
     let lsp = LspHeard {
         entry: heard,
-        flags: 3,
+        flags: 1,
         octets: octets.as_slice(),
     };
     let foreseen = book.would_meet(&lsp, whose);
@@ -161,7 +237,7 @@ fn after_entry(
 ) -> Option<(EntryAnswer, Shown)>
     requires { book.circuits ≡ 3 }
 {
-    if circuit < 1 || circuit > 3 || book.spare() == 0 {
+    if circuit < 1 || circuit > 3 || (book.spare() == 0 && book.store().len() < 65_536) {
         return None;
     }
     let foreseen = book.would_flag(&heard);
@@ -171,6 +247,36 @@ fn after_entry(
     }
     Some((answer, now_held(&book)))
 }
+
+/// Nothing is held.
+const NOTHING: Kept = Kept {
+    number: 0,
+    purged: false,
+    checksum: 0,
+    flags: 0,
+    left: 0,
+    length: 0,
+};
+
+/// The empty entry.
+const EMPTY: Kept = Kept {
+    number: 0,
+    purged: false,
+    checksum: 0,
+    flags: 0,
+    left: 60,
+    length: 0,
+};
+
+/// The entry of number 2.
+const TWO: Kept = Kept {
+    number: 2,
+    purged: false,
+    checksum: 5,
+    flags: 3,
+    left: 900,
+    length: 30,
+};
 
 const ALL: [bool; 3] = [true, true, true];
 
@@ -275,8 +381,9 @@ fn entry_row(
 #[test]
 fn lsps_heard(rt: HostRuntime) -> Result<(), Fail> {
     let (issued, unissued, other) = (Whose::Issued, Whose::Unissued, Whose::Other);
-    let same = cell(2, false, ONE_THREE, TWO_THREE);
+    let same = sent(ONE_THREE, TWO_THREE);
     let (one, two) = (said(3, 600, 9), said(2, 600, 6));
+    let stored = live(3, 9, 600);
     let rows = [
         lsp_row(1, issued, one, LspAnswer::Outbid { above: 3 }, same),
         lsp_row(1, issued, two, LspAnswer::Outbid { above: 2 }, same),
@@ -285,94 +392,125 @@ fn lsps_heard(rt: HostRuntime) -> Result<(), Fail> {
             unissued,
             one,
             LspAnswer::PurgedOwn,
-            cell(3, true, ALL, NONE),
+            cell(purge(3, 1), ALL, NONE),
         ),
-        lsp_row(1, other, two, LspAnswer::Confused, cell(2, true, ALL, NONE)),
+        lsp_row(
+            1,
+            other,
+            two,
+            LspAnswer::Confused,
+            cell(purge(2, 3), ALL, NONE),
+        ),
         lsp_row(
             1,
             other,
             one,
             LspAnswer::Stored,
-            cell(3, false, TWO_THREE, ONE),
+            cell(stored, TWO_THREE, ONE),
         ),
         lsp_row(
             3,
             other,
             one,
             LspAnswer::Stored,
-            cell(3, false, ONE_TWO, THREE),
+            cell(stored, ONE_TWO, THREE),
         ),
         lsp_row(
             1,
             other,
             said(2, 0, 0),
             LspAnswer::Stored,
-            cell(2, true, TWO_THREE, ONE),
+            cell(purge(2, 1), TWO_THREE, ONE),
         ),
         lsp_row(
             1,
             other,
             said(2, 600, 5),
             LspAnswer::Same,
-            cell(2, false, THREE, ALL),
+            cell(TWO, THREE, ALL),
         ),
         lsp_row(
             3,
             other,
             said(2, 600, 5),
             LspAnswer::Same,
-            cell(2, false, ONE, TWO_THREE),
+            sent(ONE, TWO_THREE),
         ),
         lsp_row(
             2,
             other,
             said(1, 600, 9),
             LspAnswer::Older,
-            cell(2, false, ALL, THREE),
+            sent(ALL, THREE),
         ),
     ];
     assert_eq!(rt; first_wrong_lsp(rt.alloc(), rows.as_slice())?, None);
     Ok(())
 }
 
-// A purge of which nothing is held.
+/// The book without the entry, in which the LSP ID was asked for on circuit 1.
+fn asking(alloc: Global) -> Result<Book, OutOfMemory>
+    ensures { IfOk result (λ book. book.circuits ≡ 3) }
+{
+    let mut book = match bare(alloc) {
+        Ok(book) => book,
+        Err(fault) => return Err(fault),
+    };
+    if book.spare() > 0 {
+        book.hear_entry(1, &said(3, 600, 9), Whose::Other);
+    }
+    Ok(book)
+}
+
+// A purge of which nothing is held, and one of which an empty entry is, which goes.
 #[test]
 fn purge_heard(rt: HostRuntime) -> Result<(), Fail> {
+    let gone = Some((LspAnswer::AckPurge, cell(NOTHING, NONE, NONE)));
     let none = after_lsp(bare(rt.alloc())?, 1, Whose::Other, said(4, 0, 0));
-    assert_eq!(rt;
-        none,
-        Some((LspAnswer::AckPurge, cell(0, false, NONE, NONE)))
-    );
+    assert_eq!(rt; none, gone);
+    let book = asking(rt.alloc())?;
+    assert_eq!(rt; now_held(&book), cell(EMPTY, NONE, ONE));
+    assert_eq!(rt; after_lsp(book, 2, Whose::Other, said(4, 0, 0)), gone);
     Ok(())
 }
 
 // The rows of the table for entries of what is held, in its order.
 #[test]
 fn entries_heard(rt: HostRuntime) -> Result<(), Fail> {
-    let same = cell(2, false, ONE_THREE, TWO_THREE);
+    let same = sent(ONE_THREE, TWO_THREE);
+    let confused = cell(purge(2, 3), ALL, NONE);
     let rows = [
         entry_row(1, said(2, 600, 6), true, Some(2), same),
-        entry_row(1, said(2, 600, 6), true, None, cell(2, true, ALL, NONE)),
-        entry_row(
-            1,
-            said(2, 600, 5),
-            false,
-            None,
-            cell(2, false, THREE, TWO_THREE),
-        ),
+        entry_row(1, said(2, 600, 6), true, None, confused),
+        entry_row(1, said(2, 600, 5), false, None, cell(TWO, THREE, TWO_THREE)),
         entry_row(3, said(2, 600, 5), false, None, same),
-        entry_row(2, said(1, 600, 9), true, None, cell(2, false, ALL, THREE)),
-        entry_row(1, said(3, 600, 9), true, None, cell(2, false, THREE, ALL)),
+        entry_row(2, said(1, 600, 9), true, None, sent(ALL, THREE)),
+        entry_row(1, said(3, 600, 9), true, None, cell(TWO, THREE, ALL)),
     ];
     assert_eq!(rt; first_wrong_entry(rt.alloc(), rows.as_slice())?, None);
     Ok(())
 }
 
-/// Whether an entry of what isn't held is answered so, and SSN set on these circuits.
+// An entry newer than what is held, on a LAN: it is asked for, and what is held still sent.
+#[test]
+fn newer_entry_heard_on_a_lan(rt: HostRuntime) -> Result<(), Fail> {
+    let mut book = held(rt.alloc())?;
+    book.answered(3);
+    assert_eq!(rt; now_held(&book), sent(ONE_THREE, [false, true, false]));
+    let (flagged, outbid) = (true, None);
+    assert_eq!(rt;
+        after_entry(book, 3, Whose::Other, said(3, 600, 9)),
+        Some((EntryAnswer { flagged, outbid }, sent(ONE_THREE, TWO_THREE)))
+    );
+    Ok(())
+}
+
+/// Whether an entry of what isn't held is answered so, this is kept, and SSN set on these circuits.
 fn is_new(
     alloc: Global,
     heard: LspEntry,
     flagged: bool,
+    kept: Kept,
     ssn: [bool; 3],
 ) -> Result<bool, OutOfMemory> {
     let book = match bare(alloc) {
@@ -382,17 +520,55 @@ fn is_new(
     let outbid = None;
     let answer = EntryAnswer { flagged, outbid };
     let found = after_entry(book, 1, Whose::Other, heard);
-    Ok(found == Some((answer, cell(0, false, NONE, ssn))))
+    Ok(found == Some((answer, cell(kept, NONE, ssn))))
 }
 
 // The rows of the table for entries of what isn't held.
 #[test]
 fn new_entries_heard(rt: HostRuntime) -> Result<(), Fail> {
     let alloc = rt.alloc();
-    assert!(rt; is_new(alloc, said(0, 0, 0), false, NONE)?);
-    assert!(rt; is_new(alloc, said(3, 600, 9), true, ONE)?);
-    assert!(rt; is_new(alloc, said(3, 600, 0), false, NONE)?);
-    assert!(rt; is_new(alloc, said(3, 0, 9), false, NONE)?);
+    assert!(rt; is_new(alloc, said(0, 0, 0), false, NOTHING, NONE)?);
+    assert!(rt; is_new(alloc, said(3, 600, 9), true, EMPTY, ONE)?);
+    assert!(rt; is_new(alloc, said(3, 600, 0), false, NOTHING, NONE)?);
+    assert!(rt; is_new(alloc, said(3, 0, 9), false, NOTHING, NONE)?);
+    Ok(())
+}
+
+/// A book of 65,536 empty entries, none of them of the LSP ID.
+fn full(alloc: Global) -> Result<Book, OutOfMemory>
+    ensures { IfOk result (λ book. book.circuits ≡ 3) }
+{
+    let mut book = match bare(alloc) {
+        Ok(book) => book,
+        Err(fault) => return Err(fault),
+    };
+    match book.reserve(65_536) {
+        Ok(()) => {}
+        Err(_) => return Err(OutOfMemory),
+    }
+    for number in 8..65_544u64 {
+        let asked = LspEntry {
+            id: LspId::from_number(number),
+            ..said(3, 600, 9)
+        };
+        if book.spare() > 0 {
+            book.hear_entry(1, &asked, Whose::Other);
+        }
+    }
+    Ok(book)
+}
+
+// In a full store what isn't held is flagged, and nothing is made.
+#[test]
+fn an_entry_heard_in_a_full_store(rt: HostRuntime) -> Result<(), Fail> {
+    let book = full(rt.alloc())?;
+    assert!(rt; book.is_full());
+    let (flagged, outbid) = (true, None);
+    let answer = EntryAnswer { flagged, outbid };
+    assert_eq!(rt;
+        after_entry(book, 1, Whose::Other, said(3, 600, 9)),
+        Some((answer, cell(NOTHING, NONE, NONE)))
+    );
     Ok(())
 }
 
@@ -405,6 +581,7 @@ fn flags_over_time(rt: HostRuntime) -> Result<(), Fail> {
     assert_eq!(rt; book.due(3).next(), Some(id));
     assert_eq!(rt; book.owed(2).next(), Some(id));
     book.second();
+    assert_eq!(rt; now_held(&book).waits, [4, 0, 0]);
     book.second();
     book.second();
     book.second();
@@ -413,9 +590,10 @@ fn flags_over_time(rt: HostRuntime) -> Result<(), Fail> {
     assert_eq!(rt; book.due(1).next(), Some(id));
     book.answered(2);
     book.sent(3, id);
-    assert_eq!(rt; now_held(&book), cell(2, false, ONE, THREE));
+    assert_eq!(rt; now_held(&book), cell(TWO, ONE, THREE));
     book.sent_due(1);
     assert_eq!(rt; book.due(1).next(), None);
+    assert_eq!(rt; now_held(&book), sent(ONE, THREE));
     Ok(())
 }
 
@@ -427,19 +605,13 @@ fn circuits_of_a_book(rt: HostRuntime) -> Result<(), Fail> {
     assert!(rt; !book.would_flag_range(start, end, &[said(2, 600, 5)]));
     assert!(rt; book.would_flag_range(start, end, &[]));
     assert!(rt; book.hear_csnp_range(2, start, end, &[]));
-    assert_eq!(rt; now_held(&book), cell(2, false, ALL, TWO_THREE));
+    assert_eq!(rt; now_held(&book), sent(ALL, TWO_THREE));
     book.clear_circuit(3);
-    assert_eq!(rt;
-        now_held(&book),
-        cell(2, false, ONE_TWO, [false, true, false])
-    );
+    assert_eq!(rt; now_held(&book), sent(ONE_TWO, [false, true, false]));
     book.mark_all(3);
     book.set_open(1, false);
     assert!(rt; !book.is_open(1) && book.is_open(3) && book.is_point(1) && !book.is_point(3));
-    assert_eq!(rt;
-        now_held(&book),
-        cell(2, false, TWO_THREE, [false, true, false])
-    );
+    assert_eq!(rt; now_held(&book), cell(TWO, TWO_THREE, [false, true, false]));
     Ok(())
 }
 
@@ -454,7 +626,7 @@ fn entry_of_a_book(rt: HostRuntime) -> Result<(), Fail> {
     book.set_left(id, 17);
     assert_eq!(rt; book.store().get(id).map(|entry| entry.left), Some(17));
     book.erase(id);
-    assert_eq!(rt; now_held(&book), cell(0, false, NONE, NONE));
+    assert_eq!(rt; now_held(&book), cell(NOTHING, NONE, NONE));
     assert_eq!(rt; book.flag_pages().len(), 0usize);
     Ok(())
 }
