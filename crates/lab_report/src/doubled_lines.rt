@@ -11,11 +11,7 @@ use lsp_octets::laws::id_law;
 use network_lab::Network;
 
 /// A line for each LSP ID of a level that is doubled.
-pub(crate) fn add_doubled(
-    page: &mut Octets,
-    net: &Network,
-    level: Level,
-) -> Result<(), OutOfMemory>
+pub(crate) fn add_doubled(page: &mut Octets, net: &Network, level: Level) -> Result<(), OutOfMemory>
     ensures { OnOk result (page.new ≡ page.old ++ lines.doubled_lines net.now.seen level) }
 {
     add_doubled_ids(page, level, net.doubled(level))

@@ -78,11 +78,7 @@ impl Histories {
 }
 
 /// Both levels see a router's state.
-fn note_levels(
-    one: &mut History,
-    two: &mut History,
-    router: &Router,
-) -> Result<(), OutOfMemory>
+fn note_levels(one: &mut History, two: &mut History, router: &Router) -> Result<(), OutOfMemory>
     ensures { OnOk result ((past : List ModelRouter) → Keep one.old two.old past
         → Keep one.new two.new (router.now ∷ past)) }
 {
