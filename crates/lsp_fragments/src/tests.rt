@@ -173,7 +173,8 @@ fn live(number: u32) -> Option<Key>
 }
 
 /// The first answer that is another than wanted: of a fragment that isn't issued, then from 0, 4,
-/// 5, 899 and 900 seconds after its issue at number 1, each with the same contents and with others.
+/// 5, 899 and 900 seconds after its issue at number 1, each with the same contents and with others;
+/// from 899 seconds on it doesn't rest.
 fn first_other(own: &mut OwnLsps) -> Option<usize> {
     let next = Issue::Number(2);
     let wanted = [
@@ -187,7 +188,7 @@ fn first_other(own: &mut OwnLsps) -> Option<usize> {
         pass(own, row.0);
         let same = own.next_issue(ID, live(1), true);
         let other = own.next_issue(ID, live(1), false);
-        if same != row.1 || other != row.2 {
+        if same != row.1 || other != row.2 || own.rests() != (place < 3) {
             return Some(place);
         }
     }

@@ -116,6 +116,14 @@ fn is_up(router: &Router) -> bool {
     false
 }
 
+/// Whether the neighbour on the link tells its boot, the first.
+fn names_first_boot(router: &Router) -> bool {
+    if has_link(router) {
+        return router.names_boot(1) == Some(1);
+    }
+    false
+}
+
 /// How many LSPs of level 1 are held.
 fn held(router: &Router) -> usize {
     match router.book(ONE) {
@@ -150,7 +158,7 @@ fn keeps_all(router: &Router) -> bool {
 /// Whether a router is up, holds the LSPs of both, and none of level 2.
 fn is_whole(router: &Router) -> bool {
     let whole = is_up(router) && held(router) == 2 && keeps_all(router);
-    whole && router.book(Level::Two).is_none()
+    whole && names_first_boot(router) && router.book(Level::Two).is_none()
 }
 
 /// A prefix is set and taken back; whether it was there between.
