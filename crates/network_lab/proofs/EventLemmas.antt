@@ -24,6 +24,7 @@ use Rattle.network_lab.specs.declared.faults.LabFault.{LabFault}
 use Rattle.network_lab.specs.declared.faults.LabFault.TheVariants as fault
 use Rattle.network_lab.specs.declared.faults.LimitName.TheVariants as limit
 use Rattle.network_lab.specs.LabNets.{Seen, LabNet, sent_of, seen_of}
+use Rattle.network_lab.specs.LabConfigs.{configs_after}
 use Rattle.network_lab.specs.LabEvents.{refusal, after, unless_on, unless_arrives, past_boots, unless_changes, IsChange, change_of}
 use Rattle.network_lab.specs.declared.heard_range.HeardRange.{HeardRange}
 use Rattle.network_lab.specs.LabTakings.{kept_ranges, IsHeard}
@@ -219,8 +220,8 @@ fits-change r (change.Overload on) h u = tt
 
 -- ---- how a call ends
 
-pub taken-ends : (ev : LabEvent) (old new : LabNet) (seen : Seen) (result : Result (Unit {0}) LabFault) → old.stopped ≡ None → Taken old new seen result → ((net : Network) → seen_of net ≡ old.seen → (refusal net ev ≡ None) × (seen_of (after net ev) ≡ seen)) → Ending ev old new result
-taken-ends ev old new seen (Ok u) running t f = Done refl (ap (λ (a : LabNet). a.stopped) t.done ∙ running) t.size
+pub taken-ends : (ev : LabEvent) (old new : LabNet) (seen : Seen) (result : Result (Unit {0}) LabFault) → old.stopped ≡ None → configs_after ev old.configs ≡ old.configs → Taken old new seen result → ((net : Network) → seen_of net ≡ old.seen → (refusal net ev ≡ None) × (seen_of (after net ev) ≡ seen)) → Ending ev old new result
+taken-ends ev old new seen (Ok u) running calm t f = Done refl (ap (λ (a : LabNet). a.stopped) t.done ∙ running) t.size (ap (λ (a : LabNet). a.configs) t.done ∙ sym calm)
     (λ net k. ((f net k.seen).0, record { seen = (f net k.seen).1 ∙ sym (ap (λ (a : LabNet). a.seen) t.done) }))
-taken-ends ev old new seen (Err f) running t g = Stopped f refl t.stop t.size
+taken-ends ev old new seen (Err f) running calm t g = Stopped f refl t.stop t.size
     (λ net k. ((g net k.seen).0, subst (λ (n : ℕ). StopCause n f) (sym (ap (λ (s : Seen). length s.sent) (g net k.seen).1) ∙ length-map (after net ev).datagrams sent_of) t.cause))

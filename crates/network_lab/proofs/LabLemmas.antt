@@ -1,9 +1,9 @@
 -- What holds of a network's parts, as it is set up and goes on.
-use Rattle.std.proofs.Common.{◌≡◌, ℕ, zero, suc, ◌+◌, ◌<◌, ◌≤◌, ◌==◌, ◌||◌, ◌&&◌, Bool, true, false, List, [], ◌∷◌, ◌++◌, map, length, Option, Some, None, unwrap_or, if◌then◌else◌, refl, sym, ap, ◌∙◌, subst, arith}
+use Rattle.std.proofs.Common.{◌≡◌, ℕ, zero, suc, ◌+◌, ◌<◌, ◌≤◌, ◌==◌, ◌||◌, ◌&&◌, Bool, true, false, List, [], ◌∷◌, ◌++◌, map, length, Option, Some, None, IfSome, unwrap_or, if◌then◌else◌, refl, sym, ap, ◌∙◌, subst, arith}
 use Rattle.std.specs.List.{AllByRecursion}
 use Rattle.std.proofs.lemmas.Bool.Decides.{nat_tests}
 use Rattle.std.proofs.lemmas.List.{map-append, length-map}
-use Rattle.isis_model.specs.Places.{nth}
+use Rattle.isis_model.specs.Places.{nth, with_nth}
 use Rattle.isis_model.specs.Routers.{Router}
 use Rattle.isis_model.proofs.ListLemmas.{all-map, all-append}
 use Rattle.isis_model.proofs.BookLemmas.{same-or}
@@ -36,6 +36,34 @@ net-goes ports ordered old rs ds n ts stop h same few small run = record {
   setup = λ e. absurd (cc);
   run = λ _ going none. run going none;
 }
+
+-- another configuration of a router, with as many circuits
+counts-put : (configs : List Config) (i : ℕ) (config : Config) → IfSome (nth configs i) (λ (c : Config). length config.circuits ≡ length c.circuits) → map (λ (c : Config). length c.circuits) (with_nth configs i config) ≡ map (λ (c : Config). length c.circuits) configs
+counts-put [] i config h = refl
+counts-put (c ∷ configs) zero config h = ap (λ (n : ℕ). n ∷ map (λ (c : Config). length c.circuits) configs) h
+counts-put (c ∷ configs) (suc i) config h = ap (λ (ns : List ℕ). length c.circuits ∷ ns) (counts-put configs i config h)
+
+pub net-put : (ports : List (List ℕ)) (ordered : List (List End)) (old : LabNet) (i : ℕ) (config : Config) → IsNet ports ordered old → old.begun ≡ true → IfSome (nth old.configs i) (λ (c : Config). length config.circuits ≡ length c.circuits)
+    → IsNet ports ordered (record old { configs = with_nth old.configs i config })
+net-put ports ordered old i config h begun count = record {
+  routers = h.routers;
+  configs = counts-put old.configs i config count ∙ h.configs;
+  ends = h.ends;
+  ported = h.ported;
+  sorted = h.sorted;
+  wired = h.wired;
+  apart = h.apart;
+  few = h.few;
+  small = h.small;
+  setup = λ e. absurd (let clash = sym begun ∙ e in cc);
+  run = h.run;
+}
+
+-- there is a configuration for each router
+pub config-there : (ports : List (List ℕ)) (ordered : List (List End)) (a : LabNet) → IsNet ports ordered a → length a.configs ≡ length a.seen.routers
+config-there ports ordered a h =
+    sym (length-map a.configs (λ (c : Config). length c.circuits))
+    ∙ (ap length h.configs ∙ (sym (ap length h.routers) ∙ length-map a.seen.routers (λ (r : Router). length r.circuits)))
 
 -- ---- lists with an item more
 

@@ -25,6 +25,7 @@ idles part old running e = record {
   cause = tt;
   stop = tt;
   size = record { links = refl; routers = refl };
+  configs = refl;
 }
 
 one-less : (k count : ℕ) → k < count → count - k ≡ suc (count - (k + 1))

@@ -16,6 +16,8 @@ use Rattle.network_lab.specs.declared.faults.LabFault.{LabFault}
 use Rattle.network_lab.specs.declared.faults.LabFault.TheVariants as fault
 use Rattle.network_lab.specs.declared.faults.LimitName.TheVariants as limit
 use Rattle.network_lab.specs.LabNets.{LabNet, StandsFor}
+use Rattle.router_desk.specs.declared.config.Config.{Config}
+use Rattle.network_lab.specs.LabConfigs.{configs_after}
 use Rattle.network_lab.specs.LabEvents.{refusal, after, unless_on, unless_arrives}
 use Rattle.network_lab.specs.LabSteps.{SameSize, StopCause, Ending, Done, Refused, Stopped}
 use Rattle.network_lab.specs.LabRuns.{RunEnding, GoesOn, IsOfRun}
@@ -134,6 +136,7 @@ starts left whole old running e = record {
   left_is = λ net s. e net s;
   running = running;
   size = record { links = refl; routers = refl };
+  configs = refl;
 }
 
 pub goes : (left next whole part : Network → Network) (old mid new : LabNet) → GoesOn left whole old mid → RunEnding part mid new (Ok tt) → ((net : Network) → StandsFor net mid → left net ≡ next (part net)) → GoesOn next whole old new
@@ -143,6 +146,7 @@ goes left next whole part old mid new h r e = record {
   left_is = λ net s. sym (e (h.here net s) (h.stands net s)) ∙ h.left_is net s;
   running = r.running;
   size = same-trans old mid new h.size r.size;
+  configs = r.configs ∙ h.configs;
 }
 
 pub skips : (left next whole : Network → Network) (old mid : LabNet) → GoesOn left whole old mid → ((net : Network) → StandsFor net mid → left net ≡ next net) → GoesOn next whole old mid
@@ -152,6 +156,7 @@ skips left next whole old mid h e = record {
   left_is = λ net s. sym (e (h.here net s) (h.stands net s)) ∙ h.left_is net s;
   running = h.running;
   size = h.size;
+  configs = h.configs;
 }
 
 pub ends : (left whole : Network → Network) (old new : LabNet) → GoesOn left whole old new → ((net : Network) → StandsFor net new → left net ≡ net) → RunEnding whole old new (Ok tt)
@@ -161,6 +166,7 @@ ends left whole old new h e = record {
   cause = tt;
   stop = tt;
   size = h.size;
+  configs = h.configs;
 }
 
 pub stops : (left whole part : Network → Network) (old mid new : LabNet) (f : LabFault) → GoesOn left whole old mid → RunEnding part mid new (Err f) → ((net : Network) → StandsFor net mid → length (part net).datagrams ≤ length (left net).datagrams) → RunEnding whole old new (Err f)
@@ -170,6 +176,7 @@ stops left whole part old mid new f h r e = record {
   cause = λ net s. subst (λ (m : Network). StopCause (length m.datagrams) f) (h.left_is net s) (stop-more _ _ f (e (h.here net s) (h.stands net s)) (r.cause (h.here net s) (h.stands net s)));
   stop = r.stop;
   size = same-trans old mid new h.size r.size;
+  configs = tt;
 }
 
 -- the same part by another name
@@ -180,6 +187,7 @@ renames part name old new (Ok u) h e = record {
   cause = tt;
   stop = tt;
   size = h.size;
+  configs = h.configs;
 }
 renames part name old new (Err f) h e = record {
   done = tt;
@@ -187,6 +195,7 @@ renames part name old new (Err f) h e = record {
   cause = λ net s. subst (λ (m : Network). StopCause (length m.datagrams) f) (e net s) (h.cause net s);
   stop = h.stop;
   size = h.size;
+  configs = tt;
 }
 
 -- one part and then another
@@ -197,6 +206,7 @@ follows first second old mid new (Ok u) h k = record {
   cause = tt;
   stop = tt;
   size = same-trans old mid new h.size k.size;
+  configs = k.configs ∙ h.configs;
 }
 follows first second old mid new (Err f) h k = record {
   done = tt;
@@ -204,6 +214,7 @@ follows first second old mid new (Err f) h k = record {
   cause = λ net s. k.cause (first net) (h.done net s);
   stop = k.stop;
   size = same-trans old mid new h.size k.size;
+  configs = tt;
 }
 
 -- the first part stops
@@ -214,6 +225,7 @@ breaks first second old new f h e = record {
   cause = λ net s. stop-more _ _ f (e (first net)) (h.cause net s);
   stop = h.stop;
   size = h.size;
+  configs = tt;
 }
 
 -- ---- one event
@@ -237,14 +249,24 @@ refused-same net (event.Restart i) f o e = absurd o
 refused-same net (event.Change i c) f o e = absurd o
 refused-same net (event.Inject i link octets) f o e = absurd o
 
+-- no event of a line `run` changes a configuration
+run-configs : (ev : LabEvent) (configs : List Config) → IsOfRun ev → configs_after ev configs ≡ configs
+run-configs (event.Tick i) configs o = refl
+run-configs (event.Pull i link) configs o = refl
+run-configs (event.Deliver n i) configs o = refl
+run-configs (event.Restart i) configs o = absurd o
+run-configs (event.Change i c) configs o = absurd o
+run-configs (event.Inject i link octets) configs o = absurd o
+
 -- an event is carried out, or refused
 pub goes-on : (ev : LabEvent) (old new : LabNet) (r : Result (Unit {0}) LabFault) → IsOfRun ev → old.stopped ≡ None → Ending ev old new r → new.stopped ≡ None → RunEnding (λ net. after net ev) old new (Ok tt)
-goes-on ev old new r of running (Done ok still size f) none = record {
+goes-on ev old new r of running (Done ok still size configs f) none = record {
   done = λ net s. (f net s).1;
   running = none;
   cause = tt;
   stop = tt;
   size = size;
+  configs = configs ∙ run-configs ev old.configs of;
 }
 goes-on ev old new r of running (Refused fault bad same calm f) none = record {
   done = λ net s. subst (λ (a : LabNet). StandsFor (after net ev) a) (sym same) (subst (λ (m : Network). StandsFor m old) (sym (refused-same net ev fault of (f net s))) s);
@@ -252,11 +274,12 @@ goes-on ev old new r of running (Refused fault bad same calm f) none = record {
   cause = tt;
   stop = tt;
   size = subst (λ (a : LabNet). SameSize old a) (sym same) (record { links = refl; routers = refl });
+  configs = ap (λ (a : LabNet). a.configs) same;
 }
 goes-on ev old new r of running (Stopped fault bad stop size f) none = absurd (cc)
 
 pub goes-off : (ev : LabEvent) (old new : LabNet) (r : Result (Unit {0}) LabFault) (stop : LabFault) → old.stopped ≡ None → Ending ev old new r → new.stopped ≡ Some stop → RunEnding (λ net. after net ev) old new (Err stop)
-goes-off ev old new r stop running (Done ok still size f) some = absurd (cc)
+goes-off ev old new r stop running (Done ok still size configs f) some = absurd (cc)
 goes-off ev old new r stop running (Refused fault bad same calm f) some = absurd (let h = ap (λ (a : LabNet). a.stopped) same in cc)
 goes-off ev old new r stop running (Stopped fault bad at size f) some = record {
   done = tt;
@@ -264,6 +287,7 @@ goes-off ev old new r stop running (Stopped fault bad at size f) some = record {
   cause = λ net s. subst (λ (g : LabFault). StopCause (length (after net ev).datagrams) g) (same fault stop (sym at ∙ some)) (f net s).1;
   stop = some;
   size = size;
+  configs = tt;
 }
   where
     same : (a b : LabFault) → Some a ≡ Some b → a ≡ b

@@ -29,7 +29,8 @@ use Rattle.network_lab.specs.declared.event.LabEvent.TheVariants as event
 use Rattle.network_lab.specs.declared.faults.LabFault.{LabFault}
 use Rattle.network_lab.specs.declared.faults.LabFault.TheVariants as fault
 use Rattle.network_lab.specs.declared.faults.LimitName.TheVariants as limit
-use Rattle.network_lab.specs.LabNets.{Seen, LabNet, seen_of}
+use Rattle.network_lab.specs.LabNets.{Seen, LabNet, sent_of, seen_of}
+use Rattle.network_lab.specs.LabConfigs.{config_after, changed_at, configs_after}
 use Rattle.network_lab.specs.LabEvents.{refusal, after, unless_changes, change_of}
 use Rattle.network_lab.specs.LabCauses.{IsStop}
 use Rattle.network_lab.specs.LabInside.{counts_of, AreEndsThere, IsNet}
@@ -261,7 +262,7 @@ same-goes ports ordered configs rs now links ds n ts begun stopped h is = net-go
 pub tick-ends : (old new : LabNet) (i : ℕ) (res : Result (Unit {0}) LabFault) → i < length old.seen.routers → old.stopped ≡ None → IfSome (nth old.seen.routers i) (λ r. Taken old new (moved_in old.seen i None Second r None) res) → Ending (event.Tick i) old new res
 tick-ends old new i res h running t =
     let there = nth-there old.seen.routers i h in
-    taken-ends (event.Tick i) old new (moved_in old.seen i None Second there.0 None) res running (of-place (λ r. Taken old new (moved_in old.seen i None Second r None) res) (nth old.seen.routers i) there.0 there.1 t) (tick-done old.seen i there.0 there.1)
+    taken-ends (event.Tick i) old new (moved_in old.seen i None Second there.0 None) res running refl (of-place (λ r. Taken old new (moved_in old.seen i None Second r None) res) (nth old.seen.routers i) there.0 there.1 t) (tick-done old.seen i there.0 there.1)
 
 pub pull-off-ends : (old : LabNet) (i link : ℕ) (o : Option ℕ) → o ≡ None → option_map (λ circuit. circuit - 1) o ≡ place_in (nth old.seen.links link) i → Ending (event.Pull i link) old old (Err fault.NotOn)
 pull-off-ends old i link o q e = Refused fault.NotOn refl refl (λ s. s) (λ net s. pull-off old.seen link i (sym e ∙ ap (option_map (λ circuit. circuit - 1)) q) net s.seen)
@@ -270,7 +271,7 @@ pub pull-ends : (old new : LabNet) (i link circuit : ℕ) (o : Option ℕ) (res 
     → IfSome (nth old.seen.routers i) (λ r. Taken old new (moved_in old.seen i (Some link) (Pull (circuit - 1)) r None) res) → Ending (event.Pull i link) old new res
 pull-ends old new i link circuit o res h running q e t =
     let there = nth-there old.seen.routers i h in
-    taken-ends (event.Pull i link) old new (moved_in old.seen i (Some link) (Pull (circuit - 1)) there.0 None) res running (of-place (λ r. Taken old new (moved_in old.seen i (Some link) (Pull (circuit - 1)) r None) res) (nth old.seen.routers i) there.0 there.1 t)
+    taken-ends (event.Pull i link) old new (moved_in old.seen i (Some link) (Pull (circuit - 1)) there.0 None) res running refl (of-place (λ r. Taken old new (moved_in old.seen i (Some link) (Pull (circuit - 1)) r None) res) (nth old.seen.routers i) there.0 there.1 t)
     (pull-done old.seen link i (circuit - 1) there.0 (sym e ∙ ap (option_map (λ circuit. circuit - 1)) q) there.1)
 
 -- ---- deliveries
@@ -305,7 +306,7 @@ pub deliver-ends : (old new : LabNet) (n i link circuit : ℕ) (o : Option ℕ) 
     → IfSome (nth old.seen.routers i) (λ r. Taken old new (moved_in old.seen i (Some link) (event_of r ev) r range) res) → Ending (event.Deliver n i) old new res
 deliver-ends old new n i link circuit o ev range res h running d q e says hears t =
     let there = nth-there old.seen.routers i h in
-    taken-ends (event.Deliver n i) old new (moved_in old.seen i (Some link) (event_of there.0 ev) there.0 range) res running (of-place (λ r. Taken old new (moved_in old.seen i (Some link) (event_of r ev) r range) res) (nth old.seen.routers i) there.0 there.1 t)
+    taken-ends (event.Deliver n i) old new (moved_in old.seen i (Some link) (event_of there.0 ev) there.0 range) res running refl (of-place (λ r. Taken old new (moved_in old.seen i (Some link) (event_of r ev) r range) res) (nth old.seen.routers i) there.0 there.1 t)
     (hears-done old n i link circuit o ev range there.0 d q e (says, hears) there.1)
 
 -- ---- injections
@@ -334,7 +335,7 @@ inject-ends old mid new i link circuit octets o res h running q e m t =
     taken-ends-of (Err f) t = record { done = tt; stop = t.stop; cause = t.cause; size = record { links = t.size.links; routers = t.size.routers } }
 
     ends-of : Taken old new seen res → Ending (event.Inject i link octets) old new res
-    ends-of t = taken-ends (event.Inject i link octets) old new seen res running t (inject-done old.seen link i (circuit - 1) octets there.0 (sym e ∙ ap (option_map (λ circuit. circuit - 1)) q) there.1)
+    ends-of t = taken-ends (event.Inject i link octets) old new seen res running refl t (inject-done old.seen link i (circuit - 1) octets there.0 (sym e ∙ ap (option_map (λ circuit. circuit - 1)) q) there.1)
 
 -- ---- restarts
 
@@ -349,6 +350,7 @@ restart-stops old new i r res q h bad is =
 pub restart-ends : (old new : LabNet) (i : ℕ) (r : Router) → old.stopped ≡ None → nth old.seen.routers i ≡ Some r → r.boot < 16777215 → new ≡ record old { seen = record old.seen { routers = with_nth old.seen.routers i (restarted r) }; begun = true } → Ending (event.Restart i) old new (Ok tt)
 restart-ends old new i r running q h is = Done refl (ap (λ (a : LabNet). a.stopped) is ∙ running)
     (record { links = ap (λ (a : LabNet). a.seen.links) is; routers = ap (λ (a : LabNet). length a.seen.routers) is ∙ length-with old.seen.routers i (restarted r) })
+    (ap (λ (a : LabNet). a.configs) is)
     (λ net s. let d = restart-done old.seen i r q h net s.seen in (d.0, record { seen = d.1 ∙ sym (ap (λ (a : LabNet). a.seen) is) }))
 
 -- ---- changes
@@ -366,20 +368,40 @@ calm-change r (change.Overload on) = tt
 pub change-off-ends : (old : LabNet) (i : ℕ) (c : Change) (r : Router) (f : LabFault) → nth old.seen.routers i ≡ Some r → unless_changes (Some r) c ≡ Some f → Ending (event.Change i c) old old (Err f)
 change-off-ends old i c r f q h = Refused f refl refl (subst (λ (o : Option LabFault). IfSome o (λ f. IsStop f → ⊥)) h (calm-change r c)) (λ net s. change-off old.seen i c r f q h net s.seen)
 
-pub change-ends : (old new : LabNet) (i : ℕ) (c : Change) (r : Router) (res : Result (Unit {0}) LabFault) → old.stopped ≡ None → nth old.seen.routers i ≡ Some r → unless_changes (Some r) c ≡ None
-    → IfSome (nth old.seen.routers i) (λ r. Taken old new (moved_in old.seen i None (core.change_of c) r None) res) → Ending (event.Change i c) old new res
-change-ends old new i c r res running q h t =
-    taken-ends (event.Change i c) old new (moved_in old.seen i None (core.change_of c) r None) res running (of-place (λ r. Taken old new (moved_in old.seen i None (core.change_of c) r None) res) (nth old.seen.routers i) r q t) (change-done old.seen i c r q h)
+pub change-ends : (old mid new : LabNet) (i : ℕ) (c : Change) (config changed : Config) (r : Router) → old.stopped ≡ None → nth old.seen.routers i ≡ Some r → unless_changes (Some r) c ≡ None
+    → nth old.configs i ≡ Some config → changed ≡ config_after c config
+    → IfSome (nth old.seen.routers i) (λ r. Taken old mid (moved_in old.seen i None (core.change_of c) r None) (Ok tt)) → new ≡ record mid { configs = with_nth mid.configs i changed } → Ending (event.Change i c) old new (Ok tt)
+change-ends old mid new i c config changed r running q h at is t put =
+    let taken : Taken old mid (moved_in old.seen i None (core.change_of c) r None) (Ok tt) = of-place (λ r. Taken old mid (moved_in old.seen i None (core.change_of c) r None) (Ok tt)) (nth old.seen.routers i) r q t in
+    let d = change-done old.seen i c r q h in
+    Done refl (ap (λ (a : LabNet). a.stopped) put ∙ (ap (λ (a : LabNet). a.stopped) taken.done ∙ running))
+    (record { links = ap (λ (a : LabNet). a.seen.links) put ∙ taken.size.links; routers = ap (λ (a : LabNet). length a.seen.routers) put ∙ taken.size.routers })
+    (ap (λ (a : LabNet). a.configs) put
+    ∙ (ap (λ (a : LabNet). with_nth a.configs i changed) taken.done
+    ∙ (ap (with_nth old.configs i) is ∙ sym (ap (changed_at c i old.configs) at))))
+    (λ net k. ((d net k.seen).0, record { seen = (d net k.seen).1 ∙ sym (ap (λ (a : LabNet). a.seen) put ∙ ap (λ (a : LabNet). a.seen) taken.done) }))
+
+pub change-breaks : (old new : LabNet) (i : ℕ) (c : Change) (r : Router) (f : LabFault) → old.stopped ≡ None → nth old.seen.routers i ≡ Some r → unless_changes (Some r) c ≡ None
+    → IfSome (nth old.seen.routers i) (λ r. Taken old new (moved_in old.seen i None (core.change_of c) r None) (Err f)) → Ending (event.Change i c) old new (Err f)
+change-breaks old new i c r f running q h t =
+    let taken : Taken old new (moved_in old.seen i None (core.change_of c) r None) (Err f) = of-place (λ r. Taken old new (moved_in old.seen i None (core.change_of c) r None) (Err f)) (nth old.seen.routers i) r q t in
+    Stopped f refl taken.stop taken.size
+    (λ net k. let d = change-done old.seen i c r q h net k.seen in (d.0, subst (λ (n : ℕ). StopCause n f) (sym (ap (λ (s : Seen). length s.sent) d.1) ∙ length-map (after net (event.Change i c)).datagrams sent_of) taken.cause))
+
+pub change-stops : (old new : LabNet) (i : ℕ) (c : Change) (r : Router) (res : Result (Unit {0}) LabFault) → nth old.seen.routers i ≡ Some r → unless_changes (Some r) c ≡ None → res ≡ Err fault.OutOfMemory → new ≡ record old { begun = true; stopped = Some fault.OutOfMemory } → Ending (event.Change i c) old new res
+change-stops old new i c r res q h bad is =
+    Stopped fault.OutOfMemory bad (ap (λ (a : LabNet). a.stopped) is) (record { links = ap (λ (a : LabNet). a.seen.links) is; routers = ap (λ (a : LabNet). length a.seen.routers) is })
+    (λ net s. ((change-done old.seen i c r q h net s.seen).0, tt))
 
 -- ---- what an answer is made of
 
 pub ending-stops : (ev : LabEvent) (old new : LabNet) (res : Result (Unit {0}) LabFault) → Ending ev old new res → IfErr res (λ f. IsStop f → new.stopped ≡ Some f)
-ending-stops ev old new res (Done ok still size f) = subst (λ (r : Result (Unit {0}) LabFault). IfErr r (λ f. IsStop f → new.stopped ≡ Some f)) (sym ok) tt
+ending-stops ev old new res (Done ok still size configs f) = subst (λ (r : Result (Unit {0}) LabFault). IfErr r (λ f. IsStop f → new.stopped ≡ Some f)) (sym ok) tt
 ending-stops ev old new res (Refused fault bad same calm f) = subst (λ (r : Result (Unit {0}) LabFault). IfErr r (λ f. IsStop f → new.stopped ≡ Some f)) (sym bad) (λ s. absurd (calm s))
 ending-stops ev old new res (Stopped fault bad at size f) = subst (λ (r : Result (Unit {0}) LabFault). IfErr r (λ f. IsStop f → new.stopped ≡ Some f)) (sym bad) (λ s. at)
 
 pub ending-goes : (ev : LabEvent) (old new : LabNet) (res : Result (Unit {0}) LabFault) → Ending ev old new res → OnOk res (new.stopped ≡ None)
-ending-goes ev old new res (Done ok still size f) = subst (λ (r : Result (Unit {0}) LabFault). OnOk r (new.stopped ≡ None)) (sym ok) still
+ending-goes ev old new res (Done ok still size configs f) = subst (λ (r : Result (Unit {0}) LabFault). OnOk r (new.stopped ≡ None)) (sym ok) still
 ending-goes ev old new res (Refused fault bad same calm f) = subst (λ (r : Result (Unit {0}) LabFault). OnOk r (new.stopped ≡ None)) (sym bad) tt
 ending-goes ev old new res (Stopped fault bad at size f) = subst (λ (r : Result (Unit {0}) LabFault). OnOk r (new.stopped ≡ None)) (sym bad) tt
 
@@ -438,3 +460,8 @@ circuit-less ports ordered old link i place r h e q = by (nth old.seen.links lin
     by : (o : Option (List End)) → nth old.seen.links link ≡ o → Some place ≡ place_in o i → place < length r.circuits
     by None k e = absurd (cc)
     by (Some ends) k e = subst (λ (n : ℕ). place < n) count (on-there (map length ports) ends i place (all-at (AreEndsThere (map length ports)) old.seen.links link ends h.ends k) (sym e))
+
+pub ending-configs : (ev : LabEvent) (old new : LabNet) (res : Result (Unit {0}) LabFault) → Ending ev old new res → OnOk res (new.configs ≡ configs_after ev old.configs)
+ending-configs ev old new res (Done ok still size configs f) = subst (λ (r : Result (Unit {0}) LabFault). OnOk r (new.configs ≡ configs_after ev old.configs)) (sym ok) configs
+ending-configs ev old new res (Refused fault bad same calm f) = subst (λ (r : Result (Unit {0}) LabFault). OnOk r (new.configs ≡ configs_after ev old.configs)) (sym bad) tt
+ending-configs ev old new res (Stopped fault bad at size f) = subst (λ (r : Result (Unit {0}) LabFault). OnOk r (new.configs ≡ configs_after ev old.configs)) (sym bad) tt

@@ -58,6 +58,7 @@ pub record RunEnding (part : Network → Network) (old new : LabNet)
       → StopCause (length (part net).datagrams) fault)
   pub stop : IfErr result (λ fault. new.stopped ≡ Some fault)
   pub size : SameSize old new
+  pub configs : OnOk result (new.configs ≡ old.configs)
 
 -- so far a run was carried out: what is left of it from here gives what the whole gives
 pub record GoesOn (left whole : Network → Network) (old now : LabNet) : Type 0 where
@@ -66,3 +67,4 @@ pub record GoesOn (left whole : Network → Network) (old now : LabNet) : Type 0
   pub left_is : (net : Network) (s : StandsFor net old) → left (here net s) ≡ whole net
   pub running : now.stopped ≡ None
   pub size : SameSize old now
+  pub configs : now.configs ≡ old.configs

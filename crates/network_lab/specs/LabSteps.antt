@@ -18,6 +18,7 @@ use Rattle.network_lab.specs.declared.faults.LabFault.{LabFault}
 use Rattle.network_lab.specs.declared.faults.LabFault.TheVariants as fault
 use Rattle.network_lab.specs.declared.faults.LimitName.TheVariants as limit
 use Rattle.network_lab.specs.LabNets.{Seen, LabNet, StandsFor, sent_of}
+use Rattle.network_lab.specs.LabConfigs.{configs_after}
 use Rattle.network_lab.specs.LabTakings.{noted_in}
 use Rattle.network_lab.specs.LabEvents.{refusal, after}
 use Rattle.network_lab.specs.LabCauses.{IsStop}
@@ -78,6 +79,7 @@ pub record Taken (old new : LabNet) (seen : Seen) (result : Result (Unit {0}) La
 -- changes; or the network is stopped.
 pub data Ending (event : LabEvent) (old new : LabNet) (result : Result (Unit {0}) LabFault) : Type 0 where
   Done : result ≡ Ok tt → new.stopped ≡ None → SameSize old new
+      → new.configs ≡ configs_after event old.configs
       → ((net : Network) → StandsFor net old
       → (refusal net event ≡ None) × StandsFor (after net event) new)
       → Ending event old new result

@@ -5,6 +5,7 @@ pub mod KeysNet
 pub mod Limits
 pub mod KeysHeld
 pub mod LabNets
+pub mod LabConfigs
 pub mod LabEvents
 pub mod LabTakings
 pub mod Hearing

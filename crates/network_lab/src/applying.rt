@@ -1,7 +1,7 @@
 //! One event of a network of routers.
 ghost use Rattle.std.specs.Prelude.{◌≡◌, ◌-◌, ◌<◌, ◌≤◌, None, length, Some, Err, Ok, IfSome, IfErr, OnOk, OnErr, MatchOption, true};
 ghost use Rattle.std.specs.Option.{option_map};
-ghost use Rattle.isis_model.specs.Places.{nth};
+ghost use Rattle.isis_model.specs.Places.{nth, with_nth};
 ghost use Rattle.router_core.specs.Events.{event_of, Fits, IsThere};
 ghost use Rattle.network_model.specs.Networks.{Network as ModelNetwork, place_in, numbered};
 ghost use Rattle.network_model.specs.Runs.{taking};
@@ -9,20 +9,22 @@ ghost use Rattle.network_lab.specs.declared.event.LabEvent.TheVariants as event;
 ghost use Rattle.network_lab.specs.declared.faults.LabFault.TheVariants.{OutOfMemory};
 ghost use Rattle.network_lab.specs.LabNets.{StandsFor};
 ghost use Rattle.network_lab.specs.LabEvents.{IsEvent, IsChange, refusal, after, unless_changes, ApplyCause};
+ghost use Rattle.network_lab.specs.LabConfigs.{configs_after};
 ghost use Rattle.network_lab.specs.LabCauses.{IsStop};
 ghost use Rattle.network_lab.specs.LabSteps.{Ending, Taken, moved_in, delivered_on};
 ghost use Rattle.network_lab.specs.Reached.{Happen};
 ghost use Rattle.network_lab.specs.Claims.{IsClaimed};
 
+use crate::config_changes::changed;
 use crate::event::LabEvent;
 use crate::faults::{LabFault, LimitName};
 use crate::heard_range::HeardRange;
 use crate::network::Network;
-use crate::places::{boot_at, one_more, place_at};
+use crate::places::{boot_at, one_more, place_at, put_at};
 use crate::taking::{restart_at, take_at, taking_at};
 use isis_base::Octets;
 use router_core::{NodeEvent, Router};
-use router_desk::Change;
+use router_desk::{Change, Config};
 
 /// The last boot number.
 const LAST_BOOT: u32 = 16777215;
@@ -52,6 +54,7 @@ impl Network {
         ensures stops { IfErr result (λ fault. IsStop fault → self.new.stopped ≡ Some fault) }
         ensures goes_on { OnOk result (self.new.stopped ≡ None) }
         ensures claimed { OnOk result (IsClaimed self.new.seen) }
+        ensures configs { OnOk result (self.new.configs ≡ configs_after event self.old.configs) }
         ensures links { self.new.seen.links ≡ self.old.seen.links }
         ensures routers { length self.new.seen.routers ≡ length self.old.seen.routers }
     {
@@ -149,7 +152,30 @@ impl Network {
         if let Some(fault) = change_fault(&self.routers[router], change) {
             return Err(fault);
         }
-        self.take(router, None, NodeEvent::Change(change), None)
+        let config = match changed(self.alloc, self.config(router), change) {
+            Ok(config) => config,
+            Err(_) => return self.stop(),
+        };
+        match self.take(router, None, NodeEvent::Change(change), None) {
+            Ok(()) => {
+                self.put_config(router, config);
+                Ok(())
+            }
+            Err(fault) => Err(fault),
+        }
+    }
+
+    /// Another configuration of a router, with as many circuits.
+    fn put_config(&mut self, router: usize, config: Config)
+        requires begun { self.old.begun ≡ true }
+        requires there { router < length self.old.configs }
+        requires circuits { IfSome (nth self.old.configs router)
+            (λ c. length config.circuits ≡ length c.circuits) }
+        ensures { self.new ≡ record self.old {
+          configs = with_nth self.old.configs router config;
+        } }
+    {
+        put_at(&mut self.configs, router, config);
     }
 
     /// A router is given octets on its circuit of a link.

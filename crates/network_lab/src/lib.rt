@@ -8,6 +8,7 @@
 //! - `held.rt`: the newest keys of one router, by LSP ID
 //! - `network.rt`: the network of routers, and what is read of it; `event.rt`, `sent.rt`: its events and datagrams
 //! - `setup.rt`: how it is set up; `joining.rt`: the routers that a link or LAN joins
+//! - `config_changes.rt`: configurations with the changes of a run
 //! - `applying.rt`: one event; `running.rt`: a line `run`
 //! - `states.rt`: how links stand, and which routers agree; `lan_state.rt`, `lan_states.rt`: how the members of LANs do
 //! - `hearing.rt`, `heard_range.rt`: the ranges of CSNPs that routers hear on LANs without a flag
@@ -16,6 +17,7 @@
 #![tactic(auto)]
 
 mod applying;
+mod config_changes;
 mod ends;
 mod event;
 mod faults;

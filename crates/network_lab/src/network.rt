@@ -111,6 +111,14 @@ impl Network {
         self.routers.len()
     }
 
+    /// A router's configuration with the changes so far, by its number.
+    pub fn config(&self, router: usize) -> &Config
+        requires { router < length self.now.seen.routers }
+        ensures { nth self.now.configs router ≡ Some result.now }
+    {
+        &self.configs[router]
+    }
+
     /// The number of links and LANs.
     pub fn links(&self) -> usize
         ensures { result ≡ length self.now.seen.links }

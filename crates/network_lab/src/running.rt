@@ -90,6 +90,7 @@ impl Network {
         ensures stops { IfErr result (λ fault. self.new.stopped ≡ Some fault) }
         ensures goes_on { OnOk result (self.new.stopped ≡ None) }
         ensures claimed { OnOk result (IsClaimed self.new.seen) }
+        ensures configs { OnOk result (self.new.configs ≡ self.old.configs) }
         ensures links { self.new.seen.links ≡ self.old.seen.links }
         ensures routers { length self.new.seen.routers ≡ length self.old.seen.routers }
     {

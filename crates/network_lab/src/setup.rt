@@ -255,7 +255,7 @@ fn changed_at(
 }
 
 /// Circuits with another one at a place.
-fn replaced(
+pub(crate) fn replaced(
     alloc: Global,
     circuits: &Circuits,
     place: usize,

@@ -1,12 +1,12 @@
 -- What is seen of an LSP ID that isn't doubled has one contents under each number.
-use Rattle.std.proofs.Common.{◌≡◌, ℕ, ◌/◌, ◌==◌, ◌&&◌, ◌||◌, ◌⊎◌, inl, inr, ⊎_elim, Bool, true, false, List, [], ◌∷◌, drop, Option, Some, None, if◌then◌else◌, refl, sym, ap, ap₂, ◌∙◌, subst, arith}
+use Rattle.std.proofs.Common.{◌≡◌, ℕ, ◌/◌, ◌==◌, ◌&&◌, ◌||◌, ◌⊎◌, inl, inr, ⊎_elim, Bool, true, false, List, [], ◌∷◌, Option, Some, None, if◌then◌else◌, refl, sym, ap, ap₂, ◌∙◌, subst, arith}
 use Rattle.std.proofs.lemmas.Bool.Decides.{nat_tests}
 use Rattle.std.proofs.lemmas.Option.{none-some, same_Some}
 use Rattle.std.proofs.lemmas.Slice.Eq.{bytes_eq-Decides}
 use Rattle.std.specs.Str.{bytes_eq}
 use Rattle.isis_base.specs.declared.level.Level.{Level}
 use Rattle.isis_model.specs.Maps.{find}
-use Rattle.isis_model.specs.Ranks.{is_live, number_of}
+use Rattle.isis_model.specs.Ranks.{is_live}
 use Rattle.isis_model.specs.Cells.{Cell}
 use Rattle.isis_model.specs.LetGos.{contains, with_id}
 use Rattle.isis_model.specs.Routers.{Contents, Router, book_of}
@@ -37,10 +37,10 @@ same-to a b e = grind (arith, nat_tests)
 
 pub has-own : (system id : ℕ) (cell : Cell) (cells : List (ℕ × Cell)) → id / 65536 ≡ system → find cells id ≡ Some cell → is_live cell.rank ≡ true → Has (sighting id cell) (own_lsps system cells)
 has-own system id cell [] own at live = absurd (none-some cell at)
-has-own system id cell (p ∷ cells) own at live = by (p.0 == id) refl at
+has-own system id cell (p ∷ cells) own at live = by (λ h. has-own system id cell cells own h live) (p.0 == id) refl at
   where
-    rest : find cells id ≡ Some cell → Has (sighting id cell) (own_lsps system (p ∷ cells))
-    rest h = skip (is_own system p.0 && is_live p.1.rank) (has-own system id cell cells own h live)
+    rest : Has (sighting id cell) (own_lsps system cells) → Has (sighting id cell) (own_lsps system (p ∷ cells))
+    rest h = skip (is_own system p.0 && is_live p.1.rank) h
       where
         skip : (t : Bool) → Has (sighting id cell) (own_lsps system cells) → Has (sighting id cell) (if t then sighting p.0 p.1 ∷ own_lsps system cells else own_lsps system cells)
         skip true h = inr h
@@ -51,9 +51,9 @@ has-own system id cell (p ∷ cells) own at live = by (p.0 == id) refl at
         (sym (ap₂ (λ (s t : Bool). s && t) (ap (λ (n : ℕ). is_own system n) e ∙ same-to (id / 65536) system own) (ap (λ (c : Cell). is_live c.rank) f ∙ live)))
         (inl (sym (ap₂ sighting e f)))
 
-    by : (t : Bool) → (p.0 == id) ≡ t → (if t then Some p.1 else find cells id) ≡ Some cell → Has (sighting id cell) (own_lsps system (p ∷ cells))
-    by true e h = here (same-from p.0 id e) (same_Some p.1 cell h)
-    by false e h = rest h
+    by : (find cells id ≡ Some cell → Has (sighting id cell) (own_lsps system cells)) → (t : Bool) → (p.0 == id) ≡ t → (if t then Some p.1 else find cells id) ≡ Some cell → Has (sighting id cell) (own_lsps system (p ∷ cells))
+    by more true e h = here (same-from p.0 id e) (same_Some p.1 cell h)
+    by more false e h = rest (more h)
 
 -- ---- what isn't doubled
 
@@ -69,13 +69,13 @@ and-all : (a b : Bool) → (a && b) ≡ true → (a ≡ true) × (b ≡ true)
 and-all true b h = (refl, h)
 and-all false b h = absurd (cc)
 
+abbrev contents_of : ℕ → List ℕ → Contents
+contents_of flags tlvs = record { flags = flags; tlvs = tlvs }
+
 contents-same : (a b : Contents) → same_contents a b ≡ true → a ≡ b
 contents-same a b h =
     let both = and-all (a.flags == b.flags) (bytes_eq a.tlvs b.tlvs) h in
-    same (same-from a.flags b.flags both.0) ((bytes_eq-Decides a.tlvs b.tlvs).0 both.1)
-  where
-    same : a.flags ≡ b.flags → a.tlvs ≡ b.tlvs → a ≡ b
-    same e f = cc
+    ap₂ contents_of (same-from a.flags b.flags both.0) ((bytes_eq-Decides a.tlvs b.tlvs).0 both.1)
 
 not-itself : (id : ℕ) → (id == id) ≡ false → ⊥
 not-itself id e = absurd (let t = sym (same-to id id refl) ∙ e in cc)
@@ -106,13 +106,13 @@ first-new (Some first) s ids id e h = by (same_contents first s.contents) refl h
 pub first-is : (seen : List Sighting) (s : Sighting) (id : ℕ) → s.id ≡ id → contains (doubled_of seen) id ≡ false → Has s seen → first_of seen id s.number ≡ Some s.contents
 unfolding first_of doubled_of
 first-is [] s id e h in_seen = absurd in_seen
-first-is (x ∷ seen) s id e h in_seen = ⊎_elim here there in_seen
+first-is (x ∷ seen) s id e h in_seen = ⊎_elim here (λ (r : Has s seen). there (first-is seen s id e rest r)) in_seen
   where
     rest : contains (doubled_of seen) id ≡ false
     rest = doubled-grows (first_of seen x.id x.number) x (doubled_of seen) id h
 
-    there : Has s seen → earlier (first_of seen id s.number) (if x.id == id && x.number == s.number then Some x.contents else None) ≡ Some s.contents
-    there r = first-kept (first_of seen id s.number) _ s.contents (first-is seen s id e rest r)
+    there : first_of seen id s.number ≡ Some s.contents → earlier (first_of seen id s.number) (if x.id == id && x.number == s.number then Some x.contents else None) ≡ Some s.contents
+    there r = first-kept (first_of seen id s.number) _ s.contents r
 
     new : (y : Sighting) → y ≡ s → contains (doubled_with (first_of seen y.id y.number) y (doubled_of seen)) id ≡ false → earlier (first_of seen id y.number) (if y.id == id && y.number == y.number then Some y.contents else None) ≡ Some y.contents
     new y q k =

@@ -58,5 +58,5 @@ past_after (r ∷ rs) past = past_after rs (r ∷ past)
 
 -- each level's memory is of what routers in these states held
 pub record Keep (one two : Memory) (past : List Router) : Type 0 where
-  pub one : Remembers one (sightings_of past level.One)
-  pub two : Remembers two (sightings_of past level.Two)
+  pub level_one : Remembers one (sightings_of past level.One)
+  pub level_two : Remembers two (sightings_of past level.Two)

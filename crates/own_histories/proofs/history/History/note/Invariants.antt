@@ -1,5 +1,4 @@
-use Rattle.std.proofs.Common.{List, length}
-use Rattle.isis_base.specs.Identifiers.{lsp_number}
+use Rattle.std.proofs.Common.{◌+◌, List, length}
 use Rattle.lsp_store.specs.Maps.{between}
 use Rattle.own_histories.specs.Sightings.{Sighting}
 use Rattle.own_histories.specs.Entries.{live_of, Left}
@@ -7,7 +6,7 @@ use Rattle.own_histories.proofs.history.History.note.Given as goal
 
 abbrev pub invariant-loop-id : goal.invariant-loop-id
 invariant-loop-id l =
-    (whole : List Sighting) → Left l.fn.self (live_of (between (lsp_number l.start) (lsp_number l.end) l.book.store.entries)) whole → Left l.self (live_of l.entries) whole
+    (whole : List Sighting) → Left l.fn.self (live_of (between l.first (l.first + 65535) l.book.store.entries)) whole → Left l.self (live_of l.entries) whole
 
 abbrev pub decreases-loop-id : goal.decreases-loop-id
 decreases-loop-id l = length l.entries
