@@ -1,5 +1,5 @@
 -- Routers of one group hold the same live LSPs.
-use Rattle.std.proofs.Common.{◌≡◌, ℕ, zero, suc, ◌+◌, ◌==◌, ◌&&◌, Bool, true, false, not, ◌⊎◌, inl, inr, ⊎_elim, List, [], ◌∷◌, ◌++◌, slice_get, slice_index, map, Option, Some, None, if◌then◌else◌, refl, sym, ap, ◌∙◌, subst, arith}
+use Rattle.std.proofs.Common.{◌≡◌, ℕ, zero, suc, ◌+◌, ◌==◌, ◌&&◌, Bool, true, false, not, ◌⊎◌, inl, inr, ⊎_elim, List, [], ◌∷◌, ◌++◌, Option, Some, None, if◌then◌else◌, refl, sym, ap, ◌∙◌, subst, arith}
 use Rattle.std.proofs.lemmas.Bool.Decides.{nat_tests}
 use Rattle.std.specs.List.{flat_map}
 use Rattle.isis_base.specs.declared.level.Level.{Level}
@@ -27,7 +27,7 @@ use Rattle.network_lab.specs.Reached.{HasRun}
 use Rattle.network_lab.specs.Claims.{IsClaimed}
 use Rattle.network_lab.specs.LanStates.{swept_by, sees_at, router_among, if_swept, sweeper_at}
 use Rattle.network_lab.specs.LinkStates.{runs_of, is_point_in, is_clean, state_between, state_of_ends, listed, joined_by, with_sweeper, swept_pair, pairs_on, pairs_from, pairs_of, groups_at}
-use Rattle.network_lab.specs.Agreements.{AreTogether, IsKeptInGroup, AreAgreeing, AreSweptAlike}
+use Rattle.network_lab.specs.Agreements.{IsKeptInGroup, AreAgreeing, AreSweptAlike}
 use Rattle.network_lab.proofs.StartLemmas.{both-true, has-run, links-in}
 use Rattle.network_lab.proofs.LanLemmas.{swept-is}
 use Rattle.network_lab.proofs.BodyLemmas.{one-body}

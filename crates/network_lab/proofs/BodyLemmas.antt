@@ -1,5 +1,5 @@
 -- What is held live of an LSP ID that isn't doubled has one body.
-use Rattle.std.proofs.Common.{◌≡◌, ℕ, ◌/◌, ◌⊎◌, ⊎_elim, true, false, List, [], ◌∷◌, drop, Some, refl, sym, ap, ◌∙◌, subst}
+use Rattle.std.proofs.Common.{◌≡◌, ℕ, ◌/◌, ⊎_elim, true, false, List, [], ◌∷◌, Some, refl, sym, ap, ◌∙◌, subst}
 use Rattle.isis_base.specs.declared.level.Level.{Level}
 use Rattle.isis_model.specs.Ranks.{is_live, number_of}
 use Rattle.isis_model.specs.Cells.{Cell}
@@ -9,7 +9,7 @@ use Rattle.isis_model.specs.Places.{nth}
 use Rattle.isis_model.specs.Routers.{Contents, Router, book_of}
 use Rattle.own_histories.specs.Sightings.{sighting, sightings_of, doubled_in}
 use Rattle.own_histories.proofs.OnceLemmas.{Has, once-seen, past-here, past-there}
-use Rattle.network_agreement.specs.Origins.{Body, body_of, Among, WasOwned, IsSingle}
+use Rattle.network_agreement.specs.Origins.{Body, Among, IsSingle}
 use Rattle.network_agreement.proofs.OriginLemmas as origin
 use Rattle.network_lab.specs.LabNets.{Seen}
 use Rattle.network_lab.specs.Reached.{HasRun}
@@ -22,7 +22,7 @@ was-seen (r ∷ past) owner level id cell was own at live = ⊎_elim
     (λ (e : owner ≡ r). subst (λ (x : Router). Has (sighting id cell) (sightings_of (x ∷ past) level)) e (past-here past owner level id cell own at live))
     (λ (w : Among owner past). past-there past r level (sighting id cell) (was-seen past owner level id cell w own at live)) was
 
-body-from : Contents → Body
+abbrev body-from : Contents → Body
 body-from c = record { flags = c.flags; tlvs = c.tlvs }
 
 past-single : (past : List Router) (level : Level) (id : ℕ) → contains (doubled_in past level) id ≡ false → IsSingle past level id

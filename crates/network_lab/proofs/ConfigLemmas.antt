@@ -43,7 +43,7 @@ net-config ports ordered a i config new h begun at fit same = record {
     routers = routers_are;
     nothing = s.nothing;
     none = s.none;
-    untaken = s.untaken;
+    unnoted = s.unnoted;
   };
   run = λ e _ _. absurd (let clash : true ≡ false = sym e ∙ begun in cc);
 }

@@ -6,7 +6,6 @@ use Rattle.std.proofs.lemmas.Option.{slice_get-map}
 use Rattle.isis_base.specs.declared.level.Level.{Level}
 use Rattle.isis_base.specs.declared.level.Level.TheVariants as level
 use Rattle.isis_base.specs.declared.level.CircuitKind.{CircuitKind}
-use Rattle.isis_base.specs.declared.identifiers.LspId.{LspId}
 use Rattle.isis_base.specs.Identifiers.{lsp_number}
 use Rattle.isis_pdu.specs.Layout.{kind_of}
 use Rattle.isis_model.specs.declared.drop_name.DropName.{DropName}
@@ -16,7 +15,7 @@ use Rattle.isis_model.specs.Places.{nth}
 use Rattle.isis_model.specs.SnpTable.{SnpEntry, is_missed}
 use Rattle.isis_model.specs.Configs.{Config}
 use Rattle.isis_model.specs.Routers.{Circuit, Router, book_of}
-use Rattle.isis_model.specs.Events.{Message, Refused, PointHelloHeard, LanHelloHeard, LspHeard, SnpHeard, Take, Reply, Outcome}
+use Rattle.isis_model.specs.Events.{Message, Refused, PointHelloHeard, LanHelloHeard, LspHeard, SnpHeard, Take, Reply}
 use Rattle.isis_model.specs.Receiving.{drop_of, take_or_drop, take}
 use Rattle.isis_model.specs.Steps.{step}
 use Rattle.isis_datagram.specs.Reading.{read}
@@ -36,7 +35,7 @@ use Rattle.network_lab.specs.declared.heard_range.CsnpRange.{CsnpRange}
 use Rattle.network_lab.specs.declared.heard_range.HeardRange.{HeardRange}
 use Rattle.network_lab.specs.LabNets.{counts_in, sent_of}
 use Rattle.network_lab.specs.LabTakings.{is_taken, kept_ranges, IsHeard}
-use Rattle.network_lab.specs.Hearing.{range_view, is_unflagged, unflagged_range, IsSnpRun, count_of, at_moment}
+use Rattle.network_lab.specs.Hearing.{range_view, is_unflagged, unflagged_range, count_of, at_moment}
 use Rattle.network_lab.proofs.PlaceLemmas.{some-same, nth-there, nth-slice_get, of-place, to-place}
 
 -- ---- whether a sequence number PDU is dropped

@@ -103,7 +103,7 @@ net-row ports ordered links configs rs ds n ts begun stopped h b = record {
   apart = all-append AreApart links ([] ∷ []) h.apart (tt, tt);
   few = h.few;
   small = h.small;
-  setup = λ e. record { fit = (h.setup e).fit; routers = (h.setup e).routers; nothing = (h.setup e).nothing; none = (h.setup e).none; untaken = (h.setup e).untaken };
+  setup = λ e. record { fit = (h.setup e).fit; routers = (h.setup e).routers; nothing = (h.setup e).nothing; none = (h.setup e).none; unnoted = (h.setup e).unnoted };
   run = λ e _ _. absurd (let clash : true ≡ false = sym e ∙ b in cc);
 }
 
@@ -186,7 +186,7 @@ net-end ports base row configs rs ds n ts begun stopped kind metric i p config h
     routers = routers_are;
     nothing = s.nothing;
     none = s.none;
-    untaken = s.untaken;
+    unnoted = s.unnoted;
   };
   run = λ e _ _. absurd (let clash : true ≡ false = sym e ∙ b in cc);
 }

@@ -146,7 +146,7 @@ net-router ports ordered old config h begun fit bare = record {
     routers = ap (λ (rs : List Router). rs ++ (router_of config ∷ [])) s.routers ∙ sym (map-append router_of old.configs (config ∷ []));
     nothing = s.nothing;
     none = s.none;
-    untaken = s.untaken;
+    unnoted = s.unnoted;
   };
   run = λ e _ _. absurd (let clash : true ≡ false = sym e ∙ begun in cc);
 }

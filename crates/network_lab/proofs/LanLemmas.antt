@@ -1,5 +1,5 @@
 -- Whom the members of LANs see, and which of them are swept.
-use Rattle.std.proofs.Common.{◌≡◌, ℕ, zero, suc, get_or, ◌+◌, ◌-◌, ◌^◌, ◌<◌, ◌≤◌, ◌==◌, ◌&&◌, ◌||◌, ◌⊎◌, inl, inr, nat_lt, not, drop, Bool, true, false, List, [], ◌∷◌, ◌++◌, length, Option, Some, None, Result, Ok, Err, IfSome, OnOk, if◌then◌else◌, refl, sym, ap, ◌∙◌, subst, arith, append_assoc, append-nil}
+use Rattle.std.proofs.Common.{◌≡◌, ℕ, zero, suc, get_or, ◌+◌, ◌-◌, ◌^◌, ◌<◌, ◌≤◌, ◌==◌, ◌&&◌, ◌||◌, ◌⊎◌, inl, inr, nat_lt, not, drop, Bool, true, false, List, [], ◌∷◌, ◌++◌, length, Option, Some, None, Result, Ok, Err, IfSome, OnOk, if◌then◌else◌, refl, sym, ap, ◌∙◌, subst, arith, append_assoc}
 use Rattle.std.specs.List.{AllByRecursion, flat_map}
 use Rattle.std.specs.Option.{IsSome}
 use Rattle.std.specs.Option.{option_map}
@@ -7,22 +7,21 @@ use Rattle.std.proofs.lemmas.Bool.Decides.{nat_tests}
 use Rattle.isis_base.specs.declared.level.Level.{Level}
 use Rattle.isis_base.specs.declared.level.Level.TheVariants as level
 use Rattle.isis_base.specs.declared.identifiers.SystemId.{SystemId}
-use Rattle.isis_datagram.specs.Numbers.{system_id, system_number}
+use Rattle.isis_datagram.specs.Numbers.{system_number}
 use Rattle.isis_model.specs.Places.{nth}
 use Rattle.isis_model.specs.Routers.{Router, book_of}
 use Rattle.network_model.specs.declared.end.End.{End}
 use Rattle.network_model.specs.Networks.{Taking, Network, place_on, place_in}
 use Rattle.network_model.specs.RunLines.{ends_of}
-use Rattle.network_agreement.specs.Sweeps.{IsAt, IsCovering, IsCovered, IsSweptBy}
+use Rattle.network_agreement.specs.Sweeps.{IsCovering, IsCovered, IsSweptBy}
 use Rattle.snp_exchange.specs.Sweeps.{in_range}
-use Rattle.lan_sweeps.specs.declared.key.SweepKey.{SweepKey}
 use Rattle.lan_sweeps.specs.Sweeps.{same_level, is_at, is_covered, is_whole}
 use Rattle.lan_sweeps.proofs.SweepLemmas.{whole-each}
 use Rattle.network_lab.specs.LabNets.{Seen, seen_of}
-use Rattle.network_lab.specs.LanStates.{moment_of, is_counted, swept_between, swept_by, seen_by, sees_at, has_system, router_in, router_among, if_swept, sweeper_at}
-use Rattle.network_lab.specs.LinkStates.{listed, joined_pair, pair_of, joined_by, with_sweeper, swept_pair, pairs_on, pairs_from}
+use Rattle.network_lab.specs.LanStates.{moment_of, is_counted, swept_between, swept_by, seen_by, sees_at, router_among, if_swept, sweeper_at}
+use Rattle.network_lab.specs.LinkStates.{listed, joined_pair, pair_of, joined_by, with_sweeper, swept_pair, pairs_from}
 use Rattle.network_lab.specs.Claims.{IsEndIn}
-use Rattle.network_lab.proofs.PlaceLemmas.{some-same, nth-there, nth-less, of-place}
+use Rattle.network_lab.proofs.PlaceLemmas.{nth-there, nth-less, of-place}
 use Rattle.network_lab.proofs.LinkLemmas.{all-at}
 use Rattle.network_lab.proofs.StateLemmas.{drop-at}
 

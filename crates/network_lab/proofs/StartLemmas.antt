@@ -22,7 +22,7 @@ use Rattle.network_agreement.proofs.OriginLemmas.{start-origins}
 use Rattle.network_agreement.proofs.SweepLemmas.{start-true}
 use Rattle.link_states.specs.LinkStates as link
 use Rattle.link_states.specs.LinkStates.{state_of, no_state}
-use Rattle.network_lab.specs.LabNets.{Seen, LabNet, router_of}
+use Rattle.network_lab.specs.LabNets.{Seen, LabNet, nothing_noted, router_of}
 use Rattle.network_lab.specs.Reached.{AreInRun, HoldNothing, IsReachedNet, HasRun}
 use Rattle.network_lab.specs.LabInside.{AreWired, AreApart, IsFit, IsSetUp, IsNet}
 use Rattle.network_lab.specs.Claims.{AreClaimed, IsEndIn}

@@ -9,6 +9,7 @@ use Rattle.isis_model.specs.Books.{risen}
 use Rattle.isis_model.specs.Routers.{Router}
 use Rattle.isis_model.specs.Events.{Event, Second, Pull}
 use Rattle.isis_model.specs.Steps.{step}
+use Rattle.router_desk.specs.declared.circuit_config.CircuitConfig.{CircuitConfig}
 use Rattle.router_desk.specs.declared.config.Config.{Config}
 use Rattle.isis_model.specs.Maps.{find}
 use Rattle.router_desk.specs.Configs.{prefix_number}
@@ -29,7 +30,7 @@ use Rattle.network_lab.specs.declared.event.LabEvent.TheVariants as event
 use Rattle.network_lab.specs.declared.faults.LabFault.{LabFault}
 use Rattle.network_lab.specs.declared.faults.LabFault.TheVariants as fault
 use Rattle.network_lab.specs.declared.faults.LimitName.TheVariants as limit
-use Rattle.network_lab.specs.LabNets.{Seen, LabNet, sent_of, seen_of}
+use Rattle.network_lab.specs.LabNets.{Seen, LabNet, sent_of, seen_of, at_circuit}
 use Rattle.network_lab.specs.LabConfigs.{config_after, changed_at, configs_after}
 use Rattle.network_lab.specs.LabEvents.{refusal, after, unless_changes, change_of}
 use Rattle.network_lab.specs.LabCauses.{IsStop}
@@ -392,6 +393,32 @@ pub change-stops : (old new : LabNet) (i : ℕ) (c : Change) (r : Router) (res :
 change-stops old new i c r res q h bad is =
     Stopped fault.OutOfMemory bad (ap (λ (a : LabNet). a.stopped) is) (record { links = ap (λ (a : LabNet). a.seen.links) is; routers = ap (λ (a : LabNet). length a.seen.routers) is })
     (λ net s. ((change-done old.seen i c r q h net s.seen).0, tt))
+
+-- a change leaves the circuits, and what is taken the configurations
+at-count : (f : CircuitConfig → CircuitConfig) (place : ℕ) (circuits : List CircuitConfig) (o : Option CircuitConfig) → length (at_circuit f place circuits o) ≡ length circuits
+at-count f place circuits None = refl
+at-count f place circuits (Some c) = length-with circuits place (f c)
+
+same-circuits : (c : Change) (config : Config) → length (config_after c config).circuits ≡ length config.circuits
+same-circuits (change.Metric circuit metric) config = at-count (λ c. record c { metric = metric }) (circuit - 1) config.circuits (nth config.circuits (circuit - 1))
+same-circuits (change.Prefix prefix metric) config = refl
+same-circuits (change.Overload on) config = refl
+
+pub record IsTakenBeside (old mid : LabNet) (i : ℕ) (changed : Config) : Type 0 where
+  pub begun : mid.begun ≡ true
+  pub there : i < length mid.configs
+  pub circuits : IfSome (nth mid.configs i) (λ (c : Config). length changed.circuits ≡ length c.circuits)
+
+pub taken-beside : (old mid : LabNet) (i : ℕ) (c : Change) (config changed : Config) (r : Router) → nth old.seen.routers i ≡ Some r → nth old.configs i ≡ Some config → changed ≡ config_after c config
+    → IfSome (nth old.seen.routers i) (λ r. Taken old mid (moved_in old.seen i None (core.change_of c) r None) (Ok tt)) → IsTakenBeside old mid i changed
+taken-beside old mid i c config changed r q at is t =
+    let taken : Taken old mid (moved_in old.seen i None (core.change_of c) r None) (Ok tt) = of-place (λ r. Taken old mid (moved_in old.seen i None (core.change_of c) r None) (Ok tt)) (nth old.seen.routers i) r q t in
+    let same : mid.configs ≡ old.configs = ap (λ (a : LabNet). a.configs) taken.done in
+    record {
+      begun = ap (λ (a : LabNet). a.begun) taken.done;
+      there = subst (λ (cs : List Config). i < length cs) (sym same) (nth-less old.configs i config at);
+      circuits = to-place (λ (x : Config). length changed.circuits ≡ length x.circuits) (nth mid.configs i) config (ap (λ (cs : List Config). nth cs i) same ∙ at) (ap (λ (x : Config). length x.circuits) is ∙ same-circuits c config);
+    }
 
 -- ---- what an answer is made of
 

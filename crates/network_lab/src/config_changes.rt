@@ -12,11 +12,7 @@ use router_desk::{Change, Config, Prefixes};
 use std::alloc::Global;
 
 /// A configuration after a change.
-pub(crate) fn changed(
-    alloc: Global,
-    config: &Config,
-    change: Change,
-) -> Result<Config, OutOfMemory>
+pub(crate) fn changed(alloc: Global, config: &Config, change: Change) -> Result<Config, OutOfMemory>
     ensures { IfOk result (λ new. new ≡ config_after change config.now) }
 {
     let mut copy = config.copy()?;
@@ -71,11 +67,7 @@ fn set_prefix(
 }
 
 /// Adds a prefix, where it has a metric.
-fn add_metric(
-    kept: &mut Prefixes,
-    prefix: Prefix,
-    metric: Option<u32>,
-) -> Result<(), OutOfMemory>
+fn add_metric(kept: &mut Prefixes, prefix: Prefix, metric: Option<u32>) -> Result<(), OutOfMemory>
     ensures { OnOk result (kept.new ≡ kept.old ++ after.with_metric_of prefix metric) }
 {
     match metric {

@@ -1,4 +1,4 @@
-use Rattle.std.proofs.Common.{◌≡◌, List, Option, Some, sym, ap, ◌∙◌}
+use Rattle.std.proofs.Common.{List, Option, Some, sym, ap, ◌∙◌}
 use Rattle.isis_base.specs.declared.entry.LspEntry.{LspEntry}
 use Rattle.isis_base.specs.declared.identifiers.LspId.{LspId}
 use Rattle.isis_base.specs.Identifiers.{lsp_number}

@@ -1,9 +1,8 @@
-use Rattle.std.proofs.Common.{◌≡◌, ◌-◌, ℕ, Result, Ok, Some, sym, ap, ◌∙◌, subst}
+use Rattle.std.proofs.Common.{◌-◌, ℕ, sym, ap, ◌∙◌}
 use Rattle.isis_pdu.specs.Views.{pdu_view}
 use Rattle.isis_model.specs.Places.{nth}
-use Rattle.isis_model.specs.Routers.{Circuit}
 use Rattle.router_desk.specs.Desks.{desk_of}
-use Rattle.router_desk.specs.Opening.{SeenView, seen_view, seen_at, message_of}
+use Rattle.router_desk.specs.Opening.{SeenView, seen_view, message_of}
 use Rattle.network_lab.proofs.HearLemmas.{lan-at, level-run, pdu-heard}
 use Rattle.network_lab.proofs.hearing.unflagged_in.Goals as goal
 
