@@ -1,7 +1,7 @@
 //! Lines of reports, as far as each is known from the rules alone: two areas, elections and lists of LANs, what lags a second, more
-//! neighbours than a LAN has room for, and how often a router's distances were repaired.
+//! neighbours than a LAN has room for, how often a router's distances were repaired, and the network at a script's end.
 use super::ends;
-use crate::{Script, read_script, run_script};
+use crate::{Reason, RunFault, Script, play_script, read_script, run_script};
 use isis_base::{Level, Octets};
 use isis_edge::MemorySink;
 use lab_play::play;
@@ -254,4 +254,38 @@ fn repairs(alloc: Global, text: &str, router: usize) -> Option<u64> {
         return None;
     }
     Some(net.router(router).repaired(Level::One)?.changes())
+}
+
+/// A script's text, and how many datagrams its network has sent at its end, or why there is none.
+const PLAYED: [(&str, Result<usize, RunFault>); 2] = [
+    (LINKED, Ok(14)),
+    (
+        "isis-lab 1\nrouter A 0000.0000.0001 49.0001 L1\ndeliver 1 A\n",
+        Err(RunFault::Refused {
+            line: 3,
+            reason: Reason::NotSent,
+        }),
+    ),
+];
+
+#[test]
+fn a_script_is_played(rt: HostRuntime) -> Result<(), Fail> {
+    for (text, end) in PLAYED {
+        assert!(rt; is_played(rt.alloc(), text, end), "{text}");
+    }
+    Ok(())
+}
+
+/// Whether a text is a lab script that is played to this end.
+fn is_played(alloc: Global, text: &str, end: Result<usize, RunFault>) -> bool {
+    let Ok(script) = read_script(alloc, text.as_bytes()) else {
+        return false;
+    };
+    if !script.is_lab() {
+        return false;
+    }
+    match play_script(alloc, &script) {
+        Ok(net) => end == Ok(net.datagrams()),
+        Err(fault) => end == Err(fault),
+    }
 }
