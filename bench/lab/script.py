@@ -8,6 +8,7 @@ usage: script.py grid N          N x N routers of level 1, each with a prefix, `
        script.py wide N         1,024 routers and 4,089 links; one takes the same hello N times
        script.py lan N          one LAN of N routers of level 1, `run 60`
        script.py ring N         16 LANs of N routers in a ring: the last router of each is the first of the next, `run 60`
+       script.py levels N       N areas of 8 routers on a LAN, two of them of both levels, one of which leaks; a ring of links and a LAN join the areas; `run 60`
        script.py agreed N       the 1,024 routers and 4,089 links, N seconds of level 1
        script.py refused N       the text of `hellos`, but its first event line is refused, so that it is read and nothing is played
 """
@@ -73,6 +74,23 @@ def ring(n):
     yield "run 60\n"
 
 
+def levels(n):
+    areas = range(1, n + 1)
+    for area in areas:
+        for router in range(8):
+            kind = ["L1L2 leak", "L1L2"][router] if router < 2 else "L1"
+            yield f"router r{area}x{router} 0000.{area:04x}.{router + 1:04x} 49.{area:04x} {kind}\n"
+    for area in areas:
+        yield f"lan n{area} 10 " + " ".join(f"r{area}x{router}" for router in range(8)) + "\n"
+    for area in areas:
+        yield f"link l{area} r{area}x0 r{area % n + 1}x0 20\n"
+    yield "lan backbone 10 " + " ".join(f"r{area}x1" for area in areas) + "\n"
+    for area in areas:
+        for router in range(8):
+            yield f"prefix r{area}x{router} 10.{area}.{router}.0/24 10\n"
+    yield "run 60\n"
+
+
 def wide_links():
     yield from router_lines(1024)
     for step in range(1, 5):
@@ -99,7 +117,7 @@ def refused(n):
 
 def main():
     kind, count = sys.argv[1:]
-    made = {"grid": grid, "datagrams": datagrams, "seconds": seconds, "hellos": hellos, "wide": wide, "lan": lan, "ring": ring, "agreed": agreed, "refused": refused}[kind]
+    made = {"grid": grid, "datagrams": datagrams, "seconds": seconds, "hellos": hellos, "wide": wide, "lan": lan, "ring": ring, "levels": levels, "agreed": agreed, "refused": refused}[kind]
     sys.stdout.write("isis-lab 1\n")
     sys.stdout.writelines(made(int(count)))
 

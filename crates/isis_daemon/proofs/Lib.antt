@@ -1,2 +1,3 @@
 mod GridLemmas
+pub mod HeadlineLemmas
 pub mod ShowLemmas

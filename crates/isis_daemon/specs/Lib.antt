@@ -1,5 +1,6 @@
 pub mod Commands
 pub mod GridEnds
+pub mod Headline
 pub mod Runs
 pub mod ShowText
 pub mod ShownLeft

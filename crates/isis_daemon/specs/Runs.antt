@@ -5,7 +5,6 @@ use Rattle.lab_script.specs.declared.reason.ScriptFault.{ScriptFault}
 use Rattle.lab_script.specs.declared.reason.ScriptFault.TheVariants.{Refused, Limit}
 use Rattle.lab_script.specs.Scripts.{◌>>=◌, script_of}
 use Rattle.lab_text.specs.Runs.{IsReport, outcome_of, WrotePart}
-use Rattle.lab_text.specs.Claimed.{IsClaimedScript}
 use Rattle.isis_daemon.specs.declared.command.Command.{Command}
 use Rattle.isis_daemon.specs.declared.command.Command.TheVariants.{Lab, Show}
 use Rattle.isis_daemon.specs.declared.status.Status.{Status}
@@ -53,10 +52,6 @@ Ends command input left before now (status.LabLimit which) =
     (command ≡ Lab)
     × IfSome input (λ octets. IsReadWhole octets left
     × (outcome command octets ≡ Err (Limit which))) × TellsSame before now
-
--- of the script that an input is read as, the claim of links after each of its events
-abbrev pub IsClaimedInput : List ℕ → Type 0
-IsClaimedInput input = IsOkAnd (script_of input) IsClaimedScript
 
 -- an input that a command takes to its end
 abbrev pub IsTaken : Command → List ℕ → Type 0

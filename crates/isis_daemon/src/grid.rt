@@ -1,8 +1,9 @@
 //! The run of a grid.
 ghost use Rattle.std.specs.Prelude.{◌≡◌, ◌≤◌, IsOk};
 ghost use Rattle.isis_edge.specs.Faults.{Rose};
-ghost use Rattle.lab_grid.specs.GridRuns.{grid_end, IsClaimedGrid};
+ghost use Rattle.lab_grid.specs.GridRuns.{grid_end};
 ghost use Rattle.isis_daemon.specs.GridEnds.{GridEnds};
+ghost use Rattle.isis_daemon.specs.Headline.{IsGridHeadline};
 ghost use Rattle.isis_daemon.specs.Runs.{IsDoneUnlessMemory};
 
 use crate::status::Status;
@@ -10,12 +11,14 @@ use isis_edge::Sink;
 use lab_grid::{run_grid, write_summary};
 use std::alloc::Global;
 
-/// Runs the grid of `size` rows and as many columns, and writes its summary.
+/// Runs the grid of `size` rows and as many columns, and writes its summary. At `Status::Done` the headline holds of
+/// the grid's script.
 pub(crate) fn grid<O: Sink>(alloc: Global, size: u8, output: &mut O) -> Status
     requires some { 1 ≤ size }
     requires few { size ≤ 8 }
     ensures ends { GridEnds size (O.held output.old) (O.held output.new) result }
-    ensures claimed { result ≡ Status.Done → IsClaimedGrid size }
+    ensures headline { result ≡ Status.Done
+        → IsGridHeadline size (O.held output.old) (O.held output.new) }
     ensures write_fault { result ≡ Status.WriteFault
         → Rose (O.faults output.old) (O.faults output.new) }
     ensures complete { IsOk (grid_end size) → ¬ Rose (O.faults output.old) (O.faults output.new)

@@ -2,10 +2,11 @@
 ghost use Rattle.std.specs.Prelude.{◌≡◌, ◌≤◌, [], length, map, Some, None, string_bytes, IfSome, IsOk, IsSomeAnd, ◌↔◌};
 ghost use Rattle.isis_edge.specs.Faults.{Rose};
 ghost use Rattle.isis_edge.specs.Told.{TellsSame};
-ghost use Rattle.lab_grid.specs.GridRuns.{grid_end, IsClaimedGrid};
+ghost use Rattle.lab_grid.specs.GridRuns.{grid_end};
 ghost use Rattle.isis_daemon.specs.Commands.{command_of, grid_size_of, AreNone};
 ghost use Rattle.isis_daemon.specs.GridEnds.{GridEnds};
-ghost use Rattle.isis_daemon.specs.Runs.{input_limit, Ends, IsClaimedInput, IsTaken, IsDoneUnlessMemory};
+ghost use Rattle.isis_daemon.specs.Headline.{IsHeadline, IsGridHeadline};
+ghost use Rattle.isis_daemon.specs.Runs.{input_limit, Ends, IsTaken, IsDoneUnlessMemory};
 
 use crate::command::{Command, command_of, grid_size_of};
 use crate::grid::grid;
@@ -17,9 +18,16 @@ use std::alloc::Global;
 
 /// Runs the program: the words after its name, its input and its output, which is handed back. The words are
 /// tested first, then the input is read. Of `lab` it is a script, which is read and played, and at last the report is
-/// written; of `show` it is shown line by line. At `lab` and status 0 the claim of links held after each event of the
-/// script (ISO 10589 7.3.17), where nothing was injected; the report's numbers of links that are up say so too.
-/// At `grid N` no input is read: the script of a grid is run, with the same claim, and its summary is written.
+/// written; of `show` it is shown line by line. At `grid N` no input is read: the script of a grid is run, and its
+/// summary is written.
+///
+/// At `lab` and status 0 the headline holds (ISO 10589 7.3.15 to 7.3.17, RFC 5302 3.2). After each event of the script,
+/// where nothing was injected: on each point-to-point link that is up each end names the other, and of what neither let go
+/// an LSP held at one end is at the other as new or newer, or its SRM flag stands; routers that links without flags and
+/// swept LANs join hold the same live LSPs, of what none of them let go, and so does a member of a LAN with the router
+/// that sweeps it, whatever they let go; and what is held under one number has the same contents, unless the LSP ID is
+/// doubled. Each `route` line is the best route over that router's own databases. At `grid N` and status 0 the same
+/// holds of the grid's script.
 pub fn run<I: Source, O: Sink>(
     alloc: Global,
     words: &[String],
@@ -31,9 +39,9 @@ pub fn run<I: Source, O: Sink>(
         → (I.left input.new ≡ I.left input.old) × (I.faults input.new ≡ I.faults input.old) × (result.0 ≡ output) }
     ensures ends { IfSome (command_of (map string_bytes words.now))
         (λ command. Ends command (I.left input.old) (I.left input.new) (O.held output) (O.held result.0) result.1) }
-    ensures claimed { result.1 ≡ Status.Done
+    ensures headline { result.1 ≡ Status.Done
         → command_of (map string_bytes words.now) ≡ Some Command.Lab
-        → IfSome (I.left input.old) IsClaimedInput }
+        → IfSome (I.left input.old) (λ octets. IsHeadline octets (O.held output) (O.held result.0)) }
     ensures read_fault { result.1 ≡ Status.ReadFault
         → Rose (I.faults input.old) (I.faults input.new) }
     ensures write_fault { result.1 ≡ Status.WriteFault
@@ -48,8 +56,9 @@ pub fn run<I: Source, O: Sink>(
         (λ size. GridEnds size (O.held output) (O.held result.0) result.1) }
     ensures grid_unread { IfSome (grid_size_of (map string_bytes words.now))
         (λ _. (I.left input.new ≡ I.left input.old) × (I.faults input.new ≡ I.faults input.old)) }
-    ensures grid_claimed { result.1 ≡ Status.Done
-        → IfSome (grid_size_of (map string_bytes words.now)) IsClaimedGrid }
+    ensures grid_headline { result.1 ≡ Status.Done
+        → IfSome (grid_size_of (map string_bytes words.now))
+        (λ size. IsGridHeadline size (O.held output) (O.held result.0)) }
     ensures grid_complete { IfSome (grid_size_of (map string_bytes words.now))
         (λ size. IsOk (grid_end size) → ¬ Rose (O.faults output) (O.faults result.0)
         → IsDoneUnlessMemory result.1) }
@@ -75,8 +84,9 @@ pub(crate) fn execute<I: Source, O: Sink>(
 ) -> Status
     ensures ends { Ends command (I.left input.old) (I.left input.new) (O.held output.old)
         (O.held output.new) result }
-    ensures claimed { result ≡ Status.Done → command ≡ Command.Lab
-        → IfSome (I.left input.old) IsClaimedInput }
+    ensures headline { result ≡ Status.Done → command ≡ Command.Lab
+        → IfSome (I.left input.old)
+        (λ octets. IsHeadline octets (O.held output.old) (O.held output.new)) }
     ensures read_fault { result ≡ Status.ReadFault
         → Rose (I.faults input.old) (I.faults input.new) }
     ensures write_fault { result ≡ Status.WriteFault
@@ -102,7 +112,8 @@ fn lab<O: Sink>(alloc: Global, text: &[u8], output: &mut O) -> Status
     requires { length text.now ≤ input_limit }
     ensures ends { Ends Command.Lab (Some text.now) (Some []) (O.held output.old)
         (O.held output.new) result }
-    ensures claimed { result ≡ Status.Done → IsClaimedInput text.now }
+    ensures headline { result ≡ Status.Done
+        → IsHeadline text.now (O.held output.old) (O.held output.new) }
     ensures read { ¬ (result ≡ Status.ReadFault) }
     ensures write_fault { result ≡ Status.WriteFault
         → Rose (O.faults output.old) (O.faults output.new) }

@@ -68,7 +68,7 @@ Sums size end (Err OutOfMemory) = Unit {0}
 Sums size end (Err (Refused line reason)) = end ≡ Err (Refused line reason)
 Sums size end (Err (Limit which)) = end ≡ Err (Limit which)
 
--- the claim of links, after each event of a lab script
+-- the claims on links, groups, sweeps and contents, after each event of a lab script
 abbrev pub IsClaimedIn : Script → Type 0
 IsClaimedIn (Keys script) = ⊥
 IsClaimedIn (Lab script) = IsClaimedRun script

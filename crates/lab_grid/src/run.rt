@@ -16,7 +16,8 @@ use network_lab::Network;
 use std::alloc::Global;
 
 /// Runs the script of a grid of `size` rows and as many columns, 1 to 8, and sums up the network at its end. What is refused
-/// is told as of the script. At Ok the claim of links held after each of its events (ISO 10589 7.3.17).
+/// is told as of the script. At Ok the claims on links, groups, sweeps and contents held after each of its events, as
+/// `lab_play::play` says them (ISO 10589 7.3.17).
 pub fn run_grid(alloc: Global, size: u8) -> Result<Summary, ScriptFault>
     requires some { 1 ≤ size }
     requires few { size ≤ 8 }

@@ -51,10 +51,10 @@ start_of script = opened (laid_out script)
 unfoldable pub script_events : LabScript → List Happening
 script_events script = lines_events (start_of script) script.lines
 
--- After each event of a script, and before the first, the claim of each point-to-point link that is
--- up holds: each end names the other, and what one end holds the other holds as new or newer, or its
--- SRM flag stands. The events lead to the network that is reported; and of that no link that is up
--- has an end ahead in more LSP IDs than its flags. All where nothing was injected so far (own).
+-- After each event of a script, and before the first, the claims hold on links that are up, on groups,
+-- on members of LANs and those that sweep them, and on the contents held under one number. The events
+-- lead to the network that is reported; and of that no link that is up has an end ahead in more LSP IDs
+-- than its flags. All where nothing was injected so far (own).
 pub record IsClaimedRun (script : LabScript) : Type 0 where
   pub each : (first rest : List Happening) → script_events script ≡ first ++ rest
       → IsClaimed (seen_of (run given (start_of script) first))

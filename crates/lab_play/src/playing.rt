@@ -24,9 +24,18 @@ use router_desk::Change;
 use std::alloc::Global;
 
 /// The network at the end of a lab script. The first line whose event is refused, or which passes
-/// a limit, is told. At Ok the claim of links holds after each event of the script (ISO 10589
-/// 7.3.17): each end of a link that is up names the other, and what one end holds the other holds as
-/// new or newer, or its SRM flag stands.
+/// a limit, is told. At Ok the claims hold after each event of the script, where nothing was injected
+/// (ISO 10589 7.3.15.2, 7.3.17):
+///
+/// - links: each end of a link that is up names the other, and what one end holds the other holds as
+///   new or newer, or its SRM flag stands;
+/// - groups: routers that links without flags and swept LANs join hold the same live LSPs;
+/// - sweeps: a member of a LAN holds the same live LSPs as the router by which it is swept;
+/// - contents: what two routers hold live of one LSP ID under one number is the same, unless the LSP
+///   ID is doubled.
+///
+/// The claims on links and on groups speak of LSP IDs that neither end, or no router of the group, let
+/// go; the other two of all.
 pub fn play(alloc: Global, script: &LabScript<'_>) -> Result<Network, ScriptFault>
     ensures value { Played result (end_of script.now) }
     ensures laid { IfOk result (λ net.

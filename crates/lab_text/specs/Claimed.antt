@@ -3,7 +3,8 @@ use Rattle.lab_script.specs.declared.script.Script.{Script}
 use Rattle.lab_script.specs.declared.script.Script.TheVariants.{Keys, Lab}
 use Rattle.lab_play.specs.Claimed.{IsClaimedRun}
 
--- of a lab script the claim of links, after each of its events; of a keys script nothing
+-- of a lab script the claims on links, groups, sweeps and contents, after each of its events; of a keys
+-- script nothing
 abbrev pub IsClaimedScript : Script → Type 0
 IsClaimedScript (Keys script) = Unit {0}
 IsClaimedScript (Lab script) = IsClaimedRun script

@@ -4,11 +4,13 @@ use Rattle.route_table.specs.declared.route.Route.{Route}
 use Rattle.network_model.specs.Networks.{Network}
 use Rattle.network_lab.specs.LabNets.{Seen, LabNet, seen_of}
 use Rattle.lab_script.specs.declared.reason.ScriptFault.{ScriptFault}
-use Rattle.lab_script.specs.declared.reason.ScriptFault.TheVariants.{Refused, Limit, OutOfMemory}
+use Rattle.lab_script.specs.declared.reason.ScriptFault.TheVariants.{Refused, Limit}
 use Rattle.lab_script.specs.LabScripts.{LabScript, router_names, link_names}
 use Rattle.lab_script.specs.Scripts.{◌>>=◌}
 use Rattle.lab_report.specs.Reports.{AreAllRoutes, report_text}
 use Rattle.lab_play.specs.LabRuns.{end_of, dumps_of}
+use Rattle.lab_text.specs.declared.fault.RunFault.{RunFault}
+use Rattle.lab_text.specs.declared.fault.RunFault.TheVariants as run
 
 -- the report of what is seen of a network by a script's names, with these routes of its routers and
 -- the datagrams that its lines tell
@@ -30,9 +32,10 @@ abbrev pub lab_outcome : LabScript → Result (Unit {0}) ScriptFault
 lab_outcome script = end_of script >>= λ net. Ok tt
 
 -- a network is seen as the one at the end of the script is, unless there was no memory for it
-abbrev pub Tells : LabScript → Result LabNet ScriptFault → Type 0
+abbrev pub Tells : LabScript → Result LabNet RunFault → Type 0
 Tells script (Ok net) =
     (end : Network) × (end_of script ≡ Ok end) × (seen_of end ≡ net.seen)
-Tells script (Err OutOfMemory) = Unit {0}
-Tells script (Err (Refused line reason)) = lab_outcome script ≡ Err (Refused line reason)
-Tells script (Err (Limit which)) = lab_outcome script ≡ Err (Limit which)
+Tells script (Err run.OutOfMemory) = Unit {0}
+Tells script (Err run.Write) = ⊥
+Tells script (Err (run.Refused line reason)) = lab_outcome script ≡ Err (Refused line reason)
+Tells script (Err (run.Limit which)) = lab_outcome script ≡ Err (Limit which)

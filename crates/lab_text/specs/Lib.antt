@@ -6,4 +6,5 @@ pub mod ReportLeft
 pub mod RunFaults
 pub mod Runs
 pub mod LabReports
+pub mod Playing
 pub mod Claimed

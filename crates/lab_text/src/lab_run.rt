@@ -1,6 +1,7 @@
 //! The run of a lab script.
 ghost use Rattle.std.specs.Prelude.{◌≡◌, ◌≤◌, ◌++◌, ℕ, List, length, map, Err, IfOk, OnOk};
 ghost use Rattle.isis_edge.specs.Faults.{Rose};
+ghost use Rattle.lab_script.specs.declared.script.Script.TheVariants.{Lab};
 ghost use Rattle.lab_script.specs.LabScripts.{router_names, link_names};
 ghost use Rattle.lab_script.specs.Words.{texts};
 ghost use Rattle.lab_report.specs.ReportLeft.{routes_of, lines_left};
@@ -12,35 +13,37 @@ ghost use Rattle.lab_text.specs.LabReports.{IsLabReport, lab_outcome, report_by,
 ghost use Rattle.lab_text.specs.Runs.{ReportEnds};
 
 use crate::fault::RunFault;
+use crate::playing::play_script;
 use isis_base::OutOfMemory;
 use isis_edge::{Sink, TextFailed, write_text};
-use lab_play::play;
 use lab_report::LabReport;
-use lab_script::{LabDeed, LabLine, LabScript, ScriptFault};
+use lab_script::{LabDeed, LabLine, LabScript, Script};
 use network_lab::Network;
 use std::alloc::Global;
 
 /// Plays a lab script and writes its whole report.
 pub(crate) fn run_lab<O: Sink>(
     alloc: Global,
-    script: &LabScript<'_>,
+    script: &Script<'_>,
+    lab: &LabScript<'_>,
     out: &mut O,
 ) -> Result<(), RunFault>
-    ensures ends { ReportEnds (IsLabReport script.now) (lab_outcome script.now) (O.held out.old)
+    requires same { script.now ≡ Lab lab.now }
+    ensures ends { ReportEnds (IsLabReport lab.now) (lab_outcome lab.now) (O.held out.old)
         (O.held out.new) result }
-    ensures claimed { OnOk result (IsClaimedRun script.now) }
+    ensures claimed { OnOk result (IsClaimedRun lab.now) }
     ensures cause { result ≡ Err RunFault.Write → Rose (O.faults out.old) (O.faults out.new) }
     ensures later { O.faults out.old ≤ O.faults out.new }
 {
-    let net = match play_lab(alloc, script) {
+    let net = match play_lab(alloc, script, lab) {
         Ok(net) => net,
-        Err(fault) => return Err(RunFault::from(fault)),
+        Err(fault) => return Err(fault),
     };
-    let dumps = match dumps_of(alloc, script) {
+    let dumps = match dumps_of(alloc, lab) {
         Ok(dumps) => dumps,
         Err(OutOfMemory) => return Err(RunFault::OutOfMemory),
     };
-    let mut report = match begin(alloc, &net, script, &dumps) {
+    let mut report = match begin(alloc, &net, lab, &dumps) {
         Ok(report) => report,
         Err(OutOfMemory) => return Err(RunFault::OutOfMemory),
     };
@@ -51,15 +54,16 @@ pub(crate) fn run_lab<O: Sink>(
     }
 }
 
-/// The network at the end of a lab script.
-fn play_lab(alloc: Global, script: &LabScript<'_>) -> Result<Network, ScriptFault>
-    ensures tells { Tells script.now result }
-    ensures claimed { OnOk result (IsClaimedRun script.now) }
+/// The network at the end of a lab script, said of what the script's lines say.
+fn play_lab(alloc: Global, script: &Script<'_>, lab: &LabScript<'_>) -> Result<Network, RunFault>
+    requires same { script.now ≡ Lab lab.now }
+    ensures tells { Tells lab.now result }
+    ensures claimed { OnOk result (IsClaimedRun lab.now) }
     ensures routers { IfOk result (λ net.
-        length net.seen.routers ≡ length script.now.routers) }
-    ensures links { IfOk result (λ net. net.seen.links ≡ map ends_of script.now.links) }
+        length net.seen.routers ≡ length lab.now.routers) }
+    ensures links { IfOk result (λ net. net.seen.links ≡ map ends_of lab.now.links) }
 {
-    play(alloc, script)
+    play_script(alloc, script)
 }
 
 /// The report of a network that a script laid out, of which nothing is written yet.

@@ -20,10 +20,20 @@ use network_lab::{KeyNet, LabFault};
 use std::alloc::Global;
 
 /// Runs a script and writes its whole report. Nothing is written before the run has come to its end.
-/// At Ok, of a lab script, the claim of links held after each of its events (ISO 10589 7.3.17): each
-/// end of a link that is up names the other, and what one end holds the other holds as new or newer,
-/// or its SRM flag stands; so in each line `link .. up flags F G ahead P Q` P is at most F and Q at
-/// most G. All where nothing was injected.
+/// At Ok, of a lab script, the claims held after each of its events, where nothing was injected
+/// (ISO 10589 7.3.15.2, 7.3.17):
+///
+/// - links: each end of a link that is up names the other, and what one end holds the other holds as
+///   new or newer, or its SRM flag stands; so in each line `link .. up flags F G ahead P Q` P is at
+///   most F and Q at most G;
+/// - groups: routers of one group of `agree` hold the same live LSPs;
+/// - sweeps: a member of a LAN whose line says `swept yes` holds the same live LSPs as the system that
+///   it sees;
+/// - contents: what two routers hold live of one LSP ID under one number is the same, unless a line
+///   `doubled` names the LSP ID.
+///
+/// The claims on links and on groups speak of LSP IDs that neither end, or no router of the group, let
+/// go; the other two of all.
 pub fn run_script<O: Sink>(alloc: Global, script: &Script<'_>, out: &mut O) -> Result<(), RunFault>
     ensures ends { RunEnds script.now (O.held out.old) (O.held out.new) result }
     ensures claimed { OnOk result (IsClaimedScript script.now) }
@@ -31,8 +41,8 @@ pub fn run_script<O: Sink>(alloc: Global, script: &Script<'_>, out: &mut O) -> R
     ensures later { O.faults out.old ≤ O.faults out.new }
 {
     match script {
-        Script::Keys(script) => run_keys(alloc, script, out),
-        Script::Lab(script) => run_lab(alloc, script, out),
+        Script::Keys(keys) => run_keys(alloc, keys, out),
+        Script::Lab(lab) => run_lab(alloc, script, lab, out),
     }
 }
 

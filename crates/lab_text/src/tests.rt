@@ -1,5 +1,6 @@
 //! What no clause says: worked scripts, and each call once with ample memory.
 mod labs;
+mod parts;
 
 use super::*;
 use isis_base::Level;
