@@ -1,3 +1,4 @@
+-- The lemmas, a module for each topic.
 pub mod DeskLemmas
 pub mod HistoryLemmas
 pub mod HexLemmas

@@ -1,3 +1,4 @@
+-- The definitions: history, told, answered, turns, shared, sharing, journal text, line rests.
 pub mod History
 pub mod Told
 pub mod Answered

@@ -1,3 +1,4 @@
+-- The lemmas, a module for each topic.
 pub mod HeaderLemmas
 pub mod CellLemmas
 pub mod BookLemmas

@@ -1,3 +1,5 @@
+-- The definitions: flag rows, heard, known, entries, book states, deeds, circuits, walks, marks,
+-- ages, said.
 pub mod FlagRows
 pub mod Heard
 pub mod Known

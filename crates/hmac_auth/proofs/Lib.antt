@@ -1,3 +1,4 @@
+-- The lemmas, a module for each topic.
 pub mod HmacLemmas
 pub mod CompareLemmas
 pub mod MessageLemmas

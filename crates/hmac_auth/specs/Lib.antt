@@ -1,3 +1,4 @@
+-- The definitions: HMAC, PDUs, auth, faults.
 pub mod Hmac
 pub mod Pdus
 pub mod Auth

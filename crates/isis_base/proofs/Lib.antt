@@ -1,3 +1,4 @@
+-- The lemmas, a module for each topic.
 pub mod AreaLemmas
 pub mod ArrayLemmas
 pub mod KeyLemmas

@@ -1,3 +1,5 @@
+-- The definitions: areas, area texts, fields, identifiers, keys, lending, levels, octets, texts,
+-- misfit, prefixes, prefix fronts, prefix texts, PDU kinds.
 pub mod Areas
 pub mod AreaTexts
 pub mod Fields

@@ -1,3 +1,4 @@
+-- The definitions: commands, grid ends, headline, runs, show text, shown left, statuses.
 pub mod Commands
 pub mod GridEnds
 pub mod Headline

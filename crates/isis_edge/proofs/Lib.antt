@@ -1,2 +1,3 @@
+-- The lemmas, a module for each topic.
 pub mod ToldLemmas
 mod FrameLemmas

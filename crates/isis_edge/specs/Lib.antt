@@ -1,3 +1,4 @@
+-- The definitions: faults, frames, memory, sinks, sources, told, texts.
 pub mod Faults
 pub mod Frames
 pub mod Memory

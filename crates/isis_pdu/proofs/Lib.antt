@@ -1,3 +1,4 @@
+-- The lemmas, a module for each topic.
 pub mod ReadLemmas
 pub mod RoundLemmas
 pub mod FrameLemmas

@@ -1,3 +1,4 @@
+-- The definitions: views, layout, table, reading, decoded, spelling, faults.
 pub mod Views
 pub mod Layout
 pub mod Table

@@ -1,3 +1,4 @@
+-- The definitions: walks, TLVs, TLV views, items, takes, spelling, fits, framed, faults.
 pub mod Walks
 pub mod Tlvs
 pub mod TlvViews

@@ -1,1 +1,2 @@
+-- The definitions: checksum.
 pub mod Checksum

@@ -1,3 +1,4 @@
+-- The definitions: grid lines, grid runs, grid text, summary text, tallies.
 pub mod GridLines
 pub mod GridRuns
 pub mod GridText

@@ -1,2 +1,3 @@
+-- The lemmas, a module for each topic.
 mod EndLemmas
 mod ReportLemmas

@@ -1,3 +1,7 @@
+-- The definitions: counts, cuts, fault texts, fields, forms, gives, hex texts, index, keys
+-- judged, keys lines, keys scripts, keys sound, lab fields, lab judged, lab lines, lab link
+-- index, lab printed, lab scripts, lab sound, links, link index, names, printed, reasons, router
+-- index, scripts, words.
 pub mod Counts
 pub mod Cuts
 pub mod FaultTexts

@@ -1,3 +1,4 @@
+-- The lemmas, a module for each topic.
 pub mod PlayLemmas
 pub mod SoundLemmas
 pub mod LayLemmas

@@ -1,3 +1,5 @@
+-- The definitions: fault texts, keys in net, keys report, keys runs, report left, run faults,
+-- runs, lab reports, playing, claimed.
 pub mod FaultTexts
 pub mod KeysInNet
 pub mod KeysReport

@@ -1,3 +1,4 @@
+-- The lemmas, a module for each topic.
 pub mod ParentLemmas
 pub mod LabelLemmas
 pub mod TagLemmas

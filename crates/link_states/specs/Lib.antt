@@ -1,3 +1,4 @@
+-- The definitions: joined, parents, tags, excepted, tallies, link states, grouped.
 pub mod Joined
 pub mod Parents
 pub mod Tags

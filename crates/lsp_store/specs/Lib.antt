@@ -1,3 +1,4 @@
+-- The definitions: maps, places, page facts, page maps, inside, databases, rooms.
 pub mod Maps
 pub mod Places
 pub mod PageFacts

@@ -1,2 +1,3 @@
+-- The definitions: bodies, views.
 pub mod Bodies
 pub mod Views

@@ -1,3 +1,4 @@
+-- The lemmas, a module for each topic.
 pub mod HeldLemmas
 pub mod NetLemmas
 pub mod PairLemmas

@@ -1,3 +1,6 @@
+-- The definitions: causes, held, inside, keys net, limits, keys held, lab nets, lab configs, lab
+-- events, lab takings, hearing, lab causes, agreements, claims, LAN states, link states, reached,
+-- acknowledged, lab inside, joining, lab steps, lab runs.
 pub mod Causes
 pub mod Held
 pub mod Inside

@@ -1,2 +1,3 @@
+-- The definitions: sightings, entries.
 pub mod Sightings
 pub mod Entries

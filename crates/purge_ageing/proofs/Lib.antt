@@ -1,3 +1,4 @@
+-- The lemmas, a module for each topic.
 pub mod SearchLemmas
 pub mod IdLemmas
 pub mod EndLemmas

@@ -1,2 +1,3 @@
+-- The definitions: IDs, ends.
 pub mod Ids
 pub mod Ends

@@ -1,1 +1,2 @@
+-- The lemmas, a module for each topic.
 mod LeakLemmas

@@ -1,2 +1,3 @@
+-- The definitions: attachment, leaks.
 pub mod Attachment
 pub mod Leaks

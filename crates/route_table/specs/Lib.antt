@@ -1,3 +1,4 @@
+-- The definitions: ranks, routes, lookups, order.
 pub mod Ranks
 pub mod Routes
 pub mod Lookups

@@ -1,3 +1,4 @@
+-- The lemmas, a module for each topic.
 mod ShapeLemmas
 mod IdleLemmas
 mod WantedLemmas

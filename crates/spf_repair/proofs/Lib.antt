@@ -1,3 +1,4 @@
+-- The lemmas, a module for each topic.
 pub mod RepairLemmas
 pub mod EraseLemmas
 pub mod FeedLemmas

@@ -1,3 +1,4 @@
+-- The definitions: changes, change, repair, erase, feed, replace.
 pub mod Changes
 pub mod Change
 pub mod Repair

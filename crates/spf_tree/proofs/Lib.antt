@@ -1,3 +1,4 @@
+-- The lemmas, a module for each topic.
 pub mod NodeLemmas
 pub mod WalkLemmas
 pub mod QueueLemmas

@@ -1,3 +1,4 @@
+-- The definitions: nodes, walks, distances, next hops, graphs, labels, search, pairs, exploring.
 pub mod Nodes
 pub mod Walks
 pub mod Distances
