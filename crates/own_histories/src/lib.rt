@@ -14,8 +14,6 @@ mod histories;
 mod history;
 mod look;
 mod said;
-#[cfg(test)]
-mod tests;
 
 pub use histories::Histories;
 pub use history::History;
