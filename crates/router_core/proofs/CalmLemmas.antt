@@ -16,7 +16,7 @@ use Rattle.isis_model.specs.Ranks.{is_purge, is_live}
 use Rattle.isis_model.specs.Cells.{Cell, Heard}
 use Rattle.isis_model.specs.Books.{Book, cell_at, rank_of, rank_at, checksum_of, set_cell, is_full, risen}
 use Rattle.isis_model.specs.LspTable.{is_issued, is_unissued, differs, is_newer, lsp_case, lsp_row, met, hear_lsp}
-use Rattle.isis_model.specs.SnpTable.{SnpEntry, snp_case, sets_flag, snp_row, hear_entry, hear_range}
+use Rattle.isis_model.specs.SnpTable.{SnpEntry, snp_case, snp_row, hear_entry, hear_range}
 use Rattle.isis_model.specs.Openings.{close, open_up, set_open}
 use Rattle.isis_model.specs.Takes.{Scene, whose_of, lsp_taken, take_lsp, entry_taken, take_entry, take_entries, take_range, take_snp}
 use Rattle.isis_model.specs.Routers.{Circuit, LevelState, Router, level_of, book_of, with_level, with_circuit, is_open}
@@ -30,7 +30,7 @@ use Rattle.isis_model.specs.Receiving.{scene_of, greeted, taken, take_or_drop, t
 use Rattle.isis_model.specs.Events.{Message, Refused, PointHelloHeard, LanHelloHeard, LspHeard, SnpHeard, Event, Second, Take, Pull, Metric, Overload, Prefix}
 use Rattle.isis_model.specs.Steps.{step, with_metric}
 use Rattle.isis_model.proofs.MapLemmas.{find-set_at}
-use Rattle.router_core.specs.Calm.{is_calm_row, AreClear, IsCalmMessage, IsCalm, SameCounts}
+use Rattle.router_core.specs.Calm.{is_calm_row, is_calm_entry, AreClear, IsCalmMessage, IsCalm, SameCounts}
 
 true-false : true ≡ false → ⊥
 true-false e = cc
@@ -63,46 +63,54 @@ set-changes b id new e = ap (λ (t : Bool). if t then b.changes else risen b.cha
 
 -- ---- sequence number PDUs
 
-row-rank : (row : SnpCase) → sets_flag row ≡ false → (full : Bool) (opened p2p place : ℕ) (held : Option Cell) → rank_of (snp_row row full opened p2p place held) ≡ rank_of held
+row-rank : (row : SnpCase) → is_calm_entry row ≡ true → (full : Bool) (opened p2p place : ℕ) (held : Option Cell) → rank_of (snp_row row full opened p2p place held) ≡ rank_of held
 row-rank snp.Nothing e full opened p2p place held = refl
-row-rank snp.Outbid e full opened p2p place held = absurd (true-false e)
-row-rank snp.Confused e full opened p2p place held = absurd (true-false e)
+row-rank snp.Outbid e full opened p2p place held = absurd (true-false (sym e))
+row-rank snp.Confused e full opened p2p place held = absurd (true-false (sym e))
 row-rank snp.Same e full opened p2p place None = refl
 row-rank snp.Same e full opened p2p place (Some cell) = refl
-row-rank snp.Older e full opened p2p place held = absurd (true-false e)
-row-rank snp.Newer e full opened p2p place held = absurd (true-false e)
-row-rank snp.Asked e full opened p2p place held = absurd (true-false e)
+row-rank snp.Older e full opened p2p place None = refl
+row-rank snp.Older e full opened p2p place (Some cell) = refl
+row-rank snp.Newer e full opened p2p place None = refl
+row-rank snp.Newer e full opened p2p place (Some cell) = refl
+row-rank snp.Asked e true opened p2p place None = refl
+row-rank snp.Asked e false opened p2p place None = refl
+row-rank snp.Asked e full opened p2p place (Some cell) = refl
 row-rank snp.Unasked e full opened p2p place held = refl
 
-row-sum : (row : SnpCase) → sets_flag row ≡ false → (full : Bool) (opened p2p place : ℕ) (held : Option Cell) → checksum_of (snp_row row full opened p2p place held) ≡ checksum_of held
+row-sum : (row : SnpCase) → is_calm_entry row ≡ true → (full : Bool) (opened p2p place : ℕ) (held : Option Cell) → checksum_of (snp_row row full opened p2p place held) ≡ checksum_of held
 row-sum snp.Nothing e full opened p2p place held = refl
-row-sum snp.Outbid e full opened p2p place held = absurd (true-false e)
-row-sum snp.Confused e full opened p2p place held = absurd (true-false e)
+row-sum snp.Outbid e full opened p2p place held = absurd (true-false (sym e))
+row-sum snp.Confused e full opened p2p place held = absurd (true-false (sym e))
 row-sum snp.Same e full opened p2p place None = refl
 row-sum snp.Same e full opened p2p place (Some cell) = refl
-row-sum snp.Older e full opened p2p place held = absurd (true-false e)
-row-sum snp.Newer e full opened p2p place held = absurd (true-false e)
-row-sum snp.Asked e full opened p2p place held = absurd (true-false e)
+row-sum snp.Older e full opened p2p place None = refl
+row-sum snp.Older e full opened p2p place (Some cell) = refl
+row-sum snp.Newer e full opened p2p place None = refl
+row-sum snp.Newer e full opened p2p place (Some cell) = refl
+row-sum snp.Asked e true opened p2p place None = refl
+row-sum snp.Asked e false opened p2p place None = refl
+row-sum snp.Asked e full opened p2p place (Some cell) = refl
 row-sum snp.Unasked e full opened p2p place held = refl
 
-entry-face : (b : Book) (place : ℕ) (w : Whose) (h : SnpEntry) → sets_flag (snp_case w (cell_at b h.id) h) ≡ false → Face b (hear_entry b place w h)
+entry-face : (b : Book) (place : ℕ) (w : Whose) (h : SnpEntry) → is_calm_entry (snp_case w (cell_at b h.id) h) ≡ true → Face b (hear_entry b place w h)
 unfolding hear_entry
 entry-face b place w h clear =
     let held = cell_at b h.id in
     let row = snp_case w held h in
     set-face b h.id (snp_row row (is_full b) b.opened b.p2p place held) (row-rank row clear (is_full b) b.opened b.p2p place held) (row-sum row clear (is_full b) b.opened b.p2p place held)
 
-taken-book : (scene : Scene) (state : LevelState) (place : ℕ) (w : Whose) (h : SnpEntry) (row : SnpCase) → sets_flag row ≡ false → (entry_taken scene state place w h row).book ≡ hear_entry state.book place w h
+taken-book : (scene : Scene) (state : LevelState) (place : ℕ) (w : Whose) (h : SnpEntry) (row : SnpCase) → is_calm_entry row ≡ true → (entry_taken scene state place w h row).book ≡ hear_entry state.book place w h
 taken-book scene state place w h snp.Nothing e = refl
-taken-book scene state place w h snp.Outbid e = absurd (true-false e)
-taken-book scene state place w h snp.Confused e = absurd (true-false e)
+taken-book scene state place w h snp.Outbid e = absurd (true-false (sym e))
+taken-book scene state place w h snp.Confused e = absurd (true-false (sym e))
 taken-book scene state place w h snp.Same e = refl
-taken-book scene state place w h snp.Older e = absurd (true-false e)
-taken-book scene state place w h snp.Newer e = absurd (true-false e)
-taken-book scene state place w h snp.Asked e = absurd (true-false e)
+taken-book scene state place w h snp.Older e = refl
+taken-book scene state place w h snp.Newer e = refl
+taken-book scene state place w h snp.Asked e = refl
 taken-book scene state place w h snp.Unasked e = refl
 
-pub take-face : (scene : Scene) (state : LevelState) (system place : ℕ) (h : SnpEntry) → ((w : Whose) → sets_flag (snp_case w (cell_at state.book h.id) h) ≡ false) → Face state.book (take_entry scene state system place h).book
+pub take-face : (scene : Scene) (state : LevelState) (system place : ℕ) (h : SnpEntry) → ((w : Whose) → is_calm_entry (snp_case w (cell_at state.book h.id) h) ≡ true) → Face state.book (take_entry scene state system place h).book
 unfolding take_entry
 take-face scene state system place h clear =
     let w = whose_of system state h.id in
@@ -115,7 +123,23 @@ same-case w a b h e f = rw (e, f) refl
 pub clear-face : (a b : Book) (entries : List SnpEntry) → Face a b → AreClear a entries → AreClear b entries
 clear-face a b [] face clear = tt
 clear-face a b (h ∷ entries) face clear =
-    ((λ w. ap sets_flag (same-case w (cell_at a h.id) (cell_at b h.id) h (face.rank h.id) (face.sum h.id)) ∙ clear.0 w), clear-face a b entries face clear.1)
+    ((λ w. ap is_calm_entry (same-case w (cell_at a h.id) (cell_at b h.id) h (face.rank h.id) (face.sum h.id)) ∙ clear.0 w), clear-face a b entries face clear.1)
+
+-- an entry of another key than what is held changes none
+unlike-row : (a d e f g k i : Bool) → is_calm_entry (if a then snp.Nothing else (if (k && false && d) && i then snp.Outbid else (if k && false && d then snp.Confused else (if false then snp.Same else (if e then snp.Older else (if f then snp.Newer else (if g then snp.Asked else snp.Unasked))))))) ≡ true
+unlike-row true d e f g k i = refl
+unlike-row false d true f g true i = refl
+unlike-row false d true f g false i = refl
+unlike-row false d false true g true i = refl
+unlike-row false d false true g false i = refl
+unlike-row false d false false true true i = refl
+unlike-row false d false false true false i = refl
+unlike-row false d false false false true i = refl
+unlike-row false d false false false false i = refl
+
+pub unlike-calm : (w : Whose) (held : Option Cell) (h : SnpEntry) → (rank_of held ≡ h.rank → ⊥) → is_calm_entry (snp_case w held h) ≡ true
+unfolding snp_case
+unlike-calm w held h other = rw (ne_eqb (rank_of held) h.rank other) (unlike-row (h.rank == 0 && rank_of held == 0) (not (checksum_of held == h.checksum)) (nat_lt h.rank (rank_of held)) (nat_lt 0 (rank_of held)) (nat_lt 0 h.lifetime && nat_lt 0 h.checksum) (is_live h.rank) (is_issued w))
 
 entries-changes : (scene : Scene) (state : LevelState) (system place : ℕ) (entries : List SnpEntry) → AreClear state.book entries → (take_entries scene state system place entries).book.changes ≡ state.book.changes
 entries-changes scene state system place [] clear = refl

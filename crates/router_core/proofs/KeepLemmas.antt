@@ -25,7 +25,7 @@ use Rattle.isis_model.specs.declared.snp_case.SnpCase.TheVariants as snp
 use Rattle.isis_model.specs.Cells.{Heard}
 use Rattle.isis_model.specs.Books.{cell_at}
 use Rattle.isis_model.specs.LspTable.{met}
-use Rattle.isis_model.specs.SnpTable.{SnpEntry, snp_case, sets_flag}
+use Rattle.isis_model.specs.SnpTable.{SnpEntry, snp_case}
 use Rattle.isis_model.specs.Takes.{Scene, whose_of, lsp_taken, take_lsp, entry_taken, take_entry, take_entries, take_range, take_snp}
 use Rattle.isis_model.specs.Givens.{Given}
 use Rattle.isis_model.specs.Receiving.{scene_of, greeted, taken, take_or_drop, take, drop_of}
@@ -33,7 +33,7 @@ use Rattle.isis_model.specs.Steps.{sent_all, step}
 use Rattle.isis_model.proofs.BookLemmas.{choose}
 use Rattle.adjacency.specs.Lans.{neighbours}
 use Rattle.router_core.specs.Seconds.{later}
-use Rattle.router_core.specs.Calm.{is_calm_row, AreClear, IsCalmMessage, IsCalm}
+use Rattle.router_core.specs.Calm.{is_calm_row, is_calm_entry, AreClear, IsCalmMessage, IsCalm}
 use Rattle.router_core.proofs.CalmLemmas.{take-face, clear-face}
 use Rattle.router_core.proofs.IdleLemmas.{nth-with}
 use Rattle.router_core.specs.Settled.{lan_face, heard_face, level_face, neighbour_face, point_face, face, faces, IsAside, IsNoHello, IsGreeting, Keeps, point_at}
@@ -255,9 +255,9 @@ take-own : (scene : Scene) (state : LevelState) (place : ℕ) (w : Whose) (h : H
 unfolding take_lsp
 take-own scene state place w h calm = lsp-own scene state place w h (met state.book w h) calm
 
-entry-own : (scene : Scene) (state : LevelState) (place : ℕ) (w : Whose) (h : SnpEntry) (row : SnpCase) → sets_flag row ≡ false → (entry_taken scene state place w h row).own ≡ state.own
+entry-own : (scene : Scene) (state : LevelState) (place : ℕ) (w : Whose) (h : SnpEntry) (row : SnpCase) → is_calm_entry row ≡ true → (entry_taken scene state place w h row).own ≡ state.own
 entry-own scene state place w h snp.Nothing e = refl
-entry-own scene state place w h snp.Outbid e = absurd (true-false e)
+entry-own scene state place w h snp.Outbid e = absurd (true-false (sym e))
 entry-own scene state place w h snp.Confused e = refl
 entry-own scene state place w h snp.Same e = refl
 entry-own scene state place w h snp.Older e = refl
@@ -265,7 +265,7 @@ entry-own scene state place w h snp.Newer e = refl
 entry-own scene state place w h snp.Asked e = refl
 entry-own scene state place w h snp.Unasked e = refl
 
-one-own : (scene : Scene) (state : LevelState) (system place : ℕ) (h : SnpEntry) → ((w : Whose) → sets_flag (snp_case w (cell_at state.book h.id) h) ≡ false) → (take_entry scene state system place h).own ≡ state.own
+one-own : (scene : Scene) (state : LevelState) (system place : ℕ) (h : SnpEntry) → ((w : Whose) → is_calm_entry (snp_case w (cell_at state.book h.id) h) ≡ true) → (take_entry scene state system place h).own ≡ state.own
 unfolding take_entry
 one-own scene state system place h clear =
     let w = whose_of system state h.id in

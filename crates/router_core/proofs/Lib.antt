@@ -24,6 +24,7 @@ pub mod CalmLemmas
 mod LastLemmas
 pub mod RouteLemmas
 mod LeakedUpLemmas
+mod MovedLemmas
 mod FaceLemmas
 mod KeepLemmas
 mod SettledLemmas

@@ -54,7 +54,7 @@ live-key : (n : ℕ) (purged : Bool) → 0 < n → is_live (2 * n + cond purged 
 live-key n true some = grind (arith, nat_tests)
 live-key n false some = grind (arith, nat_tests)
 
-live-is : (key : Option Key) → is_live (rank key) ≡ store.is_live_key key
+pub live-is : (key : Option Key) → is_live (rank key) ≡ store.is_live_key key
 live-is None = refl
 live-is (Some key) = live-key key.number key.purged key.numbered
 
@@ -190,7 +190,7 @@ told-same a b of-a of-b same =
 
 -- ---- through a step
 
-record SameConfig (r t : Router) : Type 0 where
+pub record SameConfig (r t : Router) : Type 0 where
   pub system : t.config.system ≡ r.config.system
   pub areas : t.config.areas ≡ r.config.areas
   pub runs : t.config.runs ≡ r.config.runs
@@ -204,7 +204,7 @@ by-rests r t s = record {
   prefixes = ap (λ (c : Config). c.prefixes) s.config;
 }
 
-step-config : (given : Given) (r : Router) (event : Event) → KeepsPrefixes event → SameConfig r (step given r event).router
+pub step-config : (given : Given) (r : Router) (event : Event) → KeepsPrefixes event → SameConfig r (step given r event).router
 unfolding step
 step-config given r Second keeps = by-rests r (step given r Second).router (let p = second-rests given r in record { config = p.config; drops = p.drops })
 step-config given r (Take place m) keeps = by-rests r (step given r (Take place m)).router (take-rests given r place m (nth r.circuits place))

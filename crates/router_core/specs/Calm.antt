@@ -4,6 +4,8 @@ use Rattle.std.specs.List.{AllByRecursion}
 use Rattle.isis_base.specs.declared.level.Level.{Level}
 use Rattle.isis_model.specs.declared.lsp_case.LspCase.{LspCase}
 use Rattle.isis_model.specs.declared.lsp_case.LspCase.TheVariants as lsp
+use Rattle.isis_model.specs.declared.snp_case.SnpCase.{SnpCase}
+use Rattle.isis_model.specs.declared.snp_case.SnpCase.TheVariants as snp
 use Rattle.isis_model.specs.declared.whose.Whose.{Whose}
 use Rattle.flag_sync.specs.declared.heard.LspAnswer.{LspAnswer}
 use Rattle.flag_sync.specs.declared.heard.LspAnswer.TheVariants as answer
@@ -13,7 +15,7 @@ use Rattle.isis_model.specs.Cells.{Cell}
 use Rattle.isis_model.specs.Sorted.{RisesFrom}
 use Rattle.isis_model.specs.Books.{Book, cell_at}
 use Rattle.isis_model.specs.LspTable.{met}
-use Rattle.isis_model.specs.SnpTable.{SnpEntry, snp_case, sets_flag}
+use Rattle.isis_model.specs.SnpTable.{SnpEntry, snp_case}
 use Rattle.isis_model.specs.Takes.{whose_of}
 use Rattle.isis_model.specs.Routers.{Router, level_of, book_of}
 use Rattle.router_core.specs.declared.calm.Known.{Known}
@@ -29,11 +31,23 @@ is_calm_row lsp.Stored = false
 is_calm_row lsp.Same = true
 is_calm_row lsp.Older = true
 
--- no entry of a sequence number PDU sets a flag (ISO 10589 7.3.15.2)
+-- the rows of a sequence number PDU's entry by which no key changes: neither is an own LSP outbid,
+-- nor is one purged whose checksum differs (ISO 10589 7.3.15.2)
+abbrev pub is_calm_entry : SnpCase → Bool
+is_calm_entry snp.Nothing = true
+is_calm_entry snp.Outbid = false
+is_calm_entry snp.Confused = false
+is_calm_entry snp.Same = true
+is_calm_entry snp.Older = true
+is_calm_entry snp.Newer = true
+is_calm_entry snp.Asked = true
+is_calm_entry snp.Unasked = true
+
+-- no entry of a sequence number PDU changes a key (ISO 10589 7.3.15.2)
 abbrev pub AreClear : Book → List SnpEntry → Type 0
 AreClear book entries =
     AllByRecursion (λ (h : SnpEntry). (whose : Whose)
-    → sets_flag (snp_case whose (cell_at book h.id) h) ≡ false) entries
+    → is_calm_entry (snp_case whose (cell_at book h.id) h) ≡ true) entries
 
 abbrev pub IsCalmMessage : Router → Message → Type 0
 IsCalmMessage r (Refused cause) = Unit {0}

@@ -15,3 +15,4 @@ pub mod Designated
 pub mod NamedBoots
 pub mod LeakedUp
 pub mod Settled
+pub mod Moved

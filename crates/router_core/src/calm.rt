@@ -5,15 +5,20 @@ ghost use Rattle.router_desk.specs.Opening as opening;
 ghost use Rattle.router_desk.specs.Opening.{IsOpenedBy};
 ghost use Rattle.router_reading.specs.Heard.{message_of};
 ghost use Rattle.isis_model.specs.Routers.{Router, book_of};
-ghost use Rattle.flag_sync.specs.Heard.{entries_of};
-ghost use Rattle.router_core.specs.Calm.{AreClear, is_calm_answer, IsCalm, IsCalmMessage, IsKnown};
+ghost use Rattle.isis_base.specs.Identifiers.{lsp_number};
+ghost use Rattle.isis_model.specs.Books.{cell_at};
+ghost use Rattle.isis_model.specs.SnpTable.{snp_case};
+ghost use Rattle.isis_model.specs.declared.whose.Whose.{Whose};
+ghost use Rattle.flag_sync.specs.BookStates.{book_of as state_of};
+ghost use Rattle.flag_sync.specs.Heard.{entries_of, entry_of};
+ghost use Rattle.router_core.specs.Calm.{AreClear, is_calm_answer, is_calm_entry, IsCalm, IsCalmMessage, IsKnown};
 ghost use Rattle.router_core.specs.Settled.{IsAside, IsGreeting, IsNoHello, IsPointHello};
 ghost use Rattle.router_core.specs.Events.{change_of, event_of, Fits, IsThere};
 
 use crate::event::NodeEvent;
 use crate::machine::Machine;
-use flag_sync::LspAnswer;
-use isis_base::{Level, LspEntry, OutOfMemory};
+use flag_sync::{Book, LspAnswer};
+use isis_base::{Level, LspEntry, Order3, OutOfMemory, newer};
 use router_desk::{Change, Opened};
 use router_reading::laws::numbered_law;
 use router_reading::{Heard, hear};
@@ -31,7 +36,7 @@ pub(crate) struct Known {
 
 impl Machine {
     /// What is known of an event. What is sent, hellos, LSPs that aren't newer than what is held, sequence number
-    /// PDUs that set no flag, metrics and overload change no key.
+    /// PDUs that outbid and purge nothing, metrics and overload change no key.
     pub(crate) fn known_of(&self, event: &NodeEvent) -> Result<Known, OutOfMemory>
         requires { Fits self.now event.now }
         ensures { IfOk result (λ known. IsKnown known
@@ -100,13 +105,13 @@ impl Machine {
         }
     }
 
-    /// Whether no entry of a sequence number PDU sets a flag.
+    /// Whether no entry of a sequence number PDU changes a key.
     fn are_clear(&self, level: Level, entries: &[LspEntry]) -> bool
         ensures { result ≡ true → AreClear (book_of self.now level) (entries_of entries.now) }
     {
         let mut left = entries;
         while let [entry, more @ ..] = left {
-            if self.level(level).book().would_flag(entry) {
+            if !is_calm_entry(self.level(level).book(), entry) {
                 return false;
             }
             left = more;
@@ -142,6 +147,21 @@ const ASIDE: Known = Known {
     aside: true,
     greets: false,
 };
+
+/// Whether an entry changes no key, whosever the LSP is: it sets no flag, or is of another key than what is held.
+fn is_calm_entry(book: &Book, entry: &LspEntry) -> bool
+    ensures { (whose : Whose) → result ≡ true → is_calm_entry (snp_case whose
+        (cell_at (state_of book.now) (lsp_number entry.now.id)) (entry_of entry.now)) ≡ true }
+{
+    if !book.would_flag(entry) {
+        return true;
+    }
+    match newer(book.key(entry.id), entry.key()) {
+        Order3::Same => false,
+        Order3::Older => true,
+        Order3::Newer => true,
+    }
+}
 
 /// Whether a change of the configuration leaves one's own prefixes.
 fn is_calm_change(change: Change) -> bool

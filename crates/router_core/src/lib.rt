@@ -17,10 +17,11 @@
 //! - `pull.rt`, `pull_parts.rt`, `hello_sending.rt`, `sending.rt`: what is due is sent
 //! - `at.rt`: one circuit of a list changes
 //! - `calm.rt`, `calm_second.rt`, `routes.rt`: which events leave what routes look at, and the routes
-//!   after an event
+//!   after an event; `moving.rt`, `aside.rt`: an LSP that is stored, and what its node tells then
 //! - `reached.rt`: what always holds, as laws; `laws.rt`: what follows for all routers
 #![tactic(auto)]
 
+mod aside;
 mod asked;
 mod at;
 mod calm;
@@ -36,6 +37,7 @@ mod levels;
 mod machine;
 mod making;
 mod marks;
+mod moving;
 mod opening;
 mod own;
 mod prefix_list;

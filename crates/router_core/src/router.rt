@@ -23,12 +23,14 @@ ghost use Rattle.router_routes.specs.Following.{IsFollowing, IsLevel};
 ghost use Rattle.router_core.specs.Heard.{HasOctets};
 ghost use Rattle.router_core.specs.Givens.{given};
 ghost use Rattle.router_core.specs.Events.{event_of, Fits, IsThere};
+ghost use Rattle.router_core.specs.Moved.{Moves};
 ghost use Rattle.router_core.specs.Replies.{Answers};
 ghost use Rattle.router_core.specs.Reached.{IsReached};
 
 use crate::event::NodeEvent;
 use crate::machine::Machine;
 use crate::marks::Marks;
+use crate::moving::Moving;
 use crate::reached::{event_octets, reached_laws, start_reached};
 use crate::reply::Reply;
 use flag_sync::Book;
@@ -138,9 +140,35 @@ impl Router {
             .step_calmly(&event, &self.following, &mut self.marks)
         {
             Ok(Some(reply)) => Ok(reply),
-            Ok(None) => self.step_aside(&event),
+            Ok(None) => match self.machine.moving(&event) {
+                Ok(Some(moving)) => self.step_moving(&event, &moving),
+                Ok(None) => self.step_aside(&event),
+                Err(error) => Err(error),
+            },
             Err(error) => Err(error),
         }
+    }
+
+    /// An event that has one node tell other LSPs. What follows the router then is made first, of the router as it is,
+    /// so that nothing is lost where it wants memory.
+    fn step_moving(&mut self, event: &NodeEvent, moving: &Moving) -> Result<Reply, OutOfMemory>
+        requires fits { Fits self.old event.now }
+        requires octets { HasOctets event.now }
+        requires moves { Moves self.old (event_of self.old event.now) moving.now }
+        ensures state { OnOk result (self.new
+            ≡ (step given self.old (event_of self.old event.now)).router) }
+        ensures reply { IfOk result (λ reply. Answers self.new
+            (place_of (event_of self.old event.now))
+            (step given self.old (event_of self.old event.now)).reply reply) }
+        ensures reached { OnOk result (IsReached self.new) }
+        ensures err { OnErr result (self.new ≡ self.old) }
+    {
+        reached_laws();
+        let next = self.machine.following_then(&self.following, moving)?;
+        let reply = self.machine.step(event, &self.following)?;
+        put_next(&mut self.following, next);
+        self.marks = Marks::none();
+        Ok(reply)
     }
 
     /// An event that may change what routes look at. A copy has it, so that nothing is lost where the
@@ -284,6 +312,16 @@ impl Router {
         ensures { result ≡ length self.now.config.prefixes }
     {
         self.machine.prefix_count()
+    }
+}
+
+/// Another value follows the router, where there is one.
+fn put_next(following: &mut Following, next: Option<Following>)
+    ensures { MatchOption next (following.new ≡ following.old) (λ f. following.new ≡ f) }
+{
+    match next {
+        Some(next) => *following = next,
+        None => {}
     }
 }
 

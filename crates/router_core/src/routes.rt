@@ -1,10 +1,12 @@
 //! What routes look at of a router, and that routes follow it.
-ghost use Rattle.std.specs.Prelude.{◌≡◌, ◌<◌, true, false, length, IfOk, OnOk, OnErr};
+ghost use Rattle.std.specs.Prelude.{◌≡◌, ◌<◌, true, false, length, IfOk, MatchOption, OnOk, OnErr};
 ghost use Rattle.std.specs.List.{AllByRecursion};
 ghost use Rattle.isis_datagram.specs.Numbers.{system_id, system_number};
 ghost use Rattle.isis_model.specs.Routers.{Router};
 ghost use Rattle.isis_model.specs.Steps.{step};
-ghost use Rattle.router_routes.specs.Outlooks.{outlook_in, outlook_of};
+ghost use Rattle.router_routes.specs.Outlooks.{Outlook, outlook_in, outlook_of};
+ghost use Rattle.router_routes.specs.Moved.{IsMovedAt};
+ghost use Rattle.router_routes.specs.Told.{told_in};
 ghost use Rattle.router_routes.specs.Following.{IsFollowing};
 ghost use Rattle.router_core.specs.Calm.{AreBelow, KeepsPrefixes, SameCounts, Stands};
 ghost use Rattle.router_core.specs.Events.{event_of};
@@ -13,6 +15,7 @@ ghost use Rattle.router_core.specs.Reached.{IsReached};
 
 use crate::event::NodeEvent;
 use crate::machine::Machine;
+use crate::moving::Moving;
 use crate::reached::outlook_laws;
 use flag_sync::Book;
 use isis_base::{Level, OutOfMemory, SystemId};
@@ -84,6 +87,22 @@ impl Machine {
         following.follow(&lent, !one, !two)
     }
 
+    /// What follows this router once a node tells other LSPs; `None` where that is what follows it now.
+    pub(crate) fn following_then(
+        &self,
+        following: &Following,
+        moving: &Moving,
+    ) -> Result<Option<Following>, OutOfMemory>
+        requires follows { IsFollowing (outlook_of self.now) following.now }
+        ensures { IfOk result (λ next. (o : Outlook)
+            → IsMovedAt (outlook_of self.now) o moving.now.level moving.now.node
+            (told_in moving.now.aside.entries)
+            → MatchOption next (IsFollowing o following.now) (λ f. IsFollowing o f)) }
+    {
+        let lent = self.lent()?;
+        following.ahead(&lent, moving.level, moving.node, &moving.aside)
+    }
+
     /// Whether no key of a level changed since a router was as that one is.
     fn stands(&self, old: &Machine, level: Level) -> bool
         ensures { result ≡ true → Stands old.now self.now level }
@@ -109,7 +128,7 @@ fn keeps_prefixes(event: &NodeEvent) -> bool
 }
 
 /// Whether each entry of a level's database has a row of flags.
-fn has_rows(book: &Book) -> bool
+pub(crate) fn has_rows(book: &Book) -> bool
     ensures { result ≡ true → length book.now.rows ≡ length book.now.store.entries }
 {
     book.store().len() == book.flag_pages().len()

@@ -1,0 +1,419 @@
+-- What a node tells once an LSP of it is stored, and that nothing else changes of what routes look at.
+use Rattle.std.proofs.Common.{◌≡◌, ◌∙◌, ℕ, zero, suc, ◌+◌, ◌%◌, ◌<◌, ◌≤◌, ◌⊎◌, ◌==◌, ◌&&◌, nat_le, nat_lt, Bool, true, false, List, [], ◌∷◌, ◌++◌, length, MatchOption, Option, Some, None, is_some, refl, sym, ap, subst, arith, if◌then◌else◌, inl, inr, append-nil}
+use Rattle.std.specs.List.{AllByRecursion}
+use Rattle.std.specs.Int.{from_be_bytes, w64}
+use Rattle.std.proofs.lemmas.Bool.{cases_eq, cases_lt, eq-eqb, ne_eqb, eqb-true}
+use Rattle.std.proofs.lemmas.Bool.Decides.{nat_tests}
+use Rattle.isis_base.specs.declared.identifiers.NodeId.{NodeId}
+use Rattle.isis_base.specs.declared.identifiers.LspId.{LspId}
+use Rattle.isis_base.specs.Identifiers.{IsId, lsp_number}
+use Rattle.isis_base.proofs.ArrayLemmas.{lsp_number-one}
+use Rattle.isis_base.specs.Keys.{rank, entry_rank}
+use Rattle.isis_model.specs.Ranks.{is_live, is_purge}
+use Rattle.isis_base.specs.declared.level.Level.{Level}
+use Rattle.isis_base.specs.declared.level.Level.TheVariants as level
+use Rattle.isis_model.specs.declared.whose.Whose.{Whose}
+use Rattle.isis_model.specs.declared.lsp_case.LspCase.{LspCase}
+use Rattle.isis_model.specs.declared.lsp_case.LspCase.TheVariants as lsp
+use Rattle.isis_model.specs.Both.{Both, at}
+use Rattle.isis_model.specs.Sets.{without}
+use Rattle.isis_model.specs.Places.{nth}
+use Rattle.isis_model.specs.Cells.{Cell, Heard, kept, flagged}
+use Rattle.isis_model.specs.Books.{Book, cell_at, set_cell}
+use Rattle.isis_model.specs.LspTable.{ssn_stored, lsp_row, met, hear_lsp}
+use Rattle.isis_model.specs.Takes.{Scene, whose_of, lsp_taken, take_lsp}
+use Rattle.isis_model.specs.Routers.{Circuit, LevelState, Router, book_of, level_of, with_level}
+use Rattle.isis_model.specs.Givens.{Given}
+use Rattle.isis_model.specs.Receiving.{scene_of, lsp_drop, taken}
+use Rattle.isis_model.specs.Events.{Event, LspHeard, Take, Outcome, settled}
+use Rattle.isis_model.specs.Steps.{step}
+use Rattle.isis_model.specs.Maps as model
+use Rattle.isis_datagram.specs.Numbers.{system_id}
+use Rattle.lsp_store.specs.declared.entry.Entry.{Entry}
+use Rattle.lsp_store.specs.Databases as store
+use Rattle.lsp_store.specs.Databases.{Database}
+use Rattle.lsp_store.specs.Maps.{RisesFrom, pair_number, put, between}
+use Rattle.lsp_store.specs.Places.{AllBelow, AllAbove}
+use Rattle.lsp_store.proofs.MapLemmas.{rises-less, rises-above, put-below, put-above, put-rises}
+use Rattle.flag_sync.specs.declared.flag_row.FlagRow.{FlagRow}
+use Rattle.flag_sync.specs.FlagRows.{cell_of}
+use Rattle.flag_sync.specs.declared.heard.LspHeard as heard
+use Rattle.flag_sync.specs.declared.heard.LspAnswer.TheVariants as answer
+use Rattle.flag_sync.specs.Heard.{heard_of, answer_of}
+use Rattle.flag_sync.specs.BookStates as sync
+use Rattle.flag_sync.specs.BookStates.{BookState, cells_of}
+use Rattle.lsp_octets.proofs.DraftLemmas.{id-again}
+use Rattle.lsp_view.specs.Views.{number_of, own_node}
+use Rattle.spf_tree.specs.Nodes.{node_number}
+use Rattle.router_routes.specs.Told.{told, told_pair, told_in, told_by}
+use Rattle.router_routes.specs.Following.{FollowingOf, IsFollowing}
+use Rattle.router_routes.specs.Outlooks.{Outlook, outlook_of, prefixes_by, where_run}
+use Rattle.router_routes.specs.Moved.{told_at, told_beside, beside, IsMovedAt}
+use Rattle.router_core.proofs.RouteLemmas.{live-is, told-cells, SameConfig, step-config}
+use Rattle.router_core.specs.Givens.{given}
+
+abbrev pub Entries : Type 0
+Entries = List (LspId × Entry)
+
+abbrev pub is_at : NodeId → LspId × Entry → Bool
+is_at node pair = node_number pair.0.node == node_number node
+
+-- ---- an entry behind all others
+
+pub put-behind : (id : LspId) (v : Entry) (xs : Entries) → AllBelow (lsp_number id) xs → put xs id v ≡ xs ++ (id, v) ∷ []
+put-behind id v xs below = ap (λ l. put l id v) (sym (append-nil xs)) ∙ put-below id v xs [] below
+
+-- ---- what is told of a cell and of an entry
+
+-- a cell tells what an entry tells
+pub record Tells (cell : Cell) (e : Entry) : Type 0 where
+  pub live : is_live cell.rank ≡ store.is_live e
+  pub says : store.is_live e ≡ true → told cell.flags cell.octets ≡ told e.flags e.octets
+
+one-told : (id : LspId) (cell : Cell) (e : Entry) (cells : List (ℕ × Cell)) (entries : Entries) → IsId id → Tells cell e → told_by cells ≡ told_in entries → told_by ((lsp_number id, cell) ∷ cells) ≡ told_in ((id, e) ∷ entries)
+one-told id cell e cells entries is tells rest = by-test (store.is_live e) refl
+  where
+    by-test : (t : Bool) → store.is_live e ≡ t → told_by ((lsp_number id, cell) ∷ cells) ≡ told_in ((id, e) ∷ entries)
+    by-test true h =
+        let live : is_live cell.rank ≡ true = tells.live ∙ h in
+        let says = tells.says h in
+        let again = id-again id is in
+        rw (live, h) (λ i. (again i, says i) ∷ rest i)
+    by-test false h =
+        let live : is_live cell.rank ≡ false = tells.live ∙ h in
+        rw (live, h) rest
+
+own-tells : (e : Entry) (row : FlagRow) → Tells (cell_of e row) e
+own-tells e row = record { live = live-is e.key; says = λ _. refl }
+
+module _ (id : LspId) (cell : Cell) (e : Entry) (is : IsId id) (tells : Tells cell e) (x : LspId × Entry) (xs : Entries) (rs : List (LspId × FlagRow)) (row : LspId × FlagRow) (long : length rs ≡ length xs) (own : IsId x.0) (ids : AllByRecursion (λ (p : LspId × Entry). IsId p.0) xs) (rest : told_by (model.put (cells_of xs rs) (lsp_number id) cell) ≡ told_in (put xs id e)) where
+  put-told-step : (a b : Bool) → (pair_number x == lsp_number id) ≡ a → nat_lt (lsp_number id) (pair_number x) ≡ b → told_by (model.put (cells_of (x ∷ xs) (row ∷ rs)) (lsp_number id) cell) ≡ told_in (put (x ∷ xs) id e)
+  unfolding model.put
+  put-told-step true b p q = rw p (one-told id cell e (cells_of xs rs) xs is tells (told-cells xs rs long ids))
+  put-told-step false true p q = rw (p, q) (one-told id cell e (cells_of (x ∷ xs) (row ∷ rs)) (x ∷ xs) is tells (told-cells (x ∷ xs) (row ∷ rs) (omega (arith, long)) (own, ids)))
+  put-told-step false false p q = rw (p, q) (one-told x.0 (cell_of x.1 row.1) x.1 (model.put (cells_of xs rs) (lsp_number id) cell) (put xs id e) own (own-tells x.1 row.1) rest)
+
+pub put-told : (id : LspId) (cell : Cell) (e : Entry) (entries : Entries) (rows : List (LspId × FlagRow)) → IsId id → Tells cell e → length rows ≡ length entries → AllByRecursion (λ (p : LspId × Entry). IsId p.0) entries → told_by (model.put (cells_of entries rows) (lsp_number id) cell) ≡ told_in (put entries id e)
+unfolding model.put
+put-told id cell e [] rows is tells long ids = one-told id cell e [] [] is tells refl
+put-told id cell e (x ∷ xs) [] is tells long ids = absurd (omega (arith, long))
+put-told id cell e (x ∷ xs) (r ∷ rs) is tells long ids =
+    let short : length rs ≡ length xs = omega (arith, long) in
+    put-told-step id cell e is tells x xs rs r short ids.0 ids.1 (put-told id cell e xs rs is tells short ids.1) (pair_number x == lsp_number id) (nat_lt (lsp_number id) (pair_number x)) refl refl
+
+-- ---- what others tell stays
+
+module _ (node : NodeId) where
+  skip : (x : LspId × Entry) (xs : Entries) → is_at node x ≡ true → told_beside node (told_in (x ∷ xs)) ≡ told_beside node (told_in xs)
+  skip x xs here = by-test (store.is_live x.1) refl
+    where
+      by-test : (t : Bool) → store.is_live x.1 ≡ t → told_beside node (told_in (x ∷ xs)) ≡ told_beside node (told_in xs)
+      by-test true h = rw (h, here) refl
+      by-test false h = rw h refl
+
+  keep : (x : LspId × Entry) (xs ys : Entries) → told_beside node (told_in xs) ≡ told_beside node (told_in ys) → told_beside node (told_in (x ∷ xs)) ≡ told_beside node (told_in (x ∷ ys))
+  keep x xs ys rest = by-tests (store.is_live x.1) (is_at node x) refl refl
+    where
+      by-tests : (t u : Bool) → store.is_live x.1 ≡ t → is_at node x ≡ u → told_beside node (told_in (x ∷ xs)) ≡ told_beside node (told_in (x ∷ ys))
+      by-tests true true h k = rw (h, k) rest
+      by-tests true false h k = rw (h, k) (ap (λ (l : Entries). told_pair x ∷ l) rest)
+      by-tests false u h k = rw h rest
+
+module _ (id : LspId) (e : Entry) (is : IsId id) (x : LspId × Entry) (xs : Entries) (other : IsId x.0) (rest : told_beside id.node (told_in (put xs id e)) ≡ told_beside id.node (told_in xs)) where
+  beside-step : (a b : Bool) → (pair_number x == lsp_number id) ≡ a → nat_lt (lsp_number id) (pair_number x) ≡ b → told_beside id.node (told_in (put (x ∷ xs) id e)) ≡ told_beside id.node (told_in (x ∷ xs))
+  beside-step true b p q =
+      let own : is_at id.node (id, e) ≡ true = eq-eqb (node_number id.node) (node_number id.node) refl in
+      let one : x.0 ≡ id = lsp_number-one x.0 id other is (eqb-true (pair_number x) (lsp_number id) p) in
+      let here : is_at id.node x ≡ true = eq-eqb (node_number x.0.node) (node_number id.node) (ap (λ (i : LspId). node_number i.node) one) in
+      rw p (skip id.node (id, e) xs own ∙ sym (skip id.node x xs here))
+  beside-step false true p q = rw (p, q) (skip id.node (id, e) (x ∷ xs) (eq-eqb (node_number id.node) (node_number id.node) refl))
+  beside-step false false p q = rw (p, q) (keep id.node x (put xs id e) xs rest)
+
+pub beside-put : (id : LspId) (e : Entry) (xs : Entries) → IsId id → AllByRecursion (λ (p : LspId × Entry). IsId p.0) xs → told_beside id.node (told_in (put xs id e)) ≡ told_beside id.node (told_in xs)
+beside-put id e [] is ids = skip id.node (id, e) [] (eq-eqb (node_number id.node) (node_number id.node) refl)
+beside-put id e (x ∷ xs) is ids = beside-step id e is x xs ids.0 (beside-put id e xs is ids.1) (pair_number x == lsp_number id) (nat_lt (lsp_number id) (pair_number x)) refl refl
+
+-- ---- a node's LSPs stand together
+
+number-split : (xs : List ℕ) (p k : ℕ) → length xs ≡ 6 → p < 256 → k < 256 → from_be_bytes w64 ((xs ++ p ∷ []) ++ k ∷ []) ≡ from_be_bytes w64 ((xs ++ p ∷ []) ++ 0 ∷ []) + k
+number-split (a ∷ b ∷ c ∷ d ∷ e ∷ f ∷ []) p k six small_p small_k = omega arith
+number-split [] p k six small_p small_k = absurd (omega (arith, six))
+number-split (a ∷ []) p k six small_p small_k = absurd (omega (arith, six))
+number-split (a ∷ b ∷ []) p k six small_p small_k = absurd (omega (arith, six))
+number-split (a ∷ b ∷ c ∷ []) p k six small_p small_k = absurd (omega (arith, six))
+number-split (a ∷ b ∷ c ∷ d ∷ []) p k six small_p small_k = absurd (omega (arith, six))
+number-split (a ∷ b ∷ c ∷ d ∷ e ∷ []) p k six small_p small_k = absurd (omega (arith, six))
+number-split (a ∷ b ∷ c ∷ d ∷ e ∷ f ∷ g ∷ xs) p k six small_p small_k = absurd (omega (arith, six))
+
+base-whole : (xs : List ℕ) (p : ℕ) → length xs ≡ 6 → p < 256 → from_be_bytes w64 ((xs ++ p ∷ []) ++ 0 ∷ []) % 256 ≡ 0
+base-whole (a ∷ b ∷ c ∷ d ∷ e ∷ f ∷ []) p six small_p = omega arith
+base-whole [] p six small_p = absurd (omega (arith, six))
+base-whole (a ∷ []) p six small_p = absurd (omega (arith, six))
+base-whole (a ∷ b ∷ []) p six small_p = absurd (omega (arith, six))
+base-whole (a ∷ b ∷ c ∷ []) p six small_p = absurd (omega (arith, six))
+base-whole (a ∷ b ∷ c ∷ d ∷ []) p six small_p = absurd (omega (arith, six))
+base-whole (a ∷ b ∷ c ∷ d ∷ e ∷ []) p six small_p = absurd (omega (arith, six))
+base-whole (a ∷ b ∷ c ∷ d ∷ e ∷ f ∷ g ∷ xs) p six small_p = absurd (omega (arith, six))
+
+last-small : (xs : List ℕ) (p k : ℕ) → length xs ≡ 6 → AllByRecursion (λ octet. octet < 256) ((xs ++ p ∷ []) ++ k ∷ []) → (p < 256) × (k < 256)
+last-small (a ∷ b ∷ c ∷ d ∷ e ∷ f ∷ []) p k six all = (all.1.1.1.1.1.1.0, all.1.1.1.1.1.1.1.0)
+last-small [] p k six all = absurd (omega (arith, six))
+last-small (a ∷ []) p k six all = absurd (omega (arith, six))
+last-small (a ∷ b ∷ []) p k six all = absurd (omega (arith, six))
+last-small (a ∷ b ∷ c ∷ []) p k six all = absurd (omega (arith, six))
+last-small (a ∷ b ∷ c ∷ d ∷ []) p k six all = absurd (omega (arith, six))
+last-small (a ∷ b ∷ c ∷ d ∷ e ∷ []) p k six all = absurd (omega (arith, six))
+last-small (a ∷ b ∷ c ∷ d ∷ e ∷ f ∷ g ∷ xs) p k six all = absurd (omega (arith, six))
+
+-- an LSP ID's number is its node's and its own
+record IsSplit (id : LspId) : Type 0 where
+  pub number : lsp_number id ≡ node_number id.node + id.number
+  pub last : number_of id.node 255 ≡ node_number id.node + 255
+  pub whole : node_number id.node % 256 ≡ 0
+  pub small : id.number < 256
+
+split : (id : LspId) → IsId id → IsSplit id
+unfolding lsp_number node_number
+split id is =
+    let small = last-small id.node.system.0 id.node.pseudonode id.number is.six is.small in
+    record {
+      number = number-split id.node.system.0 id.node.pseudonode id.number is.six small.0 small.1;
+      last = number-split id.node.system.0 id.node.pseudonode 255 is.six small.0 (omega arith);
+      whole = base-whole id.node.system.0 id.node.pseudonode is.six small.0;
+      small = small.1;
+    }
+
+first-is : (node : NodeId) → number_of node 0 ≡ node_number node
+unfolding node_number
+first-is node = refl
+
+within : (a b k : ℕ) → a % 256 ≡ 0 → b % 256 ≡ 0 → k < 256 → (nat_le a (b + k) && nat_le (b + k) (a + 255)) ≡ (b == a)
+within a b k whole_a whole_b small =
+    elim (cases_eq b a) [
+      | inl same ↦ rw (eq-eqb b a same) (let e : b ≡ a = same in grind (arith, nat_tests, small, e))
+      | inr other ↦ rw (ne_eqb b a other) (far (apart other))
+    ]
+  where
+    apart : (b ≡ a → ⊥) → (b + k < a) ⊎ (a + 255 < b + k)
+    apart other =
+        elim (cases_lt b a) [
+          | inl down ↦ inl (omega (arith, whole_a, whole_b, small, other, down))
+          | inr up ↦ inr (omega (arith, whole_a, whole_b, small, other, up))
+        ]
+
+    far : (b + k < a) ⊎ (a + 255 < b + k) → (nat_le a (b + k) && nat_le (b + k) (a + 255)) ≡ false
+    far (inl less) = grind (arith, nat_tests, less)
+    far (inr more) = grind (arith, nat_tests, more)
+
+-- the LSPs of an LSP ID's node are those between its first and last
+in-node : (id : LspId) (x : LspId × Entry) → IsId id → IsId x.0 → (nat_le (number_of id.node 0) (pair_number x) && nat_le (pair_number x) (number_of id.node 255)) ≡ is_at id.node x
+in-node id x is other =
+    let a = split id is in
+    let b = split x.0 other in
+    rw (first-is id.node, b.number, a.last) (within (node_number id.node) (node_number x.0.node) x.0.number a.whole b.whole b.small)
+
+module _ (id : LspId) (is : IsId id) (x : LspId × Entry) (xs : Entries) (other : IsId x.0) (rest : told_at id.node (told_in xs) ≡ told_in (between (number_of id.node 0) (number_of id.node 255) xs)) where
+  at-step : (t u : Bool) → store.is_live x.1 ≡ t → is_at id.node x ≡ u → told_at id.node (told_in (x ∷ xs)) ≡ told_in (between (number_of id.node 0) (number_of id.node 255) (x ∷ xs))
+  at-step true true h k = let w = in-node id x is other ∙ k in rw (h, k, w, h) (ap (λ (l : Entries). told_pair x ∷ l) rest)
+  at-step true false h k = let w = in-node id x is other ∙ k in rw (h, k, w) rest
+  at-step false true h k = let w = in-node id x is other ∙ k in rw (h, w, h) rest
+  at-step false false h k = let w = in-node id x is other ∙ k in rw (h, w) rest
+
+at-between : (id : LspId) (xs : Entries) → IsId id → AllByRecursion (λ (p : LspId × Entry). IsId p.0) xs → told_at id.node (told_in xs) ≡ told_in (between (number_of id.node 0) (number_of id.node 255) xs)
+at-between id [] is ids = refl
+at-between id (x ∷ xs) is ids = at-step id is x xs ids.0 (at-between id xs is ids.1) (store.is_live x.1) (is_at id.node x) refl refl
+
+rises-if : (least : ℕ) (x : LspId × Entry) (xs : Entries) (t : Bool) → least ≤ pair_number x → RisesFrom (pair_number x + 1) xs → RisesFrom least (if t then x ∷ xs else xs)
+rises-if least x xs true low rest = (low, rest)
+rises-if least x xs false low rest = rises-less (pair_number x + 1) least xs (omega (arith, low)) rest
+
+pub between-rises : (f l least : ℕ) (xs : Entries) → RisesFrom least xs → RisesFrom least (between f l xs)
+between-rises f l least [] rises = tt
+between-rises f l least (x ∷ xs) rises = rises-if least x (between f l xs) (nat_le f (pair_number x) && nat_le (pair_number x) l) rises.0 (between-rises f l (pair_number x + 1) xs rises.1)
+
+module _ (f l : ℕ) (id : LspId) (e : Entry) (own : (nat_le f (lsp_number id) && nat_le (lsp_number id) l) ≡ true) (x : LspId × Entry) (xs : Entries) (rises : RisesFrom (pair_number x + 1) xs) (rest : between f l (put xs id e) ≡ put (between f l xs) id e) where
+  behind-step : (t : Bool) → (nat_le f (pair_number x) && nat_le (pair_number x) l) ≡ t → (pair_number x == lsp_number id) ≡ false → nat_lt (lsp_number id) (pair_number x) ≡ false → between f l (put (x ∷ xs) id e) ≡ put (between f l (x ∷ xs)) id e
+  behind-step true h p q = rw (p, q, h, p, q) (ap (λ (l : Entries). x ∷ l) rest)
+  behind-step false h p q = rw (p, q, h) rest
+
+  between-step : (a b : Bool) → (pair_number x == lsp_number id) ≡ a → nat_lt (lsp_number id) (pair_number x) ≡ b → between f l (put (x ∷ xs) id e) ≡ put (between f l (x ∷ xs)) id e
+  between-step true b p q =
+      let same : pair_number x ≡ lsp_number id = eqb-true (pair_number x) (lsp_number id) p in
+      let here : (nat_le f (pair_number x) && nat_le (pair_number x) l) ≡ true = ap (λ (n : ℕ). nat_le f n && nat_le n l) same ∙ own in
+      rw (p, own, here, p) refl
+  between-step false true p q =
+      let less : lsp_number id < pair_number x = grind (arith, nat_tests, q) in
+      let above : AllAbove (lsp_number id) (between f l (x ∷ xs)) = rises-above (lsp_number id) (pair_number x) (between f l (x ∷ xs)) less (between-rises f l (pair_number x) (x ∷ xs) (omega arith, rises)) in
+      rw (p, q, own) (sym (put-above id e [] (between f l (x ∷ xs)) above))
+  between-step false false p q = behind-step (nat_le f (pair_number x) && nat_le (pair_number x) l) refl p q
+
+pub between-put : (f l : ℕ) (id : LspId) (e : Entry) (least : ℕ) (xs : Entries) → (nat_le f (lsp_number id) && nat_le (lsp_number id) l) ≡ true → RisesFrom least xs → between f l (put xs id e) ≡ put (between f l xs) id e
+between-put f l id e least [] own rises = rw own refl
+between-put f l id e least (x ∷ xs) own rises = between-step f l id e own x xs rises.1 (between-put f l id e (pair_number x + 1) xs own rises.1) (pair_number x == lsp_number id) (nat_lt (lsp_number id) (pair_number x)) refl refl
+
+pub here-put : (id : LspId) (e : Entry) (xs : Entries) → IsId id → AllByRecursion (λ (p : LspId × Entry). IsId p.0) (put xs id e) → RisesFrom 0 xs → told_at id.node (told_in (put xs id e)) ≡ told_in (put (between (number_of id.node 0) (number_of id.node 255) xs) id e)
+here-put id e xs is ids rises =
+    at-between id (put xs id e) is ids
+    ∙ ap told_in (between-put (number_of id.node 0) (number_of id.node 255) id e 0 xs (in-node id (id, e) is is ∙ eq-eqb (node_number id.node) (node_number id.node) refl) rises)
+
+put-id-if : (id : LspId) (e : Entry) (x : LspId × Entry) (xs ys : Entries) (a b : Bool) → IsId id → IsId x.0 → AllByRecursion (λ (p : LspId × Entry). IsId p.0) xs → AllByRecursion (λ (p : LspId × Entry). IsId p.0) ys → AllByRecursion (λ (p : LspId × Entry). IsId p.0) (if a then (id, e) ∷ xs else (if b then (id, e) ∷ x ∷ xs else x ∷ ys))
+put-id-if id e x xs ys true b is own ids rest = (is, ids)
+put-id-if id e x xs ys false true is own ids rest = (is, (own, ids))
+put-id-if id e x xs ys false false is own ids rest = (own, rest)
+
+pub put-ids : (id : LspId) (e : Entry) (xs : Entries) → IsId id → AllByRecursion (λ (p : LspId × Entry). IsId p.0) xs → AllByRecursion (λ (p : LspId × Entry). IsId p.0) (put xs id e)
+put-ids id e [] is ids = (is, tt)
+put-ids id e (x ∷ xs) is ids = put-id-if id e x xs (put xs id e) (pair_number x == lsp_number id) (nat_lt (lsp_number id) (pair_number x)) is ids.0 ids.1 (put-ids id e xs is ids.1)
+
+pub told-rises : (least : ℕ) (xs : Entries) → RisesFrom least xs → RisesFrom least (told_in xs)
+told-rises least [] rises = tt
+told-rises least (x ∷ xs) rises = by-test (store.is_live x.1) refl (told-rises (pair_number x + 1) xs rises.1)
+  where
+    by-test : (t : Bool) → store.is_live x.1 ≡ t → RisesFrom (pair_number x + 1) (told_in xs) → RisesFrom least (told_in (x ∷ xs))
+    by-test true h rest = rw h (rises.0, rest)
+    by-test false h rest = let low = rises.0 in rw h (rises-less (pair_number x + 1) least (told_in xs) (omega (arith, low)) rest)
+
+-- ---- through a step
+
+-- the cell of an LSP that is stored
+abbrev pub stored : Book → ℕ → Heard → Cell
+stored book place h = flagged (kept h) (without book.opened place) (ssn_stored book.p2p place (cell_at book h.id))
+
+stored-heard : (book : Book) (place : ℕ) (w : Whose) (h : Heard) → met book w h ≡ lsp.Stored → hear_lsp book place w h ≡ set_cell book h.id (Some (stored book place h))
+unfolding hear_lsp
+stored-heard book place w h e = ap (λ (row : LspCase). set_cell book h.id (lsp_row row book.opened book.p2p place (cell_at book h.id) h)) e
+
+stored-book : (scene : Scene) (state : LevelState) (place : ℕ) (w : Whose) (h : Heard) → met state.book w h ≡ lsp.Stored → (take_lsp scene state place w h).book ≡ set_cell state.book h.id (Some (stored state.book place h))
+unfolding take_lsp
+stored-book scene state place w h e =
+    let row : (lsp_taken scene state place w h (met state.book w h)).book ≡ hear_lsp state.book place w h = ap (λ (row : LspCase). (lsp_taken scene state place w h row).book) e in
+    row ∙ stored-heard state.book place w h e
+
+set-cells : (book : Book) (id : ℕ) (cell : Cell) → (set_cell book id (Some cell)).cells ≡ model.put book.cells id cell
+unfolding set_cell
+set-cells book id cell = refl
+
+pub record IsStored (r t : Router) (l : Level) (place : ℕ) (h : Heard) : Type 0 where
+  pub cells : (book_of t l).cells ≡ model.put (book_of r l).cells h.id (stored (book_of r l) place h)
+  pub other : book_of t (beside l) ≡ book_of r (beside l)
+
+stored-level : (r : Router) (l : Level) (place : ℕ) (h : Heard) (s : LevelState) → s.book ≡ set_cell (book_of r l) h.id (Some (stored (book_of r l) place h)) → IsStored r (with_level r l s) l place h
+stored-level r level.One place h s e = record { cells = ap (λ (b : Book). b.cells) e ∙ set-cells (book_of r level.One) h.id (stored (book_of r level.One) place h); other = refl }
+stored-level r level.Two place h s e = record { cells = ap (λ (b : Book). b.cells) e ∙ set-cells (book_of r level.Two) h.id (stored (book_of r level.Two) place h); other = refl }
+
+settled-stored : (r : Router) (o : Outcome) (l : Level) (place : ℕ) (h : Heard) → IsStored r o.router l place h → IsStored r (settled o).router l place h
+settled-stored r o level.One place h s = record { cells = s.cells; other = s.other }
+settled-stored r o level.Two place h s = record { cells = s.cells; other = s.other }
+
+pub step-stored : (given : Given) (r : Router) (place : ℕ) (l : Level) (snpa : ℕ) (h : Heard) (c : Circuit) → nth r.circuits place ≡ Some c → lsp_drop r place c l snpa h ≡ None → met (book_of r l) (whose_of r.config.system (level_of r l) h.id) h ≡ lsp.Stored → IsStored r (step given r (Take place (LspHeard l snpa h))).router l place h
+unfolding step
+step-stored given r place l snpa h c there kept met =
+    let state = level_of r l in
+    let w = whose_of r.config.system state h.id in
+    let book = stored-book (scene_of given r l) state place w h met in
+    let after = stored-level r l place h (take_lsp (scene_of given r l) state place w h) book in
+    rw (there, kept) (settled-stored r (taken given r place c (LspHeard l snpa h)) l place h after)
+
+-- ---- what routes look at
+
+pub moved-at : (r t : Router) → SameConfig r t → (l : Level) → at r.config.runs l ≡ true → (node : NodeId) (here : Entries) → told_by (book_of t (beside l)).cells ≡ told_by (book_of r (beside l)).cells → told_beside node (told_by (book_of t l).cells) ≡ told_beside node (told_by (book_of r l).cells) → told_at node (told_by (book_of t l).cells) ≡ here → RisesFrom 0 (told_by (book_of t l).cells)
+    → IsMovedAt (outlook_of r) (outlook_of t) l node here
+unfolding outlook_of
+moved-at r t same level.One runs node here other others at_node rises =
+    let still : t.config.runs.one ≡ true = ap (λ (b : Both Bool). b.one) same.runs ∙ runs in
+    record {
+      root = ap (λ (n : ℕ). own_node (system_id n)) same.system;
+      areas = same.areas;
+      runs = same.runs;
+      prefixes = ap prefixes_by same.prefixes;
+      run = runs;
+      other = ap (λ (b : Both Bool). where_run b.two (told_by (book_of t level.Two).cells)) same.runs ∙ ap (where_run r.config.runs.two) other;
+      others = rw (still, runs) others;
+      here = rw still at_node;
+      rises = rw still rises;
+    }
+moved-at r t same level.Two runs node here other others at_node rises =
+    let still : t.config.runs.two ≡ true = ap (λ (b : Both Bool). b.two) same.runs ∙ runs in
+    record {
+      root = ap (λ (n : ℕ). own_node (system_id n)) same.system;
+      areas = same.areas;
+      runs = same.runs;
+      prefixes = ap prefixes_by same.prefixes;
+      run = runs;
+      other = ap (λ (b : Both Bool). where_run b.one (told_by (book_of t level.One).cells)) same.runs ∙ ap (where_run r.config.runs.one) other;
+      others = rw (still, runs) others;
+      here = rw still at_node;
+      rises = rw still rises;
+    }
+
+-- ---- an LSP that is stored
+
+live-whole : (rank : ℕ) → is_live rank ≡ true → is_purge rank ≡ false
+live-whole rank live = grind (arith, nat_tests, live)
+
+-- what an LSP that is stored tells is what an entry of it tells
+stored-tells : (book : Book) (place : ℕ) (h : Heard) (e : Entry) → rank e.key ≡ h.rank → e.flags ≡ h.flags → e.octets ≡ h.octets → Tells (stored book place h) e
+stored-tells book place h e key flags octets = record {
+  live = live;
+  says = λ is. let whole : is_purge h.rank ≡ false = live-whole h.rank (live ∙ is) in rw whole (λ i. told (sym flags i) (sym octets i));
+}
+  where
+    live : is_live h.rank ≡ store.is_live e
+    live = ap is_live (sym key) ∙ live-is e.key
+
+module _ (r : Router) (place : ℕ) (l : Level) (snpa : ℕ) (lsp_in : heard.LspHeard) (c : Circuit) (v : BookState) (e : Entry)
+    (there : nth r.circuits place ≡ Some c) (kept : lsp_drop r place c l snpa (heard_of lsp_in) ≡ None)
+    (row : met (book_of r l) (whose_of r.config.system (level_of r l) (lsp_number lsp_in.entry.id)) (heard_of lsp_in) ≡ lsp.Stored)
+    (runs : at r.config.runs l ≡ true) (of_book : sync.book_of v ≡ book_of r l) (long : length v.rows ≡ length v.store.entries)
+    (is : IsId lsp_in.entry.id) (ids : AllByRecursion (λ (p : LspId × Entry). IsId p.0) v.store.entries) (rises : RisesFrom 0 v.store.entries)
+    (key : rank e.key ≡ entry_rank lsp_in.entry) (flags : e.flags ≡ lsp_in.flags) (octets : e.octets ≡ lsp_in.octets.now) where
+  abbrev pub event-of : Event
+  event-of = Take place (LspHeard l snpa (heard_of lsp_in))
+
+  abbrev id : LspId
+  id = lsp_in.entry.id
+
+  pub stored-moves : IsMovedAt (outlook_of r) (outlook_of (step given r event-of).router) l lsp_in.entry.id.node (told_in (put (between (number_of lsp_in.entry.id.node 0) (number_of lsp_in.entry.id.node 255) v.store.entries) lsp_in.entry.id e))
+  stored-moves =
+      let t = (step given r event-of).router in
+      let h = heard_of lsp_in in
+      let entries = v.store.entries in
+      let cell = stored (book_of r l) place h in
+      let tells = stored-tells (book_of r l) place h e key flags octets in
+      let s = step-stored given r place l snpa h c there kept row in
+      let cells : (book_of r l).cells ≡ cells_of entries v.rows = ap (λ (b : Book). b.cells) (sym of_book) in
+      let later : told_by (book_of t l).cells ≡ told_in (put entries id e) =
+      ap told_by s.cells ∙ ap (λ (m : List (ℕ × Cell)). told_by (model.put m (lsp_number id) cell)) cells ∙ put-told id cell e entries v.rows is tells long ids in
+      let before : told_by (book_of r l).cells ≡ told_in entries = ap told_by cells ∙ told-cells entries v.rows long ids in
+      moved-at r t (step-config given r event-of tt) l runs id.node (told_in (put (between (number_of id.node 0) (number_of id.node 255) entries) id e))
+      (ap (λ (b : Book). told_by b.cells) s.other)
+      (ap (told_beside id.node) later ∙ beside-put id e entries is ids ∙ sym (ap (told_beside id.node) before))
+      (ap (told_at id.node) later ∙ here-put id e entries is (put-ids id e entries is ids) rises)
+      (subst (RisesFrom 0) (sym later) (told-rises 0 (put entries id e) (put-rises entries 0 id e (omega arith) rises)))
+
+  pub stored-moves-in : (db : Database) → db ≡ v.store → IsMovedAt (outlook_of r) (outlook_of (step given r event-of).router) l lsp_in.entry.id.node (told_in (put (between (number_of lsp_in.entry.id.node 0) (number_of lsp_in.entry.id.node 255) db.entries) lsp_in.entry.id e))
+  stored-moves-in db same = subst (λ (d : Database). IsMovedAt (outlook_of r) (outlook_of (step given r event-of).router) l lsp_in.entry.id.node (told_in (put (between (number_of lsp_in.entry.id.node 0) (number_of lsp_in.entry.id.node 255) d.entries) lsp_in.entry.id e))) (sym same) stored-moves
+
+pub some-there : {A : Type 0} (xs : List A) (i : ℕ) → i < length xs → (x : A) × (nth xs i ≡ Some x)
+some-there [] i h = absurd (omega (arith, h))
+some-there (x ∷ xs) zero h = (x, refl)
+some-there (x ∷ xs) (suc i) h = some-there xs i (omega (arith, h))
+
+pub stored-row : (row : LspCase) (l : heard.LspHeard) → answer_of row l ≡ answer.Stored → row ≡ lsp.Stored
+stored-row lsp.Outbid l e = absurd (cc)
+stored-row lsp.PurgedOwn l e = absurd (cc)
+stored-row lsp.AckPurge l e = absurd (cc)
+stored-row lsp.Confused l e = absurd (cc)
+stored-row lsp.Stored l e = refl
+stored-row lsp.Same l e = absurd (cc)
+stored-row lsp.Older l e = absurd (cc)
+
+pub none-of : {A : Type 0} (o : Option A) → is_some o ≡ false → o ≡ None
+none-of None e = refl
+none-of (Some x) e = absurd (cc)
+
+-- ---- what follows then
+
+pub follows-next : (o : Outlook) (next : Option FollowingOf) (old new : FollowingOf) → MatchOption next (IsFollowing o old) (λ f. IsFollowing o f) → MatchOption next (new ≡ old) (λ f. new ≡ f) → IsFollowing o new
+follows-next o None old new follows is = subst (IsFollowing o) (sym is) follows
+follows-next o (Some f) old new follows is = subst (IsFollowing o) (sym is) follows

@@ -1,0 +1,84 @@
+//! The LSPs of one node as a database of its own (own).
+ghost use Rattle.std.specs.Prelude.{◌≡◌, ◌++◌, ◌∷◌, [], IfOk, OnOk};
+ghost use Rattle.isis_base.specs.Identifiers.{lsp_number};
+ghost use Rattle.isis_base.specs.Keys.{entry_rank, rank};
+ghost use Rattle.lsp_store.specs.Maps.{between, put};
+ghost use Rattle.lsp_store.specs.Places.{AllBelow};
+ghost use Rattle.lsp_view.specs.Views.{number_of};
+
+use flag_sync::LspHeard;
+use isis_base::{LspId, Octets, OutOfMemory};
+use lsp_store::{Entry, Store, TryCopy};
+use std::alloc::Global;
+
+/// The LSPs of an LSP ID's node, with this entry in the place of what is held of the LSP ID.
+pub(crate) fn node_with(
+    alloc: Global,
+    store: &Store,
+    id: LspId,
+    entry: Entry,
+) -> Result<Store, OutOfMemory>
+    ensures { IfOk result (λ aside. aside.entries
+        ≡ put (between (number_of id.node 0) (number_of id.node 255) store.now.entries) id entry) }
+{
+    let mut aside = part_of(alloc, store, id)?;
+    put_in(&mut aside, id, entry)?;
+    Ok(aside)
+}
+
+/// The LSPs that are held of an LSP ID's node.
+fn part_of(alloc: Global, store: &Store, id: LspId) -> Result<Store, OutOfMemory>
+    ensures { IfOk result (λ part. part.entries
+        ≡ between (number_of id.node 0) (number_of id.node 255) store.now.entries) }
+{
+    let _entries = store.len();
+    let node = id.node;
+    let (first, last) = (LspId { node, number: 0 }, LspId { node, number: 255 });
+    let mut part = Store::new(alloc);
+    for (id, entry) in store.range(first, last) {
+        match add(&mut part, id, entry) {
+            Ok(()) => {}
+            Err(error) => return Err(error),
+        }
+    }
+    Ok(part)
+}
+
+/// Adds an entry behind those that are there.
+fn add(part: &mut Store, id: LspId, entry: &Entry) -> Result<(), OutOfMemory>
+    requires { AllBelow (lsp_number id) part.old.entries }
+    ensures { OnOk result (part.new.entries ≡ part.old.entries ++ (id, entry.now) ∷ []) }
+{
+    let copy = match entry.try_copy() {
+        Ok(copy) => copy,
+        Err(error) => return Err(error),
+    };
+    put_in(part, id, copy)
+}
+
+/// Sets an LSP ID's entry.
+fn put_in(store: &mut Store, id: LspId, entry: Entry) -> Result<(), OutOfMemory>
+    ensures { OnOk result (store.new.entries ≡ put store.old.entries id entry) }
+{
+    match store.put(id, entry) {
+        Ok(_) => Ok(()),
+        Err(_) => Err(OutOfMemory),
+    }
+}
+
+/// The entry of an LSP that is heard, as it was heard.
+pub(crate) fn entry_heard(alloc: Global, lsp: &LspHeard<'_>) -> Result<Entry, OutOfMemory>
+    ensures key { IfOk result (λ entry. rank entry.key ≡ entry_rank lsp.now.entry) }
+    ensures flags { IfOk result (λ entry. entry.flags ≡ lsp.now.flags) }
+    ensures octets { IfOk result (λ entry. entry.octets ≡ lsp.now.octets.now) }
+{
+    let mut octets = Octets::new(alloc);
+    octets.extend(lsp.octets)?;
+    Ok(Entry {
+        key: lsp.entry.key(),
+        checksum: lsp.entry.checksum,
+        flags: lsp.flags,
+        left: lsp.entry.lifetime,
+        octets,
+    })
+}
