@@ -1,4 +1,5 @@
--- Why a hello is refused, what became of an adjacency, and the boot that it names.
+-- Why a hello is refused, what became of an adjacency, and the boot that it names
+-- (ISO 10589 8.2.4, 8.4.2, RFC 5303 3; the form: own).
 use Rattle.std.specs.Prelude.{◌≡◌, ℕ, ◌/◌, Bool, ◌&&◌, not, if◌then◌else◌, Option, Some, None, Result, Ok, Err}
 use Rattle.std.specs.Option.{option_map}
 use Rattle.isis_model.specs.declared.drop_name.DropName.{DropName}

@@ -1,4 +1,4 @@
--- When a PDU is authentic, and when each fault comes.
+-- When a PDU is authentic, and when each fault comes (RFC 5304 2; the form: own).
 use Rattle.std.specs.Prelude.{◌≡◌, ◌≢◌, ℕ, ◌+◌, ◌==◌, ◌&&◌, not, Bool, IsTrue, List, length, take, drop, slice_index, Option, Some, None, Result, Ok, Err, IsSomeAnd, Any, find, if◌then◌else◌}
 use Rattle.std.specs.List.{list_any}
 use Rattle.std.specs.Str.{bytes_eq}

@@ -1,4 +1,4 @@
--- Node IDs and LSP IDs as octets, and LSP IDs as numbers.
+-- Node IDs and LSP IDs as octets, and LSP IDs as numbers (ISO 10589 7.2.1, 9.8; the numbers: own).
 use Rattle.std.specs.Prelude.{◌≡◌, ℕ, ◌<◌, List, [], ◌∷◌, ◌++◌, length, take, slice_index}
 use Rattle.std.specs.List.{AllByRecursion}
 use Rattle.std.specs.Int.{from_be_bytes, w64}

@@ -1,4 +1,4 @@
--- Which of two keys is newer, and the newer of two.
+-- Which of two keys is newer, and the newer of two (ISO 10589 7.3.16.1, 7.3.16.4; the form: own).
 use Rattle.std.specs.Prelude.{◌≡◌, ℕ, ◌+◌, ◌*◌, ◌<◌, nat_lt, Option, Some, None, if◌then◌else◌, List, codes}
 use Rattle.isis_base.specs.declared.key.Key.{Key}
 use Rattle.isis_base.specs.declared.order.Order3.{Order3}

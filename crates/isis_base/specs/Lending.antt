@@ -1,4 +1,4 @@
--- What a list of octets is after it was lent to be written.
+-- What a list of octets is after it was lent to be written (own).
 use Rattle.std.specs.Prelude.{ℕ, List}
 use Rattle.std.specs.Borrow.{Lends, MutBor, Fml, Array, u8}
 use Rattle.isis_base.specs.Octets.{overwritten}

@@ -1,4 +1,4 @@
--- The texts of levels and of sets of levels.
+-- The texts of levels and of sets of levels (own).
 use Rattle.std.specs.Prelude.{◌≡◌, ℕ, List, Option, Some, None, codes, if◌then◌else◌}
 use Rattle.std.specs.Str.{bytes_eq}
 use Rattle.isis_base.specs.declared.level.Level.{Level}

@@ -1,4 +1,4 @@
--- What a text of octets and marks reads as, and where it stops fitting its form.
+-- What a text of octets and marks reads as, and where it stops fitting its form (own).
 use Rattle.std.specs.Prelude.{ℕ, ◌+◌, ◌*◌, ◌==◌, nat_lt, List, [], ◌∷◌, Option, Some, None, Result, Ok, Err, if◌then◌else◌}
 use Rattle.std.specs.Char.{digit_value}
 use Rattle.isis_base.specs.declared.parts.Part.{Part}

@@ -1,4 +1,4 @@
--- A list of octets after a write through a lent slice.
+-- A list of octets after a write through a lent slice (own).
 use Rattle.std.specs.Prelude.{ℕ, List, ◌++◌, length, take, drop}
 
 -- the list after a write through a lent slice: what was written, at the length that was there

@@ -1,4 +1,5 @@
--- The nine types of PDUs: their numbers, the lengths of their headers and the places of their PDU lengths.
+-- The nine types of PDUs: their numbers, the lengths of their headers and the places of their
+-- PDU lengths (ISO 10589 9).
 use Rattle.std.specs.Prelude.{ℕ, ◌%◌, ◌==◌, Bool, true, false, List, [], ◌∷◌, find, slice_index, Option, if◌then◌else◌}
 use Rattle.isis_base.specs.declared.level.Level.TheVariants as level
 use Rattle.isis_base.specs.declared.pdu_kind.PduKind.{PduKind}

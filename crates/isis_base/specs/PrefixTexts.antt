@@ -1,4 +1,4 @@
--- The texts of prefixes.
+-- The texts of prefixes (own).
 use Rattle.std.specs.Prelude.{◌≡◌, ℕ, ◌-◌, ◌%◌, ◌^◌, ◌<◌, ◌≤◌, List, ◌++◌, map, codes, decimal}
 use Rattle.std.specs.Int.{to_be_bytes, w32}
 use Rattle.std.specs.List.{join_with_byte}

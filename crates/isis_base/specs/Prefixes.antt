@@ -1,4 +1,4 @@
--- The prefix of an address and a length.
+-- The prefix of an address and a length (own).
 use Rattle.std.specs.Prelude.{◌≡◌, ℕ, ◌-◌, ◌%◌, ◌^◌, ◌==◌, nat_le, Bool, true, false, Option, Some, None, refl}
 use Rattle.std.proofs.lemmas.Bool.{leb-true, eqb-true}
 use Rattle.isis_base.specs.declared.prefix.Prefix.{Prefix}

@@ -1,4 +1,4 @@
--- The texts of identifiers and keys, and where a text that is none goes wrong.
+-- The texts of identifiers and keys, and where a text that is none goes wrong (own).
 use Rattle.std.specs.Prelude.{◌≡◌, ℕ, ◌+◌, ◌/◌, ◌%◌, ◌<◌, ◌≤◌, List, [], ◌∷◌, ◌++◌, length, take, codes, decimal, if◌then◌else◌}
 use Rattle.std.specs.List.{AllByRecursion}
 use Rattle.std.specs.Char.{digit_char}

@@ -1,4 +1,4 @@
--- What a write says of what a sink holds.
+-- What a write says of what a sink holds (own).
 use Rattle.std.specs.Prelude.{ℕ, ◌<◌, ◌≤◌, List, length, take, Option}
 use Rattle.isis_edge.specs.declared.sink.Put.{Put}
 use Rattle.isis_edge.specs.declared.sink.Put.TheVariants as put

@@ -1,4 +1,4 @@
--- What a read says of what a source has left.
+-- What a read says of what a source has left (own).
 use Rattle.std.specs.Prelude.{◌≡◌, ℕ, ◌<◌, ◌≤◌, List, [], length, take, Option, Some, IfSome}
 use Rattle.isis_edge.specs.declared.source.Got.{Got}
 use Rattle.isis_edge.specs.declared.source.Got.TheVariants as got

@@ -1,4 +1,4 @@
--- What octets say, as one function of them.
+-- What octets say, as one function of them (ISO 10589 9; the form: own).
 use Rattle.std.specs.Prelude.{ℕ, List, Option, Some, None, Result, Ok, Err}
 use Rattle.isis_base.specs.declared.pdu_kind.PduKind.{PduKind}
 use Rattle.isis_pdu.specs.declared.fault.PduFault.{PduFault}

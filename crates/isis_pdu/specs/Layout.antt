@@ -1,4 +1,4 @@
--- The fields of each type at their offsets.
+-- The fields of each type at their offsets (ISO 10589 9.5 to 9.13).
 use Rattle.std.specs.Prelude.{ℕ, ◌%◌, ◌-◌, ◌==◌, Bool, true, false, List, [], ◌∷◌, take, drop, find, slice_index, Option, if◌then◌else◌}
 use Rattle.isis_base.specs.declared.level.Level.TheVariants as level
 use Rattle.isis_base.specs.declared.level.LevelSet.{LevelSet}

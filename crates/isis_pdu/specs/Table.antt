@@ -1,4 +1,4 @@
--- The tests on octets, in order, each with the fault where it fails.
+-- The tests on octets, in order, each with the fault where it fails (ISO 10589 9; the order: own).
 use Rattle.std.specs.Prelude.{ℕ, ◌%◌, ◌==◌, nat_le, ◌&&◌, ◌||◌, not, Bool, List, [], ◌∷◌, ◌++◌, length, slice_index, Option, Some, None, if◌then◌else◌}
 use Rattle.std.specs.Option.{is_some, is_none, option_map, unwrap_or}
 use Rattle.isis_tlv.specs.declared.tlv.TlvFault.{TlvFault}

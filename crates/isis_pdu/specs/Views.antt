@@ -1,4 +1,4 @@
--- PDUs without where their TLVs lie in memory.
+-- PDUs without where their TLVs lie in memory (own).
 use Rattle.std.specs.Prelude.{ℕ, List, Result, Ok, Err}
 use Rattle.isis_base.specs.declared.identifiers.SystemId.{SystemId}
 use Rattle.isis_base.specs.declared.identifiers.NodeId.{NodeId}

@@ -1,4 +1,5 @@
--- What the values of codes 1, 6, 9, 22, 135 and 240 read as.
+-- What the values of codes 1, 6, 9, 22, 135 and 240 read as (ISO 10589 9, RFC 5305 3 and 4, RFC
+-- 5303 3; the form: own).
 use Rattle.std.specs.Prelude.{ℕ, suc, zero, ◌+◌, ◌-◌, ◌*◌, ◌/◌, ◌%◌, ◌^◌, ◌≤◌, ◌==◌, ◌&&◌, nat_le, List, [], ◌∷◌, length, take, drop, slice_index, Option, Some, None, Result, Err, if◌then◌else◌, option_and_then}
 use Rattle.std.specs.Option.{ok_or, IfSome}
 use Rattle.std.specs.Int.{bit_at}

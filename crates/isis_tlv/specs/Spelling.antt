@@ -1,4 +1,5 @@
--- What is written of the values of codes 1, 6, 9, 22, 129, 132, 135 and 240.
+-- What is written of the values of codes 1, 6, 9, 22, 129, 132, 135 and 240
+-- (ISO 10589 9, RFC 1195 5.3, RFC 5303 3, RFC 5305 3 and 4; the form: own).
 use Rattle.std.specs.Prelude.{ℕ, ◌+◌, List, [], ◌∷◌, ◌++◌, length, take, Option, Some, None, if◌then◌else◌}
 use Rattle.std.specs.List.{flat_map}
 use Rattle.isis_base.specs.declared.identifiers.Snpa.{Snpa}

@@ -1,4 +1,4 @@
--- The line of a place, by what it is of.
+-- The line of a place, by what it is of (own).
 use Rattle.std.specs.Prelude.{ℕ, List}
 use Rattle.lab_grid.specs.declared.line.GridLine.{GridLine}
 use Rattle.lab_grid.specs.declared.line.GridLine.TheVariants.{Router, Across, Down, Prefix}

@@ -1,4 +1,4 @@
--- What is still to come of a report, and how many calls make it at most.
+-- What is still to come of a report, and how many calls make it at most (own).
 use Rattle.std.specs.Prelude.{ℕ, ◌+◌, List, [], ◌++◌, length, map, if◌then◌else◌}
 use Rattle.std.specs.Borrow.{Bor}
 use Rattle.route_table.specs.declared.route.Route.{Route}

@@ -1,4 +1,4 @@
--- Counts by number, where a number behind the last counts nothing.
+-- Counts by number, where a number behind the last counts nothing (own).
 use Rattle.std.specs.Prelude.{◌≡◌, ℕ, ◌+◌, ◌==◌, ◌||◌, Bool, false, List, [], ◌∷◌, slice_index_or, slice_set}
 use Rattle.std.specs.List.{list_any}
 

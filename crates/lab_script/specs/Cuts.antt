@@ -1,4 +1,4 @@
--- What stands behind a mark of a text.
+-- What stands behind a mark of a text (own).
 use Rattle.std.specs.Prelude.{ℕ, ◌==◌, List, [], Option, Some, None}
 use Rattle.std.specs.List.{slice_split}
 use Rattle.std.specs.Borrow.{Bor}

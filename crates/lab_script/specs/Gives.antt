@@ -1,4 +1,4 @@
--- Answers that are as expected, unless there was no memory for it.
+-- Answers that are as expected, unless there was no memory for it (own).
 use Rattle.std.specs.Prelude.{◌≡◌, Result, Ok, Err}
 use Rattle.lab_script.specs.declared.reason.ScriptFault.{ScriptFault}
 use Rattle.lab_script.specs.declared.reason.ScriptFault.TheVariants.{Refused, Limit, OutOfMemory}

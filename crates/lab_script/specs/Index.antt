@@ -1,4 +1,4 @@
--- How names lie in memory: a list, and an index into it.
+-- How names lie in memory: a list, and an index into it (own).
 use Rattle.std.specs.Prelude.{◌≡◌, ℕ, List, map}
 use Rattle.std.specs.Borrow.{Bor}
 use Rattle.std.specs.Str.{bytes_eq}

@@ -1,4 +1,4 @@
--- What holds of every keys script that was read.
+-- What holds of every keys script that was read (own).
 use Rattle.std.specs.Prelude.{◌≡◌, ℕ, ◌<◌, ◌≤◌, true, List, length}
 use Rattle.std.specs.List.{AllByRecursion}
 use Rattle.network_lab.specs.KeysNet.{ordered}

@@ -1,4 +1,5 @@
--- The fields of a lab script's lines: a reader for each kind, from a word to the value that it writes.
+-- The fields of a lab script's lines: a reader for each kind, from a word to the value that it
+-- writes (own).
 use Rattle.std.specs.Prelude.{ℕ, ◌==◌, nat_le, Bool, true, false, List, Option, Some, None, codes, option_and_then, if◌then◌else◌}
 use Rattle.std.specs.Option.{option_map}
 use Rattle.std.specs.Str.{bytes_eq}

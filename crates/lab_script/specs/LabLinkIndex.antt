@@ -1,4 +1,5 @@
--- How the links of a lab script lie in memory: a list, an index of their names, and how many circuits each router has.
+-- How the links of a lab script lie in memory: a list, an index of their names, and how many
+-- circuits each router has (own).
 use Rattle.std.specs.Prelude.{◌≡◌, ℕ, slice_index_or}
 use Rattle.lab_script.specs.declared.lab_links.LabLinks.TheInside.{Inside}
 use Rattle.lab_script.specs.LabScripts.{link_names, circuit_count}

@@ -1,4 +1,4 @@
--- What holds of every lab script that was read.
+-- What holds of every lab script that was read (own).
 use Rattle.std.specs.Prelude.{◌≡◌, ◌≢◌, ℕ, ◌<◌, ◌≤◌, List, map, length, take, slice_index_or, IfSome, IsSome}
 use Rattle.std.specs.List.{AllByRecursion}
 use Rattle.isis_base.specs.declared.level.CircuitKind.{CircuitKind}

@@ -1,4 +1,4 @@
--- How links lie in memory: a list, and an index of it.
+-- How links lie in memory: a list, and an index of it (own).
 use Rattle.std.specs.Prelude.{◌≡◌, ℕ, ◌==◌, ◌&&◌, is_some}
 use Rattle.std.specs.HashMap.{get_by}
 use Rattle.lab_script.specs.declared.links.Links.TheInside.{Inside}

@@ -1,4 +1,4 @@
--- Lines of keys scripts as words, of fields in their ranges.
+-- Lines of keys scripts as words, of fields in their ranges (own).
 use Rattle.std.specs.Prelude.{◌≡◌, ℕ, ◌<◌, ◌^◌, Bool, true, false, List, [], ◌∷◌, codes, decimal}
 use Rattle.isis_base.specs.Identifiers.{IsId}
 use Rattle.isis_base.specs.Texts.{lsp_text}

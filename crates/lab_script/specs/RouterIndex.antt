@@ -1,4 +1,5 @@
--- How the routers of a lab script lie in memory: a list, and an index of their names and of their system IDs.
+-- How the routers of a lab script lie in memory: a list, and an index of their names and of
+-- their system IDs (own).
 use Rattle.std.specs.Prelude.{◌≡◌}
 use Rattle.std.specs.Str.{bytes_eq}
 use Rattle.std.specs.HashSet.{contains_by}

@@ -1,4 +1,4 @@
--- The events of a keys script in its network.
+-- The events of a keys script in its network (own).
 use Rattle.std.specs.Prelude.{◌≡◌, ◌<◌, true, List}
 use Rattle.std.specs.List.{AllByRecursion}
 use Rattle.network_lab.specs.KeysNet.{Net, is_joined}

@@ -1,4 +1,4 @@
--- What is still to come of a report, and how many calls make it at most.
+-- What is still to come of a report, and how many calls make it at most (own).
 use Rattle.std.specs.Prelude.{ℕ, suc, ◌+◌, List, [], ◌∷◌, ◌++◌, length}
 use Rattle.std.specs.List.{flat_map}
 use Rattle.network_lab.specs.KeysNet.{Net}

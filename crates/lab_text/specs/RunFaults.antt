@@ -1,4 +1,4 @@
--- What ends a run whose script is refused or has no memory.
+-- What ends a run whose script is refused or has no memory (own).
 use Rattle.lab_script.specs.declared.reason.ScriptFault.{ScriptFault}
 use Rattle.lab_script.specs.declared.reason.ScriptFault.TheVariants as script
 use Rattle.lab_text.specs.declared.fault.RunFault.{RunFault}

@@ -1,4 +1,4 @@
--- Entries in the order of their LSP IDs, and a copy joined in.
+-- Entries in the order of their LSP IDs, and a copy joined in (own).
 use Rattle.std.specs.Prelude.{◌≡◌, ℕ, ◌<◌, ◌≤◌, ◌⊎◌, List, length, slice_index_or, Some, Contains}
 use Rattle.isis_base.specs.declared.identifiers.LspId.{LspId}
 use Rattle.isis_base.specs.declared.key.Key.{Key}

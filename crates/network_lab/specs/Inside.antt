@@ -1,4 +1,4 @@
--- How a plain network lies in memory.
+-- How a plain network lies in memory (own).
 use Rattle.std.specs.Prelude.{◌≡◌, ℕ, ◌<◌, ◌≤◌, true, List, length, slice_index_or}
 use Rattle.std.specs.List.{AllByRecursion}
 use Rattle.isis_base.specs.Identifiers.{IsId}

@@ -1,4 +1,4 @@
--- What becomes of the routers that a link or LAN joins, as it is made ready and put in.
+-- What becomes of the routers that a link or LAN joins, as it is made ready and put in (own).
 use Rattle.std.specs.Prelude.{◌≡◌, ℕ, ◌<◌, List, [], ◌∷◌, ◌++◌, length, Some}
 use Rattle.isis_model.specs.Places.{nth, with_nth}
 use Rattle.isis_model.specs.Routers.{Router}

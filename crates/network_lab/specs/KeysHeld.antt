@@ -1,4 +1,4 @@
--- What a router of a plain network holds: of each LSP ID the join of its copies' keys.
+-- What a router of a plain network holds: of each LSP ID the join of its copies' keys (own).
 use Rattle.std.specs.Prelude.{ℕ, ◌+◌, ◌==◌, nat_lt, List, [], ◌∷◌, Some, if◌then◌else◌}
 use Rattle.isis_base.specs.declared.identifiers.LspId.{LspId}
 use Rattle.isis_base.specs.declared.key.Key.{Key}

@@ -1,4 +1,4 @@
--- How a network of routers lies in memory.
+-- How a network of routers lies in memory (own).
 use Rattle.std.specs.Prelude.{◌≡◌, ℕ, ◌≤◌, ◌<◌, true, false, List, [], map, length, unwrap_or, Some, None}
 use Rattle.std.specs.List.{AllByRecursion}
 use Rattle.isis_model.specs.Places.{nth}

@@ -1,4 +1,4 @@
--- Which prefixes have an address, and which is the longest of them.
+-- Which prefixes have an address, and which is the longest of them (own).
 
 use Rattle.std.specs.Prelude.{◌≡◌, ℕ, ◌≤◌, ◌<◌, ◌-◌, ◌/◌, ◌^◌, List, length, slice_index_or, Option, Some, None}
 use Rattle.std.specs.List.{Contains}

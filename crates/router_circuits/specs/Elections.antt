@@ -1,4 +1,5 @@
--- Who is designated on a LAN, and the senders of datagrams, by SNPA.
+-- Who is designated on a LAN, and the senders of datagrams, by SNPA
+-- (ISO 10589 8.4.5; the form: own).
 use Rattle.std.specs.Prelude.{◌≡◌, ℕ, ◌<◌, length, slice_index_or, Some, List, [], ◌∷◌, if◌then◌else◌}
 use Rattle.isis_model.specs.Adjacencies.{Neighbour}
 use Rattle.isis_model.specs.Maps.{find}

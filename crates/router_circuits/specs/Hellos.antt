@@ -1,4 +1,5 @@
--- Hellos that are heard on a circuit, as the model of the router has them, and what comes of them.
+-- Hellos that are heard on a circuit, as the model of the router has them, and what comes of
+-- them (ISO 10589 8.2.4, 8.4.2; the form: own).
 use Rattle.std.specs.Prelude.{◌≡◌, ℕ, Bool, true, false, ◌&&◌, ◌||◌, not, ◌==◌, List, Option, Some, None}
 use Rattle.isis_base.specs.declared.identifiers.SystemId.{SystemId}
 use Rattle.isis_base.specs.declared.level.Level.TheVariants as level

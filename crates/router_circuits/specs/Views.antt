@@ -1,4 +1,4 @@
--- A circuit's adjacencies and counters as the model of the router has them.
+-- A circuit's adjacencies and counters as the model of the router has them (own).
 use Rattle.std.specs.Prelude.{◌≡◌, ℕ, ◌+◌, ◌^◌, ◌<◌, Bool, true, false, List, []}
 use Rattle.std.specs.List.{AllByRecursion}
 use Rattle.isis_base.specs.declared.identifiers.SystemId.{SystemId}

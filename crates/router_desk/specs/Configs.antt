@@ -1,4 +1,4 @@
--- What a configuration stands for: the model's configuration and circuits.
+-- What a configuration stands for: the model's configuration and circuits (own).
 use Rattle.std.specs.Prelude.{ℕ, ◌+◌, ◌*◌, List, [], ◌∷◌, map, None}
 use Rattle.isis_base.specs.declared.prefix.Prefix.{Prefix}
 use Rattle.isis_tlv.specs.declared.three_way.Adj.TheVariants.{Down}

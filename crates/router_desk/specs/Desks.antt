@@ -1,4 +1,4 @@
--- A desk: what of a configuration the tests look at that need no state.
+-- A desk: what of a configuration the tests look at that need no state (own).
 use Rattle.std.specs.Prelude.{ℕ, ◌-◌, Bool, true, false, List, map, Option, slice_get}
 use Rattle.isis_base.specs.declared.level.CircuitKind.{CircuitKind}
 use Rattle.isis_base.specs.declared.level.CircuitKind.TheVariants as circuit

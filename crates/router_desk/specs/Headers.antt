@@ -1,4 +1,4 @@
--- A PDU's header, without its TLVs.
+-- A PDU's header, without its TLVs (own).
 use Rattle.std.specs.Prelude.{ℕ, List}
 use Rattle.isis_base.specs.declared.pdu_kind.PduKind.{PduKind}
 use Rattle.isis_base.specs.declared.pdu_kind.PduKind.TheVariants as kind

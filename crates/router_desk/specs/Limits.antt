@@ -1,4 +1,4 @@
--- The limits of a configuration.
+-- The limits of a configuration (own).
 use Rattle.std.specs.Prelude.{ℕ, ◌≢◌, ◌≤◌, ◌==◌, nat_le, Bool, true, ◌&&◌, not, List, [], ◌∷◌, map, length, Option, Some, None, IfSome}
 use Rattle.std.specs.List.{AllByRecursion, list_all, list_any}
 use Rattle.isis_base.specs.declared.prefix.Prefix.{Prefix}

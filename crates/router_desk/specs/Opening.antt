@@ -1,5 +1,5 @@
 -- What a desk finds in a datagram: its sender and its PDU, or the cause of the first test that
--- fails.
+-- fails (own).
 use Rattle.std.specs.Prelude.{◌≡◌, ℕ, ◌+◌, ◌≤◌, List, length, take, drop, Option, Some, None, Result, Ok, Err, IfOk}
 use Rattle.isis_base.specs.declared.identifiers.Snpa.{Snpa}
 use Rattle.isis_base.specs.PduKinds.{header_length}

@@ -1,4 +1,4 @@
--- The first value of a PDU's TLVs that must be read and doesn't fit.
+-- The first value of a PDU's TLVs that must be read and doesn't fit (own).
 use Rattle.std.specs.Prelude.{ℕ, ◌+◌, ◌==◌, List, find, Option, None, option_and_then, if◌then◌else◌}
 use Rattle.std.specs.Option.{option_map, is_some}
 use Rattle.std.specs.Result.{result_err}

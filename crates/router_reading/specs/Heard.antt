@@ -1,4 +1,4 @@
--- What is heard as the message of the router's model.
+-- What is heard as the message of the router's model (own).
 use Rattle.std.specs.Prelude.{ℕ, ◌<◌, false, List, Option, None}
 use Rattle.std.specs.Option.{option_map}
 use Rattle.std.specs.Result.{ok_prefix}

@@ -1,4 +1,4 @@
--- Distances as contracts see them: nodes beside their costs.
+-- Distances as contracts see them: nodes beside their costs (ISO 10589 C.2; the form: own).
 
 use Rattle.std.specs.Prelude.{ℕ, ◌==◌, List, [], ◌∷◌, map, Option, Some, None, if◌then◌else◌}
 use Rattle.std.specs.List.Sorted.{IsStrictlyIncreasing}

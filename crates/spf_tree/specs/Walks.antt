@@ -1,4 +1,4 @@
--- Walks over rows from a root, and what they cost.
+-- Walks over rows from a root, and what they cost (ISO 10589 C.2; the form: own).
 
 use Rattle.std.specs.Prelude.{◌≡◌, ◌≢◌, ℕ, ◌+◌, ◌≤◌, List, [], ◌∷◌, Option, Some, None}
 use Rattle.std.specs.List.{Contains}
