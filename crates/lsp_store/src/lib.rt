@@ -7,7 +7,7 @@
 //!
 //! - `store.rt`: the database; `entry.rt`, `fault.rt`, `live.rt`: its entries, faults, live ones
 //! - `pages.rt`: the ordered map; `page.rt`: one page; `pairs.rt`, `range.rt`: walks
-//! - `change.rt`: values changed in place; `copy.rt`: equal pages
+//! - `change.rt`, `noting.rt`: values changed in place, and some of them noted; `copy.rt`: equal pages
 //! - `places.rt`: where a pair is; `edits.rt`: pairs put in and taken out; `rooms.rt`: empty pages
 #![tactic(auto)]
 
@@ -17,6 +17,7 @@ mod edits;
 mod entry;
 mod fault;
 mod live;
+mod noting;
 mod page;
 mod pages;
 mod pairs;
@@ -32,6 +33,7 @@ pub use copy::TryCopy;
 pub use entry::Entry;
 pub use fault::StoreFault;
 pub use live::Live;
+pub use noting::Noting;
 pub use page::Page;
 pub use pages::Pages;
 pub use pairs::Pairs;

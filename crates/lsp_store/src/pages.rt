@@ -1,7 +1,7 @@
 //! An ordered map from LSP IDs, in pages.
 ghost use Rattle.std.specs.Prelude.{◌≡◌, ℕ, ◌+◌, ◌<◌, ◌≤◌, ◌-◌, ◌^◌, ◌⊎◌, [], length, max, OnOk, OnErr, IfOk, IfErr, IsOk, IsSome, MatchOption, None, Some, vec_len, vec_capacity};
 ghost use Rattle.isis_base.specs.Identifiers.{lsp_number};
-ghost use Rattle.lsp_store.specs.Maps.{RisesFrom, find, put, erase, between, from, change_at, change_all};
+ghost use Rattle.lsp_store.specs.Maps.{RisesFrom, find, put, erase, between, from, change_at, change_all, first_where};
 ghost use Rattle.lsp_store.specs.Places.{AllFilled, AllEmpty, HasRoom, flatten};
 ghost use Rattle.lsp_store.specs.PageMaps.{with_put, without};
 ghost use Rattle.lsp_store.specs.Rooms.{IsEnough, AreDense};
@@ -9,6 +9,7 @@ ghost use Rattle.lsp_store.specs.Rooms.{IsEnough, AreDense};
 use crate::change::{Change, change_each, change_held};
 use crate::copy::{TryCopy, copy_pages};
 use crate::edits::{put_held, put_new, take_out};
+use crate::noting::{Noting, note_each};
 use crate::page::Page;
 use crate::pairs::Pairs;
 use crate::places::{search, value_at};
@@ -209,6 +210,15 @@ impl<T: Drop> Pages<T> {
         ensures spare { self.new.spare ≡ self.old.spare }
     {
         change_each(&mut self.pages, change);
+    }
+
+    /// Changes all values in place, and answers the first LSP ID whose value passes then.
+    pub fn note_all<C: Noting<T>>(&mut self, change: &C) -> Option<LspId>
+        ensures entries { self.new.entries ≡ change_all (C.changed change.now) self.old.entries }
+        ensures first { result ≡ first_where (C.noted change.now) self.new.entries }
+        ensures spare { self.new.spare ≡ self.old.spare }
+    {
+        note_each(&mut self.pages, change)
     }
 }
 
