@@ -1,7 +1,8 @@
 //! One level's link state database (ISO 10589 7.3.15): LSP IDs with their entries, in order.
 //!
 //! An ordered map from LSP IDs lies in pages of 1 to 64 pairs (own). A look-up is two binary
-//! searches, a change moves at most 64 pairs, and a walk goes over pairs that lie side by side.
+//! searches, a change moves at most 64 pairs, and a walk goes over pairs that lie side by side. The
+//! page that was used last is kept in mind: what lies in it or in the next one is found by one search.
 //! Empty pages are kept for pairs that are still to come, so that a put for which room was
 //! reserved takes no memory.
 //!

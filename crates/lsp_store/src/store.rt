@@ -140,6 +140,13 @@ impl Store {
         self.pages.get(id)
     }
 
+    /// Makes the next look-ups begin near an LSP ID. Nothing that contracts see depends on it.
+    pub fn seek(&mut self, id: LspId)
+        ensures { self.new ≡ self.old }
+    {
+        self.pages.seek(id);
+    }
+
     /// Whether a new entry doesn't fit.
     fn is_full_for(&self, id: LspId) -> bool
         ensures yes { result ≡ true → (find self.now.entries (lsp_number id) ≡ None)
