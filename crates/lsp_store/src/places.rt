@@ -56,11 +56,7 @@ pub(crate) fn home_near<T>(pages: &[Page<T>], near: usize, n: u64) -> usize
 }
 
 /// Where the pair of this number is in its page, or where it would go.
-fn search_page<T>(
-    pages: &[Page<T>],
-    page: usize,
-    n: u64,
-) -> Result<(usize, usize), (usize, usize)>
+fn search_page<T>(pages: &[Page<T>], page: usize, n: u64) -> Result<(usize, usize), (usize, usize)>
     requires home { IsHome pages.now n page }
     requires rises { RisesFrom 0 (flatten pages.now) }
     ensures { MatchResult result (IsHeldAt pages.now n) (IsFreeAt pages.now n) }
