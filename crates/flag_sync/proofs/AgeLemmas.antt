@@ -1,5 +1,5 @@
 -- A second less of all entries, and those that have no seconds left, as cells.
-use Rattle.std.proofs.Common.{◌≡◌, Bool, true, false, if◌then◌else◌, ℕ, ◌+◌, ◌≤◌, eqb, nat_lt, nat_le, List, [], ◌∷◌, Some, refl, ap, arith}
+use Rattle.std.proofs.Common.{◌≡◌, Bool, true, false, if◌then◌else◌, ℕ, ◌+◌, ◌≤◌, eqb, nat_lt, nat_le, List, [], ◌∷◌, Option, Some, refl, ap, ◌∙◌, arith}
 use Rattle.std.proofs.lemmas.Bool.Decides.{nat_tests}
 use Rattle.std.specs.Option.{option_map}
 use Rattle.isis_base.specs.declared.identifiers.LspId.{LspId}
@@ -9,8 +9,8 @@ use Rattle.isis_model.specs.Sorted as sorted
 use Rattle.isis_model.specs.Cells.{Cell}
 use Rattle.isis_model.specs.Ageing.{less}
 use Rattle.lsp_store.specs.declared.entry.Entry.{Entry}
-use Rattle.lsp_store.specs.Maps.{pair_number, from, change_all, RisesFrom}
-use Rattle.lsp_store.specs.Databases.{one_less}
+use Rattle.lsp_store.specs.Maps.{pair_number, from, change_all, first_where, RisesFrom}
+use Rattle.lsp_store.specs.Databases.{one_less, is_over}
 use Rattle.flag_sync.specs.declared.flag_row.FlagRow.{FlagRow}
 use Rattle.flag_sync.specs.FlagRows.{cell_of}
 use Rattle.flag_sync.specs.Entries.{AllHaveHeaders}
@@ -77,3 +77,11 @@ over-cells start least (e ∷ es) (r ∷ rs) up b = cases (over-cells start (pai
     cases rest false q =
         let le : start ≤ lsp_number e.0 = grind (arith, nat_tests, q) in
         over-stays start (lsp_number e.0) (e ∷ es) (r ∷ rs) le (omega arith, up.1) b
+
+-- the first of all
+noted-over : (es : List (LspId × Entry)) → first_where is_over es ≡ first_over es
+noted-over [] = refl
+noted-over (e ∷ es) = ap (λ (o : Option LspId). if eqb e.1.left 0 then Some e.0 else o) (noted-over es)
+
+pub first-cells : (es : List (LspId × Entry)) (rs : List (LspId × FlagRow)) → RisesFrom 0 es → AreBeside es rs → option_map lsp_number (first_where is_over es) ≡ first_of (over_from 0 (cells_of es rs))
+first-cells es rs up b = ap (option_map lsp_number) (noted-over es) ∙ over-stays 0 0 es rs (omega arith) up b

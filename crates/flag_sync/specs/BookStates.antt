@@ -1,6 +1,6 @@
 -- A book as contracts see it, and as the definitions see it: entries and rows of flags side by
 -- side (ISO 10589 7.3.15).
-use Rattle.std.specs.Prelude.{◌≡◌, ℕ, ◌+◌, ◌<◌, ◌≤◌, ◌⊎◌, List, [], ◌∷◌, length, None}
+use Rattle.std.specs.Prelude.{◌≡◌, ℕ, ◌+◌, ◌<◌, ◌≤◌, ◌⊎◌, List, [], ◌∷◌, length, None, IsSome}
 use Rattle.isis_base.specs.declared.identifiers.LspId.{LspId}
 use Rattle.isis_base.specs.Identifiers.{lsp_number}
 use Rattle.isis_model.specs.Cells.{Cell}
@@ -70,6 +70,11 @@ pub record KeepsRoom (old new : BookState) : Type 0 where
   pub held : length old.store.entries ≤ length new.store.entries
   pub made : old.store.spare + length old.store.entries
       ≤ new.store.spare + length new.store.entries
+
+-- at most one entry's room is used up, and none where an entry of the number is held
+pub record UsesRoom (old new : BookState) (n : ℕ) : Type 0 where
+  pub spare : old.store.spare ≤ new.store.spare + 1
+  pub held : IsSome (find old.store.entries n) → new.store.spare ≡ old.store.spare
 
 -- no entry of a number is held, and 65,536 others are
 abbrev pub IsFullFor : BookState → ℕ → Type 0

@@ -28,7 +28,20 @@ impl Book {
         ensures rest { SameCircuits self.old self.new }
         ensures spare { self.new.store.spare ≡ self.old.store.spare }
     {
-        self.store.age();
+        let _first = self.age_first_over();
+    }
+
+    /// A second less of what each entry has left, where that isn't 0 (ISO 10589 7.3.16.3), and the
+    /// first LSP ID whose entry has none left then. It is one walk, and purges and erases nothing.
+    pub fn age_first_over(&mut self) -> Option<LspId>
+        ensures book { book_of self.new ≡ less_left (book_of self.old) }
+        ensures first { option_map lsp_number result
+            ≡ first_of (over_from 0 (book_of self.new).cells) }
+        ensures rises { RisesFrom 0 (book_of self.old).cells }
+        ensures rest { SameCircuits self.old self.new }
+        ensures spare { self.new.store.spare ≡ self.old.store.spare }
+    {
+        self.store.age_first_over()
     }
 
     /// The first LSP ID from one on whose entry has no seconds left.

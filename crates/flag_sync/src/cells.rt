@@ -177,6 +177,13 @@ impl Book {
         self.flags.change(id, deed);
     }
 
+    /// Makes the next look-ups begin near an LSP ID. It changes nothing.
+    pub(crate) fn seek(&mut self, id: LspId)
+        ensures { self.new ≡ self.old }
+    {
+        self.store.seek(id);
+    }
+
     /// What is known of an LSP ID.
     pub(crate) fn known(&self, id: LspId) -> Known
         ensures { Knows result (cell_at (book_of self.now) (lsp_number id)) }

@@ -35,6 +35,7 @@ impl Book {
         ensures rest { SameCircuits self.old self.new }
         ensures room { KeepsRoom self.old self.new }
     {
+        self.seek(entry.id);
         let known = self.known(entry.id);
         let row = snp_row_of(&known, entry, whose);
         let place = self.place(circuit);

@@ -10,7 +10,7 @@ ghost use Rattle.lsp_store.specs.Maps.{find};
 ghost use Rattle.flag_sync.specs.Deeds.{deed_cell};
 ghost use Rattle.flag_sync.specs.declared.heard.LspHeard.{LspHeard};
 ghost use Rattle.flag_sync.specs.Heard.{heard_of, answer_of, makes_entry};
-ghost use Rattle.flag_sync.specs.BookStates.{BookState, book_of, IsCircuit, IsFullFor, SameCircuits};
+ghost use Rattle.flag_sync.specs.BookStates.{book_of, BookState, IsCircuit, IsFullFor, SameCircuits, UsesRoom};
 
 use crate::bits::{has_bit, only_bit, with_bit, without_bit};
 use crate::book::Book;
@@ -44,6 +44,7 @@ impl Book {
         ensures cause { result ≡ Err fault.Full → IsFullFor self.old (lsp_number lsp.now.entry.id) }
         ensures full { makes_entry (met (book_of self.old) whose (heard_of lsp.now)) ≡ true
             → IsFullFor self.old (lsp_number lsp.now.entry.id) → IfOk result (λ _. ⊥) }
+        ensures room { OnOk result (UsesRoom self.old self.new (lsp_number lsp.now.entry.id)) }
     {
         let known = self.known(lsp.entry.id);
         let row = lsp_row_of(&known, lsp, whose);
@@ -71,6 +72,7 @@ impl Book {
         ensures cause { result ≡ Err fault.Full → IsFullFor self.old (lsp_number lsp.now.entry.id) }
         ensures full { makes_entry row ≡ true
             → IsFullFor self.old (lsp_number lsp.now.entry.id) → IfOk result (λ _. ⊥) }
+        ensures room { OnOk result (UsesRoom self.old self.new (lsp_number lsp.now.entry.id)) }
     {
         let id = lsp.entry.id;
         match row {
@@ -106,6 +108,7 @@ impl Book {
         ensures err { OnErr result (self.new ≡ self.old) }
         ensures cause { result ≡ Err fault.Full → IsFullFor self.old (lsp_number lsp.now.entry.id) }
         ensures full { IsFullFor self.old (lsp_number lsp.now.entry.id) → IfOk result (λ _. ⊥) }
+        ensures room { OnOk result (UsesRoom self.old self.new (lsp_number lsp.now.entry.id)) }
     {
         let entry = match purge_entry(self.alloc, lsp) {
             Ok(entry) => entry,
@@ -132,6 +135,7 @@ impl Book {
         ensures err { OnErr result (self.new ≡ self.old) }
         ensures cause { result ≡ Err fault.Full → IsFullFor self.old (lsp_number lsp.now.entry.id) }
         ensures full { IsFullFor self.old (lsp_number lsp.now.entry.id) → IfOk result (λ _. ⊥) }
+        ensures room { OnOk result (UsesRoom self.old self.new (lsp_number lsp.now.entry.id)) }
     {
         let entry = match heard_entry(self.alloc, lsp) {
             Ok(entry) => entry,
@@ -170,6 +174,7 @@ impl Book {
             (lsp_row case.Same self.old.opened self.old.points place
             (cell_at (book_of self.old) (lsp_number id)) (heard_of lsp)) }
         ensures rest { SameCircuits self.old self.new }
+        ensures store { self.new.store ≡ self.old.store }
     {
         let deed = ack_deed(self.points, place);
         self.flag(id, &deed);

@@ -30,6 +30,17 @@ impl<'a> Model for Keys<'a> {
     ghost view = { λ k. said_keys k.entries };
 }
 
+impl<'a> Keys<'a> {
+    /// The same walk once more, from where this one is.
+    pub fn again(&self) -> Keys<'a>
+        ensures { result ≡ self.now }
+    {
+        Keys {
+            entries: self.entries.again(),
+        }
+    }
+}
+
 impl<'a> Iterator for Keys<'a> {
     ghost use Rattle.std.specs.Iterator.{YieldsFirst, item_count};
 

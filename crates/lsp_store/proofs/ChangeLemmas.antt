@@ -89,12 +89,12 @@ all-rises f least [] r = tt
 all-rises f least (x ∷ xs) r = (r.0, all-rises f (pair_number x + 1) xs r.1)
 
 -- the pairs before a place are changed, those from it on aren't yet
-get-part : {T : Type 0} (f : T → T) (xs : List (LspId × T)) (i : ℕ) (d : LspId × T) → i < length xs → get_or (change_all f (take i xs) ++ drop i xs) i d ≡ get_or xs i d
+pub get-part : {T : Type 0} (f : T → T) (xs : List (LspId × T)) (i : ℕ) (d : LspId × T) → i < length xs → get_or (change_all f (take i xs) ++ drop i xs) i d ≡ get_or xs i d
 get-part f [] i d lt = absurd (omega arith)
 get-part f (x ∷ xs) zero d lt = refl
 get-part f (x ∷ xs) (suc i) d lt = get-part f xs i d (omega arith)
 
-length-part : {T : Type 0} (f : T → T) (xs : List (LspId × T)) (i : ℕ) → length (change_all f (take i xs) ++ drop i xs) ≡ length xs
+pub length-part : {T : Type 0} (f : T → T) (xs : List (LspId × T)) (i : ℕ) → length (change_all f (take i xs) ++ drop i xs) ≡ length xs
 length-part f [] zero = refl
 length-part f [] (suc i) = refl
 length-part f (x ∷ xs) zero = refl
@@ -128,7 +128,7 @@ pairs-end f (x ∷ xs) (suc i) le = ap (λ (zs : List _). (x.0, f x.1) ∷ zs) (
 
 -- ---- all values of all pages
 
-get-pages : {T : Type 0} (f : T → T) (ps : List (List (LspId × T))) (i : ℕ) (d : List (LspId × T)) → i < length ps → get_or (change_pages f (take i ps) ++ drop i ps) i d ≡ get_or ps i d
+pub get-pages : {T : Type 0} (f : T → T) (ps : List (List (LspId × T))) (i : ℕ) (d : List (LspId × T)) → i < length ps → get_or (change_pages f (take i ps) ++ drop i ps) i d ≡ get_or ps i d
 get-pages f [] i d lt = absurd (omega arith)
 get-pages f (p ∷ ps) zero d lt = refl
 get-pages f (p ∷ ps) (suc i) d lt = get-pages f ps i d (omega arith)

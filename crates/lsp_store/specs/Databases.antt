@@ -58,6 +58,10 @@ with_change old n f = record {
 abbrev pub one_less : Entry → Entry
 one_less entry = record entry { left = entry.left - 1 }
 
+-- whether an entry has no seconds left
+abbrev pub is_over : Entry → Bool
+is_over entry = entry.left == 0
+
 -- when an entry isn't put: the LSP ID has none, and 65,536 are there; or else it has none, and no
 -- room is spare
 abbrev pub PutCause : Database → ℕ → StoreFault → Type 0

@@ -1,5 +1,5 @@
 -- Pairs by LSP ID, in order (own).
-use Rattle.std.specs.Prelude.{ℕ, ◌+◌, ◌≤◌, nat_lt, nat_le, ◌&&◌, ◌==◌, List, [], ◌∷◌, Option, Some, None, if◌then◌else◌}
+use Rattle.std.specs.Prelude.{ℕ, ◌+◌, ◌≤◌, nat_lt, nat_le, Bool, ◌&&◌, ◌==◌, List, [], ◌∷◌, Option, Some, None, if◌then◌else◌}
 use Rattle.std.specs.Borrow.{Bor}
 use Rattle.isis_base.specs.declared.identifiers.LspId.{LspId}
 use Rattle.isis_base.specs.Identifiers.{lsp_number}
@@ -38,6 +38,16 @@ change_at f (pair ∷ pairs) n =
 abbrev pub change_all : {T : Type 0} → (T → T) → List (LspId × T) → List (LspId × T)
 change_all f [] = []
 change_all f (pair ∷ pairs) = (pair.0, f pair.1) ∷ change_all f pairs
+
+-- the LSP ID of the first pair whose value passes a test
+abbrev pub first_where : {T : Type 0} → (T → Bool) → List (LspId × T) → Option LspId
+first_where test [] = None
+first_where test (pair ∷ pairs) = if test pair.1 then Some pair.0 else first_where test pairs
+
+-- the first answer, or else the second
+abbrev pub first_some : Option LspId → Option LspId → Option LspId
+first_some None second = second
+first_some (Some id) second = Some id
 
 -- the numbers rise, from `least` on
 abbrev pub RisesFrom : {T : Type 0} → ℕ → List (LspId × T) → Type 0

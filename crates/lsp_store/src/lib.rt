@@ -1,13 +1,14 @@
 //! One level's link state database (ISO 10589 7.3.15): LSP IDs with their entries, in order.
 //!
 //! An ordered map from LSP IDs lies in pages of 1 to 64 pairs (own). A look-up is two binary
-//! searches, a change moves at most 64 pairs, and a walk goes over pairs that lie side by side.
+//! searches, a change moves at most 64 pairs, and a walk goes over pairs that lie side by side. The
+//! page that was used last is kept in mind: what lies in it or in the next one is found by one search.
 //! Empty pages are kept for pairs that are still to come, so that a put for which room was
 //! reserved takes no memory.
 //!
 //! - `store.rt`: the database; `entry.rt`, `fault.rt`, `live.rt`: its entries, faults, live ones
 //! - `pages.rt`: the ordered map; `page.rt`: one page; `pairs.rt`, `range.rt`: walks
-//! - `change.rt`: values changed in place; `copy.rt`: equal pages
+//! - `change.rt`, `noting.rt`: values changed in place, and some of them noted; `copy.rt`: equal pages
 //! - `places.rt`: where a pair is; `edits.rt`: pairs put in and taken out; `rooms.rt`: empty pages
 #![tactic(auto)]
 
@@ -17,6 +18,7 @@ mod edits;
 mod entry;
 mod fault;
 mod live;
+mod noting;
 mod page;
 mod pages;
 mod pairs;
@@ -32,6 +34,7 @@ pub use copy::TryCopy;
 pub use entry::Entry;
 pub use fault::StoreFault;
 pub use live::Live;
+pub use noting::Noting;
 pub use page::Page;
 pub use pages::Pages;
 pub use pairs::Pairs;

@@ -1,7 +1,7 @@
 //! An ordered map from LSP IDs, in pages.
 ghost use Rattle.std.specs.Prelude.{◌≡◌, ℕ, ◌+◌, ◌<◌, ◌≤◌, ◌-◌, ◌^◌, ◌⊎◌, [], length, max, OnOk, OnErr, IfOk, IfErr, IsOk, IsSome, MatchOption, None, Some, vec_len, vec_capacity};
 ghost use Rattle.isis_base.specs.Identifiers.{lsp_number};
-ghost use Rattle.lsp_store.specs.Maps.{RisesFrom, find, put, erase, between, from, change_at, change_all};
+ghost use Rattle.lsp_store.specs.Maps.{RisesFrom, find, put, erase, between, from, change_at, change_all, first_where};
 ghost use Rattle.lsp_store.specs.Places.{AllFilled, AllEmpty, HasRoom, flatten};
 ghost use Rattle.lsp_store.specs.PageMaps.{with_put, without};
 ghost use Rattle.lsp_store.specs.Rooms.{IsEnough, AreDense};
@@ -9,9 +9,10 @@ ghost use Rattle.lsp_store.specs.Rooms.{IsEnough, AreDense};
 use crate::change::{Change, change_each, change_held};
 use crate::copy::{TryCopy, copy_pages};
 use crate::edits::{put_held, put_new, take_out};
+use crate::noting::{Noting, note_each};
 use crate::page::Page;
 use crate::pairs::Pairs;
-use crate::places::{search, value_at};
+use crate::places::{home_near, search_near, value_at};
 use crate::range::{PageRange, pairs_from, range_of};
 use crate::rooms::{claim, fill_pool, pages_for};
 use isis_base::{LspId, OutOfMemory};
@@ -26,6 +27,7 @@ pub struct Pages<T> {
     pool: Vec<Page<T>>,
     len: usize,
     spare: usize,
+    near: usize,
 }
 
 impl<T> Model for Pages<T> {
@@ -55,6 +57,7 @@ impl<T: Drop> Pages<T> {
             pool: Vec::new(alloc),
             len: 0,
             spare: 0,
+            near: 0,
         }
     }
 
@@ -104,10 +107,20 @@ impl<T: Drop> Pages<T> {
             (λ value. find self.now.entries (lsp_number id) ≡ Some value.now) }
     {
         let n = id.to_number();
-        match search(&self.pages, n) {
+        match search_near(&self.pages, self.near, n) {
             Ok(at) => Some(value_at(&self.pages, at, n)),
             Err(_) => None,
         }
+    }
+
+    /// Makes the next look-ups begin near an LSP ID. Nothing that contracts see depends on it.
+    pub fn seek(&mut self, id: LspId)
+        ensures { self.new ≡ self.old }
+    {
+        if self.pages.is_empty() {
+            return;
+        }
+        self.near = home_near(&self.pages, self.near, id.to_number());
     }
 
     /// Sets the LSP ID's value, and answers the one before. With `spare` of at least 1, or where
@@ -120,9 +133,13 @@ impl<T: Drop> Pages<T> {
         ensures spared { 0 < self.old.spare → IsOk result }
         ensures held { IsSome (find self.old.entries (lsp_number id)) → IsOk result }
     {
-        match search(&self.pages, id.to_number()) {
-            Ok(at) => return Ok(Some(put_held(&mut self.pages, at, id, value))),
+        match search_near(&self.pages, self.near, id.to_number()) {
+            Ok(at) => {
+                self.near = at.0;
+                return Ok(Some(put_held(&mut self.pages, at, id, value)));
+            }
             Err(at) => {
+                self.near = at.0;
                 let left = match claim(
                     self.alloc,
                     &mut self.pages,
@@ -147,8 +164,9 @@ impl<T: Drop> Pages<T> {
         ensures removed { self.new ≡ without self.old (lsp_number id) }
     {
         let n = id.to_number();
-        match search(&self.pages, n) {
+        match search_near(&self.pages, self.near, n) {
             Ok(at) => {
+                self.near = at.0;
                 let value = take_out(&mut self.pages, &mut self.pool, at, n);
                 self.len -= 1;
                 Some(value)
@@ -197,8 +215,11 @@ impl<T: Drop> Pages<T> {
         ensures spare { self.new.spare ≡ self.old.spare }
     {
         let n = id.to_number();
-        match search(&self.pages, n) {
-            Ok(at) => change_held(&mut self.pages, at, n, change),
+        match search_near(&self.pages, self.near, n) {
+            Ok(at) => {
+                self.near = at.0;
+                change_held(&mut self.pages, at, n, change);
+            }
             Err(_) => {}
         }
     }
@@ -209,6 +230,15 @@ impl<T: Drop> Pages<T> {
         ensures spare { self.new.spare ≡ self.old.spare }
     {
         change_each(&mut self.pages, change);
+    }
+
+    /// Changes all values in place, and answers the first LSP ID whose value passes then.
+    pub fn note_all<C: Noting<T>>(&mut self, change: &C) -> Option<LspId>
+        ensures entries { self.new.entries ≡ change_all (C.changed change.now) self.old.entries }
+        ensures first { result ≡ first_where (C.noted change.now) self.new.entries }
+        ensures spare { self.new.spare ≡ self.old.spare }
+    {
+        note_each(&mut self.pages, change)
     }
 }
 
@@ -231,6 +261,7 @@ impl<T: Drop + TryCopy> Pages<T> {
             pool,
             len: self.len,
             spare: 0,
+            near: 0,
         };
         match copy.reserve(self.spare) {
             Ok(()) => Ok(copy),

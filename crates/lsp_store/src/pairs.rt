@@ -33,6 +33,16 @@ impl<'a, T> Pairs<'a, T> {
     {
         Pairs { here, rest }
     }
+
+    /// The same walk once more, from where this one is.
+    pub fn again(&self) -> Pairs<'a, T>
+        ensures { result ≡ self.now }
+    {
+        Pairs {
+            here: self.here,
+            rest: self.rest,
+        }
+    }
 }
 
 impl<'a, T> Iterator for Pairs<'a, T> {

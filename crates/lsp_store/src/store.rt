@@ -1,14 +1,15 @@
 //! One level's link state database.
 ghost use Rattle.std.specs.Prelude.{◌≡◌, ℕ, ◌+◌, ◌<◌, ◌≤◌, [], length, max, OnOk, OnErr, IfOk, IfErr, IsOk, IsSome, MatchOption, None, Some, Err, true, false, ◌⊎◌, ◌-◌, ◌^◌};
 ghost use Rattle.isis_base.specs.Identifiers.{lsp_number};
-ghost use Rattle.lsp_store.specs.Maps.{RisesFrom, find, between, change_all};
+ghost use Rattle.lsp_store.specs.Maps.{RisesFrom, find, between, change_all, first_where};
 ghost use Rattle.lsp_store.specs.declared.fault.StoreFault.TheVariants.{Full, OutOfMemory};
-ghost use Rattle.lsp_store.specs.Databases.{count_after, key_of, with_entry, without_entry, with_change, one_less, PutCause, ReserveCause, is_live, is_live_key, live_of};
+ghost use Rattle.lsp_store.specs.Databases.{count_after, key_of, with_entry, without_entry, with_change, one_less, is_over, PutCause, ReserveCause, is_live, is_live_key, live_of};
 
 use crate::change::Change;
 use crate::entry::Entry;
 use crate::fault::StoreFault;
 use crate::live::Live;
+use crate::noting::Noting;
 use crate::pages::Pages;
 use crate::range::PageRange;
 use isis_base::{Key, LspId, Order3, OutOfMemory, newer};
@@ -22,13 +23,16 @@ pub const ENTRY_LIMIT: usize = 65_536;
 #[derive(Drop)]
 struct SecondLess;
 
-impl Change<Entry> for SecondLess {
-    ghost use Rattle.lsp_store.specs.Databases.{one_less};
+impl Noting<Entry> for SecondLess {
+    ghost use Rattle.lsp_store.specs.Databases.{one_less, is_over};
 
     ghost changed = { λ _ entry. one_less entry };
 
-    fn change(&self, entry: &mut Entry) {
+    ghost noted = { λ _ entry. is_over entry };
+
+    fn change(&self, entry: &mut Entry) -> bool {
         entry.left = entry.left.saturating_sub(1);
+        entry.left == 0
     }
 }
 
@@ -136,6 +140,13 @@ impl Store {
         self.pages.get(id)
     }
 
+    /// Makes the next look-ups begin near an LSP ID. Nothing that contracts see depends on it.
+    pub fn seek(&mut self, id: LspId)
+        ensures { self.new ≡ self.old }
+    {
+        self.pages.seek(id);
+    }
+
     /// Whether a new entry doesn't fit.
     fn is_full_for(&self, id: LspId) -> bool
         ensures yes { result ≡ true → (find self.now.entries (lsp_number id) ≡ None)
@@ -218,7 +229,17 @@ impl Store {
         ensures { self.new
             ≡ record self.old { entries = change_all one_less self.old.entries } }
     {
-        self.pages.change_all(&SecondLess);
+        let _first = self.age_first_over();
+    }
+
+    /// A second less of what each entry has left, where that isn't 0 (ISO 10589 7.3.16.3), and the
+    /// first LSP ID whose entry has none left then. It is one walk.
+    pub fn age_first_over(&mut self) -> Option<LspId>
+        ensures aged { self.new
+            ≡ record self.old { entries = change_all one_less self.old.entries } }
+        ensures first { result ≡ first_where is_over self.new.entries }
+    {
+        self.pages.note_all(&SecondLess)
     }
 
     /// The key that the LSP ID's entry has; none where it has no entry, or an empty one.

@@ -12,7 +12,7 @@ use Rattle.isis_model.specs.LetGos.{LetGo, let_go}
 use Rattle.isis_model.specs.Routers.{Issued, LevelState}
 use Rattle.isis_model.specs.Ageing.{less, aged, is_let_go, age_cell, age_one, age_all, age}
 use Rattle.isis_model.proofs.MapLemmas.{find-set_at, find-each}
-use Rattle.flag_sync.specs.Ages.{less_left, over_from}
+use Rattle.flag_sync.specs.Ages.{less_left, over_from, first_of}
 use Rattle.purge_ageing.specs.Ids.{Rises}
 use Rattle.purge_ageing.specs.Ends.{state_of, ended, end_id, end_all, some_keyed}
 
@@ -172,6 +172,33 @@ over-rises (p ∷ cells) least start r = cases (nat_le start p.0 && eqb p.1.left
     cases : (t : Bool) → Rises (p.0 + 1) (over_from start cells) → Rises least (if t then p.0 ∷ over_from start cells else over_from start cells)
     cases true h = (r.0, h)
     cases false h = less-least (over_from start cells) least (p.0 + 1) (let q = r.0 in omega (arith, q)) h
+
+-- from the first one of all on all are found again
+pub over-again : (cells : List (ℕ × Cell)) (least start n : ℕ) → RisesFrom least cells → Some n ≡ first_of (over_from start cells) → over_from n cells ≡ over_from start cells
+over-again [] least start n r e = absurd (grind (arith, e))
+over-again (p ∷ cells) least start n r e = cases (nat_le start p.0 && eqb p.1.left 0) refl e (over-again cells (p.0 + 1) start n r.1)
+  where
+    low : nat_le start p.0 && eqb p.1.left 0 ≡ true → start ≤ p.0
+    low t = grind (arith, nat_tests, t)
+
+    left : nat_le start p.0 && eqb p.1.left 0 ≡ true → eqb p.1.left 0 ≡ true
+    left t = grind (arith, nat_tests, t)
+
+    above : (ns : List ℕ) → Rises (p.0 + 1) ns → Some n ≡ first_of ns → p.0 < n
+    above [] up q = absurd (grind (arith, q))
+    above (m ∷ ns) up q = let same : m ≡ n = grind (arith, q) in let h = up.0 in omega (arith, same, h)
+
+    cases : (t : Bool) → (nat_le start p.0 && eqb p.1.left 0) ≡ t → Some n ≡ first_of (if t then p.0 ∷ over_from start cells else over_from start cells) → (Some n ≡ first_of (over_from start cells) → over_from n cells ≡ over_from start cells) → over_from n (p ∷ cells) ≡ (if t then p.0 ∷ over_from start cells else over_from start cells)
+    cases true t q h =
+        let same : p.0 ≡ n = grind (arith, q) in
+        let le = low t in
+        let z = left t in
+        let yes : nat_le n p.0 && eqb p.1.left 0 ≡ true = grind (arith, nat_tests, same, z) in
+        rw yes (ap (λ (ns : List ℕ). p.0 ∷ ns) (over-above cells (p.0 + 1) n (omega (arith, same)) r.1 ∙ sym (over-above cells (p.0 + 1) start (omega (arith, le)) r.1)))
+    cases false t q h =
+        let lt = above (over_from start cells) (over-rises cells (p.0 + 1) start r.1) q in
+        let no : nat_le n p.0 ≡ false = grind (arith, nat_tests, lt) in
+        rw no (h q)
 
 -- ---- after one more end
 

@@ -1,5 +1,9 @@
 -- The walk from one entry that is over to the next.
-use Rattle.std.proofs.Common.{◌≡◌, Bool, true, false, ℕ, ◌+◌, ◌<◌, nat_lt, ◌||◌, List, [], ◌∷◌, length, Some, None, refl, sym, ap, ap₂, ◌∙◌, subst, arith}
+use Rattle.std.proofs.Common.{◌≡◌, Bool, true, false, ℕ, ◌+◌, ◌<◌, nat_lt, ◌||◌, List, [], ◌∷◌, length, Option, Some, None, refl, sym, ap, ap₂, ◌∙◌, subst, arith}
+use Rattle.std.specs.Option.{option_map}
+use Rattle.isis_base.specs.declared.identifiers.LspId.{LspId}
+use Rattle.isis_base.specs.Identifiers.{lsp_number}
+use Rattle.isis_model.specs.Cells.{Cell}
 use Rattle.isis_model.specs.Sorted.{RisesFrom}
 use Rattle.isis_model.specs.Books.{Book, rank_at}
 use Rattle.isis_model.specs.LetGos.{LetGo}
@@ -8,7 +12,7 @@ use Rattle.isis_model.specs.Ageing.{age}
 use Rattle.flag_sync.specs.Ages.{less_left, over_from, first_of}
 use Rattle.purge_ageing.specs.Ids.{Rises}
 use Rattle.purge_ageing.specs.Ends.{state_of, end_id, end_all, some_keyed}
-use Rattle.purge_ageing.proofs.EndLemmas.{less-rises, age-ends-all, over-rises, over-next, keyed-rest, all-changed, all-same, less-rank}
+use Rattle.purge_ageing.proofs.EndLemmas.{less-rises, age-ends-all, over-rises, over-again, over-next, keyed-rest, all-changed, all-same, less-rank}
 
 first-some : (ns : List ℕ) (n : ℕ) → Some n ≡ first_of ns → (rest : List ℕ) × (ns ≡ n ∷ rest)
 first-some [] n e = absurd (grind (arith, e))
@@ -22,16 +26,28 @@ either : (a b c : Bool) → ((a || b) || c) ≡ (a || (b || c))
 either true b c = refl
 either false b c = refl
 
-or-false : (a : Bool) → (a || false) ≡ a
+pub or-false : (a : Bool) → (a || false) ≡ a
 or-false true = refl
 or-false false = refl
 
--- where none is left
-pub ends-none : (b0 b : Book) (gone0 gone : LetGo) (ns : List ℕ) → None ≡ first_of ns → ((own : List (ℕ × Issued)) → end_all (state_of b own gone) ns ≡ end_all (state_of b0 own gone0) (over_from 0 b0.cells)) → (own : List (ℕ × Issued)) → state_of b own gone ≡ end_all (state_of b0 own gone0) (over_from 0 b0.cells)
-ends-none b0 b gone0 gone ns e h own = sym (ap (end_all (state_of b own gone)) (first-none ns e)) ∙ h own
+-- the LSP IDs that are to end, from the first one on
+abbrev pub to_end : Option LspId → List (ℕ × Cell) → List ℕ
+to_end None cells = []
+to_end (Some id) cells = over_from (lsp_number id) cells
 
-pub keyed-none : (b : Book) (ns : List ℕ) (changed all : Bool) → None ≡ first_of ns → (changed || some_keyed b ns) ≡ all → changed ≡ all
-keyed-none b ns changed all e h = sym (or-false changed) ∙ sym (ap (λ (ms : List ℕ). changed || some_keyed b ms) (first-none ns e)) ∙ h
+pub to_end-found : (cells : List (ℕ × Cell)) (start : ℕ) (over : Option LspId) → RisesFrom 0 cells → option_map lsp_number over ≡ first_of (over_from start cells) → to_end over cells ≡ over_from start cells
+to_end-found cells start None up e = sym (first-none (over_from start cells) e)
+to_end-found cells start (Some id) up e = over-again cells 0 start (lsp_number id) up e
+
+-- the first one is the first of those that are to end
+pub to_end-first : (cells : List (ℕ × Cell)) (start : ℕ) (over : Option LspId) → RisesFrom 0 cells → option_map lsp_number over ≡ first_of (over_from start cells) → option_map lsp_number over ≡ first_of (to_end over cells)
+to_end-first cells start over up e = e ∙ ap first_of (sym (to_end-found cells start over up e))
+
+pub up-less : (old b : Book) → b ≡ less_left old → RisesFrom 0 old.cells → RisesFrom 0 b.cells
+up-less old b less up = subst (λ (c : Book). RisesFrom 0 c.cells) (sym less) (less-rises old.opened old.p2p [] 0 old.cells up)
+
+pub fewer : (a b c d : ℕ) → a ≡ b → c ≡ d → b < d → a < c
+fewer a b c d e f lt = omega (arith, e, f, lt)
 
 -- ---- a turn
 

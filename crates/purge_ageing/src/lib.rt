@@ -4,10 +4,9 @@
 //! Own: empty entries last 60 seconds too; the LSP IDs whose purge was erased are recorded, and from
 //! the 4,097th different one on every LSP ID counts as recorded.
 //!
-//! A second takes no memory. It walks the database twice, and takes each entry out of its page in
-//! neither walk: the first one lowers in place what each entry has left, the second one goes from
-//! one entry that is over to the next. An entry that is over costs a few binary searches more, so
-//! the cost is that of a walk over the pages while few are.
+//! A second takes no memory. It walks the database once, and lowers in place what each entry has
+//! left. Where an entry is over then, it goes on from the first such one to the next; each costs a
+//! few binary searches more.
 //!
 //! - `second.rt`: a second of a level's entries; `let_go.rt`: the LSP IDs that are let go
 //! - `ids.rt`: LSP IDs in a sorted list

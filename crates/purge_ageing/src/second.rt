@@ -24,12 +24,11 @@ pub fn age(book: &mut Book, gone: &mut LetGo) -> bool
     ensures circuits { SameCircuits book.old book.new }
     ensures spare { book.new.store.spare ≡ book.old.store.spare }
 {
-    book.age_entries();
+    let mut over = book.age_first_over();
     let mut changed = false;
-    let mut next = LspId::from_number(0);
-    while let Some(id) = book.next_over(next) {
+    while let Some(id) = over {
         changed |= end_entry(book, gone, id);
-        next = id;
+        over = book.next_over(id);
     }
     changed
 }

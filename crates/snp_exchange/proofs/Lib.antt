@@ -1,3 +1,4 @@
 -- The lemmas, a module for each topic.
 pub mod PieceLemmas
 pub mod SweepLemmas
+pub mod WalkLemmas

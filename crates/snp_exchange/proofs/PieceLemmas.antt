@@ -1,10 +1,9 @@
 -- Pieces of 75, filled one entry after another, as the definitions cut them.
-use Rattle.std.proofs.Common.{◌≡◌, Bool, true, false, if◌then◌else◌, ℕ, zero, suc, ◌+◌, ◌-◌, ◌^◌, ◌≤◌, ◌<◌, eqb, nat_lt, nat_le, List, [], ◌∷◌, ◌++◌, length, take, drop, refl, sym, ap, ap₂, ◌∙◌, subst, arith}
+use Rattle.std.proofs.Common.{◌≡◌, Bool, true, false, if◌then◌else◌, ℕ, zero, suc, ◌+◌, ◌≤◌, ◌<◌, eqb, nat_lt, nat_le, List, [], ◌∷◌, ◌++◌, length, take, drop, refl, sym, ap, ap₂, ◌∙◌, subst, arith}
 use Rattle.std.proofs.lemmas.Bool.Decides.{nat_tests}
 use Rattle.std.proofs.lemmas.List.{append_assoc, append-nil, length-append}
 use Rattle.std.proofs.Math.Seq.{take-append_seam, drop-append_seam}
 use Rattle.isis_base.specs.declared.level.Level.{Level}
-use Rattle.isis_base.specs.declared.identifiers.LspId.{LspId}
 use Rattle.isis_base.specs.declared.entry.LspEntry.{LspEntry}
 use Rattle.isis_base.specs.Identifiers.{lsp_number}
 use Rattle.isis_model.specs.Cells.{Cell}
@@ -14,8 +13,7 @@ use Rattle.isis_model.specs.SnpLists.{entries_where, pieces, csnps, csnp_set, he
 use Rattle.isis_model.specs.Datagrams.{Sent, Csnp}
 use Rattle.flag_sync.specs.Heard.{entry_of, entries_of}
 use Rattle.snp_exchange.specs.declared.csnp.Piece.{Piece}
-use Rattle.snp_exchange.specs.declared.csnp.Filling.{Filling}
-use Rattle.snp_exchange.specs.Pieces.{sent, filled, all_sent, lists_of, listed}
+use Rattle.snp_exchange.specs.Pieces.{sent, filled, lists_of, listed}
 
 -- ---- one piece more
 
@@ -133,30 +131,7 @@ list-full lists new here said rest e full =
     ap (λ (xs : List (List SnpEntry)). xs ++ listed (entry_of said ∷ []) rest) (ap lists_of e ∙ lists-append lists (here ∷ []))
     ∙ append_assoc (lists_of lists) (entries_of here ∷ []) (listed (entry_of said ∷ []) rest) ∙ rw yes refl
 
-pub fill-more : (level : Level) (start : ℕ) (here new : List LspEntry) (said : LspEntry) (rest : List SnpEntry) → new ≡ here ++ said ∷ [] → length here < 75 → filled level start (entries_of new) rest ≡ filled level start (entries_of here) (entry_of said ∷ rest)
-fill-more level start here new said rest e lt =
-    let len = length-entries here in
-    let no : eqb (length (entries_of here)) 75 ≡ false = grind (arith, nat_tests, len, lt) in
-    rw no (ap (λ (xs : List SnpEntry). filled level start xs rest) (ap entries_of e ∙ entries-append here (said ∷ [])))
-
-pub fill-full : (level : Level) (set new : List Piece) (start end : LspId) (here : List LspEntry) (next : ℕ) (said : LspEntry) (rest : List SnpEntry) → new ≡ set ++ (let p : Piece = record { start = start; end = end; entries = here } in p) ∷ [] → length here ≡ 75 → last_id (entries_of here) ≡ lsp_number end → next ≡ lsp_number end + 1 → sent level new ++ filled level next (entry_of said ∷ []) rest ≡ sent level set ++ filled level (lsp_number start) (entries_of here) (entry_of said ∷ rest)
-fill-full level set new start end here next said rest e full last n =
-    let len = length-entries here in
-    let yes : eqb (length (entries_of here)) 75 ≡ true = grind (arith, nat_tests, len, full) in
-    let p : Piece = record { start = start; end = end; entries = here } in
-    ap (λ (xs : List Sent). xs ++ filled level next (entry_of said ∷ []) rest) (ap (sent level) e ∙ sent-append level set (p ∷ []))
-    ∙ append_assoc (sent level set) (sent level (p ∷ [])) (filled level next (entry_of said ∷ []) rest)
-    ∙ rw (yes, last, n) refl
-
-pub fill-last : (here new : List LspEntry) (said : LspEntry) (end : LspId) → new ≡ here ++ said ∷ [] → end ≡ said.id → last_id (entries_of new) ≡ lsp_number end
-fill-last here new said end e n = ap last_id (ap entries_of e ∙ entries-append here (said ∷ [])) ∙ last-append (entries_of here) (entry_of said) ∙ sym (ap lsp_number n)
-
 -- ---- the whole
-
-pub set-whole : (level : Level) (f : Filling) (items : List Piece) (end : LspId) → lsp_number end ≡ 2 ^ 64 - 1 → items ≡ f.set.items ++ (let p : Piece = record { start = f.start; end = end; entries = f.entries } in p) ∷ [] → sent level items ≡ all_sent level f []
-set-whole level f items end last e =
-    let p : Piece = record { start = f.start; end = end; entries = f.entries } in
-    ap (sent level) e ∙ sent-append level f.set.items (p ∷ []) ∙ ap (λ (n : ℕ). sent level f.set.items ++ Csnp level (lsp_number f.start) n (entries_of f.entries) ∷ []) last
 
 pub set-said : (xs : List LspEntry) (level : Level) → filled level 0 [] (entries_of xs) ≡ csnps level 0 (pieces (suc (length xs)) (entries_of xs))
 set-said xs level = let len = length-entries xs in filled-pieces level (entries_of xs) [] 0 (length xs) (omega arith) (omega (arith, len))

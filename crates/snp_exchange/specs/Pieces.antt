@@ -1,6 +1,6 @@
 -- What is sent of pieces, and of a piece that is still filled (ISO 10589 7.3.15.3, 7.3.15.4; the
 -- form: own).
-use Rattle.std.specs.Prelude.{◌≡◌, ℕ, ◌+◌, ◌-◌, ◌^◌, ◌<◌, ◌≤◌, ◌==◌, nat_lt, List, [], ◌∷◌, ◌++◌, length, if◌then◌else◌}
+use Rattle.std.specs.Prelude.{ℕ, ◌+◌, ◌-◌, ◌^◌, ◌==◌, nat_lt, List, [], ◌∷◌, ◌++◌, length, if◌then◌else◌}
 use Rattle.isis_base.specs.declared.level.Level.{Level}
 use Rattle.isis_base.specs.declared.entry.LspEntry.{LspEntry}
 use Rattle.isis_base.specs.Identifiers.{lsp_number}
@@ -9,7 +9,6 @@ use Rattle.isis_model.specs.SnpLists.{last_id}
 use Rattle.isis_model.specs.Datagrams.{Sent, Csnp}
 use Rattle.flag_sync.specs.Heard.{entries_of}
 use Rattle.snp_exchange.specs.declared.csnp.Piece.{Piece}
-use Rattle.snp_exchange.specs.declared.csnp.Filling.{Filling}
 
 -- pieces as CSNPs of a level
 abbrev pub sent : Level → List Piece → List Sent
@@ -25,16 +24,6 @@ filled level start here (h ∷ rest) =
     if length here == 75
     then Csnp level start (last_id here) here ∷ filled level (last_id here + 1) (h ∷ []) rest
     else filled level start (here ++ h ∷ []) rest
-
--- what is sent of all, once the rest has come
-abbrev pub all_sent : Level → Filling → List SnpEntry → List Sent
-all_sent level f rest =
-    sent level f.set.items ++ filled level (lsp_number f.start) (entries_of f.entries) rest
-
--- a piece that is filled has at most 75 entries, and ends at the last one
-pub record IsFilling (f : Filling) : Type 0 where
-  pub few : length f.entries ≤ 75
-  pub last : 0 < length f.entries → last_id (entries_of f.entries) ≡ lsp_number f.end
 
 -- lists of entries, as the definitions have them
 abbrev pub lists_of : List (List LspEntry) → List (List SnpEntry)

@@ -1,8 +1,8 @@
-use Rattle.std.proofs.Common.{◌≡◌, ◌∙◌, ◌++◌, [], ◌∷◌, List, length, ap, sym, arith}
+use Rattle.std.proofs.Common.{◌≡◌, ◌∙◌, ◌++◌, [], ◌∷◌, List, ap, arith}
 use Rattle.std.proofs.lemmas.Result.{on_ok_weaker}
 use Rattle.isis_base.specs.declared.entry.LspEntry.{LspEntry}
 use Rattle.isis_model.specs.SnpTable.{SnpEntry}
-use Rattle.flag_sync.specs.Heard.{entry_of, entries_of}
+use Rattle.flag_sync.specs.Heard.{entries_of}
 use Rattle.snp_exchange.specs.Pieces.{lists_of, listed}
 use Rattle.snp_exchange.proofs.PieceLemmas.{list-more, list-full}
 use Rattle.snp_exchange.proofs.psnp.add.Goals as goal

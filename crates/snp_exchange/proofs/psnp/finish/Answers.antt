@@ -1,4 +1,4 @@
-use Rattle.std.proofs.Common.{◌≡◌, ◌<◌, length, arith}
+use Rattle.std.proofs.Common.{◌<◌, length, arith}
 use Rattle.std.proofs.lemmas.Bool.Decides.{nat_tests}
 use Rattle.snp_exchange.proofs.PieceLemmas.{list-end}
 use Rattle.snp_exchange.proofs.psnp.finish.Goals as goal

@@ -1,4 +1,4 @@
-use Rattle.std.proofs.Common.{◌≡◌, ◌∙◌, ◌-◌, ◌++◌, [], ℕ, List, length, sym, ap}
+use Rattle.std.proofs.Common.{◌∙◌, ◌-◌, ◌++◌, List, sym, ap}
 use Rattle.std.proofs.lemmas.Result.{IfOk-weaker}
 use Rattle.isis_base.specs.declared.entry.LspEntry.{LspEntry}
 use Rattle.flag_sync.specs.Heard.{entries_of}
