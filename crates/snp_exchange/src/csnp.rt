@@ -68,7 +68,10 @@ fn add(set: &mut Vec<Piece>, alloc: Global, piece: PieceWalk<'_>) -> Result<(), 
 fn entries_in(alloc: Global, mut walk: EntryWalk<'_>) -> Result<Entries, OutOfMemory>
     ensures { IfOk result (λ entries. entries ≡ walk.entry) }
 {
-    let mut entries = Entries::new(alloc);
+    let mut entries = match Entries::with_room(alloc, walk.count) {
+        Ok(entries) => entries,
+        Err(fault) => return Err(fault),
+    };
     while let Some(said) = walk.next() {
         match entries.push(said) {
             Ok(()) => {}

@@ -1,5 +1,5 @@
 //! A growing list of entries.
-ghost use Rattle.std.specs.Prelude.{◌≡◌, [], ◌∷◌, ◌++◌, length, OnOk};
+ghost use Rattle.std.specs.Prelude.{◌≡◌, [], ◌∷◌, ◌++◌, length, OnOk, IfOk};
 
 use isis_base::{LspEntry, OutOfMemory};
 use std::alloc::Global;
@@ -31,6 +31,14 @@ impl Entries {
         Entries {
             items: Vec::new(alloc),
         }
+    }
+
+    /// No entry, with the memory for so many.
+    pub(crate) fn with_room(alloc: Global, count: usize) -> Result<Entries, OutOfMemory>
+        ensures { IfOk result (λ entries. entries ≡ []) }
+    {
+        let items = Vec::with_capacity(alloc, count)?;
+        Ok(Entries { items })
     }
 
     /// The number of entries.
