@@ -14,6 +14,7 @@
 //! - `laws.rt`: the plain programs of the definitions are what the routes say
 #![tactic(auto)]
 
+mod ahead;
 mod candidates;
 mod differences;
 mod following;
