@@ -18,6 +18,7 @@ mod lead;
 mod systems;
 
 pub use graph::{is_overloaded_at, overloaded, rows, rows_at};
+pub use lead::is_live;
 pub use systems::{area_list, is_attached, reach};
 
 #[cfg(test)]

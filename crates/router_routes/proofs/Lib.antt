@@ -5,3 +5,6 @@ pub mod GraphLemmas
 pub mod LeakLemmas
 pub mod CandidateLemmas
 pub mod DifferenceLemmas
+pub mod IdLemmas
+pub mod NodeLemmas
+pub mod MovedLemmas

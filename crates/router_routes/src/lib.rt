@@ -23,6 +23,7 @@ mod leaks;
 mod lent;
 mod level_graph;
 mod systems;
+mod view;
 
 pub use following::Following;
 pub use lent::{Lent, ids_law};
