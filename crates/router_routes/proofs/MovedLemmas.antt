@@ -1,6 +1,7 @@
 -- What is told where one node tells something else.
 use Rattle.std.proofs.Common.{◌≡◌, ◌∙◌, ℕ, ◌+◌, ◌-◌, ◌%◌, ◌^◌, ◌<◌, ◌≤◌, Bool, true, false, not, List, [], ◌∷◌, ◌++◌, map, filter, Option, Some, None, refl, sym, ap, subst, arith, inl, inr, if◌then◌else◌, ◌&&◌, ◌==◌, ◌⊎◌, append_assoc, append-nil}
 use Rattle.std.specs.Prelude.{nat_lt, nat_le}
+use Rattle.std.specs.List.{flat_map}
 use Rattle.std.proofs.lemmas.Bool.{cases_eq, eq-eqb, ne_eqb}
 use Rattle.std.proofs.lemmas.Bool.Decides.{nat_tests}
 use Rattle.isis_base.specs.declared.identifiers.SystemId.{SystemId}
@@ -369,3 +370,25 @@ module _ (node : NodeId) (number : ℕ) (id : IsId (record { node = node; number
       let s = stands pair.0 is in let a = s.is in let b = s.small in let d = s.first in let e = its.first in let f = s.most in
       grind (arith, nat_tests, a, b, d, e, f, most)) entries ids)
       ∙ ap told_in (nothing entries)
+
+-- ---- what is made of each pair, in order
+
+flat-append : {X Y : Type 0} (f : X → List Y) (xs ys : List X) → flat_map f (xs ++ ys) ≡ flat_map f xs ++ flat_map f ys
+flat-append f [] ys = refl
+flat-append f (x ∷ xs) ys = ap (λ (l : List _). f x ++ l) (flat-append f xs ys) ∙ sym (append_assoc (f x) (flat_map f xs) (flat_map f ys))
+
+module _ {Y : Type 0} (f : Pair → List Y) (level : LevelView) (moved : Moved) (is : level.moved ≡ Some moved) where
+  made-with : (node : NodeId) (old here : List Pair) (l m n k : List Y) → l ≡ [] → m ≡ l ++ flat_map f (told_before node old) → n ≡ m ++ flat_map f (told_at node here) → k ≡ n ++ flat_map f (told_past node old) → k ≡ flat_map f (told_with node old here)
+  unfolding told_with
+  made-with node old here l m n k a b c d =
+      d ∙ ap (λ (x : List Y). x ++ flat_map f (told_past node old)) (c ∙ ap (λ (x : List Y). x ++ flat_map f (told_at node here)) (b ∙ ap (λ (x : List Y). x ++ flat_map f (told_before node old)) a))
+      ∙ append_assoc (flat_map f (told_before node old)) (flat_map f (told_at node here)) (flat_map f (told_past node old))
+      ∙ sym (flat-append f (told_before node old) (told_at node here ++ told_past node old) ∙ ap (λ (x : List Y). flat_map f (told_before node old) ++ x) (flat-append f (told_at node here) (told_past node old)))
+
+  pub made-of : (l m n k : List Y) → l ≡ [] → m ≡ l ++ flat_map f (told_before moved.node (told_in level.store.now.entries)) → n ≡ m ++ flat_map f (told_at moved.node (told_in moved.aside.now.entries)) → k ≡ n ++ flat_map f (told_past moved.node (told_in level.store.now.entries)) → k ≡ flat_map f (told_of level)
+  made-of l m n k a b c d =
+      made-with moved.node (told_in level.store.now.entries) (told_in moved.aside.now.entries) l m n k a b c d
+      ∙ sym (ap (λ (o : Option Moved). flat_map f (told_moved (told_in level.store.now.entries) o)) is)
+
+pub told-more : {Y : Type 0} (f : Pair → List Y) (list whole : List Y) (pair : Pair) (pairs : List Pair) → is_live pair.1 ≡ true → list ++ flat_map f (told_in (pair ∷ pairs)) ≡ whole → list ++ (f (told_pair pair) ++ flat_map f (told_in pairs)) ≡ whole
+told-more f list whole pair pairs live is = subst (λ (t : Bool). list ++ flat_map f (map told_pair (if t then pair ∷ live_of pairs else live_of pairs)) ≡ whole) live is

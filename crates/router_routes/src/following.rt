@@ -213,7 +213,7 @@ pub(crate) fn assembled(
     ensures one { IfOk result (λ f. f.levels.one ≡ one) }
     ensures two { IfOk result (λ f. f.levels.two ≡ two) }
 {
-    let reached = reached_ahead(alloc, view, &one, &two)?;
+    let reached = all_reached(alloc, view, &one, &two)?;
     let routes = table(alloc, view, reached.candidates.as_slice(), &one, &two)?;
     Ok(Following {
         alloc,
@@ -233,7 +233,7 @@ pub(crate) struct Reached {
 }
 
 /// What these distances reach.
-pub(crate) fn reached_ahead(
+pub(crate) fn all_reached(
     alloc: Global,
     view: &View<'_>,
     one: &Repaired,
