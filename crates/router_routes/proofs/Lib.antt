@@ -8,3 +8,5 @@ pub mod DifferenceLemmas
 pub mod IdLemmas
 pub mod NodeLemmas
 pub mod MovedLemmas
+pub mod NearLemmas
+pub mod NearGraphLemmas

@@ -8,3 +8,4 @@ pub mod Leaks
 pub mod Differences
 pub mod Following
 pub mod Moved
+pub mod Near

@@ -22,6 +22,7 @@ pub mod laws;
 mod leaks;
 mod lent;
 mod level_graph;
+mod near;
 mod systems;
 mod view;
 

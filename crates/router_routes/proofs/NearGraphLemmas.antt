@@ -1,0 +1,199 @@
+-- A graph changed at one node is that of what is told then.
+use Rattle.std.proofs.Common.{◌≡◌, ◌∙◌, ℕ, zero, suc, ◌+◌, ◌*◌, ◌%◌, ◌<◌, ◌≤◌, Bool, true, false, not, cond, List, [], ◌∷◌, ◌++◌, length, map, filter, refl, sym, ap, subst, arith, inl, inr, if◌then◌else◌, ◌&&◌, ◌||◌, ◌==◌, ◌⊎◌}
+use Rattle.std.specs.Prelude.{nat_lt}
+use Rattle.std.specs.List.{flat_map, list_any, count_by}
+use Rattle.std.proofs.lemmas.Bool.{cases_eq, cases_Bool, eq-eqb, ne_eqb, eqb-true, and_from, and_parts}
+use Rattle.std.proofs.lemmas.Bool.Decides.{nat_tests}
+use Rattle.std.proofs.lemmas.List.Sums.{sum_by-cons, sum_by-append}
+use Rattle.std.proofs.lemmas.List.Folds.{list_any-append}
+use Rattle.isis_base.specs.declared.identifiers.NodeId.{NodeId}
+use Rattle.isis_base.specs.declared.identifiers.LspId.{LspId}
+use Rattle.lsp_store.specs.declared.entry.Entry.{Entry}
+use Rattle.lsp_store.specs.Maps.{RisesFrom}
+use Rattle.spf_tree.specs.declared.row.Row.{Row}
+use Rattle.spf_tree.specs.Nodes.{node_number}
+use Rattle.spf_tree.specs.Walks.{start, end}
+use Rattle.spf_tree.specs.Graphs.{GraphOf, AreUsable, leads, is_usable, is_overloaded, same_row, times}
+use Rattle.spf_tree.proofs.UsableLemmas.{alike}
+use Rattle.lsp_view.specs.Views.{rows_in, overloaded_in}
+use Rattle.router_routes.specs.Told.{told_in}
+use Rattle.router_routes.specs.Moved.{told_by_nodes, told_at, told_beside, told_with, HaveIds}
+use Rattle.router_routes.specs.Near.{touches, rows_from, rows_to, AreEnds, near_rows, near_overloaded, IsNear}
+use Rattle.router_routes.specs.Differences.{AreDifferences}
+use Rattle.router_routes.proofs.NodeLemmas.{rows-by, overloaded-by}
+use Rattle.router_routes.proofs.MovedLemmas.{told-ids, told-rises, with-at, with-beside, with-ids}
+use Rattle.router_routes.proofs.GraphLemmas.{kept-times}
+
+abbrev Pair : Type 0
+Pair = LspId × Entry
+
+abbrev any-end : ℕ → List Row → Bool
+any-end n rows = list_any (λ (row : Row). end row == n) rows
+
+-- ---- one row counted
+
+times-cons : (row x : Row) (rows : List Row) → times (x ∷ rows) row ≡ cond (same_row row x) 1 0 + times rows row
+times-cons row x rows = sum_by-cons (λ y. cond (same_row row y) 1 0) x rows
+
+times-append : (row : Row) (xs ys : List Row) → times (xs ++ ys) row ≡ times xs row + times ys row
+times-append row xs ys = sum_by-append (λ y. cond (same_row row y) 1 0) xs ys
+
+same-self : (row : Row) → same_row row row ≡ true
+same-self row = and_from (start row == start row) (end row == end row && row.metric == row.metric) (eq-eqb (start row) (start row) refl) (and_from (end row == end row) (row.metric == row.metric) (eq-eqb (end row) (end row) refl) (eq-eqb row.metric row.metric refl))
+
+-- a row that passes a test is counted, and one that is counted passes it
+abbrev Found : (ℕ → ℕ → ℕ → Bool) → List Row → Type 0
+Found p rows = (row : Row) × (1 ≤ times rows row) × (p (start row) (end row) row.metric ≡ true)
+
+abbrev any-row : (ℕ → ℕ → ℕ → Bool) → List Row → Bool
+any-row p rows = list_any (λ (row : Row). p (start row) (end row) row.metric) rows
+
+found-step : (p : ℕ → ℕ → ℕ → Bool) (x : Row) (rows : List Row) → (any-row p rows ≡ true → Found p rows) → (t : Bool) → p (start x) (end x) x.metric ≡ t → (t || any-row p rows) ≡ true → Found p (x ∷ rows)
+found-step p x rows rest true is any = (x, (rw (times-cons x x rows, same-self x) (omega arith)), is)
+found-step p x rows rest false is any = let f = rest any in let more = f.1 in (f.0, (rw (times-cons f.0 x rows) (omega (arith, more))), f.2)
+
+found : (p : ℕ → ℕ → ℕ → Bool) (rows : List Row) → any-row p rows ≡ true → Found p rows
+found p [] any = absurd (let e : false ≡ true = any in cc)
+found p (x ∷ rows) any = found-step p x rows (found p rows) (p (start x) (end x) x.metric) refl any
+
+or-right : (t : Bool) → (t || true) ≡ true
+or-right true = refl
+or-right false = refl
+
+counted-step : (p : ℕ → ℕ → ℕ → Bool) (row x : Row) (rows : List Row) → (1 ≤ times rows row → any-row p rows ≡ true) → p (start row) (end row) row.metric ≡ true → (t : Bool) → same_row row x ≡ t → 1 ≤ cond t 1 0 + times rows row → (p (start x) (end x) x.metric || any-row p rows) ≡ true
+counted-step p row x rows rest is true same some = ap (λ (t : Bool). t || any-row p rows) (alike p row x same ∙ is)
+counted-step p row x rows rest is false same some = ap (λ (t : Bool). p (start x) (end x) x.metric || t) (rest (omega (arith, some))) ∙ or-right (p (start x) (end x) x.metric)
+
+counted : (p : ℕ → ℕ → ℕ → Bool) (row : Row) (rows : List Row) → 1 ≤ times rows row → p (start row) (end row) row.metric ≡ true → any-row p rows ≡ true
+counted p row [] some is = absurd (omega (arith, some))
+counted p row (x ∷ rows) some is = counted-step p row x rows (λ more. counted p row rows more is) is (same_row row x) refl (subst (λ (n : ℕ). 1 ≤ n) (times-cons row x rows) some)
+
+bools-same : (a b : Bool) → (a ≡ true → b ≡ true) → (b ≡ true → a ≡ true) → a ≡ b
+bools-same true b f g = sym (f refl)
+bools-same false true f g = g refl
+bools-same false false f g = refl
+
+leads-to : (xs ys : List Row) (from to : ℕ) → ((r : Row) → start r ≡ from → end r ≡ to → times xs r ≡ times ys r) → leads xs from to ≡ true → leads ys from to ≡ true
+leads-to xs ys from to same is =
+    let p : ℕ → ℕ → ℕ → Bool = λ s e m. s == from && e == to in
+    let f = found p xs is in
+    let parts = and_parts (start f.0 == from) (end f.0 == to) f.2 in
+    let e = same f.0 (eqb-true (start f.0) from parts.0) (eqb-true (end f.0) to parts.1) in
+    let some = f.1 in
+    counted p f.0 ys (omega (arith, e, some)) f.2
+
+leads-same : (xs ys : List Row) (from to : ℕ) → ((r : Row) → start r ≡ from → end r ≡ to → times xs r ≡ times ys r) → leads xs from to ≡ leads ys from to
+leads-same xs ys from to same = bools-same (leads xs from to) (leads ys from to) (leads-to xs ys from to same) (leads-to ys xs from to (λ r a b. sym (same r a b)))
+
+-- ---- rows that are told of other nodes stay
+
+module _ (node : NodeId) (old here : List Pair) (rises : RisesFrom 0 old) (ids : HaveIds old) (here-ids : HaveIds here) where
+  abbrev n : ℕ
+  n = node_number node
+
+  abbrev new : List Pair
+  new = told_with node old here
+
+  new-ids : HaveIds (told_with node old here)
+  new-ids = with-ids node old here ids here-ids
+
+  abbrev beside-rows : List Row → List Row
+  beside-rows rows = filter (λ (row : Row). not (start row == n)) rows
+
+  mine-same : rows_from n (rows_in here) ≡ rows_from n (rows_in new)
+  mine-same = rows-by (λ m. m == n) here here-ids ∙ ap rows_in (sym (with-at node old here)) ∙ sym (rows-by (λ m. m == n) new new-ids)
+
+  others-same : beside-rows (rows_in new) ≡ beside-rows (rows_in old)
+  others-same = rows-by (λ m. not (m == n)) new new-ids ∙ ap rows_in (with-beside node old here rises ids) ∙ sym (rows-by (λ m. not (m == n)) old ids)
+
+  from-times : (m : ℕ) (rows : List Row) (row : Row) → times (rows_from m rows) row ≡ (if start row == m then times rows row else 0)
+  from-times m rows row = kept-times (λ s e k. s == m) rows row
+
+  to-times : (m : ℕ) (rows : List Row) (row : Row) → times (rows_to m rows) row ≡ (if end row == m then times rows row else 0)
+  to-times m rows row = kept-times (λ s e k. e == m) rows row
+
+  pub apart-times : (row : Row) → (start row == n) ≡ false → times (rows_in new) row ≡ times (rows_in old) row
+  apart-times row is =
+      let a : times (beside-rows (rows_in new)) row ≡ (if not (start row == n) then times (rows_in new) row else 0) = kept-times (λ s e k. not (s == n)) (rows_in new) row in
+      let b : times (beside-rows (rows_in old)) row ≡ (if not (start row == n) then times (rows_in old) row else 0) = kept-times (λ s e k. not (s == n)) (rows_in old) row in
+      let c = ap (λ (rows : List Row). times rows row) others-same in
+      let taken : (x : ℕ) → (if not (start row == n) then x else 0) ≡ x = λ x. rw is refl in
+      sym (taken (times (rows_in new) row)) ∙ sym a ∙ c ∙ b ∙ taken (times (rows_in old) row)
+
+  pub apart-over : (m : ℕ) → (m == n) ≡ false → is_overloaded (overloaded_in new) m ≡ is_overloaded (overloaded_in old) m
+  apart-over m is =
+      let kept : not (m == n) ≡ true = ap not is in
+      overloaded-by (λ k. not (k == n)) m kept new
+      ∙ ap (λ (l : List Pair). is_overloaded (overloaded_in l) m) (with-beside node old here rises ids)
+      ∙ sym (overloaded-by (λ k. not (k == n)) m kept old)
+
+  over-node : is_overloaded (overloaded_in new) n ≡ is_overloaded (overloaded_in here) n
+  over-node =
+      let kept : (n == n) ≡ true = eq-eqb n n refl in
+      overloaded-by (λ k. k == n) n kept new
+      ∙ ap (λ (l : List Pair). is_overloaded (overloaded_in l) n) (with-at node old here)
+      ∙ sym (overloaded-by (λ k. k == n) n kept here)
+
+  -- a row that doesn't touch the node may be walked as before
+  pub apart-usable : (root : ℕ) (row : Row) → touches n row ≡ false → is_usable (rows_in new) (overloaded_in new) root (start row) (end row) row.metric ≡ is_usable (rows_in old) (overloaded_in old) root (start row) (end row) row.metric
+  apart-usable root row apart =
+      let a : (start row == n) ≡ false = grind (arith, nat_tests, apart) in
+      let b : (end row == n) ≡ false = grind (arith, nat_tests, apart) in
+      let back = leads-same (rows_in new) (rows_in old) (end row) (start row) (λ r is to. apart-times r (ap (λ (m : ℕ). m == n) is ∙ b)) in
+      let over = apart-over (start row) a in
+      ap (λ (t : Bool). not (row.metric == 16777215) && (t && (start row == root || not (is_overloaded (overloaded_in new) (start row))))) back
+      ∙ ap (λ (t : Bool). not (row.metric == 16777215) && (leads (rows_in old) (end row) (start row) && (start row == root || not t))) over
+
+  -- ---- the rows near the node
+
+  module _ (mine : List Row) (ends : List NodeId) (is-mine : mine ≡ rows_from n (rows_in here)) (are-ends : AreEnds n mine ends) where
+    abbrev near : List Row
+    near = near_rows n mine ends (rows_in old)
+
+    abbrev lead : NodeId → List Row
+    lead other = rows_to n (rows_from (node_number other) (rows_in old))
+
+    lead-add : (to is : Bool) (t c : ℕ) → (if to then (if is then t else 0) else 0) + (if to then c else 0) * t ≡ (if to then cond is 1 0 + c else 0) * t
+    lead-add true true t c = one-more-times c t
+    lead-add true false t c = no-more-times c t
+    lead-add false is t c = omega arith
+
+    one-more-times : (c t : ℕ) → t + c * t ≡ (1 + c) * t
+    one-more-times c t = grind arith
+
+    no-more-times : (c t : ℕ) → 0 + c * t ≡ (0 + c) * t
+    no-more-times c t = grind arith
+
+    led-times : (row : Row) (list : List NodeId) → times (flat_map lead list) row ≡ (if end row == n then count_by (λ (other : NodeId). node_number other == start row) list else 0) * times (rows_in old) row
+    led-times row [] = sym (no-times (end row == n) (times (rows_in old) row))
+    led-times row (other ∷ list) =
+        times-append row (lead other) (flat_map lead list)
+        ∙ ap (λ (k : ℕ). k + times (flat_map lead list) row) (to-times n (rows_from (node_number other) (rows_in old)) row ∙ ap (λ (k : ℕ). if end row == n then k else 0) (from-times (node_number other) (rows_in old) row ∙ ap (λ (t : Bool). if t then times (rows_in old) row else 0) (turned (start row) (node_number other))))
+        ∙ ap (λ (k : ℕ). (if end row == n then (if node_number other == start row then times (rows_in old) row else 0) else 0) + k) (led-times row list)
+        ∙ lead-add (end row == n) (node_number other == start row) (times (rows_in old) row) (count_by (λ (o : NodeId). node_number o == start row) list)
+        ∙ ap (λ (k : ℕ). (if end row == n then k else 0) * times (rows_in old) row) (sym (sum_by-cons (λ (o : NodeId). cond (node_number o == start row) 1 0) other list))
+
+    no-times : (t : Bool) (k : ℕ) → (if t then 0 else 0) * k ≡ 0
+    no-times true k = omega arith
+    no-times false k = omega arith
+
+    turned : (a b : ℕ) → (a == b) ≡ (b == a)
+    turned a b = grind (arith, nat_tests)
+
+    abbrev sel : Row → Bool
+    sel row = start row == n || (end row == n && any-end (start row) mine)
+
+    near-add : (s e any : Bool) (here there old-times : ℕ) → (s ≡ false → there ≡ old-times) → (s ≡ true → here ≡ there) → (if s then here else 0) + (if e then (if not s && any then 1 else 0) else 0) * old-times ≡ (if s || (e && any) then there else 0)
+    near-add true true any here there o f g = let e = g refl in omega (arith, e)
+    near-add true false any here there o f g = let e = g refl in omega (arith, e)
+    near-add false true true here there o f g = let e = f refl in omega (arith, e)
+    near-add false true false here there o f g = omega arith
+    near-add false false any here there o f g = omega arith
+
+    pub near-times : (row : Row) → times near row ≡ (if sel row then times (rows_in new) row else 0)
+    unfolding near_rows
+    near-times row =
+        times-append row mine (flat_map lead ends)
+        ∙ ap (λ (k : ℕ). k + times (flat_map lead ends) row) (ap (λ (rows : List Row). times rows row) (is-mine ∙ mine-same) ∙ from-times n (rows_in new) row)
+        ∙ ap (λ (k : ℕ). (if start row == n then times (rows_in new) row else 0) + k) (led-times row ends ∙ ap (λ (k : ℕ). (if end row == n then k else 0) * times (rows_in old) row) (are-ends (start row)))
+        ∙ near-add (start row == n) (end row == n) (any-end (start row) mine) (times (rows_in new) row) (times (rows_in new) row) (times (rows_in old) row) (λ is. apart-times row is) (λ is. refl)
