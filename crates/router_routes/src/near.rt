@@ -30,11 +30,10 @@ pub(crate) fn graph_near(
 ) -> Result<Graph, OutOfMemory>
     requires store { HaveIds store.now.entries }
     requires aside { HaveIds aside.now.entries }
-    ensures near { IfOk result (λ graph. IsNear
+    ensures { IfOk result (λ graph. IsNear
         (told_with node (told_in store.now.entries) (told_in aside.now.entries)) root node graph) }
 {
-    lsp_id_law(LspId { node, number: 0 });
-    let (_entries, _aside) = (store.len(), aside.len());
+    let _entries = store.len();
     let mut rows = rows_from(alloc, aside, node)?;
     let ends = ends_beside(alloc, rows.as_slice(), number(node))?;
     add_rows_to(alloc, &mut rows, store, number(node), ends.as_slice())?;
