@@ -12,7 +12,10 @@ use Rattle.lsp_store.specs.declared.entry.Entry.{Entry}
 use Rattle.lsp_store.specs.Maps.{pair_number, between, RisesFrom}
 use Rattle.lsp_store.specs.Databases.{is_live, live_of}
 use Rattle.spf_tree.specs.Nodes.{node_number}
-use Rattle.lsp_view.specs.Views.{own_node, lead_of, reach_in}
+use Rattle.lsp_view.specs.Views.{own_node, lead_of, reach_in, rows_in, overloaded_in}
+use Rattle.spf_repair.specs.Changes.{RepairedOf}
+use Rattle.spf_tree.specs.Graphs.{AreUsable}
+use Rattle.router_routes.specs.Following.{IsLevel}
 use Rattle.isis_base.specs.declared.level.Level.TheVariants as level
 use Rattle.isis_datagram.specs.Reading.{runs_of}
 use Rattle.isis_model.specs.Both.{Both}
@@ -21,7 +24,7 @@ use Rattle.router_routes.specs.Outlooks.{Outlook, where_run, outlook_in}
 use Rattle.router_routes.specs.Told.{told_pair, told_in}
 use Rattle.router_routes.specs.declared.view.LevelView.{LevelView}
 use Rattle.router_routes.specs.declared.view.Moved.{Moved}
-use Rattle.router_routes.specs.Moved.{told_by_nodes, told_at, told_beside, told_before, told_past, told_with, told_moved, told_of, HaveIds, FitMoved, IsFit, IsMovedAt, outlook_by}
+use Rattle.router_routes.specs.Moved.{told_by_nodes, told_at, told_beside, told_before, told_past, told_with, told_moved, told_of, HaveIds, FitMoved, IsFit, IsMovedAt, AreCosts, outlook_by}
 use Rattle.router_routes.proofs.IdLemmas.{Stands, stands}
 use Rattle.router_routes.proofs.NodeLemmas.{filter-append, lead-by, reach-by}
 
@@ -392,3 +395,26 @@ module _ {Y : Type 0} (f : Pair → List Y) (level : LevelView) (moved : Moved) 
 
 pub told-more : {Y : Type 0} (f : Pair → List Y) (list whole : List Y) (pair : Pair) (pairs : List Pair) → is_live pair.1 ≡ true → list ++ flat_map f (told_in (pair ∷ pairs)) ≡ whole → list ++ (f (told_pair pair) ++ flat_map f (told_in pairs)) ≡ whole
 told-more f list whole pair pairs live is = subst (λ (t : Bool). list ++ flat_map f (map told_pair (if t then pair ∷ live_of pairs else live_of pairs)) ≡ whole) live is
+
+-- ---- costs over what is told then
+
+run-costs : (runs : Bool) (list : List Pair) (root : NodeId) (costs : RepairedOf) → runs ≡ true → AreCosts list root costs → AreUsable (rows_in (where_run runs list)) (overloaded_in (where_run runs list)) root costs.graph
+run-costs true list root costs is are = are.graph
+run-costs false list root costs is are = absurd (let e : false ≡ true = is in cc)
+
+module _ (lent : Lent) (moved : Moved) (costs : RepairedOf) where
+  pub costs-one : (runs_of lent.levels).one ≡ true → AreCosts (told_with moved.node (told_in lent.one.now.entries) (told_in moved.aside.now.entries)) (own_node lent.system) costs → IsLevel (outlook_by lent (Some moved) None) level.One costs
+  unfolding outlook_by
+  costs-one run are = record { root = are.root; graph = run-costs (runs_of lent.levels).one _ (own_node lent.system) costs run are }
+
+  pub costs-two : (runs_of lent.levels).two ≡ true → AreCosts (told_with moved.node (told_in lent.two.now.entries) (told_in moved.aside.now.entries)) (own_node lent.system) costs → IsLevel (outlook_by lent None (Some moved)) level.Two costs
+  unfolding outlook_by
+  costs-two run are = record { root = are.root; graph = run-costs (runs_of lent.levels).two _ (own_node lent.system) costs run are }
+
+  pub other-two : IsLevel (outlook_in lent) level.Two costs → IsLevel (outlook_by lent (Some moved) None) level.Two costs
+  unfolding outlook_by outlook_in
+  other-two is = record { root = is.root; graph = is.graph }
+
+  pub other-one : IsLevel (outlook_in lent) level.One costs → IsLevel (outlook_by lent None (Some moved)) level.One costs
+  unfolding outlook_by outlook_in
+  other-one is = record { root = is.root; graph = is.graph }

@@ -10,7 +10,9 @@ use Rattle.isis_datagram.specs.Reading.{runs_of}
 use Rattle.isis_model.specs.Both.{Both, at}
 use Rattle.lsp_store.specs.declared.entry.Entry.{Entry}
 use Rattle.lsp_store.specs.Maps.{RisesFrom}
-use Rattle.lsp_view.specs.Views.{own_node}
+use Rattle.lsp_view.specs.Views.{own_node, rows_in, overloaded_in}
+use Rattle.spf_repair.specs.Changes.{RepairedOf}
+use Rattle.spf_tree.specs.Graphs.{AreUsable}
 use Rattle.spf_tree.specs.Nodes.{node_number}
 use Rattle.router_routes.specs.declared.lent.Lent.{Lent}
 use Rattle.router_routes.specs.declared.view.LevelView.{LevelView}
@@ -110,3 +112,17 @@ outlook_by lent one two = record {
     two = where_run (runs_of lent.levels).two (told_moved (told_in lent.two.now.entries) two);
   };
 }
+
+-- what a level's database has, and whether costs are from the root over what is told
+abbrev pub entries_at : Lent → Level → List (LspId × Entry)
+entries_at lent level.One = lent.one.now.entries
+entries_at lent level.Two = lent.two.now.entries
+
+pub record AreCosts (told : List (LspId × Entry)) (from : NodeId) (repaired : RepairedOf) : Type 0 where
+  pub root : repaired.root ≡ from
+  pub graph : AreUsable (rows_in told) (overloaded_in told) from repaired.graph
+
+-- the new costs, or else the old ones
+abbrev pub or_old : Option RepairedOf → RepairedOf → RepairedOf
+or_old None old = old
+or_old (Some new) old = new

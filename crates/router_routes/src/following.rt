@@ -174,7 +174,7 @@ fn followed(
 }
 
 /// Changes rows. Its steps aren't counted further.
-fn change<L: Ledger>(
+pub(crate) fn change<L: Ledger>(
     repaired: &mut Repaired,
     removed: &[Row],
     added: &[Row],
@@ -200,7 +200,7 @@ fn change<L: Ledger>(
 }
 
 /// The value of these distances.
-pub(crate) fn assembled(
+fn assembled(
     alloc: Global,
     view: &View<'_>,
     one: Repaired,
@@ -214,6 +214,25 @@ pub(crate) fn assembled(
     ensures two { IfOk result (λ f. f.levels.two ≡ two) }
 {
     let reached = all_reached(alloc, view, &one, &two)?;
+    made(alloc, view, reached, one, two)
+}
+
+/// The value of these distances, and of what they reach.
+pub(crate) fn made(
+    alloc: Global,
+    view: &View<'_>,
+    reached: Reached,
+    one: Repaired,
+    two: Repaired,
+) -> Result<Following, OutOfMemory>
+    requires one { IsLevel (outlook_at view.now) level.One one }
+    requires two { IsLevel (outlook_at view.now) level.Two two }
+    requires candidates { reached.candidates.items ≡ candidates_of (outlook_at view.now) }
+    requires attached { reached.attached ≡ attached_of (outlook_at view.now) }
+    ensures follows { IfOk result (λ f. IsFollowing (outlook_at view.now) f) }
+    ensures one { IfOk result (λ f. f.levels.one ≡ one) }
+    ensures two { IfOk result (λ f. f.levels.two ≡ two) }
+{
     let routes = table(alloc, view, reached.candidates.as_slice(), &one, &two)?;
     Ok(Following {
         alloc,
@@ -270,7 +289,7 @@ fn attached(alloc: Global, view: &View<'_>, twos: &[(SystemId, u64)]) -> Result<
 }
 
 /// The routes of these candidates.
-pub(crate) fn table(
+fn table(
     alloc: Global,
     view: &View<'_>,
     candidates: &[Candidate],

@@ -23,6 +23,7 @@ mod leaks;
 mod lent;
 mod level_graph;
 mod near;
+mod same;
 mod systems;
 mod view;
 

@@ -1,10 +1,14 @@
 //! What routes look at, where what one node tells in one level may be read elsewhere (own).
-ghost use Rattle.std.specs.Prelude.{◌≡◌};
+ghost use Rattle.std.specs.Prelude.{◌≡◌, true};
 ghost use Rattle.isis_base.specs.declared.level.Level.TheVariants as level;
+ghost use Rattle.isis_datagram.specs.Reading.{runs_of};
+ghost use Rattle.isis_model.specs.Both.{at};
+ghost use Rattle.spf_repair.specs.Changes.{RepairedOf};
+ghost use Rattle.router_routes.specs.Following.{IsLevel};
 ghost use Rattle.lsp_view.specs.Views.{own_node, lead_of, reach_in};
 ghost use Rattle.router_routes.specs.Told.{told_in};
 ghost use Rattle.router_routes.specs.Outlooks.{Outlook, outlook_in};
-ghost use Rattle.router_routes.specs.Moved.{IsMovedAt, HaveIds, FitMoved, IsFit, AreFit, told_of, outlook_by, outlook_at};
+ghost use Rattle.router_routes.specs.Moved.{IsMovedAt, HaveIds, FitMoved, IsFit, AreFit, AreCosts, beside, entries_at, told_of, told_with, outlook_by, outlook_at};
 
 use crate::candidates::own_node;
 use crate::lent::Lent;
@@ -54,11 +58,15 @@ pub(crate) fn as_moved<'a>(
     node: NodeId,
     aside: &'a Store,
 ) -> View<'a>
-    requires one { HaveIds lent.now.one.now.entries }
-    requires two { HaveIds lent.now.two.now.entries }
+    requires store { HaveIds (entries_at lent.now level) }
     requires aside { HaveIds aside.now.entries }
     ensures same { (o : Outlook) → IsMovedAt (outlook_in lent.now) o level node
         (told_in aside.now.entries) → o ≡ outlook_at result }
+    ensures level { (costs : RepairedOf) → at (runs_of lent.now.levels) level ≡ true
+        → AreCosts (told_with node (told_in (entries_at lent.now level)) (told_in aside.now.entries))
+        (own_node lent.now.system) costs → IsLevel (outlook_at result) level costs }
+    ensures other { (costs : RepairedOf) → IsLevel (outlook_in lent.now) (beside level) costs
+        → IsLevel (outlook_at result) (beside level) costs }
     ensures fit { AreFit result }
 {
     let moved = Moved { node, aside };
