@@ -10,3 +10,4 @@ pub mod NodeLemmas
 pub mod MovedLemmas
 pub mod NearLemmas
 pub mod NearGraphLemmas
+pub mod AheadLemmas

@@ -127,6 +127,14 @@ no-times-of : (x : Row) (rows : List Row) → length rows ≡ 0 → times rows x
 no-times-of x [] none = refl
 no-times-of x (row ∷ rows) none = absurd (omega (arith, none))
 
+at-most : (t : Bool) (k : ℕ) → (if t then k else 0) ≤ k
+at-most true k = omega arith
+at-most false k = omega arith
+
+-- of some rows, no row is more often there
+pub touched-few : (n : ℕ) (rows : List Row) (row : Row) → times (filter (touches n) rows) row ≤ times rows row
+touched-few n rows row = subst (λ (k : ℕ). k ≤ times rows row) (sym (kept-times (λ s e m. s == n || e == n) rows row)) (at-most (touches n row) (times rows row))
+
 -- ---- rows that are told of other nodes stay
 
 module _ (node : NodeId) (old here : List Pair) (rises : RisesFrom 0 old) (ids : HaveIds old) (here-ids : HaveIds here) where

@@ -1,5 +1,5 @@
 //! The value that will follow a router once one node tells other LSPs (own).
-ghost use Rattle.std.specs.Prelude.{◌≡◌, ◌+◌, ◌^◌, ◌<◌, ◌≤◌, false, IfOk, MatchOption};
+ghost use Rattle.std.specs.Prelude.{◌≡◌, ◌+◌, ◌^◌, ◌<◌, ◌≤◌, true, false, IfOk, MatchOption};
 ghost use Rattle.isis_base.specs.declared.level.Level.TheVariants as level;
 ghost use Rattle.isis_datagram.specs.Reading.{runs_of};
 ghost use Rattle.isis_model.specs.Both.{at};
@@ -12,13 +12,14 @@ ghost use Rattle.router_routes.specs.Moved.{IsMovedAt, HaveIds, AreFit, AreCosts
 
 use crate::candidates::{runs_one, runs_two};
 use crate::differences::rows_apart;
-use crate::following::{Following, all_reached, change, made};
+use crate::following::{Following, Reached, all_reached, change, made};
 use crate::lent::{Lent, ids_law};
 use crate::near::{graph_near, touching};
 use crate::same::same_candidates;
 use crate::view::{View, as_moved};
 use isis_base::{Level, NodeId, OutOfMemory};
 use lsp_store::Store;
+use route_table::Candidate;
 use spf_repair::Repaired;
 use spf_tree::Row;
 use spf_tree::parts::{number, rows_in_order};
@@ -72,8 +73,7 @@ impl Following {
     {
         let (new_one, new_two) = (or_old(&one, &self.one), or_old(&two, &self.two));
         let reached = all_reached(self.alloc, view, new_one, new_two)?;
-        let stays = self.attached == reached.attached
-            && same_candidates(self.candidates.as_slice(), reached.candidates.as_slice());
+        let stays = is_reached(self.attached, self.candidates.as_slice(), &reached);
         if one.is_none() && two.is_none() && stays {
             return Ok(None);
         }
@@ -84,6 +84,14 @@ impl Following {
             Err(error) => Err(error),
         }
     }
+}
+
+/// Whether what is kept is what is reached now.
+fn is_reached(attached: bool, candidates: &[Candidate], reached: &Reached) -> bool
+    ensures attached { result ≡ true → attached ≡ reached.now.attached }
+    ensures candidates { result ≡ true → candidates.now ≡ reached.now.candidates.items }
+{
+    attached == reached.attached && same_candidates(candidates, reached.candidates.as_slice())
 }
 
 /// Whether a level is run.
