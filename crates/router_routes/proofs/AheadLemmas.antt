@@ -6,10 +6,10 @@ use Rattle.isis_base.specs.declared.identifiers.LspId.{LspId}
 use Rattle.isis_base.specs.declared.level.Level.{Level}
 use Rattle.isis_base.specs.declared.level.Level.TheVariants as level
 use Rattle.isis_datagram.specs.Reading.{runs_of}
-use Rattle.isis_model.specs.Both.{Both, at}
+use Rattle.isis_model.specs.Both.{at}
 use Rattle.lsp_store.specs.declared.entry.Entry.{Entry}
 use Rattle.lsp_view.specs.Views.{own_node, rows_in, overloaded_in}
-use Rattle.spf_tree.specs.Graphs.{GraphOf, AreUsable}
+use Rattle.spf_tree.specs.Graphs.{AreUsable}
 use Rattle.spf_repair.specs.Changes.{RepairedOf}
 use Rattle.route_table.specs.declared.candidate.Candidate.{Candidate}
 use Rattle.route_table.specs.Routes.{IsHopTo, AreRoutes}
@@ -18,7 +18,7 @@ use Rattle.router_routes.specs.Told.{told_in}
 use Rattle.router_routes.specs.Outlooks.{Outlook, where_run, outlook_in}
 use Rattle.router_routes.specs.Candidates.{candidates_of, attached_of}
 use Rattle.router_routes.specs.Following.{FollowingOf, IsFollowing, IsLevel}
-use Rattle.router_routes.specs.Moved.{AreCosts, beside, entries_at, or_old}
+use Rattle.router_routes.specs.Moved.{AreCosts, entries_at, or_old}
 use Rattle.router_routes.proofs.GraphLemmas.{routes-of}
 
 pub kept-old : (new : Option RepairedOf) (old : RepairedOf) (none : Bool) → is_some new ≡ not none → none ≡ true → or_old new old ≡ old

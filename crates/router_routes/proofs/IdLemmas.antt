@@ -1,10 +1,10 @@
 -- LSP IDs and nodes as numbers: a node's LSPs are the 256 numbers from its own on.
-use Rattle.std.proofs.Common.{◌≡◌, ◌∙◌, ℕ, ◌+◌, ◌%◌, ◌^◌, ◌<◌, ◌≤◌, List, [], ◌∷◌, ◌++◌, length, refl, sym, ap, subst, arith, length-append}
+use Rattle.std.proofs.Common.{◌≡◌, ℕ, ◌+◌, ◌%◌, ◌^◌, ◌<◌, List, [], ◌∷◌, ◌++◌, length, refl, arith}
 use Rattle.std.specs.List.{AllByRecursion}
 use Rattle.std.specs.Int.{from_be_bytes, w64}
 use Rattle.isis_base.specs.declared.identifiers.NodeId.{NodeId}
 use Rattle.isis_base.specs.declared.identifiers.LspId.{LspId}
-use Rattle.isis_base.specs.Identifiers.{IsId, lsp_number, lsp_octets}
+use Rattle.isis_base.specs.Identifiers.{IsId, lsp_number}
 use Rattle.lsp_view.specs.Views.{number_of}
 use Rattle.spf_tree.specs.Nodes.{node_number}
 

@@ -1,8 +1,8 @@
 -- What is told where one node tells something else.
-use Rattle.std.proofs.Common.{◌≡◌, ◌∙◌, ℕ, ◌+◌, ◌-◌, ◌%◌, ◌^◌, ◌<◌, ◌≤◌, Bool, true, false, not, List, [], ◌∷◌, ◌++◌, map, filter, Option, Some, None, refl, sym, ap, subst, arith, inl, inr, if◌then◌else◌, ◌&&◌, ◌==◌, ◌⊎◌, append_assoc, append-nil}
+use Rattle.std.proofs.Common.{◌≡◌, ◌∙◌, ℕ, ◌+◌, ◌-◌, ◌%◌, ◌^◌, ◌<◌, ◌≤◌, Bool, true, false, not, List, [], ◌∷◌, ◌++◌, map, Option, Some, None, refl, sym, ap, subst, arith, inl, inr, if◌then◌else◌, ◌&&◌, ◌==◌, ◌⊎◌, append_assoc, append-nil}
 use Rattle.std.specs.Prelude.{nat_lt, nat_le}
 use Rattle.std.specs.List.{flat_map}
-use Rattle.std.proofs.lemmas.Bool.{cases_eq, eq-eqb, ne_eqb}
+use Rattle.std.proofs.lemmas.Bool.{eq-eqb, ne_eqb}
 use Rattle.std.proofs.lemmas.Bool.Decides.{nat_tests}
 use Rattle.isis_base.specs.declared.identifiers.SystemId.{SystemId}
 use Rattle.isis_base.specs.declared.identifiers.NodeId.{NodeId}
@@ -218,9 +218,9 @@ is-with node old new here rises old-ids here-ids others at =
     let n = node_number node in
     let ids : HaveIds new = joined-ids (λ m. m == n) new (subst HaveIds (sym at) here-ids) (subst HaveIds (sym others) (by-ids (λ m. not (m == n)) old old-ids)) in
     let before : told_before node new ≡ told_before node old =
-        sym (by-by (λ m. not (m == n)) (λ m. nat_lt m n) (λ m. nat_lt m n) (lt-of-ne n) new) ∙ ap (told_by_nodes (λ m. nat_lt m n)) others ∙ by-by (λ m. not (m == n)) (λ m. nat_lt m n) (λ m. nat_lt m n) (lt-of-ne n) old in
+    sym (by-by (λ m. not (m == n)) (λ m. nat_lt m n) (λ m. nat_lt m n) (lt-of-ne n) new) ∙ ap (told_by_nodes (λ m. nat_lt m n)) others ∙ by-by (λ m. not (m == n)) (λ m. nat_lt m n) (λ m. nat_lt m n) (lt-of-ne n) old in
     let past : told_past node new ≡ told_past node old =
-        sym (by-by (λ m. not (m == n)) (λ m. nat_lt n m) (λ m. nat_lt n m) (gt-of-ne n) new) ∙ ap (told_by_nodes (λ m. nat_lt n m)) others ∙ by-by (λ m. not (m == n)) (λ m. nat_lt n m) (λ m. nat_lt n m) (gt-of-ne n) old in
+    sym (by-by (λ m. not (m == n)) (λ m. nat_lt n m) (λ m. nat_lt n m) (gt-of-ne n) new) ∙ ap (told_by_nodes (λ m. nat_lt n m)) others ∙ by-by (λ m. not (m == n)) (λ m. nat_lt n m) (λ m. nat_lt n m) (gt-of-ne n) old in
     let middle : told_at node new ≡ told_at node here = sym (by-within (λ m. m == n) (λ m. m == n) (eq-within n) new) ∙ ap (told_at node) at in
     split n 0 new rises ids
     ∙ ap (λ (l : List Pair). l ++ (told_at node new ++ told_past node new)) before

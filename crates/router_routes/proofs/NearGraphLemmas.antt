@@ -1,8 +1,8 @@
 -- A graph changed at one node is that of what is told then.
-use Rattle.std.proofs.Common.{◌≡◌, ◌∙◌, ℕ, zero, suc, ◌+◌, ◌*◌, ◌%◌, ◌<◌, ◌≤◌, Bool, true, false, not, cond, List, [], ◌∷◌, ◌++◌, length, map, filter, refl, sym, ap, subst, arith, inl, inr, if◌then◌else◌, ◌&&◌, ◌||◌, ◌==◌, ◌⊎◌}
+use Rattle.std.proofs.Common.{◌≡◌, ◌∙◌, ℕ, ◌+◌, ◌*◌, ◌≤◌, Bool, true, false, not, cond, List, [], ◌∷◌, ◌++◌, length, filter, refl, sym, ap, subst, arith, inl, inr, if◌then◌else◌, ◌&&◌, ◌||◌, ◌==◌, ◌⊎◌}
 use Rattle.std.specs.Prelude.{nat_lt}
 use Rattle.std.specs.List.{flat_map, list_any, count_by}
-use Rattle.std.proofs.lemmas.Bool.{cases_eq, cases_Bool, eq-eqb, ne_eqb, eqb-true, and_from, and_parts}
+use Rattle.std.proofs.lemmas.Bool.{cases_eq, eq-eqb, ne_eqb, eqb-true, and_from, and_parts}
 use Rattle.std.proofs.lemmas.Bool.Decides.{nat_tests}
 use Rattle.std.proofs.lemmas.List.Sums.{sum_by-cons, sum_by-append}
 use Rattle.std.proofs.lemmas.List.Folds.{list_any-append}
@@ -16,12 +16,11 @@ use Rattle.spf_tree.specs.Walks.{start, end}
 use Rattle.spf_tree.specs.Graphs.{GraphOf, AreUsable, leads, is_usable, is_overloaded, same_row, times}
 use Rattle.spf_tree.proofs.UsableLemmas.{alike}
 use Rattle.lsp_view.specs.Views.{rows_in, overloaded_in}
-use Rattle.router_routes.specs.Told.{told_in}
-use Rattle.router_routes.specs.Moved.{told_by_nodes, told_at, told_beside, told_with, HaveIds}
+use Rattle.router_routes.specs.Moved.{told_with, HaveIds}
 use Rattle.router_routes.specs.Near.{touches, rows_from, rows_to, AreEnds, near_rows, near_overloaded, IsNear}
 use Rattle.router_routes.specs.Differences.{AreDifferences}
 use Rattle.router_routes.proofs.NodeLemmas.{rows-by, overloaded-by}
-use Rattle.router_routes.proofs.MovedLemmas.{told-ids, told-rises, with-at, with-beside, with-ids}
+use Rattle.router_routes.proofs.MovedLemmas.{with-at, with-beside, with-ids}
 use Rattle.router_routes.proofs.GraphLemmas.{kept-times}
 
 abbrev Pair : Type 0
@@ -337,8 +336,8 @@ module _ (node : NodeId) (old here : List Pair) (rises : RisesFrom 0 old) (ids :
               let mine-some = mine-times row is in
               let any : any-end (end row) mine ≡ true = counted (λ s e m. e == end row) row mine (omega (arith, mine-some, some)) (eq-eqb (end row) (end row) refl) in
               let back =
-                  leads-same near (rows_in new) (end row) (start row) (λ r from to.
-                  sel-times r (ap (λ (m : ℕ). start r == n || (end r == n && any-end m mine)) from ∙ ap (λ (t : Bool). start r == n || (end r == n && t)) any ∙ ap (λ (t : Bool). start r == n || (t && true)) (eq-eqb (end r) n (to ∙ is)) ∙ or-right (start r == n))) in
+              leads-same near (rows_in new) (end row) (start row) (λ r from to.
+              sel-times r (ap (λ (m : ℕ). start r == n || (end r == n && any-end m mine)) from ∙ ap (λ (t : Bool). start r == n || (end r == n && t)) any ∙ ap (λ (t : Bool). start r == n || (t && true)) (eq-eqb (end r) n (to ∙ is)) ∙ or-right (start r == n))) in
               let over = subst (λ (m : ℕ). is_overloaded nodes m ≡ is_overloaded (overloaded_in new) m) (sym is) over-at-node in
               ap (λ (t : Bool). if t then times near row else 0) (usable-same root row back over)
               ∙ ap (λ (k : ℕ). if new-usable root row then k else 0) same
@@ -358,15 +357,15 @@ module _ (node : NodeId) (old here : List Pair) (rises : RisesFrom 0 old) (ids :
         let left : sel row ≡ false = ap (λ (t : Bool). start row == n || (end row == n && t)) any ∙ ap (λ (t : Bool). t || (end row == n && false)) apart ∙ and-false (end row == n) in
         let none : times near row ≡ 0 = near-times row ∙ ap (λ (t : Bool). if t then times (rows_in new) row else 0) left in
         let back : leads (rows_in new) (end row) (start row) ≡ false = not-true (leads (rows_in new) (end row) (start row)) (λ yes'.
-            let f = found (λ s e m. s == end row && e == start row) (rows_in new) yes' in
-            let parts = and_parts (start f.0 == end row) (end f.0 == start row) f.2 in
-            let here' = mine-times f.0 (eqb-true (start f.0) (end row) parts.0 ∙ is) in
-            let some = f.1 in
-            let has : any-end (start row) mine ≡ true = counted (λ s e m. e == start row) f.0 mine (omega (arith, here', some)) parts.1 in
-            (let e : true ≡ false = sym has ∙ any in cc)) in
+        let f = found (λ s e m. s == end row && e == start row) (rows_in new) yes' in
+        let parts = and_parts (start f.0 == end row) (end f.0 == start row) f.2 in
+        let here' = mine-times f.0 (eqb-true (start f.0) (end row) parts.0 ∙ is) in
+        let some = f.1 in
+        let has : any-end (start row) mine ≡ true = counted (λ s e m. e == start row) f.0 mine (omega (arith, here', some)) parts.1 in
+        (let e : true ≡ false = sym has ∙ any in cc)) in
         let not-usable : (touches n row && new-usable root row) ≡ false =
-            ap (λ (t : Bool). touches n row && (not (row.metric == 16777215) && (t && (start row == root || not (is_overloaded (overloaded_in new) (start row)))))) back
-            ∙ ap (λ (t : Bool). touches n row && t) (and-false (not (row.metric == 16777215))) ∙ and-false (touches n row) in
+        ap (λ (t : Bool). touches n row && (not (row.metric == 16777215) && (t && (start row == root || not (is_overloaded (overloaded_in new) (start row)))))) back
+        ∙ ap (λ (t : Bool). touches n row && t) (and-false (not (row.metric == 16777215))) ∙ and-false (touches n row) in
         ap (λ (k : ℕ). if near-usable root row then k else 0) none ∙ none-kept (near-usable root row) 0
         ∙ sym (ap (λ (t : Bool). if t then times (rows_in new) row else 0) not-usable)
 

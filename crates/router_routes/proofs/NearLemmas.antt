@@ -1,13 +1,12 @@
 -- The rows of one node and of its neighbours tell which rows may be walked that start or end at it.
-use Rattle.std.proofs.Common.{◌≡◌, ◌∙◌, ℕ, zero, suc, ◌+◌, ◌*◌, ◌%◌, ◌<◌, ◌≤◌, Bool, true, false, not, cond, List, [], ◌∷◌, ◌++◌, length, get_or, map, filter, Option, Some, None, refl, sym, ap, subst, arith, inl, inr, if◌then◌else◌, ◌&&◌, ◌||◌, ◌==◌, ◌⊎◌}
-use Rattle.std.specs.Prelude.{is_some, nat_lt}
+use Rattle.std.proofs.Common.{◌≡◌, ◌∙◌, ℕ, suc, ◌+◌, ◌%◌, ◌<◌, ◌≤◌, Bool, true, false, not, cond, List, [], ◌∷◌, ◌++◌, length, get_or, map, filter, Option, Some, None, refl, sym, ap, arith, inl, inr, if◌then◌else◌, ◌&&◌, ◌||◌, ◌==◌}
+use Rattle.std.specs.Prelude.{is_some}
 use Rattle.std.specs.Int.{bit_at}
-use Rattle.std.specs.Option.{option_map}
 use Rattle.std.specs.List.{flat_map, list_any, count_by, AllByRecursion}
 use Rattle.std.specs.List.Sorted.{IsPermutation, IsNonDecreasingBy}
-use Rattle.std.proofs.lemmas.Bool.{cases_eq, eq-eqb, ne_eqb, eqb-true, and_from}
+use Rattle.std.proofs.lemmas.Bool.{cases_eq, eq-eqb, ne_eqb, eqb-true}
 use Rattle.std.proofs.lemmas.Bool.Decides.{nat_tests}
-use Rattle.std.proofs.lemmas.List.Sums.{sum_by-cons, sum_by-append}
+use Rattle.std.proofs.lemmas.List.Sums.{sum_by-cons}
 use Rattle.std.proofs.lemmas.List.Sorted.{list_any-IsPermutation}
 use Rattle.isis_base.specs.declared.identifiers.NodeId.{NodeId}
 use Rattle.isis_base.specs.declared.identifiers.LspId.{LspId}
@@ -17,19 +16,16 @@ use Rattle.lsp_store.specs.Maps.{pair_number, find, between, RisesFrom}
 use Rattle.lsp_store.specs.Databases.{is_live, live_of}
 use Rattle.spf_tree.specs.declared.row.Row.{Row}
 use Rattle.spf_tree.specs.Nodes.{node_number}
-use Rattle.spf_tree.specs.Walks.{start, end}
+use Rattle.spf_tree.specs.Walks.{end}
 use Rattle.spf_tree.specs.Graphs as graphs
 use Rattle.spf_tree.specs.Graphs.{GraphOf, AreUsable, leads, is_usable, same_row, times}
-use Rattle.spf_tree.proofs.UsableLemmas.{alike}
 use Rattle.lsp_view.specs.Views.{number_of, where_live, lead_of, rows_of, led_rows, rows_in, rows_at, is_overloaded, overloaded_in, overload_at, where_led}
 use Rattle.router_routes.specs.Told.{told_in}
-use Rattle.router_routes.specs.Moved.{told_by_nodes, told_at, told_beside, told_with, HaveIds}
-use Rattle.router_routes.specs.Near.{touches, rows_from, rows_to, other_ends, is_first, once_each, AreEnds, near_rows, near_overloaded, IsNear}
+use Rattle.router_routes.specs.Moved.{told_at, HaveIds}
+use Rattle.router_routes.specs.Near.{rows_from, other_ends, once_each, AreEnds}
 use Rattle.router_routes.proofs.IdLemmas.{Stands, stands, number-0}
-use Rattle.router_routes.proofs.NodeLemmas.{live-by, lead-by, rows-by, overloaded-by, between-at, number-255, starts}
-use Rattle.router_routes.proofs.MovedLemmas.{by-ids, told-ids, told-rises, with-at, with-beside, with-ids}
+use Rattle.router_routes.proofs.NodeLemmas.{lead-by, rows-by, between-at, number-255}
 use Rattle.router_routes.proofs.ToldLemmas.{rows-told, overloaded-told}
-use Rattle.router_routes.proofs.GraphLemmas.{kept-times}
 
 abbrev Pair : Type 0
 Pair = LspId × Entry
@@ -64,7 +60,7 @@ own-rows entries node rises ids id =
     let mine = told_at node entries in
     let items = λ (list : List Pair). flat_map rows_of (live_of list) in
     let span : between (number_of node 0) (number_of node 255) entries ≡ mine =
-        ap (λ (a : ℕ). between a (number_of node 255) entries) (number-0 node) ∙ ap (λ (b : ℕ). between (node_number node) b entries) (number-255 node id) ∙ between-at (node_number node) s.first entries ids in
+    ap (λ (a : ℕ). between a (number_of node 255) entries) (number-0 node) ∙ ap (λ (b : ℕ). between (node_number node) b entries) (number-255 node id) ∙ between-at (node_number node) s.first entries ids in
     ap (λ (l : List Pair). where_led (lead_of entries node) (items l)) span
     ∙ ap (λ (o : Option Entry). where_led o (items mine)) (lead-by (λ m. m == node_number node) entries ids node s.first (eq-eqb (node_number node) (node_number node) refl))
     ∙ sym (led-one mine (lead_of mine node) (live_of mine) (at-all mine node entries))

@@ -1,23 +1,23 @@
 -- What a node's LSPs tell is read off them alone.
-use Rattle.std.proofs.Common.{◌≡◌, ◌∙◌, ℕ, ◌+◌, ◌%◌, ◌<◌, ◌≤◌, Bool, true, false, not, List, [], ◌∷◌, ◌++◌, map, filter, Option, Some, None, refl, sym, ap, subst, arith, inl, inr, if◌then◌else◌, nat_le, ◌&&◌, ◌==◌, append_assoc}
-use Rattle.std.specs.Prelude.{is_some, nat_lt}
+use Rattle.std.proofs.Common.{◌≡◌, ◌∙◌, ℕ, ◌+◌, ◌%◌, Bool, true, false, List, [], ◌∷◌, ◌++◌, map, filter, Option, Some, refl, sym, ap, arith, if◌then◌else◌, nat_le, ◌&&◌, ◌==◌}
+use Rattle.std.specs.Prelude.{is_some}
 use Rattle.std.specs.List.{flat_map, list_any, AllByRecursion}
-use Rattle.std.proofs.lemmas.Bool.{cases_eq, eq-eqb, ne_eqb}
+use Rattle.std.proofs.lemmas.Bool.{ne_eqb}
 use Rattle.std.proofs.lemmas.Bool.Decides.{nat_tests}
 use Rattle.isis_base.specs.declared.identifiers.SystemId.{SystemId}
 use Rattle.isis_base.specs.declared.identifiers.NodeId.{NodeId}
 use Rattle.isis_base.specs.declared.identifiers.LspId.{LspId}
-use Rattle.isis_base.specs.Identifiers.{IsId, lsp_number}
+use Rattle.isis_base.specs.Identifiers.{IsId}
 use Rattle.isis_tlv.specs.declared.neighbour.NeighbourItem.{NeighbourItem}
 use Rattle.lsp_store.specs.declared.entry.Entry.{Entry}
-use Rattle.lsp_store.specs.Maps.{pair_number, find, between, RisesFrom}
+use Rattle.lsp_store.specs.Maps.{pair_number, find, between}
 use Rattle.lsp_store.specs.Databases.{is_live, live_of}
 use Rattle.spf_tree.specs.declared.row.Row.{Row}
 use Rattle.spf_tree.specs.Nodes.{node_number}
 use Rattle.spf_tree.specs.Walks.{start}
 use Rattle.spf_tree.specs.Graphs as graphs
 use Rattle.lsp_view.specs.Bodies.{neighbours_in}
-use Rattle.lsp_view.specs.Views.{number_of, own_node, where_live, lead_of, row_from, rows_of, led_rows, rows_in, rows_at, is_overloaded, overloaded_in, overload_at, where_led, reach_of, reach_in}
+use Rattle.lsp_view.specs.Views.{number_of, own_node, where_live, lead_of, row_from, rows_of, led_rows, rows_in, is_overloaded, overloaded_in, where_led, reach_of, reach_in}
 use Rattle.router_routes.specs.Moved.{told_by_nodes, HaveIds}
 use Rattle.router_routes.proofs.IdLemmas.{Stands, stands, number-0}
 
@@ -58,9 +58,9 @@ module _ (c : ℕ → Bool) (n : ℕ) (zero : n % 256 ≡ 0) (kept : c n ≡ tru
   find-step pair list s rest true is = rw is (ap (λ (o : Option Entry). if pair_number pair == n then Some pair.1 else o) rest)
   find-step pair list s rest false is =
       let other : pair_number pair ≡ n → ⊥ = λ e.
-          let a = s.is in let b = s.small in let d = s.first in
-          let same : node_number pair.0.node ≡ n = omega (arith, a, b, d, e, zero) in
-          (let f : true ≡ false = sym kept ∙ ap c (sym same) ∙ is in cc) in
+      let a = s.is in let b = s.small in let d = s.first in
+      let same : node_number pair.0.node ≡ n = omega (arith, a, b, d, e, zero) in
+      (let f : true ≡ false = sym kept ∙ ap c (sym same) ∙ is in cc) in
       rw (is, ne_eqb (pair_number pair) n other) rest
 
   pub find-by : (list : List Pair) → HaveIds list → find list n ≡ find (told_by_nodes c list) n
@@ -178,9 +178,9 @@ reach-by c told ids system id kept =
     let s = stands (record { node = node; number = 255 }) id in
     let items = λ (list : List Pair). flat_map reach_of (live_of list) in
     let span : between (number_of node 0) (number_of node 255) told ≡ between (number_of node 0) (number_of node 255) (told_by_nodes c told) =
-        ap (λ (a : ℕ). between a (number_of node 255) told) (number-0 node) ∙ ap (λ (b : ℕ). between (node_number node) b told) (number-255 node id)
-        ∙ between-by c (node_number node) s.first kept told ids
-        ∙ ap (λ (b : ℕ). between (node_number node) b (told_by_nodes c told)) (sym (number-255 node id)) ∙ ap (λ (a : ℕ). between a (number_of node 255) (told_by_nodes c told)) (sym (number-0 node)) in
+    ap (λ (a : ℕ). between a (number_of node 255) told) (number-0 node) ∙ ap (λ (b : ℕ). between (node_number node) b told) (number-255 node id)
+    ∙ between-by c (node_number node) s.first kept told ids
+    ∙ ap (λ (b : ℕ). between (node_number node) b (told_by_nodes c told)) (sym (number-255 node id)) ∙ ap (λ (a : ℕ). between a (number_of node 255) (told_by_nodes c told)) (sym (number-0 node)) in
     ap (λ (o : Option Entry). where_led o (items (between (number_of node 0) (number_of node 255) told))) (lead-by c told ids node s.first kept)
     ∙ ap (λ (l : List Pair). where_led (lead_of (told_by_nodes c told) node) (items l)) span
 

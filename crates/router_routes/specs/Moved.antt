@@ -7,7 +7,7 @@ use Rattle.isis_base.specs.declared.level.Level.{Level}
 use Rattle.isis_base.specs.declared.level.Level.TheVariants as level
 use Rattle.isis_base.specs.Identifiers.{IsId}
 use Rattle.isis_datagram.specs.Reading.{runs_of}
-use Rattle.isis_model.specs.Both.{Both, at}
+use Rattle.isis_model.specs.Both.{at}
 use Rattle.lsp_store.specs.declared.entry.Entry.{Entry}
 use Rattle.lsp_store.specs.Maps.{RisesFrom}
 use Rattle.lsp_view.specs.Views.{own_node, rows_in, overloaded_in}

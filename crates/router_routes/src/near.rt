@@ -211,11 +211,7 @@ fn overloaded_near(
 }
 
 /// Adds a node where it is overloaded.
-fn add_overloaded(
-    nodes: &mut Vec<NodeId>,
-    store: &Store,
-    node: NodeId,
-) -> Result<(), OutOfMemory>
+fn add_overloaded(nodes: &mut Vec<NodeId>, store: &Store, node: NodeId) -> Result<(), OutOfMemory>
     requires { HaveIds store.now.entries }
     ensures { OnOk result (nodes.new.items ≡ nodes.old.items
         ++ (if is_overloaded (overloaded_in (told_in store.now.entries)) (node_number node)

@@ -108,7 +108,14 @@ fn add_before(
     match number(node).checked_sub(1) {
         None => Ok(()),
         Some(last) => {
-            add_span(list, store, LspId::from_number(0), LspId::from_number(last), distances, root)
+            add_span(
+                list,
+                store,
+                LspId::from_number(0),
+                LspId::from_number(last),
+                distances,
+                root,
+            )
         }
     }
 }

@@ -111,7 +111,13 @@ pub(crate) fn store_of<'a>(level: &LevelView<'a>, system: SystemId) -> &'a Store
     lsp_id_law(LspId { node, number: 255 });
     let _entries = level.store.len();
     match level.moved {
-        Some(moved) => { if number(moved.node) == number(node) { moved.aside } else { level.store } }
+        Some(moved) => {
+            if number(moved.node) == number(node) {
+                moved.aside
+            } else {
+                level.store
+            }
+        }
         None => level.store,
     }
 }

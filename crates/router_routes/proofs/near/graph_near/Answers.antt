@@ -1,4 +1,4 @@
-use Rattle.std.proofs.Common.{◌≡◌, ◌∙◌, ℕ, List, ap, sym, subst}
+use Rattle.std.proofs.Common.{◌∙◌, ℕ, List, ap, subst}
 use Rattle.std.proofs.lemmas.Result.{IfOk-weaker}
 use Rattle.isis_base.specs.declared.identifiers.NodeId.{NodeId}
 use Rattle.spf_tree.specs.declared.row.Row.{Row}
@@ -22,9 +22,9 @@ returns c =
     let ends = c.in_ok-ends.ends.items in
     let are = subst (λ (n : ℕ). AreEnds n mine ends) c.number.ensures (subst (λ (rows : List Row). AreEnds c.number.result rows ends) c.as_slice.ensures.value c.in_ok-ends.ensures) in
     let rows =
-        c.as_slice-4.ensures.value ∙ c.in_ok-add_rows_to.ensures
-        ∙ ap (λ (n : ℕ). near_rows n mine c.as_slice-2.result.now (rows_in (told_in entries))) c.number-2.ensures
-        ∙ ap (λ (l : List NodeId). near_rows (node_number node) mine l (rows_in (told_in entries))) c.as_slice-2.ensures.value in
+    c.as_slice-4.ensures.value ∙ c.in_ok-add_rows_to.ensures
+    ∙ ap (λ (n : ℕ). near_rows n mine c.as_slice-2.result.now (rows_in (told_in entries))) c.number-2.ensures
+    ∙ ap (λ (l : List NodeId). near_rows (node_number node) mine l (rows_in (told_in entries))) c.as_slice-2.ensures.value in
     let over = is_overloaded (overloaded_in (told_in aside)) (node_number node) in
     let nodes = c.as_slice-5.ensures.value ∙ c.in_ok-nodes.ensures ∙ ap (λ (l : List NodeId). near_overloaded node over l (overloaded_in (told_in entries))) c.as_slice-3.ensures.value in
     IfOk-weaker c.usable.result _ _ (λ graph is.

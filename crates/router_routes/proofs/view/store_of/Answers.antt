@@ -1,6 +1,4 @@
-use Rattle.std.proofs.Common.{◌≡◌, ◌∙◌, ap, sym, subst}
-use Rattle.isis_base.specs.declared.identifiers.NodeId.{NodeId}
-use Rattle.spf_tree.specs.Nodes.{node_number}
+use Rattle.std.proofs.Common.{◌∙◌, sym}
 use Rattle.router_routes.proofs.MovedLemmas.{lead-there, reach-there, lead-here, reach-here}
 use Rattle.router_routes.proofs.view.store_of.Goals as goal
 

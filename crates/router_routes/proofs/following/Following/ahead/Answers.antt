@@ -1,12 +1,9 @@
-use Rattle.std.proofs.Common.{◌≡◌, ◌∙◌, true, false, List, ap, sym, subst}
+use Rattle.std.proofs.Common.{◌≡◌, ◌∙◌, true, false, List, sym, subst}
 use Rattle.isis_base.specs.declared.identifiers.NodeId.{NodeId}
 use Rattle.isis_base.specs.declared.identifiers.LspId.{LspId}
 use Rattle.isis_base.specs.declared.level.Level.{Level}
-use Rattle.isis_base.specs.declared.level.Level.TheVariants as level
-use Rattle.isis_datagram.specs.Reading.{runs_of}
 use Rattle.isis_model.specs.Both.{at}
 use Rattle.lsp_store.specs.declared.entry.Entry.{Entry}
-use Rattle.lsp_view.specs.Views.{own_node}
 use Rattle.spf_repair.specs.Changes.{RepairedOf}
 use Rattle.router_routes.specs.Told.{told_in}
 use Rattle.router_routes.specs.Outlooks.{outlook_in}
@@ -36,9 +33,9 @@ next-requires-clause-one c =
     let old = at c.args.self.now.levels c.args.level in
     let told = λ (l : List (LspId × Entry)). told_with c.args.node (told_in l) (told_in c.args.aside.now.entries) in
     let costs =
-        subst (λ (r : NodeId). AreCosts (told (entries_at lent c.args.level)) r (or_old c.in_ok-moved.moved old)) (root-of lent c.args.self.now c.args.level c.requires.follows)
-        (subst (λ (r : RepairedOf). AreCosts (told (entries_at lent c.args.level)) r.root (or_old c.in_ok-moved.moved r)) c.repaired.ensures
-        (subst (λ (l : List (LspId × Entry)). AreCosts (told l) c.repaired.result.now.root (or_old c.in_ok-moved.moved c.repaired.result.now)) c.store_at-store.ensures c.in_ok-moved.ensures)) in
+    subst (λ (r : NodeId). AreCosts (told (entries_at lent c.args.level)) r (or_old c.in_ok-moved.moved old)) (root-of lent c.args.self.now c.args.level c.requires.follows)
+    (subst (λ (r : RepairedOf). AreCosts (told (entries_at lent c.args.level)) r.root (or_old c.in_ok-moved.moved r)) c.repaired.ensures
+    (subst (λ (l : List (LspId × Entry)). AreCosts (told l) c.repaired.result.now.root (or_old c.in_ok-moved.moved c.repaired.result.now)) c.store_at-store.ensures c.in_ok-moved.ensures)) in
     subst (λ (l : Level). IsLevel (outlook_at c.as_moved-view.result) l (or_old c.in_ok-moved.moved (at c.args.self.now.levels l))) c.in-One.is
     (c.as_moved-view.ensures.level (or_old c.in_ok-moved.moved old) run costs)
 
@@ -62,8 +59,8 @@ next-requires-in-Two-clause-two c =
     let old = at c.args.self.now.levels c.args.level in
     let told = λ (l : List (LspId × Entry)). told_with c.args.node (told_in l) (told_in c.args.aside.now.entries) in
     let costs =
-        subst (λ (r : NodeId). AreCosts (told (entries_at lent c.args.level)) r (or_old c.in_ok-moved.moved old)) (root-of lent c.args.self.now c.args.level c.requires.follows)
-        (subst (λ (r : RepairedOf). AreCosts (told (entries_at lent c.args.level)) r.root (or_old c.in_ok-moved.moved r)) c.repaired.ensures
-        (subst (λ (l : List (LspId × Entry)). AreCosts (told l) c.repaired.result.now.root (or_old c.in_ok-moved.moved c.repaired.result.now)) c.store_at-store.ensures c.in_ok-moved.ensures)) in
+    subst (λ (r : NodeId). AreCosts (told (entries_at lent c.args.level)) r (or_old c.in_ok-moved.moved old)) (root-of lent c.args.self.now c.args.level c.requires.follows)
+    (subst (λ (r : RepairedOf). AreCosts (told (entries_at lent c.args.level)) r.root (or_old c.in_ok-moved.moved r)) c.repaired.ensures
+    (subst (λ (l : List (LspId × Entry)). AreCosts (told l) c.repaired.result.now.root (or_old c.in_ok-moved.moved c.repaired.result.now)) c.store_at-store.ensures c.in_ok-moved.ensures)) in
     subst (λ (l : Level). IsLevel (outlook_at c.as_moved-view.result) l (or_old c.in_ok-moved.moved (at c.args.self.now.levels l))) c.in-Two.is
     (c.as_moved-view.ensures.level (or_old c.in_ok-moved.moved old) run costs)

@@ -1,6 +1,5 @@
-use Rattle.std.proofs.Common.{◌≡◌, ◌∙◌, ap, sym, subst}
+use Rattle.std.proofs.Common.{◌∙◌, sym, subst}
 use Rattle.isis_base.specs.declared.level.Level.TheVariants as level
-use Rattle.spf_repair.specs.Changes.{RepairedOf}
 use Rattle.router_routes.specs.Following.{FollowingOf, IsFollowing, IsLevel}
 use Rattle.router_routes.specs.Moved.{outlook_at}
 use Rattle.router_routes.proofs.AheadLemmas.{kept-old, stays-following}
