@@ -83,6 +83,12 @@ reach_in entries system =
     where_led (lead_of entries node)
     (flat_map reach_of (live_of (between (number_of node 0) (number_of node 255) entries)))
 
+-- the rows that the live LSPs of one node list, in the order of LSP ID and place (ISO 10589 7.2.5)
+unfoldable pub rows_at : List (LspId × Entry) → NodeId → List Row
+rows_at entries node =
+    where_led (lead_of entries node)
+    (flat_map rows_of (live_of (between (number_of node 0) (number_of node 255) entries)))
+
 -- the area addresses that a system's live number 0 lists (ISO 10589 9.8)
 abbrev pub areas_at : Option Entry → List (List ℕ)
 areas_at None = []
@@ -92,3 +98,8 @@ areas_at (Some lead) = areas_in lead.octets
 abbrev pub attached_at : Option Entry → Bool
 attached_at None = false
 attached_at (Some lead) = bit_at lead.flags 3 == 1
+
+-- whether an LSP has the overload bit (ISO 10589 9.8)
+abbrev pub overload_at : Option Entry → Bool
+overload_at None = false
+overload_at (Some lead) = bit_at lead.flags 2 == 1

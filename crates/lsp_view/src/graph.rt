@@ -2,11 +2,11 @@
 ghost use Rattle.std.specs.Prelude.{◌≡◌, ◌++◌, map, IfOk, OnOk};
 ghost use Rattle.isis_tlv.specs.declared.neighbour.NeighbourItem.{NeighbourItem};
 ghost use Rattle.lsp_view.specs.Bodies.{neighbours_in};
-ghost use Rattle.lsp_view.specs.Views.{row_from, rows_in, is_overloaded, overloaded_in};
+ghost use Rattle.lsp_view.specs.Views.{row_from, rows_in, rows_at, lead_of, is_overloaded, overloaded_in, overload_at};
 
 use crate::body::add_items;
 use crate::flags::has_overload;
-use crate::lead::lead;
+use crate::lead::{is_live, lead};
 use isis_base::{LspId, NodeId, OutOfMemory};
 use isis_tlv::NeighbourItem;
 use lsp_store::{Entry, Store};
@@ -25,6 +25,28 @@ pub fn rows(alloc: Global, store: &Store) -> Result<Vec<Row>, OutOfMemory>
     let mut items = Vec::new(alloc);
     for (id, entry) in store.live() {
         if lead(store, id.node).is_some() {
+            match add_rows(&mut items, &mut rows, id.node, entry.octets.as_slice()) {
+                Ok(()) => {}
+                Err(error) => return Err(error),
+            }
+        }
+    }
+    Ok(rows)
+}
+
+/// The rows that the live LSPs of one node list, where its number 0 is held live, in the order of LSP ID and place.
+#[tactic(auto, unfolding(crate::specs::Views::rows_at))]
+pub fn rows_at(alloc: Global, store: &Store, node: NodeId) -> Result<Vec<Row>, OutOfMemory>
+    ensures { IfOk result (λ rows. rows.items ≡ rows_at store.now.entries node) }
+{
+    let mut rows = Vec::new(alloc);
+    let mut items = Vec::new(alloc);
+    if lead(store, node).is_none() {
+        return Ok(rows);
+    }
+    let (first, last) = (LspId { node, number: 0 }, LspId { node, number: 255 });
+    for (id, entry) in store.range(first, last) {
+        if is_live(entry) {
             match add_rows(&mut items, &mut rows, id.node, entry.octets.as_slice()) {
                 Ok(()) => {}
                 Err(error) => return Err(error),
@@ -89,6 +111,16 @@ pub fn overloaded(alloc: Global, store: &Store) -> Result<Vec<NodeId>, OutOfMemo
         }
     }
     Ok(nodes)
+}
+
+/// Whether a node's live number 0 has the overload bit. It takes no memory.
+pub fn is_overloaded_at(store: &Store, node: NodeId) -> bool
+    ensures { result ≡ overload_at (lead_of store.now.entries node) }
+{
+    match lead(store, node) {
+        Some(entry) => has_overload(entry.flags),
+        None => false,
+    }
 }
 
 /// Whether an LSP is a number 0 with the overload bit (ISO 10589 9.8).

@@ -3,7 +3,7 @@
 //! LSPs of a node count only while its number 0 is held live. A TLV whose value has a fault is unread, and octets that
 //! aren't an LSP's header and TLVs say nothing (own).
 //!
-//! - `graph.rt`: who lists whom, and which nodes are overloaded
+//! - `graph.rt`: who lists whom, and which nodes are overloaded; of all nodes and of one
 //! - `systems.rt`: what one system says: prefixes, area addresses, the attached bit
 //! - `body.rt`: what the octets of an LSP say, by the codes of TLVs; `lead.rt`: a node's number 0;
 //!   `flags.rt`: its flags
@@ -17,7 +17,8 @@ pub mod laws;
 mod lead;
 mod systems;
 
-pub use graph::{overloaded, rows};
+pub use graph::{is_overloaded_at, overloaded, rows, rows_at};
+pub use lead::is_live;
 pub use systems::{area_list, is_attached, reach};
 
 #[cfg(test)]

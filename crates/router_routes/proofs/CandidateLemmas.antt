@@ -16,6 +16,8 @@ use Rattle.lsp_view.specs.Views.{own_node, lead_of, areas_at}
 use Rattle.route_leaking.specs.Attachment.{is_attached}
 use Rattle.route_table.specs.declared.candidate.Candidate.{Candidate}
 use Rattle.router_routes.specs.declared.lent.Lent.{Lent}
+use Rattle.router_routes.specs.declared.view.View.{View}
+use Rattle.router_routes.specs.Moved.{told_of, outlook_at}
 use Rattle.spf_repair.specs.Changes.{RepairedOf}
 use Rattle.router_routes.specs.Following.{FollowingOf, IsLevel, IsFollowing, IsRooted}
 use Rattle.router_routes.proofs.GraphLemmas.{IsGraphOf}
@@ -43,30 +45,30 @@ defaults-where-run false told root systems same = ap (flat_map (default_of told)
 three : {X : Type 0} (l m n k a b c : List X) → l ≡ [] → m ≡ l ++ a → n ≡ m ++ b → k ≡ n ++ c → k ≡ a ++ (b ++ c)
 three l m n k a b c e f g h = h ∙ ap (λ (x : List _). x ++ c) (g ∙ ap (λ (x : List _). x ++ b) (f ∙ ap (λ (x : List _). x ++ a) e)) ∙ append_assoc a b c
 
-module _ (lent : Lent) (ones twos : List (SystemId × ℕ)) (is-one : ones ≡ reached_in (outlook_in lent).told.one (outlook_in lent).root) (is-two : twos ≡ reached_in (outlook_in lent).told.two (outlook_in lent).root) where
-  pub firm-are : (l m n k : List Candidate) → l ≡ [] → m ≡ l ++ map (own_candidate (own_node lent.system)) lent.prefixes.now → n ≡ m ++ flat_map (system_candidates level.One (told_in lent.one.now.entries)) ones → k ≡ n ++ flat_map (system_candidates level.Two (told_in lent.two.now.entries)) twos
-      → k ≡ firm_candidates (outlook_in lent)
-  unfolding outlook_in firm_candidates
+module _ (view : View) (ones twos : List (SystemId × ℕ)) (is-one : ones ≡ reached_in (outlook_at view).told.one (outlook_at view).root) (is-two : twos ≡ reached_in (outlook_at view).told.two (outlook_at view).root) where
+  pub firm-are : (l m n k : List Candidate) → l ≡ [] → m ≡ l ++ map (own_candidate (own_node view.system)) view.prefixes.now → n ≡ m ++ flat_map (system_candidates level.One (told_of view.one)) ones → k ≡ n ++ flat_map (system_candidates level.Two (told_of view.two)) twos
+      → k ≡ firm_candidates (outlook_at view)
+  unfolding outlook_at firm_candidates
   firm-are l m n k e f g h =
-      let one = told-where-run level.One (runs_of lent.levels).one (told_in lent.one.now.entries) (own_node lent.system) ones is-one in
-      let two = told-where-run level.Two (runs_of lent.levels).two (told_in lent.two.now.entries) (own_node lent.system) twos is-two in
-      three l m n k (map (own_candidate (own_node lent.system)) lent.prefixes.now) _ _ e f (g ∙ ap (λ (x : List Candidate). m ++ x) one) (h ∙ ap (λ (x : List Candidate). n ++ x) two)
+      let one = told-where-run level.One (runs_of view.levels).one (told_of view.one) (own_node view.system) ones is-one in
+      let two = told-where-run level.Two (runs_of view.levels).two (told_of view.two) (own_node view.system) twos is-two in
+      three l m n k (map (own_candidate (own_node view.system)) view.prefixes.now) _ _ e f (g ∙ ap (λ (x : List Candidate). m ++ x) one) (h ∙ ap (λ (x : List Candidate). n ++ x) two)
 
-  pub all-with : (firm list : List Candidate) → firm ≡ firm_candidates (outlook_in lent) → has_defaults (outlook_in lent) ≡ true → list ≡ firm ++ flat_map (default_of (told_in lent.one.now.entries)) ones → list ≡ candidates_of (outlook_in lent)
-  unfolding outlook_in candidates_of
+  pub all-with : (firm list : List Candidate) → firm ≡ firm_candidates (outlook_at view) → has_defaults (outlook_at view) ≡ true → list ≡ firm ++ flat_map (default_of (told_of view.one)) ones → list ≡ candidates_of (outlook_at view)
+  unfolding outlook_at candidates_of
   all-with firm list is has same =
-      let some = defaults-where-run (runs_of lent.levels).one (told_in lent.one.now.entries) (own_node lent.system) ones is-one in
-      rw has (same ∙ ap (λ (x : List Candidate). firm ++ x) some ∙ ap (λ (x : List Candidate). x ++ defaults (where_run (runs_of lent.levels).one (told_in lent.one.now.entries)) (own_node lent.system)) is)
+      let some = defaults-where-run (runs_of view.levels).one (told_of view.one) (own_node view.system) ones is-one in
+      rw has (same ∙ ap (λ (x : List Candidate). firm ++ x) some ∙ ap (λ (x : List Candidate). x ++ defaults (where_run (runs_of view.levels).one (told_of view.one)) (own_node view.system)) is)
 
-  pub all-without : (firm : List Candidate) → firm ≡ firm_candidates (outlook_in lent) → has_defaults (outlook_in lent) ≡ false → firm ≡ candidates_of (outlook_in lent)
+  pub all-without : (firm : List Candidate) → firm ≡ firm_candidates (outlook_at view) → has_defaults (outlook_at view) ≡ false → firm ≡ candidates_of (outlook_at view)
   unfolding candidates_of
-  all-without firm is has = rw has (is ∙ sym (append-nil (firm_candidates (outlook_in lent))))
+  all-without firm is has = rw has (is ∙ sym (append-nil (firm_candidates (outlook_at view))))
 
 -- whether the way by default counts
-pub defaults-count : (lent : Lent) (attached : Bool) (firm : List Candidate) → attached ≡ attached_of (outlook_in lent) → firm ≡ firm_candidates (outlook_in lent)
-    → (((runs_of lent.levels).one && not attached) && not (list_any is_for_all firm)) ≡ has_defaults (outlook_in lent)
-unfolding outlook_in
-defaults-count lent attached firm e f = rw (e, f) refl
+pub defaults-count : (view : View) (attached : Bool) (firm : List Candidate) → attached ≡ attached_of (outlook_at view) → firm ≡ firm_candidates (outlook_at view)
+    → (((runs_of view.levels).one && not attached) && not (list_any is_for_all firm)) ≡ has_defaults (outlook_at view)
+unfolding outlook_at
+defaults-count view attached firm e f = rw (e, f) refl
 
 -- ---- the way by default
 
@@ -87,41 +89,54 @@ attached-with true true attached told root areas twos e f is same = same ∙ ap 
 attached-with true false attached told root areas twos e f is same = absurd (let g : false ≡ true = f in cc)
 attached-with false two attached told root areas twos e f is same = absurd (let g : false ≡ true = e in cc)
 
-pub attached-both : (lent : Lent) (twos : List (SystemId × ℕ)) (attached : Bool) → lent.levels ≡ levels.Both → twos ≡ reached_in (outlook_in lent).told.two (outlook_in lent).root
-    → attached ≡ is_attached lent.areas.now (map (areas-by (told_in lent.two.now.entries)) twos) → attached ≡ attached_of (outlook_in lent)
-unfolding outlook_in attached_of
-attached-both lent twos attached both is same =
-    attached-with (runs_of lent.levels).one (runs_of lent.levels).two attached (told_in lent.two.now.entries) (own_node lent.system) lent.areas.now twos (ap (λ (l : LevelSet). (runs_of l).one) both) (ap (λ (l : LevelSet). (runs_of l).two) both) is same
+pub attached-both : (view : View) (twos : List (SystemId × ℕ)) (attached : Bool) → view.levels ≡ levels.Both → twos ≡ reached_in (outlook_at view).told.two (outlook_at view).root
+    → attached ≡ is_attached view.areas.now (map (areas-by (told_of view.two)) twos) → attached ≡ attached_of (outlook_at view)
+unfolding outlook_at attached_of
+attached-both view twos attached both is same =
+    attached-with (runs_of view.levels).one (runs_of view.levels).two attached (told_of view.two) (own_node view.system) view.areas.now twos (ap (λ (l : LevelSet). (runs_of l).one) both) (ap (λ (l : LevelSet). (runs_of l).two) both) is same
 
-pub attached-one : (lent : Lent) → (lent.levels ≡ levels.One) ⊎ (lent.levels ≡ levels.Two) → false ≡ attached_of (outlook_in lent)
-unfolding outlook_in attached_of
-attached-one lent (inl one) = rw one refl
-attached-one lent (inr two) = rw two refl
+pub attached-one : (view : View) → (view.levels ≡ levels.One) ⊎ (view.levels ≡ levels.Two) → false ≡ attached_of (outlook_at view)
+unfolding outlook_at attached_of
+attached-one view (inl one) = rw one refl
+attached-one view (inr two) = rw two refl
 
 -- ---- what is asked of the parts
 
-module _ (lent : Lent) where
-  pub graph-one : (repaired : RepairedOf) (runs : Bool) → IsLevel (outlook_in lent) level.One repaired → runs ≡ (runs_of lent.levels).one → IsGraphOf (where_run runs (told_in lent.one.now.entries)) repaired.root repaired.graph
-  unfolding outlook_in
+module _ (view : View) where
+  pub graph-one : (repaired : RepairedOf) (runs : Bool) → IsLevel (outlook_at view) level.One repaired → runs ≡ (runs_of view.levels).one → IsGraphOf (where_run runs (told_of view.one)) repaired.root repaired.graph
+  unfolding outlook_at
   graph-one repaired runs is e =
+      subst (λ (r : Bool). IsGraphOf (where_run r (told_of view.one)) repaired.root repaired.graph) (sym e)
+      (subst (λ (n : NodeId). IsGraphOf (where_run (runs_of view.levels).one (told_of view.one)) n repaired.graph) (sym is.root) is.graph)
+
+  pub graph-two : (repaired : RepairedOf) (runs : Bool) → IsLevel (outlook_at view) level.Two repaired → runs ≡ (runs_of view.levels).two → IsGraphOf (where_run runs (told_of view.two)) repaired.root repaired.graph
+  unfolding outlook_at
+  graph-two repaired runs is e =
+      subst (λ (r : Bool). IsGraphOf (where_run r (told_of view.two)) repaired.root repaired.graph) (sym e)
+      (subst (λ (n : NodeId). IsGraphOf (where_run (runs_of view.levels).two (told_of view.two)) n repaired.graph) (sym is.root) is.graph)
+
+  pub reached-one : (repaired : RepairedOf) (runs : Bool) (list : List (SystemId × ℕ)) → IsLevel (outlook_at view) level.One repaired → runs ≡ (runs_of view.levels).one → list ≡ reached_in (where_run runs (told_of view.one)) repaired.root
+      → list ≡ reached_in (outlook_at view).told.one (outlook_at view).root
+  unfolding outlook_at
+  reached-one repaired runs list is e same = same ∙ ap (λ (r : Bool). reached_in (where_run r (told_of view.one)) repaired.root) e ∙ ap (reached_in (where_run (runs_of view.levels).one (told_of view.one))) is.root
+
+  pub reached-two : (repaired : RepairedOf) (runs : Bool) (list : List (SystemId × ℕ)) → IsLevel (outlook_at view) level.Two repaired → runs ≡ (runs_of view.levels).two → list ≡ reached_in (where_run runs (told_of view.two)) repaired.root
+      → list ≡ reached_in (outlook_at view).told.two (outlook_at view).root
+  unfolding outlook_at
+  reached-two repaired runs list is e same = same ∙ ap (λ (r : Bool). reached_in (where_run r (told_of view.two)) repaired.root) e ∙ ap (reached_in (where_run (runs_of view.levels).two (told_of view.two))) is.root
+
+module _ (lent : Lent) where
+  pub lent-graph-one : (repaired : RepairedOf) (runs : Bool) → IsLevel (outlook_in lent) level.One repaired → runs ≡ (runs_of lent.levels).one → IsGraphOf (where_run runs (told_in lent.one.now.entries)) repaired.root repaired.graph
+  unfolding outlook_in
+  lent-graph-one repaired runs is e =
       subst (λ (r : Bool). IsGraphOf (where_run r (told_in lent.one.now.entries)) repaired.root repaired.graph) (sym e)
       (subst (λ (n : NodeId). IsGraphOf (where_run (runs_of lent.levels).one (told_in lent.one.now.entries)) n repaired.graph) (sym is.root) is.graph)
 
-  pub graph-two : (repaired : RepairedOf) (runs : Bool) → IsLevel (outlook_in lent) level.Two repaired → runs ≡ (runs_of lent.levels).two → IsGraphOf (where_run runs (told_in lent.two.now.entries)) repaired.root repaired.graph
+  pub lent-graph-two : (repaired : RepairedOf) (runs : Bool) → IsLevel (outlook_in lent) level.Two repaired → runs ≡ (runs_of lent.levels).two → IsGraphOf (where_run runs (told_in lent.two.now.entries)) repaired.root repaired.graph
   unfolding outlook_in
-  graph-two repaired runs is e =
+  lent-graph-two repaired runs is e =
       subst (λ (r : Bool). IsGraphOf (where_run r (told_in lent.two.now.entries)) repaired.root repaired.graph) (sym e)
       (subst (λ (n : NodeId). IsGraphOf (where_run (runs_of lent.levels).two (told_in lent.two.now.entries)) n repaired.graph) (sym is.root) is.graph)
-
-  pub reached-one : (repaired : RepairedOf) (runs : Bool) (list : List (SystemId × ℕ)) → IsLevel (outlook_in lent) level.One repaired → runs ≡ (runs_of lent.levels).one → list ≡ reached_in (where_run runs (told_in lent.one.now.entries)) repaired.root
-      → list ≡ reached_in (outlook_in lent).told.one (outlook_in lent).root
-  unfolding outlook_in
-  reached-one repaired runs list is e same = same ∙ ap (λ (r : Bool). reached_in (where_run r (told_in lent.one.now.entries)) repaired.root) e ∙ ap (reached_in (where_run (runs_of lent.levels).one (told_in lent.one.now.entries))) is.root
-
-  pub reached-two : (repaired : RepairedOf) (runs : Bool) (list : List (SystemId × ℕ)) → IsLevel (outlook_in lent) level.Two repaired → runs ≡ (runs_of lent.levels).two → list ≡ reached_in (where_run runs (told_in lent.two.now.entries)) repaired.root
-      → list ≡ reached_in (outlook_in lent).told.two (outlook_in lent).root
-  unfolding outlook_in
-  reached-two repaired runs list is e same = same ∙ ap (λ (r : Bool). reached_in (where_run r (told_in lent.two.now.entries)) repaired.root) e ∙ ap (reached_in (where_run (runs_of lent.levels).two (told_in lent.two.now.entries))) is.root
 
   pub level-one : (repaired : RepairedOf) (root : NodeId) (runs : Bool) → runs ≡ (runs_of lent.levels).one → root ≡ own_node lent.system → repaired.root ≡ root → IsGraphOf (where_run runs (told_in lent.one.now.entries)) root repaired.graph → IsLevel (outlook_in lent) level.One repaired
   unfolding outlook_in

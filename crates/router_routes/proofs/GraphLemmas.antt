@@ -50,7 +50,7 @@ none-kept : (b : Bool) (z : ℕ) → (if b then z else z) ≡ z
 none-kept true z = refl
 none-kept false z = refl
 
-kept-times : (p : ℕ → ℕ → ℕ → Bool) (rows : List Row) (row : Row) → times (filter (λ (r : Row). p (start r) (end r) r.metric) rows) row ≡ (if p (start row) (end row) row.metric then times rows row else 0)
+pub kept-times : (p : ℕ → ℕ → ℕ → Bool) (rows : List Row) (row : Row) → times (filter (λ (r : Row). p (start r) (end r) r.metric) rows) row ≡ (if p (start row) (end row) row.metric then times rows row else 0)
 kept-times p [] row = sym (none-kept (p (start row) (end row) row.metric) 0)
 kept-times p (x ∷ rows) row =
     push-count row x (filter (λ (r : Row). p (start r) (end r) r.metric) rows) (p (start x) (end x) x.metric)

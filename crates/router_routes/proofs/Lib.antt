@@ -5,3 +5,9 @@ pub mod GraphLemmas
 pub mod LeakLemmas
 pub mod CandidateLemmas
 pub mod DifferenceLemmas
+pub mod IdLemmas
+pub mod NodeLemmas
+pub mod MovedLemmas
+pub mod NearLemmas
+pub mod NearGraphLemmas
+pub mod AheadLemmas

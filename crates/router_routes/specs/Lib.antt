@@ -1,5 +1,5 @@
 -- The definitions: what routes look at, least costs, candidates, what is leaked, and what follows
--- them.
+-- them, and one node that tells other LSPs.
 pub mod Told
 pub mod Costs
 pub mod Outlooks
@@ -7,3 +7,5 @@ pub mod Candidates
 pub mod Leaks
 pub mod Differences
 pub mod Following
+pub mod Moved
+pub mod Near

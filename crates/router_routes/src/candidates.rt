@@ -3,14 +3,12 @@ ghost use Rattle.std.specs.Prelude.{◌≡◌, ◌++◌, ◌&&◌, not, map, IfO
 ghost use Rattle.std.specs.List.{flat_map, list_any};
 ghost use Rattle.isis_datagram.specs.Reading.{runs_of};
 ghost use Rattle.lsp_view.specs.Views.{own_node};
-ghost use Rattle.router_routes.specs.Told.{told_in};
-ghost use Rattle.router_routes.specs.Outlooks.{outlook_in};
+ghost use Rattle.router_routes.specs.Moved.{IsFit, AreFit, told_of, outlook_at};
 ghost use Rattle.router_routes.specs.Candidates.{reached_in, rank_in, told_candidate, system_candidates, own_candidate, attached_of, default_of, is_for_all, firm_candidates, candidates_of};
 
-use crate::lent::Lent;
+use crate::view::{LevelView, View, store_of};
 use isis_base::{Level, LevelSet, NodeId, OutOfMemory, Prefix, SystemId};
 use isis_tlv::PrefixItem;
-use lsp_store::Store;
 use lsp_view::{is_attached, reach};
 use route_table::{Candidate, Rank};
 use std::alloc::Global;
@@ -19,21 +17,22 @@ use std::alloc::Global;
 /// attached.
 pub(crate) fn all_candidates(
     alloc: Global,
-    lent: &Lent<'_>,
+    view: &View<'_>,
     ones: &[(SystemId, u64)],
     twos: &[(SystemId, u64)],
     attached: bool,
 ) -> Result<Vec<Candidate>, OutOfMemory>
+    requires fit { AreFit view.now }
     requires ones { ones.now
-        ≡ reached_in (outlook_in lent.now).told.one (outlook_in lent.now).root }
+        ≡ reached_in (outlook_at view.now).told.one (outlook_at view.now).root }
     requires twos { twos.now
-        ≡ reached_in (outlook_in lent.now).told.two (outlook_in lent.now).root }
-    requires attached { attached ≡ attached_of (outlook_in lent.now) }
-    ensures { IfOk result (λ list. list.items ≡ candidates_of (outlook_in lent.now)) }
+        ≡ reached_in (outlook_at view.now).told.two (outlook_at view.now).root }
+    requires attached { attached ≡ attached_of (outlook_at view.now) }
+    ensures { IfOk result (λ list. list.items ≡ candidates_of (outlook_at view.now)) }
 {
-    let mut list = firm_candidates(alloc, lent, ones, twos)?;
-    if has_defaults(lent.levels, attached, list.as_slice()) {
-        add_defaults(&mut list, lent.one, ones)?;
+    let mut list = firm_candidates(alloc, view, ones, twos)?;
+    if has_defaults(view.levels, attached, list.as_slice()) {
+        add_defaults(&mut list, &view.one, ones)?;
     }
     Ok(list)
 }
@@ -41,20 +40,21 @@ pub(crate) fn all_candidates(
 /// All but those by default.
 fn firm_candidates(
     alloc: Global,
-    lent: &Lent<'_>,
+    view: &View<'_>,
     ones: &[(SystemId, u64)],
     twos: &[(SystemId, u64)],
 ) -> Result<Vec<Candidate>, OutOfMemory>
+    requires fit { AreFit view.now }
     requires ones { ones.now
-        ≡ reached_in (outlook_in lent.now).told.one (outlook_in lent.now).root }
+        ≡ reached_in (outlook_at view.now).told.one (outlook_at view.now).root }
     requires twos { twos.now
-        ≡ reached_in (outlook_in lent.now).told.two (outlook_in lent.now).root }
-    ensures { IfOk result (λ list. list.items ≡ firm_candidates (outlook_in lent.now)) }
+        ≡ reached_in (outlook_at view.now).told.two (outlook_at view.now).root }
+    ensures { IfOk result (λ list. list.items ≡ firm_candidates (outlook_at view.now)) }
 {
     let mut list = Vec::new(alloc);
-    add_own(&mut list, own_node(lent.system), lent.prefixes)?;
-    add_told(alloc, &mut list, Level::One, lent.one, ones)?;
-    add_told(alloc, &mut list, Level::Two, lent.two, twos)?;
+    add_own(&mut list, own_node(view.system), view.prefixes)?;
+    add_told(alloc, &mut list, Level::One, &view.one, ones)?;
+    add_told(alloc, &mut list, Level::Two, &view.two, twos)?;
     Ok(list)
 }
 
@@ -131,14 +131,15 @@ fn add_told(
     alloc: Global,
     list: &mut Vec<Candidate>,
     level: Level,
-    store: &Store,
+    told: &LevelView<'_>,
     systems: &[(SystemId, u64)],
 ) -> Result<(), OutOfMemory>
+    requires { IsFit told.now }
     ensures { OnOk result (list.new.items ≡ list.old.items
-        ++ flat_map (system_candidates level (told_in store.now.entries)) systems.now) }
+        ++ flat_map (system_candidates level (told_of told.now)) systems.now) }
 {
     for reached in systems {
-        match add_system(alloc, list, level, store, reached.0, reached.1) {
+        match add_system(alloc, list, level, told, reached.0, reached.1) {
             Ok(()) => {}
             Err(error) => return Err(error),
         }
@@ -151,13 +152,15 @@ fn add_system(
     alloc: Global,
     list: &mut Vec<Candidate>,
     level: Level,
-    store: &Store,
+    told: &LevelView<'_>,
     system: SystemId,
     cost: u64,
 ) -> Result<(), OutOfMemory>
+    requires { IsFit told.now }
     ensures { OnOk result (list.new.items ≡ list.old.items
-        ++ system_candidates level (told_in store.now.entries) (system, cost)) }
+        ++ system_candidates level (told_of told.now) (system, cost)) }
 {
+    let store = store_of(told, system);
     let _entries = store.len();
     let items = reach(alloc, store, system)?;
     add_items(list, level, system, cost, &items)
@@ -227,14 +230,15 @@ fn has_for_all(list: &[Candidate]) -> bool
 /// Adds the way by default to each of these systems that is attached.
 fn add_defaults(
     list: &mut Vec<Candidate>,
-    store: &Store,
+    told: &LevelView<'_>,
     systems: &[(SystemId, u64)],
 ) -> Result<(), OutOfMemory>
+    requires { IsFit told.now }
     ensures { OnOk result (list.new.items ≡ list.old.items
-        ++ flat_map (default_of (told_in store.now.entries)) systems.now) }
+        ++ flat_map (default_of (told_of told.now)) systems.now) }
 {
     for reached in systems {
-        match add_default(list, store, reached.0, reached.1) {
+        match add_default(list, told, reached.0, reached.1) {
             Ok(()) => {}
             Err(error) => return Err(error),
         }
@@ -245,13 +249,15 @@ fn add_defaults(
 /// Adds the way by default to a system, where it is attached.
 fn add_default(
     list: &mut Vec<Candidate>,
-    store: &Store,
+    told: &LevelView<'_>,
     system: SystemId,
     cost: u64,
 ) -> Result<(), OutOfMemory>
+    requires { IsFit told.now }
     ensures { OnOk result (list.new.items
-        ≡ list.old.items ++ default_of (told_in store.now.entries) (system, cost)) }
+        ≡ list.old.items ++ default_of (told_of told.now) (system, cost)) }
 {
+    let store = store_of(told, system);
     let _entries = store.len();
     if !is_attached(store, system) {
         return Ok(());

@@ -9,12 +9,15 @@ ghost use Rattle.router_routes.specs.Told.{told_in};
 ghost use Rattle.router_routes.specs.Outlooks.{outlook_in, where_run};
 ghost use Rattle.router_routes.specs.Candidates.{AreRoutesOf, attached_of, candidates_of, reached_in};
 ghost use Rattle.router_routes.specs.Following.{IsFollowing, IsRooted, IsLevel, Counts};
+ghost use Rattle.router_routes.specs.Moved.{AreFit, outlook_at};
+ghost use Rattle.route_table.specs.Routes.{IsHopTo, AreRoutes};
 
 use crate::candidates::{all_candidates, own_node, runs_one, runs_two};
 use crate::differences::rows_apart;
 use crate::lent::Lent;
 use crate::level_graph::graph_of;
 use crate::systems::{is_attached, level_systems};
+use crate::view::{View, as_lent};
 use isis_base::{Level, LevelSet, NodeId, OutOfMemory, SystemId};
 use lsp_store::Store;
 use route_table::{Candidate, Routes, routes};
@@ -26,7 +29,8 @@ use std::marker::{Brand, Model};
 use std::sync::ledger::{Blank, Ledger};
 
 /// What a router keeps of its graphs and routes: for each level the least costs from its own node,
-/// repaired when rows change; the routes; and whether it is attached.
+/// repaired when rows change; the routes, with the candidates that they are made from; and whether it is
+/// attached.
 #[derive(Drop)]
 pub struct Following {
     pub(crate) alloc: Global,
@@ -34,10 +38,12 @@ pub struct Following {
     pub(crate) two: Repaired,
     pub(crate) routes: Routes,
     pub(crate) attached: bool,
+    pub(crate) candidates: Vec<Candidate>,
 }
 
 impl Model for Following {
     ghost use Rattle.router_routes.specs.Following.{FollowingOf};
+    ghost use Rattle.route_table.specs.Routes.{IsHopTo, AreRoutes};
 
     ghost Value = { FollowingOf };
 
@@ -46,6 +52,9 @@ impl Model for Following {
       routes = f.routes;
       attached = f.attached;
     } };
+
+    ghost invariant = { λ f.
+        AreRoutes (IsHopTo f.one.graph f.two.graph) f.candidates.items f.routes };
 }
 
 impl Following {
@@ -58,7 +67,7 @@ impl Following {
         let root = own_node(lent.system);
         let one = fresh(alloc, runs_one(lent.levels), lent.one, root)?;
         let two = fresh(alloc, runs_two(lent.levels), lent.two, root)?;
-        assembled(alloc, lent, one, two)
+        assembled(alloc, &as_lent(lent), one, two)
     }
 
     /// Follows what is lent of the router as it is now. For each level it is told whether its rows may
@@ -76,7 +85,7 @@ impl Following {
     {
         let one = if_moved(self.alloc, one, &self.one, runs_one(lent.levels), lent.one)?;
         let two = if_moved(self.alloc, two, &self.two, runs_two(lent.levels), lent.two)?;
-        let next = assembled(self.alloc, lent, one, two)?;
+        let next = assembled(self.alloc, &as_lent(lent), one, two)?;
         *self = next;
         Ok(())
     }
@@ -165,7 +174,7 @@ fn followed(
 }
 
 /// Changes rows. Its steps aren't counted further.
-fn change<L: Ledger>(
+pub(crate) fn change<L: Ledger>(
     repaired: &mut Repaired,
     removed: &[Row],
     added: &[Row],
@@ -193,38 +202,88 @@ fn change<L: Ledger>(
 /// The value of these distances.
 fn assembled(
     alloc: Global,
-    lent: &Lent<'_>,
+    view: &View<'_>,
     one: Repaired,
     two: Repaired,
 ) -> Result<Following, OutOfMemory>
-    requires one { IsLevel (outlook_in lent.now) level.One one }
-    requires two { IsLevel (outlook_in lent.now) level.Two two }
-    ensures follows { IfOk result (λ f. IsFollowing (outlook_in lent.now) f) }
+    requires fit { AreFit view.now }
+    requires one { IsLevel (outlook_at view.now) level.One one }
+    requires two { IsLevel (outlook_at view.now) level.Two two }
+    ensures follows { IfOk result (λ f. IsFollowing (outlook_at view.now) f) }
     ensures one { IfOk result (λ f. f.levels.one ≡ one) }
     ensures two { IfOk result (λ f. f.levels.two ≡ two) }
 {
-    let ones = level_systems(alloc, runs_one(lent.levels), lent.one, &one)?;
-    let twos = level_systems(alloc, runs_two(lent.levels), lent.two, &two)?;
-    let attached = attached(alloc, lent, &twos)?;
-    let candidates = all_candidates(alloc, lent, &ones, &twos, attached)?;
-    let routes = table(alloc, lent, candidates.as_slice(), &one, &two)?;
+    let reached = all_reached(alloc, view, &one, &two)?;
+    made(alloc, view, reached, one, two)
+}
+
+/// The value of these distances, and of what they reach.
+pub(crate) fn made(
+    alloc: Global,
+    view: &View<'_>,
+    reached: Reached,
+    one: Repaired,
+    two: Repaired,
+) -> Result<Following, OutOfMemory>
+    requires one { IsLevel (outlook_at view.now) level.One one }
+    requires two { IsLevel (outlook_at view.now) level.Two two }
+    requires candidates { reached.candidates.items ≡ candidates_of (outlook_at view.now) }
+    requires attached { reached.attached ≡ attached_of (outlook_at view.now) }
+    ensures follows { IfOk result (λ f. IsFollowing (outlook_at view.now) f) }
+    ensures one { IfOk result (λ f. f.levels.one ≡ one) }
+    ensures two { IfOk result (λ f. f.levels.two ≡ two) }
+{
+    let routes = table(alloc, view, reached.candidates.as_slice(), &one, &two)?;
     Ok(Following {
         alloc,
         one,
         two,
         routes,
+        attached: reached.attached,
+        candidates: reached.candidates,
+    })
+}
+
+/// What routes are made from, and whether the router is attached.
+#[derive(Drop)]
+pub(crate) struct Reached {
+    pub candidates: Vec<Candidate>,
+    pub attached: bool,
+}
+
+/// What these distances reach.
+pub(crate) fn all_reached(
+    alloc: Global,
+    view: &View<'_>,
+    one: &Repaired,
+    two: &Repaired,
+) -> Result<Reached, OutOfMemory>
+    requires fit { AreFit view.now }
+    requires one { IsLevel (outlook_at view.now) level.One one.now }
+    requires two { IsLevel (outlook_at view.now) level.Two two.now }
+    ensures candidates { IfOk result
+        (λ reached. reached.candidates.items ≡ candidates_of (outlook_at view.now)) }
+    ensures attached { IfOk result (λ reached. reached.attached ≡ attached_of (outlook_at view.now)) }
+{
+    let ones = level_systems(alloc, runs_one(view.levels), &view.one, one)?;
+    let twos = level_systems(alloc, runs_two(view.levels), &view.two, two)?;
+    let attached = attached(alloc, view, &twos)?;
+    let candidates = all_candidates(alloc, view, &ones, &twos, attached)?;
+    Ok(Reached {
+        candidates,
         attached,
     })
 }
 
 /// Whether the router is attached, where these are the systems that level 2 reaches.
-fn attached(alloc: Global, lent: &Lent<'_>, twos: &[(SystemId, u64)]) -> Result<bool, OutOfMemory>
-    requires { twos.now
-        ≡ reached_in (outlook_in lent.now).told.two (outlook_in lent.now).root }
-    ensures { IfOk result (λ attached. attached ≡ attached_of (outlook_in lent.now)) }
+fn attached(alloc: Global, view: &View<'_>, twos: &[(SystemId, u64)]) -> Result<bool, OutOfMemory>
+    requires fit { AreFit view.now }
+    requires twos { twos.now
+        ≡ reached_in (outlook_at view.now).told.two (outlook_at view.now).root }
+    ensures { IfOk result (λ attached. attached ≡ attached_of (outlook_at view.now)) }
 {
-    match lent.levels {
-        LevelSet::Both => is_attached(alloc, lent.areas, lent.two, twos),
+    match view.levels {
+        LevelSet::Both => is_attached(alloc, view.areas, &view.two, twos),
         LevelSet::One | LevelSet::Two => Ok(false),
     }
 }
@@ -232,17 +291,19 @@ fn attached(alloc: Global, lent: &Lent<'_>, twos: &[(SystemId, u64)]) -> Result<
 /// The routes of these candidates.
 fn table(
     alloc: Global,
-    lent: &Lent<'_>,
+    view: &View<'_>,
     candidates: &[Candidate],
     one: &Repaired,
     two: &Repaired,
 ) -> Result<Routes, OutOfMemory>
-    requires one { IsLevel (outlook_in lent.now) level.One one.now }
-    requires two { IsLevel (outlook_in lent.now) level.Two two.now }
-    requires candidates { candidates.now ≡ candidates_of (outlook_in lent.now) }
-    ensures { IfOk result (λ routes. AreRoutesOf (outlook_in lent.now) routes) }
+    requires one { IsLevel (outlook_at view.now) level.One one.now }
+    requires two { IsLevel (outlook_at view.now) level.Two two.now }
+    requires candidates { candidates.now ≡ candidates_of (outlook_at view.now) }
+    ensures are { IfOk result (λ routes. AreRoutesOf (outlook_at view.now) routes) }
+    ensures made { IfOk result
+        (λ routes. AreRoutes (IsHopTo one.now.graph two.now.graph) candidates.now routes) }
 {
-    let _lent = lent;
+    let _view = view;
     routes(
         alloc,
         candidates,

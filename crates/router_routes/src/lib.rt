@@ -14,6 +14,7 @@
 //! - `laws.rt`: the plain programs of the definitions are what the routes say
 #![tactic(auto)]
 
+mod ahead;
 mod candidates;
 mod differences;
 mod following;
@@ -21,7 +22,10 @@ pub mod laws;
 mod leaks;
 mod lent;
 mod level_graph;
+mod near;
+mod same;
 mod systems;
+mod view;
 
 pub use following::Following;
 pub use lent::{Lent, ids_law};

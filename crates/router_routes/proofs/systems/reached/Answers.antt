@@ -1,16 +1,14 @@
-use Rattle.std.proofs.Common.{◌≡◌, ◌++◌, List, map, subst}
+use Rattle.std.proofs.Common.{◌≡◌, ℕ, subst}
 use Rattle.std.specs.List.{flat_map}
-use Rattle.isis_base.specs.declared.identifiers.LspId.{LspId}
-use Rattle.lsp_store.specs.declared.entry.Entry.{Entry}
 use Rattle.spf_tree.specs.Distances.{cost_at}
-use Rattle.router_routes.specs.Told.{told_pair, told_in}
+use Rattle.router_routes.specs.Moved.{told_of}
 use Rattle.router_routes.specs.Candidates.{reached_by}
-use Rattle.router_routes.proofs.ToldLemmas.{one-more}
+use Rattle.router_routes.proofs.MovedLemmas.{made-of}
 use Rattle.router_routes.proofs.systems.reached.Goals as goal
 
-pub loop-id-preserved : goal.loop-id-preserved
-loop-id-preserved c =
+-- src/systems.rt
+pub returns-in_ok-add_past-in-Some : goal.returns-in_ok-add_past-in-Some
+returns-in_ok-add_past-in-Some c =
     let reach = reached_by (cost_at c.args.distances.now) c.number-start.result in
-    let whole = flat_map reach (told_in c.args.store.now.entries) in
-    one-more _ _ _ _ whole (c.in-Ok.ensures c.in-Some.field-0-1.now)
-    (subst (λ (left : List (LspId × Entry)). c.loop-id.list.items ++ flat_map reach (map told_pair left) ≡ whole) c.in-Some.ensures.steps c.loop-id.invariant)
+    subst (λ (n : ℕ). c.add_past.new.list.items ≡ flat_map (reached_by (cost_at c.args.distances.now) n) (told_of c.args.told.now)) c.number-start.ensures
+    (made-of reach c.args.told.now c.in-Some.moved c.in-Some.is c.new-list.result.items c.add_before.new.list.items c.add_at.new.list.items c.add_past.new.list.items c.new-list.ensures.items c.in_ok-add_before-in-Some.ensures c.in_ok-add_at-in-Some.ensures c.in_ok-add_past-in-Some.ensures)

@@ -1,0 +1,52 @@
+-- What follows a router before one node tells something else, and once it does.
+use Rattle.std.proofs.Common.{◌≡◌, ◌∙◌, Bool, true, false, not, List, Option, Some, None, refl, sym, ap, subst}
+use Rattle.std.specs.Prelude.{is_some}
+use Rattle.isis_base.specs.declared.identifiers.NodeId.{NodeId}
+use Rattle.isis_base.specs.declared.identifiers.LspId.{LspId}
+use Rattle.isis_base.specs.declared.level.Level.{Level}
+use Rattle.isis_base.specs.declared.level.Level.TheVariants as level
+use Rattle.isis_datagram.specs.Reading.{runs_of}
+use Rattle.isis_model.specs.Both.{at}
+use Rattle.lsp_store.specs.declared.entry.Entry.{Entry}
+use Rattle.lsp_view.specs.Views.{own_node, rows_in, overloaded_in}
+use Rattle.spf_tree.specs.Graphs.{AreUsable}
+use Rattle.spf_repair.specs.Changes.{RepairedOf}
+use Rattle.route_table.specs.declared.candidate.Candidate.{Candidate}
+use Rattle.route_table.specs.Routes.{IsHopTo, AreRoutes}
+use Rattle.router_routes.specs.declared.lent.Lent.{Lent}
+use Rattle.router_routes.specs.Told.{told_in}
+use Rattle.router_routes.specs.Outlooks.{Outlook, where_run, outlook_in}
+use Rattle.router_routes.specs.Candidates.{candidates_of, attached_of}
+use Rattle.router_routes.specs.Following.{FollowingOf, IsFollowing, IsLevel}
+use Rattle.router_routes.specs.Moved.{AreCosts, entries_at, or_old}
+use Rattle.router_routes.proofs.GraphLemmas.{routes-of}
+
+pub kept-old : (new : Option RepairedOf) (old : RepairedOf) (none : Bool) → is_some new ≡ not none → none ≡ true → or_old new old ≡ old
+kept-old None old none is yes' = refl
+kept-old (Some new) old none is yes' = absurd (let e : true ≡ false = is ∙ ap not yes' in cc)
+
+pub run-at : (lent : Lent) (level : Level) → at (outlook_in lent).runs level ≡ at (runs_of lent.levels) level
+unfolding outlook_in
+run-at lent level = refl
+
+pub level-of : (o : Outlook) (f : FollowingOf) (level : Level) → IsFollowing o f → IsLevel o level (at f.levels level)
+level-of o f level.One is = is.one
+level-of o f level.Two is = is.two
+
+pub root-of : (lent : Lent) (f : FollowingOf) (level : Level) → IsFollowing (outlook_in lent) f → (at f.levels level).root ≡ own_node lent.system
+unfolding outlook_in
+root-of lent f level.One is = is.one.root
+root-of lent f level.Two is = is.two.root
+
+run-costs : (runs : Bool) (list : List (LspId × Entry)) (root : NodeId) (costs : RepairedOf) → runs ≡ true → costs.root ≡ root → AreUsable (rows_in (where_run runs list)) (overloaded_in (where_run runs list)) root costs.graph → AreCosts list costs.root costs
+run-costs true list root costs is same are = record { root = refl; graph = subst (λ (r : NodeId). AreUsable (rows_in list) (overloaded_in list) r costs.graph) (sym same) are }
+run-costs false list root costs is same are = absurd (let e : false ≡ true = is in cc)
+
+pub lent-costs : (lent : Lent) (f : FollowingOf) (level : Level) → IsFollowing (outlook_in lent) f → at (runs_of lent.levels) level ≡ true → AreCosts (told_in (entries_at lent level)) (at f.levels level).root (at f.levels level)
+unfolding outlook_in
+lent-costs lent f level.One is run = run-costs (runs_of lent.levels).one (told_in lent.one.now.entries) (own_node lent.system) f.levels.one run is.one.root is.one.graph
+lent-costs lent f level.Two is run = run-costs (runs_of lent.levels).two (told_in lent.two.now.entries) (own_node lent.system) f.levels.two run is.two.root is.two.graph
+
+pub stays-following : (o : Outlook) (f : FollowingOf) (candidates : List Candidate) → IsLevel o level.One f.levels.one → IsLevel o level.Two f.levels.two → AreRoutes (IsHopTo f.levels.one.graph f.levels.two.graph) candidates f.routes → candidates ≡ candidates_of o → f.attached ≡ attached_of o → IsFollowing o f
+stays-following o f candidates one two are same attached =
+    record { one = one; two = two; routes = routes-of o f.levels.one f.levels.two f.levels.one.graph f.levels.two.graph candidates f.routes one two refl refl same are; attached = attached }

@@ -1,0 +1,9 @@
+use Rattle.std.proofs.Common.{◌∙◌}
+use Rattle.router_routes.proofs.IdLemmas.{stands}
+use Rattle.router_routes.proofs.NearLemmas.{over-at}
+use Rattle.router_routes.proofs.near.is_over.Goals as goal
+
+-- src/near.rt
+pub returns : goal.returns
+returns c =
+    c.is_overloaded_at.ensures ∙ over-at c.args.store.now.entries c.args.node c.len-entries.ensures.rises c.requires (stands (record { node = c.args.node; number = 0 }) c.lsp_id_law.ensures).first
