@@ -4,6 +4,7 @@ pub mod WalkLemmas
 pub mod QueueLemmas
 pub mod LabelLemmas
 pub mod SearchLemmas
+pub mod PlaceLemmas
 pub mod UsableLemmas
 pub mod ExploreLemmas
 pub mod HopLemmas

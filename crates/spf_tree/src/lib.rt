@@ -15,19 +15,24 @@
 
 mod choice;
 mod distances;
+mod edge;
+mod edges;
 mod graph;
 mod hops;
+mod indexed;
 mod label;
 mod labels;
 pub mod laws;
 mod next;
 mod node;
 mod nodes;
+mod offers;
 mod queue;
 mod reach;
 mod row;
 mod scratch;
 mod search;
+mod spans;
 mod table;
 
 /// Parts of the search, for the crate that repairs distances.
@@ -38,9 +43,9 @@ pub mod parts {
     pub use crate::labels::Labels;
     pub use crate::node::number;
     pub use crate::nodes::with_node;
+    pub use crate::offers::{first_row, offer, offer_rows};
     pub use crate::queue::Queue;
     pub use crate::reach::is_step;
-    pub use crate::search::{first_row, offer, offer_rows};
 }
 
 pub use choice::usable;

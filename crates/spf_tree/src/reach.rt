@@ -11,8 +11,8 @@ ghost use Rattle.spf_tree.specs.Exploring.{AreReached, IsStep, IsTouched, IsSpre
 
 use crate::labels::Labels;
 use crate::node::{is_system, number};
+use crate::offers::first_row;
 use crate::row::Row;
-use crate::search::first_row;
 use isis_base::OutOfMemory;
 use std::alloc::Global;
 
