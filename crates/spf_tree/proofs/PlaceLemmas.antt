@@ -15,7 +15,7 @@ use Rattle.spf_tree.specs.declared.row.Row.{Row}
 use Rattle.spf_tree.specs.declared.edge.Edge.{Edge}
 use Rattle.spf_tree.specs.declared.edge.Span.{Span}
 use Rattle.spf_tree.specs.Walks.{start, end}
-use Rattle.spf_tree.specs.Places.{node_at, offer_at, offers_at, AreToPlaces, IsEdge, AreEdges, IsSpan, AreSpans}
+use Rattle.spf_tree.specs.Places.{node_at, offer_at, offers_at, AreToPlaces, IsEdge, AreEdges, IsSpan}
 use Rattle.spf_tree.specs.Labels.{names}
 use Rattle.spf_tree.specs.declared.label.Label.{Label}
 use Rattle.spf_tree.specs.Search.{IsOffered, HaveOffered, IsSearchKept, AreNamed, starts}
@@ -104,10 +104,6 @@ ends_by rows slice nodes part e f h =
 pub edges_by : (slice rows : List Row) (part nodes : List ℕ) (edges : List Edge) → slice ≡ rows → part ≡ nodes → AreEdges part slice edges (length slice) → AreEdges nodes rows edges (length rows)
 edges_by slice rows part nodes edges e f h =
     subst (λ (ns : List ℕ). AreEdges ns rows edges (length rows)) f (subst (λ (rs : List Row). AreEdges part rs edges (length rs)) e h)
-
-pub spans_by : (slice rows : List Row) (part nodes : List ℕ) (spans : List Span) → slice ≡ rows → part ≡ nodes → AreSpans part slice spans (length part) → AreSpans nodes rows spans (length nodes)
-spans_by slice rows part nodes spans e f h =
-    subst (λ (ns : List ℕ). AreSpans ns rows spans (length ns)) f (subst (λ (rs : List Row). AreSpans part rs spans (length part)) e h)
 
 -- ---- offers to places
 

@@ -62,9 +62,7 @@ pub record IndexedOf : Type 0 where
   pub rows : List Row
   pub nodes : List ℕ
 
--- the same, with the span of each node and the edge of each row
-pub record IsIndexed (rows : List Row) (nodes : List ℕ) (edges : List Edge)
-    (spans : List Span) : Type 0 where
+-- the same, with the edge of each row
+pub record IsIndexed (rows : List Row) (nodes : List ℕ) (edges : List Edge) : Type 0 where
   pub kept : IsSearchKept rows nodes
   pub row_edges : AreEdges nodes rows edges (length rows)
-  pub node_spans : AreSpans nodes rows spans (length nodes)

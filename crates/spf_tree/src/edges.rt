@@ -2,17 +2,25 @@
 
 ghost use Rattle.std.specs.Prelude.{◌≡◌, ◌≤◌, ◌<◌, ℕ, length, IfOk};
 ghost use Rattle.std.specs.Option.{IfSome};
-ghost use Rattle.std.specs.List.{Contains};
+ghost use Rattle.std.specs.List.{All, Contains};
 ghost use Rattle.std.specs.List.Sorted.{IsStrictlyIncreasing};
 ghost use Rattle.spf_tree.specs.declared.row.Row.{Row};
+ghost use Rattle.spf_tree.specs.declared.edge.Edge.{Edge};
 ghost use Rattle.spf_tree.specs.Walks.{end};
-ghost use Rattle.spf_tree.specs.Places.{AreEdges, IsEdge, node_at};
+ghost use Rattle.spf_tree.specs.Places.{AreEdges, node_at};
 
 use crate::edge::Edge;
 use crate::node::number;
 use crate::row::Row;
 use isis_base::OutOfMemory;
 use std::alloc::Global;
+
+/// The place of a row's end, and the place among the old rows where the next row is looked for.
+#[derive(Clone, Copy)]
+struct Found {
+    place: usize,
+    next: usize,
+}
 
 /// The edge of each row. Rows that follow each other as old ones do have the places of those; the others are searched.
 pub fn edges_of(
@@ -34,13 +42,56 @@ pub fn edges_of(
     let mut from = 0;
     for place in 0..rows.len() {
         let row = &rows[place];
-        from = catch_up(old, from, row);
-        match edges.push(edge_of(nodes, row, old, known, from)) {
+        let found = find(nodes, row, old, known, from);
+        from = found.next;
+        match edges.push(Edge {
+            place: found.place,
+            metric: row.metric,
+        }) {
             Ok(()) => {}
             Err(_) => return Err(OutOfMemory),
         }
     }
     Ok(edges)
+}
+
+/// The place of a row's end, by the old row at a place or soon behind it where that ends at the same node.
+fn find(nodes: &[u64], row: &Row, old: &[Row], known: &[Edge], from: usize) -> Found
+    requires rising { IsStrictlyIncreasing nodes.now }
+    requires end { Contains nodes.now (end row.now) }
+    requires known { AreEdges nodes.now old.now known.now (length old.now) }
+    ensures within { result.place < length nodes.now }
+    ensures node { node_at nodes.now result.place ≡ end row.now }
+{
+    let end = number(row.to);
+    if let Some(place) = place_by(nodes, end, known, from) {
+        let next = from.saturating_add(1);
+        return Found { place, next };
+    }
+    let near = catch_up(old, from, row);
+    if let Some(place) = place_by(nodes, end, known, near) {
+        let next = near.saturating_add(1);
+        return Found { place, next };
+    }
+    Found {
+        place: place_of(nodes, end),
+        next: near,
+    }
+}
+
+/// The place of a node, where the old row at a place ends there.
+fn place_by(nodes: &[u64], end: u64, known: &[Edge], from: usize) -> Option<usize>
+    requires { All (λ (edge : Edge). edge.place < length nodes.now) known.now }
+    ensures { IfSome result (λ place. (place < length nodes.now) × (node_at nodes.now place ≡ end)) }
+{
+    if from >= known.len() {
+        return None;
+    }
+    let place = known[from].place;
+    if nodes[place] != end {
+        return None;
+    }
+    Some(place)
 }
 
 /// The place of the first old row, from a place on, that the row isn't behind.
@@ -56,29 +107,6 @@ fn catch_up(old: &[Row], from: usize, row: &Row) -> usize {
 fn is_before(a: &Row, b: &Row) -> bool {
     let (first, second) = (number(a.from), number(b.from));
     first < second || first == second && number(a.to) < number(b.to)
-}
-
-/// The edge of a row, by an old row where that ends at the same node.
-fn edge_of(nodes: &[u64], row: &Row, old: &[Row], known: &[Edge], from: usize) -> Edge
-    requires rising { IsStrictlyIncreasing nodes.now }
-    requires end { Contains nodes.now (end row.now) }
-    requires known { AreEdges nodes.now old.now known.now (length old.now) }
-    ensures { IsEdge nodes.now row.now result }
-{
-    let end = number(row.to);
-    if from < old.len() {
-        let place = known[from].place;
-        if nodes[place] == end {
-            return Edge {
-                place,
-                metric: row.metric,
-            };
-        }
-    }
-    Edge {
-        place: place_of(nodes, end),
-        metric: row.metric,
-    }
 }
 
 /// The place of a node that is among the nodes.

@@ -1,4 +1,4 @@
-//! The rows of a graph with what is found of them once: the span of each node, and the place of each row's end.
+//! The rows of a graph with what is found of them once: the nodes where they end, and the place of each row's end.
 
 ghost use Rattle.std.specs.Prelude.{◌≡◌, ◌<◌, ◌⊎◌, ℕ, length, slice_index_or, IfOk};
 ghost use Rattle.std.specs.List.{Contains};
@@ -6,13 +6,12 @@ ghost use Rattle.std.specs.List.Sorted.{IsNonDecreasingBy};
 ghost use Rattle.spf_tree.specs.declared.row.Row.{Row};
 ghost use Rattle.spf_tree.specs.Walks.{start, end};
 ghost use Rattle.spf_tree.specs.Search.{IsBounded, IsSearchKept};
-ghost use Rattle.spf_tree.specs.Places.{AreEdges, IsEdge, IsSpan, node_at};
+ghost use Rattle.spf_tree.specs.Places.{AreEdges, IsEdge};
 
-use crate::edge::{Edge, Span};
+use crate::edge::Edge;
 use crate::edges::edges_of;
 use crate::nodes::{ends, in_order};
 use crate::row::Row;
-use crate::spans::spans_of;
 use isis_base::OutOfMemory;
 use std::alloc::Global;
 use std::marker::Model;
@@ -23,7 +22,6 @@ pub struct IndexedRows {
     rows: Vec<Row>,
     nodes: Vec<u64>,
     edges: Vec<Edge>,
-    spans: Vec<Span>,
 }
 
 impl Model for IndexedRows {
@@ -33,7 +31,7 @@ impl Model for IndexedRows {
 
     ghost view = { λ i. record { rows = i.rows.items; nodes = i.nodes.items } };
 
-    ghost invariant = { λ i. IsIndexed i.rows.items i.nodes.items i.edges.items i.spans.items };
+    ghost invariant = { λ i. IsIndexed i.rows.items i.nodes.items i.edges.items };
 }
 
 impl IndexedRows {
@@ -85,13 +83,7 @@ impl IndexedRows {
         let rows = self.rows.clone()?;
         let nodes = self.nodes.clone()?;
         let edges = self.edges.clone()?;
-        let spans = self.spans.clone()?;
-        Ok(IndexedRows {
-            rows,
-            nodes,
-            edges,
-            spans,
-        })
+        Ok(IndexedRows { rows, nodes, edges })
     }
 
     /// The rows are in order and bounded, the nodes in order, and each row ends at one of them.
@@ -115,14 +107,6 @@ impl IndexedRows {
         self.nodes.as_slice()
     }
 
-    /// Where the rows of the node at a place stand.
-    pub fn span(&self, place: usize) -> Span
-        requires { place < length self.now.nodes }
-        ensures { IsSpan self.now.rows (node_at self.now.nodes place) result }
-    {
-        self.spans[place]
-    }
-
     /// The edge of the row at a place.
     pub fn edge(&self, place: usize) -> Edge
         requires { place < length self.now.rows }
@@ -133,7 +117,7 @@ impl IndexedRows {
     }
 }
 
-/// Finds the span of each node and the edge of each row, by what is known of old rows over the same nodes.
+/// Finds the edge of each row, by what is known of old rows over the same nodes.
 fn index(
     alloc: Global,
     rows: Vec<Row>,
@@ -146,17 +130,8 @@ fn index(
     ensures rows { IfOk result (λ indexed. indexed.rows ≡ rows.items) }
     ensures nodes { IfOk result (λ indexed. indexed.nodes ≡ nodes.items) }
 {
-    let edges = match edges_of(alloc, nodes.as_slice(), rows.as_slice(), old, known) {
-        Ok(edges) => edges,
-        Err(error) => return Err(error),
-    };
-    match spans_of(alloc, nodes.as_slice(), rows.as_slice()) {
-        Ok(spans) => Ok(IndexedRows {
-            rows,
-            nodes,
-            edges,
-            spans,
-        }),
+    match edges_of(alloc, nodes.as_slice(), rows.as_slice(), old, known) {
+        Ok(edges) => Ok(IndexedRows { rows, nodes, edges }),
         Err(error) => Err(error),
     }
 }

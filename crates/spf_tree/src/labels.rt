@@ -92,7 +92,10 @@ impl Labels {
         ensures { IfOk result (λ labels. labels ≡ map (carry old.now marks.now) nodes.now) }
     {
         old.rising();
-        let mut items = Vec::new(alloc);
+        let mut items = match Vec::with_capacity(alloc, nodes.len()) {
+            Ok(items) => items,
+            Err(_) => return Err(OutOfMemory),
+        };
         let mut at = 0;
         for place in 0..nodes.len() {
             let node = nodes[place];
@@ -110,17 +113,20 @@ impl Labels {
         ensures names { IfOk result (λ labels. names labels ≡ names self.now) }
         ensures none { IfOk result (λ labels. (q : ℕ) → at labels q ≡ None) }
     {
-        let mut nodes = Vec::new(alloc);
+        let mut items = match Vec::with_capacity(alloc, self.items.len()) {
+            Ok(items) => items,
+            Err(_) => return Err(OutOfMemory),
+        };
         for label in self.items.as_slice() {
-            match nodes.push(label.node) {
+            match items.push(Label {
+                node: label.node,
+                cost: None,
+            }) {
                 Ok(()) => {}
                 Err(_) => return Err(OutOfMemory),
             }
         }
-        match unknown_labels(alloc, nodes.as_slice()) {
-            Ok(items) => Ok(Labels { items }),
-            Err(error) => Err(error),
-        }
+        Ok(Labels { items })
     }
 
     /// A label without cost for each node.

@@ -14,6 +14,7 @@ use crate::node::number;
 use crate::nodes::is_among;
 use crate::queue::Queue;
 use crate::search::run;
+use crate::spans::spans_of;
 use isis_base::{NodeId, OutOfMemory};
 use std::alloc::Global;
 
@@ -43,12 +44,16 @@ fn from_node(alloc: Global, rows: &IndexedRows, root: u64) -> Result<Distances, 
         Ok(labels) => labels,
         Err(error) => return Err(error),
     };
+    let spans = match spans_of(alloc, rows.nodes(), rows.rows()) {
+        Ok(spans) => spans,
+        Err(error) => return Err(error),
+    };
     let mut queue = Queue::new(alloc);
     match queue.push(0, place as u64) {
         Ok(()) => {}
         Err(error) => return Err(error),
     }
-    match run(rows, place, &mut labels, &mut queue) {
+    match run(rows, spans.as_slice(), place, &mut labels, &mut queue) {
         Ok(()) => Ok(Distances::of(labels)),
         Err(error) => Err(error),
     }

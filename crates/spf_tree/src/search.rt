@@ -6,9 +6,9 @@ ghost use Rattle.std.specs.Bool.{MatchBool};
 ghost use Rattle.spf_tree.specs.Walks.{AreLeast};
 ghost use Rattle.spf_tree.specs.Labels.{at, names};
 ghost use Rattle.spf_tree.specs.Search.{IsOffered, HaveOffered, IsSearch, work};
-ghost use Rattle.spf_tree.specs.Places.{AreToPlaces, node_at, offers_at};
+ghost use Rattle.spf_tree.specs.Places.{AreSpans, AreToPlaces, IsSpan, node_at, offers_at};
 
-use crate::edge::Edge;
+use crate::edge::{Edge, Span};
 use crate::indexed::IndexedRows;
 use crate::labels::Labels;
 use crate::queue::Queue;
@@ -17,11 +17,14 @@ use isis_base::OutOfMemory;
 /// Labels each node that a walk from the root reaches with the least cost of such a walk.
 pub fn run(
     indexed: &IndexedRows,
+    spans: &[Span],
     root: usize,
     labels: &mut Labels,
     queue: &mut Queue,
 ) -> Result<(), OutOfMemory>
     requires names { names labels.old ≡ indexed.now.nodes }
+    requires spans { AreSpans indexed.now.nodes indexed.now.rows spans.now
+        (length indexed.now.nodes) }
     requires root { root < length indexed.now.nodes }
     requires places { AreToPlaces indexed.now.nodes queue.old }
     requires search { IsSearch indexed.now.rows (node_at indexed.now.nodes root) labels.old
@@ -31,7 +34,7 @@ pub fn run(
 {
     indexed.kept();
     loop {
-        match step(indexed, root, labels, queue) {
+        match step(indexed, spans, root, labels, queue) {
             Ok(true) => {}
             Ok(false) => return Ok(()),
             Err(error) => return Err(error),
@@ -42,11 +45,14 @@ pub fn run(
 /// Settles the node with the least offer, unless it has a label. `false` where there is no offer.
 fn step(
     indexed: &IndexedRows,
+    spans: &[Span],
     root: usize,
     labels: &mut Labels,
     queue: &mut Queue,
 ) -> Result<bool, OutOfMemory>
     requires names { names labels.old ≡ indexed.now.nodes }
+    requires spans { AreSpans indexed.now.nodes indexed.now.rows spans.now
+        (length indexed.now.nodes) }
     requires root { root < length indexed.now.nodes }
     requires places { AreToPlaces indexed.now.nodes queue.old }
     requires search { IsSearch indexed.now.rows (node_at indexed.now.nodes root) labels.old
@@ -71,7 +77,7 @@ fn step(
         return Ok(true);
     }
     labels.set_at_place(place, cost);
-    match offer_span(indexed, root, labels, place, cost, queue) {
+    match offer_span(indexed, spans[place], root, labels, place, cost, queue) {
         Ok(()) => Ok(true),
         Err(error) => Err(error),
     }
@@ -80,6 +86,7 @@ fn step(
 /// Offers what the rows from the node at a place give at this cost.
 fn offer_span(
     indexed: &IndexedRows,
+    span: Span,
     root: usize,
     labels: &Labels,
     place: usize,
@@ -88,7 +95,7 @@ fn offer_span(
 ) -> Result<(), OutOfMemory>
     requires names { names labels.now ≡ indexed.now.nodes }
     requires root { root < length indexed.now.nodes }
-    requires place { place < length indexed.now.nodes }
+    requires span { IsSpan indexed.now.rows (node_at indexed.now.nodes place) span }
     requires places { AreToPlaces indexed.now.nodes queue.old }
     ensures places { OnOk result (AreToPlaces indexed.now.nodes queue.new) }
     ensures offered { OnOk result
@@ -97,7 +104,6 @@ fn offer_span(
         (offers_at indexed.now.nodes queue.new) (length indexed.now.rows)) }
 {
     indexed.kept();
-    let span = indexed.span(place);
     for row in span.first..span.past {
         match offer(labels, root, indexed.edge(row), cost, queue) {
             Ok(()) => {}

@@ -1,5 +1,5 @@
 use Rattle.std.proofs.Common.{sym}
-use Rattle.spf_tree.proofs.PlaceLemmas.{ends_by, edges_by, spans_by}
+use Rattle.spf_tree.proofs.PlaceLemmas.{ends_by, edges_by}
 use Rattle.spf_tree.proofs.indexed.index.Goals as goal
 
 pub edges_of-requires-clause-ends : goal.edges_of-requires-clause-ends
@@ -9,5 +9,4 @@ pub invariant_of-result : goal.invariant_of-result
 invariant_of-result c = record {
   kept = c.requires.kept;
   row_edges = edges_by _ c.args.rows.items _ c.args.nodes.items c.in-Ok.edges.items c.as_slice-2.ensures.value c.as_slice.ensures.value c.in-Ok.ensures;
-  node_spans = spans_by _ c.args.rows.items _ c.args.nodes.items c.in-Ok-spans_of.spans.items c.as_slice-4.ensures.value c.as_slice-3.ensures.value c.in-Ok-spans_of.ensures;
 }
