@@ -7,6 +7,7 @@ pub mod SearchLemmas
 pub mod PlaceLemmas
 pub mod UsableLemmas
 pub mod ExploreLemmas
+pub mod ReachLemmas
 pub mod HopLemmas
 pub mod TableLemmas
 pub mod DistanceLemmas

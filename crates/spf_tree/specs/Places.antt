@@ -12,6 +12,14 @@ use Rattle.spf_tree.specs.Search.{IsSearchKept}
 abbrev pub node_at : List ℕ → ℕ → ℕ
 node_at nodes place = slice_index_or nodes place 0
 
+-- the nodes at places
+abbrev pub nodes_at : List ℕ → List ℕ → List ℕ
+nodes_at nodes places = map (node_at nodes) places
+
+-- each is the place of a node
+pub record ArePlaces (nodes places : List ℕ) : Type 0 where
+  pub within : (place : ℕ) → Contains places place → place < length nodes
+
 -- what is offered to a place, as an offer to its node
 abbrev pub offer_at : List ℕ → ℕ × ℕ → ℕ × ℕ
 offer_at nodes offer = (offer.0, node_at nodes offer.1)
