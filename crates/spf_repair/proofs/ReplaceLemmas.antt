@@ -1,10 +1,10 @@
 -- How often rows are there.
 
-use Rattle.std.proofs.Common.{◌≡◌, ◌∙◌, ℕ, zero, suc, ◌+◌, ◌≤◌, ◌<◌, ◌^◌, Bool, true, false, cond, ◌==◌, ◌&&◌, List, [], ◌∷◌, ◌++◌, length, take, get_or, refl, sym, ap, subst, arith, inl, inr}
+use Rattle.std.proofs.Common.{◌≡◌, ◌∙◌, ℕ, zero, suc, ◌+◌, ◌≤◌, ◌<◌, ◌^◌, Bool, true, false, cond, ◌==◌, ◌&&◌, List, [], ◌∷◌, ◌++◌, ◌-◌, length, take, drop, get_or, refl, sym, ap, subst, arith, inl, inr}
 use Rattle.std.specs.List.{Contains, All, remove}
 use Rattle.std.specs.List.Sorted.{IsNonDecreasingBy, IsPermutation}
 use Rattle.std.proofs.lemmas.Bool.{cases_Bool, cases_lt, and_parts, and_from, eqb-true, eq-eqb}
-use Rattle.std.proofs.lemmas.List.{get_or_append_left, get_or_default, get_or_push, length-append, take_all}
+use Rattle.std.proofs.lemmas.List.{append-nil, append_assoc, get_or_append_left, get_or_default, get_or_push, get_or-drop, length-append, length-drop, take_all, take_more}
 use Rattle.std.proofs.lemmas.List.Elements.{Contains-push_cases, All-tail, All-push, All-contains, Contains-get_or}
 use Rattle.std.proofs.lemmas.List.Sums.{sum_by-cons, count_by_more_yes, count_by_more_no, sum_by-take-le, sum_by_push}
 use Rattle.std.proofs.lemmas.List.Sorted.{IsPermutation-remove, sum_by-IsPermutation, All-permutation, length_permutation, Contains-permutation, IsPermutation-sym}
@@ -14,6 +14,7 @@ use Rattle.spf_tree.specs.Search.{IsBounded}
 use Rattle.spf_tree.specs.Graphs.{same_row, times}
 use Rattle.spf_repair.specs.Replace.{AreFrom, IsExchanged, IsStripped}
 use Rattle.spf_repair.specs.Change.{IsAlike, AreChanged}
+use Rattle.spf_tree.proofs.SearchLemmas.{no_row}
 use Rattle.spf_tree.proofs.UsableLemmas.{alike}
 
 abbrev pub bit : Bool → ℕ
@@ -300,3 +301,34 @@ one_there rows i row q d in' is =
           omega arith
       | inr z ↦ let none = bit_none (same_row q row) z in omega arith
     ]
+
+-- ---- rows that are kept at once
+
+pub keep_more : (rows removed added merged : List Row) (place found from n : ℕ) → place + n ≤ length rows → IsBounded rows → IsNonDecreasingBy start rows → ((k : ℕ) (d : Row) → k < place + n → AreFrom added from (start (get_or rows k d)))
+    → IsExchanged rows removed added merged place found from → IsExchanged rows removed added (merged ++ take n (drop place rows)) (place + n) found from
+keep_more rows removed added merged place found from zero within bounded sorted low x =
+    subst (λ (p : ℕ). IsExchanged rows removed added (merged ++ []) p found from) {x = place} {y = place + 0} (omega arith)
+    (subst (λ (m : List Row). IsExchanged rows removed added m place found from) (sym (append-nil merged)) x)
+keep_more rows removed added merged place found from (suc n) within bounded sorted low x =
+    let d = no_row in
+    let row = get_or rows (place + n) d in
+    let before = keep_more rows removed added merged place found from n (omega arith) bounded sorted (λ k e h. low k e (omega arith)) x in
+    let inside : n < length (drop place rows) = omega (arith, length-drop place rows) in
+    let one : take (suc n) (drop place rows) ≡ take n (drop place rows) ++ get_or (drop place rows) n d ∷ [] =
+    ap (λ (m : ℕ). take m (drop place rows)) {x = suc n} {y = n + 1} (omega arith) ∙ take_more (drop place rows) n d inside in
+    let is : merged ++ take (suc n) (drop place rows) ≡ (merged ++ take n (drop place rows)) ++ row ∷ [] =
+    ap (λ (m : List Row). merged ++ m) (one ∙ ap (λ (r : Row). take n (drop place rows) ++ r ∷ []) (get_or-drop place rows n d)) ∙ sym (append_assoc merged (take n (drop place rows)) (row ∷ [])) in
+    subst (λ (p : ℕ). IsExchanged rows removed added (merged ++ take (suc n) (drop place rows)) p found from) {x = place + n + 1} {y = place + suc n} (omega arith)
+    (strip_more rows removed added (merged ++ take n (drop place rows)) (merged ++ take (suc n) (drop place rows)) (place + n) found found from d (omega arith) bounded sorted (low (place + n) d (omega arith)) (inr (refl, is)) before)
+
+-- the rows of a list in order are no lower than its first
+pub from_first : (list : List Row) (node : ℕ) (e : Row) → IsNonDecreasingBy start list → 0 < length list → node ≤ start (get_or list 0 e) → AreFrom list 0 node
+from_first list node e sorted some low = lower list 0 node (start (get_or list 0 e)) low (from_here list 0 e sorted some)
+
+pub keep_between : (rows removed added merged new : List Row) (place past found from : ℕ) → place ≤ past → past ≤ length rows → IsBounded rows → IsNonDecreasingBy start rows → ((k : ℕ) (d : Row) → k < past → AreFrom added from (start (get_or rows k d)))
+    → new ≡ merged ++ take (past - place) (drop place rows) → IsExchanged rows removed added merged place found from → IsExchanged rows removed added new past found from
+keep_between rows removed added merged new place past found from order within bounded sorted low is x =
+    let sum : place + (past - place) ≡ past = omega arith in
+    subst (λ (m : List Row). IsExchanged rows removed added m past found from) (sym is)
+    (subst (λ (p : ℕ). IsExchanged rows removed added (merged ++ take (past - place) (drop place rows)) p found from) sum
+    (keep_more rows removed added merged place found from (past - place) (omega arith) bounded sorted (λ k d h. low k d (omega arith)) x))

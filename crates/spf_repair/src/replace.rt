@@ -1,6 +1,6 @@
 //! Rows taken out and put in.
 
-ghost use Rattle.std.specs.Prelude.{◌≡◌, ◌<◌, ◌≤◌, ◌+◌, ◌^◌, ℕ, List, [], true, cond, length, take, slice_index_or, MatchOption, IfOk, OnOk};
+ghost use Rattle.std.specs.Prelude.{◌≡◌, ◌<◌, ◌≤◌, ◌+◌, ◌-◌, ◌^◌, ◌++◌, ℕ, List, [], true, cond, length, take, drop, slice_index_or, MatchOption, IfOk, OnOk};
 ghost use Rattle.std.specs.List.{All};
 ghost use Rattle.std.specs.List.Sorted.{IsNonDecreasingBy, IsPermutation};
 ghost use Rattle.spf_tree.specs.declared.row.Row.{Row};
@@ -11,7 +11,7 @@ ghost use Rattle.spf_repair.specs.Replace.{AreFrom, IsExchanged, IsStripped};
 
 use isis_base::OutOfMemory;
 use spf_tree::Row;
-use spf_tree::parts::{by_start, number, whole};
+use spf_tree::parts::{by_start, first_row, number, whole};
 use std::alloc::Global;
 
 /// The rows after a change, in order of their starts.
@@ -61,7 +61,8 @@ fn in_order(alloc: Global, rows: &[Row]) -> Result<Vec<Row>, OutOfMemory>
 }
 
 /// Goes over the rows once: leaves the removed ones out, as far as they come in the same order, and puts the added ones
-/// in their places. The number of removed ones that were found.
+/// in their places. The number of removed ones that were found. Rows before the first change, and behind the last one,
+/// are kept at once.
 fn exchange(
     rows: &[Row],
     removed: &[Row],
@@ -76,8 +77,19 @@ fn exchange(
         (λ found. IsExchanged rows.now removed.now added.now merged.new.items
         (length rows.now) found (length added.now)) }
 {
+    let quiet = quiet_rows(rows, removed, added);
+    match keep(rows, 0, quiet, merged) {
+        Ok(()) => {}
+        Err(error) => return Err(error),
+    }
     let (mut found, mut from) = (0, 0);
-    for place in 0..rows.len() {
+    for place in quiet..rows.len() {
+        if found >= removed.len() && from >= added.len() {
+            match keep(rows, place, rows.len(), merged) {
+                Ok(()) => return Ok(found),
+                Err(error) => return Err(error),
+            }
+        }
         match put_below(added, from, number(rows[place].from), merged) {
             Ok(now) => from = now,
             Err(error) => return Err(error),
@@ -90,6 +102,48 @@ fn exchange(
     match put_rest(added, from, merged) {
         Ok(()) => Ok(found),
         Err(error) => Err(error),
+    }
+}
+
+/// The number of rows that start below each removed and each added one.
+fn quiet_rows(rows: &[Row], removed: &[Row], added: &[Row]) -> usize
+    requires rows { IsNonDecreasingBy start rows.now }
+    requires added { IsNonDecreasingBy start added.now }
+    ensures within { result ≤ length rows.now }
+    ensures below { (k : ℕ) (d : Row) → k < result
+        → AreFrom added.now 0 (start (slice_index_or rows.now k d)) }
+{
+    let quiet = rows_below(rows, added);
+    if removed.len() == 0 {
+        return quiet;
+    }
+    quiet.min(first_row(rows, number(removed[0].from)))
+}
+
+/// The number of rows that start below each row of a list.
+fn rows_below(rows: &[Row], list: &[Row]) -> usize
+    requires rows { IsNonDecreasingBy start rows.now }
+    requires list { IsNonDecreasingBy start list.now }
+    ensures within { result ≤ length rows.now }
+    ensures below { (k : ℕ) (d : Row) → k < result
+        → AreFrom list.now 0 (start (slice_index_or rows.now k d)) }
+{
+    if list.len() == 0 {
+        return rows.len();
+    }
+    first_row(rows, number(list[0].from))
+}
+
+/// Keeps the rows between two places.
+fn keep(rows: &[Row], first: usize, past: usize, merged: &mut Vec<Row>) -> Result<(), OutOfMemory>
+    requires order { first ≤ past }
+    requires within { past ≤ length rows.now }
+    ensures { OnOk result
+        (merged.new.items ≡ merged.old.items ++ take (past - first) (drop first rows.now)) }
+{
+    match merged.extend_from_slice(&rows[first..past]) {
+        Ok(()) => Ok(()),
+        Err(_) => Err(OutOfMemory),
     }
 }
 

@@ -197,6 +197,9 @@ pub ends_among : (rows : List Row) (nodes : List ℕ) (root : ℕ) (row : Row) �
 ends_among rows nodes root row is h =
     subst (λ (ns : List ℕ). Contains ns (end row)) (sym is) (suc h.0, (let l = h.1 in simp length-map (omega arith)), (get_or-map end rows h.0 row (end row) h.1 ∙ ap end h.2))
 
+pub root_among : (rows : List Row) (nodes : List ℕ) (root : ℕ) → nodes ≡ root ∷ map end rows → Contains nodes root
+root_among rows nodes root is = subst (λ (ns : List ℕ). Contains ns root) (sym is) (0, omega arith, refl)
+
 -- ---- a node that has a cost is named
 
 pub named_at : (labels : List Label) (n c : ℕ) → at labels n ≡ Some c → Contains (names labels) n
@@ -242,3 +245,54 @@ carry_into old marks nodes n h free = carry_at old marks nodes n h.0 h.1 h.2 fre
 
 pub rising_by : (nodes : List ℕ) (labels : List Label) → IsStrictlyIncreasing nodes → names labels ≡ nodes → IsRising labels
 rising_by nodes labels up e = rising_names (map unknown nodes) labels (e ∙ sym (names_unknown nodes)) (rising_unknown nodes up)
+
+-- ---- a label by its place
+
+pub named_place : (labels : List Label) (i : ℕ) (d : Label) → i < length (names labels) → (i < length labels) × ((get_or labels i d).node ≡ get_or (names labels) i 0)
+named_place labels i d h =
+    let in' : i < length labels = simp length-map at h in
+    (in', sym (get_or-map (λ (l : Label). l.node) labels i d 0 in'))
+
+pub one_label : (labels : List Label) → IsRising labels → (i j : ℕ) → i < length (names labels) → j < length (names labels) → get_or (names labels) i 0 ≡ get_or (names labels) j 0 → i ≡ j
+one_label labels rising i j in_i in_j e =
+    let d : Label = record { node = 0; cost = None } in
+    let at_i = named_place labels i d in_i in
+    let at_j = named_place labels j d in_j in
+    let node_i = at_i.1 in
+    let node_j = at_j.1 in
+    elim (cases_lt i j) [
+      | inl less ↦ let up = rising.below i j d less at_j.0 in absurd (omega arith)
+      | inr not_less ↦
+          elim (cases_lt j i) [
+            | inl more ↦ let up = rising.below j i d more at_i.0 in absurd (omega arith)
+            | inr not_more ↦ omega arith
+          ]
+    ]
+
+below_place : (labels : List Label) (i : ℕ) (d : Label) → IsRising labels → i < length labels → AllBelow labels i (get_or labels i d).node
+below_place labels i d rising in' k e h =
+    let up = rising.below k i e h in' in
+    let same = ap (λ (l : Label). l.node) (get_or_default labels i d e in') in
+    omega arith
+
+pub at_named : (labels : List Label) (i : ℕ) (d : Label) → IsRising labels → i < length (names labels) → at labels (get_or (names labels) i 0) ≡ (get_or labels i d).cost
+at_named labels i d rising h =
+    let p = named_place labels i d h in
+    at_place labels i (get_or (names labels) i 0) d p.0 (subst (λ (n : ℕ). AllBelow labels i n) p.1 (below_place labels i d rising p.0)) p.1
+
+pub set_named : (xs old : List Label) (i : ℕ) (v : Option ℕ) (l : Label) → xs ≡ old → IsRising xs → i < length (names old) → l ≡ get_or xs i l → IsSet xs old i l.node v
+set_named xs old i v l e rising h is =
+    let p = named_place xs i l (subst (λ (ls : List Label). i < length (names ls)) (sym e) h) in
+    let node : (get_or xs i l).node ≡ l.node = ap (λ (m : Label). m.node) (sym is) in
+    subst (λ (o : List Label). IsSet xs o i l.node v) e
+    (record {
+      in' = p.0;
+      rising = rising_names xs (set xs i (record { node = l.node; cost = v })) (names_set xs i l.node v l node p.0) rising;
+      names = names_set xs i l.node v l node p.0;
+      costs = at_set xs i l.node v l p.0 (subst (λ (n : ℕ). AllBelow xs i n) node (below_place xs i l rising p.0)) node;
+    })
+
+pub node_named_at : (xs old : List Label) (i : ℕ) (l : Label) → xs ≡ old → i < length (names old) → l ≡ get_or xs i l → l.node ≡ get_or (names old) i 0
+node_named_at xs old i l e h is =
+    let p = named_place xs i l (subst (λ (ls : List Label). i < length (names ls)) (sym e) h) in
+    ap (λ (m : Label). m.node) is ∙ p.1 ∙ ap (λ (ls : List Label). get_or (names ls) i 0) e

@@ -1,6 +1,6 @@
 -- What is explored over tight rows, those of which least walks are made, on the way to next hops. All of it own.
 
-use Rattle.std.specs.Prelude.{◌≡◌, ◌≢◌, ℕ, ◌+◌, ◌≤◌, ◌<◌, ◌==◌, ◌||◌, Bool, true, false, not, if◌then◌else◌, List, [], ◌∷◌, ◌++◌, ◌⊎◌, length, Some, is_some, slice_index_or}
+use Rattle.std.specs.Prelude.{◌≡◌, ◌≢◌, ℕ, ◌+◌, ◌≤◌, ◌<◌, ◌==◌, ◌||◌, Bool, true, false, not, if◌then◌else◌, List, [], ◌∷◌, ◌++◌, ◌⊎◌, length, Option, Some, is_some, slice_index_or}
 use Rattle.std.specs.List.{All, Contains, count_by}
 use Rattle.std.specs.List.Sorted.{IsStrictlyIncreasing, IsStrictlySortedBy}
 use Rattle.spf_tree.specs.declared.row.Row.{Row}
@@ -41,10 +41,13 @@ pub record AreReached (rows : List Row) (root : ℕ) (labels : List Label) (all 
   pub every : (walk : List Row) (node : ℕ) → Leads rows root labels all from walk node
       → Contains nodes node
 
+-- the metric is the difference of two costs
+abbrev pub LeadsBy : Option ℕ → Option ℕ → ℕ → Type 0
+LeadsBy first second metric = (c : ℕ) × (first ≡ Some c) × (second ≡ Some (c + metric))
+
 -- the metric leads from the node's label to the other's
 abbrev pub IsStep : List Label → ℕ → ℕ → ℕ → Type 0
-IsStep labels node to metric =
-    (c : ℕ) × (at labels node ≡ Some c) × (at labels to ≡ Some (c + metric))
+IsStep labels node to metric = LeadsBy (at labels node) (at labels to) metric
 
 -- the other node is added and marked, or need not be
 abbrev pub IsTouched : List Label → ℕ → ℕ → ℕ → ℕ → List Label → List ℕ → List Label → List ℕ

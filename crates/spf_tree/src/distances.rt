@@ -1,14 +1,16 @@
 //! Distances: the nodes that are reached, and their least costs.
 
-ghost use Rattle.std.specs.Prelude.{◌≡◌, ℕ, map, IfOk};
+ghost use Rattle.std.specs.Prelude.{◌≡◌, ℕ, Some, map, IfOk};
+ghost use Rattle.std.specs.List.{Contains};
 ghost use Rattle.std.specs.List.Sorted.{IsStrictlyIncreasing};
 ghost use Rattle.spf_tree.specs.Nodes.{node_number};
-ghost use Rattle.spf_tree.specs.Labels.{at};
+ghost use Rattle.spf_tree.specs.Labels.{at, names};
 ghost use Rattle.spf_tree.specs.Distances.{cost_at, reached};
 
 use crate::labels::Labels;
 use crate::node::number;
 use isis_base::{NodeId, OutOfMemory};
+use std::alloc::Global;
 use std::marker::Model;
 
 /// The nodes that are reached, each with its cost. Contracts see it as the list of their numbers and costs, in order of
@@ -58,5 +60,25 @@ impl Distances {
     {
         labels.rising();
         Distances { labels }
+    }
+
+    /// The costs of these nodes alone.
+    pub fn of_nodes(&self, alloc: Global, nodes: &[u64]) -> Result<Labels, OutOfMemory>
+        requires { IsStrictlyIncreasing nodes.now }
+        ensures names { IfOk result (λ labels. names labels ≡ nodes.now) }
+        ensures from { IfOk result (λ labels. (node cost : ℕ) → at labels node ≡ Some cost
+            → cost_at self.now node ≡ Some cost) }
+        ensures into { IfOk result (λ labels. (node : ℕ) → Contains nodes.now node
+            → at labels node ≡ cost_at self.now node) }
+    {
+        let labels = self.labels();
+        let marks = match labels.blank(alloc) {
+            Ok(marks) => marks,
+            Err(error) => return Err(error),
+        };
+        match Labels::carried(alloc, nodes, labels, &marks) {
+            Ok(costs) => Ok(costs),
+            Err(error) => Err(error),
+        }
     }
 }

@@ -7,8 +7,9 @@ ghost use Rattle.spf_tree.specs.declared.row.Row.{Row};
 ghost use Rattle.spf_tree.specs.Walks.{start, end};
 ghost use Rattle.spf_tree.specs.Search.{IsBounded};
 
+use crate::indexed::IndexedRows;
 use crate::node::number;
-use crate::nodes::{ends, have_ends, in_order};
+use crate::nodes::have_ends;
 use crate::row::Row;
 use isis_base::{NodeId, OutOfMemory};
 use std::alloc::Global;
@@ -17,20 +18,16 @@ use std::marker::Model;
 /// The rows of a level that may be walked, and the root. Contracts see it as both.
 #[derive(Drop, Debug)]
 pub struct Graph {
-    pub(crate) rows: Vec<Row>,
-    pub(crate) nodes: Vec<u64>,
-    pub(crate) root: NodeId,
+    indexed: IndexedRows,
+    root: NodeId,
 }
 
 impl Model for Graph {
-    ghost use Rattle.spf_tree.specs.Search.{IsSearchKept};
     ghost use Rattle.spf_tree.specs.Graphs.{GraphOf};
 
     ghost Value = { GraphOf };
 
-    ghost view = { λ g. record { rows = g.rows.items; root = g.root } };
-
-    ghost invariant = { λ g. IsSearchKept g.rows.items g.nodes.items };
+    ghost view = { λ g. record { rows = g.indexed.rows; root = g.root } };
 }
 
 impl Graph {
@@ -38,7 +35,7 @@ impl Graph {
     pub fn rows(&self) -> &[Row]
         ensures { result.now ≡ self.now.rows }
     {
-        self.rows.as_slice()
+        self.indexed.rows()
     }
 
     /// The root.
@@ -52,14 +49,19 @@ impl Graph {
     pub fn copy(&self) -> Result<Graph, OutOfMemory>
         ensures { IfOk result (λ copy. copy ≡ self.now) }
     {
-        let rows = self.rows.clone()?;
-        let nodes = self.nodes.clone()?;
+        let indexed = self.indexed.copy()?;
         Ok(Graph {
-            rows,
-            nodes,
+            indexed,
             root: self.root,
         })
     }
+}
+
+/// The rows with what is found of them once.
+pub fn indexed(graph: &Graph) -> &IndexedRows
+    ensures { result.now.rows ≡ graph.now.rows }
+{
+    &graph.indexed
 }
 
 /// The rows in order of their starts; there are fewer than 2 ^ 32, of metrics below 2 ^ 32.
@@ -68,7 +70,8 @@ pub fn rows_in_order(graph: &Graph) -> &[Row]
     ensures sorted { IsNonDecreasingBy start result.now }
     ensures bounded { IsBounded result.now }
 {
-    graph.rows.as_slice()
+    graph.indexed.kept();
+    graph.indexed.rows()
 }
 
 /// The nodes in order, among them the end of each row.
@@ -76,7 +79,8 @@ pub fn nodes_in_order(graph: &Graph) -> &[u64]
     ensures rising { IsStrictlyIncreasing result.now }
     ensures ends { (row : Row) → Contains graph.now.rows row → Contains result.now (end row) }
 {
-    graph.nodes.as_slice()
+    graph.indexed.kept();
+    graph.indexed.nodes()
 }
 
 /// The graph of rows in order.
@@ -85,17 +89,14 @@ pub fn graph_of(alloc: Global, rows: Vec<Row>, root: NodeId) -> Result<Graph, Ou
     requires bounded { IsBounded rows.items }
     ensures { IfOk result (λ graph. (graph.rows ≡ rows.items) × (graph.root ≡ root)) }
 {
-    match ends(alloc, rows.as_slice(), number(root)) {
-        Ok(nodes) => {
-            let nodes = in_order(nodes);
-            Ok(Graph { rows, nodes, root })
-        }
+    match IndexedRows::new(alloc, rows, number(root)) {
+        Ok(indexed) => Ok(Graph { indexed, root }),
         Err(error) => Err(error),
     }
 }
 
 /// The graph of rows in order each of which ends where a row of this graph does, or an added one. The nodes are put in
-/// order anew only where an added row ends at a new one.
+/// order anew, and the ends searched, only where an added row ends at a new node.
 pub fn with_rows(
     alloc: Global,
     graph: &Graph,
@@ -110,12 +111,12 @@ pub fn with_rows(
     ensures { IfOk result (λ g. (g.rows ≡ rows.items) × (g.root ≡ graph.now.root)) }
 {
     let root = graph.root;
-    let held = graph.nodes.as_slice();
-    if !have_ends(held, added) {
+    graph.indexed.kept();
+    if !have_ends(graph.indexed.nodes(), added) {
         return graph_of(alloc, rows, root);
     }
-    match Vec::from_slice(alloc, held) {
-        Ok(nodes) => Ok(Graph { rows, nodes, root }),
-        Err(_) => Err(OutOfMemory),
+    match graph.indexed.with_rows(alloc, rows) {
+        Ok(indexed) => Ok(Graph { indexed, root }),
+        Err(error) => Err(error),
     }
 }

@@ -7,9 +7,10 @@ ghost use Rattle.spf_tree.specs.Labels.{at};
 ghost use Rattle.std.specs.Prelude.{None, IfOk, map};
 ghost use Rattle.std.specs.List.Sorted.{IsStrictlyIncreasing};
 ghost use Rattle.spf_tree.specs.Labels.{IsPlace, IsRising, carry, names};
+ghost use Rattle.spf_tree.specs.Places.{node_at};
 
 use crate::label::Label;
-use crate::nodes::{unknown_labels, with_node};
+use crate::nodes::unknown_labels;
 use isis_base::OutOfMemory;
 use std::alloc::Global;
 use std::marker::Model;
@@ -91,7 +92,10 @@ impl Labels {
         ensures { IfOk result (λ labels. labels ≡ map (carry old.now marks.now) nodes.now) }
     {
         old.rising();
-        let mut items = Vec::new(alloc);
+        let mut items = match Vec::with_capacity(alloc, nodes.len()) {
+            Ok(items) => items,
+            Err(_) => return Err(OutOfMemory),
+        };
         let mut at = 0;
         for place in 0..nodes.len() {
             let node = nodes[place];
@@ -109,32 +113,29 @@ impl Labels {
         ensures names { IfOk result (λ labels. names labels ≡ names self.now) }
         ensures none { IfOk result (λ labels. (q : ℕ) → at labels q ≡ None) }
     {
-        let mut nodes = Vec::new(alloc);
+        let mut items = match Vec::with_capacity(alloc, self.items.len()) {
+            Ok(items) => items,
+            Err(_) => return Err(OutOfMemory),
+        };
         for label in self.items.as_slice() {
-            match nodes.push(label.node) {
+            match items.push(Label {
+                node: label.node,
+                cost: None,
+            }) {
                 Ok(()) => {}
                 Err(_) => return Err(OutOfMemory),
             }
         }
-        match unknown_labels(alloc, nodes.as_slice()) {
-            Ok(items) => Ok(Labels { items }),
-            Err(error) => Err(error),
-        }
+        Ok(Labels { items })
     }
 
-    /// A label without cost for each node, and for one more unless it is among them.
-    pub fn unlabelled(alloc: Global, nodes: &[u64], root: u64) -> Result<Labels, OutOfMemory>
+    /// A label without cost for each node.
+    pub fn unlabelled(alloc: Global, nodes: &[u64]) -> Result<Labels, OutOfMemory>
         requires { IsStrictlyIncreasing nodes.now }
-        ensures root { IfOk result (λ labels. Contains (names labels) root) }
-        ensures rest { IfOk result (λ labels. (node : ℕ) → Contains nodes.now node
-            → Contains (names labels) node) }
+        ensures names { IfOk result (λ labels. names labels ≡ nodes.now) }
         ensures none { IfOk result (λ labels. (node : ℕ) → at labels node ≡ None) }
     {
-        let all = match with_node(alloc, nodes, root) {
-            Ok(all) => all,
-            Err(error) => return Err(error),
-        };
-        match unknown_labels(alloc, all.as_slice()) {
+        match unknown_labels(alloc, nodes) {
             Ok(items) => Ok(Labels { items }),
             Err(error) => Err(error),
         }
@@ -185,6 +186,28 @@ impl Labels {
         ensures costs { (q : ℕ) → at self.new q ≡ (if q == node then Some cost else at self.old q) }
     {
         let place = place(self.items.as_slice(), node);
+        self.items[place] = Label {
+            node,
+            cost: Some(cost),
+        };
+    }
+
+    /// The cost of the node at a place.
+    pub fn get_at_place(&self, place: usize) -> Option<u64>
+        requires { place < length (names self.now) }
+        ensures { result ≡ at self.now (node_at (names self.now) place) }
+    {
+        self.items[place].cost
+    }
+
+    /// Sets the cost of the node at a place.
+    pub fn set_at_place(&mut self, place: usize, cost: u64)
+        requires { place < length (names self.old) }
+        ensures names { names self.new ≡ names self.old }
+        ensures costs { (q : ℕ) → at self.new q
+            ≡ (if q == node_at (names self.old) place then Some cost else at self.old q) }
+    {
+        let node = self.items[place].node;
         self.items[place] = Label {
             node,
             cost: Some(cost),

@@ -4,30 +4,41 @@
 //! (RFC 5305 3), of which the greatest is walked by nobody. Costs are sums in 64 bits. Own: walks with circles of metric
 //! 0 count among the least, so all next hops over all of them are told; nothing here speaks of levels or of LSPs.
 //!
+//! Nodes stand in order, and a search tells them by their places: costs, the rows of a node and the end of a row are then
+//! read at a place, and not looked up.
+//!
 //! - `row.rt`: the rows; `node.rt`, `nodes.rt`: nodes as numbers, in order
 //! - `choice.rt`: which rows may be walked; `graph.rt`: the graph of them
+//! - `edge.rt`: rows by places; `edges.rt`: the end of each row; `spans.rt`: the rows of each node; `indexed.rt`: rows with
+//!   their nodes and ends
 //! - `label.rt`, `labels.rt`: costs known so far; `queue.rt`: offers that wait; `search.rt`: the search
 //! - `distances.rt`: what a search ends with; `scratch.rt`: distances from scratch
 //! - `reach.rt`: what least walks lead to; `next.rt`: next hops of one target; `table.rt`: of all targets at once
 //! - `hops.rt`: lists of systems
+//! - `offers.rt`: offers by numbers of nodes, for the crate that repairs distances
 //! - `laws.rt`: what follows for all rows
 #![tactic(auto)]
 
 mod choice;
 mod distances;
+mod edge;
+mod edges;
 mod graph;
 mod hops;
+mod indexed;
 mod label;
 mod labels;
 pub mod laws;
 mod next;
 mod node;
 mod nodes;
+mod offers;
 mod queue;
 mod reach;
 mod row;
 mod scratch;
 mod search;
+mod spans;
 mod table;
 
 /// Parts of the search, for the crate that repairs distances.
@@ -38,9 +49,9 @@ pub mod parts {
     pub use crate::labels::Labels;
     pub use crate::node::number;
     pub use crate::nodes::with_node;
+    pub use crate::offers::{first_row, offer, offer_rows};
     pub use crate::queue::Queue;
     pub use crate::reach::is_step;
-    pub use crate::search::{first_row, offer, offer_rows};
 }
 
 pub use choice::usable;

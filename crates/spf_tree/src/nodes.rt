@@ -44,7 +44,7 @@ pub fn in_order(mut nodes: Vec<u64>) -> Vec<u64>
 }
 
 /// Whether the node is among them.
-fn is_among(nodes: &[u64], node: u64) -> bool
+pub fn is_among(nodes: &[u64], node: u64) -> bool
     ensures { OnTrue result (Contains nodes.now node) }
 {
     if let Ok(_) = nodes.binary_search(&node) {
@@ -91,7 +91,10 @@ pub fn with_node(alloc: Global, nodes: &[u64], node: u64) -> Result<Vec<u64>, Ou
 pub fn unknown_labels(alloc: Global, nodes: &[u64]) -> Result<Vec<Label>, OutOfMemory>
     ensures { IfOk result (λ v. v.items ≡ map unknown nodes.now) }
 {
-    let mut labels = Vec::new(alloc);
+    let mut labels = match Vec::with_capacity(alloc, nodes.len()) {
+        Ok(labels) => labels,
+        Err(_) => return Err(OutOfMemory),
+    };
     for node in nodes {
         match labels.push(Label {
             node: *node,

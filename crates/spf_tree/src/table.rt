@@ -2,22 +2,26 @@
 
 ghost use Rattle.std.specs.Prelude.{◌≡◌, ◌≤◌, ◌<◌, ◌++◌, ◌↔◌, ℕ, length, map, slice_index_or, IfOk, OnOk};
 ghost use Rattle.std.specs.List.{Contains};
-ghost use Rattle.std.specs.List.Sorted.{IsNonDecreasingBy, IsStrictlyIncreasing, IsStrictlySortedBy};
+ghost use Rattle.std.specs.List.Sorted.{IsStrictlyIncreasing, IsStrictlySortedBy};
 ghost use Rattle.spf_tree.specs.Nodes.{node_number};
-ghost use Rattle.spf_tree.specs.Walks.{start, AreLeast};
-ghost use Rattle.spf_tree.specs.Labels.{at};
+ghost use Rattle.spf_tree.specs.Walks.{AreLeast};
+ghost use Rattle.spf_tree.specs.Labels.{at, names};
+ghost use Rattle.spf_tree.specs.Places.{AreSpans};
 ghost use Rattle.spf_tree.specs.Pairs.{pair_cmp};
 ghost use Rattle.spf_tree.specs.Distances.{AreDistances};
 ghost use Rattle.spf_tree.specs.NextHops.{IsNextHop};
 ghost use Rattle.spf_tree.specs.Exploring.{IsTable, IsTabled, AreTabled, beside};
 
 use crate::distances::Distances;
-use crate::graph::{Graph, rows_in_order};
+use crate::edge::Span;
+use crate::graph::{Graph, indexed};
 use crate::hops::Hops;
+use crate::indexed::IndexedRows;
 use crate::labels::Labels;
 use crate::node::{is_system, number, system_of};
+use crate::nodes::is_among;
 use crate::reach::explore;
-use crate::row::Row;
+use crate::spans::spans_of;
 use isis_base::{NodeId, OutOfMemory};
 use std::alloc::Global;
 use std::marker::Model;
@@ -38,14 +42,18 @@ fn add_reached(reached: &[u64], hop: u64, table: &mut Vec<(u64, u64)>) -> Result
 /// Adds each node to which tight rows lead from a system other than the root, beside it.
 fn table_hop(
     alloc: Global,
-    rows: &[Row],
+    indexed: &IndexedRows,
+    spans: &[Span],
     labels: &Labels,
     root: u64,
     hop: u64,
     table: &mut Vec<(u64, u64)>,
 ) -> Result<(), OutOfMemory>
-    requires { IsNonDecreasingBy start rows.now }
-    ensures { OnOk result (IsTabled rows.now root labels.now hop table.old.items table.new.items) }
+    requires names { names labels.now ≡ indexed.now.nodes }
+    requires spans { AreSpans indexed.now.nodes indexed.now.rows spans.now
+        (length indexed.now.nodes) }
+    requires root { Contains indexed.now.nodes root }
+    ensures { OnOk result (IsTabled indexed.now.rows root labels.now hop table.old.items table.new.items) }
 {
     if hop == root {
         return Ok(());
@@ -53,7 +61,7 @@ fn table_hop(
     if !is_system(hop) {
         return Ok(());
     }
-    let reached = match explore(alloc, rows, labels, root, true, hop) {
+    let reached = match explore(alloc, indexed, spans, labels, root, true, hop) {
         Ok(reached) => reached,
         Err(error) => return Err(error),
     };
@@ -66,17 +74,29 @@ fn table_hop(
 /// The nodes to which tight rows lead from the systems of a list, beside them.
 fn table_all(
     alloc: Global,
-    rows: &[Row],
+    indexed: &IndexedRows,
+    spans: &[Span],
     labels: &Labels,
     root: u64,
     plain: &[u64],
 ) -> Result<Vec<(u64, u64)>, OutOfMemory>
-    requires { IsNonDecreasingBy start rows.now }
-    ensures { IfOk result (λ table. AreTabled rows.now root labels.now plain.now table.items) }
+    requires names { names labels.now ≡ indexed.now.nodes }
+    requires spans { AreSpans indexed.now.nodes indexed.now.rows spans.now
+        (length indexed.now.nodes) }
+    requires root { Contains indexed.now.nodes root }
+    ensures { IfOk result (λ table. AreTabled indexed.now.rows root labels.now plain.now table.items) }
 {
     let mut table = Vec::new(alloc);
     for place in 0..plain.len() {
-        match table_hop(alloc, rows, labels, root, plain[place], &mut table) {
+        match table_hop(
+            alloc,
+            indexed,
+            spans,
+            labels,
+            root,
+            plain[place],
+            &mut table,
+        ) {
             Ok(()) => {}
             Err(error) => return Err(error),
         }
@@ -176,8 +196,39 @@ pub fn all_next_hops(
     ensures { IfOk result (λ table. (target hop : ℕ)
         → Contains table (target, hop) ↔ IsNextHop graph.now.rows (node_number root) target hop) }
 {
-    let rows = rows_in_order(graph);
-    match pairs(alloc, rows, distances.labels(), number(root)) {
+    let rows = indexed(graph);
+    let start = number(root);
+    if is_among(rows.nodes(), start) {
+        return table_from(alloc, rows, distances, start);
+    }
+    match rows.with_node(alloc, start) {
+        Ok(rows) => table_from(alloc, &rows, distances, start),
+        Err(error) => Err(error),
+    }
+}
+
+/// The next hops of all targets from one of the nodes.
+fn table_from(
+    alloc: Global,
+    rows: &IndexedRows,
+    distances: &Distances,
+    root: u64,
+) -> Result<HopTable, OutOfMemory>
+    requires root { Contains rows.now.nodes root }
+    requires distances { AreDistances rows.now.rows root distances.now }
+    ensures { IfOk result (λ table. (target hop : ℕ)
+        → Contains table (target, hop) ↔ IsNextHop rows.now.rows root target hop) }
+{
+    rows.kept();
+    let labels = match distances.of_nodes(alloc, rows.nodes()) {
+        Ok(labels) => labels,
+        Err(error) => return Err(error),
+    };
+    let spans = match spans_of(alloc, rows.nodes(), rows.rows()) {
+        Ok(spans) => spans,
+        Err(error) => return Err(error),
+    };
+    match pairs(alloc, rows, spans.as_slice(), &labels, root) {
         Ok(pairs) => Ok(HopTable { pairs }),
         Err(error) => Err(error),
     }
@@ -186,21 +237,25 @@ pub fn all_next_hops(
 /// Each node beside each of its next hops, as numbers, in order.
 fn pairs(
     alloc: Global,
-    rows: &[Row],
+    indexed: &IndexedRows,
+    spans: &[Span],
     labels: &Labels,
     root: u64,
 ) -> Result<Vec<(u64, u64)>, OutOfMemory>
-    requires sorted { IsNonDecreasingBy start rows.now }
-    requires least { AreLeast rows.now root (at labels.now) }
+    requires names { names labels.now ≡ indexed.now.nodes }
+    requires spans { AreSpans indexed.now.nodes indexed.now.rows spans.now
+        (length indexed.now.nodes) }
+    requires root { Contains indexed.now.nodes root }
+    requires least { AreLeast indexed.now.rows root (at labels.now) }
     ensures table { IfOk result (λ table. IsTable table.items) }
     ensures hops { IfOk result (λ table. (target hop : ℕ)
-        → Contains table.items (target, hop) ↔ IsNextHop rows.now root target hop) }
+        → Contains table.items (target, hop) ↔ IsNextHop indexed.now.rows root target hop) }
 {
-    let plain = match explore(alloc, rows, labels, root, false, root) {
+    let plain = match explore(alloc, indexed, spans, labels, root, false, root) {
         Ok(plain) => plain,
         Err(error) => return Err(error),
     };
-    match table_all(alloc, rows, labels, root, plain.as_slice()) {
+    match table_all(alloc, indexed, spans, labels, root, plain.as_slice()) {
         Ok(table) => Ok(pairs_in_order(table)),
         Err(error) => Err(error),
     }

@@ -1,4 +1,4 @@
-use Rattle.std.proofs.Common.{◌≡◌, ◌∙◌, ℕ, List, ap, map}
+use Rattle.std.proofs.Common.{◌≡◌, ◌∙◌, List, ap, map, take}
 use Rattle.std.proofs.lemmas.List.{take_all}
 use Rattle.spf_tree.specs.declared.label.Label.{Label}
 use Rattle.spf_tree.specs.Labels.{at}
@@ -8,19 +8,18 @@ use Rattle.spf_tree.proofs.labels.Labels.blank.Goals as goal
 
 pub invariant_of-result : goal.invariant_of-result
 invariant_of-result c =
-    let is = c.in-Ok-unknown_labels.ensures ∙ ap (λ (ns : List ℕ). map unknown ns) c.as_slice.ensures.value in
     let all = take_all c.loop-label.label-index c.as_slice-label-items.result.now c.loop-label-test.false in
-    let same : names c.in-Ok-unknown_labels.items.items ≡ names c.self.inside.items.items =
-    ap names is ∙ names_unknown c.loop-label.nodes.items ∙ c.loop-label.invariant ∙ ap names (all ∙ c.as_slice-label-items.ensures.value) in
-    rising_names c.self.inside.items.items c.in-Ok-unknown_labels.items.items same c.self.invariant
+    let is : c.loop-label.items.items ≡ map unknown (names c.self.inside.items.items) =
+    c.loop-label.invariant ∙ ap (λ (ls : List Label). map unknown (names ls)) (all ∙ c.as_slice-label-items.ensures.value) in
+    rising_names c.self.inside.items.items c.loop-label.items.items (ap names is ∙ names_unknown (names c.self.inside.items.items)) c.self.invariant
 
-pub returns-in-Ok-unknown_labels-clause-names : goal.returns-in-Ok-unknown_labels-clause-names
-returns-in-Ok-unknown_labels-clause-names c =
-    let is = c.in-Ok-unknown_labels.ensures ∙ ap (λ (ns : List ℕ). map unknown ns) c.as_slice.ensures.value in
+pub returns-clause-names : goal.returns-clause-names
+returns-clause-names c =
     let all = take_all c.loop-label.label-index c.as_slice-label-items.result.now c.loop-label-test.false in
-    ap names is ∙ names_unknown c.loop-label.nodes.items ∙ c.loop-label.invariant ∙ ap names (all ∙ c.as_slice-label-items.ensures.value ∙ c.self.view_is)
+    let is : c.loop-label.items.items ≡ map unknown (names c.args.self.now) =
+    c.loop-label.invariant ∙ ap (λ (ls : List Label). map unknown (names ls)) (all ∙ c.as_slice-label-items.ensures.value ∙ c.self.view_is) in
+    ap names is ∙ names_unknown (names c.args.self.now)
 
-pub returns-in-Ok-unknown_labels-clause-none : goal.returns-in-Ok-unknown_labels-clause-none
-returns-in-Ok-unknown_labels-clause-none c =
-    let is = c.in-Ok-unknown_labels.ensures ∙ ap (λ (ns : List ℕ). map unknown ns) c.as_slice.ensures.value in
-    λ q. ap (λ (ls : List Label). at ls q) is ∙ at_unknown c.loop-label.nodes.items q
+pub returns-clause-none : goal.returns-clause-none
+returns-clause-none c =
+    λ q. ap (λ (ls : List Label). at ls q) c.loop-label.invariant ∙ at_unknown (names (take c.loop-label.label-index c.as_slice-label-items.result.now)) q

@@ -1,0 +1,116 @@
+//! Rows as edges: the place of each row's end.
+
+ghost use Rattle.std.specs.Prelude.{◌≡◌, ◌≤◌, ◌<◌, ℕ, length, slice_index_or, IfOk};
+ghost use Rattle.std.specs.Bool.{OnTrue};
+ghost use Rattle.std.specs.List.{Contains};
+ghost use Rattle.std.specs.List.Sorted.{IsStrictlyIncreasing};
+ghost use Rattle.spf_tree.specs.declared.row.Row.{Row};
+ghost use Rattle.spf_tree.specs.Walks.{end};
+ghost use Rattle.spf_tree.specs.Places.{AreEdges, node_at};
+
+use crate::edge::Edge;
+use crate::node::number;
+use crate::row::Row;
+use isis_base::OutOfMemory;
+use std::alloc::Global;
+
+/// The place of a row's end, and the place among the old rows where the next row is looked for.
+#[derive(Clone, Copy)]
+struct Found {
+    place: usize,
+    next: usize,
+}
+
+/// The edge of each row. Rows that follow each other as old ones do have the places of those; the others are searched.
+pub fn edges_of(
+    alloc: Global,
+    nodes: &[u64],
+    rows: &[Row],
+    old: &[Row],
+    known: &[Edge],
+) -> Result<Vec<Edge>, OutOfMemory>
+    requires rising { IsStrictlyIncreasing nodes.now }
+    requires ends { (row : Row) → Contains rows.now row → Contains nodes.now (end row) }
+    requires known { AreEdges nodes.now old.now known.now (length old.now) }
+    ensures { IfOk result (λ edges. AreEdges nodes.now rows.now edges.items (length rows.now)) }
+{
+    let mut edges = match Vec::with_capacity(alloc, rows.len()) {
+        Ok(edges) => edges,
+        Err(_) => return Err(OutOfMemory),
+    };
+    let mut from = 0;
+    for place in 0..rows.len() {
+        let row = &rows[place];
+        let found = find(nodes, row, old, known, from);
+        from = found.next;
+        match edges.push(Edge {
+            place: found.place,
+            metric: row.metric,
+        }) {
+            Ok(()) => {}
+            Err(_) => return Err(OutOfMemory),
+        }
+    }
+    Ok(edges)
+}
+
+/// The place of a row's end, by the old row at a place or soon behind it where that ends at the same node.
+fn find(nodes: &[u64], row: &Row, old: &[Row], known: &[Edge], from: usize) -> Found
+    requires rising { IsStrictlyIncreasing nodes.now }
+    requires end { Contains nodes.now (end row.now) }
+    requires known { AreEdges nodes.now old.now known.now (length old.now) }
+    ensures within { result.place < length nodes.now }
+    ensures node { node_at nodes.now result.place ≡ end row.now }
+{
+    let end = number(row.to);
+    let mut near = from;
+    if !ends_at(old, near, end) {
+        near = catch_up(old, near, row);
+    }
+    if ends_at(old, near, end) {
+        return Found {
+            place: known[near].place,
+            next: near + 1,
+        };
+    }
+    Found {
+        place: place_of(nodes, end),
+        next: near,
+    }
+}
+
+/// Whether there is a row at a place and ends at the node.
+fn ends_at(rows: &[Row], place: usize, node: u64) -> bool
+    ensures { OnTrue result ((place < length rows.now) × ((d : Row)
+        → end (slice_index_or rows.now place d) ≡ node)) }
+{
+    place < rows.len() && number(rows[place].to) == node
+}
+
+/// The place of the first old row, from a place on, that the row isn't behind.
+fn catch_up(old: &[Row], from: usize, row: &Row) -> usize {
+    let mut place = from;
+    while place < old.len() && is_before(&old[place], row) {
+        place += 1;
+    }
+    place
+}
+
+/// Whether a row's ends come before those of another.
+fn is_before(a: &Row, b: &Row) -> bool {
+    let (first, second) = (number(a.from), number(b.from));
+    first < second || first == second && number(a.to) < number(b.to)
+}
+
+/// The place of a node that is among the nodes.
+pub fn place_of(nodes: &[u64], node: u64) -> usize
+    requires rising { IsStrictlyIncreasing nodes.now }
+    requires there { Contains nodes.now node }
+    ensures within { result < length nodes.now }
+    ensures node { node_at nodes.now result ≡ node }
+{
+    match nodes.binary_search(&node) {
+        Ok(place) => place,
+        Err(place) => place,
+    }
+}
