@@ -10,7 +10,9 @@
 //! - `lent.rt`: what of a router routes look at; `level_graph.rt`: the graph of a level
 //! - `systems.rt`: the systems that a level reaches; `candidates.rt`: what they and the router tell
 //! - `differences.rt`: the rows that two graphs don't share
+//! - `view.rt`: the same where one node's LSPs are read aside; `near.rt`: the rows that start or end at a node
 //! - `following.rt`: the value that follows a router's databases; `leaks.rt`: what it leaks
+//! - `ahead.rt`: the value that will follow once one node tells other LSPs; `same.rt`: candidates compared
 //! - `laws.rt`: the plain programs of the definitions are what the routes say
 #![tactic(auto)]
 
