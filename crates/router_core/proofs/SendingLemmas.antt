@@ -32,8 +32,8 @@ use Rattle.lsp_store.specs.declared.entry.Entry.{Entry}
 use Rattle.flag_sync.specs.declared.flag_row.FlagRow.{FlagRow}
 use Rattle.flag_sync.specs.FlagRows.{cell_of}
 use Rattle.flag_sync.specs.Heard.{entries_of}
-use Rattle.snp_exchange.specs.declared.csnp.Piece.{Piece}
-use Rattle.snp_exchange.specs.Pieces.{sent, lists_of}
+use Rattle.snp_exchange.specs.PieceLists.{PieceSaid, said_sent}
+use Rattle.snp_exchange.specs.Pieces.{lists_of}
 use Rattle.pdu_sender.specs.declared.sender.Sender.{Sender}
 use Rattle.pdu_sender.specs.Sends.{Sends}
 use Rattle.router_core.specs.Sending.{config_of, circuit_of, octets_of, all_octets, MaySend, hellos_due, csnps_due, psnps_due, level_due, open_due, all_due}
@@ -107,21 +107,21 @@ entries-in (Csnp level start end entries ∷ list) = entries
 entries-in (Psnp level entries ∷ list) = entries
 
 -- and CSNPs of those
-pub few-set : (level : Level) (items : List Piece) (start : ℕ) (ps : List (List SnpEntry)) → sent level items ≡ csnps level start ps → AllByRecursion (λ (p : List SnpEntry). length p ≤ 75) ps → AllByRecursion (λ (piece : Piece). length piece.entries ≤ 75) items
-few-set level [] start ps e a = tt
-few-set level (x ∷ items) start [] e a = cc
-few-set level (x ∷ items) start (p ∷ []) e a =
+pub few-said : (level : Level) (items : List PieceSaid) (start : ℕ) (ps : List (List SnpEntry)) → said_sent level items ≡ csnps level start ps → AllByRecursion (λ (p : List SnpEntry). length p ≤ 75) ps → AllByRecursion (λ (piece : PieceSaid). length piece.entries ≤ 75) items
+few-said level [] start ps e a = tt
+few-said level (x ∷ items) start [] e a = cc
+few-said level (x ∷ items) start (p ∷ []) e a =
     let h = a.0 in
     let n = length-entries x.entries in
     let k : entries_of x.entries ≡ p = ap entries-in e in
     let m : length (entries_of x.entries) ≡ length p = ap length k in
-    (omega (arith, h, n, m), few-set level items start [] (ap (drop 1) e) tt)
-few-set level (x ∷ items) start (p ∷ q ∷ rest) e a =
+    (omega (arith, h, n, m), few-said level items start [] (ap (drop 1) e) tt)
+few-said level (x ∷ items) start (p ∷ q ∷ rest) e a =
     let h = a.0 in
     let n = length-entries x.entries in
     let k : entries_of x.entries ≡ p = ap entries-in e in
     let m : length (entries_of x.entries) ≡ length p = ap length k in
-    (omega (arith, h, n, m), few-set level items (last_id p + 1) (q ∷ rest) (ap (drop 1) e) a.1)
+    (omega (arith, h, n, m), few-said level items (last_id p + 1) (q ∷ rest) (ap (drop 1) e) a.1)
 
 pub all-append : (sender : Sender) (xs ys : List Sent) → all_octets sender (xs ++ ys) ≡ all_octets sender xs ++ all_octets sender ys
 all-append sender [] ys = refl

@@ -21,10 +21,13 @@ use flag_sync::{Book, FlagRow};
 use isis_base::{Level, LspEntry, OutOfMemory};
 use lsp_store::Entry;
 use pdu_sender::{Sender, csnp, lsp, psnp};
-use snp_exchange::{Entries, Piece, csnp_set, psnp_lists};
+use snp_exchange::{Entries, EntryWalk, PieceWalk, csnp_pieces, psnp_lists};
 use std::alloc::Global;
 
-/// Adds the CSNP set of a book (ISO 10589 7.3.15.3).
+/// The most entries of a CSNP.
+const MOST: usize = 75;
+
+/// Adds the CSNP set of a book, piece by piece (ISO 10589 7.3.15.3).
 pub(crate) fn put_csnps(
     out: &mut Datagrams,
     alloc: Global,
@@ -37,51 +40,56 @@ pub(crate) fn put_csnps(
     ensures { OnOk result (out.new ≡ out.old
         ++ all_octets sender.now (model.csnp_set level (book_of book.now))) }
 {
-    let set = csnp_set(alloc, book)?;
-    put_set(out, alloc, sender, level, set.as_slice())
-}
-
-/// Adds CSNPs.
-fn put_set(
-    out: &mut Datagrams,
-    alloc: Global,
-    sender: &Sender<'_>,
-    level: Level,
-    set: &[Piece],
-) -> Result<(), OutOfMemory>
-    requires here { 1 ≤ sender.now.circuit }
-    requires few { AllByRecursion (λ piece. length piece.entries ≤ 75) set.now }
-    ensures { OnOk result (out.new ≡ out.old
-        ++ all_octets sender.now (pieces.sent level set.now)) }
-{
-    let mut left = set;
-    while let [piece, more @ ..] = left {
-        match put_piece(out, alloc, sender, level, piece) {
+    let mut pieces = csnp_pieces(book);
+    let mut room = match Vec::with_capacity(alloc, MOST) {
+        Ok(room) => room,
+        Err(_) => return Err(OutOfMemory),
+    };
+    while let Some(piece) = pieces.next() {
+        match put_piece(out, alloc, sender, level, piece, &mut room) {
             Ok(()) => {}
             Err(fault) => return Err(fault),
         }
-        left = more;
     }
     Ok(())
 }
 
-/// Adds a CSNP.
+/// Adds a CSNP. Its entries go through the room, which is used again.
 fn put_piece(
     out: &mut Datagrams,
     alloc: Global,
     sender: &Sender<'_>,
     level: Level,
-    piece: &Piece,
+    piece: PieceWalk<'_>,
+    room: &mut Vec<LspEntry>,
 ) -> Result<(), OutOfMemory>
     requires here { 1 ≤ sender.now.circuit }
-    requires few { length piece.now.entries ≤ 75 }
+    requires few { length piece.entries ≤ 75 }
     ensures { OnOk result (out.new ≡ out.old ++ octets_of sender.now (sent.Csnp level
-        (lsp_number piece.now.start) (lsp_number piece.now.end) (entries_of piece.now.entries))
-        ∷ []) }
+        (lsp_number piece.entry.start) (lsp_number piece.entry.end)
+        (entries_of piece.entry.entries)) ∷ []) }
 {
-    let entries = piece.entries.as_slice();
-    let octets = csnp(alloc, sender, level, piece.start, piece.end, entries)?;
+    let (start, end) = (piece.start, piece.end);
+    match fill(room, piece.entries) {
+        Ok(()) => {}
+        Err(fault) => return Err(fault),
+    }
+    let octets = csnp(alloc, sender, level, start, end, room.as_slice())?;
     out.push(octets)
+}
+
+/// The entries of a walk alone.
+fn fill(room: &mut Vec<LspEntry>, mut walk: EntryWalk<'_>) -> Result<(), OutOfMemory>
+    ensures { OnOk result (room.new.items ≡ walk.entry) }
+{
+    room.clear();
+    while let Some(said) = walk.next() {
+        match room.push(said) {
+            Ok(()) => {}
+            Err(_) => return Err(OutOfMemory),
+        }
+    }
+    Ok(())
 }
 
 /// Adds the LSPs of a book that are due on the sender's circuit (ISO 10589 7.3.15.5).

@@ -13,5 +13,5 @@ pub returns : goal.returns
 returns c =
     put-one c.push.result c.push.new.self c.args.out.now c.args.sender.now _ c.in_ok-octets.octets
     (c.in_ok-octets.ensures (config_of c.args.sender.now) (c.args.sender.now.circuit - 1) (circuit_of c.args.sender.now) (sends-here c.args.sender.now c.requires.here)
-    ∙ ap (λ (es : List LspEntry). datagram (config_of c.args.sender.now) (c.args.sender.now.circuit - 1) (circuit_of c.args.sender.now) (sent.Csnp c.args.level (lsp_number c.args.piece.now.start) (lsp_number c.args.piece.now.end) (entries_of es))) c.as_slice-entries.ensures)
+    ∙ ap (λ (es : List LspEntry). datagram (config_of c.args.sender.now) (c.args.sender.now.circuit - 1) (circuit_of c.args.sender.now) (sent.Csnp c.args.level (lsp_number c.args.piece.start) (lsp_number c.args.piece.end) (entries_of es))) (c.as_slice.ensures.value ∙ c.in-Ok.ensures))
     c.push.ensures.ok
