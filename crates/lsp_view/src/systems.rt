@@ -32,34 +32,55 @@ fn own_node(system: SystemId) -> NodeId
 
 /// The prefixes that the live LSPs of a system list, of a metric that may be reached, where its number 0 is held live; in the
 /// order of LSP ID and place.
-#[tactic(auto, unfolding(crate::specs::Views::reach_in))]
 pub fn reach(alloc: Global, store: &Store, system: SystemId) -> Result<Vec<PrefixItem>, OutOfMemory>
     ensures { IfOk result (λ items. items.items ≡ reach_in store.now.entries system) }
 {
-    let node = own_node(system);
     let mut items = Vec::new(alloc);
+    let mut listed = Vec::new(alloc);
+    match reach_into(&mut items, &mut listed, store, system) {
+        Ok(()) => Ok(items),
+        Err(error) => Err(error),
+    }
+}
+
+/// The same, put into a list in place of what it had. The other list is room that is used again.
+#[tactic(auto, unfolding(crate::specs::Views::reach_in))]
+pub fn reach_into(
+    items: &mut Vec<PrefixItem>,
+    listed: &mut Vec<PrefixItem>,
+    store: &Store,
+    system: SystemId,
+) -> Result<(), OutOfMemory>
+    ensures { OnOk result (items.new.items ≡ reach_in store.now.entries system) }
+{
+    let node = own_node(system);
+    items.clear();
     if lead(store, node).is_none() {
-        return Ok(items);
+        return Ok(());
     }
     let (first, last) = (LspId { node, number: 0 }, LspId { node, number: 255 });
     for (_, entry) in store.range(first, last) {
         if is_live(entry) {
-            match add_reach(alloc, &mut items, entry.octets.as_slice()) {
+            match add_reach(items, listed, entry.octets.as_slice()) {
                 Ok(()) => {}
                 Err(error) => return Err(error),
             }
         }
     }
-    Ok(items)
+    Ok(())
 }
 
 /// Adds the prefixes that the octets of an LSP list, of a metric that may be reached.
-fn add_reach(alloc: Global, items: &mut Vec<PrefixItem>, octets: &[u8]) -> Result<(), OutOfMemory>
+fn add_reach(
+    items: &mut Vec<PrefixItem>,
+    listed: &mut Vec<PrefixItem>,
+    octets: &[u8],
+) -> Result<(), OutOfMemory>
     ensures { OnOk result (items.new.items
         ≡ items.old.items ++ filter is_reachable (prefixes_in octets.now)) }
 {
-    let mut listed = Vec::new(alloc);
-    match add_items::<PrefixItem>(&mut listed, PREFIXES, octets) {
+    listed.clear();
+    match add_items::<PrefixItem>(listed, PREFIXES, octets) {
         Ok(()) => {}
         Err(error) => return Err(error),
     }

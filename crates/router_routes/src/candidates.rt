@@ -9,7 +9,7 @@ ghost use Rattle.router_routes.specs.Candidates.{reached_in, rank_in, told_candi
 use crate::view::{LevelView, View, store_of};
 use isis_base::{Level, LevelSet, NodeId, OutOfMemory, Prefix, SystemId};
 use isis_tlv::PrefixItem;
-use lsp_view::{is_attached, reach};
+use lsp_view::{is_attached, reach_into};
 use route_table::{Candidate, Rank};
 use std::alloc::Global;
 
@@ -138,8 +138,9 @@ fn add_told(
     ensures { OnOk result (list.new.items ≡ list.old.items
         ++ flat_map (system_candidates level (told_of told.now)) systems.now) }
 {
+    let (mut items, mut listed) = (Vec::new(alloc), Vec::new(alloc));
     for reached in systems {
-        match add_system(alloc, list, level, told, reached.0, reached.1) {
+        match add_system(&mut items, &mut listed, list, level, told, *reached) {
             Ok(()) => {}
             Err(error) => return Err(error),
         }
@@ -147,23 +148,24 @@ fn add_told(
     Ok(())
 }
 
-/// Adds what a system tells.
+/// Adds what a system tells. The first two lists are room that is used again.
 fn add_system(
-    alloc: Global,
+    items: &mut Vec<PrefixItem>,
+    listed: &mut Vec<PrefixItem>,
     list: &mut Vec<Candidate>,
     level: Level,
     told: &LevelView<'_>,
-    system: SystemId,
-    cost: u64,
+    reached: (SystemId, u64),
 ) -> Result<(), OutOfMemory>
     requires { IsFit told.now }
     ensures { OnOk result (list.new.items ≡ list.old.items
-        ++ system_candidates level (told_of told.now) (system, cost)) }
+        ++ system_candidates level (told_of told.now) reached) }
 {
+    let (system, cost) = reached;
     let store = store_of(told, system);
     let _entries = store.len();
-    let items = reach(alloc, store, system)?;
-    add_items(list, level, system, cost, &items)
+    reach_into(items, listed, store, system)?;
+    add_items(list, level, system, cost, items.as_slice())
 }
 
 /// Adds prefixes that a system tells. A cost past 64 bits, which no graph has, counts as a want of

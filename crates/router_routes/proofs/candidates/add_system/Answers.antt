@@ -6,5 +6,5 @@ use Rattle.router_routes.proofs.candidates.add_system.Goals as goal
 
 pub returns : goal.returns
 returns c =
-    let items = c.deref.ensures.value ∙ c.in_ok-items.ensures ∙ sym (reach-told c.store_of-store.result.now.entries c.len-entries.ensures.rises c.args.system) ∙ c.store_of-store.ensures.reach in
-    subst (λ (is : List PrefixItem). OnOk c.add_items.result (c.add_items.new.list.items ≡ c.args.list.now.items ++ map (told_candidate c.args.level (c.args.system, c.args.cost)) is)) items c.add_items.ensures
+    let items = c.as_slice.ensures.value ∙ c.in_ok-reach_into.ensures ∙ sym (reach-told c.store_of-store.result.now.entries c.len-entries.ensures.rises c.args.reached.0) ∙ c.store_of-store.ensures.reach in
+    subst (λ (is : List PrefixItem). OnOk c.add_items.result (c.add_items.new.list.items ≡ c.args.list.now.items ++ map (told_candidate c.args.level (c.args.reached.0, c.args.reached.1)) is)) items c.add_items.ensures

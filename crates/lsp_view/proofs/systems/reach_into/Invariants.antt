@@ -3,7 +3,7 @@ use Rattle.std.specs.List.{flat_map}
 use Rattle.lsp_store.specs.Maps.{between}
 use Rattle.lsp_store.specs.Databases.{live_of}
 use Rattle.lsp_view.specs.Views.{number_of, own_node, reach_of}
-use Rattle.lsp_view.proofs.systems.reach.Given as goal
+use Rattle.lsp_view.proofs.systems.reach_into.Given as goal
 
 -- the prefixes so far, and those of what is left
 abbrev pub invariant-loop-entry : goal.invariant-loop-entry
