@@ -1,10 +1,11 @@
 //! Rows as edges: the place of each row's end.
 
-ghost use Rattle.std.specs.Prelude.{◌≡◌, ◌≤◌, ◌<◌, ℕ, length, slice_index_or, IfOk};
-ghost use Rattle.std.specs.Bool.{OnTrue};
-ghost use Rattle.std.specs.List.{Contains};
+ghost use Rattle.std.specs.Prelude.{◌≡◌, ◌≤◌, ◌<◌, ℕ, length, IfOk};
+ghost use Rattle.std.specs.Option.{IfSome};
+ghost use Rattle.std.specs.List.{All, Contains};
 ghost use Rattle.std.specs.List.Sorted.{IsStrictlyIncreasing};
 ghost use Rattle.spf_tree.specs.declared.row.Row.{Row};
+ghost use Rattle.spf_tree.specs.declared.edge.Edge.{Edge};
 ghost use Rattle.spf_tree.specs.Walks.{end};
 ghost use Rattle.spf_tree.specs.Places.{AreEdges, node_at};
 
@@ -63,15 +64,14 @@ fn find(nodes: &[u64], row: &Row, old: &[Row], known: &[Edge], from: usize) -> F
     ensures node { node_at nodes.now result.place ≡ end row.now }
 {
     let end = number(row.to);
-    let mut near = from;
-    if !ends_at(old, near, end) {
-        near = catch_up(old, near, row);
+    if let Some(place) = place_by(nodes, end, known, from) {
+        let next = from.saturating_add(1);
+        return Found { place, next };
     }
-    if ends_at(old, near, end) {
-        return Found {
-            place: known[near].place,
-            next: near + 1,
-        };
+    let near = catch_up(old, from, row);
+    if let Some(place) = place_by(nodes, end, known, near) {
+        let next = near.saturating_add(1);
+        return Found { place, next };
     }
     Found {
         place: place_of(nodes, end),
@@ -79,12 +79,19 @@ fn find(nodes: &[u64], row: &Row, old: &[Row], known: &[Edge], from: usize) -> F
     }
 }
 
-/// Whether there is a row at a place and ends at the node.
-fn ends_at(rows: &[Row], place: usize, node: u64) -> bool
-    ensures { OnTrue result ((place < length rows.now) × ((d : Row)
-        → end (slice_index_or rows.now place d) ≡ node)) }
+/// The place of a node, where the old row at a place ends there.
+fn place_by(nodes: &[u64], end: u64, known: &[Edge], from: usize) -> Option<usize>
+    requires { All (λ (edge : Edge). edge.place < length nodes.now) known.now }
+    ensures { IfSome result (λ place. (place < length nodes.now) × (node_at nodes.now place ≡ end)) }
 {
-    place < rows.len() && number(rows[place].to) == node
+    if from >= known.len() {
+        return None;
+    }
+    let place = known[from].place;
+    if nodes[place] != end {
+        return None;
+    }
+    Some(place)
 }
 
 /// The place of the first old row, from a place on, that the row isn't behind.
