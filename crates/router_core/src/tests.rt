@@ -219,30 +219,35 @@ fn lists(alloc: Global) -> Result<bool, OutOfMemory> {
     Ok(none && first && copy.len() == 1 && copy.get(1).is_none())
 }
 
-/// The first of what should be that isn't so.
+/// The first of what should be that isn't so, of two routers that begin.
 fn first_wrong(alloc: Global) -> Result<Option<u8>, OutOfMemory> {
     let mut a = router(alloc, 1)?;
     let mut b = router(alloc, 2)?;
-    pass(&mut a, &mut b, 12)?;
-    if !is_whole(&a) || !is_whole(&b) {
+    wrong_between(alloc, &mut a, &mut b)
+}
+
+/// The same of two routers that are lent: what they drop on their ways out is the caller's.
+fn wrong_between(alloc: Global, a: &mut Router, b: &mut Router) -> Result<Option<u8>, OutOfMemory> {
+    pass(a, b, 12)?;
+    if !is_whole(a) || !is_whole(b) {
         return Ok(Some(1));
     }
-    let before = number_of(&b, 1);
+    let before = number_of(b, 1);
     let Some(prefix) = Prefix::new(0x0a00_0000, 8) else {
         return Ok(Some(2));
     };
-    if !sets_prefix(&mut a, prefix)? {
+    if !sets_prefix(a, prefix)? {
         return Ok(Some(3));
     }
-    change(&mut a)?;
-    pass(&mut a, &mut b, 35)?;
-    if number_of(&b, 1) <= before || number_of(&b, 1) != number_of(&a, 1) {
+    change(a)?;
+    pass(a, b, 35)?;
+    if number_of(b, 1) <= before || number_of(b, 1) != number_of(a, 1) {
         return Ok(Some(4));
     }
-    if !refuses(alloc, &mut a)? {
+    if !refuses(alloc, a)? {
         return Ok(Some(5));
     }
-    if !restarts(&a)? {
+    if !restarts(a)? {
         return Ok(Some(6));
     }
     Ok(None)
