@@ -30,12 +30,17 @@ type Answer = Result<(SharedPass, Receipt), (SharedPass, SubmitFault)>;
 
 const SYSTEM: SystemId = SystemId([0, 0, 0, 0, 0, 1]);
 
-/// A router of level 1 with one area and one link, in boot 1.
-fn router(alloc: Global) -> Result<Router, OutOfMemory> {
+/// The areas of a router: one.
+fn areas(alloc: Global) -> Result<Areas, OutOfMemory> {
     let mut areas = Areas::new(alloc);
     if let Some(area) = AreaAddress::new(&[0x49, 0, 1]) {
         areas.push(area)?;
     }
+    Ok(areas)
+}
+
+/// The circuits of a router: one link.
+fn circuits(alloc: Global) -> Result<Circuits, OutOfMemory> {
     let mut circuits = Circuits::new(alloc);
     circuits.push(CircuitConfig {
         kind: CircuitKind::PointToPoint,
@@ -44,7 +49,12 @@ fn router(alloc: Global) -> Result<Router, OutOfMemory> {
         address: None,
         key: None,
     })?;
-    let config = Config {
+    Ok(circuits)
+}
+
+/// A configuration of level 1, with these areas and circuits.
+fn config(alloc: Global, areas: Areas, circuits: Circuits) -> Config {
+    Config {
         system: SYSTEM,
         areas,
         levels: LevelSet::One,
@@ -54,7 +64,11 @@ fn router(alloc: Global) -> Result<Router, OutOfMemory> {
         prefixes: Prefixes::new(alloc),
         area_key: None,
         domain_key: None,
-    };
+    }
+}
+
+/// A router of a configuration, in boot 1.
+fn started(alloc: Global, config: Config) -> Result<Router, OutOfMemory> {
     if !config.valid() {
         return Err(OutOfMemory);
     }
@@ -64,16 +78,29 @@ fn router(alloc: Global) -> Result<Router, OutOfMemory> {
     }
 }
 
+/// A router of level 1 with one area and one link, in boot 1.
+fn router(alloc: Global) -> Result<Router, OutOfMemory> {
+    let areas = areas(alloc)?;
+    let circuits = circuits(alloc)?;
+    started(alloc, config(alloc, areas, circuits))
+}
+
+/// A journal whose sink has that room.
+fn journal(alloc: Global, room: usize) -> Result<Journal, OutOfMemory> {
+    let sink = MemorySink::new(alloc, room, 100, Vec::new(alloc))?;
+    match TextJournal::open(sink) {
+        Ok(journal) => Ok(journal),
+        Err(_) => Err(OutOfMemory),
+    }
+}
+
 /// A router shared for so many turns, whose journal's sink has that room.
 fn shared(alloc: Global, room: usize, turns: u64) -> Result<(Shared, SharedPass), OutOfMemory>
     ensures { IfOk result (λ r. IsPassOf r.0 r.1 × (turns_left r.1 ≡ turns)
         × (splits r.1 ≡ 0)) }
 {
+    let journal = journal(alloc, room)?;
     let router = router(alloc)?;
-    let sink = MemorySink::new(alloc, room, 100, Vec::new(alloc))?;
-    let Ok(journal) = TextJournal::open(sink) else {
-        return Err(OutOfMemory);
-    };
     match SharedRouter::new(alloc, router, journal, turns) {
         Ok(made) => Ok(made),
         Err((_router, _journal, error)) => Err(error),
@@ -177,12 +204,21 @@ fn two<R: Threads + Wait + Sync>(
     shared.join(shared.join(rest, first), second)
 }
 
+/// Steps a router by so many seconds.
+fn step_each(router: &mut Router, seconds: u8) -> Result<(), OutOfMemory> {
+    for _ in 0..seconds {
+        match router.step(NodeEvent::Second) {
+            Ok(_reply) => {}
+            Err(error) => return Err(error),
+        }
+    }
+    Ok(())
+}
+
 /// Whether a router is as one that is stepped by so many seconds alone.
 fn is_as_stepped(alloc: Global, router: &Router, seconds: u8) -> Result<bool, OutOfMemory> {
     let mut alone = self::router(alloc)?;
-    for _ in 0..seconds {
-        alone.step(NodeEvent::Second)?;
-    }
+    step_each(&mut alone, seconds)?;
     Ok(are_alike(router, &alone))
 }
 
@@ -198,11 +234,13 @@ fn has_entries(journal: Journal, count: usize) -> bool {
 fn ends_as_stepped(alloc: Global, shared: Shared, pass: SharedPass) -> Result<bool, OutOfMemory>
     requires { IsPassOf shared pass }
 {
-    let Ok((router, journal)) = shared.close(pass) else {
-        return Ok(false);
-    };
-    let same = is_as_stepped(alloc, &router, 200)?;
-    Ok(same && has_entries(journal, 100))
+    match shared.close(pass) {
+        Ok((router, journal)) => {
+            let written = has_entries(journal, 100);
+            Ok(is_as_stepped(alloc, &router, 200)? && written)
+        }
+        Err(_) => Ok(false),
+    }
 }
 
 /// How often a piece stands in a text.
@@ -224,46 +262,93 @@ const TEXT: &str = "isis-journal 1
 4 0 change metric 1 20 -> done
 ";
 
-#[test]
-fn a_journal_is_written(rt: HostRuntime) -> Result<(), Fail> {
-    let (shared, pass) = shared(rt.alloc(), 1000, 4)?;
-    assert!(rt; has_link(&shared));
-    let mut datagram = Octets::new(rt.alloc());
-    datagram.extend(&[0x00, 0xff])?;
+/// Octets in memory.
+fn octets_of(alloc: Global, list: &[u8]) -> Result<Octets, OutOfMemory> {
+    let mut octets = Octets::new(alloc);
+    octets.extend(list)?;
+    Ok(octets)
+}
+
+/// Whether a shared router is closed and its journal's sink then holds just this text.
+fn is_closed_with(shared: Shared, pass: SharedPass, text: &[u8]) -> bool
+    requires { IsPassOf shared pass }
+{
+    match shared.close(pass) {
+        Ok((_router, journal)) => journal.into_sink().octets() == text,
+        Err(_) => false,
+    }
+}
+
+/// Submits a second, a pull, the take of a datagram and a change of a metric.
+fn submit_each<R: Wait>(rt: &R, shared: &Shared, pass: SharedPass, datagram: Octets) -> SharedPass
+    requires lock { IsPassOf shared.now pass }
+    requires left { 4 ≤ turns_left pass }
+    requires there { IsThere (first_router shared.now) 1 }
+    requires desk { 1 ≤ length
+        (desk_of (first_router shared.now).config (first_router shared.now).circuits).circuits }
+    ensures lock { IsPassOf shared.now result }
+{
     let opened = shared.desk().open(1, datagram);
-    let (pass, _) = told_by(shared.submit(&rt, pass, NodeEvent::Second));
-    let (pass, _) = told_by(shared.submit(&rt, pass, NodeEvent::Pull { circuit: 1 }));
-    let (pass, _) = told_by(shared.submit(&rt, pass, NodeEvent::Take(opened)));
     let change = Change::Metric {
         circuit: 1,
         metric: 20,
     };
-    let (pass, _) = told_by(shared.submit(&rt, pass, NodeEvent::Change(change)));
-    let Ok((_router, journal)) = shared.close(pass) else {
-        panic!(rt; "no turn is out")
-    };
-    let sink = journal.into_sink();
-    assert_eq!(rt; sink.octets(), TEXT.as_bytes());
+    let (pass, _) = told_by(shared.submit(rt, pass, NodeEvent::Second));
+    let (pass, _) = told_by(shared.submit(rt, pass, NodeEvent::Pull { circuit: 1 }));
+    let (pass, _) = told_by(shared.submit(rt, pass, NodeEvent::Take(opened)));
+    let (pass, _) = told_by(shared.submit(rt, pass, NodeEvent::Change(change)));
+    pass
+}
+
+/// Whether the journal of one entry of each kind is this text.
+fn is_written<R: Wait>(rt: &R, alloc: Global, text: &[u8]) -> Result<bool, OutOfMemory> {
+    let datagram = octets_of(alloc, &[0x00, 0xff])?;
+    let (shared, pass) = shared(alloc, 1000, 4)?;
+    if !has_link(&shared) {
+        return Ok(false);
+    }
+    let pass = submit_each(rt, &shared, pass, datagram);
+    Ok(is_closed_with(shared, pass, text))
+}
+
+/// Submits three seconds, and tells what each answers.
+fn submit_three<R: Wait>(rt: &R, shared: &Shared, pass: SharedPass) -> (SharedPass, [(u8, u64); 3])
+    requires lock { IsPassOf shared.now pass }
+    requires left { 3 ≤ turns_left pass }
+    ensures lock { IsPassOf shared.now result.0 }
+{
+    let (pass, first) = told_by(shared.submit(rt, pass, NodeEvent::Second));
+    let (pass, second) = told_by(shared.submit(rt, pass, NodeEvent::Second));
+    let (pass, third) = told_by(shared.submit(rt, pass, NodeEvent::Second));
+    (pass, [first, second, third])
+}
+
+/// What three seconds answer where the sink has that room, and whether the journal is then this text.
+fn stops_with<R: Wait>(
+    rt: &R,
+    alloc: Global,
+    room: usize,
+    text: &[u8],
+) -> Result<([(u8, u64); 3], bool), OutOfMemory> {
+    let (shared, pass) = shared(alloc, room, 3)?;
+    let (pass, told) = submit_three(rt, &shared, pass);
+    Ok((told, is_closed_with(shared, pass, text)))
+}
+
+#[test]
+fn a_journal_is_written(rt: HostRuntime) -> Result<(), Fail> {
+    assert!(rt; is_written(&rt, rt.alloc(), TEXT.as_bytes())?);
     Ok(())
 }
 
 #[test]
 fn an_append_that_fails_stops_all(rt: HostRuntime) -> Result<(), Fail> {
-    let (shared, pass) = shared(rt.alloc(), 42, 3)?;
-    let (pass, first) = told_by(shared.submit(&rt, pass, NodeEvent::Second));
-    let (pass, second) = told_by(shared.submit(&rt, pass, NodeEvent::Second));
-    let (pass, third) = told_by(shared.submit(&rt, pass, NodeEvent::Second));
-    assert_eq!(rt; first, (0, 1));
-    assert_eq!(rt; second, (1, 2));
-    assert_eq!(rt; third, (2, 2));
-    let Ok((_router, journal)) = shared.close(pass) else {
-        panic!(rt; "no turn is out")
-    };
-    let sink = journal.into_sink();
-    assert_eq!(rt;
-        sink.octets(),
-        b"isis-journal 1\n1 0 second -> done\n2 0 seco".as_slice()
-    );
+    let text = b"isis-journal 1\n1 0 second -> done\n2 0 seco".as_slice();
+    let (told, same) = stops_with(&rt, rt.alloc(), 42, text)?;
+    assert!(rt; same);
+    assert_eq!(rt; told[0], (0, 1));
+    assert_eq!(rt; told[1], (1, 2));
+    assert_eq!(rt; told[2], (2, 2));
     Ok(())
 }
 
