@@ -4,7 +4,7 @@ use Rattle.isis_edge.specs.declared.reading.WholeFault.{WholeFault}
 use Rattle.isis_edge.specs.declared.reading.WholeFault.TheVariants as whole
 use Rattle.isis_edge.specs.declared.text.TextFailed.{TextFailed}
 use Rattle.isis_edge.specs.declared.text.TextFailed.TheVariants as text
-use Rattle.network_lab.specs.Limits.{limit_word}
+use Rattle.key_net.specs.Limits.{limit_word}
 use Rattle.lab_script.specs.declared.reason.ScriptFault.{ScriptFault}
 use Rattle.lab_script.specs.declared.reason.ScriptFault.TheVariants as script
 use Rattle.lab_text.specs.declared.fault.RunFault.{RunFault}

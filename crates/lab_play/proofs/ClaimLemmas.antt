@@ -21,9 +21,9 @@ use Rattle.network_model.proofs.LineLemmas.{run-append, line-run, line-all}
 use Rattle.network_agreement.specs.Origins.{HoldsNothing}
 use Rattle.network_agreement.proofs.OriginLemmas.{start-origins}
 use Rattle.network_agreement.proofs.SweepLemmas.{start-true}
-use Rattle.network_lab.specs.declared.faults.LabFault.{LabFault}
-use Rattle.network_lab.specs.declared.faults.LabFault.TheVariants as lab
-use Rattle.network_lab.specs.declared.faults.LimitName.TheVariants as limit
+use Rattle.key_net.specs.declared.faults.LabFault.{LabFault}
+use Rattle.key_net.specs.declared.faults.LabFault.TheVariants as lab
+use Rattle.key_net.specs.declared.faults.LimitName.TheVariants as limit
 use Rattle.network_lab.specs.declared.event.LabEvent.TheVariants as event
 use Rattle.network_lab.specs.LabNets.{Seen, LabNet, StandsFor, sent_of, seen_of}
 use Rattle.network_lab.specs.LabEvents.{refusal, after, past_boots, unless_changes}

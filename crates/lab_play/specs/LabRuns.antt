@@ -4,9 +4,9 @@ use Rattle.router_desk.specs.declared.config.Change.TheVariants as change
 use Rattle.router_core.specs.Givens.{given}
 use Rattle.network_model.specs.Networks.{Network, numbered}
 use Rattle.network_model.specs.RunLines.{run_line}
-use Rattle.network_lab.specs.declared.faults.LabFault.{LabFault}
-use Rattle.network_lab.specs.declared.faults.LabFault.TheVariants as lab
-use Rattle.network_lab.specs.declared.faults.LimitName.TheVariants.{Datagrams}
+use Rattle.key_net.specs.declared.faults.LabFault.{LabFault}
+use Rattle.key_net.specs.declared.faults.LabFault.TheVariants as lab
+use Rattle.key_net.specs.declared.faults.LimitName.TheVariants.{Datagrams}
 use Rattle.network_lab.specs.declared.event.LabEvent.{LabEvent}
 use Rattle.network_lab.specs.declared.event.LabEvent.TheVariants as event
 use Rattle.network_lab.specs.LabEvents.{refusal, after}

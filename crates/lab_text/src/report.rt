@@ -1,6 +1,6 @@
 //! The report of a keys script, made as it is written.
 ghost use Rattle.std.specs.Prelude.{◌≡◌, ◌≤◌, ◌+◌, ◌++◌, length, OnOk};
-ghost use Rattle.network_lab.specs.KeysNet.{Net};
+ghost use Rattle.key_net.specs.KeysNet.{Net};
 ghost use Rattle.lab_text.specs.KeysReport.{key_line, report_of_net};
 ghost use Rattle.lab_text.specs.ReportLeft.{lines_left, calls_left};
 ghost use Rattle.lab_script.specs.Words.{texts};

@@ -20,9 +20,9 @@ use Rattle.network_model.specs.Runs.{posted, moved, moved_if, taking, arrival, o
 use Rattle.network_lab.specs.declared.sent.SentDatagram.{SentDatagram}
 use Rattle.network_lab.specs.declared.event.LabEvent.{LabEvent}
 use Rattle.network_lab.specs.declared.event.LabEvent.TheVariants as event
-use Rattle.network_lab.specs.declared.faults.LabFault.{LabFault}
-use Rattle.network_lab.specs.declared.faults.LabFault.TheVariants as fault
-use Rattle.network_lab.specs.declared.faults.LimitName.TheVariants as limit
+use Rattle.key_net.specs.declared.faults.LabFault.{LabFault}
+use Rattle.key_net.specs.declared.faults.LabFault.TheVariants as fault
+use Rattle.key_net.specs.declared.faults.LimitName.TheVariants as limit
 use Rattle.network_lab.specs.LabNets.{Seen, LabNet, sent_of, seen_of}
 use Rattle.network_lab.specs.LabConfigs.{configs_after}
 use Rattle.network_lab.specs.LabEvents.{refusal, after, unless_on, unless_arrives, past_boots, unless_changes, IsChange, change_of}
@@ -224,4 +224,4 @@ pub taken-ends : (ev : LabEvent) (old new : LabNet) (seen : Seen) (result : Resu
 taken-ends ev old new seen (Ok u) running calm t f = Done refl (ap (λ (a : LabNet). a.stopped) t.done ∙ running) t.size (ap (λ (a : LabNet). a.configs) t.done ∙ sym calm)
     (λ net k. ((f net k.seen).0, record { seen = (f net k.seen).1 ∙ sym (ap (λ (a : LabNet). a.seen) t.done) }))
 taken-ends ev old new seen (Err f) running calm t g = Stopped f refl t.stop t.size
-    (λ net k. ((g net k.seen).0, subst (λ (n : ℕ). StopCause n f) (sym (ap (λ (s : Seen). length s.sent) (g net k.seen).1) ∙ length-map (after net ev).datagrams sent_of) t.cause))
+    (λ net k. ((g net k.seen).0, subst (λ (xs : List SentDatagram). StopCause xs new.seen.sent f) (sym (ap (λ (s : Seen). s.sent) (g net k.seen).1)) t.cause))

@@ -18,7 +18,7 @@ use Rattle.router_core.specs.Reached.{IsReached}
 use Rattle.network_lab.specs.declared.joining.Joined.{Joined}
 use Rattle.network_lab.specs.declared.notes.Notes.{Notes}
 use Rattle.network_lab.specs.declared.sent.SentDatagram.{SentDatagram}
-use Rattle.network_lab.specs.declared.faults.LabFault.{LabFault}
+use Rattle.key_net.specs.declared.faults.LabFault.{LabFault}
 use Rattle.network_lab.specs.LabNets.{LabNet, router_of, circuit_count, configured, with_circuit, with_circuits, with_row, with_ends, new_circuit, next_end, AreDistinct}
 use Rattle.network_lab.specs.LabCauses.{has_full}
 use Rattle.network_lab.specs.LabInside.{counts_of, IsEndThere, AreEndsThere, ArePorts, AreApart, IsFit, IsSetUp, IsNet}

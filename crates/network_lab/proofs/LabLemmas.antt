@@ -12,7 +12,7 @@ use Rattle.network_model.specs.RunLines.{is_end, link_of}
 use Rattle.router_desk.specs.declared.config.Config.{Config}
 use Rattle.network_lab.specs.declared.notes.Notes.{Notes}
 use Rattle.network_lab.specs.declared.sent.SentDatagram.{SentDatagram}
-use Rattle.network_lab.specs.declared.faults.LabFault.{LabFault}
+use Rattle.key_net.specs.declared.faults.LabFault.{LabFault}
 use Rattle.network_lab.specs.LabNets.{LabNet, router_of, with_router}
 use Rattle.network_lab.specs.LabInside.{counts_of, IsEndThere, AreEndsThere, ArePorts, IsFit, IsSetUp, IsNet}
 use Rattle.network_lab.specs.Reached.{AreSmall, HasRun}

@@ -1,8 +1,4 @@
 -- The lemmas, a module for each topic.
-pub mod HeldLemmas
-pub mod NetLemmas
-pub mod PairLemmas
-pub mod KeysLemmas
 pub mod PlaceLemmas
 pub mod SentLemmas
 pub mod EventLemmas

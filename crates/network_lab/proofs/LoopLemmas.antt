@@ -10,12 +10,12 @@ use Rattle.network_model.specs.Networks.{Datagram, Network, numbered}
 use Rattle.network_model.specs.Runs.{PullOn, apply}
 use Rattle.network_model.specs.RunLines as line
 use Rattle.network_lab.specs.declared.sent.SentDatagram.{SentDatagram}
-use Rattle.network_lab.specs.declared.faults.LabFault.{LabFault}
+use Rattle.key_net.specs.declared.faults.LabFault.{LabFault}
 use Rattle.network_lab.specs.LabNets.{Seen, LabNet, StandsFor, sent_of}
 use Rattle.network_lab.specs.LabRuns.{RunEnding, tick_unless, pull_unless, deliver_unless, pull_links_of, deliver_numbered}
 use Rattle.network_lab.proofs.PlaceLemmas.{some-same, nth-there, nth-get}
 use Rattle.network_lab.proofs.EventLemmas.{numbered-seen}
-use Rattle.network_lab.proofs.RunLemmas.{behind-grows, all-pulls-grow, renames, follows, breaks}
+use Rattle.network_lab.proofs.RunLemmas.{Grows, behind-grows, all-pulls-grow, renames, follows, breaks}
 
 -- a part that does nothing
 pub idles : (part : Network → Network) (old : LabNet) → old.stopped ≡ None → ((net : Network) → StandsFor net old → part net ≡ net) → RunEnding part old old (Ok tt)
@@ -38,8 +38,8 @@ shift : (k : ℕ) → suc k + 1 ≡ suc (k + 1)
 shift k = omega arith
 
 -- what is left sends no less than its first part
-pub left-grows : (left next part : Network → Network) (net : Network) → left net ≡ next (part net) → ((m : Network) → length m.datagrams ≤ length (next m).datagrams) → length (part net).datagrams ≤ length (left net).datagrams
-left-grows left next part net e g = subst (λ (m : Network). length (part net).datagrams ≤ length m.datagrams) (sym e) (g (part net))
+pub left-grows : (left next part : Network → Network) (net : Network) → left net ≡ next (part net) → ((m : Network) → Grows m (next m)) → Grows (part net) (left net)
+left-grows left next part net e g = subst (λ (m : Network). Grows (part net) m) (sym e) (g (part net))
 
 -- ---- seconds of each router
 

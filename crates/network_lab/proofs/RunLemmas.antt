@@ -1,7 +1,9 @@
 -- A line `run`: what is sent is never lost, and its parts follow one another.
-use Rattle.std.proofs.Common.{◌≡◌, ℕ, zero, suc, ◌+◌, ◌≤◌, ◌==◌, ◌||◌, Bool, true, false, List, [], ◌∷◌, ◌++◌, length, Option, Some, None, Result, Ok, Err, if◌then◌else◌, refl, sym, ap, ◌∙◌, subst, arith, le_trans, length-append}
+use Rattle.std.proofs.Common.{◌≡◌, ℕ, zero, suc, ◌+◌, ◌<◌, ◌==◌, ◌||◌, Bool, true, false, List, [], ◌∷◌, ◌++◌, length, Option, Some, None, Result, Ok, Err, if◌then◌else◌, refl, sym, ap, ◌∙◌, subst, arith, length-append, append_assoc, append-nil, map}
+use Rattle.std.proofs.lemmas.List.{map-append, take-append-le}
 use Rattle.isis_model.specs.Places.{nth}
 use Rattle.isis_model.specs.Givens.{Given}
+use Rattle.isis_model.specs.Books.{risen}
 use Rattle.isis_model.specs.Routers.{Router}
 use Rattle.isis_model.specs.Events.{Event, Second, Pull, Metric, Overload, Prefix}
 use Rattle.router_core.specs.Givens.{given}
@@ -12,10 +14,12 @@ use Rattle.network_model.specs.Runs.{Happening, Tick, PullOn, Deliver, Restart, 
 use Rattle.network_model.specs.RunLines as line
 use Rattle.network_lab.specs.declared.event.LabEvent.{LabEvent}
 use Rattle.network_lab.specs.declared.event.LabEvent.TheVariants as event
-use Rattle.network_lab.specs.declared.faults.LabFault.{LabFault}
-use Rattle.network_lab.specs.declared.faults.LabFault.TheVariants as fault
-use Rattle.network_lab.specs.declared.faults.LimitName.TheVariants as limit
-use Rattle.network_lab.specs.LabNets.{LabNet, StandsFor}
+use Rattle.key_net.specs.declared.faults.LabFault.{LabFault}
+use Rattle.key_net.specs.declared.faults.LabFault.TheVariants as fault
+use Rattle.key_net.specs.declared.faults.LimitName.TheVariants as limit
+use Rattle.network_lab.specs.declared.sent.SentDatagram.{SentDatagram}
+use Rattle.network_lab.specs.LabNets.{LabNet, StandsFor, sent_of, sent_in}
+use Rattle.network_lab.specs.LabCauses.{IsPast}
 use Rattle.router_desk.specs.declared.config.Config.{Config}
 use Rattle.network_lab.specs.LabConfigs.{configs_after}
 use Rattle.network_lab.specs.LabEvents.{refusal, after, unless_on, unless_arrives}
@@ -24,40 +28,54 @@ use Rattle.network_lab.specs.LabRuns.{RunEnding, GoesOn, IsOfRun}
 
 -- ---- what is sent is never lost
 
-more : {A : Type 0} (xs ys : List A) → length xs ≤ length (xs ++ ys)
-more xs ys = let n = length-append xs ys in omega (arith, n)
+-- what was sent in a network was sent in another, which goes on with the rest
+pub record Grows (net later : Network) : Type 0 where
+  pub rest : List Datagram
+  pub is : later.datagrams ≡ net.datagrams ++ rest
 
-moved-grows : (g : Given) (net : Network) (i : ℕ) (link : Option ℕ) (ev : Event) (o : Option Router) → length net.datagrams ≤ length (moved_if g net i link ev o).datagrams
-moved-grows g net i link ev None = omega arith
-moved-grows g net i link ev (Some r) = more net.datagrams _
+stays : (net : Network) → Grows net net
+stays net = record { rest = []; is = sym (append-nil net.datagrams) }
 
-arrive_at-grows : (g : Given) (net : Network) (i link place : ℕ) (octets : List ℕ) (o : Option Router) → length net.datagrams ≤ length (arrive_at g net i link place octets o).datagrams
-arrive_at-grows g net i link place octets None = omega arith
-arrive_at-grows g net i link place octets (Some r) = more net.datagrams _
+grown : (net later : Network) (rest : List Datagram) → later.datagrams ≡ net.datagrams ++ rest → Grows net later
+grown net later rest e = record { rest = rest; is = e }
 
-deliver_at-grows : (g : Given) (net : Network) (i : ℕ) (d : Datagram) (place : ℕ) (o : Option Router) → length net.datagrams ≤ length (deliver_at g net i d place o).datagrams
-deliver_at-grows g net i d place None = omega arith
-deliver_at-grows g net i d place (Some r) = more net.datagrams _
+grows-on : (a b c : Network) → Grows a b → Grows b c → Grows a c
+grows-on a b c h k = record {
+  rest = h.rest ++ k.rest;
+  is = k.is ∙ (ap (λ (xs : List Datagram). xs ++ k.rest) h.is ∙ append_assoc a.datagrams h.rest k.rest);
+}
 
-arrive-grows : (g : Given) (net : Network) (i : ℕ) (a : Arrival) → length net.datagrams ≤ length (arrive g net i a).datagrams
-arrive-grows g net i NotSent = omega arith
-arrive-grows g net i (Stale boot) = omega arith
-arrive-grows g net i NotOn = omega arith
+moved-grows : (g : Given) (net : Network) (i : ℕ) (link : Option ℕ) (ev : Event) (o : Option Router) → Grows net (moved_if g net i link ev o)
+moved-grows g net i link ev None = stays net
+moved-grows g net i link ev (Some r) = grown net _ _ refl
+
+arrive_at-grows : (g : Given) (net : Network) (i link place : ℕ) (octets : List ℕ) (o : Option Router) → Grows net (arrive_at g net i link place octets o)
+arrive_at-grows g net i link place octets None = stays net
+arrive_at-grows g net i link place octets (Some r) = grown net _ _ refl
+
+deliver_at-grows : (g : Given) (net : Network) (i : ℕ) (d : Datagram) (place : ℕ) (o : Option Router) → Grows net (deliver_at g net i d place o)
+deliver_at-grows g net i d place None = stays net
+deliver_at-grows g net i d place (Some r) = grown net _ _ refl
+
+arrive-grows : (g : Given) (net : Network) (i : ℕ) (a : Arrival) → Grows net (arrive g net i a)
+arrive-grows g net i NotSent = stays net
+arrive-grows g net i (Stale boot) = stays net
+arrive-grows g net i NotOn = stays net
 arrive-grows g net i (Arrives d place) = deliver_at-grows g net i d place (nth net.routers i)
 
-pull-grows : (g : Given) (net : Network) (i link : ℕ) (o : Option ℕ) → length net.datagrams ≤ length (pull_at g net i link o).datagrams
-pull-grows g net i link None = omega arith
+pull-grows : (g : Given) (net : Network) (i link : ℕ) (o : Option ℕ) → Grows net (pull_at g net i link o)
+pull-grows g net i link None = stays net
 pull-grows g net i link (Some place) = moved-grows g net i (Some link) (Pull place) (nth net.routers i)
 
-restart-grows : (net : Network) (i : ℕ) (o : Option Router) → length net.datagrams ≤ length (restart_at net i o).datagrams
-restart-grows net i None = omega arith
-restart-grows net i (Some r) = omega arith
+restart-grows : (net : Network) (i : ℕ) (o : Option Router) → Grows net (restart_at net i o)
+restart-grows net i None = stays net
+restart-grows net i (Some r) = grown net _ [] (sym (append-nil net.datagrams))
 
-inject-grows : (g : Given) (net : Network) (i link : ℕ) (octets : List ℕ) (o : Option ℕ) → length net.datagrams ≤ length (inject_at g net i link octets o).datagrams
-inject-grows g net i link octets None = omega arith
-inject-grows g net i link octets (Some place) = arrive_at-grows g _ i link place octets (nth net.routers i)
+inject-grows : (g : Given) (net : Network) (i link : ℕ) (octets : List ℕ) (o : Option ℕ) → Grows net (inject_at g net i link octets o)
+inject-grows g net i link octets None = stays net
+inject-grows g net i link octets (Some place) = let h = arrive_at-grows g (record net { injected = risen net.injected }) i link place octets (nth net.routers i) in grown net _ h.rest h.is
 
-pub apply-grows : (g : Given) (net : Network) (h : Happening) → length net.datagrams ≤ length (apply g net h).datagrams
+pub apply-grows : (g : Given) (net : Network) (h : Happening) → Grows net (apply g net h)
 unfolding apply
 apply-grows g net (Tick i) = moved-grows g net i None Second (nth net.routers i)
 apply-grows g net (PullOn i link) = pull-grows g net i link (place_at net link i)
@@ -68,63 +86,70 @@ apply-grows g net (SetOverload i on) = moved-grows g net i None (Overload on) (n
 apply-grows g net (SetPrefix i prefix metric) = moved-grows g net i None (Prefix prefix metric) (nth net.routers i)
 apply-grows g net (Inject i link octets) = inject-grows g net i link octets (place_at net link i)
 
-unless-grows : (b : Bool) (net more : Network) → length net.datagrams ≤ length more.datagrams → length net.datagrams ≤ length (if b then net else more).datagrams
-unless-grows true net more h = omega arith
+unless-grows : (b : Bool) (net more : Network) → Grows net more → Grows net (if b then net else more)
+unless-grows true net more h = stays net
 unless-grows false net more h = h
 
-pub each-grows : (g : Given) (except : Option ℕ) (number sender : ℕ) (ends : List End) (net : Network) → length net.datagrams ≤ length (line.deliver_each g except number sender ends net).datagrams
-each-grows g except number sender [] net = omega arith
-each-grows g except number sender (e ∷ ends) net = le_trans (unless-grows (e.router == sender || line.is_excepted except e.router) net (apply g net (Deliver number e.router)) (apply-grows g net (Deliver number e.router)))
+pub each-grows : (g : Given) (except : Option ℕ) (number sender : ℕ) (ends : List End) (net : Network) → Grows net (line.deliver_each g except number sender ends net)
+each-grows g except number sender [] net = stays net
+each-grows g except number sender (e ∷ ends) net = grows-on _ _ _ (unless-grows (e.router == sender || line.is_excepted except e.router) net (apply g net (Deliver number e.router)) (apply-grows g net (Deliver number e.router)))
     (each-grows g except number sender ends (if e.router == sender || line.is_excepted except e.router then net else apply g net (Deliver number e.router)))
 
-pub one-grows : (g : Given) (without : Option PduWord) (except : Option ℕ) (number : ℕ) (d : Datagram) (net : Network) → length net.datagrams ≤ length (line.deliver_one g without except number d net).datagrams
+pub one-grows : (g : Given) (without : Option PduWord) (except : Option ℕ) (number : ℕ) (d : Datagram) (net : Network) → Grows net (line.deliver_one g without except number d net)
 one-grows g without except number d net = unless-grows (line.is_left_out without (octets_of d)) net _ (each-grows g except number d.sender (line.by_router (line.ends_of (nth net.links d.link))) net)
 
-pub behind-grows : (g : Given) (without : Option PduWord) (except : Option ℕ) (most count : ℕ) (net : Network) → length net.datagrams ≤ length (line.deliver_behind g without except most count net).datagrams
-behind-grows g without except zero count net = omega arith
+pub behind-grows : (g : Given) (without : Option PduWord) (except : Option ℕ) (most count : ℕ) (net : Network) → Grows net (line.deliver_behind g without except most count net)
+behind-grows g without except zero count net = stays net
 behind-grows g without except (suc most) count net = found (nth net.datagrams count) (λ d. behind-grows g without except most (count + 1) (line.deliver_one g without except (count + 1) d net))
   where
-    found : (o : Option Datagram) → ((d : Datagram) → length (line.deliver_one g without except (count + 1) d net).datagrams ≤ length (line.deliver_behind g without except most (count + 1) (line.deliver_one g without except (count + 1) d net)).datagrams) → length net.datagrams ≤ length (line.where_found o net (λ d. line.deliver_behind g without except most (count + 1) (line.deliver_one g without except (count + 1) d net))).datagrams
-    found None r = omega arith
-    found (Some d) r = le_trans (one-grows g without except (count + 1) d net) (r d)
+    found : (o : Option Datagram) → ((d : Datagram) → Grows (line.deliver_one g without except (count + 1) d net) (line.deliver_behind g without except most (count + 1) (line.deliver_one g without except (count + 1) d net))) → Grows net (line.where_found o net (λ d. line.deliver_behind g without except most (count + 1) (line.deliver_one g without except (count + 1) d net)))
+    found None r = stays net
+    found (Some d) r = grows-on _ _ _ (one-grows g without except (count + 1) d net) (r d)
 
-pub ticks-grow : (g : Given) (except : Option ℕ) (router count : ℕ) (net : Network) → length net.datagrams ≤ length (line.tick_each g except router count net).datagrams
-ticks-grow g except router zero net = omega arith
-ticks-grow g except router (suc count) net = le_trans (unless-grows (line.is_excepted except router) net (apply g net (Tick router)) (apply-grows g net (Tick router)))
+pub ticks-grow : (g : Given) (except : Option ℕ) (router count : ℕ) (net : Network) → Grows net (line.tick_each g except router count net)
+ticks-grow g except router zero net = stays net
+ticks-grow g except router (suc count) net = grows-on _ _ _ (unless-grows (line.is_excepted except router) net (apply g net (Tick router)) (apply-grows g net (Tick router)))
     (ticks-grow g except (router + 1) count (if line.is_excepted except router then net else apply g net (Tick router)))
 
-pub pull-one-grows : (g : Given) (without : Option PduWord) (except : Option ℕ) (most router link : ℕ) (net : Network) → length net.datagrams ≤ length (line.deliver_behind g without except most (length net.datagrams) (apply g net (PullOn router link))).datagrams
-pull-one-grows g without except most router link net = le_trans (apply-grows g net (PullOn router link)) (behind-grows g without except most (length net.datagrams) (apply g net (PullOn router link)))
+pub pull-one-grows : (g : Given) (without : Option PduWord) (except : Option ℕ) (most router link : ℕ) (net : Network) → Grows net (line.deliver_behind g without except most (length net.datagrams) (apply g net (PullOn router link)))
+pull-one-grows g without except most router link net = grows-on _ _ _ (apply-grows g net (PullOn router link)) (behind-grows g without except most (length net.datagrams) (apply g net (PullOn router link)))
 
-pub pulls-grow : (g : Given) (without : Option PduWord) (except : Option ℕ) (router : ℕ) (links : List ℕ) (net : Network) → length net.datagrams ≤ length (line.pull_links g without except router links net).datagrams
-pulls-grow g without except router [] net = omega arith
-pulls-grow g without except router (link ∷ links) net = le_trans (pull-one-grows g without except line.datagram_limit router link net) (pulls-grow g without except router links (line.pull_one g without except router link net))
+pub pulls-grow : (g : Given) (without : Option PduWord) (except : Option ℕ) (router : ℕ) (links : List ℕ) (net : Network) → Grows net (line.pull_links g without except router links net)
+pulls-grow g without except router [] net = stays net
+pulls-grow g without except router (link ∷ links) net = grows-on _ _ _ (pull-one-grows g without except line.datagram_limit router link net) (pulls-grow g without except router links (line.pull_one g without except router link net))
 
-pub all-pulls-grow : (g : Given) (without : Option PduWord) (except : Option ℕ) (router count : ℕ) (net : Network) → length net.datagrams ≤ length (line.pull_each g without except router count net).datagrams
-all-pulls-grow g without except router zero net = omega arith
-all-pulls-grow g without except router (suc count) net = le_trans (unless-grows (line.is_excepted except router) net (line.pull_links g without except router (line.links_at net router) net) (pulls-grow g without except router (line.links_at net router) net))
+pub all-pulls-grow : (g : Given) (without : Option PduWord) (except : Option ℕ) (router count : ℕ) (net : Network) → Grows net (line.pull_each g without except router count net)
+all-pulls-grow g without except router zero net = stays net
+all-pulls-grow g without except router (suc count) net = grows-on _ _ _ (unless-grows (line.is_excepted except router) net (line.pull_links g without except router (line.links_at net router) net) (pulls-grow g without except router (line.links_at net router) net))
     (all-pulls-grow g without except (router + 1) count (if line.is_excepted except router then net else line.pull_links g without except router (line.links_at net router) net))
 
-pub second-grows : (g : Given) (without : Option PduWord) (except : Option ℕ) (net : Network) → length net.datagrams ≤ length (line.run_second g without except net).datagrams
-second-grows g without except net = le_trans (ticks-grow g except 0 (length net.routers) net) (all-pulls-grow g without except 0 (length net.routers) (line.tick_each g except 0 (length net.routers) net))
+pub second-grows : (g : Given) (without : Option PduWord) (except : Option ℕ) (net : Network) → Grows net (line.run_second g without except net)
+second-grows g without except net = grows-on _ _ _ (ticks-grow g except 0 (length net.routers) net) (all-pulls-grow g without except 0 (length net.routers) (line.tick_each g except 0 (length net.routers) net))
 
-pub line-grows : (g : Given) (without : Option PduWord) (except : Option ℕ) (seconds : ℕ) (net : Network) → length net.datagrams ≤ length (line.run_line g without except seconds net).datagrams
-line-grows g without except zero net = omega arith
-line-grows g without except (suc seconds) net = le_trans (second-grows g without except net) (line-grows g without except seconds (line.run_second g without except net))
+pub line-grows : (g : Given) (without : Option PduWord) (except : Option ℕ) (seconds : ℕ) (net : Network) → Grows net (line.run_line g without except seconds net)
+line-grows g without except zero net = stays net
+line-grows g without except (suc seconds) net = grows-on _ _ _ (second-grows g without except net) (line-grows g without except seconds (line.run_second g without except net))
 
 -- ---- parts of a run
 
-stop-more : (m n : ℕ) (f : LabFault) → m ≤ n → StopCause m f → StopCause n f
-stop-more m n fault.OutOfMemory le h = tt
-stop-more m n (fault.Limit limit.Datagrams) le h = omega (arith, le, h)
-stop-more m n (fault.Limit limit.Routers) le h = h
-stop-more m n (fault.Limit limit.Links) le h = h
-stop-more m n (fault.Limit limit.Circuits) le h = h
-stop-more m n (fault.Limit limit.Prefixes) le h = h
-stop-more m n (fault.Limit limit.Boots) le h = h
-stop-more m n (fault.NotSent sent) le h = h
-stop-more m n (fault.Stale boot) le h = h
-stop-more m n fault.NotOn le h = h
+past-more : (xs ys kept : List SentDatagram) → IsPast xs kept → IsPast (xs ++ ys) kept
+past-more xs ys kept h = (many, h.1 ∙ sym (take-append-le 262144 xs ys (let l = h.0 in omega (arith, l))))
+  where
+    many : 262144 < length (xs ++ ys)
+    many = let n = length-append xs ys in let l = h.0 in omega (arith, n, l)
+
+stop-more : (net later : Network) (kept : List SentDatagram) (f : LabFault) → Grows net later → StopCause (sent_in net) kept f → StopCause (sent_in later) kept f
+stop-more net later kept fault.OutOfMemory g h = tt
+stop-more net later kept (fault.Limit limit.Datagrams) g h =
+    subst (λ (xs : List SentDatagram). IsPast xs kept) (sym (ap (map sent_of) g.is ∙ map-append sent_of net.datagrams g.rest)) (past-more (sent_in net) (map sent_of g.rest) kept h)
+stop-more net later kept (fault.Limit limit.Routers) g h = h
+stop-more net later kept (fault.Limit limit.Links) g h = h
+stop-more net later kept (fault.Limit limit.Circuits) g h = h
+stop-more net later kept (fault.Limit limit.Prefixes) g h = h
+stop-more net later kept (fault.Limit limit.Boots) g h = h
+stop-more net later kept (fault.NotSent sent) g h = h
+stop-more net later kept (fault.Stale boot) g h = h
+stop-more net later kept fault.NotOn g h = h
 
 same-trans : (a b c : LabNet) → SameSize a b → SameSize b c → SameSize a c
 same-trans a b c s t = record { links = t.links ∙ s.links; routers = t.routers ∙ s.routers }
@@ -169,11 +194,11 @@ ends left whole old new h e = record {
   configs = h.configs;
 }
 
-pub stops : (left whole part : Network → Network) (old mid new : LabNet) (f : LabFault) → GoesOn left whole old mid → RunEnding part mid new (Err f) → ((net : Network) → StandsFor net mid → length (part net).datagrams ≤ length (left net).datagrams) → RunEnding whole old new (Err f)
+pub stops : (left whole part : Network → Network) (old mid new : LabNet) (f : LabFault) → GoesOn left whole old mid → RunEnding part mid new (Err f) → ((net : Network) → StandsFor net mid → Grows (part net) (left net)) → RunEnding whole old new (Err f)
 stops left whole part old mid new f h r e = record {
   done = tt;
   running = tt;
-  cause = λ net s. subst (λ (m : Network). StopCause (length m.datagrams) f) (h.left_is net s) (stop-more _ _ f (e (h.here net s) (h.stands net s)) (r.cause (h.here net s) (h.stands net s)));
+  cause = λ net s. subst (λ (m : Network). StopCause (sent_in m) new.seen.sent f) (h.left_is net s) (stop-more _ _ new.seen.sent f (e (h.here net s) (h.stands net s)) (r.cause (h.here net s) (h.stands net s)));
   stop = r.stop;
   size = same-trans old mid new h.size r.size;
   configs = tt;
@@ -192,7 +217,7 @@ renames part name old new (Ok u) h e = record {
 renames part name old new (Err f) h e = record {
   done = tt;
   running = tt;
-  cause = λ net s. subst (λ (m : Network). StopCause (length m.datagrams) f) (e net s) (h.cause net s);
+  cause = λ net s. subst (λ (m : Network). StopCause (sent_in m) new.seen.sent f) (e net s) (h.cause net s);
   stop = h.stop;
   size = h.size;
   configs = tt;
@@ -218,11 +243,11 @@ follows first second old mid new (Err f) h k = record {
 }
 
 -- the first part stops
-pub breaks : (first second : Network → Network) (old new : LabNet) (f : LabFault) → RunEnding first old new (Err f) → ((net : Network) → length net.datagrams ≤ length (second net).datagrams) → RunEnding (λ net. second (first net)) old new (Err f)
+pub breaks : (first second : Network → Network) (old new : LabNet) (f : LabFault) → RunEnding first old new (Err f) → ((net : Network) → Grows net (second net)) → RunEnding (λ net. second (first net)) old new (Err f)
 breaks first second old new f h e = record {
   done = tt;
   running = tt;
-  cause = λ net s. stop-more _ _ f (e (first net)) (h.cause net s);
+  cause = λ net s. stop-more _ _ new.seen.sent f (e (first net)) (h.cause net s);
   stop = h.stop;
   size = h.size;
   configs = tt;
@@ -284,7 +309,7 @@ goes-off ev old new r stop running (Refused fault bad same calm f) some = absurd
 goes-off ev old new r stop running (Stopped fault bad at size f) some = record {
   done = tt;
   running = tt;
-  cause = λ net s. subst (λ (g : LabFault). StopCause (length (after net ev).datagrams) g) (same fault stop (sym at ∙ some)) (f net s).1;
+  cause = λ net s. subst (λ (g : LabFault). StopCause (sent_in (after net ev)) new.seen.sent g) (same fault stop (sym at ∙ some)) (f net s).1;
   stop = some;
   size = size;
   configs = tt;

@@ -1,6 +1,7 @@
 -- What a router answers, as datagrams.
-use Rattle.std.proofs.Common.{◌≡◌, ℕ, ◌+◌, List, [], ◌∷◌, ◌++◌, map, length, Option, Some, None, Result, Ok, Err, IfErr, OnOk, append-nil, refl, sym, ap, ◌∙◌, subst}
-use Rattle.std.proofs.lemmas.List.{length-map}
+use Rattle.std.proofs.Common.{◌≡◌, ℕ, ◌+◌, ◌-◌, ◌<◌, ◌≤◌, List, [], ◌∷◌, ◌++◌, map, take, length, Option, Some, None, Result, Ok, Err, IfErr, OnOk, append-nil, length-append, refl, sym, ap, ◌∙◌, subst, arith}
+use Rattle.std.proofs.lemmas.List.{length-map, take-map}
+use Rattle.std.proofs.Math.Seq.{take-append-add}
 use Rattle.isis_model.specs.Places.{nth}
 use Rattle.isis_model.specs.Routers.{Circuit, Router}
 use Rattle.isis_model.specs.Datagrams.{Sent}
@@ -14,8 +15,9 @@ use Rattle.router_core.specs.declared.reply.Reply.TheVariants as reply
 use Rattle.network_lab.specs.declared.sent.Changes.{Changes}
 use Rattle.network_lab.specs.LabNets.{counts_in, sent_of}
 use Rattle.network_lab.specs.declared.sent.SentDatagram.{SentDatagram}
-use Rattle.network_lab.specs.declared.faults.LabFault.{LabFault}
+use Rattle.key_net.specs.declared.faults.LabFault.{LabFault}
 use Rattle.network_lab.specs.LabSteps.{sent_by, StopCause}
+use Rattle.network_lab.specs.LabCauses.{IsPast}
 
 each-sent : (i link : ℕ) (t : Router) (place : ℕ) (c : Circuit) (out : List Sent) → map sent_of (map (post_of i link t place c) out) ≡ map (sent_by i t.boot (counts_in (changes_of t)) link) (datagrams_on t place (Some c) out)
 each-sent i link t place c [] = refl
@@ -62,10 +64,10 @@ pub send-ok : {U E : Type 0} (res : Result U E) (sender link boot : ℕ) (change
 send-ok (Err e) sender link boot changes lk answer ds items sent new on is same h = tt
 send-ok (Ok u) sender link boot changes lk answer ds items sent new on is same h = λ r place m ans at counts. h ∙ ap (λ (xs : List SentDatagram). sent ++ xs) (sym (sent-is sender link boot changes lk answer ds items r place m on is same ans at counts))
 
-pub send-err : {U : Type 0} (res : Result U LabFault) (sender link boot count : ℕ) (changes : Changes) (lk : Option ℕ) (answer : Reply) (ds items : List (List ℕ)) → lk ≡ Some link → answer ≡ reply.Send ds → items ≡ ds → IfErr res (StopCause (count + length items))
-    → IfErr res (λ fault. (r : Router) (place : ℕ) (m : model.Reply) → Answers r place m answer → boot ≡ r.boot → changes ≡ counts_in (changes_of r) → StopCause (count + length (map sent_of (posted sender lk r place m))) fault)
-send-err (Ok u) sender link boot count changes lk answer ds items on is same h = tt
-send-err (Err f) sender link boot count changes lk answer ds items on is same h = λ r place m ans at counts. subst (λ (n : ℕ). StopCause (count + n) f) (sym (ap length (sent-is sender link boot changes lk answer ds items r place m on is same ans at counts) ∙ length-map items (sent_by sender boot changes link))) h
+pub send-err : {U : Type 0} (res : Result U LabFault) (sender link boot : ℕ) (changes : Changes) (lk : Option ℕ) (answer : Reply) (ds items : List (List ℕ)) (sent new : List SentDatagram) → lk ≡ Some link → answer ≡ reply.Send ds → items ≡ ds → IfErr res (StopCause (sent ++ map (sent_by sender boot changes link) items) new)
+    → IfErr res (λ fault. (r : Router) (place : ℕ) (m : model.Reply) → Answers r place m answer → boot ≡ r.boot → changes ≡ counts_in (changes_of r) → StopCause (sent ++ map sent_of (posted sender lk r place m)) new fault)
+send-err (Ok u) sender link boot changes lk answer ds items sent new on is same h = tt
+send-err (Err f) sender link boot changes lk answer ds items sent new on is same h = λ r place m ans at counts. subst (λ (xs : List SentDatagram). StopCause (sent ++ xs) new f) (sym (sent-is sender link boot changes lk answer ds items r place m on is same ans at counts)) h
 
 pub send-done : (sender boot : ℕ) (changes : Changes) (lk : Option ℕ) (answer : Reply) (sent : List SentDatagram) → answer ≡ reply.Done → (r : Router) (place : ℕ) (m : model.Reply) → Answers r place m answer → boot ≡ r.boot → changes ≡ counts_in (changes_of r) → sent ≡ sent ++ map sent_of (posted sender lk r place m)
 send-done sender boot changes None answer sent is r place m ans at counts = sym (append-nil sent)
@@ -74,3 +76,14 @@ send-done sender boot changes (Some link) answer sent is r place m ans at counts
 pub send-drop : (sender boot : ℕ) (changes : Changes) (lk : Option ℕ) (answer : Reply) (cause : DropCause) (sent : List SentDatagram) → answer ≡ reply.Dropped cause → (r : Router) (place : ℕ) (m : model.Reply) → Answers r place m answer → boot ≡ r.boot → changes ≡ counts_in (changes_of r) → sent ≡ sent ++ map sent_of (posted sender lk r place m)
 send-drop sender boot changes None answer cause sent is r place m ans at counts = sym (append-nil sent)
 send-drop sender boot changes (Some link) answer cause sent is r place m ans at counts = sym (append-nil sent) ∙ ap (λ (xs : List SentDatagram). sent ++ xs) (sym (drop-sends sender link r place m cause (subst (λ (a : Reply). Answers r place m a) is ans)))
+
+-- ---- past the limit
+
+pub first-kept : (f : List ℕ → SentDatagram) (sent new : List SentDatagram) (items kept : List (List ℕ)) (room : ℕ) → length sent ≤ 262144 → room ≡ 262144 - length sent → room < length items → kept ≡ take room items → new ≡ sent ++ map f kept → IsPast (sent ++ map f items) new
+first-kept f sent new items kept room few is past first now = (
+  let a = length-append sent (map f items) in let b = length-map items f in omega (arith, a, b, few, is, past),
+  now ∙ (ap (λ (xs : List (List ℕ)). sent ++ map f xs) first ∙ (ap (λ (xs : List SentDatagram). sent ++ xs) (sym (take-map f room items)) ∙ (sym (take-append-add sent (map f items) room) ∙ ap (λ (n : ℕ). take n (sent ++ map f items)) whole))),
+)
+  where
+    whole : length sent + room ≡ 262144
+    whole = omega (arith, few, is)

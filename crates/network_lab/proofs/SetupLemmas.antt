@@ -9,7 +9,7 @@ use Rattle.router_desk.specs.Limits.{IsCircuit, IsValid}
 use Rattle.router_core.specs.Reached.{IsReached}
 use Rattle.network_lab.specs.declared.notes.Notes.{Notes}
 use Rattle.network_lab.specs.declared.sent.SentDatagram.{SentDatagram}
-use Rattle.network_lab.specs.declared.faults.LabFault.{LabFault}
+use Rattle.key_net.specs.declared.faults.LabFault.{LabFault}
 use Rattle.network_lab.specs.LabNets.{LabNet, router_of, reconfigured, with_changed, with_config}
 use Rattle.network_lab.specs.LabInside.{IsFit, IsNet}
 use Rattle.network_lab.specs.LabSteps.{with_circuit_at}

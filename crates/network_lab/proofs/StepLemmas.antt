@@ -18,7 +18,7 @@ use Rattle.network_model.specs.Networks.{restarted}
 use Rattle.network_model.specs.Runs.{changes_of, boot_of, posted}
 use Rattle.network_lab.specs.declared.notes.Notes.{Notes}
 use Rattle.network_lab.specs.declared.sent.SentDatagram.{SentDatagram}
-use Rattle.network_lab.specs.declared.faults.LabFault.{LabFault}
+use Rattle.key_net.specs.declared.faults.LabFault.{LabFault}
 use Rattle.network_lab.specs.declared.sent.Changes.{Changes}
 use Rattle.network_lab.specs.declared.heard_range.HeardRange.{HeardRange}
 use Rattle.network_lab.specs.LabNets.{counts_in, sent_of}
@@ -77,14 +77,14 @@ take-sends (Ok u) old now i link boot changes event reply sent new h k b v s = o
     of None q h k = tt
     of (Some r) q h k = s (step given r (event_of r event)).router (place_of (event_of r event)) (step given r (event_of r event)).reply k (boot-now old now i event r boot q h b) (counts-now old now i event r changes q h v)
 
-pub take-stops : {U : Type 0} (res : Result U LabFault) (old now : List Router) (i : ℕ) (link : Option ℕ) (boot : ℕ) (changes : Changes) (event : NodeEvent) (reply : Reply) (sent : List SentDatagram)
+pub take-stops : {U : Type 0} (res : Result U LabFault) (old now : List Router) (i : ℕ) (link : Option ℕ) (boot : ℕ) (changes : Changes) (event : NodeEvent) (reply : Reply) (sent new : List SentDatagram)
     → IfSome (nth old i) (Now old now i event) → IfSome (nth old i) (Says event reply) → boot ≡ boot_of (nth now i) → changes ≡ counts_at (nth now i)
-    → IfErr res (λ fault. (r : Router) (place : ℕ) (m : model.Reply) → Answers r place m reply → boot ≡ r.boot → changes ≡ counts_in (changes_of r) → StopCause (length sent + length (map sent_of (posted i link r place m))) fault)
-    → IfErr res (λ fault. IfSome (nth old i) (λ r. StopCause (length sent + length (posted_in i link (event_of r event) r)) fault))
-take-stops (Ok u) old now i link boot changes event reply sent h k b v s = tt
-take-stops (Err f) old now i link boot changes event reply sent h k b v s = of (nth old i) refl h k
+    → IfErr res (λ fault. (r : Router) (place : ℕ) (m : model.Reply) → Answers r place m reply → boot ≡ r.boot → changes ≡ counts_in (changes_of r) → StopCause (sent ++ map sent_of (posted i link r place m)) new fault)
+    → IfErr res (λ fault. IfSome (nth old i) (λ r. StopCause (sent ++ posted_in i link (event_of r event) r) new fault))
+take-stops (Ok u) old now i link boot changes event reply sent new h k b v s = tt
+take-stops (Err f) old now i link boot changes event reply sent new h k b v s = of (nth old i) refl h k
   where
-    of : (o : Option Router) → nth old i ≡ o → IfSome o (Now old now i event) → IfSome o (Says event reply) → IfSome o (λ r. StopCause (length sent + length (posted_in i link (event_of r event) r)) f)
+    of : (o : Option Router) → nth old i ≡ o → IfSome o (Now old now i event) → IfSome o (Says event reply) → IfSome o (λ r. StopCause (sent ++ posted_in i link (event_of r event) r) new f)
     of None q h k = tt
     of (Some r) q h k = s (step given r (event_of r event)).router (place_of (event_of r event)) (step given r (event_of r event)).reply k (boot-now old now i event r boot q h b) (counts-now old now i event r changes q h v)
 

@@ -1,5 +1,5 @@
 -- How each event of a network ends.
-use Rattle.std.proofs.Common.{◌≡◌, ℕ, zero, suc, ◌-◌, ◌+◌, ◌<◌, ◌≤◌, ◌==◌, ◌&&◌, not, nat_le, is_some, Bool, true, false, List, [], ◌∷◌, ◌++◌, get_or, unwrap_or, map, length, Option, Some, None, Result, Ok, Err, IfSome, IfErr, OnOk, if◌then◌else◌, refl, sym, ap, ◌∙◌, subst, arith, length-append}
+use Rattle.std.proofs.Common.{◌≡◌, ℕ, zero, suc, ◌-◌, ◌<◌, ◌≤◌, ◌==◌, ◌&&◌, not, nat_le, is_some, Bool, true, false, List, [], ◌∷◌, ◌++◌, get_or, unwrap_or, map, length, Option, Some, None, Result, Ok, Err, IfSome, IfErr, OnOk, if◌then◌else◌, refl, sym, ap, ◌∙◌, subst, arith}
 use Rattle.std.specs.Option.{option_map}
 use Rattle.std.specs.Result.{result_err}
 use Rattle.std.proofs.lemmas.List.{length-map}
@@ -27,10 +27,10 @@ use Rattle.network_lab.specs.declared.notes.Notes.{Notes}
 use Rattle.network_lab.specs.declared.sent.SentDatagram.{SentDatagram}
 use Rattle.network_lab.specs.declared.event.LabEvent.{LabEvent}
 use Rattle.network_lab.specs.declared.event.LabEvent.TheVariants as event
-use Rattle.network_lab.specs.declared.faults.LabFault.{LabFault}
-use Rattle.network_lab.specs.declared.faults.LabFault.TheVariants as fault
-use Rattle.network_lab.specs.declared.faults.LimitName.TheVariants as limit
-use Rattle.network_lab.specs.LabNets.{Seen, LabNet, sent_of, seen_of, at_circuit}
+use Rattle.key_net.specs.declared.faults.LabFault.{LabFault}
+use Rattle.key_net.specs.declared.faults.LabFault.TheVariants as fault
+use Rattle.key_net.specs.declared.faults.LimitName.TheVariants as limit
+use Rattle.network_lab.specs.LabNets.{Seen, LabNet, seen_of, at_circuit}
 use Rattle.network_lab.specs.LabConfigs.{config_after, changed_at, configs_after}
 use Rattle.network_lab.specs.LabEvents.{refusal, after, unless_changes, change_of}
 use Rattle.network_lab.specs.LabCauses.{IsStop}
@@ -58,7 +58,7 @@ view configs rs links ds n ts begun stopped = record {
 }
 
 taken-of : (configs : List Config) (rs now : List Router) (links : List (List End)) (ds sent : List SentDatagram) (n : ℕ) (ts us : Notes) (begun : Bool) (i : ℕ) (link : Option ℕ) (event : NodeEvent) (range : Option HeardRange) (res : Result (Unit {0}) LabFault) (r : Router)
-    → OnOk res (now ≡ with_nth rs i (step given r (event_of r event)).router) → OnOk res (sent ≡ ds ++ posted_in i link (event_of r event) r) → OnOk res (us ≡ noted_in range (step given r (event_of r event)) ts) → IfErr res (StopCause (length ds + length (posted_in i link (event_of r event) r))) → counts_of now ≡ counts_of rs
+    → OnOk res (now ≡ with_nth rs i (step given r (event_of r event)).router) → OnOk res (sent ≡ ds ++ posted_in i link (event_of r event) r) → OnOk res (us ≡ noted_in range (step given r (event_of r event)) ts) → IfErr res (StopCause (ds ++ posted_in i link (event_of r event) r) sent) → counts_of now ≡ counts_of rs
     → Taken (view configs rs links ds n ts begun None) (view configs now links sent n us true (result_err res)) (moved_in (view configs rs links ds n ts begun None).seen i link (event_of r event) r range) res
 unfolding view
 taken-of configs rs now links ds sent n ts us begun i link event range (Ok u) r a b w c k = record {
@@ -73,13 +73,13 @@ taken-of configs rs now links ds sent n ts us begun i link event range (Ok u) r 
 taken-of configs rs now links ds sent n ts us begun i link event range (Err f) r a b w c k = record {
   done = tt;
   stop = refl;
-  cause = subst (λ (m : ℕ). StopCause m f) (sym (length-append ds (posted_in i link (event_of r event) r))) c;
+  cause = c;
   size = record { links = refl; routers = sym (length-map now (λ (r : Router). length r.circuits)) ∙ (ap length k ∙ length-map rs (λ (r : Router). length r.circuits)) };
 }
 
 pub take-ends : (configs : List Config) (rs now : List Router) (links : List (List End)) (ds sent : List SentDatagram) (n : ℕ) (ts us : Notes) (begun : Bool) (stopped stop : Option LabFault) (old : LabNet) (i : ℕ) (link : Option ℕ) (event : NodeEvent) (range : Option HeardRange) (res : Result (Unit {0}) LabFault)
     → (record { configs = configs; seen = record { routers = rs; links = links; sent = ds; injected = n; noted = ts }; begun = begun; stopped = stopped }) ≡ old → old.stopped ≡ None
-    → OnOk res (IfSome (nth rs i) (λ r. now ≡ with_nth rs i (step given r (event_of r event)).router)) → OnOk res (IfSome (nth rs i) (λ r. sent ≡ ds ++ posted_in i link (event_of r event) r)) → OnOk res (IfSome (nth rs i) (λ r. us ≡ noted_in range (step given r (event_of r event)) ts)) → IfErr res (λ f. IfSome (nth rs i) (λ r. StopCause (length ds + length (posted_in i link (event_of r event) r)) f))
+    → OnOk res (IfSome (nth rs i) (λ r. now ≡ with_nth rs i (step given r (event_of r event)).router)) → OnOk res (IfSome (nth rs i) (λ r. sent ≡ ds ++ posted_in i link (event_of r event) r)) → OnOk res (IfSome (nth rs i) (λ r. us ≡ noted_in range (step given r (event_of r event)) ts)) → IfErr res (λ f. IfSome (nth rs i) (λ r. StopCause (ds ++ posted_in i link (event_of r event) r) sent f))
     → counts_of now ≡ counts_of rs → stop ≡ result_err res
     → IfSome (nth old.seen.routers i) (λ r. Taken old (record { configs = configs; seen = record { routers = now; links = links; sent = sent; injected = n; noted = us }; begun = true; stopped = stop }) (moved_in old.seen i link (event_of r event) r range) res)
 unfolding view
@@ -90,7 +90,7 @@ take-ends configs rs now links ds sent n ts us begun stopped stop old i link eve
     none : view configs rs links ds n ts begun None ≡ view configs rs links ds n ts begun stopped
     none = ap (λ (x : Option LabFault). view configs rs links ds n ts begun x) (sym (ap (λ (l : LabNet). l.stopped) is ∙ running))
 
-    of : (o : Option Router) → nth rs i ≡ o → (res : Result (Unit {0}) LabFault) → OnOk res (IfSome o (λ r. now ≡ with_nth rs i (step given r (event_of r event)).router)) → OnOk res (IfSome o (λ r. sent ≡ ds ++ posted_in i link (event_of r event) r)) → OnOk res (IfSome o (λ r. us ≡ noted_in range (step given r (event_of r event)) ts)) → IfErr res (λ f. IfSome o (λ r. StopCause (length ds + length (posted_in i link (event_of r event) r)) f))
+    of : (o : Option Router) → nth rs i ≡ o → (res : Result (Unit {0}) LabFault) → OnOk res (IfSome o (λ r. now ≡ with_nth rs i (step given r (event_of r event)).router)) → OnOk res (IfSome o (λ r. sent ≡ ds ++ posted_in i link (event_of r event) r)) → OnOk res (IfSome o (λ r. us ≡ noted_in range (step given r (event_of r event)) ts)) → IfErr res (λ f. IfSome o (λ r. StopCause (ds ++ posted_in i link (event_of r event) r) sent f))
         → IfSome o (λ r. Taken (view configs rs links ds n ts begun None) (view configs now links sent n us true (result_err res)) (moved_in (view configs rs links ds n ts begun None).seen i link (event_of r event) r range) res)
     of None q res a b w c = tt
     of (Some r) q (Ok u) a b w c = taken-of configs rs now links ds sent n ts us begun i link event range (Ok u) r a b w c k
@@ -387,7 +387,7 @@ pub change-breaks : (old new : LabNet) (i : ℕ) (c : Change) (r : Router) (f : 
 change-breaks old new i c r f running q h t =
     let taken : Taken old new (moved_in old.seen i None (core.change_of c) r None) (Err f) = of-place (λ r. Taken old new (moved_in old.seen i None (core.change_of c) r None) (Err f)) (nth old.seen.routers i) r q t in
     Stopped f refl taken.stop taken.size
-    (λ net k. let d = change-done old.seen i c r q h net k.seen in (d.0, subst (λ (n : ℕ). StopCause n f) (sym (ap (λ (s : Seen). length s.sent) d.1) ∙ length-map (after net (event.Change i c)).datagrams sent_of) taken.cause))
+    (λ net k. let d = change-done old.seen i c r q h net k.seen in (d.0, subst (λ (xs : List SentDatagram). StopCause xs new.seen.sent f) (sym (ap (λ (s : Seen). s.sent) d.1)) taken.cause))
 
 pub change-stops : (old new : LabNet) (i : ℕ) (c : Change) (r : Router) (res : Result (Unit {0}) LabFault) → nth old.seen.routers i ≡ Some r → unless_changes (Some r) c ≡ None → res ≡ Err fault.OutOfMemory → new ≡ record old { begun = true; stopped = Some fault.OutOfMemory } → Ending (event.Change i c) old new res
 change-stops old new i c r res q h bad is =

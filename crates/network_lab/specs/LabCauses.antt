@@ -1,15 +1,16 @@
 -- When each fault of a network of routers comes (own).
-use Rattle.std.specs.Prelude.{◌≡◌, ℕ, ◌≤◌, ◌<◌, nat_le, Bool, true, false, ◌||◌, List, [], ◌∷◌, length, Option, Some, None, IfSome}
+use Rattle.std.specs.Prelude.{◌≡◌, ℕ, ◌≤◌, ◌<◌, nat_le, Bool, true, false, ◌||◌, List, [], ◌∷◌, length, take, Option, Some, None, IfSome}
 use Rattle.isis_model.specs.Places.{nth}
 use Rattle.router_core.specs.Givens.{given}
 use Rattle.network_model.specs.declared.word.PduWord.{PduWord}
 use Rattle.network_model.specs.Networks.{Network}
 use Rattle.network_model.specs.RunLines.{run_line}
-use Rattle.network_lab.specs.declared.faults.LabFault.{LabFault}
-use Rattle.network_lab.specs.declared.faults.LabFault.TheVariants as fault
-use Rattle.network_lab.specs.declared.faults.LimitName.TheVariants as limit
+use Rattle.key_net.specs.declared.faults.LabFault.{LabFault}
+use Rattle.key_net.specs.declared.faults.LabFault.TheVariants as fault
+use Rattle.key_net.specs.declared.faults.LimitName.TheVariants as limit
 use Rattle.router_desk.specs.declared.config.Config.{Config}
-use Rattle.network_lab.specs.LabNets.{LabNet, circuit_count}
+use Rattle.network_lab.specs.declared.sent.SentDatagram.{SentDatagram}
+use Rattle.network_lab.specs.LabNets.{LabNet, circuit_count, sent_in}
 
 -- when a router isn't added
 abbrev pub RouterCause : LabNet → LabFault → Type 0
@@ -44,11 +45,16 @@ IsStop (fault.Limit limit.Datagrams) = Unit {0}
 IsStop fault.OutOfMemory = Unit {0}
 IsStop fault = ⊥
 
+-- more is sent than the 262,144 datagrams that are kept, and those that were sent first are kept
+abbrev pub IsPast : List SentDatagram → List SentDatagram → Type 0
+IsPast sent kept = (262144 < length sent) × (kept ≡ take 262144 sent)
+
 -- why a line `run` isn't carried out: the run was stopped before; it sends more than 262,144
--- datagrams in all; or memory was wanting
-abbrev pub RunCause : Network → Option LabFault → Option PduWord → Option ℕ → ℕ → LabFault → Type 0
-RunCause net (Some stop) without except seconds fault = fault ≡ stop
-RunCause net None without except seconds fault.OutOfMemory = Unit {0}
-RunCause net None without except seconds (fault.Limit limit.Datagrams) =
-    262144 < length (run_line given without except seconds net).datagrams
-RunCause net None without except seconds fault = ⊥
+-- datagrams in all, of which the first are kept; or memory was wanting
+abbrev pub RunCause : Network → Option LabFault → Option PduWord → Option ℕ → ℕ
+    → List SentDatagram → LabFault → Type 0
+RunCause net (Some stop) without except seconds kept fault = fault ≡ stop
+RunCause net None without except seconds kept fault.OutOfMemory = Unit {0}
+RunCause net None without except seconds kept (fault.Limit limit.Datagrams) =
+    IsPast (sent_in (run_line given without except seconds net)) kept
+RunCause net None without except seconds kept fault = ⊥

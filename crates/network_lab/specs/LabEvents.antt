@@ -1,6 +1,6 @@
 -- Events of a network of routers: what each does to the network that it stands for, and when it is
 -- refused (own).
-use Rattle.std.specs.Prelude.{◌≡◌, ℕ, ◌-◌, ◌<◌, ◌≤◌, ◌&&◌, not, nat_le, length, Option, Some, None, is_some, IfSome, if◌then◌else◌}
+use Rattle.std.specs.Prelude.{◌≡◌, ℕ, ◌-◌, ◌<◌, ◌≤◌, ◌&&◌, not, nat_le, List, length, Option, Some, None, is_some, IfSome, if◌then◌else◌}
 use Rattle.isis_model.specs.Places.{nth}
 use Rattle.isis_model.specs.Maps.{find}
 use Rattle.isis_model.specs.Routers.{Router}
@@ -12,12 +12,14 @@ use Rattle.router_core.specs.Givens.{given}
 use Rattle.network_model.specs.Networks.{Network, place_at, numbered}
 use Rattle.network_model.specs.Runs as model
 use Rattle.network_model.specs.Runs.{Happening, Arrival, NotSent, Stale, NotOn, Arrives, arrival, apply}
-use Rattle.network_lab.specs.declared.faults.LabFault.{LabFault}
-use Rattle.network_lab.specs.declared.faults.LabFault.TheVariants as fault
-use Rattle.network_lab.specs.declared.faults.LimitName.TheVariants as limit
+use Rattle.key_net.specs.declared.faults.LabFault.{LabFault}
+use Rattle.key_net.specs.declared.faults.LabFault.TheVariants as fault
+use Rattle.key_net.specs.declared.faults.LimitName.TheVariants as limit
 use Rattle.network_lab.specs.declared.event.LabEvent.{LabEvent}
 use Rattle.network_lab.specs.declared.event.LabEvent.TheVariants as event
-use Rattle.network_lab.specs.LabNets.{Seen}
+use Rattle.network_lab.specs.declared.sent.SentDatagram.{SentDatagram}
+use Rattle.network_lab.specs.LabNets.{Seen, sent_in}
+use Rattle.network_lab.specs.LabCauses.{IsPast}
 
 -- own
 abbrev pub change_of : ℕ → Change → Happening
@@ -102,10 +104,11 @@ abbrev pub after : Network → LabEvent → Network
 after net event = apply given net (happening_of event)
 
 -- Why an event isn't applied: the run was stopped before; the event is refused; it sent more than
--- 262,144 datagrams in all; or memory was wanting (own).
-abbrev pub ApplyCause : Network → Option LabFault → LabEvent → LabFault → Type 0
-ApplyCause net (Some stop) event fault = fault ≡ stop
-ApplyCause net None event fault.OutOfMemory = Unit {0}
-ApplyCause net None event (fault.Limit limit.Datagrams) =
-    (refusal net event ≡ None) × (262144 < length (after net event).datagrams)
-ApplyCause net None event fault = refusal net event ≡ Some fault
+-- 262,144 datagrams in all, of which the first are kept; or memory was wanting (own).
+abbrev pub ApplyCause : Network → Option LabFault → LabEvent → List SentDatagram → LabFault
+    → Type 0
+ApplyCause net (Some stop) event kept fault = fault ≡ stop
+ApplyCause net None event kept fault.OutOfMemory = Unit {0}
+ApplyCause net None event kept (fault.Limit limit.Datagrams) =
+    (refusal net event ≡ None) × IsPast (sent_in (after net event)) kept
+ApplyCause net None event kept fault = refusal net event ≡ Some fault

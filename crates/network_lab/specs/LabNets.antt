@@ -12,7 +12,7 @@ use Rattle.router_desk.specs.declared.config.Config.{Config}
 use Rattle.router_desk.specs.Configs.{config_of, circuits_of}
 use Rattle.network_model.specs.declared.end.End.{End}
 use Rattle.network_model.specs.Networks.{Datagram, octets_of, Network}
-use Rattle.network_lab.specs.declared.faults.LabFault.{LabFault}
+use Rattle.key_net.specs.declared.faults.LabFault.{LabFault}
 use Rattle.network_lab.specs.declared.notes.Notes.{Notes}
 use Rattle.network_lab.specs.declared.sent.Changes.{Changes}
 use Rattle.network_lab.specs.declared.sent.SentDatagram.{SentDatagram}
@@ -53,12 +53,16 @@ sent_of d = record {
   octets = octets_of d;
 }
 
+-- all that was sent in a network of the model (own)
+abbrev pub sent_in : Network → List SentDatagram
+sent_in net = map sent_of net.datagrams
+
 -- what is seen of a network of the model (own)
 abbrev pub seen_of : Network → Seen
 seen_of net = record {
   routers = net.routers;
   links = net.links;
-  sent = map sent_of net.datagrams;
+  sent = sent_in net;
   injected = net.injected;
   noted = record { past = net.past; takings = net.takings };
 }

@@ -1,5 +1,5 @@
 -- How a part of a line `run` ends (own).
-use Rattle.std.specs.Prelude.{◌≡◌, ℕ, ◌==◌, ◌||◌, length, Option, Some, None, Result, IfErr, OnOk, if◌then◌else◌}
+use Rattle.std.specs.Prelude.{◌≡◌, ℕ, ◌==◌, ◌||◌, Option, Some, None, Result, IfErr, OnOk, if◌then◌else◌}
 use Rattle.router_core.specs.Givens.{given}
 use Rattle.network_model.specs.declared.word.PduWord.{PduWord}
 use Rattle.network_model.specs.Networks.{Network, numbered}
@@ -7,8 +7,8 @@ use Rattle.network_model.specs.Runs.{Tick, Deliver, apply}
 use Rattle.network_model.specs.RunLines.{is_excepted, where_found, deliver_one, pull_links, links_at}
 use Rattle.network_lab.specs.declared.event.LabEvent.{LabEvent}
 use Rattle.network_lab.specs.declared.event.LabEvent.TheVariants as event
-use Rattle.network_lab.specs.declared.faults.LabFault.{LabFault}
-use Rattle.network_lab.specs.LabNets.{LabNet, StandsFor}
+use Rattle.key_net.specs.declared.faults.LabFault.{LabFault}
+use Rattle.network_lab.specs.LabNets.{LabNet, StandsFor, sent_in}
 use Rattle.network_lab.specs.LabSteps.{SameSize, StopCause}
 
 -- a second of a router that isn't left out
@@ -55,7 +55,7 @@ pub record RunEnding (part : Network → Network) (old new : LabNet)
   pub done : OnOk result ((net : Network) → StandsFor net old → StandsFor (part net) new)
   pub running : OnOk result (new.stopped ≡ None)
   pub cause : IfErr result (λ fault. (net : Network) → StandsFor net old
-      → StopCause (length (part net).datagrams) fault)
+      → StopCause (sent_in (part net)) new.seen.sent fault)
   pub stop : IfErr result (λ fault. new.stopped ≡ Some fault)
   pub size : SameSize old new
   pub configs : OnOk result (new.configs ≡ old.configs)

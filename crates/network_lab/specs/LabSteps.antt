@@ -1,5 +1,5 @@
 -- What an event does to what is seen of a network, and how a call that carries it out ends (own).
-use Rattle.std.specs.Prelude.{◌≡◌, ℕ, ◌<◌, ◌==◌, not, true, List, ◌++◌, map, length, Option, Some, None, Result, Ok, Err, IfErr, OnOk, if◌then◌else◌}
+use Rattle.std.specs.Prelude.{◌≡◌, ℕ, ◌==◌, not, true, List, ◌++◌, map, length, Option, Some, None, Result, Ok, Err, IfErr, OnOk, if◌then◌else◌}
 use Rattle.isis_model.specs.Places.{nth, with_nth}
 use Rattle.isis_model.specs.Routers.{Router}
 use Rattle.isis_model.specs.Events.{Event}
@@ -14,14 +14,14 @@ use Rattle.network_lab.specs.declared.sent.Changes.{Changes}
 use Rattle.network_lab.specs.declared.sent.SentDatagram.{SentDatagram}
 use Rattle.network_lab.specs.declared.heard_range.HeardRange.{HeardRange}
 use Rattle.network_lab.specs.declared.event.LabEvent.{LabEvent}
-use Rattle.network_lab.specs.declared.faults.LabFault.{LabFault}
-use Rattle.network_lab.specs.declared.faults.LabFault.TheVariants as fault
-use Rattle.network_lab.specs.declared.faults.LimitName.TheVariants as limit
-use Rattle.network_lab.specs.LabNets.{Seen, LabNet, StandsFor, sent_of}
+use Rattle.key_net.specs.declared.faults.LabFault.{LabFault}
+use Rattle.key_net.specs.declared.faults.LabFault.TheVariants as fault
+use Rattle.key_net.specs.declared.faults.LimitName.TheVariants as limit
+use Rattle.network_lab.specs.LabNets.{Seen, LabNet, StandsFor, sent_of, sent_in}
 use Rattle.network_lab.specs.LabConfigs.{configs_after}
 use Rattle.network_lab.specs.LabTakings.{noted_in}
 use Rattle.network_lab.specs.LabEvents.{refusal, after}
-use Rattle.network_lab.specs.LabCauses.{IsStop}
+use Rattle.network_lab.specs.LabCauses.{IsStop, IsPast}
 
 -- a configuration with another circuit at a place
 abbrev pub with_circuit_at : Config → ℕ → CircuitConfig → Config
@@ -48,11 +48,11 @@ moved_in a i link event r heard = record a {
   noted = noted_in heard (step given r event) a.noted;
 }
 
--- why what is sent isn't kept: there are so many datagrams then, or memory was wanting
-abbrev pub StopCause : ℕ → LabFault → Type 0
-StopCause count fault.OutOfMemory = Unit {0}
-StopCause count (fault.Limit limit.Datagrams) = 262144 < count
-StopCause count fault = ⊥
+-- why what is sent isn't kept: it is too much, and the first of it is kept; or memory was wanting
+abbrev pub StopCause : List SentDatagram → List SentDatagram → LabFault → Type 0
+StopCause sent kept fault.OutOfMemory = Unit {0}
+StopCause sent kept (fault.Limit limit.Datagrams) = IsPast sent kept
+StopCause sent kept fault = ⊥
 
 -- the link on which a datagram is delivered, or why it isn't: it isn't there yet, its sender restarted
 -- since, or the router sent it itself
@@ -72,7 +72,7 @@ pub record SameSize (old new : LabNet) : Type 0 where
 pub record Taken (old new : LabNet) (seen : Seen) (result : Result (Unit {0}) LabFault) : Type 0 where
   pub done : OnOk result (new ≡ record old { seen = seen; begun = true })
   pub stop : IfErr result (λ fault. new.stopped ≡ Some fault)
-  pub cause : IfErr result (StopCause (length seen.sent))
+  pub cause : IfErr result (StopCause seen.sent new.seen.sent)
   pub size : SameSize old new
 
 -- How an event of a network that wasn't stopped ends: it is carried out; it is refused, and nothing
@@ -88,5 +88,5 @@ pub data Ending (event : LabEvent) (old new : LabNet) (result : Result (Unit {0}
       → Ending event old new result
   Stopped : (fault : LabFault) → result ≡ Err fault → new.stopped ≡ Some fault → SameSize old new
       → ((net : Network) → StandsFor net old
-      → (refusal net event ≡ None) × StopCause (length (after net event).datagrams) fault)
+      → (refusal net event ≡ None) × StopCause (sent_in (after net event)) new.seen.sent fault)
       → Ending event old new result

@@ -1,18 +1,11 @@
--- The definitions: causes, held, inside, keys net, limits, keys held, lab nets, lab configs, lab
--- events, lab takings, hearing, lab causes, agreements, claims, LAN states, link states, reached,
--- acknowledged, lab inside, joining, lab steps, lab runs.
-pub mod Causes
-pub mod Held
-pub mod Inside
-pub mod KeysNet
-pub mod Limits
-pub mod KeysHeld
+-- The definitions: lab nets, lab causes, lab configs, lab events, lab takings, hearing, agreements,
+-- claims, LAN states, link states, reached, acknowledged, lab inside, joining, lab steps, lab runs.
 pub mod LabNets
+pub mod LabCauses
 pub mod LabConfigs
 pub mod LabEvents
 pub mod LabTakings
 pub mod Hearing
-pub mod LabCauses
 pub mod Agreements
 pub mod Claims
 pub mod LanStates

@@ -6,7 +6,7 @@ ghost use Rattle.router_core.specs.Events.{event_of, Fits, IsThere};
 ghost use Rattle.network_model.specs.Networks.{Network as ModelNetwork, place_in, numbered};
 ghost use Rattle.network_model.specs.Runs.{taking};
 ghost use Rattle.network_lab.specs.declared.event.LabEvent.TheVariants as event;
-ghost use Rattle.network_lab.specs.declared.faults.LabFault.TheVariants.{OutOfMemory};
+ghost use Rattle.key_net.specs.declared.faults.LabFault.TheVariants.{OutOfMemory};
 ghost use Rattle.network_lab.specs.LabNets.{StandsFor};
 ghost use Rattle.network_lab.specs.LabEvents.{IsEvent, IsChange, refusal, after, unless_changes, ApplyCause};
 ghost use Rattle.network_lab.specs.LabConfigs.{configs_after};
@@ -17,12 +17,12 @@ ghost use Rattle.network_lab.specs.Claims.{IsClaimed};
 
 use crate::config_changes::changed;
 use crate::event::LabEvent;
-use crate::faults::{LabFault, LimitName};
 use crate::heard_range::HeardRange;
 use crate::network::Network;
 use crate::places::{boot_at, one_more, place_at, put_at};
 use crate::taking::{restart_at, take_at, taking_at};
 use isis_base::Octets;
+use key_net::{LabFault, LimitName};
 use router_core::{NodeEvent, Router};
 use router_desk::{Change, Config};
 
@@ -36,12 +36,13 @@ impl Network {
     /// One event. Whatever network of the model this network stood for, it then stands for that
     /// network after the event. `NotSent`, `Stale`, `NotOn`, `Limit(Prefixes)` and `Limit(Boots)`
     /// come exactly where the event is refused, which changes nothing; `Limit(Datagrams)` where it
-    /// sends past 262,144 datagrams. After `Limit(Datagrams)` or `OutOfMemory` each later call
-    /// answers the same. At Ok, where nothing was injected, the claims hold (ISO 10589 7.3.17): each
-    /// end of a point-to-point link that is up names the other, and what one end holds the other
-    /// holds as new or newer, or its SRM flag stands; routers of one group, and a member of a LAN with
-    /// the router that sweeps it, hold the same live LSPs; and what is held live under one number is
-    /// the same, unless the LSP ID is doubled. A change also changes the router's configuration.
+    /// sends past 262,144 datagrams, of which the first are kept. After `Limit(Datagrams)` or
+    /// `OutOfMemory` each later call answers the same. At Ok, where nothing was injected, the claims
+    /// hold (ISO 10589 7.3.17): each end of a point-to-point link that is up names the other, and
+    /// what one end holds the other holds as new or newer, or its SRM flag stands; routers of one
+    /// group, and a member of a LAN with the router that sweeps it, hold the same live LSPs; and what
+    /// is held live under one number is the same, unless the LSP ID is doubled. A change also changes
+    /// the router's configuration.
     pub fn apply(&mut self, event: LabEvent) -> Result<(), LabFault>
         requires there { IsEvent self.old.seen event }
         ensures run { OnOk result ((net : ModelNetwork) → StandsFor net self.old
@@ -50,7 +51,7 @@ impl Network {
             → IfSome (refusal net event)
             (λ fault. (result ≡ Err fault) × (self.new ≡ self.old)) }
         ensures cause { IfErr result (λ fault. (net : ModelNetwork) → StandsFor net self.old
-            → ApplyCause net self.old.stopped event fault) }
+            → ApplyCause net self.old.stopped event self.new.seen.sent fault) }
         ensures stopped { IfSome self.old.stopped
             (λ fault. (result ≡ Err fault) × (self.new ≡ self.old)) }
         ensures stops { IfErr result (λ fault. IsStop fault → self.new.stopped ≡ Some fault) }

@@ -16,19 +16,12 @@ ghost use Rattle.network_model.specs.Runs.{Happening, Deliver, apply, run};
 ghost use Rattle.network_model.specs.Ports.{Port};
 ghost use Rattle.network_model.specs.Kept.{IsPointLink};
 ghost use Rattle.network_model.specs.Speakers.{AreOctets};
-ghost use Rattle.network_lab.specs.declared.key_net.TheConstants.{ROUTER_LIMIT, LINK_LIMIT};
 ghost use Rattle.network_agreement.specs.Sweeps.{IsSweptBy};
 ghost use Rattle.network_lab.specs.LabNets.{Seen, seen_of};
 ghost use Rattle.network_lab.specs.LanStates.{swept_by};
 ghost use Rattle.network_lab.specs.Claims.{IsClaimed};
 ghost use Rattle.network_lab.specs.Reached.{IsReachedNet, IsFitting, AreFitting};
 ghost use Rattle.network_lab.specs.Acknowledged.{IsTaken, Acknowledges};
-
-/// The limits in numbers.
-pub fn limit_laws()
-    ensures routers { ROUTER_LIMIT ≡ 1024 }
-    ensures links { LINK_LIMIT ≡ 4096 }
-{}
 
 /// A network in its run, whose routers can be reached, goes on so with each event that fits, where
 /// what is sent are octets and nothing was injected. So after each event of a list, whatever is

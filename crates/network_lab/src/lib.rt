@@ -1,12 +1,9 @@
-//! Networks under a schedule. The plain network of numbered copies: routers pass keys along links, and each
-//! router holds, of each LSP ID, the newest key that reached it (ISO 10589 7.3.16). And the network of
-//! routers: an event steps one router, what that sends joins the datagrams, and any datagram is delivered at
-//! any later moment, any number of times. It stands for the run of network_model (own).
+//! The network of routers under a schedule: an event steps one router, what that sends joins the datagrams,
+//! and any datagram is delivered at any later moment, any number of times. It stands for the run of
+//! network_model (own). The plain network of numbered copies is key_net's.
 //!
-//! - `faults.rt`: why a call is refused
-//! - `key_net.rt`: the plain network; `laws.rt`: its limits, pinned by laws
-//! - `held.rt`: the newest keys of one router, by LSP ID
 //! - `network.rt`: the network of routers, and what is read of it; `event.rt`, `sent.rt`: its events and datagrams
+//! - `laws.rt`: what holds of every network
 //! - `setup.rt`: how it is set up; `joining.rt`: the routers that a link or LAN joins
 //! - `config_changes.rt`: configurations with the changes of a run
 //! - `applying.rt`: one event; `running.rt`: a line `run`
@@ -20,12 +17,9 @@ mod applying;
 mod config_changes;
 mod ends;
 mod event;
-mod faults;
 mod heard_range;
 mod hearing;
-mod held;
 mod joining;
-mod key_net;
 mod lan_state;
 mod lan_states;
 pub mod laws;
@@ -38,12 +32,9 @@ mod sent;
 mod setup;
 mod states;
 mod taking;
-#[cfg(test)]
-mod tests;
 
 pub use event::LabEvent;
-pub use faults::{LabFault, LimitName};
-pub use key_net::{KeyNet, LINK_LIMIT, ROUTER_LIMIT};
+pub use key_net::{KeyNet, LINK_LIMIT, LabFault, LimitName, ROUTER_LIMIT};
 pub use lan_state::LanState;
 pub use link_states::{Groups, LinkState};
 pub use network::Network;

@@ -11,12 +11,12 @@ ghost use Rattle.network_lab.specs.Claims.{AreEnds, IsClaimed};
 ghost use Rattle.network_lab.specs.LinkStates.{AreWithin};
 ghost use Rattle.network_lab.specs.Reached.{AreSmall, HasRun, HoldNothing};
 
-use crate::faults::LabFault;
 use crate::notes::Notes;
 use crate::places::sent_at;
 use crate::row::Row;
 use crate::sent::SentDatagram;
 use isis_base::{Level, LspId};
+use key_net::LabFault;
 use lan_sweeps::Sweeps;
 use network_model::End;
 use own_histories::Histories;

@@ -12,8 +12,8 @@ ghost use Rattle.network_lab.specs.Claims.{IsClaimed};
 ghost use Rattle.network_lab.specs.LabRuns.{RunEnding, IsOfRun, tick_unless, pull_unless, deliver_unless, pull_links_of, deliver_numbered};
 
 use crate::event::LabEvent;
-use crate::faults::LabFault;
 use crate::network::Network;
+use key_net::LabFault;
 use network_model::PduWord;
 
 /// What a line `run` leaves out: PDUs of a kind aren't delivered, and a router has no seconds, no
@@ -71,8 +71,9 @@ fn is_of(word: PduWord, octets: &[u8]) -> bool
 
 impl Network {
     /// So many seconds in which what is sent is delivered at once: the events of a line `run`. It
-    /// answers `Limit(Datagrams)`, as `apply` does, or `OutOfMemory`, and nothing else; then each
-    /// later call answers the same. At Ok the claim of links holds, as after `apply`.
+    /// answers `Limit(Datagrams)`, where the first 262,144 datagrams are kept, as `apply` does, or
+    /// `OutOfMemory`, and nothing else; then each later call answers the same. At Ok the claim of
+    /// links holds, as after `apply`.
     pub fn run(
         &mut self,
         seconds: u32,
@@ -84,7 +85,7 @@ impl Network {
         ensures run { OnOk result ((net : ModelNetwork) → StandsFor net self.old
             → StandsFor (run_line given without except seconds net) self.new) }
         ensures cause { IfErr result (λ fault. (net : ModelNetwork) → StandsFor net self.old
-            → RunCause net self.old.stopped without except seconds fault) }
+            → RunCause net self.old.stopped without except seconds self.new.seen.sent fault) }
         ensures stopped { IfSome self.old.stopped
             (λ fault. (result ≡ Err fault) × (self.new ≡ self.old)) }
         ensures stops { IfErr result (λ fault. self.new.stopped ≡ Some fault) }

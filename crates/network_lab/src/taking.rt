@@ -18,13 +18,13 @@ ghost use Rattle.network_lab.specs.LabInside.{counts_of};
 ghost use Rattle.network_lab.specs.LabSteps.{sent_by, posted_in, StopCause};
 ghost use Rattle.network_lab.specs.Reached.{AreSmall};
 
-use crate::faults::{LabFault, LimitName};
 use crate::heard_range::HeardRange;
 use crate::notes::Notes;
 use crate::places::{boot_at, changes_at, put_at};
 use crate::sent::{Changes, SentDatagram};
 use isis_base::{Level, Octets, OutOfMemory};
 use isis_model::laws::adjacencies::step_bonds;
+use key_net::{LabFault, LimitName};
 use lan_sweeps::Sweeps;
 use own_histories::Histories;
 use router_core::{NodeEvent, Reply, Router};
@@ -55,7 +55,7 @@ pub(crate) fn take_at(
     ensures noted { OnOk result (IfSome (nth routers.old.items router) (λ r. notes.new
         ≡ noted_in heard (step given r (event_of r event)) notes.old)) }
     ensures cause { IfErr result (λ fault. IfSome (nth routers.old.items router) (λ r.
-        StopCause (length sent.old.items + length (posted_in router link (event_of r event) r))
+        StopCause (sent.old.items ++ posted_in router link (event_of r event) r) sent.new.items
         fault)) }
     ensures counts { counts_of routers.new.items ≡ counts_of routers.old.items }
     ensures few { length sent.new.items ≤ 262144 }
@@ -176,7 +176,7 @@ fn send(
         → sent.new.items ≡ sent.old.items ++ map sent_of (posted sender link r place m)) }
     ensures cause { IfErr result (λ fault. (r : model.Router) (place : ℕ) (m : events.Reply)
         → Answers r place m reply → boot ≡ r.boot → changes ≡ counts_in (counts_of_keys r)
-        → StopCause (length sent.old.items + length (map sent_of (posted sender link r place m)))
+        → StopCause (sent.old.items ++ map sent_of (posted sender link r place m)) sent.new.items
         fault) }
     ensures few { length sent.new.items ≤ 262144 }
     ensures small { AreSmall sent.new.items }
@@ -220,7 +220,8 @@ fn post(
     requires small { AreSmall sent.old.items }
     ensures ok { OnOk result (sent.new.items
         ≡ sent.old.items ++ map (sent_by sender boot changes link) items.items) }
-    ensures cause { IfErr result (StopCause (length sent.old.items + length items.items)) }
+    ensures cause { IfErr result (StopCause
+        (sent.old.items ++ map (sent_by sender boot changes link) items.items) sent.new.items) }
     ensures few { length sent.new.items ≤ 262144 }
     ensures small { AreSmall sent.new.items }
 {

@@ -1,5 +1,4 @@
 use Rattle.network_lab.proofs.SentLemmas.{send-ok, send-err, send-done, send-drop}
-use Rattle.std.proofs.Common.{length}
 use Rattle.network_lab.proofs.taking.send.Goals as goal
 
 pub returns-in-Some-Send-clause-ok : goal.returns-in-Some-Send-clause-ok
@@ -9,7 +8,7 @@ returns-in-Some-Send-clause-ok c =
 
 pub returns-in-Some-Send-clause-cause : goal.returns-in-Some-Send-clause-cause
 returns-in-Some-Send-clause-cause c =
-    send-err c.post.result c.args.sender c.in-Some-Send.link c.args.boot (length c.args.sent.now.items) c.args.changes c.args.link c.args.reply c.in-Some-Send.datagrams c.into_items.result.items
+    send-err c.post.result c.args.sender c.in-Some-Send.link c.args.boot c.args.changes c.args.link c.args.reply c.in-Some-Send.datagrams c.into_items.result.items c.args.sent.now.items c.post.new.sent.items
     c.in-Some-Send.is-0 c.in-Some-Send.is-1 c.into_items.ensures c.post.ensures.cause
 
 pub returns-in-Some-Done-clause-ok : goal.returns-in-Some-Done-clause-ok

@@ -14,7 +14,7 @@ returns-clause-sent c =
 
 pub returns-clause-cause : goal.returns-clause-cause
 returns-clause-cause c =
-    take-stops c.send.result c.args.routers.now.items c.step_at.new.routers.items c.args.router c.args.link c.boot_at-boot.result c.changes_at-changes.result c.args.event c.in-Ok.reply c.args.sent.now.items
+    take-stops c.send.result c.args.routers.now.items c.step_at.new.routers.items c.args.router c.args.link c.boot_at-boot.result c.changes_at-changes.result c.args.event c.in-Ok.reply c.args.sent.now.items c.send.new.sent.items
     c.in-Ok.ensures.state c.in-Ok.ensures.reply (c.boot_at-boot.ensures ∙ ap (λ (rs : List Router). boot_of (nth rs c.args.router)) c.deref-2.ensures.value)
     (c.changes_at-changes.ensures ∙ ap (λ (rs : List Router). counts_at (nth rs c.args.router)) c.deref-3.ensures.value) c.send.ensures.cause
 

@@ -2,7 +2,7 @@ use Rattle.std.proofs.Common.{ap, sym, ◌∙◌, subst, None, Result, IfSome}
 use Rattle.isis_model.specs.Places.{nth}
 use Rattle.isis_model.specs.Routers.{Router}
 use Rattle.router_core.specs.Events.{FitsChange, change_of}
-use Rattle.network_lab.specs.declared.faults.LabFault.{LabFault}
+use Rattle.key_net.specs.declared.faults.LabFault.{LabFault}
 use Rattle.network_lab.specs.LabSteps.{Taken, moved_in}
 use Rattle.network_lab.specs.LabNets.{LabNet}
 use Rattle.network_lab.specs.LabEvents.{IsChange}
