@@ -30,7 +30,7 @@ use Rattle.isis_model.specs.SnpTable.{SnpEntry}
 use Rattle.isis_model.specs.Events.{Message, Refused}
 use Rattle.isis_model.specs.Good.{IsGoodLsp, IsGoodMessage}
 use Rattle.isis_datagram.specs.Frames.{unframed}
-use Rattle.isis_datagram.specs.Numbers.{u48_of}
+use Rattle.isis_model.specs.Numbers.{u48_of}
 use Rattle.isis_datagram.specs.Values.{items_if, items_in, entries_in, snp_entry}
 use Rattle.isis_datagram.specs.Tests.{Test, first_failing, tests_of}
 use Rattle.isis_datagram.specs.Reading.{rank_read, message, refused_or, read_pdu, read_frame, read}

@@ -26,7 +26,7 @@ use Rattle.isis_model.specs.Configs.{Config}
 use Rattle.isis_model.specs.Routers.{Circuit}
 use Rattle.isis_model.specs.Datagrams as sent
 use Rattle.isis_model.specs.Events.{PointHelloHeard, LanHelloHeard}
-use Rattle.isis_datagram.specs.Numbers.{system_id, snpa_id, node_id}
+use Rattle.isis_model.specs.Numbers.{system_id, snpa_id, node_id}
 use Rattle.isis_datagram.specs.Values.{items_in, areas_in, snpas_in, handshakes_in, lists, handshake, first_handshake}
 use Rattle.isis_datagram.specs.Tests.{tests_of, passes}
 use Rattle.isis_datagram.specs.Reading.{runs_of, message, refused_or, read}

@@ -14,7 +14,7 @@ use Rattle.isis_model.specs.Both.{at}
 use Rattle.isis_model.specs.Routers.{Contents, Router}
 use Rattle.isis_model.specs.OwnLsps.{issue_cell}
 use Rattle.isis_model.specs.Good.{IsGoodGiven}
-use Rattle.isis_datagram.specs.Numbers.{lsp_id}
+use Rattle.isis_model.specs.Numbers.{lsp_id}
 use Rattle.isis_datagram.specs.Tests.{passes}
 use Rattle.isis_datagram.specs.Signing.{auth_octets, signed_tlvs}
 use Rattle.isis_datagram.specs.Lsps.{issued_with, issued_tlvs, issued_checksum, issued_pdu, given_octets}

@@ -23,7 +23,7 @@ use Rattle.isis_model.specs.Both.{at}
 use Rattle.isis_model.specs.Waits.{no_waits}
 use Rattle.isis_model.specs.Configs.{Config}
 use Rattle.isis_model.specs.Routers.{Circuit}
-use Rattle.isis_datagram.specs.Numbers.{u48_octets, lsp_id}
+use Rattle.isis_model.specs.Numbers.{u48_octets, lsp_id}
 use Rattle.isis_datagram.specs.Tests.{passes, tests_of, first_failing}
 use Rattle.isis_datagram.specs.Reading.{rank_read, message, read}
 use Rattle.isis_datagram.proofs.GoodLemmas.{Small, small-at, lsp-small, not-live, all-held, all-passed, start-passed, of-read}

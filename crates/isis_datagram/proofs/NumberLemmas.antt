@@ -1,7 +1,7 @@
 -- Identifiers of numbers have those numbers.
 use Rattle.std.proofs.Common.{◌≡◌, ℕ, ◌+◌, ◌*◌, ◌/◌, ◌%◌, ◌^◌, ◌<◌, arith}
 use Rattle.isis_base.specs.Identifiers.{lsp_number}
-use Rattle.isis_datagram.specs.Numbers.{u48_octets, u48_of, node_id, lsp_id, node_number}
+use Rattle.isis_model.specs.Numbers.{u48_octets, u48_of, node_id, lsp_id, node_number}
 
 low-reads_back : (n : ℕ) → 256 * (256 * (256 * (n / 16777216 % 256) + n / 65536 % 256) + n / 256 % 256) + n % 256 ≡ n % 4294967296
 low-reads_back n = omega arith

@@ -27,7 +27,7 @@ use Rattle.isis_model.specs.Configs.{Config}
 use Rattle.isis_model.specs.Routers.{Circuit}
 use Rattle.isis_model.specs.Datagrams as sent
 use Rattle.isis_model.specs.Events.{LspHeard}
-use Rattle.isis_datagram.specs.Numbers.{lsp_id}
+use Rattle.isis_model.specs.Numbers.{lsp_id}
 use Rattle.isis_datagram.specs.Frames.{framed}
 use Rattle.isis_datagram.specs.Tests.{tests_of, passes}
 use Rattle.isis_datagram.specs.Reading.{message, refused_or, read}

@@ -15,7 +15,7 @@ use Rattle.isis_pdu.proofs.ReadLemmas.{kind-reads_back, refused}
 use Rattle.isis_pdu.proofs.RoundLemmas.{begins-reads_back, length-spelled}
 use Rattle.isis_model.specs.Configs.{Config}
 use Rattle.isis_model.specs.Routers.{Circuit}
-use Rattle.isis_datagram.specs.Numbers.{u48_octets, u48_of}
+use Rattle.isis_model.specs.Numbers.{u48_octets, u48_of}
 use Rattle.isis_datagram.specs.Frames.{magic, framed, unframed}
 use Rattle.isis_datagram.specs.Tests.{Test, tests_of, first_failing}
 use Rattle.isis_datagram.specs.Reading.{message, refused_or, read_pdu, read_frame, read}

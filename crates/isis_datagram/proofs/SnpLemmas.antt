@@ -30,7 +30,7 @@ use Rattle.isis_model.specs.Routers.{Circuit}
 use Rattle.isis_model.specs.SnpTable.{SnpEntry}
 use Rattle.isis_model.specs.Datagrams as sent
 use Rattle.isis_model.specs.Events.{SnpHeard}
-use Rattle.isis_datagram.specs.Numbers.{node_id, lsp_id, u48_of}
+use Rattle.isis_model.specs.Numbers.{node_id, lsp_id, u48_of}
 use Rattle.isis_datagram.specs.Values.{entries_in, snp_entry}
 use Rattle.isis_datagram.specs.Tests.{tests_of, passes}
 use Rattle.isis_datagram.specs.Reading.{message, refused_or, read}

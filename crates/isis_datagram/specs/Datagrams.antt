@@ -7,7 +7,7 @@ use Rattle.isis_model.specs.Both.{Both, at}
 use Rattle.isis_model.specs.Configs.{Config}
 use Rattle.isis_model.specs.Routers.{Circuit}
 use Rattle.isis_model.specs.Datagrams.{Sent, PointHello, LanHello, Lsp, Csnp, Psnp}
-use Rattle.isis_datagram.specs.Numbers.{system_id, node_id, lsp_id}
+use Rattle.isis_model.specs.Numbers.{system_id, node_id, lsp_id}
 use Rattle.isis_datagram.specs.Frames.{framed}
 use Rattle.isis_datagram.specs.Signing.{signed}
 use Rattle.isis_datagram.specs.Lsps.{lsp_sent}

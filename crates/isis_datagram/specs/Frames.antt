@@ -1,6 +1,6 @@
 -- A datagram: the octets ISU1, the sender's SNPA and a PDU (own).
 use Rattle.std.specs.Prelude.{ℕ, nat_le, ◌&&◌, List, [], ◌∷◌, ◌++◌, length, take, drop, Option, Some, None, bytes_eq, if◌then◌else◌}
-use Rattle.isis_datagram.specs.Numbers.{u48_octets, u48_of}
+use Rattle.isis_model.specs.Numbers.{u48_octets, u48_of}
 
 -- what every datagram begins with: the text ISU1 (own)
 abbrev pub magic : List ℕ

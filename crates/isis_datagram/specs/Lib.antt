@@ -1,5 +1,4 @@
--- The definitions: identifiers as numbers, what is read, what is written, and what laws say.
-pub mod Numbers
+-- The definitions: what is read, what is written, and what laws say.
 pub mod Frames
 pub mod Values
 pub mod Tests

@@ -15,7 +15,7 @@ use Rattle.iso_checksum.specs.Checksum.{checksum_holds}
 use Rattle.isis_pdu.specs.Views as pdu
 use Rattle.isis_pdu.specs.Reading.{Begins}
 use Rattle.isis_model.specs.Cells.{Cell, kept}
-use Rattle.isis_datagram.specs.Numbers.{lsp_id}
+use Rattle.isis_model.specs.Numbers.{lsp_id}
 use Rattle.isis_datagram.specs.Said.{ReadsBack, kind_sent, CanRead}
 use Rattle.isis_datagram.specs.Tests.{passes}
 

@@ -11,7 +11,7 @@ use Rattle.isis_model.specs.Ranks.{is_live}
 use Rattle.isis_model.specs.Cells.{Cell}
 use Rattle.isis_model.specs.Routers.{Contents, Router}
 use Rattle.isis_model.specs.Givens.{Given}
-use Rattle.isis_datagram.specs.Numbers.{lsp_id}
+use Rattle.isis_model.specs.Numbers.{lsp_id}
 use Rattle.isis_datagram.specs.Signing.{auth_octets, digest_of, signed_tlvs}
 use Rattle.isis_datagram.specs.CheckOctets.{checksum_with}
 

@@ -15,7 +15,7 @@ use Rattle.isis_model.specs.Both.{Both}
 use Rattle.isis_model.specs.Configs.{Config}
 use Rattle.isis_model.specs.Routers.{Circuit}
 use Rattle.isis_model.specs.Events.{Message, Refused, PointHelloHeard, LanHelloHeard, LspHeard, SnpHeard}
-use Rattle.isis_datagram.specs.Numbers.{system_number, node_number}
+use Rattle.isis_model.specs.Numbers.{system_number, node_number}
 use Rattle.isis_datagram.specs.Frames.{unframed}
 use Rattle.isis_datagram.specs.Values.{areas_in, snpas_in, entries_in, handshakes_in, snp_entry, lists, first_handshake}
 use Rattle.isis_datagram.specs.Tests.{tests_of, first_failing}

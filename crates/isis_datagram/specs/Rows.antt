@@ -13,7 +13,7 @@ use Rattle.isis_model.specs.Cells.{Heard}
 use Rattle.isis_model.specs.SnpTable.{SnpEntry}
 use Rattle.isis_model.specs.Events.{Message, PointHelloHeard}
 use Rattle.isis_model.specs.Rows.{config, circuit}
-use Rattle.isis_datagram.specs.Numbers.{system_id, node_id, lsp_id}
+use Rattle.isis_model.specs.Numbers.{system_id, node_id, lsp_id}
 use Rattle.isis_datagram.specs.Frames.{framed}
 use Rattle.isis_datagram.specs.Reading.{read}
 

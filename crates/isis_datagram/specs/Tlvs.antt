@@ -9,7 +9,7 @@ use Rattle.isis_tlv.specs.declared.three_way.ThreeWay.{ThreeWay}
 use Rattle.isis_tlv.specs.Spelling.{area_tlv, snpa_tlv, entry_tlv, protocol_tlv, address_tlv, three_way_tlv}
 use Rattle.isis_model.specs.Ranks.{number_of}
 use Rattle.isis_model.specs.SnpTable.{SnpEntry}
-use Rattle.isis_datagram.specs.Numbers.{system_id, snpa_id, lsp_id}
+use Rattle.isis_model.specs.Numbers.{system_id, snpa_id, lsp_id}
 
 -- a list in pieces of a size, of so many pieces at most (own)
 abbrev pub in_pieces : {X : Type 0} → ℕ → ℕ → List X → List (List X)

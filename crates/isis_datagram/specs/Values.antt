@@ -14,7 +14,7 @@ use Rattle.isis_tlv.specs.Tlvs.{TlvView, tlv_list}
 use Rattle.isis_tlv.specs.Items.{areas_of, snpas_of, entries_of, three_way_of}
 use Rattle.isis_model.specs.SnpTable.{SnpEntry}
 use Rattle.isis_model.specs.Adjacencies.{Handshake}
-use Rattle.isis_datagram.specs.Numbers.{system_number, snpa_number}
+use Rattle.isis_model.specs.Numbers.{system_number, snpa_number}
 
 -- what one TLV says where it has the code, by a reader of values (9)
 abbrev pub items_if : {X : Type 0} → ℕ → (List ℕ → List (Result X ValueFault)) → TlvView

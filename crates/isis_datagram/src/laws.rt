@@ -21,7 +21,7 @@ ghost use Rattle.isis_model.specs.ReplyLaws.{AllSent};
 ghost use Rattle.isis_model.specs.Starts.{start};
 ghost use Rattle.isis_model.specs.Datagrams.{PointHello, LanHello, Lsp, Csnp, Psnp};
 ghost use Rattle.isis_model.specs.Good.{IsGoodGiven, IsGoodMessage, IsGoodEvent, IsGoodRouter, IsTelling, IsIssuable};
-ghost use Rattle.isis_datagram.specs.Numbers.{system_id, snpa_id, node_id, lsp_id, system_number, snpa_number, node_number};
+ghost use Rattle.isis_model.specs.Numbers.{system_id, snpa_id, node_id, lsp_id, system_number, snpa_number, node_number};
 ghost use Rattle.isis_datagram.specs.Frames.{framed, unframed};
 ghost use Rattle.isis_datagram.specs.Reading.{read};
 ghost use Rattle.isis_datagram.specs.CheckOctets.{checksum_with, with_checksum};

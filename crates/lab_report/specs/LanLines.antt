@@ -6,7 +6,7 @@ use Rattle.isis_base.specs.declared.identifiers.SystemId.{SystemId}
 use Rattle.isis_base.specs.declared.level.Level.{Level}
 use Rattle.isis_base.specs.Levels.{level_text}
 use Rattle.isis_base.specs.Texts.{system_text}
-use Rattle.isis_datagram.specs.Numbers.{system_id}
+use Rattle.isis_model.specs.Numbers.{system_id}
 use Rattle.isis_model.specs.Both.{at}
 use Rattle.isis_model.specs.Places.{nth}
 use Rattle.isis_model.specs.Routers.{Circuit, Router}

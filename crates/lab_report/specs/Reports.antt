@@ -8,7 +8,7 @@ use Rattle.isis_base.specs.declared.level.Level.{Level}
 use Rattle.isis_base.specs.declared.level.Level.TheVariants as level
 use Rattle.isis_model.specs.Places.{nth}
 use Rattle.isis_model.specs.Routers.{Router}
-use Rattle.isis_datagram.specs.Numbers.{lsp_id}
+use Rattle.isis_model.specs.Numbers.{lsp_id}
 use Rattle.network_model.specs.Networks.{numbered}
 use Rattle.own_histories.specs.Sightings.{doubled_in}
 use Rattle.route_table.specs.declared.route.Route.{Route}

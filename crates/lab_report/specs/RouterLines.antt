@@ -14,7 +14,7 @@ use Rattle.isis_model.specs.Cells.{Cell}
 use Rattle.isis_model.specs.LetGos.{LetGo}
 use Rattle.isis_model.specs.Drops.{drops_of, drop_word}
 use Rattle.isis_model.specs.Routers.{Router, level_of, book_of}
-use Rattle.isis_datagram.specs.Numbers.{system_id, lsp_id}
+use Rattle.isis_model.specs.Numbers.{system_id, lsp_id}
 use Rattle.route_table.specs.declared.route.Route.{Route}
 use Rattle.lab_report.specs.RouteLines.{route_line}
 

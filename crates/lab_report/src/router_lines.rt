@@ -4,7 +4,7 @@ ghost use Rattle.std.specs.List.{AllByRecursion, flat_map};
 ghost use Rattle.isis_base.specs.Identifiers.{lsp_number};
 ghost use Rattle.isis_base.specs.Keys.{rank};
 ghost use Rattle.isis_base.specs.Levels.{level_text};
-ghost use Rattle.isis_datagram.specs.Numbers.{system_id, system_number};
+ghost use Rattle.isis_model.specs.Numbers.{system_id, system_number};
 ghost use Rattle.flag_sync.specs.BookStates.{book_of};
 ghost use Rattle.flag_sync.specs.Walks.{numbers_of};
 ghost use Rattle.lab_report.specs.RouterLines as lines;

@@ -20,7 +20,7 @@ use Rattle.isis_base.specs.PduKinds.{kind_at, kind_of_number, header_length}
 use Rattle.isis_base.specs.declared.pdu_kind.PduKind.TheVariants as kind
 use Rattle.isis_pdu.specs.Views.{Lsp}
 use Rattle.isis_pdu.specs.Spelling.{start_octets, field_octets}
-use Rattle.isis_datagram.specs.Numbers.{u48_octets, lsp_id}
+use Rattle.isis_model.specs.Numbers.{u48_octets, lsp_id}
 use Rattle.isis_datagram.specs.CheckOctets.{checksum_with, with_checksum}
 use Rattle.isis_datagram.specs.Signing.{auth_octets}
 use Rattle.isis_datagram.specs.Lsps.{issued_tlvs, issued_checksum, issued_pdu}

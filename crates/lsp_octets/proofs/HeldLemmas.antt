@@ -5,7 +5,7 @@ use Rattle.isis_base.specs.Fields.{u16_octets}
 use Rattle.isis_base.specs.PduKinds.{kind_at, kind_of_number, header_length}
 use Rattle.std.proofs.lemmas.Bool.{le-leb, eqb-false, eq-eqb}
 use Rattle.isis_pdu.proofs.ReadLemmas.{kind-reads_back}
-use Rattle.isis_datagram.specs.Numbers.{lsp_id}
+use Rattle.isis_model.specs.Numbers.{lsp_id}
 use Rattle.isis_tlv.specs.Tlvs.{AreTlvs}
 use Rattle.isis_tlv.specs.Framed.{IsPdu}
 use Rattle.isis_tlv.proofs.TlvLemmas.{tlvs-one}

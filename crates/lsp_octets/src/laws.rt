@@ -7,7 +7,7 @@ ghost use Rattle.lsp_store.specs.declared.entry.Entry.{Entry};
 ghost use Rattle.flag_sync.specs.declared.flag_row.FlagRow.{FlagRow};
 ghost use Rattle.flag_sync.specs.FlagRows.{cell_of};
 ghost use Rattle.isis_base.specs.Identifiers.{IsId, lsp_number};
-ghost use Rattle.isis_datagram.specs.Numbers.{lsp_id};
+ghost use Rattle.isis_model.specs.Numbers.{lsp_id};
 ghost use Rattle.lsp_octets.specs.Held.{IsPuttable};
 
 use crate::blank::is_id;

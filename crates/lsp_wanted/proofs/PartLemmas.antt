@@ -6,7 +6,7 @@ use Rattle.isis_base.specs.declared.identifiers.NodeId.{NodeId}
 use Rattle.isis_base.specs.Identifiers.{lsp_number}
 use Rattle.isis_model.specs.Routers.{Contents}
 use Rattle.isis_model.specs.Wanted.{fragments_of, numbered}
-use Rattle.isis_datagram.specs.Numbers.{node_number}
+use Rattle.isis_model.specs.Numbers.{node_number}
 use Rattle.lsp_wanted.specs.declared.wanted.Wanted.{Wanted}
 use Rattle.lsp_wanted.specs.Parts.{counted}
 use Rattle.lsp_wanted.specs.Views.{wanted_of}

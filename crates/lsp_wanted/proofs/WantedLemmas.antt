@@ -12,7 +12,7 @@ use Rattle.isis_model.specs.LspNeighbours.{all_nodes, lan_nodes, node_items, nod
 use Rattle.isis_model.specs.LspPrefixes.{Reach, own_reach, prefixes_of, reach_items}
 use Rattle.isis_model.specs.Splits.{Item, Split, split}
 use Rattle.isis_base.specs.declared.prefix.Prefix.{Prefix}
-use Rattle.isis_datagram.specs.Numbers.{system_number}
+use Rattle.isis_model.specs.Numbers.{system_number}
 use Rattle.isis_model.specs.Routers.{Circuit, Contents, Router}
 use Rattle.isis_model.specs.Sorted.{RisesFrom}
 use Rattle.isis_model.specs.Wanted.{first_flags, first_tlvs, fragments_of, is_type, numbered, pseudonode_lsp, pseudonode_lsps, room_for, room_of, system_lsp, wanted}

@@ -7,7 +7,7 @@ use Rattle.isis_model.specs.Configs.{Config}
 use Rattle.isis_model.specs.Givens.{Given}
 use Rattle.isis_model.specs.Routers.{Circuit, Router}
 use Rattle.isis_model.specs.Starts.{empty_level}
-use Rattle.isis_datagram.specs.Numbers.{system_number}
+use Rattle.isis_model.specs.Numbers.{system_number}
 use Rattle.isis_datagram.specs.Reading.{runs_of}
 use Rattle.lsp_wanted.specs.declared.wants.Wants.{Wants}
 use Rattle.lsp_wanted.specs.Views.{prefix_pair}

@@ -8,7 +8,7 @@ ghost use Rattle.isis_model.specs.Routers as model_circuits;
 ghost use Rattle.isis_model.specs.Routers.{Router};
 ghost use Rattle.isis_model.specs.Sorted.{RisesFrom};
 ghost use Rattle.isis_model.specs.Wanted as model;
-ghost use Rattle.isis_datagram.specs.Numbers.{node_number, system_number};
+ghost use Rattle.isis_model.specs.Numbers.{node_number, system_number};
 ghost use Rattle.lsp_wanted.specs.Lent.{IsLent, given_of, router_of};
 ghost use Rattle.lsp_wanted.specs.Views.{contents_of, prefix_pair, wanted_of};
 

@@ -7,7 +7,7 @@ ghost use Rattle.isis_model.specs.LspNeighbours.{all_nodes, lan_nodes, node_item
 ghost use Rattle.isis_model.specs.LspPrefixes.{own_reach, reach_items};
 ghost use Rattle.isis_model.specs.Sorted.{RisesFrom};
 ghost use Rattle.isis_model.specs.Wanted as model;
-ghost use Rattle.isis_datagram.specs.Numbers.{system_number};
+ghost use Rattle.isis_model.specs.Numbers.{system_number};
 ghost use Rattle.lsp_fragments.specs.Entries.{content_entries, content_first};
 ghost use Rattle.lsp_wanted.specs.Lent.{config_of, router_of};
 ghost use Rattle.lsp_wanted.specs.Parts.{is_down, is_leaked_into, leaked_or};

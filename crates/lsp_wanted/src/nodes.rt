@@ -1,7 +1,7 @@
 //! Neighbours of an LSP in order of nodes.
 ghost use Rattle.std.specs.Prelude.{◌≡◌, map, IfSome, OnOk};
 ghost use Rattle.isis_model.specs.LspNeighbours.{put_node, put_nodes};
-ghost use Rattle.isis_datagram.specs.Numbers.{node_number};
+ghost use Rattle.isis_model.specs.Numbers.{node_number};
 ghost use Rattle.adjacency.specs.Views as views;
 ghost use Rattle.lsp_fragments.specs.Entries.{node_and_metric};
 ghost use Rattle.lsp_wanted.specs.Parts.{IsBehind, NotFalling};

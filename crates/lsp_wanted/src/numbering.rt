@@ -2,7 +2,7 @@
 ghost use Rattle.std.specs.Prelude.{◌≡◌, ◌≤◌, ◌<◌, ◌+◌, ◌*◌, ◌++◌, length, map, OnOk, ◌==◌, if◌then◌else◌};
 ghost use Rattle.isis_base.specs.Identifiers.{lsp_number};
 ghost use Rattle.isis_model.specs.Wanted.{fragments_of};
-ghost use Rattle.isis_datagram.specs.Numbers.{node_number};
+ghost use Rattle.isis_model.specs.Numbers.{node_number};
 ghost use Rattle.lsp_wanted.specs.Parts.{counted};
 ghost use Rattle.lsp_wanted.specs.Views.{wanted_of};
 

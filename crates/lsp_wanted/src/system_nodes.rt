@@ -5,7 +5,7 @@ ghost use Rattle.std.specs.Option.{option_map};
 ghost use Rattle.isis_model.specs.LspNeighbours as nodes;
 ghost use Rattle.isis_model.specs.Configs.{Config};
 ghost use Rattle.isis_model.specs.Elections.{Candidate};
-ghost use Rattle.isis_datagram.specs.Numbers.{node_number, system_number};
+ghost use Rattle.isis_model.specs.Numbers.{node_number, system_number};
 ghost use Rattle.designated_is.specs.Numbers as own;
 ghost use Rattle.adjacency.specs.Views.{neighbour_of, point_of};
 ghost use Rattle.router_circuits.specs.Elections.{designated_of, system_and_lan};

@@ -7,7 +7,7 @@ ghost use Rattle.isis_model.specs.Both.{at};
 ghost use Rattle.isis_model.specs.Events as event;
 ghost use Rattle.isis_model.specs.Places.{nth};
 ghost use Rattle.isis_model.specs.Routers.{Circuit as ModelCircuit, book_of};
-ghost use Rattle.isis_datagram.specs.Numbers.{snpa_number};
+ghost use Rattle.isis_model.specs.Numbers.{snpa_number};
 ghost use Rattle.isis_datagram.specs.Reading.{message};
 ghost use Rattle.isis_datagram.specs.Tests.{has_number};
 ghost use Rattle.flag_sync.specs.BookStates.{book_of as book_in};

@@ -2,7 +2,7 @@
 ghost use Rattle.std.specs.Prelude.{◌≡◌, ◌-◌, ◌==◌, ◌<◌, true, length, Some, IfSome, IsSome};
 ghost use Rattle.std.specs.List.{AllByRecursion};
 ghost use Rattle.std.specs.Option.{option_map};
-ghost use Rattle.isis_datagram.specs.Numbers.{system_id, system_number};
+ghost use Rattle.isis_model.specs.Numbers.{system_id, system_number};
 ghost use Rattle.isis_model.specs.Places.{nth};
 ghost use Rattle.router_core.specs.Events.{IsThere};
 ghost use Rattle.network_model.specs.Networks.{place_in};

@@ -8,7 +8,7 @@ ghost use Rattle.flag_sync.specs.Walks.{numbers_of};
 ghost use Rattle.lsp_store.specs.declared.entry.Entry.{Entry as StoreEntry};
 ghost use Rattle.isis_base.specs.declared.identifiers.LspId.{LspId as AnId};
 ghost use Rattle.purge_ageing.specs.Ids.{Rises, IsPlace, IsGap};
-ghost use Rattle.isis_datagram.specs.Numbers.{system_number};
+ghost use Rattle.isis_model.specs.Numbers.{system_number};
 ghost use Rattle.own_histories.specs.Sightings.{Sighting, Remembers, after, own_lsps, key_of, doubled_of};
 ghost use Rattle.own_histories.specs.Entries.{live_of, Compares, Left};
 

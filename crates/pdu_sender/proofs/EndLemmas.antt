@@ -14,7 +14,7 @@ use Rattle.hmac_auth.specs.Auth.{IsDigestPlace, digest_place}
 use Rattle.hmac_auth.specs.Hmac.{hmac}
 use Rattle.hmac_auth.specs.Pdus.{with_piece, blanked}
 use Rattle.hmac_auth.proofs.HmacLemmas.{length-hmac}
-use Rattle.isis_datagram.specs.Numbers.{system_id}
+use Rattle.isis_model.specs.Numbers.{system_id}
 use Rattle.isis_datagram.specs.Signing.{auth_octets, signed}
 use Rattle.isis_datagram.proofs.AuthLemmas.{blank, written-digest, place-digest, IsHead}
 use Rattle.isis_datagram.proofs.ReadLemmas.{octets_of_pdu-begins}

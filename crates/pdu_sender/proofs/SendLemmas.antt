@@ -33,7 +33,7 @@ use Rattle.flag_sync.specs.Heard.{entries_of}
 use Rattle.pdu_sender.proofs.PieceLemmas.{pieced-map}
 use Rattle.pdu_sender.specs.Sends.{Sends, snpas_of}
 use Rattle.pdu_sender.specs.Writing.{frame_of, pieced, heard_tlv}
-use Rattle.isis_datagram.specs.Numbers.{system_id, node_id, lsp_id, snpa_id, system_number, snpa_number}
+use Rattle.isis_model.specs.Numbers.{system_id, node_id, lsp_id, snpa_id, system_number, snpa_number}
 use Rattle.isis_datagram.specs.Reading.{runs_of}
 use Rattle.isis_datagram.specs.Tlvs.{in_pieces, own_address, hello_tlvs, three_way_value, point_tlvs, snpa_tlvs, lan_tlvs, lsp_entry, entry_tlvs}
 use Rattle.isis_datagram.specs.Datagrams.{levels_run, pdu_octets, datagram}

@@ -3,7 +3,7 @@ ghost use Rattle.std.specs.Prelude.{◌≡◌, ℕ, ◌≤◌, [], ◌++◌, len
 ghost use Rattle.isis_model.specs.Configs.{Config};
 ghost use Rattle.isis_model.specs.Routers.{Circuit};
 ghost use Rattle.isis_model.specs.Datagrams as sent;
-ghost use Rattle.isis_datagram.specs.Numbers.{node_number};
+ghost use Rattle.isis_model.specs.Numbers.{node_number};
 ghost use Rattle.isis_datagram.specs.Datagrams.{datagram};
 ghost use Rattle.isis_datagram.specs.Tlvs.{hello_tlvs};
 ghost use Rattle.pdu_sender.specs.Sends.{Sends, FitAreas, names_of, snpas_of};

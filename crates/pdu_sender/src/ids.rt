@@ -3,7 +3,7 @@ ghost use Rattle.std.specs.Prelude.{◌≡◌, ℕ, ◌<◌, length, map};
 ghost use Rattle.std.specs.List.{AllByRecursion};
 ghost use Rattle.std.specs.Option.{option_map};
 ghost use Rattle.flag_sync.specs.Heard.{entry_of, entries_of};
-ghost use Rattle.isis_datagram.specs.Numbers.{system_id, node_id, snpa_id, system_number, node_number, snpa_number};
+ghost use Rattle.isis_model.specs.Numbers.{system_id, node_id, snpa_id, system_number, node_number, snpa_number};
 ghost use Rattle.isis_datagram.specs.Tlvs.{lsp_entry};
 ghost use Rattle.pdu_sender.specs.Sends.{names_of, snpas_of};
 

@@ -4,7 +4,7 @@ use Rattle.isis_base.specs.declared.identifiers.SystemId.{SystemId}
 use Rattle.isis_base.specs.declared.identifiers.Snpa.{Snpa}
 use Rattle.isis_base.specs.declared.identifiers.NodeId.{NodeId}
 use Rattle.isis_base.specs.Identifiers.{lsp_number}
-use Rattle.isis_datagram.specs.Numbers as datagram
+use Rattle.isis_model.specs.Numbers as datagram
 use Rattle.designated_is.specs.Numbers as own
 use Rattle.adjacency.specs.Views as views
 

@@ -4,7 +4,7 @@ use Rattle.std.specs.Prelude.{◌≡◌, ℕ, ◌<◌, length, slice_index_or, S
 use Rattle.isis_model.specs.Adjacencies.{Neighbour}
 use Rattle.isis_model.specs.Maps.{find}
 use Rattle.isis_model.specs.Elections as model
-use Rattle.isis_datagram.specs.Numbers.{system_number, node_number}
+use Rattle.isis_model.specs.Numbers.{system_number, node_number}
 use Rattle.designated_is.specs.Numbers as own
 use Rattle.adjacency.specs.Inside.{by_snpa}
 use Rattle.adjacency.specs.Views as adjacency

@@ -10,7 +10,7 @@ use Rattle.isis_model.specs.Adjacencies.{Neighbour, Handshake, Hello, PointAdj, 
 use Rattle.isis_model.specs.Hellos.{comes_up, is_moved}
 use Rattle.isis_model.specs.Routers.{LanNeighbour}
 use Rattle.isis_model.specs.Seconds.{point_over, some_over, heard_less}
-use Rattle.isis_datagram.specs.Numbers.{system_number, snpa_number, node_number}
+use Rattle.isis_model.specs.Numbers.{system_number, snpa_number, node_number}
 use Rattle.isis_datagram.specs.Reading.{runs_of}
 use Rattle.adjacency.specs.declared.hello.Own.{Own}
 use Rattle.adjacency.specs.declared.hello.HelloFields.{HelloFields}

@@ -6,7 +6,7 @@ use Rattle.isis_model.specs.Both.{Both}
 use Rattle.isis_model.specs.Configs.{Config}
 use Rattle.isis_model.specs.Adjacencies.{Neighbour, PointAdj}
 use Rattle.isis_model.specs.Routers.{LanNeighbour, CircuitLevel}
-use Rattle.isis_datagram.specs.Numbers.{system_number}
+use Rattle.isis_model.specs.Numbers.{system_number}
 use Rattle.adjacency.specs.Views.{point_of, point_down}
 use Rattle.router_circuits.specs.declared.medium.Medium.{Medium}
 use Rattle.router_circuits.specs.declared.medium.Medium.TheVariants as medium

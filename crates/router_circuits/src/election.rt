@@ -5,7 +5,7 @@ ghost use Rattle.isis_model.specs.Configs.{Config};
 ghost use Rattle.isis_model.specs.Elections as model;
 ghost use Rattle.isis_model.specs.Pulls.{lan_of};
 ghost use Rattle.isis_model.specs.Routers.{Router};
-ghost use Rattle.isis_datagram.specs.Numbers.{node_number, system_number};
+ghost use Rattle.isis_model.specs.Numbers.{node_number, system_number};
 ghost use Rattle.designated_is.specs.Numbers as own;
 ghost use Rattle.adjacency.specs.Views.{neighbour_of};
 ghost use Rattle.adjacency.specs.Views as views;

@@ -4,7 +4,7 @@ ghost use Rattle.isis_base.specs.declared.identifiers.NodeId.{NodeId};
 ghost use Rattle.isis_base.specs.declared.identifiers.Snpa.{Snpa};
 ghost use Rattle.isis_base.specs.declared.identifiers.SystemId.{SystemId};
 ghost use Rattle.isis_base.specs.declared.level.LevelSet.{LevelSet};
-ghost use Rattle.isis_datagram.specs.Numbers as datagram;
+ghost use Rattle.isis_model.specs.Numbers as datagram;
 ghost use Rattle.isis_datagram.specs.Reading as reading;
 ghost use Rattle.designated_is.specs.Numbers.{snpa_number, system_number};
 ghost use Rattle.adjacency.specs.Views.{node_number, runs_of};

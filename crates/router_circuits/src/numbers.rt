@@ -1,6 +1,6 @@
 //! System IDs, SNPAs and node IDs as numbers.
 ghost use Rattle.std.specs.Prelude.{◌≡◌, ◌<◌, ◌^◌, ◌==◌};
-ghost use Rattle.isis_datagram.specs.Numbers as datagram;
+ghost use Rattle.isis_model.specs.Numbers as datagram;
 ghost use Rattle.designated_is.specs.Numbers.{system_number, snpa_number};
 ghost use Rattle.adjacency.specs.Views.{node_number};
 

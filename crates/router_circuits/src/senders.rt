@@ -4,7 +4,7 @@ ghost use Rattle.std.specs.Option.{option_map};
 ghost use Rattle.isis_model.specs.Maps.{find};
 ghost use Rattle.isis_model.specs.Receiving as receiving;
 ghost use Rattle.isis_model.specs.Routers as routers;
-ghost use Rattle.isis_datagram.specs.Numbers.{snpa_number, system_number};
+ghost use Rattle.isis_model.specs.Numbers.{snpa_number, system_number};
 ghost use Rattle.isis_model.specs.Sorted.{RisesFrom};
 ghost use Rattle.adjacency.specs.Inside.{by_snpa};
 ghost use Rattle.adjacency.specs.Lans.{AreHeard, ups};

@@ -28,7 +28,7 @@ use Rattle.isis_model.specs.Receiving.{scene_of, lsp_drop, taken}
 use Rattle.isis_model.specs.Events.{Event, LspHeard, Take, Outcome, settled}
 use Rattle.isis_model.specs.Steps.{step}
 use Rattle.isis_model.specs.Maps as model
-use Rattle.isis_datagram.specs.Numbers.{system_id}
+use Rattle.isis_model.specs.Numbers.{system_id}
 use Rattle.lsp_store.specs.declared.entry.Entry.{Entry}
 use Rattle.lsp_store.specs.Databases as store
 use Rattle.lsp_store.specs.Databases.{Database}

@@ -18,7 +18,7 @@ use Rattle.isis_pdu.specs.Table as table
 use Rattle.isis_model.specs.Configs.{Config}
 use Rattle.isis_model.specs.Routers.{Circuit}
 use Rattle.isis_model.specs.Events.{Message, Refused, PointHelloHeard, LanHelloHeard, LspHeard, SnpHeard}
-use Rattle.isis_datagram.specs.Numbers.{u48_of}
+use Rattle.isis_model.specs.Numbers.{u48_of}
 use Rattle.isis_datagram.specs.Values.{items_if, items_in, handshakes_in, first_handshake}
 use Rattle.isis_datagram.specs.Tests.{first_failing, tests_of}
 use Rattle.isis_datagram.specs.Reading.{message, read}

@@ -27,7 +27,7 @@ use Rattle.isis_model.proofs.StartLemmas.{start-sorted, start-good, start-tellin
 use Rattle.isis_model.proofs.StepWays.{step-course}
 use Rattle.isis_model.proofs.TouchSteps.{step-touch}
 use Rattle.isis_datagram.specs.LspLaws.{AreSendable, TellsEvent, TellsKept}
-use Rattle.isis_datagram.specs.Numbers.{system_number}
+use Rattle.isis_model.specs.Numbers.{system_number}
 use Rattle.isis_datagram.specs.Reading.{read, runs_of}
 use Rattle.isis_datagram.specs.Senders.{IsSender}
 use Rattle.isis_datagram.specs.Speakers.{IsName}

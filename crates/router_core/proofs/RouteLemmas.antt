@@ -27,7 +27,7 @@ use Rattle.isis_model.specs.ContentLaws.{SameKey, TellsBoth}
 use Rattle.isis_model.specs.Events.{Event, Second, Take, Pull, Metric, Overload, Prefix as ChangePrefix}
 use Rattle.isis_model.specs.Steps.{step, with_prefix}
 use Rattle.isis_model.specs.Givens.{Given}
-use Rattle.isis_datagram.specs.Numbers.{lsp_id, system_id, system_number}
+use Rattle.isis_model.specs.Numbers.{lsp_id, system_id, system_number}
 use Rattle.isis_datagram.specs.Reading.{runs_of}
 use Rattle.lsp_store.specs.declared.entry.Entry.{Entry}
 use Rattle.lsp_store.specs.Databases as store

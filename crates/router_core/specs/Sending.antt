@@ -13,7 +13,7 @@ use Rattle.isis_model.specs.Routers.{CircuitLevel, Circuit, Router, book_of}
 use Rattle.isis_model.specs.Datagrams.{Sent}
 use Rattle.isis_model.specs.SnpLists.{csnp_set, pieces, owed, psnps}
 use Rattle.isis_model.specs.Pulls.{hellos, is_csnp_due, due_lsps, srm_due}
-use Rattle.isis_datagram.specs.Numbers.{system_number}
+use Rattle.isis_model.specs.Numbers.{system_number}
 use Rattle.isis_datagram.specs.Reading.{runs_of}
 use Rattle.isis_datagram.specs.Datagrams.{datagram}
 use Rattle.adjacency.specs.Views.{point_down}

@@ -9,7 +9,7 @@ ghost use Rattle.isis_model.specs.Routers.{book_of};
 ghost use Rattle.router_desk.specs.Desks.{desk_of};
 ghost use Rattle.isis_model.specs.Places.{nth};
 ghost use Rattle.router_desk.specs.Configs.{prefix_number};
-ghost use Rattle.isis_datagram.specs.Numbers.{system_number};
+ghost use Rattle.isis_model.specs.Numbers.{system_number};
 ghost use Rattle.router_core.specs.Events.{IsThere};
 ghost use Rattle.router_core.specs.Designated.{designated_system};
 ghost use Rattle.router_core.specs.NamedBoots.{named_boot};

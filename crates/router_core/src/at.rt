@@ -9,7 +9,7 @@ ghost use Rattle.isis_model.specs.Elections.{idle};
 ghost use Rattle.isis_model.specs.Hellos as hellos;
 ghost use Rattle.isis_model.specs.HelloTests.{lan_drop, point_drop};
 ghost use Rattle.isis_model.specs.Pulls as pulls;
-ghost use Rattle.isis_datagram.specs.Numbers.{system_number};
+ghost use Rattle.isis_model.specs.Numbers.{system_number};
 ghost use Rattle.adjacency.specs.Changes.{IsTested};
 ghost use Rattle.router_circuits.specs.Hellos.{hello_of, IsOwn};
 ghost use Rattle.router_desk.specs.Desks.{desk_circuit};

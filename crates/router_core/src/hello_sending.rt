@@ -4,7 +4,7 @@ ghost use Rattle.isis_model.specs.Both.{at};
 ghost use Rattle.isis_model.specs.Datagrams as sent;
 ghost use Rattle.isis_model.specs.Pulls as pulls;
 ghost use Rattle.isis_model.specs.Routers.{Router, extended_of};
-ghost use Rattle.isis_datagram.specs.Numbers as datagram;
+ghost use Rattle.isis_model.specs.Numbers as datagram;
 ghost use Rattle.isis_datagram.specs.Reading.{runs_of};
 ghost use Rattle.designated_is.specs.Numbers as own;
 ghost use Rattle.adjacency.specs.Inside.{snpa_of};

@@ -9,7 +9,7 @@ ghost use Rattle.isis_model.specs.declared.lsp_case.LspCase.TheVariants as case;
 ghost use Rattle.isis_model.specs.Takes as takes;
 ghost use Rattle.isis_model.specs.Takes.{whose_of};
 ghost use Rattle.isis_model.specs.Receiving.{lsp_drop, no_room, scene_of};
-ghost use Rattle.isis_datagram.specs.Numbers.{snpa_number};
+ghost use Rattle.isis_model.specs.Numbers.{snpa_number};
 ghost use Rattle.flag_sync.specs.Heard.{answer_of, heard_of};
 ghost use Rattle.router_levels.specs.Views.{state_of};
 ghost use Rattle.router_levels.specs.Drafts.{IsAnswer};

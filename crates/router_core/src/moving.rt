@@ -2,7 +2,7 @@
 //! (own).
 ghost use Rattle.std.specs.Prelude.{◌≡◌, ◌-◌, true, IfOk, IfSome};
 ghost use Rattle.isis_model.specs.Events as model;
-ghost use Rattle.isis_datagram.specs.Numbers.{snpa_number};
+ghost use Rattle.isis_model.specs.Numbers.{snpa_number};
 ghost use Rattle.flag_sync.specs.declared.heard.LspAnswer.TheVariants as answer;
 ghost use Rattle.flag_sync.specs.Heard.{heard_of};
 ghost use Rattle.router_desk.specs.Desks.{desk_of};

@@ -5,7 +5,7 @@ ghost use Rattle.isis_tlv.specs.Fits.{IsArea};
 ghost use Rattle.isis_model.specs.Routers as model;
 ghost use Rattle.isis_model.specs.Starts.{start};
 ghost use Rattle.isis_model.specs.Steps.{step};
-ghost use Rattle.isis_datagram.specs.Numbers.{system_number};
+ghost use Rattle.isis_model.specs.Numbers.{system_number};
 ghost use Rattle.router_desk.specs.Configs.{config_of, circuits_of};
 ghost use Rattle.router_desk.specs.Limits.{IsValid};
 ghost use Rattle.router_core.specs.declared.event.NodeEvent as node;

@@ -5,7 +5,7 @@ ghost use Rattle.std.specs.Result.{result_err};
 ghost use Rattle.isis_model.specs.Both.{at};
 ghost use Rattle.isis_model.specs.Places.{nth};
 ghost use Rattle.isis_model.specs.Drops.{drops_of};
-ghost use Rattle.isis_datagram.specs.Numbers.{system_number};
+ghost use Rattle.isis_model.specs.Numbers.{system_number};
 ghost use Rattle.router_core.specs.Designated.{designated_system};
 ghost use Rattle.router_core.specs.NamedBoots.{named_boot};
 ghost use Rattle.isis_model.specs.AdjacencyLaws.{opens, place_of};

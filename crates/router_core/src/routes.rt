@@ -1,7 +1,7 @@
 //! What routes look at of a router, and that routes follow it.
 ghost use Rattle.std.specs.Prelude.{◌≡◌, ◌<◌, true, false, length, IfOk, MatchOption, OnOk, OnErr};
 ghost use Rattle.std.specs.List.{AllByRecursion};
-ghost use Rattle.isis_datagram.specs.Numbers.{system_id, system_number};
+ghost use Rattle.isis_model.specs.Numbers.{system_id, system_number};
 ghost use Rattle.isis_model.specs.Routers.{Router};
 ghost use Rattle.isis_model.specs.Steps.{step};
 ghost use Rattle.router_routes.specs.Outlooks.{Outlook, outlook_in, outlook_of};

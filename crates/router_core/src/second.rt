@@ -5,7 +5,7 @@ ghost use Rattle.isis_model.specs.Configs.{Config};
 ghost use Rattle.isis_model.specs.Elections as elections;
 ghost use Rattle.isis_model.specs.Events.{Done, settled};
 ghost use Rattle.isis_model.specs.Seconds.{second};
-ghost use Rattle.isis_datagram.specs.Numbers.{system_number};
+ghost use Rattle.isis_model.specs.Numbers.{system_number};
 ghost use Rattle.router_desk.specs.Desks.{desk_circuit};
 ghost use Rattle.router_routes.specs.Outlooks.{outlook_of};
 ghost use Rattle.router_routes.specs.Following.{IsFollowing};

@@ -8,7 +8,7 @@ ghost use Rattle.isis_model.specs.Sets.{has};
 ghost use Rattle.isis_model.specs.Takes as takes;
 ghost use Rattle.isis_model.specs.Receiving.{is_from, scene_of, sender_of, snp_drop};
 ghost use Rattle.designated_is.specs.Numbers as designated;
-ghost use Rattle.isis_datagram.specs.Numbers.{snpa_number, system_number};
+ghost use Rattle.isis_model.specs.Numbers.{snpa_number, system_number};
 ghost use Rattle.flag_sync.specs.Heard.{entries_of};
 ghost use Rattle.flag_sync.specs.BookStates.{IsCircuit};
 ghost use Rattle.router_levels.specs.Views.{state_of};

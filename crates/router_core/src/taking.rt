@@ -3,7 +3,7 @@ ghost use Rattle.std.specs.Prelude.{◌≡◌, ◌<◌, ◌≤◌, ◌^◌, ◌-
 ghost use Rattle.isis_model.specs.AdjacencyLaws.{AreIdle};
 ghost use Rattle.isis_model.specs.Events as event;
 ghost use Rattle.isis_model.specs.Places.{nth};
-ghost use Rattle.isis_datagram.specs.Numbers.{snpa_number, system_number};
+ghost use Rattle.isis_model.specs.Numbers.{snpa_number, system_number};
 ghost use Rattle.flag_sync.specs.Heard.{entries_of, heard_of};
 ghost use Rattle.router_reading.specs.Heard.{hello_heard, range_of};
 ghost use Rattle.router_routes.specs.Outlooks.{outlook_of};

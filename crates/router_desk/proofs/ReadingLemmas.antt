@@ -27,7 +27,7 @@ use Rattle.isis_model.specs.declared.drop_name.DropName.TheVariants as drop
 use Rattle.isis_model.specs.Places.{nth}
 use Rattle.isis_model.specs.Configs.{Config}
 use Rattle.isis_model.specs.Routers.{Circuit}
-use Rattle.isis_datagram.specs.Numbers.{u48_of, snpa_number}
+use Rattle.isis_model.specs.Numbers.{u48_of, snpa_number}
 use Rattle.isis_datagram.specs.Frames.{magic, unframed}
 use Rattle.isis_datagram.specs.Values.{items_if, items_in}
 use Rattle.isis_datagram.specs.Tests as model

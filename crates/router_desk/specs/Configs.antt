@@ -6,7 +6,7 @@ use Rattle.isis_model.specs.Maps.{put}
 use Rattle.isis_model.specs.Configs as model
 use Rattle.isis_model.specs.Routers.{Circuit}
 use Rattle.isis_model.specs.Starts.{quiet}
-use Rattle.isis_datagram.specs.Numbers.{system_number}
+use Rattle.isis_model.specs.Numbers.{system_number}
 use Rattle.isis_datagram.specs.Reading.{runs_of}
 use Rattle.router_desk.specs.declared.circuit_config.CircuitConfig.{CircuitConfig}
 use Rattle.router_desk.specs.declared.config.Config.{Config}

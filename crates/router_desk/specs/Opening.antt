@@ -10,7 +10,7 @@ use Rattle.isis_pdu.specs.Views.{PduView, pdu_view}
 use Rattle.isis_pdu.specs.Layout.{body_at}
 use Rattle.isis_pdu.specs.Decoded.{decoded}
 use Rattle.isis_model.specs.Events.{Message, Refused}
-use Rattle.isis_datagram.specs.Numbers.{snpa_number}
+use Rattle.isis_model.specs.Numbers.{snpa_number}
 use Rattle.isis_datagram.specs.Reading.{message}
 use Rattle.router_desk.specs.declared.cause.DropCause.{DropCause}
 use Rattle.router_desk.specs.declared.cause.DropCause.TheVariants as cause

@@ -42,7 +42,7 @@ pub struct Desk {
 }
 
 impl Model for Desk {
-    ghost use Rattle.isis_datagram.specs.Numbers.{system_number};
+    ghost use Rattle.isis_model.specs.Numbers.{system_number};
     ghost use Rattle.isis_datagram.specs.Reading.{runs_of};
     ghost use Rattle.router_desk.specs.Desks.{DeskView};
 

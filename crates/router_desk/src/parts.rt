@@ -2,7 +2,7 @@
 ghost use Rattle.std.specs.Prelude.{◌≡◌, ◌≤◌, length, Some};
 ghost use Rattle.std.specs.Option.{option_copied, option_map};
 ghost use Rattle.isis_model.specs.Both.{at};
-ghost use Rattle.isis_datagram.specs.Numbers.{system_number};
+ghost use Rattle.isis_model.specs.Numbers.{system_number};
 ghost use Rattle.isis_datagram.specs.Reading.{runs_of};
 ghost use Rattle.router_desk.specs.Desks.{circuit_at};
 

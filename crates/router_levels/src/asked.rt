@@ -4,7 +4,7 @@ ghost use Rattle.isis_base.specs.Identifiers.{lsp_number};
 ghost use Rattle.isis_model.specs.LspTable.{met};
 ghost use Rattle.isis_model.specs.Takes.{whose_of};
 ghost use Rattle.isis_model.specs.Receiving as receiving;
-ghost use Rattle.isis_datagram.specs.Numbers.{system_number};
+ghost use Rattle.isis_model.specs.Numbers.{system_number};
 ghost use Rattle.flag_sync.specs.Heard.{heard_of, answer_of};
 ghost use Rattle.router_levels.specs.Views.{state_of, keeps_entry};
 

@@ -13,7 +13,7 @@ ghost use Rattle.isis_model.specs.Routers.{Contents, Router};
 ghost use Rattle.isis_model.specs.OwnLsps as model;
 ghost use Rattle.isis_model.specs.Receiving.{no_room};
 ghost use Rattle.isis_model.specs.Takes.{whose_of, last_purge, take_lsp};
-ghost use Rattle.isis_datagram.specs.Numbers.{system_number};
+ghost use Rattle.isis_model.specs.Numbers.{system_number};
 ghost use Rattle.isis_datagram.specs.Lsps.{given_octets};
 ghost use Rattle.flag_sync.specs.Heard.{heard_of, answer_of};
 ghost use Rattle.flag_sync.specs.BookStates.{IsCircuit};

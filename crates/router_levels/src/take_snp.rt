@@ -10,7 +10,7 @@ ghost use Rattle.isis_model.specs.SnpTable.{snp_case};
 ghost use Rattle.isis_model.specs.Routers.{Router};
 ghost use Rattle.isis_model.specs.OwnLsps as model;
 ghost use Rattle.isis_model.specs.Takes.{Scene, whose_of, held_purge, take_entry, take_entries, take_snp};
-ghost use Rattle.isis_datagram.specs.Numbers.{system_number};
+ghost use Rattle.isis_model.specs.Numbers.{system_number};
 ghost use Rattle.isis_datagram.specs.Lsps.{given_octets};
 ghost use Rattle.flag_sync.specs.Heard.{entry_of, entries_of, outbid_of};
 ghost use Rattle.flag_sync.specs.BookStates.{IsCircuit};

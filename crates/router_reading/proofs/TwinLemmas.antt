@@ -14,7 +14,7 @@ use Rattle.isis_base.specs.declared.identifiers.NodeId.{NodeId}
 use Rattle.isis_base.specs.Identifiers.{lsp_number}
 use Rattle.adjacency.specs.Views as adjacency
 use Rattle.designated_is.specs.Numbers as designated
-use Rattle.isis_datagram.specs.Numbers as datagram
+use Rattle.isis_model.specs.Numbers as datagram
 use Rattle.isis_datagram.proofs.ListLemmas.{of-exactly}
 
 abbrev Small : List ℕ → Type 0

@@ -8,7 +8,7 @@ use Rattle.isis_base.specs.declared.identifiers.LspId.{LspId}
 use Rattle.isis_base.specs.Identifiers.{lsp_number}
 use Rattle.isis_model.specs.Adjacencies as model
 use Rattle.isis_model.specs.Events as event
-use Rattle.isis_datagram.specs.Numbers.{system_number, snpa_number}
+use Rattle.isis_model.specs.Numbers.{system_number, snpa_number}
 use Rattle.isis_datagram.specs.Reading.{runs_of}
 use Rattle.isis_datagram.specs.Values.{areas_in}
 use Rattle.adjacency.specs.Views as adjacency

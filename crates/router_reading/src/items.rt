@@ -2,7 +2,7 @@
 ghost use Rattle.std.specs.Prelude.{◌≡◌, ◌==◌, IfOk};
 ghost use Rattle.std.specs.Option.{option_map};
 ghost use Rattle.std.specs.Result.{ok_prefix};
-ghost use Rattle.isis_datagram.specs.Numbers.{system_number, snpa_number};
+ghost use Rattle.isis_model.specs.Numbers.{system_number, snpa_number};
 ghost use Rattle.isis_datagram.specs.Values as values;
 ghost use Rattle.isis_datagram.specs.Values.{lists, handshake, first_handshake};
 

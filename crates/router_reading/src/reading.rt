@@ -2,7 +2,7 @@
 ghost use Rattle.std.specs.Prelude.{◌≡◌, true, map, IfOk};
 ghost use Rattle.std.specs.Result.{ok_prefix};
 ghost use Rattle.isis_pdu.specs.Views.{pdu_view};
-ghost use Rattle.isis_datagram.specs.Numbers.{system_number, snpa_number};
+ghost use Rattle.isis_model.specs.Numbers.{system_number, snpa_number};
 ghost use Rattle.isis_datagram.specs.Reading.{message};
 ghost use Rattle.isis_datagram.specs.Tests.{has_number};
 ghost use Rattle.isis_datagram.specs.Values as values;

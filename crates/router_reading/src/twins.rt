@@ -5,7 +5,7 @@ ghost use Rattle.std.specs.List.{AllByRecursion};
 ghost use Rattle.std.specs.Option.{option_map};
 ghost use Rattle.adjacency.specs.Views as adjacency;
 ghost use Rattle.designated_is.specs.Numbers as designated;
-ghost use Rattle.isis_datagram.specs.Numbers as datagram;
+ghost use Rattle.isis_model.specs.Numbers as datagram;
 ghost use Rattle.isis_datagram.specs.Values.{handshake};
 
 use isis_base::{NodeId, Snpa, SystemId};

@@ -8,7 +8,7 @@ use Rattle.isis_base.specs.declared.prefix.Prefix.{Prefix}
 use Rattle.isis_base.specs.Prefixes.{prefix_from}
 use Rattle.isis_model.specs.Both.{Both, at}
 use Rattle.isis_model.specs.Routers.{Router, book_of}
-use Rattle.isis_datagram.specs.Numbers.{system_id}
+use Rattle.isis_model.specs.Numbers.{system_id}
 use Rattle.isis_datagram.specs.Reading.{runs_of}
 use Rattle.lsp_store.specs.declared.entry.Entry.{Entry}
 use Rattle.lsp_view.specs.Views.{own_node, rows_in, overloaded_in}

@@ -18,7 +18,7 @@ use crate::graph::{Graph, indexed};
 use crate::hops::{Hops, hops_of};
 use crate::indexed::IndexedRows;
 use crate::labels::Labels;
-use crate::node::{is_system, number, system_number};
+use crate::node::{is_system, number, target_number};
 use crate::nodes::{in_order, is_among};
 use crate::reach::explore;
 use crate::spans::spans_of;
@@ -109,7 +109,8 @@ fn chosen(
     requires spans { AreSpans indexed.now.nodes indexed.now.rows spans.now
         (length indexed.now.nodes) }
     requires root { Contains indexed.now.nodes root }
-    ensures { IfOk result (λ hops. AreChosen indexed.now.rows root labels.now target plain.now hops.items) }
+    ensures { IfOk result (λ hops.
+        AreChosen indexed.now.rows root labels.now target plain.now hops.items) }
 {
     let mut hops = Vec::new(alloc);
     for place in 0..plain.len() {
@@ -189,7 +190,7 @@ pub fn next_hops(
         ⊎ (cost_at distances.now (node_number target) ≡ None))) }
 {
     let rows = indexed(graph);
-    let (start, end) = (number(root), system_number(target));
+    let (start, end) = (number(root), target_number(target));
     if is_among(rows.nodes(), start) {
         return hops_from(alloc, rows, distances, start, end);
     }

@@ -14,7 +14,7 @@ pub fn number(node: NodeId) -> u64
 }
 
 /// A system's own node as a number.
-pub fn system_number(node: NodeId) -> u64
+pub fn target_number(node: NodeId) -> u64
     requires { node.pseudonode ≡ 0 }
     ensures same { result ≡ node_number node }
     ensures system { is_system result ≡ true }

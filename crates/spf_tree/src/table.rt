@@ -53,7 +53,8 @@ fn table_hop(
     requires spans { AreSpans indexed.now.nodes indexed.now.rows spans.now
         (length indexed.now.nodes) }
     requires root { Contains indexed.now.nodes root }
-    ensures { OnOk result (IsTabled indexed.now.rows root labels.now hop table.old.items table.new.items) }
+    ensures { OnOk result
+        (IsTabled indexed.now.rows root labels.now hop table.old.items table.new.items) }
 {
     if hop == root {
         return Ok(());
@@ -84,7 +85,8 @@ fn table_all(
     requires spans { AreSpans indexed.now.nodes indexed.now.rows spans.now
         (length indexed.now.nodes) }
     requires root { Contains indexed.now.nodes root }
-    ensures { IfOk result (λ table. AreTabled indexed.now.rows root labels.now plain.now table.items) }
+    ensures { IfOk result (λ table.
+        AreTabled indexed.now.rows root labels.now plain.now table.items) }
 {
     let mut table = Vec::new(alloc);
     for place in 0..plain.len() {

@@ -2,7 +2,7 @@ use Rattle.std.proofs.Common.{List, ℕ, ◌≡◌, ◌+◌, ◌*◌, ◌++◌, 
 use Rattle.std.proofs.lemmas.Result.{on_ok_weaker}
 use Rattle.isis_model.specs.Routers.{Contents}
 use Rattle.isis_model.specs.Splits.{Split}
-use Rattle.isis_datagram.specs.Numbers.{node_number, system_number}
+use Rattle.isis_model.specs.Numbers.{node_number, system_number}
 use Rattle.router_circuits.specs.Views.{IsHere}
 use Rattle.lsp_wanted.specs.Lent.{config_of}
 use Rattle.lsp_wanted.specs.Views.{wanted_of}

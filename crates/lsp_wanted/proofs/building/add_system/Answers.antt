@@ -2,7 +2,7 @@ use Rattle.std.proofs.Common.{List, ℕ, ◌≡◌, ◌*◌, ◌++◌, map, ap, 
 use Rattle.std.proofs.lemmas.Result.{on_ok_weaker}
 use Rattle.isis_model.specs.Routers.{Contents}
 use Rattle.isis_model.specs.Splits.{Split}
-use Rattle.isis_datagram.specs.Numbers.{node_number, system_number}
+use Rattle.isis_model.specs.Numbers.{node_number, system_number}
 use Rattle.lsp_wanted.specs.Views.{wanted_of}
 use Rattle.lsp_wanted.proofs.WantedLemmas.{system-made}
 use Rattle.lsp_wanted.proofs.building.add_system.Goals as goal

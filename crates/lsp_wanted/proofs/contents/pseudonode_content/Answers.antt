@@ -3,7 +3,7 @@ use Rattle.isis_tlv.specs.declared.prefix.PrefixItem.{PrefixItem}
 use Rattle.isis_model.specs.Adjacencies.{Neighbour}
 use Rattle.isis_model.specs.Both.{at}
 use Rattle.isis_model.specs.LspNeighbours.{node_items}
-use Rattle.isis_datagram.specs.Numbers.{system_number}
+use Rattle.isis_model.specs.Numbers.{system_number}
 use Rattle.lsp_fragments.specs.Entries.{neighbour_entry, prefix_entry}
 use Rattle.lsp_wanted.specs.Parts.{put_ups}
 use Rattle.lsp_wanted.proofs.NodeLemmas.{good-ids, lan-ups}

@@ -1,7 +1,7 @@
 use Rattle.std.proofs.Common.{List, ℕ, ◌*◌, ◌+◌, ◌++◌, [], ◌∷◌, map, length, reverse, refl, sym, ap, ◌∙◌, arith, append-nil, length-append}
 use Rattle.std.proofs.lemmas.List.{reverse-append, reverse-reverse}
 use Rattle.isis_model.specs.Routers.{Contents}
-use Rattle.isis_datagram.specs.Numbers.{node_number}
+use Rattle.isis_model.specs.Numbers.{node_number}
 use Rattle.lsp_wanted.specs.declared.wanted.Wanted.{Wanted}
 use Rattle.lsp_wanted.specs.Parts.{counted}
 use Rattle.lsp_wanted.specs.Views.{wanted_of}

@@ -1,5 +1,5 @@
 use Rattle.std.proofs.Common.{◌≡◌, ◌+◌, ◌*◌, ◌++◌, ◌≤◌, length, map, reverse}
-use Rattle.isis_datagram.specs.Numbers.{node_number}
+use Rattle.isis_model.specs.Numbers.{node_number}
 use Rattle.lsp_wanted.specs.Parts.{counted}
 use Rattle.lsp_wanted.specs.Views.{wanted_of}
 use Rattle.lsp_wanted.proofs.numbering.add.Given as goal

@@ -1,5 +1,5 @@
 use Rattle.std.proofs.Common.{◌≡◌, ◌*◌, [], ◌∷◌, drop, map}
-use Rattle.isis_datagram.specs.Numbers.{system_number}
+use Rattle.isis_model.specs.Numbers.{system_number}
 use Rattle.adjacency.specs.Views.{neighbour_of}
 use Rattle.lsp_fragments.specs.Entries.{node_and_metric}
 use Rattle.lsp_wanted.specs.Parts.{NotFalling, put_ups}

@@ -3,7 +3,7 @@ use Rattle.isis_base.specs.declared.entry.LspEntry.{LspEntry}
 use Rattle.isis_base.specs.declared.identifiers.LspId.{LspId}
 use Rattle.isis_base.specs.Identifiers.{lsp_number}
 use Rattle.isis_model.specs.Events.{SnpHeard}
-use Rattle.isis_datagram.specs.Numbers.{snpa_number, system_number}
+use Rattle.isis_model.specs.Numbers.{snpa_number, system_number}
 use Rattle.flag_sync.specs.Heard.{entries_of}
 use Rattle.router_reading.specs.declared.heard.Heard.{Heard}
 use Rattle.router_reading.specs.declared.heard.Heard.TheVariants as heard

@@ -1,7 +1,7 @@
 use Rattle.std.proofs.Common.{◌∙◌, [], Bool, sym, ap, subst, arith}
 use Rattle.std.specs.Option.{option_copied}
 use Rattle.isis_base.specs.declared.pdu_kind.PduKind.TheVariants as kind
-use Rattle.isis_datagram.specs.Numbers.{system_number, node_number}
+use Rattle.isis_model.specs.Numbers.{system_number, node_number}
 use Rattle.isis_datagram.specs.Tlvs.{hello_tlvs, lan_tlvs}
 use Rattle.pdu_sender.specs.Sends.{snpas_of}
 use Rattle.pdu_sender.specs.Writing.{pieced, heard_tlv, IsEndable, ended}

@@ -1,7 +1,7 @@
 use Rattle.std.proofs.Common.{◌∙◌, [], Some, Bool, sym, ap, subst, arith}
 use Rattle.std.specs.Option.{option_copied}
 use Rattle.isis_base.specs.declared.pdu_kind.PduKind.TheVariants as kind
-use Rattle.isis_datagram.specs.Numbers.{system_number}
+use Rattle.isis_model.specs.Numbers.{system_number}
 use Rattle.isis_datagram.specs.Tlvs.{hello_tlvs, point_tlvs}
 use Rattle.isis_tlv.specs.Spelling.{three_way_tlv}
 use Rattle.pdu_sender.specs.Sends.{names_of}

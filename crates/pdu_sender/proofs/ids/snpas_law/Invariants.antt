@@ -1,6 +1,6 @@
 use Rattle.std.proofs.Common.{◌≡◌, length, map}
 use Rattle.adjacency.specs.declared.neighbour.Neighbour.{Neighbour}
-use Rattle.isis_datagram.specs.Numbers.{snpa_id}
+use Rattle.isis_model.specs.Numbers.{snpa_id}
 use Rattle.pdu_sender.specs.Sends.{snpas_of}
 use Rattle.pdu_sender.proofs.ids.snpas_law.Given as goal
 

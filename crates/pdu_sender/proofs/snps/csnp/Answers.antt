@@ -3,7 +3,7 @@ use Rattle.std.specs.Option.{option_copied}
 use Rattle.isis_base.specs.Identifiers.{lsp_number}
 use Rattle.isis_base.specs.declared.pdu_kind.PduKind.TheVariants as kind
 use Rattle.isis_model.specs.Datagrams as sent
-use Rattle.isis_datagram.specs.Numbers.{system_id, system_number}
+use Rattle.isis_model.specs.Numbers.{system_id, system_number}
 use Rattle.isis_datagram.specs.Signing.{signed}
 use Rattle.isis_datagram.specs.Datagrams.{datagram}
 use Rattle.isis_datagram.specs.Tlvs.{entry_tlvs}

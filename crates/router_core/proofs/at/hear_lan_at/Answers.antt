@@ -3,7 +3,7 @@ use Rattle.isis_model.specs.Both.{alone}
 use Rattle.isis_model.specs.Adjacencies.{common_of}
 use Rattle.isis_model.specs.Configs.{Config}
 use Rattle.isis_model.specs.Hellos.{lan_circuit}
-use Rattle.isis_datagram.specs.Numbers.{system_number}
+use Rattle.isis_model.specs.Numbers.{system_number}
 use Rattle.isis_datagram.specs.Reading.{runs_of}
 use Rattle.router_circuits.specs.Hellos.{hello_of}
 use Rattle.router_desk.specs.Desks.{desk_circuit}

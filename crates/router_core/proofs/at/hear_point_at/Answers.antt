@@ -5,7 +5,7 @@ use Rattle.isis_model.specs.Adjacencies.{common_of, is_same}
 use Rattle.isis_model.specs.Configs.{Config}
 use Rattle.isis_model.specs.Hellos.{point_circuit}
 use Rattle.isis_model.specs.HelloTests.{point_drop}
-use Rattle.isis_datagram.specs.Numbers.{system_number}
+use Rattle.isis_model.specs.Numbers.{system_number}
 use Rattle.isis_datagram.specs.Reading.{runs_of}
 use Rattle.router_circuits.specs.Hellos.{hello_of, IsOwn}
 use Rattle.router_desk.specs.Desks.{desk_circuit}

@@ -1,7 +1,7 @@
 use Rattle.std.proofs.Common.{◌≡◌, ◌++◌}
 use Rattle.std.specs.Result.{ok_prefix}
 use Rattle.isis_tlv.specs.Items as items
-use Rattle.isis_datagram.specs.Numbers.{system_number}
+use Rattle.isis_model.specs.Numbers.{system_number}
 use Rattle.isis_datagram.specs.Values.{snpas_in, lists}
 use Rattle.router_reading.specs.Left.{items_left}
 use Rattle.router_reading.proofs.items.names_own.Given as goal

@@ -1,7 +1,7 @@
 use Rattle.std.proofs.Common.{◌∙◌, List, map, ap}
 use Rattle.isis_model.specs.Events as event
 use Rattle.isis_model.specs.SnpTable.{SnpEntry}
-use Rattle.isis_datagram.specs.Numbers.{system_number, snpa_number}
+use Rattle.isis_model.specs.Numbers.{system_number, snpa_number}
 use Rattle.isis_datagram.specs.Values.{snp_entry}
 use Rattle.router_reading.specs.Heard.{range_of}
 use Rattle.router_reading.proofs.TwinLemmas.{entries-twins}

@@ -1,5 +1,5 @@
 use Rattle.std.proofs.Common.{◌-◌}
-use Rattle.isis_datagram.specs.Numbers.{snpa_number}
+use Rattle.isis_model.specs.Numbers.{snpa_number}
 use Rattle.flag_sync.specs.Heard.{heard_of}
 use Rattle.router_core.proofs.TakenLemmas.{lsp-taken}
 use Rattle.router_core.proofs.machine.Machine.lsp.Goals as goal

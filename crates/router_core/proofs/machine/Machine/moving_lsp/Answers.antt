@@ -9,7 +9,7 @@ use Rattle.isis_model.specs.Places.{nth}
 use Rattle.isis_model.specs.Receiving.{lsp_drop}
 use Rattle.isis_model.specs.Routers.{Circuit, LevelState, Router, book_of, level_of}
 use Rattle.isis_model.specs.Takes.{whose_of}
-use Rattle.isis_datagram.specs.Numbers.{snpa_number, system_number}
+use Rattle.isis_model.specs.Numbers.{snpa_number, system_number}
 use Rattle.flag_sync.specs.BookStates as sync
 use Rattle.flag_sync.specs.Heard.{heard_of, answer_of}
 use Rattle.flag_sync.specs.declared.heard.LspAnswer.TheVariants as answer

@@ -4,7 +4,7 @@ use Rattle.isis_model.specs.Places.{nth}
 use Rattle.isis_model.specs.Receiving.{scene_of, snp_drop}
 use Rattle.isis_model.specs.Routers.{level_of, with_level}
 use Rattle.isis_model.specs.Takes.{take_snp}
-use Rattle.isis_datagram.specs.Numbers.{snpa_number, system_number}
+use Rattle.isis_model.specs.Numbers.{snpa_number, system_number}
 use Rattle.flag_sync.specs.Heard.{entries_of}
 use Rattle.router_reading.specs.Heard.{range_of}
 use Rattle.router_core.specs.Givens.{given}

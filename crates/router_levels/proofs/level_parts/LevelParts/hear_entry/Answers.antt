@@ -4,7 +4,7 @@ use Rattle.isis_model.specs.Books.{Book, cell_at}
 use Rattle.isis_model.specs.SnpTable.{snp_case, hear_entry}
 use Rattle.isis_model.specs.Routers.{LevelState}
 use Rattle.isis_model.specs.Takes.{whose_of, take_entry}
-use Rattle.isis_datagram.specs.Numbers.{system_number}
+use Rattle.isis_model.specs.Numbers.{system_number}
 use Rattle.flag_sync.specs.declared.heard.EntryAnswer.{EntryAnswer}
 use Rattle.flag_sync.specs.Heard.{entry_of, outbid_of}
 use Rattle.flag_sync.specs.BookStates.{book_of}

@@ -4,7 +4,7 @@ use Rattle.std.specs.Option.{option_copied}
 use Rattle.isis_base.specs.declared.level.Level.{Level}
 use Rattle.isis_model.specs.Routers.{Router}
 use Rattle.isis_model.specs.Takes.{take_entries}
-use Rattle.isis_datagram.specs.Numbers.{system_number}
+use Rattle.isis_model.specs.Numbers.{system_number}
 use Rattle.flag_sync.specs.Heard.{entries_of}
 use Rattle.router_levels.specs.Views.{state_of, HasRoom}
 use Rattle.router_levels.specs.Drafts.{AreReady, AreAnswers, scene_with}

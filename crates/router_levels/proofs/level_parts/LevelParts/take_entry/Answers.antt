@@ -10,7 +10,7 @@ use Rattle.isis_model.specs.SnpTable.{snp_case}
 use Rattle.isis_model.specs.Routers.{Contents, Issued, LevelState}
 use Rattle.isis_model.specs.OwnLsps.{outbid}
 use Rattle.isis_model.specs.Takes.{whose_of, held_purge}
-use Rattle.isis_datagram.specs.Numbers.{system_number}
+use Rattle.isis_model.specs.Numbers.{system_number}
 use Rattle.isis_datagram.specs.Lsps.{given_octets}
 use Rattle.flag_sync.specs.Heard.{entry_of, outbid_of}
 use Rattle.router_levels.specs.Views.{state_of}

@@ -6,7 +6,7 @@ use Rattle.isis_model.specs.LspTable.{met, hear_lsp}
 use Rattle.isis_model.specs.Routers.{Contents, LevelState}
 use Rattle.isis_model.specs.OwnLsps.{outbid}
 use Rattle.isis_model.specs.Takes.{whose_of, last_purge}
-use Rattle.isis_datagram.specs.Numbers.{system_number}
+use Rattle.isis_model.specs.Numbers.{system_number}
 use Rattle.isis_datagram.specs.Lsps.{given_octets}
 use Rattle.flag_sync.specs.Heard.{heard_of, answer_of}
 use Rattle.router_levels.specs.Views.{LevelView, state_of}

@@ -5,7 +5,7 @@ use Rattle.isis_model.specs.Books.{Book}
 use Rattle.isis_model.specs.SnpTable.{hear_range}
 use Rattle.isis_model.specs.Routers.{LevelState}
 use Rattle.isis_model.specs.Takes.{take_snp}
-use Rattle.isis_datagram.specs.Numbers.{system_number}
+use Rattle.isis_model.specs.Numbers.{system_number}
 use Rattle.flag_sync.specs.Heard.{entries_of}
 use Rattle.router_levels.specs.Views.{LevelView, state_of}
 use Rattle.router_levels.specs.Drafts.{scene_with, range_of}
