@@ -9,3 +9,4 @@ pub mod KindLemmas
 pub mod SpareLemmas
 pub mod AgeLemmas
 pub mod SaidLemmas
+pub mod AmongLemmas

@@ -1,5 +1,5 @@
 -- The definitions: flag rows, heard, known, entries, book states, deeds, circuits, walks, marks,
--- ages, said.
+-- ages, said, among.
 pub mod FlagRows
 pub mod Heard
 pub mod Known
@@ -11,3 +11,4 @@ pub mod Walks
 pub mod Marks
 pub mod Ages
 pub mod Said
+pub mod Among

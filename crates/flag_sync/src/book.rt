@@ -9,6 +9,7 @@ ghost use Rattle.flag_sync.specs.BookStates.{no_entries, AreBeside};
 
 use crate::bits::with_bit;
 use crate::flag_row::FlagRow;
+use crate::flags::Flags;
 use crate::sides::ENTRY_LIMIT;
 use isis_base::{CircuitKind, OutOfMemory};
 use lsp_store::{Pages, Store, StoreFault};
@@ -20,7 +21,7 @@ use std::marker::Model;
 pub struct Book {
     pub(crate) alloc: Global,
     pub(crate) store: Store,
-    pub(crate) flags: Pages<FlagRow>,
+    pub(crate) flags: Flags,
     pub(crate) opened: u64,
     pub(crate) points: u64,
     pub(crate) circuits: usize,
@@ -59,7 +60,7 @@ impl Book {
         let book = Book {
             alloc,
             store: Store::new(alloc),
-            flags: Pages::new(alloc),
+            flags: Flags::new(alloc),
             opened: 0,
             points: points_of(kinds),
             circuits: kinds.len(),
@@ -79,7 +80,7 @@ impl Book {
         ensures rows { result.now.entries ≡ self.now.rows }
         ensures beside { AreBeside self.now.store.entries result.now.entries }
     {
-        &self.flags
+        self.flags.pages()
     }
 
     /// For how many more entries memory is taken already, their flags included.

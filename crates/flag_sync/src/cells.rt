@@ -22,20 +22,6 @@ use crate::sides::put_both;
 use isis_base::LspId;
 use lsp_store::{Change, Entry, StoreFault};
 
-/// A row becomes this one.
-#[derive(Drop)]
-struct Becomes {
-    row: FlagRow,
-}
-
-impl Change<FlagRow> for Becomes {
-    ghost changed = { λ becomes row. becomes.row };
-
-    fn change(&self, row: &mut FlagRow) {
-        *row = self.row;
-    }
-}
-
 /// An entry has these seconds left.
 #[derive(Drop)]
 struct Left {
@@ -86,7 +72,7 @@ impl Book {
     {
         let row = FlagRow::new(self.opened, 0);
         self.store.change(id, &Purge);
-        self.flags.change(id, &Becomes { row });
+        self.flags.set(id, row);
     }
 
     /// The entry has these seconds left.

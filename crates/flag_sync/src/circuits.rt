@@ -15,7 +15,6 @@ ghost use Rattle.flag_sync.specs.BookStates.{BookState, book_of, IsCircuit, Same
 use crate::bits::{has_bit, with_bit, without_bit};
 use crate::book::Book;
 use crate::deed::{Deed, SrmDeed, SsnDeed};
-use crate::row_edits::{SecondLess, WhereDue};
 use isis_base::LspId;
 
 impl Book {
@@ -76,7 +75,7 @@ impl Book {
     {
         let place = self.place(circuit);
         let deed = sent_deed(self.points, place);
-        self.flags.change_all(&WhereDue { deed });
+        self.flags.change_due(deed);
     }
 
     /// The sequence number PDUs that were owed on the circuit are sent: its SSN flags are cleared.
@@ -100,7 +99,7 @@ impl Book {
         ensures store { self.new.store ≡ self.old.store }
         ensures rest { SameCircuits self.old self.new }
     {
-        self.flags.change_all(&SecondLess);
+        self.flags.second();
     }
 
     /// Does to the flags of all LSP IDs what a deed says.

@@ -6,7 +6,8 @@
 //! equal to isis_model's definition, for every LSP ID and circuit. Own: rows of 64-bit words, bit
 //! c - 1 for circuit c, and that flags fall at a circuit's closing.
 //!
-//! - `book.rt`: the book; `flag_row.rt`: a row; `bits.rt`: sets of circuits; `sides.rt`: both sides
+//! - `book.rt`: the book; `flag_row.rt`: a row; `flags.rt`: all rows, and the circuits that may have
+//!   flags; `bits.rt`: sets of circuits; `sides.rt`: both sides
 //! - `heard.rt`: what is heard and answered; `known.rt`: what the tables ask of what is held
 //! - `lsp_rows.rt`, `snp_rows.rt`: which row is met; `hear_lsp.rt`, `hear_entry.rt`: what it does
 //! - `range.rt`: what a CSNP misses, and marks; `walks.rt`: what is due and owed; `said.rt`: what
@@ -20,10 +21,13 @@
 mod ages;
 mod bits;
 mod book;
+#[cfg(test)]
+mod book_tests;
 mod cells;
 mod circuits;
 mod deed;
 mod flag_row;
+mod flags;
 mod headers;
 mod hear_entry;
 mod hear_lsp;

@@ -12,10 +12,10 @@ ghost use Rattle.flag_sync.specs.BookStates.{book_of, IsCircuit, SameCircuits};
 
 use crate::book::Book;
 use crate::deed::{Deed, SrmDeed, SsnDeed};
-use crate::flag_row::FlagRow;
+use crate::flags::Flags;
 use crate::known::has_live;
 use isis_base::{LspEntry, LspId};
-use lsp_store::{Pages, Store};
+use lsp_store::Store;
 
 impl Book {
     /// The range of a CSNP is heard on a circuit (ISO 10589 7.3.15.2): each live LSP in it that
@@ -60,7 +60,7 @@ impl Book {
 }
 
 /// Sets SRM for every key that is held.
-fn mark_keys(store: &Store, flags: &mut Pages<FlagRow>, place: u8)
+fn mark_keys(store: &Store, flags: &mut Flags, place: u8)
     requires { place < 64 }
     ensures rows { flags.new.entries ≡ marks has_key place store.now.entries flags.old.entries }
     ensures spare { flags.new.spare ≡ flags.old.spare }
@@ -82,7 +82,7 @@ fn mark_keys(store: &Store, flags: &mut Pages<FlagRow>, place: u8)
 /// there is one.
 fn mark_missed(
     store: &Store,
-    flags: &mut Pages<FlagRow>,
+    flags: &mut Flags,
     place: u8,
     start: LspId,
     end: LspId,

@@ -18,6 +18,20 @@ pub(crate) struct WhereDue {
     pub(crate) deed: Deed,
 }
 
+/// A row becomes this one.
+#[derive(Drop)]
+pub(crate) struct Becomes {
+    pub(crate) row: FlagRow,
+}
+
+impl Change<FlagRow> for Becomes {
+    ghost changed = { λ becomes row. becomes.row };
+
+    fn change(&self, row: &mut FlagRow) {
+        *row = self.row;
+    }
+}
+
 impl Change<FlagRow> for Deed {
     ghost use Rattle.flag_sync.specs.FlagRows.{done};
 

@@ -1,5 +1,5 @@
 //! What sequence number PDUs say of a book: its keys, and the entries that are owed on a circuit.
-ghost use Rattle.std.specs.Prelude.{◌≡◌, ◌-◌, ◌<◌, Some, None};
+ghost use Rattle.std.specs.Prelude.{◌≡◌, ◌-◌, ◌<◌, Some, None, [], false};
 ghost use Rattle.isis_model.specs.Cells.{Cell};
 ghost use Rattle.isis_model.specs.Good.{IsGoodBook};
 ghost use Rattle.isis_model.specs.SnpLists.{held_keys, owed};
@@ -66,7 +66,9 @@ pub struct SaidOwed<'a> {
     entries: Pairs<'a, Entry>,
     rows: Pairs<'a, FlagRow>,
     place: u8,
+    some: bool,
     ghost fits: { place < 64 },
+    ghost none: { some ≡ false → said_owed place entries rows ≡ [] },
 }
 
 impl<'a> Model for SaidOwed<'a> {
@@ -89,6 +91,9 @@ impl<'a> Iterator for SaidOwed<'a> {
     ghost remaining = { item_count (λ rest. rest) };
 
     fn next(&mut self) -> Option<LspEntry> {
+        if !self.some {
+            return None;
+        }
         while let Some((id, entry)) = self.entries.next() {
             if let Some((_, row)) = self.rows.next() {
                 if has_bit(row.ssn, self.place) {
@@ -124,10 +129,12 @@ impl Book {
         let place = self.place(circuit);
         let entries = self.store.pages().pairs();
         let rows = self.flags.pairs();
+        let some = self.flags.may_answer(place);
         SaidOwed {
             entries,
             rows,
             place,
+            some,
         }
     }
 }

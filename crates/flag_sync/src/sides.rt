@@ -6,8 +6,9 @@ ghost use Rattle.lsp_store.specs.Databases.{PutCause, with_entry, without_entry}
 ghost use Rattle.flag_sync.specs.BookStates.{AreBeside};
 
 use crate::flag_row::FlagRow;
+use crate::flags::Flags;
 use isis_base::LspId;
-use lsp_store::{Entry, Pages, Store, StoreFault};
+use lsp_store::{Entry, Store, StoreFault};
 
 /// The most entries of a store.
 pub(crate) const ENTRY_LIMIT: usize = 65_536;
@@ -16,7 +17,7 @@ pub(crate) const ENTRY_LIMIT: usize = 65_536;
 /// taken.
 pub(crate) fn put_both(
     store: &mut Store,
-    flags: &mut Pages<FlagRow>,
+    flags: &mut Flags,
     id: LspId,
     entry: Entry,
     row: FlagRow,
@@ -46,7 +47,7 @@ pub(crate) fn put_both(
 }
 
 /// Sees that an LSP ID's row can be put without memory.
-fn take_room(store: &Store, flags: &mut Pages<FlagRow>, id: LspId) -> Result<(), StoreFault>
+fn take_room(store: &Store, flags: &mut Flags, id: LspId) -> Result<(), StoreFault>
     requires beside { AreBeside store.now.entries flags.old.entries }
     requires room { store.now.spare ≤ flags.old.spare }
     ensures same { flags.new.entries ≡ flags.old.entries }

@@ -1,4 +1,4 @@
-//! Rows of the tables for LSPs and entries that are heard, and each call of a book once.
+//! Rows of the tables for LSPs and entries that are heard.
 ghost use Rattle.std.specs.Prelude.{◌≡◌, ◌<◌, ◌≤◌, IfOk, length};
 
 use crate::{Book, EntryAnswer, LspAnswer, LspHeard, Whose};
@@ -8,10 +8,10 @@ use std::alloc::Global;
 use std::test::Fail;
 
 /// The LSP ID that the rows speak of.
-const ID: u64 = 7;
+pub(crate) const ID: u64 = 7;
 
 /// What is said of that LSP ID.
-fn said(number: u32, lifetime: u16, checksum: u16) -> LspEntry {
+pub(crate) fn said(number: u32, lifetime: u16, checksum: u16) -> LspEntry {
     LspEntry {
         lifetime,
         id: LspId::from_number(ID),
@@ -67,7 +67,7 @@ fn bare(alloc: Global) -> Result<Book, OutOfMemory>
 
 /// The same with the entry, SRM on circuits 1 and 3, of which it waits on 1, and SSN on circuits 2
 /// and 3.
-fn held(alloc: Global) -> Result<Book, OutOfMemory>
+pub(crate) fn held(alloc: Global) -> Result<Book, OutOfMemory>
     ensures { IfOk result (λ book. book.circuits ≡ 3) }
 {
     let mut book = match bare(alloc) {
@@ -95,7 +95,7 @@ fn held(alloc: Global) -> Result<Book, OutOfMemory>
 /// The entry of the LSP ID, its octets by their number. All is 0 where there is none, and but for
 /// the seconds left where it is empty.
 #[derive(Clone, Copy, Debug, PartialEq, Eq)]
-struct Kept {
+pub(crate) struct Kept {
     number: u32,
     purged: bool,
     checksum: u16,
@@ -107,11 +107,11 @@ struct Kept {
 /// What is held of the LSP ID, with its flags on the three circuits, and the seconds that SRM
 /// waits.
 #[derive(Clone, Copy, Debug, PartialEq, Eq)]
-struct Shown {
+pub(crate) struct Shown {
     kept: Kept,
     srm: [bool; 3],
     ssn: [bool; 3],
-    waits: [u64; 3],
+    pub(crate) waits: [u64; 3],
 }
 
 fn now_kept(book: &Book) -> Kept {
@@ -144,7 +144,7 @@ fn wait(book: &Book, place: u32) -> u64
     ((ones >> place) & 1) | (((twos >> place) & 1) << 1) | (((fours >> place) & 1) << 2)
 }
 
-fn now_held(book: &Book) -> Shown
+pub(crate) fn now_held(book: &Book) -> Shown
     requires { book.now.circuits ≡ 3 }
 {
     let id = LspId::from_number(ID);
@@ -157,7 +157,7 @@ fn now_held(book: &Book) -> Shown
 }
 
 /// What is held, where no SRM waits.
-fn cell(kept: Kept, srm: [bool; 3], ssn: [bool; 3]) -> Shown {
+pub(crate) fn cell(kept: Kept, srm: [bool; 3], ssn: [bool; 3]) -> Shown {
     let waits = [0, 0, 0];
     Shown {
         kept,
@@ -168,7 +168,7 @@ fn cell(kept: Kept, srm: [bool; 3], ssn: [bool; 3]) -> Shown {
 }
 
 /// The entry of number 2, whose SRM waits five seconds on circuit 1.
-fn sent(srm: [bool; 3], ssn: [bool; 3]) -> Shown {
+pub(crate) fn sent(srm: [bool; 3], ssn: [bool; 3]) -> Shown {
     let waits = [5, 0, 0];
     Shown {
         kept: TWO,
@@ -249,7 +249,7 @@ fn after_entry(
 }
 
 /// Nothing is held.
-const NOTHING: Kept = Kept {
+pub(crate) const NOTHING: Kept = Kept {
     number: 0,
     purged: false,
     checksum: 0,
@@ -269,7 +269,7 @@ const EMPTY: Kept = Kept {
 };
 
 /// The entry of number 2.
-const TWO: Kept = Kept {
+pub(crate) const TWO: Kept = Kept {
     number: 2,
     purged: false,
     checksum: 5,
@@ -278,19 +278,19 @@ const TWO: Kept = Kept {
     length: 30,
 };
 
-const ALL: [bool; 3] = [true, true, true];
+pub(crate) const ALL: [bool; 3] = [true, true, true];
 
-const NONE: [bool; 3] = [false, false, false];
+pub(crate) const NONE: [bool; 3] = [false, false, false];
 
-const ONE: [bool; 3] = [true, false, false];
+pub(crate) const ONE: [bool; 3] = [true, false, false];
 
-const TWO_THREE: [bool; 3] = [false, true, true];
+pub(crate) const TWO_THREE: [bool; 3] = [false, true, true];
 
 const ONE_THREE: [bool; 3] = [true, false, true];
 
-const ONE_TWO: [bool; 3] = [true, true, false];
+pub(crate) const ONE_TWO: [bool; 3] = [true, true, false];
 
-const THREE: [bool; 3] = [false, false, true];
+pub(crate) const THREE: [bool; 3] = [false, false, true];
 
 /// A row for an LSP: what is heard, the answer, and what is held then.
 #[derive(Clone, Copy)]
@@ -569,64 +569,5 @@ fn an_entry_heard_in_a_full_store(rt: HostRuntime) -> Result<(), Fail> {
         after_entry(book, 1, Whose::Other, said(3, 600, 9)),
         Some((answer, cell(NOTHING, NONE, NONE)))
     );
-    Ok(())
-}
-
-// What is sent, waits and is answered.
-#[test]
-fn flags_over_time(rt: HostRuntime) -> Result<(), Fail> {
-    let id = LspId::from_number(ID);
-    let mut book = held(rt.alloc())?;
-    assert_eq!(rt; book.due(1).next(), None);
-    assert_eq!(rt; book.due(3).next(), Some(id));
-    assert_eq!(rt; book.owed(2).next(), Some(id));
-    book.second();
-    assert_eq!(rt; now_held(&book).waits, [4, 0, 0]);
-    book.second();
-    book.second();
-    book.second();
-    assert_eq!(rt; book.due(1).next(), None);
-    book.second();
-    assert_eq!(rt; book.due(1).next(), Some(id));
-    book.answered(2);
-    book.sent(3, id);
-    assert_eq!(rt; now_held(&book), cell(TWO, ONE, THREE));
-    book.sent_due(1);
-    assert_eq!(rt; book.due(1).next(), None);
-    assert_eq!(rt; now_held(&book), sent(ONE, THREE));
-    Ok(())
-}
-
-// Ranges, marks, and a circuit that closes.
-#[test]
-fn circuits_of_a_book(rt: HostRuntime) -> Result<(), Fail> {
-    let (start, end) = (LspId::from_number(0), LspId::from_number(u64::MAX));
-    let mut book = held(rt.alloc())?;
-    assert!(rt; !book.would_flag_range(start, end, &[said(2, 600, 5)]));
-    assert!(rt; book.would_flag_range(start, end, &[]));
-    assert!(rt; book.hear_csnp_range(2, start, end, &[]));
-    assert_eq!(rt; now_held(&book), sent(ALL, TWO_THREE));
-    book.clear_circuit(3);
-    assert_eq!(rt; now_held(&book), sent(ONE_TWO, [false, true, false]));
-    book.mark_all(3);
-    book.set_open(1, false);
-    assert!(rt; !book.is_open(1) && book.is_open(3) && book.is_point(1) && !book.is_point(3));
-    assert_eq!(rt; now_held(&book), cell(TWO, TWO_THREE, [false, true, false]));
-    Ok(())
-}
-
-// What is held of one LSP ID.
-#[test]
-fn entry_of_a_book(rt: HostRuntime) -> Result<(), Fail> {
-    let id = LspId::from_number(ID);
-    let mut book = held(rt.alloc())?;
-    let copy = book.copy()?;
-    assert_eq!(rt; copy.flag_pages().len(), 1usize);
-    assert!(rt; copy.is_held(id) && !copy.is_full());
-    book.set_left(id, 17);
-    assert_eq!(rt; book.store().get(id).map(|entry| entry.left), Some(17));
-    book.erase(id);
-    assert_eq!(rt; now_held(&book), cell(NOTHING, NONE, NONE));
-    assert_eq!(rt; book.flag_pages().len(), 0usize);
     Ok(())
 }

@@ -1,6 +1,7 @@
 //! The LSP IDs whose SRM is due on a circuit, and those whose SSN stands there.
-ghost use Rattle.std.specs.Prelude.{◌≡◌, ◌<◌, ◌-◌};
-ghost use Rattle.isis_model.specs.Pulls.{srm_due};
+ghost use Rattle.std.specs.Prelude.{◌≡◌, ◌<◌, ◌-◌, [], false};
+ghost use Rattle.isis_base.specs.declared.level.Level.{Level};
+ghost use Rattle.isis_model.specs.Pulls.{srm_due, due_lsps};
 ghost use Rattle.isis_model.specs.Sets.{has};
 ghost use Rattle.isis_model.specs.Cells.{Cell};
 ghost use Rattle.flag_sync.specs.Walks.{row_due, due_of, owed_of, numbers_of, ids_where};
@@ -18,7 +19,9 @@ use std::marker::Model;
 pub struct Due<'a> {
     rows: Pairs<'a, FlagRow>,
     place: u8,
+    some: bool,
     ghost fits: { place < 64 },
+    ghost none: { some ≡ false → due_of place rows ≡ [] },
 }
 
 impl<'a> Model for Due<'a> {
@@ -41,6 +44,9 @@ impl<'a> Iterator for Due<'a> {
     ghost remaining = { item_count (λ rest. rest) };
 
     fn next(&mut self) -> Option<LspId> {
+        if !self.some {
+            return None;
+        }
         while let Some((id, row)) = self.rows.next() {
             if is_due(row, self.place) {
                 return Some(id);
@@ -55,7 +61,9 @@ impl<'a> Iterator for Due<'a> {
 pub struct Owed<'a> {
     rows: Pairs<'a, FlagRow>,
     place: u8,
+    some: bool,
     ghost fits: { place < 64 },
+    ghost none: { some ≡ false → owed_of place rows ≡ [] },
 }
 
 impl<'a> Model for Owed<'a> {
@@ -78,6 +86,9 @@ impl<'a> Iterator for Owed<'a> {
     ghost remaining = { item_count (λ rest. rest) };
 
     fn next(&mut self) -> Option<LspId> {
+        if !self.some {
+            return None;
+        }
         while let Some((id, row)) = self.rows.next() {
             if has_bit(row.ssn, self.place) {
                 return Some(id);
@@ -88,6 +99,15 @@ impl<'a> Iterator for Owed<'a> {
 }
 
 impl Book {
+    /// Whether LSPs may be due on a circuit: where not, nothing need be walked to know that none is.
+    pub fn may_flood(&self, circuit: u8) -> bool
+        requires { IsCircuit circuit self.now.circuits }
+        ensures { result ≡ false → (level : Level)
+            → due_lsps level (circuit - 1) (book_of self.now).cells ≡ [] }
+    {
+        self.flags.may_flood(self.place(circuit))
+    }
+
     /// The LSP IDs whose SRM is due on a circuit, in order.
     pub fn due(&self, circuit: u8) -> Due<'_>
         requires { IsCircuit circuit self.now.circuits }
@@ -97,7 +117,8 @@ impl Book {
     {
         let place = self.place(circuit);
         let rows = self.flags.pairs();
-        Due { rows, place }
+        let some = self.flags.may_flood(place);
+        Due { rows, place, some }
     }
 
     /// The LSP IDs whose SSN stands on a circuit, in order.
@@ -109,7 +130,8 @@ impl Book {
     {
         let place = self.place(circuit);
         let rows = self.flags.pairs();
-        Owed { rows, place }
+        let some = self.flags.may_answer(place);
+        Owed { rows, place, some }
     }
 }
 

@@ -106,6 +106,9 @@ pub(crate) fn put_lsps(
     ensures { OnOk result (out.new ≡ out.old ++ all_octets sender.now
         (due_lsps level (sender.now.circuit - 1) (book_of book.now).cells)) }
 {
+    if !book.may_flood(sender.circuit) {
+        return Ok(());
+    }
     let mut entries = book.store().pages().pairs();
     let mut rows = book.flag_pages().pairs();
     while let Some((_, entry)) = entries.next() {

@@ -1,4 +1,4 @@
-use Rattle.std.proofs.Common.{◌≡◌, ◌-◌, ℕ, List, subst, ap₂, ◌∙◌}
+use Rattle.std.proofs.Common.{[], sym, ◌≡◌, ◌-◌, ℕ, List, subst, ap₂, ◌∙◌}
 use Rattle.isis_base.specs.declared.identifiers.LspId.{LspId}
 use Rattle.isis_model.specs.Sets.{has}
 use Rattle.isis_model.specs.Cells.{Cell}
@@ -6,6 +6,7 @@ use Rattle.flag_sync.specs.declared.flag_row.FlagRow.{FlagRow}
 use Rattle.flag_sync.specs.Walks.{owed_of, numbers_of, ids_where}
 use Rattle.flag_sync.specs.BookStates.{BookState, book_of}
 use Rattle.flag_sync.proofs.WalkLemmas.{owed-cells}
+use Rattle.flag_sync.proofs.AmongLemmas.{none-owed}
 use Rattle.flag_sync.proofs.book.Book.owed.Goals as goal
 
 pub returns-clause-cells : goal.returns-clause-cells
@@ -21,3 +22,14 @@ returns-clause-cells c =
     let p = c.args.circuit - 1 in
     subst (λ (t : BookState). numbers_of (owed_of c.place-place.result c.pairs-rows.result) ≡ ids_where (λ (cell : Cell). has cell.ssn p) (book_of t).cells) c.self.view_is
     (ap₂ (λ (q : ℕ) (rs : List (LspId × FlagRow)). numbers_of (owed_of q rs)) c.place-place.ensures.place c.pairs-rows.ensures ∙ owed-cells p c.self.inside.store.entries c.self.inside.flags.entries i.beside)
+
+pub invariant_of-result : goal.invariant_of-result
+invariant_of-result c =
+    let p = c.place-place.result in (
+      c.place-place.ensures.few,
+      (
+        λ none. subst (λ (rs : List (LspId × FlagRow)). owed_of p rs ≡ []) (sym c.pairs-rows.ensures)
+            (none-owed p c.self.inside.flags.entries (c.may_answer-some.ensures none)),
+        tt,
+      ),
+    )

@@ -1,4 +1,4 @@
-use Rattle.std.proofs.Common.{◌≡◌, ◌-◌, ℕ, List, subst, ap, ap₂, ◌∙◌}
+use Rattle.std.proofs.Common.{[], sym, ◌≡◌, ◌-◌, ℕ, List, subst, ap, ap₂, ◌∙◌}
 use Rattle.isis_base.specs.declared.identifiers.LspId.{LspId}
 use Rattle.isis_model.specs.Good.{IsGoodBook}
 use Rattle.isis_model.specs.SnpLists.{owed}
@@ -9,6 +9,7 @@ use Rattle.flag_sync.specs.Said.{said_owed}
 use Rattle.flag_sync.specs.BookStates.{BookState, book_of}
 use Rattle.flag_sync.proofs.AgeLemmas.{cells-rise}
 use Rattle.flag_sync.proofs.SaidLemmas.{all-good, good-cells, owed-said}
+use Rattle.flag_sync.proofs.AmongLemmas.{none-said}
 use Rattle.flag_sync.proofs.book.Book.said_owed.Goals as goal
 
 pub returns-clause-owed : goal.returns-clause-owed
@@ -27,3 +28,14 @@ returns-clause-owed c =
     ∙ ap₂ (λ (es : List (LspId × Entry)) (rs : List (LspId × FlagRow)). said_owed p es rs) (c.pairs-entries.ensures ∙ c.pages.ensures.entries) c.pairs-rows.ensures in
     subst (λ (t : BookState). IsGoodBook (book_of t) → entries_of (said_owed c.place-place.result c.pairs-entries.result c.pairs-rows.result) ≡ owed p (book_of t)) c.self.view_is
     (λ g. ap entries_of walk ∙ owed-said p s.store.entries s.rows i.beside (all-good (book_of s).cells 0 rises (good-cells (book_of s) g)))
+
+pub invariant_of-result : goal.invariant_of-result
+invariant_of-result c =
+    let p = c.place-place.result in (
+      c.place-place.ensures.few,
+      (
+        λ none. subst (λ (rs : List (LspId × FlagRow)). said_owed p c.pairs-entries.result rs ≡ []) (sym c.pairs-rows.ensures)
+            (none-said p c.pairs-entries.result c.self.inside.flags.entries (c.may_answer-some.ensures none)),
+        tt,
+      ),
+    )

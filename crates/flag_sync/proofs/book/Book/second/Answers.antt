@@ -14,10 +14,10 @@ pub invariant_of-self : goal.invariant_of-self
 invariant_of-self c =
     let i = c.self.invariant in
     record {
-      beside = subst (AreBeside c.self.inside.store.entries) (sym c.change_all.ensures.entries) (each-beside (row_less) c.self.inside.store.entries c.self.inside.flags.entries i.beside);
+      beside = subst (AreBeside c.self.inside.store.entries) (sym c.second.ensures.entries) (each-beside (row_less) c.self.inside.store.entries c.self.inside.flags.entries i.beside);
       rises = i.rises;
       headed = i.headed;
-      room = let spare = c.change_all.ensures.spare in let room = i.room in omega (arith, spare, room);
+      room = let spare = c.second.ensures.spare in let room = i.room in omega (arith, spare, room);
       few = i.few;
     }
 
@@ -32,5 +32,5 @@ returns-clause-book c =
       circuits = c.self.inside.circuits;
     } in
     let i = c.self.invariant in
-    subst (λ (t : BookState). book_of (record s { rows = c.change_all.new.self.entries }) ≡ wait_less (book_of t)) c.self.view_is
-    (ap (λ (rs : List (LspId × FlagRow)). book_of (record s { rows = rs })) c.change_all.ensures.entries ∙ book-all s i.beside i.rises row_less (λ (cell : Cell). record cell { waits = fallen cell.waits }) (λ e r. refl))
+    subst (λ (t : BookState). book_of (record s { rows = c.second.new.self.entries }) ≡ wait_less (book_of t)) c.self.view_is
+    (ap (λ (rs : List (LspId × FlagRow)). book_of (record s { rows = rs })) c.second.ensures.entries ∙ book-all s i.beside i.rises row_less (λ (cell : Cell). record cell { waits = fallen cell.waits }) (λ e r. refl))

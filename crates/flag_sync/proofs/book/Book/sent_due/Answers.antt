@@ -30,10 +30,10 @@ pub invariant_of-self : goal.invariant_of-self
 invariant_of-self c =
     let i = c.self.invariant in
     record {
-      beside = subst (AreBeside c.self.inside.store.entries) (sym c.change_all.ensures.entries) (each-beside (done_due c.sent_deed-deed.result) c.self.inside.store.entries c.self.inside.flags.entries i.beside);
+      beside = subst (AreBeside c.self.inside.store.entries) (sym c.change_due.ensures.entries) (each-beside (done_due c.sent_deed-deed.result) c.self.inside.store.entries c.self.inside.flags.entries i.beside);
       rises = i.rises;
       headed = i.headed;
-      room = let spare = c.change_all.ensures.spare in let room = i.room in omega (arith, spare, room);
+      room = let spare = c.change_due.ensures.spare in let room = i.room in omega (arith, spare, room);
       few = i.few;
     }
 
@@ -51,7 +51,7 @@ returns-clause-book c =
     let deed = c.sent_deed-deed.result in
     let at : deed.place ≡ c.args.circuit - 1 = c.sent_deed-deed.ensures.place ∙ c.place-place.ensures.place in
     let is : (cell : Cell) → deed_cell deed cell ≡ sent_on s.points deed.place cell = λ cell. c.sent_deed-deed.ensures.deed cell ∙ ap (λ (p : ℕ). sent_on s.points p cell) (sym c.sent_deed-deed.ensures.place) in
-    subst (λ (t : BookState). book_of (record s { rows = c.change_all.new.self.entries }) ≡ record (book_of t) { cells = each (λ (_ : ℕ) (cell : Cell). sent_cell (book_of t).p2p (c.args.circuit - 1) cell) (book_of t).cells }) c.self.view_is
-    (subst (λ (p : ℕ). book_of (record s { rows = c.change_all.new.self.entries }) ≡ record (book_of s) { cells = each (λ (_ : ℕ) (cell : Cell). sent_cell s.points p cell) (book_of s).cells }) at
-    (ap (λ (rs : List (LspId × FlagRow)). book_of (record s { rows = rs })) c.change_all.ensures.entries
+    subst (λ (t : BookState). book_of (record s { rows = c.change_due.new.self.entries }) ≡ record (book_of t) { cells = each (λ (_ : ℕ) (cell : Cell). sent_cell (book_of t).p2p (c.args.circuit - 1) cell) (book_of t).cells }) c.self.view_is
+    (subst (λ (p : ℕ). book_of (record s { rows = c.change_due.new.self.entries }) ≡ record (book_of s) { cells = each (λ (_ : ℕ) (cell : Cell). sent_cell s.points p cell) (book_of s).cells }) at
+    (ap (λ (rs : List (LspId × FlagRow)). book_of (record s { rows = rs })) c.change_due.ensures.entries
     ∙ book-all s i.beside i.rises (done_due deed) (λ (cell : Cell). sent_cell s.points deed.place cell) (done-sent deed s.points is)))
