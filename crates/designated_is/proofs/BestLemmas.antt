@@ -5,8 +5,9 @@ use Rattle.std.proofs.lemmas.Bool.Decides.{nat_tests}
 use Rattle.isis_base.specs.declared.identifiers.SystemId.{SystemId}
 use Rattle.isis_model.specs.Routers.{LanNeighbour}
 use Rattle.isis_model.specs.Elections as model
+use Rattle.isis_model.specs.Numbers.{system_number}
 use Rattle.designated_is.specs.declared.candidate.Candidate.{Candidate}
-use Rattle.designated_is.specs.Numbers.{system_number, candidate_of}
+use Rattle.designated_is.specs.Numbers.{candidate_of}
 use Rattle.designated_is.specs.Greatest.{beats, best_of, IsUnbeaten, IsElected, plain, up_candidates}
 
 -- ---- the order of candidates

@@ -1,2 +1,3 @@
 -- What the check doesn't find alone.
+pub mod NumberLemmas
 mod BestLemmas

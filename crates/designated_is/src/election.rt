@@ -3,11 +3,11 @@ ghost use Rattle.std.specs.Prelude.{◌≡◌, ◌↔◌, ℕ, ◌+◌, ◌*◌,
 ghost use Rattle.isis_model.specs.Configs.{Config};
 ghost use Rattle.isis_model.specs.Routers.{Circuit};
 ghost use Rattle.isis_model.specs.Elections as model;
-ghost use Rattle.designated_is.specs.Numbers.{system_number};
 ghost use Rattle.designated_is.specs.Greatest.{beats, best_of, IsElected};
 
 use crate::candidate::Candidate;
-use isis_base::{LspId, NodeId, SystemId};
+use crate::numbers::{snpa_to_number, system_to_number};
+use isis_base::SystemId;
 
 /// The system of the greatest candidate: by priority, then SNPA (ISO 10589 8.4.5), then system ID.
 /// `None` exactly where there is no candidate.
@@ -58,21 +58,10 @@ fn stands_before(a: Candidate, b: Candidate) -> bool
     if a.priority != b.priority {
         return a.priority > b.priority;
     }
-    let a_snpa = number(SystemId(a.snpa.0));
-    let b_snpa = number(SystemId(b.snpa.0));
+    let a_snpa = snpa_to_number(a.snpa);
+    let b_snpa = snpa_to_number(b.snpa);
     if a_snpa != b_snpa {
         return a_snpa > b_snpa;
     }
-    number(a.system) > number(b.system)
-}
-
-/// The six octets as a number.
-fn number(system: SystemId) -> u64
-    ensures { result ≡ system_number system }
-{
-    let node = NodeId {
-        system,
-        pseudonode: 0,
-    };
-    LspId { node, number: 0 }.to_number() / 65536
+    system_to_number(a.system) > system_to_number(b.system)
 }

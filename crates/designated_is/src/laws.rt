@@ -3,8 +3,9 @@ ghost use Rattle.std.specs.Prelude.{◌≡◌, ℕ, List, ◌∷◌, map};
 ghost use Rattle.isis_base.specs.declared.identifiers.SystemId.{SystemId};
 ghost use Rattle.isis_model.specs.Routers.{LanNeighbour};
 ghost use Rattle.isis_model.specs.Elections as model;
+ghost use Rattle.isis_model.specs.Numbers.{system_number};
 ghost use Rattle.designated_is.specs.declared.candidate.Candidate.{Candidate};
-ghost use Rattle.designated_is.specs.Numbers.{system_number, candidate_of};
+ghost use Rattle.designated_is.specs.Numbers.{candidate_of};
 ghost use Rattle.designated_is.specs.Greatest.{IsElected, plain, up_candidates};
 
 /// One system alone is elected. Over oneself and the LAN neighbours in state Up it is whom the

@@ -7,16 +7,19 @@
 //!
 //! - `candidate.rt`: who may be elected
 //! - `election.rt`: the greatest candidate; the pseudonode
+//! - `numbers.rt`: system IDs and SNPAs as numbers
 //! - `laws.rt`: who is elected is whom the router's model elects
 #![tactic(auto)]
 
 mod candidate;
 mod election;
 mod laws;
+mod numbers;
 
 pub use candidate::Candidate;
 pub use election::{elect, pseudonode};
 pub use laws::election_laws;
+pub use numbers::{are_same_systems, snpa_to_number, system_to_number};
 
 #[cfg(test)]
 mod tests;
