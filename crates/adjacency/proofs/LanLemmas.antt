@@ -8,7 +8,7 @@ use Rattle.isis_model.specs.Maps.{find, put, erase}
 use Rattle.isis_model.specs.Sorted.{RisesFrom}
 use Rattle.isis_model.specs.Adjacencies as model
 use Rattle.isis_model.specs.Seconds as seconds
-use Rattle.designated_is.specs.Numbers.{system_number}
+use Rattle.isis_model.specs.Numbers.{system_number}
 use Rattle.adjacency.specs.declared.neighbour.Neighbour.{Neighbour}
 use Rattle.adjacency.specs.Views.{neighbour_of}
 use Rattle.adjacency.specs.Lans.{AreHeard, neighbours, ups, was_up, some_up_over}

@@ -5,4 +5,3 @@ mod TagLemmas
 mod PressLemmas
 mod LanLemmas
 mod ElectLemmas
-mod NodeLemmas

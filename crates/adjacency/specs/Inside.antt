@@ -5,7 +5,7 @@ use Rattle.std.specs.List.{AllByRecursion}
 use Rattle.isis_model.specs.Maps.{find}
 use Rattle.isis_model.specs.Sorted.{RisesFrom}
 use Rattle.isis_model.specs.Routers.{LanNeighbour}
-use Rattle.designated_is.specs.Numbers.{system_number, snpa_number}
+use Rattle.isis_model.specs.Numbers.{system_number, snpa_number}
 use Rattle.adjacency.specs.declared.neighbour.Neighbour.{Neighbour}
 use Rattle.adjacency.specs.Views.{neighbour_of}
 

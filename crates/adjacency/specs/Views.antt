@@ -1,25 +1,19 @@
 -- Neighbours, hellos and one's own part as the model of the router has them.
-use Rattle.std.specs.Prelude.{ℕ, ◌/◌, Bool, true, false, [], Option, Some, None}
+use Rattle.std.specs.Prelude.{ℕ, Bool, true, false, [], Option, Some, None}
 use Rattle.isis_base.specs.declared.identifiers.SystemId.{SystemId}
-use Rattle.isis_base.specs.declared.identifiers.NodeId.{NodeId}
 use Rattle.isis_base.specs.declared.level.LevelSet.{LevelSet}
 use Rattle.isis_base.specs.declared.level.LevelSet.TheVariants as levels
-use Rattle.isis_base.specs.Identifiers.{lsp_number}
 use Rattle.isis_tlv.specs.declared.three_way.ThreeWay.{ThreeWay}
 use Rattle.isis_tlv.specs.declared.three_way.Adj.TheVariants.{Up, Initializing, Down}
 use Rattle.isis_model.specs.Both.{Both}
 use Rattle.isis_model.specs.Configs.{Config}
 use Rattle.isis_model.specs.Adjacencies as model
-use Rattle.designated_is.specs.Numbers.{system_number, snpa_number}
+use Rattle.isis_model.specs.Numbers.{system_number, snpa_number, node_number}
 use Rattle.adjacency.specs.declared.neighbour.Neighbour.{Neighbour}
 use Rattle.adjacency.specs.declared.hello.Own.{Own}
 use Rattle.adjacency.specs.declared.hello.HelloFields.{HelloFields}
 use Rattle.adjacency.specs.declared.held.Held.{Held}
 use Rattle.adjacency.specs.declared.held.Held.TheVariants as held
-
--- a node ID as a number: an LSP ID's number without its last octet (own)
-abbrev pub node_number : NodeId → ℕ
-node_number node = lsp_number (record { node = node; number = 0 }) / 256
 
 -- which of the levels are run (own)
 abbrev pub runs_of : LevelSet → Both Bool

@@ -2,27 +2,20 @@
 ghost use Rattle.std.specs.Prelude.{◌≡◌, ◌≤◌, ◌<◌, length, take, vec_capacity};
 ghost use Rattle.isis_model.specs.Maps.{put, erase};
 ghost use Rattle.isis_model.specs.Sorted.{RisesFrom};
-ghost use Rattle.designated_is.specs.Numbers.{snpa_number};
+ghost use Rattle.isis_model.specs.Numbers.{snpa_number};
 ghost use Rattle.adjacency.specs.Inside.{by_snpa, snpa_of, IsAt, all_less, some_ended, less_by_one};
 
-use crate::common::number;
 use crate::neighbour::Neighbour;
-use isis_base::{Snpa, SystemId};
-
-/// The SNPA as a number, as if it were a system ID.
-fn number_of(snpa: Snpa) -> u64
-    ensures { result ≡ snpa_number snpa }
-{
-    number(SystemId(snpa.0))
-}
+use designated_is::snpa_to_number;
+use isis_base::Snpa;
 
 /// Where the neighbour of an SNPA is, or where it would go.
 pub fn place_of(list: &[Neighbour], snpa: Snpa) -> Result<usize, usize>
     requires { RisesFrom 0 (by_snpa list.now) }
     ensures { IsAt list.now (snpa_number snpa) result }
 {
-    let number = number_of(snpa);
-    list.binary_search_by_key(&number, |neighbour| number_of(neighbour.snpa))
+    let number = snpa_to_number(snpa);
+    list.binary_search_by_key(&number, |neighbour| snpa_to_number(neighbour.snpa))
 }
 
 /// Puts a neighbour in at its place.

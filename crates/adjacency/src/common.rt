@@ -1,12 +1,11 @@
 //! The levels in common (ISO 10589 8.2.4.2).
-ghost use Rattle.std.specs.Prelude.{◌≡◌, ◌==◌, ◌&&◌};
+ghost use Rattle.std.specs.Prelude.{◌≡◌, ◌&&◌};
 ghost use Rattle.isis_model.specs.Adjacencies as model;
 ghost use Rattle.isis_model.specs.Both as both;
-ghost use Rattle.designated_is.specs.Numbers.{system_number};
 ghost use Rattle.adjacency.specs.Views.{runs_of, common_runs, config_of, hello_of};
 
 use crate::hello::{HelloFields, Own};
-use isis_base::{AreaAddress, Level, LevelSet, LspId, NodeId, SystemId};
+use isis_base::{AreaAddress, Level, LevelSet};
 
 /// The levels that both run, level 1 only where an area address is shared; `None` where there is
 /// none.
@@ -110,22 +109,4 @@ fn has_area(areas: &[AreaAddress], octets: &[u8]) -> bool
         }
     }
     false
-}
-
-/// Whether two system IDs are one, compared as numbers.
-pub fn are_same_systems(a: SystemId, b: SystemId) -> bool
-    ensures { result ≡ (system_number a == system_number b) }
-{
-    number(a) == number(b)
-}
-
-/// A system ID as a number.
-pub fn number(system: SystemId) -> u64
-    ensures { result ≡ system_number system }
-{
-    let node = NodeId {
-        system,
-        pseudonode: 0,
-    };
-    LspId { node, number: 0 }.to_number() / 65536
 }

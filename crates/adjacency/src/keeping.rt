@@ -8,11 +8,12 @@ ghost use Rattle.isis_model.specs.Seconds as seconds;
 ghost use Rattle.adjacency.specs.Views.{runs_of, hello_of, neighbour_of, point_of, shake_of, id_or_0};
 ghost use Rattle.adjacency.specs.Changes.{change_of};
 
-use crate::common::{are_same_levels, are_same_systems};
+use crate::common::are_same_levels;
 use crate::handshake::three_way;
 use crate::held::Held;
 use crate::hello::{AdjChange, HelloFields};
 use crate::neighbour::Neighbour;
+use designated_is::are_same_systems;
 use isis_base::LevelSet;
 use isis_tlv::{Adj, ThreeWay};
 

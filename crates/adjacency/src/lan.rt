@@ -9,7 +9,7 @@ ghost use Rattle.isis_model.specs.Seconds.{heard_less};
 ghost use Rattle.adjacency.specs.Views.{config_of, hello_of, neighbour_of};
 ghost use Rattle.adjacency.specs.Changes.{IsTested};
 ghost use Rattle.adjacency.specs.Lans.{AreHeard, neighbours, ups, hear_lan, lan_change_of, lan_less_change};
-ghost use Rattle.designated_is.specs.Numbers.{snpa_number};
+ghost use Rattle.isis_model.specs.Numbers.{snpa_number};
 
 use crate::by_snpa::place_of;
 use crate::hello::{AdjChange, HelloDrop, HelloFields, Own};

@@ -3,7 +3,7 @@ ghost use Rattle.std.specs.Prelude.{◌≡◌, ℕ, List, ◌<◌, ◌≤◌, tr
 ghost use Rattle.isis_model.specs.Maps.{find, put, erase};
 ghost use Rattle.isis_model.specs.Routers.{LanNeighbour};
 ghost use Rattle.isis_model.specs.Seconds as seconds;
-ghost use Rattle.designated_is.specs.Numbers.{system_number};
+ghost use Rattle.isis_model.specs.Numbers.{system_number};
 ghost use Rattle.adjacency.specs.Inside.{by_snpa, snpa_of, lan_of, IsLan, IsAt};
 ghost use Rattle.adjacency.specs.Views.{neighbour_of};
 ghost use Rattle.adjacency.specs.Lans as lan;

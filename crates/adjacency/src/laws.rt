@@ -1,10 +1,9 @@
 //! Laws: what becomes of adjacencies as the router's model has it in its circuits, and who is
 //! designated among LAN neighbours.
-ghost use Rattle.std.specs.Prelude.{◌≡◌, ◌≢◌, ◌↔◌, ℕ, ◌+◌, ◌*◌, ◌<◌, nat_lt, Bool, true, false, ◌&&◌, not, List, [], ◌∷◌, length, map, Option, Some, None, Contains};
+ghost use Rattle.std.specs.Prelude.{◌≡◌, ◌≢◌, ◌↔◌, ℕ, ◌<◌, nat_lt, Bool, true, false, ◌&&◌, not, List, [], ◌∷◌, length, map, Option, Some, None, Contains};
 ghost use Rattle.std.specs.Option.{option_map};
 ghost use Rattle.std.specs.List.{AllByRecursion};
 ghost use Rattle.isis_base.specs.declared.identifiers.SystemId.{SystemId};
-ghost use Rattle.isis_base.specs.declared.identifiers.NodeId.{NodeId};
 ghost use Rattle.isis_base.specs.declared.level.Level.{Level};
 ghost use Rattle.isis_model.specs.Adjacencies as model;
 ghost use Rattle.isis_model.specs.Both.{Both, at};
@@ -14,12 +13,13 @@ ghost use Rattle.isis_model.specs.Hellos.{comes_up, is_moved, lan_circuit, seen_
 ghost use Rattle.isis_model.specs.Seconds.{point_less, point_over, some_over};
 ghost use Rattle.isis_model.specs.Elections as elections;
 ghost use Rattle.designated_is.specs.declared.candidate.Candidate.{Candidate};
-ghost use Rattle.designated_is.specs.Numbers.{system_number, candidate_of};
+ghost use Rattle.isis_model.specs.Numbers.{system_number};
+ghost use Rattle.designated_is.specs.Numbers.{candidate_of};
 ghost use Rattle.designated_is.specs.Greatest.{IsElected, plain};
 ghost use Rattle.adjacency.specs.declared.neighbour.Neighbour.{Neighbour};
 ghost use Rattle.adjacency.specs.declared.held.Held.{Held};
 ghost use Rattle.adjacency.specs.declared.hello.AdjChange.TheVariants as change;
-ghost use Rattle.adjacency.specs.Views.{neighbour_of, node_number, point_of};
+ghost use Rattle.adjacency.specs.Views.{neighbour_of, point_of};
 ghost use Rattle.adjacency.specs.Changes.{change_of};
 ghost use Rattle.adjacency.specs.Lans.{AreHeard, ups, hear_lan, lan_change_of, lan_less_change, candidate_from};
 
@@ -56,8 +56,6 @@ pub fn lan_laws()
         → (lan_change_of before up ≡ change.None) ↔ (seen_so before up ≡ true) }
     ensures second { (heard : List (ℕ × LanNeighbour))
         → (lan_less_change heard ≡ change.None) ↔ (some_over heard ≡ false) }
-    ensures lan_id { (node : NodeId) → length node.system.0 ≡ 6 → node.pseudonode < 256
-        → node_number node ≡ 256 * system_number node.system + node.pseudonode }
     ensures opened { (heard : List (ℕ × LanNeighbour))
         → some_up heard ≡ nat_lt 0 (length (ups heard)) }
 {}

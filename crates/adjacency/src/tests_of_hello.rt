@@ -6,12 +6,13 @@ ghost use Rattle.isis_model.specs.Both as both;
 ghost use Rattle.isis_model.specs.Maps.{find};
 ghost use Rattle.isis_model.specs.Routers.{LanNeighbour};
 ghost use Rattle.isis_model.specs.HelloTests.{hello_drop, point_drop, lan_drop};
-ghost use Rattle.designated_is.specs.Numbers.{system_number, snpa_number};
+ghost use Rattle.isis_model.specs.Numbers.{system_number, snpa_number};
 ghost use Rattle.adjacency.specs.Views.{runs_of, common_runs, config_of, hello_of};
 ghost use Rattle.adjacency.specs.Changes.{IsTested};
 
-use crate::common::{are_same_systems, both_run_one, common_level, common_levels};
+use crate::common::{both_run_one, common_level, common_levels};
 use crate::hello::{HelloDrop, HelloFields, Own};
+use designated_is::are_same_systems;
 use isis_base::{Level, LevelSet, SystemId};
 use isis_tlv::ThreeWay;
 

@@ -8,4 +8,4 @@ pub returns : goal.returns
 returns c =
     let by_number = c.binary_search_by_key.ensures.position snpa_of (answers_always _ _ _ (λ f a r g h. search rules)) in
     let found = searched snpa_of _ _ _ c.requires c.binary_search_by_key.ensures.bound by_number in
-    rw c.number_of-number.ensures at found
+    rw c.snpa_to_number-number.ensures.value at found

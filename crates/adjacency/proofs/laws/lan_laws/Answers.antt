@@ -1,4 +1,3 @@
-use Rattle.adjacency.proofs.NodeLemmas.{node-parts}
 use Rattle.adjacency.proofs.ElectLemmas.{less-change, some_up-ups}
 use Rattle.adjacency.proofs.laws.lan_laws.Goals as goal
 
@@ -7,6 +6,3 @@ returns-clause-second c = less-change
 
 pub returns-clause-opened : goal.returns-clause-opened
 returns-clause-opened c = some_up-ups
-
-pub returns-clause-lan_id : goal.returns-clause-lan_id
-returns-clause-lan_id c = node-parts
