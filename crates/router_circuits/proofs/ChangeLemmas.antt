@@ -11,7 +11,7 @@ use Rattle.isis_model.specs.Seconds as seconds
 use Rattle.isis_tlv.specs.declared.three_way.Adj.TheVariants.{Up, Initializing, Down}
 use Rattle.adjacency.specs.declared.held.Held.{Held}
 use Rattle.adjacency.specs.declared.held.Held.TheVariants as held
-use Rattle.adjacency.specs.Views.{point_of}
+use Rattle.adjacency.specs.Views.{point_of, shake_of, shakes_of}
 use Rattle.adjacency.specs.declared.hello.AdjChange.TheVariants as change
 use Rattle.isis_tlv.specs.declared.three_way.Adj.{Adj}
 use Rattle.adjacency.specs.Changes.{change_of}
@@ -27,7 +27,7 @@ use Rattle.isis_model.specs.Drops.{or_else}
 use Rattle.isis_model.specs.declared.drop_name.DropName.{DropName}
 use Rattle.isis_model.specs.declared.drop_name.DropName.TheVariants.{NoThreeWay}
 use Rattle.router_circuits.specs.declared.greeted.Greeted.{Greeted}
-use Rattle.router_circuits.specs.Hellos.{IsGreeted, IsAlike, is_change, is_coming_up, is_one, shake_of, shakes_of, with_due}
+use Rattle.router_circuits.specs.Hellos.{IsGreeted, IsAlike, is_change, is_coming_up, is_one, with_due}
 use Rattle.router_circuits.specs.declared.medium.Medium.{Medium}
 use Rattle.router_circuits.specs.declared.medium.Medium.TheVariants as medium
 use Rattle.router_circuits.specs.declared.timers.Timers.{Timers}

@@ -1,5 +1,5 @@
 -- Who is designated among those Up.
-use Rattle.std.proofs.Common.{◌≡◌, ℕ, true, false, Bool, not, ◌&&◌, ◌||◌, eqb, length, List, [], ◌∷◌, map, Option, Some, None, if◌then◌else◌, refl, sym, ap, ◌∙◌, arith}
+use Rattle.std.proofs.Common.{◌≡◌, ℕ, suc, ◌+◌, ◌<◌, true, false, Bool, not, ◌&&◌, ◌||◌, eqb, length, List, [], ◌∷◌, map, drop, get_or, drop-cons, Option, Some, None, if◌then◌else◌, refl, sym, ap, ◌∙◌, arith}
 use Rattle.std.specs.Option.{option_map}
 use Rattle.std.proofs.lemmas.Bool.Decides.{nat_tests}
 use Rattle.isis_base.specs.declared.level.Level.{Level}
@@ -50,6 +50,19 @@ elect-ups best (p ∷ heard) = by p.1.up refl (elect-ups (better best p.1.neighb
       → elections.elect best (p ∷ heard) ≡ elect best (if t then p.1.neighbour ∷ ups heard else ups heard)
   by true e one other = rw e one
   by false e one other = rw e other
+
+elect-cons : (best : elections.Candidate) (n : model.Neighbour) (ns : List model.Neighbour) → elect best (n ∷ ns) ≡ elect (better best n) ns
+unfolding elect
+elect-cons best n ns = refl
+
+-- a neighbour more
+pub elect-step : (best next : elections.Candidate) (up : List Neighbour) (i : ℕ) (d : Neighbour) → i < length up
+    → next ≡ better best (neighbour_of (get_or up i d))
+    → elect next (map neighbour_of (drop (i + 1) up)) ≡ elect best (map neighbour_of (drop i up))
+elect-step best next up i d lt e =
+    let s : i + 1 ≡ suc i = omega arith in
+    let cons : drop i up ≡ get_or up i d ∷ drop (i + 1) up = rw s (drop-cons up i d lt) in
+    rw (cons, e) (sym (elect-cons best (neighbour_of (get_or up i d)) (map neighbour_of (drop (i + 1) up))))
 
 -- whether the one that is designated is oneself
 pub is_own-some : (config : Config) (o : Option elections.Candidate) (system lan : ℕ) → Some (system, lan) ≡ option_map system_and_lan o → elections.is_own config o ≡ eqb system config.system

@@ -4,10 +4,8 @@ use Rattle.std.specs.Prelude.{◌≡◌, ℕ, ◌<◌, length, slice_index_or, S
 use Rattle.isis_model.specs.Adjacencies.{Neighbour}
 use Rattle.isis_model.specs.Maps.{find}
 use Rattle.isis_model.specs.Elections as model
-use Rattle.isis_model.specs.Numbers.{system_number, node_number}
-use Rattle.designated_is.specs.Numbers as own
+use Rattle.isis_model.specs.Numbers.{system_number, snpa_number, node_number}
 use Rattle.adjacency.specs.Inside.{by_snpa}
-use Rattle.adjacency.specs.Views as adjacency
 use Rattle.adjacency.specs.declared.neighbour.Neighbour as code
 use Rattle.router_circuits.specs.declared.designated.Designated.{Designated}
 use Rattle.router_circuits.specs.declared.candidate.Candidate.{Candidate}
@@ -24,9 +22,9 @@ system_and_lan c = (c.system, c.lan)
 abbrev pub candidate_of : Candidate → model.Candidate
 candidate_of c = record {
   priority = c.priority;
-  snpa = own.snpa_number c.snpa;
-  system = own.system_number c.system;
-  lan = adjacency.node_number c.lan;
+  snpa = snpa_number c.snpa;
+  system = system_number c.system;
+  lan = node_number c.lan;
 }
 
 -- the greater of a candidate and a neighbour (ISO 10589 8.4.5)

@@ -1,9 +1,7 @@
 -- Hellos that are heard on a circuit, as the model of the router has them, and what comes of
 -- them (ISO 10589 8.2.4, 8.4.2; the form: own).
 use Rattle.std.specs.Prelude.{◌≡◌, ℕ, Bool, true, false, ◌&&◌, ◌||◌, not, ◌==◌, List, Option, Some, None}
-use Rattle.isis_base.specs.declared.identifiers.SystemId.{SystemId}
 use Rattle.isis_base.specs.declared.level.Level.TheVariants as level
-use Rattle.isis_tlv.specs.declared.three_way.ThreeWay.{ThreeWay}
 use Rattle.isis_model.specs.Both.{Both, same_levels}
 use Rattle.isis_model.specs.Configs.{Config}
 use Rattle.isis_model.specs.Adjacencies.{Neighbour, Handshake, Hello, PointAdj, is_same, hear_point, point_open}
@@ -16,7 +14,7 @@ use Rattle.adjacency.specs.declared.hello.Own.{Own}
 use Rattle.adjacency.specs.declared.hello.HelloFields.{HelloFields}
 use Rattle.adjacency.specs.declared.hello.AdjChange.{AdjChange}
 use Rattle.adjacency.specs.declared.hello.AdjChange.TheVariants as change
-use Rattle.adjacency.specs.Views.{id_or_0}
+use Rattle.adjacency.specs.Views.{shakes_of}
 use Rattle.router_circuits.specs.declared.greeted.Greeted.{Greeted}
 use Rattle.router_circuits.specs.declared.medium.Medium.{Medium}
 use Rattle.router_circuits.specs.declared.timers.Timers.{Timers}
@@ -36,20 +34,6 @@ pub record IsAlike (a b : Config) : Type 0 where
   pub system : a.system ≡ b.system
   pub areas : a.areas ≡ b.areas
   pub runs : a.runs ≡ b.runs
-
--- the system and extended circuit ID that a handshake names (RFC 5303 3.1)
-abbrev pub names_of : Option (SystemId × ℕ) → Option (ℕ × ℕ)
-names_of None = None
-names_of (Some names) = Some (system_number names.0, names.1)
-
--- an extended circuit ID that isn't there counts as 0 (own)
-abbrev pub shake_of : ThreeWay → Handshake
-shake_of t = record { state = t.state; extended = id_or_0 t.own_id; names = names_of t.neighbour }
-
--- RFC 5303 3.1
-abbrev pub shakes_of : Option ThreeWay → Option Handshake
-shakes_of None = None
-shakes_of (Some t) = Some (shake_of t)
 
 -- what a hello says (ISO 10589 9.5 to 9.7)
 abbrev pub hello_of : HelloFields → Hello

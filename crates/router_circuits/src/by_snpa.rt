@@ -3,11 +3,11 @@ ghost use Rattle.std.specs.Prelude.{◌≡◌, MatchOption, None, Some};
 ghost use Rattle.isis_model.specs.Maps.{find};
 ghost use Rattle.isis_model.specs.Sorted.{RisesFrom};
 ghost use Rattle.adjacency.specs.Inside.{by_snpa};
-ghost use Rattle.designated_is.specs.Numbers.{snpa_number};
+ghost use Rattle.isis_model.specs.Numbers.{snpa_number};
 ghost use Rattle.router_circuits.specs.Elections.{IsFound};
 
-use crate::numbers::snpa_to_number;
 use adjacency::Neighbour;
+use designated_is::snpa_to_number;
 use isis_base::Snpa;
 
 /// The neighbour of an SNPA.

@@ -6,19 +6,16 @@ ghost use Rattle.isis_model.specs.Elections as model;
 ghost use Rattle.isis_model.specs.Pulls.{lan_of};
 ghost use Rattle.isis_model.specs.Routers.{Router};
 ghost use Rattle.isis_model.specs.Numbers.{node_number, system_number};
-ghost use Rattle.designated_is.specs.Numbers as own;
 ghost use Rattle.adjacency.specs.Views.{neighbour_of};
-ghost use Rattle.adjacency.specs.Views as views;
 ghost use Rattle.router_circuits.specs.Elections.{candidate_of, designated_of, elect, system_and_lan};
 ghost use Rattle.router_circuits.specs.Views.{IsHere};
 
 use crate::candidate::Candidate;
 use crate::circuit::Circuit;
 use crate::designated::Designated;
-use crate::numbers::{are_same_systems, node_to_number, number, snpa_to_number};
 use crate::senders::some_up;
 use adjacency::Neighbour;
-use designated_is::pseudonode;
+use designated_is::{are_same_systems, pseudonode, snpa_to_number, system_to_number};
 use isis_base::{Level, NodeId, Snpa, SystemId};
 
 impl Circuit {
@@ -81,25 +78,18 @@ impl Circuit {
 
 /// One's own LAN ID on a circuit: the circuit's number is its pseudonode (own).
 fn own_lan(system: SystemId, circuit: u8) -> NodeId
-    ensures number { node_number result ≡ 256 * system_number system + circuit }
-    ensures same { views.node_number result ≡ node_number result }
-    ensures system { own.system_number system ≡ system_number system }
+    ensures { node_number result ≡ 256 * system_number system + circuit }
 {
-    number(system);
-    let lan = NodeId {
+    NodeId {
         system,
         pseudonode: pseudonode(circuit),
-    };
-    node_to_number(lan);
-    lan
+    }
 }
 
 /// What a candidate is designated with.
 fn designated_from(best: Candidate) -> Designated
     ensures { designated_of result ≡ system_and_lan (candidate_of best) }
 {
-    number(best.system);
-    node_to_number(best.lan);
     Designated {
         system: best.system,
         lan: best.lan,
@@ -152,5 +142,5 @@ fn stands_before(a: Candidate, b: Candidate) -> bool
     if a_snpa != b_snpa {
         return a_snpa > b_snpa;
     }
-    number(a.system) > number(b.system)
+    system_to_number(a.system) > system_to_number(b.system)
 }

@@ -12,9 +12,9 @@ ghost use Rattle.router_circuits.specs.Hellos.{IsGreeted, IsOwn, hello_of, is_ch
 
 use crate::adjacencies::is_change;
 use crate::greeted::Greeted;
-use crate::numbers::are_same_systems;
 use crate::sizes::{hello_sizes, own_words};
 use adjacency::{AdjChange, HelloDrop, HelloFields, Neighbour, Own, P2pAdj};
+use designated_is::are_same_systems;
 use isis_base::{Level, LevelSet};
 use isis_tlv::Adj;
 

@@ -14,7 +14,7 @@
 //! - `senders.rt`: of whom a datagram may come; `by_snpa.rt`: neighbours by SNPA
 //! - `election.rt`, `candidate.rt`, `designated.rt`: who is designated
 //! - `due.rt`, `timers.rt`: the counters, and what is due
-//! - `numbers.rt`: identifiers as numbers; `laws.rt`: they are those of datagrams
+//! - `numbers.rt`: node IDs as numbers; `laws.rt`: sets of levels in the words of datagrams
 #![tactic(auto)]
 
 mod adjacencies;

@@ -13,7 +13,6 @@ ghost use Rattle.adjacency.specs.Views.{neighbour_of, point_of};
 use crate::by_snpa::neighbour_at;
 use crate::circuit::Circuit;
 use crate::greeting;
-use crate::numbers::{number, snpa_to_number};
 use adjacency::{Neighbour, P2pAdj};
 use isis_base::{Level, Snpa, SystemId};
 
@@ -55,10 +54,7 @@ fn kept_system(point: &P2pAdj) -> Option<SystemId>
         ≡ receiving.kept_system (point_of point.now).neighbour }
 {
     match point.neighbour() {
-        Some(neighbour) => {
-            number(neighbour.system);
-            Some(neighbour.system)
-        }
+        Some(neighbour) => Some(neighbour.system),
         None => None,
     }
 }
@@ -71,12 +67,8 @@ fn up_system(up: &[Neighbour], snpa: Snpa) -> Option<SystemId>
         → option_map system_number result
         ≡ receiving.up_system (find heard (snpa_number snpa)) }
 {
-    snpa_to_number(snpa);
     match neighbour_at(up, snpa) {
-        Some(neighbour) => {
-            number(neighbour.system);
-            Some(neighbour.system)
-        }
+        Some(neighbour) => Some(neighbour.system),
         None => None,
     }
 }

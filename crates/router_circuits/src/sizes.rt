@@ -4,12 +4,12 @@ ghost use Rattle.isis_model.specs.Adjacencies as model;
 ghost use Rattle.isis_model.specs.Both.{Both};
 ghost use Rattle.isis_model.specs.Configs.{Config};
 ghost use Rattle.adjacency.specs.Views as views;
-ghost use Rattle.router_circuits.specs.Hellos.{IsAlike, IsOwn, hello_of, shakes_of};
+ghost use Rattle.router_circuits.specs.Hellos.{IsAlike, IsOwn, hello_of};
 ghost use Rattle.router_circuits.specs.Views.{IsSized};
 
-use crate::numbers::{node_to_number, number, snpa_to_number};
+use crate::numbers::node_to_number;
 use adjacency::{HelloFields, Neighbour, Own, P2pAdj};
-use isis_tlv::ThreeWay;
+use designated_is::{snpa_to_number, system_to_number};
 
 /// A hello's fields have the standard's sizes, and both ways to see it as the model's are one.
 pub fn hello_sizes(hello: &HelloFields<'_>)
@@ -18,11 +18,10 @@ pub fn hello_sizes(hello: &HelloFields<'_>)
         → IsSized (model.neighbour_of (hello_of hello.now) common extended) }
 {
     let hello = *hello;
-    number(hello.source);
+    system_to_number(hello.source);
     snpa_to_number(hello.snpa);
     node_to_number(hello.lan);
     number_sizes(hello.priority, hello.holding);
-    shake_sizes(hello.three_way);
 }
 
 /// A priority has one octet, a holding time two.
@@ -34,20 +33,7 @@ fn number_sizes(priority: u8, holding: u16)
 /// Both ways to see one's own part of a configuration are one.
 pub(crate) fn own_words(own: &Own<'_>)
     ensures { (config : Config) → IsOwn config own.now → IsAlike (views.config_of own.now) config }
-{
-    number(own.system);
-}
-
-/// The same of a three-way value.
-fn shake_sizes(three_way: Option<ThreeWay>)
-    ensures { views.shakes_of three_way ≡ shakes_of three_way }
-{
-    if let Some(shake) = three_way {
-        if let Some((system, _)) = shake.neighbour {
-            number(system);
-        }
-    }
-}
+{}
 
 /// The fields of a point-to-point neighbour have the standard's sizes.
 pub(crate) fn point_sizes(point: &P2pAdj)
@@ -61,7 +47,7 @@ pub(crate) fn point_sizes(point: &P2pAdj)
 fn neighbour_sizes(neighbour: Neighbour)
     ensures { IsSized (views.neighbour_of neighbour) }
 {
-    number(neighbour.system);
+    system_to_number(neighbour.system);
     snpa_to_number(neighbour.snpa);
     node_to_number(neighbour.lan);
 }
