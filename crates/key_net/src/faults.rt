@@ -25,7 +25,8 @@ pub enum LimitName {
     Boots,
 }
 
-/// Why a call of a network is refused. A refused call leaves the network as it was.
+/// Why a call of a network is refused. A refused call leaves the network as it was, but at
+/// `Limit(Datagrams)` and `OutOfMemory`, which stop a network where it then stands.
 #[derive(Clone, Copy, Debug, PartialEq, Eq)]
 pub enum LabFault {
     /// What is to be taken wasn't sent, or isn't there; `sent` is how many were.
