@@ -1,8 +1,8 @@
 //! Neighbours of an LSP in order of nodes.
-ghost use Rattle.std.specs.Prelude.{◌≡◌, map, IfSome, OnOk};
+ghost use Rattle.std.specs.Prelude.{◌≡◌, ◌/◌, map, IfSome, OnOk};
+ghost use Rattle.isis_base.specs.Identifiers.{lsp_number};
 ghost use Rattle.isis_model.specs.LspNeighbours.{put_node, put_nodes};
 ghost use Rattle.isis_model.specs.Numbers.{node_number};
-ghost use Rattle.adjacency.specs.Views as views;
 ghost use Rattle.lsp_fragments.specs.Entries.{node_and_metric};
 ghost use Rattle.lsp_wanted.specs.Parts.{IsBehind, NotFalling};
 ghost use Rattle.lsp_wanted.specs.Views.{AreGood, IsGoodItem, node_in};
@@ -12,8 +12,8 @@ use isis_tlv::NeighbourItem;
 
 /// A node ID as a number.
 pub(crate) fn number(node: NodeId) -> u64
-    ensures value { result ≡ views.node_number node }
-    ensures same { views.node_number node ≡ node_number node }
+    ensures value { result ≡ lsp_number (record { node = node; number = 0 }) / 256 }
+    ensures same { lsp_number (record { node = node; number = 0 }) / 256 ≡ node_number node }
 {
     LspId { node, number: 0 }.to_number() / 256
 }

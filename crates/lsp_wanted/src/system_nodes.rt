@@ -1,12 +1,11 @@
 //! The neighbours of circuits and of LANs.
-ghost use Rattle.std.specs.Prelude.{◌≡◌, ℕ, ◌==◌, ◌*◌, ◌<◌, ◌≤◌, Option, [], ◌∷◌, map, length, IfOk, IfSome};
+ghost use Rattle.std.specs.Prelude.{◌≡◌, ℕ, ◌*◌, ◌<◌, ◌≤◌, Option, [], ◌∷◌, map, length, IfOk, IfSome};
 ghost use Rattle.std.specs.List.{AllByRecursion};
 ghost use Rattle.std.specs.Option.{option_map};
 ghost use Rattle.isis_model.specs.LspNeighbours as nodes;
 ghost use Rattle.isis_model.specs.Configs.{Config};
 ghost use Rattle.isis_model.specs.Elections.{Candidate};
 ghost use Rattle.isis_model.specs.Numbers.{node_number, system_number};
-ghost use Rattle.designated_is.specs.Numbers as own;
 ghost use Rattle.adjacency.specs.Views.{neighbour_of, point_of};
 ghost use Rattle.router_circuits.specs.Elections.{designated_of, system_and_lan};
 ghost use Rattle.lsp_fragments.specs.Entries.{node_and_metric};
@@ -17,6 +16,7 @@ ghost use Rattle.lsp_wanted.specs.Views.{AreGood, IsGoodItem, node_in};
 use crate::nodes::{number, put, put_one};
 use crate::wants::Wants;
 use adjacency::{Neighbour, P2pAdj};
+use designated_is::are_same_systems;
 use isis_base::laws::lsp_id_law;
 use isis_base::{Level, LspId, NodeId, OutOfMemory, SystemId};
 use isis_tlv::NeighbourItem;
@@ -115,7 +115,7 @@ fn lan_node(metric: u32, designated: Option<Designated>) -> Option<NeighbourItem
     match designated {
         Some(designated) => {
             let lan = designated.lan;
-            if are_same(lan.system, designated.system) && lan.pseudonode > 0 {
+            if are_same_systems(lan.system, designated.system) && lan.pseudonode > 0 {
                 return Some(item(lan, metric));
             }
             None
@@ -124,26 +124,10 @@ fn lan_node(metric: u32, designated: Option<Designated>) -> Option<NeighbourItem
     }
 }
 
-/// Whether two system IDs are one.
-fn are_same(a: SystemId, b: SystemId) -> bool
-    ensures { result ≡ (system_number a == system_number b) }
-{
-    let a = NodeId {
-        system: a,
-        pseudonode: 0,
-    };
-    let b = NodeId {
-        system: b,
-        pseudonode: 0,
-    };
-    number(a) == number(b)
-}
-
 /// A system as a neighbour.
 fn system_item(system: SystemId, metric: u32) -> NeighbourItem
     requires { metric ≤ 16777215 }
     ensures node { node_and_metric result ≡ (256 * system_number system, metric) }
-    ensures same { own.system_number system ≡ system_number system }
     ensures good { IsGoodItem result }
 {
     let node = NodeId {

@@ -1,4 +1,4 @@
-use Rattle.std.proofs.Common.{ℕ, ◌*◌, map, sym, ap, ◌∙◌}
+use Rattle.std.proofs.Common.{ℕ, map, ap, ◌∙◌}
 use Rattle.isis_model.specs.LspNeighbours as nodes
 use Rattle.lsp_fragments.specs.Entries.{node_and_metric}
 use Rattle.lsp_wanted.proofs.NodeLemmas.{ups-step}
@@ -9,7 +9,7 @@ loop-neighbour-preserved c =
     let loop = c.loop-neighbour in
     let item = c.system_item-in-loop-neighbour.ensures in
     let old = map node_and_metric loop.list.items in
-    let put = c.in-Ok-put_one.ensures.ok ∙ ap (λ (n : ℕ × ℕ). nodes.put_node old n) (item.node ∙ ap (λ (n : ℕ). (256 * n, 0)) (sym item.same)) in (
+    let put = c.in-Ok-put_one.ensures.ok ∙ ap (λ (n : ℕ × ℕ). nodes.put_node old n) item.node in (
       ups-step old _ c.args.up.now loop.neighbour-index _ c.loop-neighbour-test.true put
           ∙ loop.invariant.0,
       (c.in-Ok-put_one.ensures.order, c.in-Ok-put_one.ensures.good),
