@@ -8,25 +8,24 @@ use Rattle.isis_base.specs.declared.identifiers.LspId.{LspId}
 use Rattle.isis_base.specs.Identifiers.{lsp_number}
 use Rattle.isis_model.specs.Adjacencies as model
 use Rattle.isis_model.specs.Events as event
-use Rattle.isis_model.specs.Numbers.{system_number, snpa_number}
+use Rattle.isis_model.specs.Numbers.{system_number, snpa_number, node_number}
 use Rattle.isis_datagram.specs.Reading.{runs_of}
 use Rattle.isis_datagram.specs.Values.{areas_in}
 use Rattle.adjacency.specs.Views as adjacency
-use Rattle.designated_is.specs.Numbers as designated
 use Rattle.flag_sync.specs.Heard.{heard_of, entries_of}
 use Rattle.router_reading.specs.declared.heard.HelloHeard.{HelloHeard}
 use Rattle.router_reading.specs.declared.heard.Heard.{Heard}
 use Rattle.router_reading.specs.declared.heard.Heard.TheVariants as heard
 
--- a hello, in the numbers of the adjacencies that take it
+-- a hello, in the words of the adjacencies that take it (own)
 abbrev pub hello_heard : HelloHeard → model.Hello
 hello_heard h = record {
-  source = designated.system_number h.source;
-  snpa = designated.snpa_number h.snpa;
+  source = system_number h.source;
+  snpa = snpa_number h.snpa;
   runs = adjacency.runs_of h.levels;
   holding = h.holding;
   priority = h.priority;
-  lan = adjacency.node_number h.lan;
+  lan = node_number h.lan;
   areas = h.areas.items;
   handshake = adjacency.shakes_of h.three_way;
   names_me = h.names_me;

@@ -9,15 +9,12 @@
 //! - `items.rt`: the items of the TLVs of a code
 //! - `laws.rt`: that what a desk found may be heard: a function without a body, whose contract is
 //!   the law
-//! - `twins.rt`: identifiers have the same numbers in the definitions of all crates: functions that
-//!   do nothing, whose contracts are the laws
 #![tactic(auto)]
 
 mod heard;
 mod items;
 pub mod laws;
 mod reading;
-pub mod twins;
 
 pub use heard::{Heard, HelloHeard};
 pub use reading::hear;

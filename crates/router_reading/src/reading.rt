@@ -1,21 +1,23 @@
 //! A PDU as what is heard.
 ghost use Rattle.std.specs.Prelude.{◌≡◌, true, map, IfOk};
+ghost use Rattle.std.specs.Option.{option_map};
 ghost use Rattle.std.specs.Result.{ok_prefix};
 ghost use Rattle.isis_pdu.specs.Views.{pdu_view};
 ghost use Rattle.isis_model.specs.Numbers.{system_number, snpa_number};
 ghost use Rattle.isis_datagram.specs.Reading.{message};
 ghost use Rattle.isis_datagram.specs.Tests.{has_number};
 ghost use Rattle.isis_datagram.specs.Values as values;
-ghost use Rattle.isis_datagram.specs.Values.{snp_entry};
+ghost use Rattle.isis_datagram.specs.Values.{handshake, snp_entry};
+ghost use Rattle.adjacency.specs.Views as adjacency;
 ghost use Rattle.isis_model.specs.Events as event;
 ghost use Rattle.router_reading.specs.Heard.{hello_heard, hello_without, message_of, range_of, IsNumbered};
 
 use crate::heard::{Heard, HelloHeard};
 use crate::items::{areas_in, entries_in, names_own, three_way_in};
-use crate::twins::{node_twins, snpa_twins, system_twins, three_way_twins};
 use flag_sync::LspHeard;
 use isis_base::{Level, LevelSet, LspEntry, LspId, NodeId, OutOfMemory, Snpa, SystemId};
 use isis_pdu::Pdu;
+use isis_tlv::ThreeWay;
 use router_desk::Seen;
 use std::alloc::Global;
 
@@ -44,7 +46,7 @@ pub fn hear<'a>(alloc: Global, own: SystemId, seen: &Seen<'a>) -> Result<Heard<'
         } => {
             let mut hello = hello_heard(alloc, snpa, circuit_type, source, holding, tlvs)?;
             hello.three_way = three_way_in(tlvs);
-            three_way_twins(hello.three_way);
+            handshake_words(hello.three_way);
             Ok(Heard::PointHello(hello))
         }
         Pdu::LanHello {
@@ -56,7 +58,6 @@ pub fn hear<'a>(alloc: Global, own: SystemId, seen: &Seen<'a>) -> Result<Heard<'
             lan,
             tlvs,
         } => {
-            node_twins(lan);
             let mut hello = hello_heard(alloc, snpa, circuit_type, source, holding, tlvs)?;
             hello.priority = priority;
             hello.lan = lan;
@@ -113,8 +114,6 @@ fn hello_heard(
     ensures { IfOk result (λ hello. hello_heard hello
         ≡ hello_without (snpa_number snpa) levels source holding tlvs.now) }
 {
-    snpa_twins(snpa);
-    system_twins(source);
     let areas = areas_in(alloc, tlvs)?;
     Ok(HelloHeard {
         source,
@@ -128,6 +127,11 @@ fn hello_heard(
         names_me: false,
     })
 }
+
+/// A three-way value is one handshake, in the words of adjacencies and of datagrams.
+fn handshake_words(value: Option<ThreeWay>)
+    ensures { adjacency.shakes_of value ≡ option_map handshake value }
+{}
 
 /// A sequence number PDU.
 fn snp<'a>(
