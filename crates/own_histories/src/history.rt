@@ -1,5 +1,5 @@
 //! What routers held of their own LSP IDs.
-ghost use Rattle.std.specs.Prelude.{◌≡◌, ◌==◌, ◌<◌, ◌^◌, ◌*◌, ℕ, List, [], ◌∷◌, length, OnOk, MatchResult, if◌then◌else◌, Some};
+ghost use Rattle.std.specs.Prelude.{◌≡◌, ◌==◌, ◌*◌, ℕ, List, [], ◌∷◌, OnOk, MatchResult, if◌then◌else◌, Some};
 ghost use Rattle.isis_base.specs.Identifiers.{lsp_number};
 ghost use Rattle.isis_model.specs.Maps.{find};
 ghost use Rattle.isis_model.specs.LetGos.{with_id};
@@ -14,10 +14,10 @@ ghost use Rattle.own_histories.specs.Entries.{live_of, Compares, Left};
 
 use crate::look::Look;
 use crate::said::{Said, live_number, tlvs_of};
+use designated_is::system_to_number;
 use flag_sync::Book;
-use isis_base::{LspId, NodeId, OutOfMemory, SystemId};
+use isis_base::{LspId, OutOfMemory, SystemId};
 use lsp_store::Entry;
-use router_circuits::word_laws;
 use std::alloc::Global;
 use std::collections::BTreeMap;
 use std::marker::Model;
@@ -69,7 +69,7 @@ impl History {
             → Remembers self.new
             (after (own_lsps (system_number system) (book_of book.now).cells) seen)) }
     {
-        let first = number(system) * 65536;
+        let first = system_to_number(system) * 65536;
         let (start, end) = (
             LspId::from_number(first),
             LspId::from_number(first + LAST_OWN),
@@ -162,27 +162,6 @@ impl History {
             Err(place) => put_at(&mut self.doubled, place, id),
         }
     }
-}
-
-/// A system ID as a number.
-fn number(system: SystemId) -> u64
-    ensures value { result ≡ system_number system }
-    ensures small { result < 2 ^ 48 }
-{
-    word_laws();
-    are_six(system.0);
-    let node = NodeId {
-        system,
-        pseudonode: 0,
-    };
-    LspId { node, number: 0 }.to_number() / 65536
-}
-
-/// Six octets.
-fn are_six(octets: [u8; 6])
-    ensures { length octets ≡ 6 }
-{
-    let [_a, _b, _c, _d, _e, _f] = octets;
 }
 
 /// An LSP ID and a number as one number.

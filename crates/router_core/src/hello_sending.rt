@@ -1,22 +1,19 @@
 //! The hellos of a circuit, as datagrams.
-ghost use Rattle.std.specs.Prelude.{◌≡◌, ◌≤◌, ◌<◌, ◌-◌, ◌+◌, ◌*◌, ◌^◌, ◌++◌, ◌∷◌, [], length, map, OnOk};
+ghost use Rattle.std.specs.Prelude.{◌≡◌, ◌≤◌, ◌<◌, ◌-◌, ◌+◌, ◌*◌, ◌^◌, ◌++◌, ◌∷◌, [], OnOk};
 ghost use Rattle.isis_model.specs.Both.{at};
 ghost use Rattle.isis_model.specs.Datagrams as sent;
 ghost use Rattle.isis_model.specs.Pulls as pulls;
 ghost use Rattle.isis_model.specs.Routers.{Router, extended_of};
-ghost use Rattle.isis_model.specs.Numbers as datagram;
 ghost use Rattle.isis_datagram.specs.Reading.{runs_of};
-ghost use Rattle.designated_is.specs.Numbers as own;
-ghost use Rattle.adjacency.specs.Inside.{snpa_of};
 ghost use Rattle.adjacency.specs.Views.{point_of};
-ghost use Rattle.pdu_sender.specs.Sends.{Sends, FitAreas, names_of, snpas_of};
+ghost use Rattle.pdu_sender.specs.Sends.{Sends, FitAreas, names_of};
 ghost use Rattle.router_core.specs.Sending.{octets_of, all_octets};
 
 use crate::datagrams::Datagrams;
-use adjacency::{Neighbour, P2pAdj};
-use isis_base::{Level, LevelSet, OutOfMemory, Snpa, SystemId};
+use adjacency::P2pAdj;
+use isis_base::{Level, LevelSet, OutOfMemory, SystemId};
 use pdu_sender::{Sender, lan_hello, point_hello};
-use router_circuits::{Circuit, word_laws};
+use router_circuits::Circuit;
 use std::alloc::Global;
 
 /// Adds the hellos of a circuit (ISO 10589 8.2.3, 8.4.1).
@@ -77,10 +74,7 @@ fn named(point: &P2pAdj) -> Option<(SystemId, u32)>
     ensures { names_of result ≡ pulls.names_of (point_of point.now).neighbour }
 {
     match point.neighbour() {
-        Some(neighbour) => {
-            system_law(neighbour.system);
-            Some((neighbour.system, neighbour.id))
-        }
+        Some(neighbour) => Some((neighbour.system, neighbour.id)),
         None => None,
     }
 }
@@ -123,7 +117,6 @@ fn put_run(
         (pulls.snpas_of (at on.now.levels level).heard)) ∷ []) }
 {
     let heard = on.heard(level);
-    snpas_law(heard);
     let lan = on.lan_id(sender.system, sender.circuit, level);
     let octets = lan_hello(alloc, sender, level, lan, heard)?;
     out.push(octets)
@@ -136,40 +129,5 @@ fn runs(levels: LevelSet, level: Level) -> bool
     match level {
         Level::One => matches!(levels, LevelSet::One | LevelSet::Both),
         Level::Two => matches!(levels, LevelSet::Two | LevelSet::Both),
-    }
-}
-
-/// Six octets.
-fn are_six(octets: [u8; 6])
-    ensures { length octets ≡ 6 }
-{
-    let [_a, _b, _c, _d, _e, _f] = octets;
-}
-
-/// A system ID has one number.
-fn system_law(system: SystemId)
-    ensures { own.system_number system ≡ datagram.system_number system }
-{
-    word_laws();
-    are_six(system.0);
-}
-
-/// A neighbour's SNPA has one number.
-fn snpa_law(neighbour: &Neighbour)
-    ensures { datagram.snpa_number neighbour.now.snpa ≡ snpa_of neighbour.now }
-{
-    let Snpa(octets) = neighbour.snpa;
-    word_laws();
-    are_six(octets);
-}
-
-/// So have those of neighbours.
-fn snpas_law(heard: &[Neighbour])
-    ensures { snpas_of heard.now ≡ map snpa_of heard.now }
-{
-    let mut left = heard;
-    while let [neighbour, more @ ..] = left {
-        snpa_law(neighbour);
-        left = more;
     }
 }

@@ -1,5 +1,5 @@
 //! Sequence number PDUs that are taken.
-ghost use Rattle.std.specs.Prelude.{◌≡◌, ◌≤◌, ◌-◌, ◌==◌, ◌||◌, not, length, is_some, option_copied, option_map, Option, IfSome, OnOk, OnErr, IsSome};
+ghost use Rattle.std.specs.Prelude.{◌≡◌, ◌≤◌, ◌-◌, ◌||◌, not, is_some, option_copied, option_map, Option, IfSome, OnOk, OnErr, IsSome};
 ghost use Rattle.isis_model.specs.Both.{at};
 ghost use Rattle.isis_model.specs.Places.{nth};
 ghost use Rattle.isis_model.specs.Elections.{is_designated};
@@ -7,7 +7,6 @@ ghost use Rattle.isis_model.specs.Routers.{book_of, level_of, with_level};
 ghost use Rattle.isis_model.specs.Sets.{has};
 ghost use Rattle.isis_model.specs.Takes as takes;
 ghost use Rattle.isis_model.specs.Receiving.{is_from, scene_of, sender_of, snp_drop};
-ghost use Rattle.designated_is.specs.Numbers as designated;
 ghost use Rattle.isis_model.specs.Numbers.{snpa_number, system_number};
 ghost use Rattle.flag_sync.specs.Heard.{entries_of};
 ghost use Rattle.flag_sync.specs.BookStates.{IsCircuit};
@@ -18,9 +17,9 @@ ghost use Rattle.router_core.specs.Givens.{given};
 ghost use Rattle.router_core.specs.Events.{IsThere};
 
 use crate::machine::Machine;
-use isis_base::{Level, LspEntry, LspId, NodeId, OutOfMemory, Snpa, SystemId};
+use designated_is::are_same_systems;
+use isis_base::{Level, LspEntry, LspId, OutOfMemory, Snpa, SystemId};
 use lsp_octets::{Draft, lent_key};
-use router_circuits::word_laws;
 use router_desk::DropCause;
 
 impl Machine {
@@ -63,7 +62,7 @@ impl Machine {
             ≡ is_from (sender_of c level (snpa_number snpa)) (system_number source)) }
     {
         match self.circuits[usize::from(circuit) - 1].sender(level, snpa) {
-            Some(sender) => are_one(sender, source),
+            Some(sender) => are_same_systems(sender, source),
             None => false,
         }
     }
@@ -114,24 +113,4 @@ impl Machine {
         }
         Ok(())
     }
-}
-
-/// Whether two system IDs are one.
-fn are_one(a: SystemId, b: SystemId) -> bool
-    ensures { result ≡ (system_number a == system_number b) }
-{
-    word_laws();
-    number(a) == number(b)
-}
-
-/// A system ID as a number.
-fn number(system: SystemId) -> u64
-    ensures value { result ≡ designated.system_number system }
-    ensures six { length system.0 ≡ 6 }
-{
-    let node = NodeId {
-        system,
-        pseudonode: 0,
-    };
-    LspId { node, number: 0 }.to_number() / 65536
 }

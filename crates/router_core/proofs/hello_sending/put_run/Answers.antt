@@ -20,5 +20,5 @@ returns c r sends =
     ∙ ap (λ (says : Sent). datagram (config_of c.args.sender.now) (c.args.sender.now.circuit - 1) (circuit_of c.args.sender.now) says)
     (lan-says c.args.level _ _ _ _
     (c.lan_id-lan.ensures r (c.args.sender.now.circuit - 1) (record { system = sends.system; circuit = sends.circuit }))
-    (c.snpas_law.ensures ∙ c.heard-heard.ensures.snpas)))
+    c.heard-heard.ensures.snpas))
     c.push.ensures.ok

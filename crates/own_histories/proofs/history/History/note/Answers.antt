@@ -10,10 +10,10 @@ pub loop-id-init : goal.loop-id-init
 loop-id-init c whole l =
     subst (λ (es : List (LspId × Entry)). Left c.args.self.now (live_of es) whole)
     (sym (c.range-entries.ensures ∙ (ap₂ (λ (m n : ℕ). between m n c.store.result.now.entries) c.from_number-start.ensures c.from_number-end.ensures
-    ∙ ap (λ (d : _). between (c.number-first.result * 65536) (c.number-first.result * 65536 + 65535) d.entries) c.store.ensures))) l
+    ∙ ap (λ (d : _). between (c.system_to_number-first.result * 65536) (c.system_to_number-first.result * 65536 + 65535) d.entries) c.store.ensures))) l
 
 pub returns : goal.returns
 returns c seen h =
-    let value = c.number-first.ensures.value in
-    note-all c.args.self.now c.loop-id.self _ (c.number-first.result * 65536) (c.number-first.result * 65536 + 65535) c.args.book.now.store.entries c.loop-id.entries c.args.book.now.rows seen
+    let value = c.system_to_number-first.ensures.value in
+    note-all c.args.self.now c.loop-id.self _ (c.system_to_number-first.result * 65536) (c.system_to_number-first.result * 65536 + 65535) c.args.book.now.store.entries c.loop-id.entries c.args.book.now.rows seen
     (omega (arith, value)) (omega (arith, value)) c.requires c.in_default.ensures.steps.0 c.loop-id.invariant h
