@@ -61,7 +61,10 @@ fn best_of(
     ensures { IfOk result
         (λ routes. AreRoutes (IsListedHop one.now two.now) candidates.now routes.items) }
 {
-    let mut routes = Vec::new(alloc);
+    let mut routes = match Vec::with_capacity(alloc, candidates.len()) {
+        Ok(routes) => routes,
+        Err(_) => return Err(OutOfMemory),
+    };
     let mut first = 0;
     while first < candidates.len() {
         let route = match route_at(alloc, candidates, first, one, two) {

@@ -29,6 +29,9 @@ pub fn hops_of(
     ensures hops { IfOk result
         (λ hops. AreHopsIn (IsListedHop one.now two.now) candidates.now first end hops) }
 {
+    if end - first == 1 {
+        return hops_to(alloc, &candidates[first], one, two);
+    }
     let mut nodes = Vec::new(alloc);
     for place in first..end {
         let hops = match hops_to(alloc, &candidates[place], one, two) {

@@ -15,7 +15,10 @@ pub fn links(alloc: Global, routes: &[Route]) -> Result<Vec<Option<usize>>, OutO
     requires { AreRising routes.now }
     ensures { IfOk result (λ links. AreLinked routes.now (length routes.now) links.items) }
 {
-    let mut links = Vec::new(alloc);
+    let mut links = match Vec::with_capacity(alloc, routes.len()) {
+        Ok(links) => links,
+        Err(_) => return Err(OutOfMemory),
+    };
     for place in 0..routes.len() {
         let address = routes[place].prefix.address();
         let link = last_of(routes, links.as_slice(), place, address);

@@ -11,8 +11,8 @@ pub loop-place-preserved : goal.loop-place-preserved
 loop-place-preserved c =
     let last = subst (λ (a : ℕ). IsLast c.args.routes.now c.loop-place.place a c.last_of-link.result) c.address-address.ensures c.last_of-link.ensures in
     let one_more = length_push c.loop-place.links.items c.last_of-link.result in
-    let is = ap length c.in-Ok.ensures.items in
+    let is = ap length c.in-Ok-push.ensures.items in
     record {
       long = omega arith;
-      linked = rw c.in-Ok.ensures.items (linked_more c.args.routes.now c.loop-place.place c.loop-place.links.items c.last_of-link.result c.index-routes-place.result (omega arith) c.loop-place.invariant.long c.loop-place.invariant.linked last);
+      linked = rw c.in-Ok-push.ensures.items (linked_more c.args.routes.now c.loop-place.place c.loop-place.links.items c.last_of-link.result c.index-routes-place.result (omega arith) c.loop-place.invariant.long c.loop-place.invariant.linked last);
     }
