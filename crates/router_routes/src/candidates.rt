@@ -1,5 +1,5 @@
 //! What prefixes may be reached by (RFC 5302 3.2).
-ghost use Rattle.std.specs.Prelude.{◌≡◌, ◌++◌, ◌&&◌, not, map, IfOk, OnOk, IfSome};
+ghost use Rattle.std.specs.Prelude.{[], ◌≡◌, ◌++◌, ◌&&◌, not, map, IfOk, OnOk, IfSome};
 ghost use Rattle.std.specs.List.{flat_map, list_any};
 ghost use Rattle.isis_datagram.specs.Reading.{runs_of};
 ghost use Rattle.lsp_view.specs.Views.{own_node};
@@ -51,11 +51,21 @@ fn firm_candidates(
         ≡ reached_in (outlook_at view.now).told.two (outlook_at view.now).root }
     ensures { IfOk result (λ list. list.items ≡ firm_candidates (outlook_at view.now)) }
 {
-    let mut list = Vec::new(alloc);
+    let mut list = with_room(alloc, ones.len())?;
     add_own(&mut list, own_node(view.system), view.prefixes)?;
     add_told(alloc, &mut list, Level::One, &view.one, ones)?;
     add_told(alloc, &mut list, Level::Two, &view.two, twos)?;
     Ok(list)
+}
+
+/// The empty list, with room for so many candidates, one for each system.
+fn with_room(alloc: Global, systems: usize) -> Result<Vec<Candidate>, OutOfMemory>
+    ensures { IfOk result (λ list. list.items ≡ []) }
+{
+    match Vec::with_capacity(alloc, systems) {
+        Ok(list) => Ok(list),
+        Err(_) => Err(OutOfMemory),
+    }
 }
 
 /// Whether the way by default counts.

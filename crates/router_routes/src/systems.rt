@@ -1,5 +1,5 @@
 //! The systems that a level reaches (ISO 10589 C.2), and whether one of them is in another area.
-ghost use Rattle.std.specs.Prelude.{◌≡◌, ◌++◌, map, IfOk, OnOk};
+ghost use Rattle.std.specs.Prelude.{[], ◌≡◌, ◌++◌, map, IfOk, OnOk};
 ghost use Rattle.std.specs.List.{flat_map};
 ghost use Rattle.isis_base.specs.Identifiers.{lsp_number};
 ghost use Rattle.lsp_store.specs.Maps.{between};
@@ -56,7 +56,7 @@ fn reached(
     ensures { IfOk result (λ list. list.items
         ≡ flat_map (reached_by (cost_at distances.now) (node_number root)) (told_of told.now)) }
 {
-    let mut list = Vec::new(alloc);
+    let mut list = with_room(alloc, told.store.len())?;
     let start = number(root);
     match told.moved {
         None => match add_live(&mut list, told.store, distances, start) {
@@ -69,6 +69,16 @@ fn reached(
             add_past(&mut list, told.store, moved.node, distances, start)?;
             Ok(list)
         }
+    }
+}
+
+/// The empty list, with room for so many systems, one for each LSP.
+fn with_room(alloc: Global, lsps: usize) -> Result<Vec<(SystemId, u64)>, OutOfMemory>
+    ensures { IfOk result (λ list. list.items ≡ []) }
+{
+    match Vec::with_capacity(alloc, lsps) {
+        Ok(list) => Ok(list),
+        Err(_) => Err(OutOfMemory),
     }
 }
 
