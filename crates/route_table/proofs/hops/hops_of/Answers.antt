@@ -34,7 +34,7 @@ returns-then-end-first-eq1-clause-hops c =
     let cs = c.args.candidates.now in
     let end : c.args.end ≡ c.args.first + 1 = omega arith in
     IfOk-weaker c.hops_to.result (λ (hops : List ℕ). (hop : ℕ) → Contains hops hop ↔ H c.index-candidates-first.result hop) (λ (hops : List ℕ). AreHopsIn H cs c.args.first c.args.end hops) (λ hops e.
-      subst (λ (n : ℕ). AreHopsIn H cs c.args.first n hops) (sym end)
-      (gather_more H cs c.args.first c.args.first c.index-candidates-first.result [] hops (omega arith) (omega arith) (gather_none H cs c.args.first)
-      (subst (λ (x : Candidate). (hop : ℕ) → Contains hops hop ↔ H x hop) c.index-candidates-first.is e)))
+    subst (λ (n : ℕ). AreHopsIn H cs c.args.first n hops) (sym end)
+    (gather_more H cs c.args.first c.args.first c.index-candidates-first.result [] hops (omega arith) (omega arith) (gather_none H cs c.args.first)
+    (subst (λ (x : Candidate). (hop : ℕ) → Contains hops hop ↔ H x hop) c.index-candidates-first.is e)))
     c.hops_to.ensures.hops
