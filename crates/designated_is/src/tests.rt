@@ -1,5 +1,5 @@
-//! Rows of elections, and pseudonodes.
-use crate::{Candidate, elect, pseudonode};
+//! Rows of elections, pseudonodes, and identifiers as numbers.
+use crate::{Candidate, are_same_systems, elect, pseudonode, snpa_to_number, system_to_number};
 use isis_base::{Snpa, SystemId};
 
 fn candidate(priority: u8, snpa: u8, system: u8) -> Candidate {
@@ -32,4 +32,12 @@ fn elections(rt: HostRuntime) {
     assert!(rt; elect(&by_snpa) == Some(by_snpa[1].system));
     assert!(rt; elect(&by_system) == Some(by_system[1].system));
     assert!(rt; pseudonode(7) == 7);
+}
+
+#[test]
+fn identifiers(rt: HostRuntime) {
+    let (one, two) = (SystemId([0, 0, 0, 0, 1, 2]), SystemId([0, 0, 0, 0, 2, 2]));
+    assert!(rt; system_to_number(one) == 258);
+    assert!(rt; snpa_to_number(Snpa([0, 0, 0, 0, 2, 2])) == 514);
+    assert!(rt; are_same_systems(one, one) && !are_same_systems(one, two));
 }
