@@ -43,6 +43,3 @@ pub use lan::LanAdj;
 pub use laws::{designated_laws, lan_laws, point_laws};
 pub use neighbour::Neighbour;
 pub use point::P2pAdj;
-
-#[cfg(test)]
-mod tests;

@@ -25,8 +25,6 @@ mod line;
 mod page;
 mod shared;
 mod taking;
-#[cfg(test)]
-mod tests;
 mod text_journal;
 mod words;
 

@@ -20,6 +20,3 @@ pub use candidate::Candidate;
 pub use election::{elect, pseudonode};
 pub use laws::election_laws;
 pub use numbers::{are_same_systems, snpa_to_number, system_to_number};
-
-#[cfg(test)]
-mod tests;

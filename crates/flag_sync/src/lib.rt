@@ -21,8 +21,6 @@
 mod ages;
 mod bits;
 mod book;
-#[cfg(test)]
-mod book_tests;
 mod cells;
 mod circuits;
 mod deed;
@@ -41,8 +39,6 @@ mod row_edits;
 mod said;
 mod sides;
 mod snp_rows;
-#[cfg(test)]
-mod tests;
 mod walks;
 
 pub use book::Book;

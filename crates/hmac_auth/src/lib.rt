@@ -23,6 +23,3 @@ pub use check::check_pdu;
 pub use fault::AuthFault;
 pub use hmac::digest;
 pub use sign::sign_pdu;
-
-#[cfg(test)]
-mod tests;

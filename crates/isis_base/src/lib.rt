@@ -60,6 +60,3 @@ pub use prefix::Prefix;
 pub use prefix_text::read_prefix;
 pub use texts::{TextFault, read_lsp_id, read_system};
 pub use writers::{add_hex, add_levels, add_lsp_id, add_node_id, add_number, add_system_id};
-
-#[cfg(test)]
-mod tests;

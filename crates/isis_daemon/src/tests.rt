@@ -1,40 +1,19 @@
-//! What no clause says: PDUs that another program made, worked inputs, and an outside that fails.
-mod shown;
-
-use self::shown::SHOWN;
+//! What no case of tests/ at the top can say: calls of the outside that fail, each in its turn.
 use crate::run::run;
-use crate::status::{INPUT_LIMIT, Status};
+use crate::status::Status;
 use isis_base::{Octets, OutOfMemory};
 use isis_edge::{MemorySink, MemorySource};
-use lab_text::Reason;
-use network_lab::LimitName;
 use std::alloc::Global;
-use std::process::Abort;
 use std::test::Fail;
 
-/// How a run ended, and what the sink holds then.
-#[derive(Drop)]
-struct Ended {
-    status: Status,
-    output: MemorySink,
-}
-
-/// How the outside is: how many octets a call gives or takes, which calls fail, and the sink's room.
+/// How the outside is: how many octets a call gives or takes, which call fails, none at 0, and the sink's room.
 #[derive(Clone, Copy)]
-struct Outside<'a> {
+struct Outside {
     piece: usize,
-    failing_reads: &'a [u64],
-    failing_writes: &'a [u64],
+    failing_read: u64,
+    failing_write: u64,
     room: usize,
 }
-
-/// An outside where nothing fails.
-const WELL: Outside<'static> = Outside {
-    piece: 4096,
-    failing_reads: &[],
-    failing_writes: &[],
-    room: 1 << 20,
-};
 
 fn octets(alloc: Global, text: &[u8]) -> Result<Octets, OutOfMemory> {
     let mut octets = Octets::new(alloc);
@@ -42,198 +21,145 @@ fn octets(alloc: Global, text: &[u8]) -> Result<Octets, OutOfMemory> {
     Ok(octets)
 }
 
-/// Runs the program with these words.
-fn run_words(
-    rt: &impl Abort,
+fn source(alloc: Global, input: &[u8], outside: Outside) -> Result<MemorySource, Fail> {
+    let failing = [outside.failing_read].to_vec(alloc)?;
+    Ok(MemorySource::new(octets(alloc, input)?, outside.piece.max(1), failing))
+}
+
+fn sink(alloc: Global, outside: Outside) -> Result<MemorySink, Fail> {
+    let failing = [outside.failing_write].to_vec(alloc)?;
+    Ok(MemorySink::new(alloc, outside.room, outside.piece.max(1), failing)?)
+}
+
+/// Whether the program, run with a word, ends so and has written this.
+fn ends(
     alloc: Global,
-    words: &[&str],
+    word: &str,
     input: &[u8],
-    outside: Outside<'_>,
-) -> Result<Ended, Fail> {
-    assert!(rt; outside.piece > 0);
-    let mut strings = Vec::new(alloc);
-    for word in words {
-        strings.push(String::from_str(alloc, word)?)?;
-    }
-    let failing_reads = outside.failing_reads.to_vec(alloc)?;
-    let failing_writes = outside.failing_writes.to_vec(alloc)?;
-    let mut source = MemorySource::new(octets(alloc, input)?, outside.piece, failing_reads);
-    let output = MemorySink::new(alloc, outside.room, outside.piece, failing_writes)?;
-    let (output, status) = run(alloc, strings.as_slice(), &mut source, output);
-    Ok(Ended { status, output })
+    outside: Outside,
+    status: Status,
+    held: &[u8],
+) -> Result<bool, Fail> {
+    let mut words = Vec::new(alloc);
+    words.push(String::from_str(alloc, word)?)?;
+    let mut source = source(alloc, input, outside)?;
+    let sink = sink(alloc, outside)?;
+    let (sink, ended) = run(alloc, words.as_slice(), &mut source, sink);
+    Ok(ended == status && sink.octets() == held)
 }
 
-#[test]
-fn pdus_are_shown_as_printed(rt: HostRuntime) -> Result<(), Fail> {
-    for (hex, fields) in SHOWN {
-        let shown = format!(in rt.alloc(); "pdu 1 {fields}")?;
-        let ended = run_words(&rt, rt.alloc(), &["show"], hex.as_bytes(), WELL)?;
-        assert_eq!(rt; ended.status, Status::Done, "{hex}");
-        assert_eq!(rt; ended.output.octets(), shown.as_bytes(), "{hex}");
-    }
-    Ok(())
-}
+const INPUT: &[u8] = b"83\n831101001a01000000130123456789abcd0900\n8g\n";
 
-const INPUT: &[u8] =
-    b"831B010012010000001b04b0000000000001000000000001f60601\n\n83\n831101001a01000000130123456789abcd0900\n8g\n";
+const SHOWN: &[u8] =
+    b"pdu 1 fault Short 1\npdu 2 l1-psnp length 19 source 0123.4567.89ab.cd tlvs 1\ntlv 9 at 17 length 0\npdu 3 fault Hex 1\n";
 
-const SHOWN_INPUT: &[u8] =
-    b"pdu 1 l1-lsp length 27 lifetime 1200 id 0000.0000.0001.00-00 number 1 checksum f606 good flags 01 tlvs 0\npdu 3 fault Short 1\npdu 4 l1-psnp length 19 source 0123.4567.89ab.cd tlvs 1\ntlv 9 at 17 length 0\npdu 5 fault Hex 1\n";
-
-const SCRIPT: &[u8] =
+const KEYS: &[u8] =
     b"isis-keys 1\nrouter A\nrouter B\nlink A B\nissue A 0000.0000.0001.00-00 2 live\npass 1 A B\n";
 
-const REPORT: &[u8] =
+const KEYS_REPORT: &[u8] =
     b"isis-report 1\nkey A 0000.0000.0001.00-00 2 live\nkey B 0000.0000.0001.00-00 2 live\n";
 
-/// Both commands, each with an input and what it writes of it.
-const WORKED: [(&str, &[u8], &[u8]); 2] = [("lab", SCRIPT, REPORT), ("show", INPUT, SHOWN_INPUT)];
+/// Two routers on a link, whose acknowledgements are lost.
+const LAB: &[u8] =
+    b"isis-lab 1\nrouter A 0000.0000.0001 49.0001 L1\nrouter B 0000.0000.0002 49.0001 L1\nlink X A B 10\nrun 7 without psnp\n";
+
+const LAB_REPORT: &[u8] =
+    b"isis-report 1\nrouter A 0000.0000.0001 boot 1\nlsp A L1 0000.0000.0001.00-00 2 live\nlsp A L1 0000.0000.0002.00-00 2 live\nrouter B 0000.0000.0002 boot 1\nlsp B L1 0000.0000.0001.00-00 2 live\nlsp B L1 0000.0000.0002.00-00 2 live\nlink X L1 up flags 1 1 ahead 0 0 excepted 0\nagree L1 routers 2 groups 2\nagree L2 routers 0 groups 0\ninjected 0\ndatagrams 14\n";
+
+/// Both commands, each with an input and what it writes of it; of `lab` scripts of both kinds.
+const WORKED: [(&str, &[u8], &[u8]); 3] = [
+    ("lab", KEYS, KEYS_REPORT),
+    ("lab", LAB, LAB_REPORT),
+    ("show", INPUT, SHOWN),
+];
 
 #[test]
 fn failing_calls_are_told(rt: HostRuntime) -> Result<(), Fail> {
-    for (word, input, text) in WORKED {
-        // the calls that give octets and the one that gives the end; then those that write
-        let reads = input.len().div_ceil(7) as u64 + 1;
-        let writes = text.len().div_ceil(7) as u64;
-        for (failing_reads, failing_writes, room, status, held) in [
-            ([1], [0], 4096, Status::ReadFault, 0),
-            ([reads], [0], 4096, Status::ReadFault, 0),
-            ([reads + 1], [0], 4096, Status::Done, text.len()),
-            ([0], [1], 4096, Status::WriteFault, 0),
-            ([0], [3], 4096, Status::WriteFault, 14),
-            ([0], [writes + 1], 4096, Status::Done, text.len()),
-            ([0], [0], 0, Status::WriteFault, 0),
-            ([0], [0], 13, Status::WriteFault, 13),
-        ] {
-            let outside = Outside {
-                piece: 7,
-                failing_reads: &failing_reads,
-                failing_writes: &failing_writes,
-                room,
-            };
-            let ended = run_words(&rt, rt.alloc(), &[word], input, outside)?;
-            assert_eq!(rt; ended.status, status, "{word}");
-            assert_eq!(rt; Some(ended.output.octets()), text.get(..held), "{word}");
-        }
+    for (row, (word, input, text)) in WORKED.iter().enumerate() {
+        assert_eq!(rt; first_untold(rt.alloc(), word, input, text)?, None, "{row}");
     }
     Ok(())
+}
+
+/// Calls of 7 octets: the read that fails, the write that fails, the sink's room, how it ends, and how much is held then. A
+/// read or write counted from the end stands behind the last one.
+fn first_untold(
+    alloc: Global,
+    word: &str,
+    input: &[u8],
+    text: &[u8],
+) -> Result<Option<usize>, Fail> {
+    // the calls that give octets and the one that gives the end; then those that write
+    let reads = input.len().div_ceil(7) as u64;
+    let writes = text.len().div_ceil(7) as u64;
+    let rows = [
+        (1, 0, 4096, Status::ReadFault, 0),
+        (reads.saturating_add(1), 0, 4096, Status::ReadFault, 0),
+        (reads.saturating_add(2), 0, 4096, Status::Done, text.len()),
+        (0, 1, 4096, Status::WriteFault, 0),
+        (0, 3, 4096, Status::WriteFault, 14),
+        (0, writes.saturating_add(1), 4096, Status::Done, text.len()),
+        (0, 0, 0, Status::WriteFault, 0),
+        (0, 0, 13, Status::WriteFault, 13),
+    ];
+    for (row, (failing_read, failing_write, room, status, held)) in rows.iter().enumerate() {
+        let outside = Outside {
+            piece: 7,
+            failing_read: *failing_read,
+            failing_write: *failing_write,
+            room: *room,
+        };
+        let held = text.get(..*held).unwrap_or(text);
+        if !ends(alloc, word, input, outside, *status, held)? {
+            return Ok(Some(row));
+        }
+    }
+    Ok(None)
 }
 
 /// A text of several pages is written page by page: where the second write fails, the first page stands.
 #[test]
 fn pages_are_written_in_order(rt: HostRuntime) -> Result<(), Fail> {
-    let mut input = String::new(rt.alloc());
-    let mut text = String::new(rt.alloc());
+    let input = numbered(rt.alloc(), false)?;
+    let text = numbered(rt.alloc(), true)?;
+    assert!(rt;
+        are_paged(
+            rt.alloc(),
+            input.as_str().as_bytes(),
+            text.as_str().as_bytes()
+        )?
+    );
+    Ok(())
+}
+
+/// Six hundred lines that are no PDU, or what is shown of them.
+fn numbered(alloc: Global, shown: bool) -> Result<String, Fail> {
+    let mut text = String::new(alloc);
     for number in 1..=600u32 {
-        write!(input, "8\n")?;
-        write!(text, "pdu {number} fault Hex 1\n")?;
+        if shown {
+            write!(text, "pdu {number} fault Hex 1\n")?;
+        } else {
+            text.push_str("8\n")?;
+        }
     }
-    let input = input.as_str().as_bytes();
-    let outside = Outside {
+    Ok(text)
+}
+
+/// Whether all is written where nothing fails, and the first 8,192 octets where the second write does.
+fn are_paged(alloc: Global, input: &[u8], text: &[u8]) -> Result<bool, Fail> {
+    let well = Outside {
         piece: 1 << 20,
-        ..WELL
+        failing_read: 0,
+        failing_write: 0,
+        room: 1 << 20,
     };
-    let ended = run_words(&rt, rt.alloc(), &["show"], input, outside)?;
-    assert_eq!(rt; ended.status, Status::Done);
-    assert_eq!(rt; ended.output.octets(), text.as_str().as_bytes());
-    let outside = Outside {
-        failing_writes: &[2],
-        ..outside
+    let second = Outside {
+        failing_write: 2,
+        ..well
     };
-    let ended = run_words(&rt, rt.alloc(), &["show"], input, outside)?;
-    assert_eq!(rt; ended.status, Status::WriteFault);
-    let held = ended.output.octets();
-    assert_eq!(rt; Some(held), text.as_str().as_bytes().get(..held.len()));
-    assert!(rt; held.len() >= 8192 && held.len() < text.len());
-    Ok(())
-}
-
-#[test]
-fn words_and_long_inputs_are_tested(rt: HostRuntime) -> Result<(), Fail> {
-    let rows: [&[&str]; 10] = [
-        &[],
-        &[""],
-        &["Lab"],
-        &["lab", "lab"],
-        &["lab "],
-        &["--help"],
-        &["grid"],
-        &["grid", "0"],
-        &["grid", "9"],
-        &["grid", "01"],
-    ];
-    for words in rows {
-        let ended = run_words(&rt, rt.alloc(), words, SCRIPT, WELL)?;
-        assert_eq!(rt; ended.status, Status::Usage);
-        assert!(rt; ended.output.octets().is_empty());
-    }
-    let head = Status::ScriptRefused {
-        line: 1,
-        reason: Reason::Head,
-    };
-    for (word, len, status) in [
-        ("lab", INPUT_LIMIT, head),
-        ("lab", INPUT_LIMIT + 1, Status::TooLong),
-        ("show", INPUT_LIMIT, Status::Done),
-        ("show", INPUT_LIMIT + 1, Status::TooLong),
-    ] {
-        let input = vec![in rt.alloc(); b'\n'; len]?;
-        let ended = run_words(&rt, rt.alloc(), &[word], input.as_slice(), WELL)?;
-        assert_eq!(rt; ended.status, status, "{len} octets");
-        assert!(rt; ended.output.octets().is_empty());
-    }
-    Ok(())
-}
-
-/// Grids, and what is summed up of them: the ways from each router to each other, of 10 a link and 10 for the prefix.
-const GRIDS: [(&str, &[u8]); 4] = [
-    (
-        "1",
-        b"grid 1\nrouters 1\nlinks 0\ngroups 1\nroutes 1\ncost 10\ngreatest 10\n",
-    ),
-    (
-        "2",
-        b"grid 2\nrouters 4\nlinks 4\ngroups 1\nroutes 16\ncost 320\ngreatest 30\n",
-    ),
-    (
-        "3",
-        b"grid 3\nrouters 9\nlinks 12\ngroups 1\nroutes 81\ncost 2250\ngreatest 50\n",
-    ),
-    (
-        "4",
-        b"grid 4\nrouters 16\nlinks 24\ngroups 1\nroutes 256\ncost 8960\ngreatest 70\n",
-    ),
-];
-
-#[test]
-fn grids_are_summed_up(rt: HostRuntime) -> Result<(), Fail> {
-    for (number, summary) in GRIDS {
-        let ended = run_words(&rt, rt.alloc(), &["grid", number], SCRIPT, WELL)?;
-        assert_eq!(rt; ended.status, Status::Done, "{number}");
-        assert_eq!(rt; ended.output.octets(), summary, "{number}");
-    }
-    Ok(())
-}
-
-#[test]
-fn statuses_print_their_lines(rt: HostRuntime) -> Result<(), Fail> {
-    let line = |line, reason| Status::ScriptRefused { line, reason };
-    let limit = |which| Status::LabLimit { which };
-    for (status, code, text) in [
-        (Status::Done, 0, "isis: done"),
-        (Status::Usage, 2, "isis: usage"),
-        (line(209, Reason::NotSent), 3, "isis: line 209 not-sent"),
-        (Status::ReadFault, 4, "isis: read fault"),
-        (Status::WriteFault, 5, "isis: write fault"),
-        (Status::TooLong, 6, "isis: input too long"),
-        (Status::OutOfMemory, 7, "isis: out of memory"),
-        (limit(LimitName::Routers), 10, "isis: limit routers"),
-        (limit(LimitName::Links), 10, "isis: limit links"),
-    ] {
-        let mut printed = String::new(rt.alloc());
-        write!(printed, "{status}")?;
-        assert_eq!(rt; printed.as_str(), text);
-        assert_eq!(rt; status.code(), code);
-    }
-    Ok(())
+    let held = text.get(..8192).unwrap_or(text);
+    Ok(
+        ends(alloc, "show", input, well, Status::Done, text)?
+            && ends(alloc, "show", input, second, Status::WriteFault, held)?,
+    )
 }

@@ -21,8 +21,6 @@ mod reading;
 mod sink;
 mod source;
 mod standard;
-#[cfg(test)]
-mod tests;
 mod text;
 mod writing;
 

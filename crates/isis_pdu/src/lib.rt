@@ -25,6 +25,3 @@ pub use fault::{PduFault, PduFaultKind};
 pub use pdu::Pdu;
 pub use read::decode;
 pub use write::{encode, encoded_len};
-
-#[cfg(test)]
-mod tests;

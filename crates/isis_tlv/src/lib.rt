@@ -40,6 +40,3 @@ pub use prefix::{PrefixItem, PrefixItems, prefixes, put_prefixes};
 pub use snpa::{SnpaItems, put_snpas, snpas};
 pub use three_way::{Adj, ThreeWay, put_three_way, three_way_value};
 pub use tlv::{Tlv, TlvFault, Tlvs, are_tlvs};
-
-#[cfg(test)]
-mod tests;

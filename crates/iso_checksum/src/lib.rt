@@ -10,7 +10,5 @@
 
 mod checksum;
 mod sums;
-#[cfg(test)]
-mod tests;
 
 pub use checksum::{fill, holds};

@@ -11,8 +11,6 @@ mod faults;
 mod held;
 mod key_net;
 pub mod laws;
-#[cfg(test)]
-mod tests;
 
 pub use faults::{LabFault, LimitName};
 pub use key_net::{KeyNet, LINK_LIMIT, ROUTER_LIMIT};

@@ -20,6 +20,3 @@ pub use run::run_grid;
 pub use script::grid_script;
 pub use summary::{Summary, write_summary};
 pub use tally::Tally;
-
-#[cfg(test)]
-mod tests;

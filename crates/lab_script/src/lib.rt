@@ -42,8 +42,6 @@ mod routers;
 mod script;
 mod script_list;
 mod setup;
-#[cfg(test)]
-mod tests;
 mod words;
 
 pub use cuts::cut;

@@ -14,8 +14,6 @@ mod left;
 mod playing;
 mod report;
 mod run;
-#[cfg(test)]
-mod tests;
 
 pub use fault::RunFault;
 pub use lab_script::{

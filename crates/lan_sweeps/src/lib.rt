@@ -13,8 +13,6 @@
 mod key;
 pub mod laws;
 mod sweeps;
-#[cfg(test)]
-mod tests;
 
 pub use key::SweepKey;
 pub use sweeps::Sweeps;

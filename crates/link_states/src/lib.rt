@@ -12,8 +12,6 @@ mod groups;
 mod joined;
 mod parents;
 mod state;
-#[cfg(test)]
-mod tests;
 
 pub use groups::Groups;
 pub use joined::joined_groups;

@@ -34,6 +34,3 @@ pub use issue::Issue;
 pub use laws::{content_laws, good_splits, next_laws, own_laws};
 pub use own_lsps::OwnLsps;
 pub use splitting::split;
-
-#[cfg(test)]
-mod tests;

@@ -26,6 +26,3 @@ pub use blank::BLANK_AUTH;
 pub use draft::{Draft, Issued};
 pub use held::put_lsp;
 pub use lent::lent_key;
-
-#[cfg(test)]
-mod tests;

@@ -26,8 +26,6 @@ mod places;
 mod range;
 mod rooms;
 mod store;
-#[cfg(test)]
-mod tests;
 
 pub use change::Change;
 pub use copy::TryCopy;
@@ -38,5 +36,5 @@ pub use noting::Noting;
 pub use page::Page;
 pub use pages::Pages;
 pub use pairs::Pairs;
-pub use range::PageRange;
+pub use range::{PageRange, Range};
 pub use store::Store;

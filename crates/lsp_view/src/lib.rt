@@ -20,6 +20,3 @@ mod systems;
 pub use graph::{is_overloaded_at, overloaded, rows, rows_at};
 pub use lead::is_live;
 pub use systems::{area_list, is_attached, reach, reach_into};
-
-#[cfg(test)]
-mod tests;

@@ -30,6 +30,3 @@ mod wants;
 pub use building::wanted_lsps;
 pub use wanted::Wanted;
 pub use wants::Wants;
-
-#[cfg(test)]
-mod tests;

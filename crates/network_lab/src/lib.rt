@@ -38,4 +38,5 @@ pub use key_net::{KeyNet, LINK_LIMIT, LabFault, LimitName, ROUTER_LIMIT};
 pub use lan_state::LanState;
 pub use link_states::{Groups, LinkState};
 pub use network::Network;
+pub use network_model::PduWord;
 pub use sent::{Changes, SentDatagram};

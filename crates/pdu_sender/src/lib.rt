@@ -25,6 +25,3 @@ pub use hellos::{lan_hello, point_hello};
 pub use lsps::lsp;
 pub use sender::Sender;
 pub use snps::{csnp, psnp};
-
-#[cfg(test)]
-mod tests;

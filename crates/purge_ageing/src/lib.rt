@@ -15,8 +15,6 @@
 mod ids;
 mod let_go;
 mod second;
-#[cfg(test)]
-mod tests;
 
 pub use let_go::LetGo;
 pub use second::age;

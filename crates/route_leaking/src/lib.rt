@@ -14,6 +14,3 @@ mod leaks;
 
 pub use attachment::attached;
 pub use leaks::{down_into_l1, up_into_l2};
-
-#[cfg(test)]
-mod tests;

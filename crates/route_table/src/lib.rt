@@ -25,6 +25,3 @@ pub use candidate::Candidate;
 pub use rank::Rank;
 pub use route::Route;
 pub use table::Routes;
-
-#[cfg(test)]
-mod tests;

@@ -38,6 +38,3 @@ pub use circuit::Circuit;
 pub use designated::Designated;
 pub use laws::word_laws;
 pub use sizes::hello_sizes;
-
-#[cfg(test)]
-mod tests;

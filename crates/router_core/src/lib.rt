@@ -63,6 +63,3 @@ pub use event::NodeEvent;
 pub use reply::Reply;
 pub use router::Router;
 pub use router_desk::{Change, CircuitConfig, Config, Desk, DropCause, DropName, Opened};
-
-#[cfg(test)]
-mod tests;

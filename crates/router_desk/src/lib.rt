@@ -48,6 +48,3 @@ pub use isis_model::DropName;
 pub use list::{Areas, Circuits, ConfigList, Prefixes};
 pub use opened::Opened;
 pub use seen::Seen;
-
-#[cfg(test)]
-mod tests;

@@ -21,8 +21,6 @@ mod renew;
 mod second;
 mod take_lsp;
 mod take_snp;
-#[cfg(test)]
-mod tests;
 mod wants;
 
 pub use laws::wanted_rises;

@@ -18,6 +18,3 @@ mod reading;
 
 pub use heard::{Heard, HelloHeard};
 pub use reading::hear;
-
-#[cfg(test)]
-mod tests;

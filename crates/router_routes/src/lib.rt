@@ -30,7 +30,4 @@ mod systems;
 mod view;
 
 pub use following::Following;
-pub use lent::{Lent, ids_law};
-
-#[cfg(test)]
-mod tests;
+pub use lent::Lent;

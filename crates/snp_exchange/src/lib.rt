@@ -18,8 +18,6 @@ mod pieces;
 mod psnp;
 mod ranges;
 mod sweep;
-#[cfg(test)]
-mod tests;
 
 pub use csnp::{Piece, csnp_set};
 pub use entries::Entries;

@@ -20,6 +20,3 @@ mod steps;
 
 pub use repaired::Repaired;
 pub use steps::Steps;
-
-#[cfg(test)]
-mod tests;

@@ -62,6 +62,3 @@ pub use next::next_hops;
 pub use row::Row;
 pub use scratch::from_scratch;
 pub use table::{HopTable, all_next_hops};
-
-#[cfg(test)]
-mod tests;

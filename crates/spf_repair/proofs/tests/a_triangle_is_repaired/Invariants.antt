@@ -1,4 +1,0 @@
-use Rattle.spf_repair.proofs.tests.a_triangle_is_repaired.Given as goal
-
-abbrev pub ghosts-triangle : goal.ghosts-triangle
-ghosts-triangle g a = record { name = a.blank.name; parts = a.blank.parts }

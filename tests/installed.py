@@ -1,0 +1,65 @@
+"""What tools/install puts below a folder: the program, the manual page, and completions."""
+import re
+import shutil
+import subprocess
+import tempfile
+from pathlib import Path
+
+from limits import told
+
+TOP = Path(__file__).resolve().parent.parent
+FILES = ["bin/isis", "share/man/man1/isis.1", "share/bash-completion/completions/isis", "share/zsh/site-functions/_isis"]
+COMMANDS, LAUNCHERS, SIZES = ["lab", "grid", "show"], ["--help", "--version", "--unproved"], [str(size) for size in range(1, 9)]
+# Lines of words, of which the last one is to be completed, and what may stand there.
+COMPLETIONS = {
+    "isis ": COMMANDS, "isis s": ["show"], "isis --": [], "isis lab ": [], "isis grid ": SIZES, "isis grid 3 ": [],
+    f"{TOP}/isis ": COMMANDS + LAUNCHERS, f"{TOP}/isis --u": ["--unproved"], f"{TOP}/isis --unproved ": COMMANDS,
+    f"{TOP}/isis --unproved grid ": SIZES, f"{TOP}/isis --unproved lab ": [],
+}
+COMPLETE = """source "$1"
+read -ra COMP_WORDS <<< "$2" && [[ $2 != *" " ]] || COMP_WORDS+=("")
+COMP_CWORD=$((${#COMP_WORDS[@]} - 1))
+_isis "${COMP_WORDS[0]}"
+echo "${COMPREPLY[@]}"
+"""
+
+
+def completed(prefix, line):
+    """What bash offers for a line's last word."""
+    words = ["bash", "-c", COMPLETE, "bash", prefix / FILES[2], line]
+    environment = {"PATH": f"{prefix}/bin:/usr/bin:/bin"}
+    return subprocess.run(words, capture_output=True, text=True, env=environment, check=False).stdout.split()
+
+
+def page_faults(page):
+    """What the manual page lacks of what TEXTS.md has, and what groff says of it where there is one."""
+    text, texts = page.read_text(), (TOP / "docs" / "TEXTS.md").read_text()
+    plain = re.sub(r"\\f.|^\.\w+ |[\" ]", "", text, flags=re.M)
+    ends = texts[texts.index("## How a run ends") : texts.index("## The launcher")]
+    for code, line in re.findall(r"^\| (\d+) \| (?:`(.*?)`|none)", ends, re.M):
+        if f"\n{code}\n" not in plain or line.replace(" ", "") not in plain:
+            yield f"the page lacks {code} {line}"
+    for word in re.findall(r"^\| `([a-z-]+)` \|", ends, re.M):
+        if not re.search(rf"^\.(?:B|BR|RB) .*{word}", text, re.M):
+            yield f"the page lacks {word}"
+    if shutil.which("groff"):
+        ran = subprocess.run(["groff", "-Tutf8", "-man", "-ww", page], capture_output=True, text=True, check=False)
+        if ran.returncode or ran.stderr:
+            yield f"groff says {ran.stderr!r}"
+
+
+def faults(run):
+    """Each of these runs by name, and what comes out otherwise than it should, if anything does."""
+    tool = TOP / "tools" / "install"
+    for words in ([], [""], ["--there"], ["a", "b"]):
+        ended = run(words, "", program=tool)
+        wanted = (2, "", "install: one word is wanted: tools/install PREFIX\n")
+        yield f"install {words}", None if (ended.code, ended.output, ended.line) == wanted else f"wrote {ended.line!r}"
+    with tempfile.TemporaryDirectory() as folder:
+        prefix = Path(folder) / "new" / "there"
+        yield "install", told(run([f"{prefix}/"], "", program=tool), 0, "", "".join(f"install: {prefix}/{name}\n" for name in FILES))
+        yield "the installed program", told(run(["lab"], "isis-lab 2\n", program=prefix / FILES[0]), 3, "line 1 head", "")
+        yield "the manual page", "; ".join(page_faults(prefix / FILES[1])) or None
+        for line, wanted in COMPLETIONS.items():
+            got = completed(prefix, line)
+            yield f"completion of {line!r}", None if got == wanted else f"offers {got}, wanted {wanted}"

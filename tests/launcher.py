@@ -1,0 +1,121 @@
+"""The launcher where nothing is built: in a folder of its own, with a stand-in for `rt` that lays a program there."""
+import os
+import pty
+import re
+import shutil
+import signal
+import subprocess
+import tempfile
+import time
+from pathlib import Path
+
+from limits import told
+
+LAUNCHER = Path(__file__).resolve().parent.parent / "isis"
+CRATES = "# below: low, middle\nlow:\nbeside: low\nmiddle: kit low\nisis_daemon: middle\n"
+# It tells of proofs as rt does: `low` was proved before, so it isn't told of. Files beside the launcher say what goes otherwise.
+RT = """#!/usr/bin/env bash
+case $1 in
+version) echo "rattle-kit-0 logic 0" ;;
+try) echo "$*" && cat && [ ! -e ../../status ] || exit "$(cat ../../status)" ;;
+run)
+    echo "rt: chose --jobs 2 for middle" && echo "fn middle::f: proved" && touch ../../begun
+    [ ! -e ../../slow ] || exec sleep "$(cat ../../slow)"
+    [ ! -e ../../broken ] || { echo "fn middle::g: not proved" && exit 1; }
+    echo "crate middle: modules loaded=1 checked=1" && echo "logic=proved functions=1"
+    mkdir -p out && printf '#!/bin/sh\\necho "$@" && cat\\n' > out/isis_daemon && chmod +x out/isis_daemon
+    echo "isis: line 1 head" && exit 3 ;;
+esac
+"""
+BEGUN = "isis: proving and building the program; the first time this takes about 40 minutes on four processors\n"
+
+
+class Clone:
+    """A folder with the launcher, without a program, and the stand-in."""
+
+    def __init__(self, folder):
+        self.folder = Path(folder)
+        (self.folder / "bin").mkdir()
+        (self.folder / "crates" / "isis_daemon" / "src").mkdir(parents=True)
+        (self.folder / "crates.txt").write_text(CRATES)
+        self.program = shutil.copy(LAUNCHER, self.folder / "isis")
+        (self.folder / "bin" / "rt").write_text(RT)
+        (self.folder / "bin" / "rt").chmod(0o755)
+        self.environment = {**os.environ, "PATH": f"{self.folder}/bin:{os.environ['PATH']}"}
+
+    def put(self, name, text):
+        (self.folder / name).write_text(text)
+
+    def is_built(self):
+        return (self.folder / "crates" / "isis_daemon" / "out").exists()
+
+
+def answered(run, clone):
+    """What is answered without a build."""
+    start = lambda words, text="": run(words, text, program=clone.program, env=clone.environment)
+    for words in (["foo"], ["grid"], ["grid", "9"], ["lab", "lab"], [""], [b"\xff"], ["--version", "lab"], ["--unproved"], ["--unproved", "foo"]):
+        yield f"unbuilt: {words}", told(start(words), 2, "usage", "")
+    yield "unbuilt: --version", told(start(["--version"]), 0, "", "isis unknown, rattle-kit-0 logic 0\n")
+    line = "nothing is proved of this run; it is built for itself and checked as it goes, which is slow"
+    yield "unbuilt: --unproved", told(start(["--unproved", "lab"], "a script\n"), 0, line, "try -- lab\na script\n")
+    yield "unbuilt: --unproved grid", told(start(["--unproved", "grid", "8"], "a script\n"), 0, line, "try -- grid 8\n")
+    folder = os.open(clone.folder, os.O_RDONLY)
+    ended = run(["--unproved", "show"], "", program=clone.program, env=clone.environment, stdin=folder)
+    yield "unbuilt: --unproved and a folder as input", told(ended, 4, "read fault", "")
+    os.close(folder)
+    clone.put("status", "3")
+    yield "unbuilt: --unproved and another code", told(start(["--unproved", "lab"]), 3, line, "try -- lab\n")
+    yield "unbuilt: nothing was built", "something was" if clone.is_built() else None
+
+
+def built(run, clone):
+    """A build that fails, one that is stopped, and one that passes, each told of."""
+    start = lambda **how: run(["grid", "2"], "text\n", program=clone.program, env=clone.environment, **how)
+    clone.put("broken", "")
+    wanted = BEGUN + "rt: chose --jobs 2 for middle\nfn middle::f: proved\nfn middle::g: not proved\nisis: the program can't be built\n"
+    ended = start()
+    yield "a build that fails", None if (ended.code, ended.line, ended.output) == (1, wanted, "") else f"wrote {ended.line!r}"
+    (clone.folder / "broken").unlink()
+    clone.put("slow", "60")
+    for number, code in ((signal.SIGTERM, 143), (signal.SIGINT, 130)):
+        yield f"a build that {number.name} stops", stopped(clone, number, code)
+    clone.put("slow", "2")
+    yield "a build on a terminal", seen(clone)
+    (clone.folder / "slow").unlink()
+    ended = start()
+    yield "a build", None if (ended.code, ended.line, ended.output) == (0, BEGUN + "isis: built\n", "grid 2\ntext\n") else f"wrote {ended.line!r}"
+    yield "a program that is built", told(start(), 0, "", "grid 2\ntext\n")
+
+
+def stopped(clone, number, code):
+    """What is other than it should be where a signal stops a build. SIGINT comes as from a terminal, to all of the group."""
+    how = {"stdin": subprocess.DEVNULL, "stderr": subprocess.PIPE, "env": clone.environment, "start_new_session": True}
+    begun = clone.folder / "begun"
+    begun.unlink()
+    with subprocess.Popen([clone.program, "lab"], **how) as ran:
+        while not begun.exists():
+            time.sleep(0.1)
+        time.sleep(0.5)
+        (os.killpg if number == signal.SIGINT else os.kill)(ran.pid, number)
+        line = ran.stderr.read().decode()
+    wanted = BEGUN + "isis: stopped; 1 of 3 crates stay proved, and the next call goes on from there\n"
+    return None if (ran.returncode, line) == (code, wanted) else f"ended with {ran.returncode}, wrote {line!r}"
+
+
+def seen(clone):
+    """What is other than it should be on a terminal: the line that is written over."""
+    near, far = pty.openpty()
+    subprocess.run([clone.program, "lab"], stdin=subprocess.DEVNULL, stderr=far, env=clone.environment, timeout=60, check=False)
+    os.close(far)
+    text = os.read(near, 65536).decode()
+    os.close(near)
+    line = r"\r\x1b\[Kisis: 1 of 3 crates proved in \d+:\d\d; middle in work for \d+:\d\d"
+    return None if re.search(line, text) else f"wrote {text!r}"
+
+
+def faults(run):
+    """Each of these runs by name, and what comes out otherwise than it should, if anything does."""
+    with tempfile.TemporaryDirectory() as folder:
+        clone = Clone(folder)
+        yield from answered(run, clone)
+        yield from built(run, clone)
