@@ -20,17 +20,6 @@ impl Book {
         self.known(id).key
     }
 
-    /// A second less of what each entry has left, where that isn't 0 (ISO 10589 7.3.16.3). It
-    /// purges and erases nothing.
-    pub fn age_entries(&mut self)
-        ensures book { book_of self.new ≡ less_left (book_of self.old) }
-        ensures rises { RisesFrom 0 (book_of self.old).cells }
-        ensures rest { SameCircuits self.old self.new }
-        ensures spare { self.new.store.spare ≡ self.old.store.spare }
-    {
-        let _first = self.age_first_over();
-    }
-
     /// A second less of what each entry has left, where that isn't 0 (ISO 10589 7.3.16.3), and the
     /// first LSP ID whose entry has none left then. It is one walk, and purges and erases nothing.
     pub fn age_first_over(&mut self) -> Option<LspId>

@@ -2,3 +2,4 @@
 mod GridLemmas
 pub mod HeadlineLemmas
 pub mod ShowLemmas
+mod TakenLemmas

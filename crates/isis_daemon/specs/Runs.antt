@@ -1,6 +1,6 @@
 -- How a run of the program ends (own).
-use Rattle.std.specs.Prelude.{◌≡◌, ℕ, ◌<◌, ◌≤◌, List, [], length, Option, Some, IfSome, Result, Ok, Err, IsOk, IsOkAnd, ◌⊎◌}
-use Rattle.isis_edge.specs.Told.{Wrote, TellsSame}
+use Rattle.std.specs.Prelude.{◌≡◌, ℕ, ◌+◌, ◌<◌, ◌≤◌, List, [], length, Option, Some, IfSome, Result, Ok, Err, IsOk, IsOkAnd, ◌⊎◌}
+use Rattle.isis_edge.specs.Told.{Took, Wrote, TellsSame}
 use Rattle.lab_script.specs.declared.reason.ScriptFault.{ScriptFault}
 use Rattle.lab_script.specs.declared.reason.ScriptFault.TheVariants.{Refused, Limit}
 use Rattle.lab_script.specs.Scripts.{◌>>=◌, script_of}
@@ -24,6 +24,11 @@ IsTextOf Show input text = text ≡ shown_text input
 abbrev pub outcome : Command → List ℕ → Result (Unit {0}) ScriptFault
 outcome Lab input = script_of input >>= λ script. outcome_of script
 outcome Show input = Ok tt
+
+-- of the input no more was taken than its first octets, at most one more than it may have
+abbrev pub IsTakenWithin : (before now : Option (List ℕ)) → Type 0
+IsTakenWithin before now =
+    (octets : List ℕ) × (length octets ≤ input_limit + 1) × Took before now octets
 
 -- the input wasn't too long, and was read to its end
 abbrev pub IsReadWhole : List ℕ → Option (List ℕ) → Type 0

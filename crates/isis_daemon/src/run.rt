@@ -6,7 +6,7 @@ ghost use Rattle.lab_grid.specs.GridRuns.{grid_end};
 ghost use Rattle.isis_daemon.specs.Commands.{command_of, grid_size_of, AreNone};
 ghost use Rattle.isis_daemon.specs.GridEnds.{GridEnds};
 ghost use Rattle.isis_daemon.specs.Headline.{IsHeadline, IsGridHeadline};
-ghost use Rattle.isis_daemon.specs.Runs.{input_limit, Ends, IsTaken, IsDoneUnlessMemory};
+ghost use Rattle.isis_daemon.specs.Runs.{input_limit, Ends, IsTaken, IsTakenWithin, IsDoneUnlessMemory};
 
 use crate::command::{Command, command_of, grid_size_of};
 use crate::grid::grid;
@@ -17,7 +17,7 @@ use lab_text::{read_script, run_script};
 use std::alloc::Global;
 
 /// Runs the program: the words after its name, its input and its output, which is handed back. The words are
-/// tested first, then the input is read. Of `lab` it is a script, which is read and played, and at last the report is
+/// tested first, then the input is read, of which at most 16,777,217 octets are taken. Of `lab` it is a script, which is read and played, and at last the report is
 /// written; of `show` it is shown line by line. At `grid N` no input is read: the script of a grid is run, and its
 /// summary is written.
 ///
@@ -28,6 +28,7 @@ use std::alloc::Global;
 /// that sweeps it, whatever they let go; and what is held under one number has the same contents, unless the LSP ID is
 /// doubled. Each `route` line is the best route over that router's own databases. At `grid N` and status 0 the same
 /// holds of the grid's script.
+#[tactic(auto, using(crate::proofs::TakenLemmas::taken_none))]
 pub fn run<I: Source, O: Sink>(
     alloc: Global,
     words: &[String],
@@ -39,6 +40,7 @@ pub fn run<I: Source, O: Sink>(
         → (I.left input.new ≡ I.left input.old) × (I.faults input.new ≡ I.faults input.old) × (result.0 ≡ output) }
     ensures ends { IfSome (command_of (map string_bytes words.now))
         (λ command. Ends command (I.left input.old) (I.left input.new) (O.held output) (O.held result.0) result.1) }
+    ensures taken { IsTakenWithin (I.left input.old) (I.left input.new) }
     ensures headline { result.1 ≡ Status.Done
         → command_of (map string_bytes words.now) ≡ Some Command.Lab
         → IfSome (I.left input.old) (λ octets. IsHeadline octets (O.held output) (O.held result.0)) }
@@ -84,6 +86,7 @@ pub(crate) fn execute<I: Source, O: Sink>(
 ) -> Status
     ensures ends { Ends command (I.left input.old) (I.left input.new) (O.held output.old)
         (O.held output.new) result }
+    ensures taken { IsTakenWithin (I.left input.old) (I.left input.new) }
     ensures headline { result ≡ Status.Done → command ≡ Command.Lab
         → IfSome (I.left input.old)
         (λ octets. IsHeadline octets (O.held output.old) (O.held output.new)) }

@@ -1,6 +1,7 @@
 //! An ordered map from LSP IDs, in pages.
 ghost use Rattle.std.specs.Prelude.{◌≡◌, ℕ, ◌+◌, ◌<◌, ◌≤◌, ◌-◌, ◌^◌, ◌⊎◌, [], length, max, OnOk, OnErr, IfOk, IfErr, IsOk, IsSome, MatchOption, None, Some, vec_len, vec_capacity};
-ghost use Rattle.isis_base.specs.Identifiers.{lsp_number};
+ghost use Rattle.std.specs.List.{AllByRecursion};
+ghost use Rattle.isis_base.specs.Identifiers.{IsId, lsp_number};
 ghost use Rattle.lsp_store.specs.Maps.{RisesFrom, find, put, erase, between, from, change_at, change_all, first_where};
 ghost use Rattle.lsp_store.specs.Places.{AllFilled, AllEmpty, HasRoom, flatten};
 ghost use Rattle.lsp_store.specs.PageMaps.{with_put, without};
@@ -15,6 +16,7 @@ use crate::pairs::Pairs;
 use crate::places::{home_near, search_near, value_at};
 use crate::range::{PageRange, pairs_from, range_of};
 use crate::rooms::{claim, fill_pool, pages_for};
+use isis_base::laws::lsp_id_law;
 use isis_base::{LspId, OutOfMemory};
 use std::alloc::Global;
 use std::marker::Model;
@@ -61,10 +63,12 @@ impl<T: Drop> Pages<T> {
         }
     }
 
-    /// The number of pairs, which are in order of LSP ID, each LSP ID at most once.
+    /// The number of pairs, which are in order of LSP ID, each LSP ID at most once and of eight
+    /// octets.
     pub fn len(&self) -> usize
         ensures same { result ≡ length self.now.entries }
         ensures rises { RisesFrom 0 self.now.entries }
+        ensures ids { AllByRecursion (λ pair. IsId pair.0) self.now.entries }
     {
         self.len
     }
@@ -133,6 +137,7 @@ impl<T: Drop> Pages<T> {
         ensures spared { 0 < self.old.spare → IsOk result }
         ensures held { IsSome (find self.old.entries (lsp_number id)) → IsOk result }
     {
+        lsp_id_law(id);
         match search_near(&self.pages, self.near, id.to_number()) {
             Ok(at) => {
                 self.near = at.0;

@@ -3,6 +3,7 @@ ghost use Rattle.std.specs.Prelude.{◌≡◌, ◌<◌, ◌++◌, [], length, dr
 ghost use Rattle.lsp_store.specs.Maps.{from, upto, RisesFrom};
 ghost use Rattle.lsp_store.specs.Places.{AllFilled, IsStart, flatten};
 
+use crate::entry::Entry;
 use crate::page::Page;
 use crate::pairs::Pairs;
 use crate::places::search;
@@ -45,6 +46,37 @@ impl<'a, T> Iterator for PageRange<'a, T> {
             return None;
         }
         Some((id, value))
+    }
+}
+
+/// The entries of a database from one LSP ID to another, in order. Contracts see those that are left.
+#[derive(Drop)]
+pub struct Range<'a> {
+    pub(crate) walk: PageRange<'a, Entry>,
+}
+
+impl<'a> Model for Range<'a> {
+    ghost use Rattle.std.specs.Prelude.{List};
+    ghost use Rattle.isis_base.specs.declared.identifiers.LspId.{LspId};
+    ghost use Rattle.lsp_store.specs.declared.entry.Entry.{Entry};
+
+    ghost Value = { List (LspId × Entry) };
+
+    ghost view = { λ r. r.walk };
+}
+
+impl<'a> Iterator for Range<'a> {
+    ghost use Rattle.std.specs.Iterator.{YieldsFirstBy, item_count};
+    ghost use Rattle.lsp_store.specs.Maps.{pair_of};
+
+    type Item = (LspId, &'a Entry);
+
+    ghost next_gives = { YieldsFirstBy pair_of (λ rest. rest) };
+
+    ghost remaining = { item_count (λ rest. rest) };
+
+    fn next(&mut self) -> Option<(LspId, &'a Entry)> {
+        self.walk.next()
     }
 }
 

@@ -1,6 +1,7 @@
 //! One level's link state database.
 ghost use Rattle.std.specs.Prelude.{◌≡◌, ℕ, ◌+◌, ◌<◌, ◌≤◌, [], length, max, OnOk, OnErr, IfOk, IfErr, IsOk, IsSome, MatchOption, None, Some, Err, true, false, ◌⊎◌, ◌-◌, ◌^◌};
-ghost use Rattle.isis_base.specs.Identifiers.{lsp_number};
+ghost use Rattle.std.specs.List.{AllByRecursion};
+ghost use Rattle.isis_base.specs.Identifiers.{IsId, lsp_number};
 ghost use Rattle.lsp_store.specs.Maps.{RisesFrom, find, between, change_all, first_where};
 ghost use Rattle.lsp_store.specs.declared.fault.StoreFault.TheVariants.{Full, OutOfMemory};
 ghost use Rattle.lsp_store.specs.Databases.{count_after, key_of, with_entry, without_entry, with_change, one_less, is_over, PutCause, ReserveCause, is_live, is_live_key, live_of};
@@ -11,7 +12,7 @@ use crate::fault::StoreFault;
 use crate::live::Live;
 use crate::noting::Noting;
 use crate::pages::Pages;
-use crate::range::PageRange;
+use crate::range::Range;
 use isis_base::{Key, LspId, Order3, OutOfMemory, newer};
 use std::alloc::Global;
 use std::marker::Model;
@@ -92,11 +93,13 @@ impl Store {
         }
     }
 
-    /// The number of entries: at most 65,536, in order of LSP ID, and each LSP ID at most once.
+    /// The number of entries: at most 65,536, in order of LSP ID, and each LSP ID at most once and
+    /// of eight octets.
     pub fn len(&self) -> usize
         ensures same { result ≡ length self.now.entries }
         ensures most { result ≤ 65536 }
         ensures rises { RisesFrom 0 self.now.entries }
+        ensures ids { AllByRecursion (λ pair. IsId pair.0) self.now.entries }
     {
         self.pages.len()
     }
@@ -200,10 +203,12 @@ impl Store {
     }
 
     /// The entries from one LSP ID to another, both included, in order.
-    pub fn range(&self, start: LspId, end: LspId) -> PageRange<'_, Entry>
+    pub fn range(&self, start: LspId, end: LspId) -> Range<'_>
         ensures { result ≡ between (lsp_number start) (lsp_number end) self.now.entries }
     {
-        self.pages.range(start, end)
+        Range {
+            walk: self.pages.range(start, end),
+        }
     }
 
     /// The entries with a key that isn't purged, in order.
@@ -222,14 +227,6 @@ impl Store {
         let before = self.key(id);
         self.pages.change(id, change);
         self.changes = recount(self.changes, before, self.key(id));
-    }
-
-    /// A second less of what each entry has left, where that isn't 0 (ISO 10589 7.3.16.3).
-    pub fn age(&mut self)
-        ensures { self.new
-            ≡ record self.old { entries = change_all one_less self.old.entries } }
-    {
-        let _first = self.age_first_over();
     }
 
     /// A second less of what each entry has left, where that isn't 0 (ISO 10589 7.3.16.3), and the

@@ -143,11 +143,17 @@ pub(crate) fn joined_all(
     while let [member, more @ ..] = left {
         let joined = match joined_at(alloc, configs, ports, *member, link, kind, metric) {
             Ok(joined) => joined,
-            Err(error) => return Err(error),
+            Err(error) => {
+                drop(list);
+                return Err(error);
+            }
         };
         match list.push(joined) {
             Ok(()) => {}
-            Err(_) => return Err(OutOfMemory),
+            Err(_) => {
+                drop(list);
+                return Err(OutOfMemory);
+            }
         }
         left = more;
     }

@@ -1,7 +1,8 @@
 -- A sender's datagrams, and lists of them.
-use Rattle.std.proofs.Common.{◌≡◌, ℕ, zero, suc, ◌+◌, ◌-◌, ◌<◌, ◌≤◌, ◌==◌, ◌&&◌, nat_le, Bool, true, false, if◌then◌else◌, List, [], ◌∷◌, ◌++◌, length, map, take, drop, Option, Some, Result, Ok, Err, OnOk, refl, sym, ap, ap₂, ◌∙◌, subst, arith, append_assoc}
+use Rattle.std.proofs.Common.{◌≡◌, ℕ, zero, suc, ◌+◌, ◌-◌, ◌<◌, ◌≤◌, ◌==◌, ◌&&◌, nat_le, Bool, true, false, if◌then◌else◌, List, [], ◌∷◌, ◌++◌, length, map, take, drop, Vec, Option, Some, Result, Ok, Err, OnOk, refl, sym, ap, ap₂, ◌∙◌, subst, arith, append_assoc}
 use Rattle.std.proofs.lemmas.Bool.Decides.{nat_tests}
 use Rattle.std.specs.List.{AllByRecursion}
+use Rattle.std.specs.declared.alloc.Global.{Global}
 use Rattle.isis_base.specs.declared.level.Level.{Level}
 use Rattle.isis_base.specs.declared.level.Level.TheVariants as level
 use Rattle.isis_base.specs.declared.entry.LspEntry.{LspEntry}
@@ -94,9 +95,9 @@ length-entries [] = refl
 length-entries (e ∷ es) = ap suc (length-entries es)
 
 -- so have lists that are those
-pub few-lists : (xs : List (List LspEntry)) → AllByRecursion (λ (p : List SnpEntry). length p ≤ 75) (lists_of xs) → AllByRecursion (λ (p : List LspEntry). length p ≤ 75) xs
+pub few-lists : (xs : List (Vec LspEntry Global)) → AllByRecursion (λ (p : List SnpEntry). length p ≤ 75) (lists_of xs) → AllByRecursion (λ (p : Vec LspEntry Global). length p.items ≤ 75) xs
 few-lists [] a = tt
-few-lists (x ∷ xs) a = (let h = a.0 in let e = length-entries x in omega (arith, h, e), few-lists xs a.1)
+few-lists (x ∷ xs) a = (let h = a.0 in let e = length-entries x.items in omega (arith, h, e), few-lists xs a.1)
 
 abbrev entries-in : List Sent → List SnpEntry
 entries-in [] = []

@@ -3,22 +3,24 @@ ghost use Rattle.std.specs.Prelude.{◌≡◌, ◌-◌, true, IfOk};
 ghost use Rattle.router_desk.specs.Desks.{desk_of};
 ghost use Rattle.router_desk.specs.Opening as opening;
 ghost use Rattle.router_desk.specs.Opening.{IsOpenedBy};
-ghost use Rattle.router_reading.specs.Heard.{message_of};
+ghost use Rattle.router_reading.specs.Heard.{message_of, range_of};
 ghost use Rattle.isis_model.specs.Routers.{Router, book_of};
 ghost use Rattle.isis_base.specs.Identifiers.{lsp_number};
 ghost use Rattle.isis_model.specs.Books.{cell_at};
+ghost use Rattle.isis_model.specs.Events as model;
+ghost use Rattle.isis_model.specs.Numbers.{snpa_number, system_number};
 ghost use Rattle.isis_model.specs.SnpTable.{snp_case};
 ghost use Rattle.isis_model.specs.declared.whose.Whose.{Whose};
 ghost use Rattle.flag_sync.specs.BookStates.{book_of as state_of};
-ghost use Rattle.flag_sync.specs.Heard.{entries_of, entry_of};
-ghost use Rattle.router_core.specs.Calm.{AreClear, is_calm_answer, is_calm_entry, IsCalm, IsCalmMessage, IsKnown};
+ghost use Rattle.flag_sync.specs.Heard.{entries_of, entry_of, heard_of};
+ghost use Rattle.router_core.specs.Calm.{AreClear, is_calm_answer, is_calm_entry, IsCalm, IsCalmOn, IsKnown};
 ghost use Rattle.router_core.specs.Settled.{IsAside, IsGreeting, IsNoHello, IsPointHello};
 ghost use Rattle.router_core.specs.Events.{change_of, event_of, Fits, IsThere};
 
 use crate::event::NodeEvent;
 use crate::machine::Machine;
-use flag_sync::{Book, LspAnswer};
-use isis_base::{Level, LspEntry, Order3, OutOfMemory, newer};
+use flag_sync::{Book, LspAnswer, LspHeard};
+use isis_base::{Level, LspEntry, LspId, Order3, OutOfMemory, Snpa, SystemId, newer};
 use router_desk::{Change, Opened};
 use router_reading::laws::numbered_law;
 use router_reading::{Heard, hear};
@@ -35,8 +37,8 @@ pub(crate) struct Known {
 }
 
 impl Machine {
-    /// What is known of an event. What is sent, hellos, LSPs that aren't newer than what is held, sequence number
-    /// PDUs that outbid and purge nothing, metrics and overload change no key.
+    /// What is known of an event. What is sent, what is dropped, hellos, LSPs that aren't newer than what is held,
+    /// sequence number PDUs that outbid and purge nothing, metrics and overload change no key.
     pub(crate) fn known_of(&self, event: &NodeEvent) -> Result<Known, OutOfMemory>
         requires { Fits self.now event.now }
         ensures { IfOk result (λ known. IsKnown known
@@ -60,7 +62,8 @@ impl Machine {
         requires there { IsThere self.now opened.now.circuit }
         requires opened { IsOpenedBy (desk_of self.now.config self.now.circuits) opened.now }
         ensures { IfOk result (λ known. IsKnown known
-            (IsCalmMessage self.now (opening.message_of self.now.config.system opened.now.seen))
+            (IsCalmOn self.now (opened.now.circuit - 1)
+            (opening.message_of self.now.config.system opened.now.seen))
             (IsNoHello (opening.message_of self.now.config.system opened.now.seen))
             (IsPointHello (opening.message_of self.now.config.system opened.now.seen))) }
     {
@@ -71,38 +74,71 @@ impl Machine {
             Err(_) => return Ok(ASIDE),
         };
         let heard = hear(self.alloc, self.desk.system(), &seen)?;
-        Ok(self.known_of_heard(&heard))
+        Ok(self.known_of_heard(opened.circuit(), &heard))
     }
 
     /// What is known of what is heard.
-    fn known_of_heard(&self, heard: &Heard<'_>) -> Known
-        ensures { IsKnown result (IsCalmMessage self.now (message_of heard.now))
+    fn known_of_heard(&self, circuit: u8, heard: &Heard<'_>) -> Known
+        requires { IsThere self.now circuit }
+        ensures { IsKnown result (IsCalmOn self.now (circuit - 1) (message_of heard.now))
             (IsNoHello (message_of heard.now)) (IsPointHello (message_of heard.now)) }
     {
         match heard {
             Heard::PointHello(_) => GREETING,
             Heard::LanHello(_, _) => HELLO,
-            Heard::Lsp {
-                level,
-                snpa: _,
-                lsp,
-            } => Known {
-                calm: is_calm_row(self.level(*level).lsp_case(self.desk.system(), lsp)),
+            Heard::Lsp { level, snpa, lsp } => Known {
+                calm: self.is_calm_lsp(circuit, *level, *snpa, lsp),
                 aside: true,
                 greets: false,
             },
             Heard::Snp {
                 level,
-                snpa: _,
-                source: _,
-                range: _,
+                snpa,
+                source,
+                range,
                 entries,
             } => Known {
-                calm: self.are_clear(*level, entries.as_slice()),
+                calm: self.is_calm_snp(circuit, *level, (*snpa, *source), *range, entries),
                 aside: true,
                 greets: false,
             },
         }
+    }
+
+    /// Whether an LSP isn't newer than what is held, or is dropped.
+    fn is_calm_lsp(&self, circuit: u8, level: Level, snpa: Snpa, lsp: &LspHeard<'_>) -> bool
+        requires { IsThere self.now circuit }
+        ensures { result ≡ true → IsCalmOn self.now (circuit - 1)
+            (model.LspHeard level (snpa_number snpa) (heard_of lsp.now)) }
+    {
+        if is_calm_row(self.level(level).lsp_case(self.desk.system(), lsp)) {
+            return true;
+        }
+        self.lsp_cause(circuit, level, snpa, lsp).is_some()
+    }
+
+    /// Whether a sequence number PDU is dropped, or no entry of it changes a key.
+    fn is_calm_snp(
+        &self,
+        circuit: u8,
+        level: Level,
+        from: (Snpa, SystemId),
+        range: Option<(LspId, LspId)>,
+        entries: &[LspEntry],
+    ) -> bool
+        requires { IsThere self.now circuit }
+        ensures { result ≡ true → IsCalmOn self.now (circuit - 1)
+            (model.SnpHeard level (snpa_number from.0) (system_number from.1) (range_of range)
+            (entries_of entries.now)) }
+    {
+        let (snpa, source) = from;
+        if self
+            .snp_cause(circuit, level, snpa, source, range.is_none())
+            .is_some()
+        {
+            return true;
+        }
+        self.are_clear(level, entries)
     }
 
     /// Whether no entry of a sequence number PDU changes a key.

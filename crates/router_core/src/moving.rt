@@ -23,7 +23,6 @@ use lsp_store::Store;
 use router_desk::Opened;
 use router_reading::laws::numbered_law;
 use router_reading::{Heard, hear};
-use router_routes::ids_law;
 
 /// A node that will tell other LSPs in a level: these, and no others.
 #[derive(Drop)]
@@ -98,7 +97,6 @@ impl Machine {
         }
         let store = book.store();
         let _entries = store.len();
-        ids_law(store);
         let id = lsp.entry.id;
         lsp_id_law(id);
         let entry = entry_heard(self.alloc, lsp)?;

@@ -186,14 +186,24 @@ impl Router {
     {
         reached_laws();
         let mut machine = self.machine.copy()?;
-        let reply = machine.step(event, &self.following)?;
+        let reply = match machine.step(event, &self.following) {
+            Ok(reply) => reply,
+            Err(error) => {
+                drop(machine);
+                return Err(error);
+            }
+        };
         match machine.follow_routes(&mut self.following, &self.machine, event) {
             Ok(()) => {
                 self.machine = machine;
                 self.marks = Marks::none();
                 Ok(reply)
             }
-            Err(error) => Err(error),
+            Err(error) => {
+                drop(machine);
+                drop(reply);
+                Err(error)
+            }
         }
     }
 

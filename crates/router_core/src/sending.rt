@@ -1,6 +1,7 @@
 //! What a level sends on a circuit: its CSNP set, its LSPs and its PSNPs, as datagrams.
-ghost use Rattle.std.specs.Prelude.{◌≡◌, ◌≤◌, ◌<◌, ◌-◌, ◌++◌, ◌∷◌, [], ℕ, List, length, true, OnOk};
+ghost use Rattle.std.specs.Prelude.{◌≡◌, ◌≤◌, ◌<◌, ◌-◌, ◌++◌, ◌∷◌, [], ℕ, List, Vec, length, true, OnOk};
 ghost use Rattle.std.specs.List.{AllByRecursion};
+ghost use Rattle.std.specs.declared.alloc.Global.{Global};
 ghost use Rattle.isis_base.specs.Identifiers.{lsp_number};
 ghost use Rattle.isis_model.specs.Cells.{Cell};
 ghost use Rattle.isis_model.specs.Datagrams as sent;
@@ -21,7 +22,7 @@ use flag_sync::{Book, FlagRow};
 use isis_base::{Level, LspEntry, OutOfMemory};
 use lsp_store::Entry;
 use pdu_sender::{Sender, csnp, lsp, psnp};
-use snp_exchange::{Entries, EntryWalk, PieceWalk, csnp_pieces, psnp_lists};
+use snp_exchange::{EntryWalk, PieceWalk, csnp_pieces, psnp_lists};
 use std::alloc::Global;
 
 /// The most entries of a CSNP.
@@ -192,10 +193,10 @@ fn put_lists(
     alloc: Global,
     sender: &Sender<'_>,
     level: Level,
-    lists: &[Entries],
+    lists: &[Vec<LspEntry>],
 ) -> Result<(), OutOfMemory>
     requires here { 1 ≤ sender.now.circuit }
-    requires few { AllByRecursion (λ (list : List LspEntry). length list ≤ 75) lists.now }
+    requires few { AllByRecursion (λ (list : Vec LspEntry Global). length list.items ≤ 75) lists.now }
     ensures { OnOk result (out.new ≡ out.old
         ++ all_octets sender.now (model.psnps level (pieces.lists_of lists.now))) }
 {
@@ -216,13 +217,13 @@ fn put_list(
     alloc: Global,
     sender: &Sender<'_>,
     level: Level,
-    entries: &Entries,
+    entries: &[LspEntry],
 ) -> Result<(), OutOfMemory>
     requires here { 1 ≤ sender.now.circuit }
     requires few { length entries.now ≤ 75 }
     ensures { OnOk result (out.new ≡ out.old
         ++ octets_of sender.now (sent.Psnp level (entries_of entries.now)) ∷ []) }
 {
-    let octets = psnp(alloc, sender, level, entries.as_slice())?;
+    let octets = psnp(alloc, sender, level, entries)?;
     out.push(octets)
 }

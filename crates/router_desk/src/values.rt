@@ -11,11 +11,14 @@ use isis_tlv::{Item, Items, Tlv, Tlvs, ValueFault, areas, entries, snpas, three_
 
 /// The place in the PDU of the first item that must be read and doesn't fit: area addresses, SNPAs
 /// and three-way values of a hello, entries of a sequence numbers PDU. `tlvs` are the octets
-/// behind the header.
+/// behind the header. Of an LSP nothing must be read, so it is answered at once.
 #[tactic(auto, unfolding(crate::specs::Values::value_place))]
 pub(crate) fn value_place(kind: PduKind, tlvs: &[u8]) -> Option<usize>
     ensures { result ≡ value_place kind tlvs.now }
 {
+    if let PduKind::Lsp(_) = kind {
+        return None;
+    }
     let Some(tlv) = faulty_tlv(kind, tlvs) else {
         return None;
     };

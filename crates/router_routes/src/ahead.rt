@@ -13,7 +13,7 @@ ghost use Rattle.router_routes.specs.Moved.{IsMovedAt, HaveIds, AreFit, AreCosts
 use crate::candidates::{runs_one, runs_two};
 use crate::differences::rows_apart;
 use crate::following::{Following, Reached, all_reached, change, made};
-use crate::lent::{Lent, ids_law};
+use crate::lent::Lent;
 use crate::near::{graph_near, touching};
 use crate::same::same_candidates;
 use crate::view::{View, as_moved};
@@ -46,8 +46,7 @@ impl Following {
             return Ok(None);
         }
         let store = store_at(lent, level);
-        ids_law(store);
-        ids_law(aside);
+        let (_ids, _aside_ids) = (store.len(), aside.len());
         let moved = level_moved(self.alloc, self.repaired(level), store, node, aside)?;
         let view = as_moved(lent, level, node, aside);
         match level {

@@ -1,8 +1,4 @@
 //! What of a router routes look at.
-ghost use Rattle.std.specs.List.{AllByRecursion};
-ghost use Rattle.isis_base.specs.Identifiers.{IsId};
-
-use isis_base::laws::lsp_id_law;
 use isis_base::{AreaAddress, LevelSet, Prefix, SystemId};
 use lsp_store::Store;
 
@@ -16,13 +12,4 @@ pub struct Lent<'a> {
     pub prefixes: &'a [(Prefix, u32)],
     pub one: &'a Store,
     pub two: &'a Store,
-}
-
-/// The LSP IDs of a database have eight octets. It does nothing.
-pub fn ids_law(store: &Store)
-    ensures { AllByRecursion (λ pair. IsId pair.0) store.now.entries }
-{
-    for (id, _) in store.pages().pairs() {
-        lsp_id_law(id);
-    }
 }

@@ -1,5 +1,6 @@
 -- Pieces of 75, filled one entry after another, as the definitions cut them.
-use Rattle.std.proofs.Common.{◌≡◌, Bool, true, false, if◌then◌else◌, ℕ, zero, suc, ◌+◌, ◌≤◌, ◌<◌, eqb, nat_lt, nat_le, List, [], ◌∷◌, ◌++◌, length, take, drop, refl, sym, ap, ap₂, ◌∙◌, subst, arith}
+use Rattle.std.proofs.Common.{◌≡◌, Bool, true, false, if◌then◌else◌, ℕ, zero, suc, ◌+◌, ◌≤◌, ◌<◌, eqb, nat_lt, nat_le, List, [], ◌∷◌, ◌++◌, length, take, drop, Vec, refl, sym, ap, ap₂, ◌∙◌, subst, arith}
+use Rattle.std.specs.declared.alloc.Global.{Global}
 use Rattle.std.proofs.lemmas.Bool.Decides.{nat_tests}
 use Rattle.std.proofs.lemmas.List.{append_assoc, append-nil, length-append}
 use Rattle.std.proofs.Math.Seq.{take-append_seam, drop-append_seam}
@@ -112,9 +113,9 @@ pub sent-append : (level : Level) (xs ys : List Piece) → sent level (xs ++ ys)
 sent-append level [] ys = refl
 sent-append level (x ∷ xs) ys = ap (λ (zs : List Sent). Csnp level (lsp_number x.start) (lsp_number x.end) (entries_of x.entries) ∷ zs) (sent-append level xs ys)
 
-pub lists-append : (xs ys : List (List LspEntry)) → lists_of (xs ++ ys) ≡ lists_of xs ++ lists_of ys
+pub lists-append : (xs ys : List (Vec LspEntry Global)) → lists_of (xs ++ ys) ≡ lists_of xs ++ lists_of ys
 lists-append [] ys = refl
-lists-append (x ∷ xs) ys = ap (λ (zs : List (List SnpEntry)). entries_of x ∷ zs) (lists-append xs ys)
+lists-append (x ∷ xs) ys = ap (λ (zs : List (List SnpEntry)). entries_of x.items ∷ zs) (lists-append xs ys)
 
 -- ---- an entry more
 
@@ -124,12 +125,12 @@ list-more here new said rest e lt =
     let no : eqb (length (entries_of here)) 75 ≡ false = grind (arith, nat_tests, len, lt) in
     rw no (ap (λ (xs : List SnpEntry). listed xs rest) (ap entries_of e ∙ entries-append here (said ∷ [])))
 
-pub list-full : (lists new : List (List LspEntry)) (here : List LspEntry) (said : LspEntry) (rest : List SnpEntry) → new ≡ lists ++ here ∷ [] → length here ≡ 75 → lists_of new ++ listed (entry_of said ∷ []) rest ≡ lists_of lists ++ listed (entries_of here) (entry_of said ∷ rest)
+pub list-full : (lists new : List (Vec LspEntry Global)) (here : Vec LspEntry Global) (said : LspEntry) (rest : List SnpEntry) → new ≡ lists ++ here ∷ [] → length here.items ≡ 75 → lists_of new ++ listed (entry_of said ∷ []) rest ≡ lists_of lists ++ listed (entries_of here.items) (entry_of said ∷ rest)
 list-full lists new here said rest e full =
-    let len = length-entries here in
-    let yes : eqb (length (entries_of here)) 75 ≡ true = grind (arith, nat_tests, len, full) in
+    let len = length-entries here.items in
+    let yes : eqb (length (entries_of here.items)) 75 ≡ true = grind (arith, nat_tests, len, full) in
     ap (λ (xs : List (List SnpEntry)). xs ++ listed (entry_of said ∷ []) rest) (ap lists_of e ∙ lists-append lists (here ∷ []))
-    ∙ append_assoc (lists_of lists) (entries_of here ∷ []) (listed (entry_of said ∷ []) rest) ∙ rw yes refl
+    ∙ append_assoc (lists_of lists) (entries_of here.items ∷ []) (listed (entry_of said ∷ []) rest) ∙ rw yes refl
 
 -- ---- the whole
 
@@ -146,8 +147,8 @@ lists-said xs = listed-all (entries_of xs) ∙ ap (λ (n : ℕ). pieces n (entri
 pub lists-same : (b : Book) (place : ℕ) (xs : List LspEntry) → entries_of xs ≡ owed place b → listed [] (entries_of xs) ≡ pieces (length (owed place b)) (owed place b)
 lists-same b place xs e = ap (listed []) e ∙ listed-all (owed place b)
 
-pub list-end : (lists new : List (List LspEntry)) (here : List LspEntry) → new ≡ lists ++ here ∷ [] → 0 < length here → lists_of new ≡ lists_of lists ++ listed (entries_of here) []
+pub list-end : (lists new : List (Vec LspEntry Global)) (here : Vec LspEntry Global) → new ≡ lists ++ here ∷ [] → 0 < length here.items → lists_of new ≡ lists_of lists ++ listed (entries_of here.items) []
 list-end lists new here e some =
-    let len = length-entries here in
-    let yes : nat_lt 0 (length (entries_of here)) ≡ true = grind (arith, nat_tests, len, some) in
+    let len = length-entries here.items in
+    let yes : nat_lt 0 (length (entries_of here.items)) ≡ true = grind (arith, nat_tests, len, some) in
     ap lists_of e ∙ lists-append lists (here ∷ []) ∙ rw yes refl

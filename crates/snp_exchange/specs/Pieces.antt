@@ -1,6 +1,7 @@
 -- What is sent of pieces, and of a piece that is still filled (ISO 10589 7.3.15.3, 7.3.15.4; the
 -- form: own).
-use Rattle.std.specs.Prelude.{ℕ, ◌+◌, ◌-◌, ◌^◌, ◌==◌, nat_lt, List, [], ◌∷◌, ◌++◌, length, if◌then◌else◌}
+use Rattle.std.specs.Prelude.{ℕ, ◌+◌, ◌-◌, ◌^◌, ◌==◌, nat_lt, List, [], ◌∷◌, ◌++◌, length, Vec, if◌then◌else◌}
+use Rattle.std.specs.declared.alloc.Global.{Global}
 use Rattle.isis_base.specs.declared.level.Level.{Level}
 use Rattle.isis_base.specs.declared.entry.LspEntry.{LspEntry}
 use Rattle.isis_base.specs.Identifiers.{lsp_number}
@@ -26,9 +27,9 @@ filled level start here (h ∷ rest) =
     else filled level start (here ++ h ∷ []) rest
 
 -- lists of entries, as the definitions have them
-abbrev pub lists_of : List (List LspEntry) → List (List SnpEntry)
+abbrev pub lists_of : List (Vec LspEntry Global) → List (List SnpEntry)
 lists_of [] = []
-lists_of (entries ∷ lists) = entries_of entries ∷ lists_of lists
+lists_of (entries ∷ lists) = entries_of entries.items ∷ lists_of lists
 
 -- the lists of entries that are in a list that is filled, and of those to come
 abbrev pub listed : List SnpEntry → List SnpEntry → List (List SnpEntry)

@@ -8,7 +8,7 @@ ghost use Rattle.flag_sync.specs.Said.{said_owed};
 ghost use Rattle.flag_sync.specs.BookStates.{book_of, IsCircuit};
 ghost use Rattle.snp_exchange.specs.Pieces.{lists_of, listed};
 
-use crate::entries::{Entries, MOST};
+use crate::entries::MOST;
 use flag_sync::Book;
 use isis_base::{LspEntry, OutOfMemory};
 use std::alloc::Global;
@@ -16,7 +16,11 @@ use std::mem;
 
 /// The entries that are owed on a circuit (ISO 10589 7.3.15.4), in order, 75 to a list. An empty
 /// entry is listed with lifetime, number and checksum 0.
-pub fn psnp_lists(alloc: Global, book: &Book, circuit: u8) -> Result<Vec<Entries>, OutOfMemory>
+pub fn psnp_lists(
+    alloc: Global,
+    book: &Book,
+    circuit: u8,
+) -> Result<Vec<Vec<LspEntry>>, OutOfMemory>
     requires { IsCircuit circuit book.now.circuits }
     ensures lists { IfOk result (λ lists. lists_of lists.items ≡ model.pieces
         (length (said_owed (circuit - 1) book.now.store.entries book.now.rows))
@@ -26,7 +30,7 @@ pub fn psnp_lists(alloc: Global, book: &Book, circuit: u8) -> Result<Vec<Entries
         (model.owed (circuit - 1) (book_of book.now))) }
 {
     let mut lists = Vec::new(alloc);
-    let mut entries = Entries::new(alloc);
+    let mut entries = Vec::new(alloc);
     let mut owed = book.said_owed(circuit);
     while let Some(said) = owed.next() {
         match add(&mut lists, &mut entries, alloc, said) {
@@ -38,11 +42,14 @@ pub fn psnp_lists(alloc: Global, book: &Book, circuit: u8) -> Result<Vec<Entries
 }
 
 /// The lists with the one that is filled, where that has an entry.
-fn finish(mut lists: Vec<Entries>, entries: Entries) -> Result<Vec<Entries>, OutOfMemory>
+fn finish(
+    mut lists: Vec<Vec<LspEntry>>,
+    entries: Vec<LspEntry>,
+) -> Result<Vec<Vec<LspEntry>>, OutOfMemory>
     ensures { IfOk result (λ all. lists_of all.items
-        ≡ lists_of lists.items ++ listed (entries_of entries) []) }
+        ≡ lists_of lists.items ++ listed (entries_of entries.items) []) }
 {
-    if entries.len() == 0 {
+    if entries.is_empty() {
         return Ok(lists);
     }
     lists.push(entries)?;
@@ -51,21 +58,23 @@ fn finish(mut lists: Vec<Entries>, entries: Entries) -> Result<Vec<Entries>, Out
 
 /// Adds an entry, to a new list where the one that is filled has 75.
 fn add(
-    lists: &mut Vec<Entries>,
-    entries: &mut Entries,
+    lists: &mut Vec<Vec<LspEntry>>,
+    entries: &mut Vec<LspEntry>,
     alloc: Global,
     said: LspEntry,
 ) -> Result<(), OutOfMemory>
-    requires few { length entries.old ≤ 75 }
+    requires few { length entries.old.items ≤ 75 }
     ensures more { OnOk result ((rest : List SnpEntry)
-        → lists_of lists.new.items ++ listed (entries_of entries.new) rest
-        ≡ lists_of lists.old.items ++ listed (entries_of entries.old) (entry_of said ∷ rest)) }
-    ensures few { OnOk result (length entries.new ≤ 75) }
+        → lists_of lists.new.items ++ listed (entries_of entries.new.items) rest
+        ≡ lists_of lists.old.items ++ listed (entries_of entries.old.items) (entry_of said ∷ rest)) }
+    ensures few { OnOk result (length entries.new.items ≤ 75) }
 {
     if entries.len() < MOST {
-        return entries.push(said);
+        entries.push(said)?;
+        return Ok(());
     }
-    let full = mem::replace(entries, Entries::new(alloc));
+    let full = mem::replace(entries, Vec::new(alloc));
     lists.push(full)?;
-    entries.push(said)
+    entries.push(said)?;
+    Ok(())
 }

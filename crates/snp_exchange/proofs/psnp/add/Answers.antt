@@ -1,5 +1,5 @@
-use Rattle.std.proofs.Common.{◌≡◌, ◌∙◌, ◌++◌, [], ◌∷◌, List, ap, arith}
-use Rattle.std.proofs.lemmas.Result.{on_ok_weaker}
+use Rattle.std.proofs.Common.{◌≡◌, ◌∙◌, ◌++◌, [], ◌∷◌, List, Vec, ap, arith}
+use Rattle.std.specs.declared.alloc.Global.{Global}
 use Rattle.isis_base.specs.declared.entry.LspEntry.{LspEntry}
 use Rattle.isis_model.specs.SnpTable.{SnpEntry}
 use Rattle.flag_sync.specs.Heard.{entries_of}
@@ -11,17 +11,17 @@ pub returns-then-len-lt-MOST-clause-more : goal.returns-then-len-lt-MOST-clause-
 returns-then-len-lt-MOST-clause-more c =
     let test = c.if-len-lt-MOST.true in
     let len = c.len.ensures in
-    on_ok_weaker c.push.result (λ e rest. ap (λ (xs : List (List SnpEntry)). lists_of c.args.lists.now.items ++ xs) (list-more c.args.entries.now c.push.new.self c.args.said rest e (omega (arith, test, len)))) c.push.ensures
+    let whole = c.args.entries.now.ok.0 in
+    λ rest. ap (λ (xs : List (List SnpEntry)). lists_of c.args.lists.now.items ++ xs) (list-more c.args.entries.now.items c.push.new.self.items c.args.said rest c.in_ok-push.ensures.items (omega (arith, test, len, whole)))
 
 pub returns-clause-more : goal.returns-clause-more
 returns-clause-more c =
     let test = c.if-len-lt-MOST.false in
     let len = c.len.ensures in
+    let whole = c.args.entries.now.ok.0 in
     let few = c.requires.few in
-    let none : c.replace-full.new.dest ≡ [] = c.replace-full.ensures.after ∙ c.new.ensures in
-    let lists = c.in_ok-push.ensures.items ∙ ap (λ (x : List LspEntry). c.args.lists.now.items ++ x ∷ []) c.replace-full.ensures.value in
-    on_ok_weaker c.push-3.result
-    (λ e rest.
-    ap (λ (xs : List LspEntry). lists_of c.push-2.new.self.items ++ listed (entries_of xs) rest) (e ∙ ap (λ (xs : List LspEntry). xs ++ c.args.said ∷ []) none)
-    ∙ list-full c.args.lists.now.items c.push-2.new.self.items c.args.entries.now c.args.said rest lists (omega (arith, test, len, few)))
-    c.push-3.ensures
+    let none : c.replace-full.new.dest.items ≡ [] = ap (λ (v : Vec LspEntry Global). v.items) c.replace-full.ensures.after ∙ c.new.ensures.items in
+    let lists = c.in_ok-push-2.ensures.items ∙ ap (λ (v : Vec LspEntry Global). c.args.lists.now.items ++ v ∷ []) c.replace-full.ensures.value in
+    λ rest.
+    ap (λ (xs : List LspEntry). lists_of c.push-2.new.self.items ++ listed (entries_of xs) rest) (c.in_ok-push-3.ensures.items ∙ ap (λ (xs : List LspEntry). xs ++ c.args.said ∷ []) none)
+    ∙ list-full c.args.lists.now.items c.push-2.new.self.items c.args.entries.now c.args.said rest lists (omega (arith, test, len, whole, few))

@@ -5,7 +5,8 @@ use Rattle.snp_exchange.proofs.psnp.finish.Goals as goal
 
 pub returns : goal.returns
 returns c =
-    let test = c.if-len-eq0.false in
-    let len = c.len.ensures in
-    let some : 0 < length c.args.entries = grind (arith, nat_tests, test, len) in
+    let test = c.if-is_empty.false in
+    let empty = c.is_empty.ensures in
+    let whole = c.args.entries.ok.0 in
+    let some : 0 < length c.args.entries.items = grind (arith, nat_tests, test, empty, whole) in
     list-end c.args.lists.items c.push.new.self.items c.args.entries c.in_ok-push.ensures.items some

@@ -6,6 +6,7 @@ use Rattle.lsp_store.specs.Places.{flatten}
 use Rattle.lsp_store.proofs.EditLemmas.{absent}
 use Rattle.lsp_store.proofs.RoomLemmas.{enough-stays}
 use Rattle.lsp_store.proofs.ChangeLemmas.{change-absent, change-rises, length-change_at}
+use Rattle.lsp_store.proofs.IdLemmas.{HaveIds, change-ids}
 use Rattle.lsp_store.proofs.pages.Pages.change.Goals as goal
 
 pub invariant_of-self : goal.invariant_of-self
@@ -22,6 +23,7 @@ invariant_of-self g c =
       dense = out.dense;
       empty = old.empty;
       rises = subst (RisesFrom 0) (sym out.all) (change-rises f c.to_number-n.result 0 all old.rises);
+      ids = subst HaveIds (sym out.all) (change-ids f c.to_number-n.result all old.ids);
       size = omega (arith, same, len, size);
       enough = enough-stays c.self.inside.pages.items c.change_held.new.pages.items (vec_len c.self.inside.pool) (vec_len c.self.inside.pool) c.self.inside.spare c.self.inside.spare (omega arith) (omega arith) (let le = out.strain in omega (arith, le)) old.enough;
       fits = old.fits;

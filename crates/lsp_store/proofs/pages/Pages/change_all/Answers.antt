@@ -7,6 +7,7 @@ use Rattle.lsp_store.specs.PageMaps.{PageMap}
 use Rattle.lsp_store.proofs.RoomLemmas.{enough-stays}
 use Rattle.lsp_store.proofs.ChangeLemmas.{all-rises, length-change_all, pages-flat, pages-filled, pages-strain}
 use Rattle.lsp_store.proofs.DenseLemmas.{dense-change}
+use Rattle.lsp_store.proofs.IdLemmas.{HaveIds, all-ids}
 use Rattle.lsp_store.proofs.pages.Pages.change_all.Goals as goal
 
 pub invariant_of-self : goal.invariant_of-self
@@ -26,6 +27,7 @@ invariant_of-self g c =
       empty = old.empty;
       dense = subst AreDense (sym out.all) (dense-change f pages old.dense);
       rises = subst (RisesFrom 0) (sym flat) (all-rises f 0 all old.rises);
+      ids = subst HaveIds (sym flat) (all-ids f all old.ids);
       size = omega (arith, same, len, size);
       enough = enough-stays pages c.change_each.new.pages.items (vec_len c.self.inside.pool) (vec_len c.self.inside.pool) c.self.inside.spare c.self.inside.spare (omega arith) (omega arith) (omega (arith, few)) old.enough;
       fits = old.fits;

@@ -6,6 +6,7 @@ use Rattle.lsp_store.proofs.MapLemmas.{put-rises}
 use Rattle.lsp_store.proofs.EditLemmas.{length-new, length-held, absent, absent-inside, put-kept}
 use Rattle.std.specs.Prelude.{vec_len}
 use Rattle.lsp_store.proofs.RoomLemmas.{enough-stays}
+use Rattle.lsp_store.proofs.IdLemmas.{HaveIds, put-ids}
 use Rattle.lsp_store.proofs.pages.Pages.put.Goals as goal
 
 pub invariant_of-self : goal.invariant_of-self
@@ -20,6 +21,7 @@ invariant_of-self g c =
       dense = out.dense;
       empty = old.empty;
       rises = subst (RisesFrom 0) (sym out.all) (put-rises (flatten c.self.inside.pages.items) 0 c.args.id c.args.value zero-le old.rises);
+      ids = subst HaveIds (sym out.all) (put-ids c.args.id c.args.value (flatten c.self.inside.pages.items) c.lsp_id_law.ensures old.ids);
       size = omega (arith, same, len, count);
       enough = enough-stays c.self.inside.pages.items c.put_held.new.pages.items (vec_len c.self.inside.pool) (vec_len c.self.inside.pool) c.self.inside.spare c.self.inside.spare (omega arith) (omega arith) (let le = out.strain in omega (arith, le)) old.enough;
       fits = old.fits;
@@ -45,6 +47,7 @@ invariant_of-self-in-Err g c =
       dense = out.dense;
       empty = out.empty;
       rises = subst (RisesFrom 0) (sym all) (put-rises (flatten c.self.inside.pages.items) 0 c.args.id c.args.value zero-le old.rises);
+      ids = subst HaveIds (sym all) (put-ids c.args.id c.args.value (flatten c.self.inside.pages.items) c.lsp_id_law.ensures old.ids);
       size = omega (arith, more, len, count);
       enough = out.enough c.in-Ok-claim.left some;
       fits = omega (arith, fits);

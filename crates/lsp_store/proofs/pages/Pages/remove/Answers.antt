@@ -4,6 +4,7 @@ use Rattle.lsp_store.specs.Maps.{RisesFrom}
 use Rattle.lsp_store.specs.Places.{flatten}
 use Rattle.lsp_store.proofs.MapLemmas.{erase-rises}
 use Rattle.lsp_store.proofs.EditLemmas.{length-taken, absent, left-alone}
+use Rattle.lsp_store.proofs.IdLemmas.{HaveIds, erase-ids}
 use Rattle.lsp_store.proofs.pages.Pages.remove.Goals as goal
 
 pub invariant_of-self : goal.invariant_of-self
@@ -19,6 +20,7 @@ invariant_of-self g c =
       dense = out.dense;
       empty = out.empty;
       rises = subst (RisesFrom 0) (sym out.all) (erase-rises (flatten c.self.inside.pages.items) 0 c.to_number-n.result old.rises);
+      ids = subst HaveIds (sym out.all) (erase-ids c.to_number-n.result (flatten c.self.inside.pages.items) old.ids);
       size = omega (arith, less, len, count);
       enough = out.enough c.self.inside.spare old.enough;
       fits = omega (arith, fits);

@@ -9,6 +9,6 @@ pub returns : goal.returns
 returns c =
     let m = c.self.inside in
     lent-outlook (machine_of m) _ (sym c.system-system.ensures) c.system_law.ensures (sym c.as_slice.ensures) (sym c.levels.ensures) (sym c.as_slice-2.ensures.pairs)
-    (told-book c.book-one.result.now m.one.book c.store-one.result.now c.book-one.ensures c.store-one.ensures (c.has_rows.ensures c.if-not-has_rows.false) c.ids_law.ensures)
-    (told-book c.book-two.result.now m.two.book c.store-two.result.now c.book-two.ensures c.store-two.ensures (c.has_rows-else-not-has_rows.ensures c.if-not-has_rows-2.false) c.ids_law-2.ensures)
+    (told-book c.book-one.result.now m.one.book c.store-one.result.now c.book-one.ensures c.store-one.ensures (c.has_rows.ensures c.if-not-has_rows.false) c.len-of_one.ensures.ids)
+    (told-book c.book-two.result.now m.two.book c.store-two.result.now c.book-two.ensures c.store-two.ensures (c.has_rows-else-not-has_rows.ensures c.if-not-has_rows-2.false) c.len-of_two.ensures.ids)
     ∙ ap outlook_of c.self.view_is

@@ -52,7 +52,7 @@ returns c =
     let v = c.book-book.result.now in
     let of_book : sync.book_of v ≡ book_of r l = ap sync.book_of c.book-book.ensures ∙ ap (λ (s : LevelState). s.book) state in
     let runs : at r.config.runs l ≡ true = sym c.runs.ensures ∙ c.if-not-runs.false in
-    let ids = subst (λ (d : Database). AllByRecursion (λ (p : LspId × Entry). IsId p.0) d.entries) c.store-store.ensures c.ids_law.ensures in
+    let ids = subst (λ (d : Database). AllByRecursion (λ (p : LspId × Entry). IsId p.0) d.entries) c.store-store.ensures c.len-entries.ensures.ids in
     let rises = subst (λ (d : Database). RisesFrom 0 d.entries) c.store-store.ensures c.len-entries.ensures.rises in
     let e = c.in_ok-entry.ensures in
     subst (λ (es : List (LspId × Entry)). IsMovedAt (outlook_of r) (outlook_of (step given r (Take place (LspHeard l (snpa_number c.args.snpa) (heard_of heard)))).router) l heard.entry.id.node (told_in es)) (sym c.in_ok-aside.ensures)
