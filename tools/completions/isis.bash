@@ -1,0 +1,17 @@
+# Completions of isis for bash, of the program and of its launcher ./isis.
+_isis() {
+    local first=1 words="lab grid show"
+    if [ "$COMP_CWORD" -gt 1 ] && [ "${COMP_WORDS[1]}" = --unproved ]; then
+        first=2
+    # The launcher is a script, and knows some words more.
+    elif [ "$(head -c 2 "$(type -P "$1")" 2> /dev/null | tr -d '\0')" = '#!' ]; then
+        words+=" --help --version --unproved"
+    fi
+    if [ "$COMP_CWORD" = $((first + 1)) ] && [ "${COMP_WORDS[first]}" = grid ]; then
+        words="1 2 3 4 5 6 7 8"
+    elif [ "$COMP_CWORD" != "$first" ]; then
+        words=
+    fi
+    mapfile -t COMPREPLY < <(compgen -W "$words" -- "${COMP_WORDS[COMP_CWORD]}")
+}
+complete -F _isis isis
