@@ -37,7 +37,7 @@ impl<'a, I: Item> Model for Items<'a, I> {
 
 impl<'a, I: Item> Items<'a, I> {
     /// The items of a value.
-    pub(crate) fn new(value: &'a [u8]) -> Items<'a, I>
+    pub fn new(value: &'a [u8]) -> Items<'a, I>
         ensures { result ≡ values_of I.first 0 value.now }
     {
         let left = Left {

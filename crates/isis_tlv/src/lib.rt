@@ -37,6 +37,7 @@ pub use ipv4::{put_addresses, put_protocols};
 pub use items::{Item, Items};
 pub use neighbour::{NeighbourItem, NeighbourItems, neighbours, put_neighbours};
 pub use prefix::{PrefixItem, PrefixItems, prefixes, put_prefixes};
+pub use put::put_tlv;
 pub use snpa::{SnpaItems, put_snpas, snpas};
 pub use three_way::{Adj, ThreeWay, put_three_way, three_way_value};
 pub use tlv::{Tlv, TlvFault, Tlvs, are_tlvs};

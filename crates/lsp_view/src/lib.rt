@@ -17,6 +17,12 @@ pub mod laws;
 mod lead;
 mod systems;
 
+/// What LSPs list, for crates that read further codes.
+pub mod parts {
+    pub use crate::body::{Listed, add_items};
+    pub use crate::lead::lead;
+}
+
 pub use graph::{is_overloaded_at, overloaded, rows, rows_at};
 pub use lead::is_live;
 pub use systems::{area_list, is_attached, reach, reach_into};

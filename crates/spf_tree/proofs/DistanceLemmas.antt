@@ -47,15 +47,15 @@ abbrev pub FirstAbove : ℕ → List ℕ → Type 0
 FirstAbove n [] = Unit {0}
 FirstAbove n (m ∷ ns) = n < m
 
-up_cons : (n : ℕ) (ns : List ℕ) → FirstAbove n ns → IsStrictlyIncreasing ns → IsStrictlyIncreasing (n ∷ ns)
+pub up_cons : (n : ℕ) (ns : List ℕ) → FirstAbove n ns → IsStrictlyIncreasing ns → IsStrictlyIncreasing (n ∷ ns)
 up_cons n [] h up k l = absurd (omega arith)
 up_cons n (m ∷ ns) h up zero l = h
 up_cons n (m ∷ ns) h up (suc k) l = subst (λ (j : ℕ). get_or (n ∷ m ∷ ns) (suc k) 0 < get_or (n ∷ m ∷ ns) j 0) {x = suc (k + 1)} {y = suc k + 1} (omega arith) (up k (omega arith))
 
-up_tail : (n : ℕ) (ns : List ℕ) → IsStrictlyIncreasing (n ∷ ns) → IsStrictlyIncreasing ns
+pub up_tail : (n : ℕ) (ns : List ℕ) → IsStrictlyIncreasing (n ∷ ns) → IsStrictlyIncreasing ns
 up_tail n ns up k l = subst (λ (j : ℕ). get_or (n ∷ ns) (suc k) 0 < get_or (n ∷ ns) j 0) {x = suc k + 1} {y = suc (k + 1)} (omega arith) (up (suc k) (omega arith))
 
-up_first : (n : ℕ) (ns : List ℕ) → IsStrictlyIncreasing (n ∷ ns) → FirstAbove n ns
+pub up_first : (n : ℕ) (ns : List ℕ) → IsStrictlyIncreasing (n ∷ ns) → FirstAbove n ns
 up_first n [] up = tt
 up_first n (m ∷ ns) up = up 0 (omega arith)
 

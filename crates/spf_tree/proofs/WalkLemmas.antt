@@ -38,7 +38,7 @@ more : (rows : List Row) (root node a b : ℕ) → a ≤ b → IsShort rows root
 more rows root node a b h s = let cheap = s.cheap in record { walk = s.walk; is = s.is; cheap = omega arith; once = s.once }
 
 -- a walk cut where it first comes to a node that it ends at
-cut : (rows : List Row) (root : ℕ) (walk : List Row) (last node : ℕ) → IsWalk rows root walk last → IsDistinct nat_eq (ends walk) → is_member nat_eq (ends walk) node ≡ true → IsShort rows root node (cost walk)
+pub cut : (rows : List Row) (root : ℕ) (walk : List Row) (last node : ℕ) → IsWalk rows root walk last → IsDistinct nat_eq (ends walk) → is_member nat_eq (ends walk) node ≡ true → IsShort rows root node (cost walk)
 cut rows root [] last node is once found = cc
 cut rows root (row ∷ walk) last node is once found =
     elim (or_cases (nat_eq node (end row)) (is_member nat_eq (ends walk) node) found) [
@@ -52,7 +52,7 @@ none_is : (k : ℕ) (ks : List ℕ) → list_any (nat_eq k) ks ≡ false → All
 none_is k [] h = tt
 none_is k (y ∷ ks) h = let p = or_parts (nat_eq k y) (list_any (nat_eq k) ks) h in (p.0, none_is k ks p.1)
 
-shorten : (rows : List Row) (root : ℕ) (walk : List Row) (node : ℕ) → IsWalk rows root walk node → IsShort rows root node (cost walk)
+pub shorten : (rows : List Row) (root : ℕ) (walk : List Row) (node : ℕ) → IsWalk rows root walk node → IsShort rows root node (cost walk)
 unfolding IsDistinct
 shorten rows root [] node is = record { walk = []; is = is; cheap = omega arith; once = tt }
 shorten rows root (row ∷ walk) node is =
@@ -79,7 +79,7 @@ among rows root (row ∷ walk) node is q found =
       | inr later ↦ among rows root walk (start row) is.3 q later
     ]
 
-few : (rows : List Row) (root node most : ℕ) → (s : IsShort rows root node most) → length s.walk ≤ length rows
+pub few : (rows : List Row) (root node most : ℕ) → (s : IsShort rows root node most) → length s.walk ≤ length rows
 few rows root node most s =
     let le : length (ends s.walk) ≤ length (map end rows) = length-le_from_is_member nat_eq_equiv (ends s.walk) (map end rows) s.once (among rows root s.walk node s.is) in
     let e = length-ends s.walk in
@@ -95,7 +95,7 @@ pub within_some : (o : Option ℕ) (a : ℕ) → IsWithin o a → (c : ℕ) × (
 within_some None a w = absurd w
 within_some (Some c) a w = (c, refl, w)
 
-cost_bound : (rows : List Row) (root : ℕ) (walk : List Row) (node : ℕ) → IsBounded rows → IsWalk rows root walk node → cost walk ≤ 4294967295 * length walk
+pub cost_bound : (rows : List Row) (root : ℕ) (walk : List Row) (node : ℕ) → IsBounded rows → IsWalk rows root walk node → cost walk ≤ 4294967295 * length walk
 cost_bound rows root [] node bounded is = omega arith
 cost_bound rows root (row ∷ walk) node bounded is =
     let rest = cost_bound rows root walk (start row) bounded is.3 in
