@@ -43,7 +43,7 @@ def prefixes(count):
 
 def datagrams(count):
     """B acknowledges a purge that it doesn't hold, datagram 15, again and again, so that so many datagrams are sent."""
-    purge = "inject A X 49535531000000000002831b010012010000001b0001000000000009000000000005ae4201\n"
+    purge = "inject A X 4953553200000000000200000001831b010012010000001b0001000000000009000000000005ae4201\n"
     return TWO + "link X A B 10\nrun 7\n" + purge + "tick A\npull A X\n" + "deliver 15 B\n" * (count - 15)
 
 
@@ -60,8 +60,14 @@ def fragments(run):
 
 def crowd(count):
     """B hears so many systems on a LAN, none of which names B."""
-    hello = "4953553100000000{0}831b01000f0100000100000000{0}001e00214000000000{0}01010403490001"
+    hello = "4953553200000000{0}00000001831b01000f0100000100000000{0}001e00214000000000{0}01010403490001"
     return TWO + "lan N 10 A B\n" + "".join(f"inject B N {hello.format(n)}\n" for n in range(1001, 1001 + count))
+
+
+def passers_by(count):
+    """So many systems say hello to B over a link, and then the first of them once more."""
+    hello = "4953553200000000{0}0000000183140100110100000100000000{0}001e002101010403490001f0050200000101"
+    return TWO + "link X A B 10\n" + "".join(f"inject B X {hello.format(n)}\n" for n in [*range(1001, 1001 + count), 1001])
 
 
 def script_limits(run):
@@ -83,6 +89,8 @@ def script_limits(run):
     yield "262,145 datagrams", told(lab(datagrams(262145)), 10, "limit datagrams", "")
     yield "200 systems heard on a LAN", counted(lab(crowd(200)), "drop ", 0)
     yield "201 systems heard on a LAN", counted(lab(crowd(201)), "drop B too-many 1", 1)
+    yield "256 systems remembered", counted(lab(passers_by(256)), "drop ", 0)
+    yield "257 systems, of whom 256 are remembered", counted(lab(passers_by(257)), "drop B too-many 1", 1)
 
 
 def long_inputs(run):
@@ -94,8 +102,8 @@ def long_inputs(run):
     yield "1,000 lines shown", told(run(["show"], "8\n" * 1000), 0, "", shown)
     many = "isis-keys 1\nrouter A\n" + "issue A 0000.0000.0001.00-00 1 live\n" * 20_000
     yield "20,000 copies of a key", told(run(["lab"], many), 0, "", "isis-report 1\nkey A 0000.0000.0001.00-00 1 live\n")
-    long = TWO + "link X A B 10\nrun 7\ninject B X 49535531000000000009831b01001401" + "00000fa1" + "00" * 3991 + "\n"
-    yield "4,011 octets injected", counted(run(["lab"], long), "drop B too-long 1", 1)
+    long = TWO + "link X A B 10\nrun 7\ninject B X 4953553200000000000900000001831b01001401" + "00000fa1" + "00" * 3991 + "\n"
+    yield "4,015 octets injected", counted(run(["lab"], long), "drop B too-long 1", 1)
     alone = "isis-lab 1\nrouter A 0000.0000.0001 49.0001 L1\n" + "overload A on\nrun 6\noverload A off\nrun 6\n" * 5100
     yield "10,200 contents of an LSP", counted(run(["lab"], alone), "lsp A L1 0000.0000.0001.00-00 10200 live", 1)
     lan = TWO + "lan N 10 A B\n"
@@ -128,7 +136,7 @@ def cut_datagrams(run):
     words = [line.split()[4] for line in shown.splitlines() if line.startswith("datagram ")]
     cuts = [word[: 2 * size] for word in words for size in range(1, len(word) // 2)]
     ended = run(["lab"], text + "".join(f"inject B X {cut}\n" for cut in cuts))
-    frames = 9 * len(words)
+    frames = 13 * len(words)
     drops = f"drop B frame {frames}\ndrop B pdu {len(cuts) - frames}\n"
     wanted = plain.replace("link X ", drops + "link X ").replace("injected 0", f"injected {len(cuts)}")
     yield f"{len(cuts)} cut datagrams", told(ended, 0, "", wanted) if len(words) == 14 else "fourteen were sent"
@@ -160,7 +168,18 @@ def late_datagrams(run):
         yield f"late datagrams {subset}", None if well else "an end is ahead"
 
 
+def restarted_ends(run):
+    """An end restarts behind the seconds; one to four seconds later each subset of its earlier datagrams comes, and a second more."""
+    for end, other, sent in (("A", "B", (1, 3, 4, 5, 10)), ("B", "A", (2, 6, 7, 8, 9))):
+        for seconds in range(1, 5):
+            before = SECONDS + [f"restart {end}"] + ["run 1"] * seconds
+            for subset in range(32):
+                events = before + [f"deliver {number} {other}" for place, number in enumerate(sent) if subset >> place & 1]
+                well = is_within(run, events) and is_within(run, events + ["run 1"])
+                yield f"{end} restarted {seconds} s before late datagrams {subset}", None if well else "an end is ahead"
+
+
 def faults(run):
     """Each of these inputs by name, and what comes out otherwise than it should, if anything does."""
-    for cases in (script_limits, fragments, long_inputs, grids, cut_datagrams, late_datagrams):
+    for cases in (script_limits, fragments, long_inputs, grids, cut_datagrams, late_datagrams, restarted_ends):
         yield from cases(run)

@@ -128,7 +128,8 @@ function ladderRow(row, names) {
     const start = row.from === null ? "" : `<circle cx="${from}" cy="10" r="3"/>`;
     const told = row.ends.map(([name, state]) => (state === "taken" ? name : `${name} (${state})`)).join(", ");
     const fields = row.it.shown.map((line) => run.lines[line]);
-    const head = escaped(`${row.word}${row.it.clock} s, ${row.it.from || "nobody"} on ${row.it.link} to ${told}`);
+    const sender = row.from === null ? "nobody" : `${row.from} in boot ${row.it.boot}`;
+    const head = escaped(`${row.word}${row.it.clock} s, ${sender} on ${row.it.link} to ${told}`);
     const first = escaped(fields[0] || `no PDU: ${row.it.hex}`);
     const more = fields.slice(1).map((line) => `<div>${escaped(line)}</div>`).join("");
     const drawn = `<svg class="ladder" width="${names.length * COLUMN + COLUMN}" height="${height}">${lives}${arrows}${start}</svg>`;

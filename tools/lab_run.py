@@ -11,8 +11,8 @@ from pathlib import Path
 TOP = Path(__file__).resolve().parent.parent
 PROGRAM = TOP / "crates" / "isis_daemon" / "out" / "isis_daemon"
 SETUP = ("router", "link", "lan", "key")
-# The octets before the PDU of a datagram: four of the tunnel, then the sender's SNPA.
-FRAME = 10
+# What a datagram begins with, and the octets before its PDU: these four, the sender's SNPA, and its boot number.
+MAGIC, FRAME = b"ISU2", 14
 KINDS = {15: "hello", 16: "hello", 17: "hello", 18: "lsp", 20: "lsp", 24: "csnp", 25: "csnp", 26: "psnp", 27: "psnp"}
 SECOND_LEVEL = (16, 20, 25, 27)
 
@@ -177,13 +177,18 @@ class Report:
         return list(groups.values()) if told and int(told[0][-1]) == len(groups) else None
 
 
+def pdu_of(octets):
+    """The PDU of a datagram; none where the octets have no frame."""
+    return octets[FRAME:] if octets.startswith(MAGIC) else b""
+
+
 class Datagram:
     """A line `datagram` of a report."""
 
     def __init__(self, words):
         self.number, self.sender, self.link = int(words[1]), words[2], words[3]
         self.octets = bytes.fromhex(words[4])
-        self.snpa, self.pdu = self.octets[4:FRAME], self.octets[FRAME:]
+        self.snpa, self.boot, self.pdu = self.octets[4:10], int.from_bytes(self.octets[10:FRAME], "big"), pdu_of(self.octets)
         self.type = self.pdu[4] & 31
         self.level = 2 if self.type in SECOND_LEVEL else 1
         # the step that sent it, counted from 1

@@ -9,7 +9,8 @@ import hmac
 import struct
 
 SENDER = bytes.fromhex("000000000002")
-FRAME = b"ISU1" + SENDER
+BOOT = bytes.fromhex("01020304")
+FRAME = b"ISU2" + SENDER + BOOT
 AREA = b"\x01\x04\x03\x49\x00\x01"
 ENTRY = bytes(16)
 
@@ -74,8 +75,11 @@ row("keyed", 1, signed(b"link", point_hello))
 row("keyed", 1, signed(b"area", lambda tlvs: psnp(1, tlvs)))
 row("keyed", 2, lan_hello(1, AREA))
 # each cause
-row("open", 1, b"", "Some(Frame(Short))", FRAME[:9])
-row("open", 1, b"", "Some(Frame(Magic))", b"ISU2" + SENDER)
+row("open", 1, b"", "Some(Frame(Short))", FRAME[:13])
+row("open", 1, b"", "Some(Frame(Short))", b"ISU")
+row("open", 1, b"", "Some(Frame(Magic))", b"ISU3" + FRAME[4:])
+row("open", 1, b"", "Some(Version)", b"ISU1")
+row("open", 1, point_hello(AREA), "Some(Version)", b"ISU1" + SENDER)
 row("open", 1, b"", "Some(Pdu(PduFault { kind: Short, place: 0 }))")
 row("open", 1, psnp(1)[:16], "Some(Pdu(PduFault { kind: Short, place: 16 }))")
 row("open", 1, lan_hello(1), "Some(WrongKind)")

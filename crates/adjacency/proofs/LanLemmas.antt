@@ -11,8 +11,8 @@ use Rattle.isis_model.specs.Seconds as seconds
 use Rattle.isis_model.specs.Numbers.{system_number}
 use Rattle.adjacency.specs.declared.neighbour.Neighbour.{Neighbour}
 use Rattle.adjacency.specs.Views.{neighbour_of}
-use Rattle.adjacency.specs.Lans.{AreHeard, neighbours, ups, was_up, some_up_over}
-use Rattle.adjacency.specs.Inside.{by_snpa, snpa_of, tagged, untagged, chosen, shown, tags_of, lan_of, IsLan, IsPlace, IsGap, all_less, some_ended, is_ended, less_by_one}
+use Rattle.adjacency.specs.Lans.{AreHeard, neighbours, ups, was_up, has_boot, some_up_over}
+use Rattle.adjacency.specs.Inside.{by_snpa, snpa_of, tagged, untagged, chosen, shown, tags_of, lan_of, IsLan, IsPlace, IsGap, keeps_boot, all_less, some_ended, is_ended, less_by_one}
 use Rattle.adjacency.proofs.MapLemmas.{choose, rises-less, length-keyed, length-put, put-rises, find-place, find-gap}
 use Rattle.adjacency.proofs.TagLemmas.{has_tag, untagged-tagged, length-untagged, chosen-few, untagged-rises, chosen-rises, untagged-put, chosen-put, chosen-erase, find-chosen, find-untagged, tagged-reads_back}
 
@@ -85,6 +85,10 @@ few-by : (o : Option Neighbour) (count : ℕ) → ((count < 200) ⊎ IsSome o) �
 few-by None count (inl lt) le = omega (arith, lt)
 few-by None count (inr some) le = absurd (let h : false ≡ true = some in grind (arith, h))
 few-by (Some n) count room le = le
+
+boot-shown : (q : Tags) (k boot : ℕ) → has_boot (find (shown q) k) boot ≡ keeps_boot (find (untagged q) k) boot
+boot-shown [] k boot = refl
+boot-shown (p ∷ q) k boot = grind (arith, nat_tests, boot-shown q k boot)
 
 -- whether a binary search found a key
 placed : (ns : List Neighbour) (k : ℕ) (r : Result ℕ ℕ) → MatchResult r (IsPlace snpa_of ns k) (IsGap snpa_of ns k) → is_ok r ≡ is_some (find (by_snpa ns) k)
@@ -189,6 +193,9 @@ module _ (heard up : List Neighbour) (s u : ℕ) (lan : IsLan heard up s u) wher
       is_err-not r
       ∙ ap not (placed heard k r at ∙ ap (λ (m : List (ℕ × Neighbour)). is_some (find m k)) (sym all-of) ∙ find-untagged (tags_of heard up) k)
       ∙ sym (is_none-shown (tags_of heard up) k)
+
+  pub found-boot : (k boot : ℕ) → has_boot (find (lan_of heard up) k) boot ≡ keeps_boot (find (by_snpa heard) k) boot
+  found-boot k boot = boot-shown (tags_of heard up) k boot ∙ ap (λ (m : List (ℕ × Neighbour)). keeps_boot (find m k) boot) all-of
 
   pub found-up : (k : ℕ) (r : Result ℕ ℕ) → MatchResult r (IsPlace snpa_of up k) (IsGap snpa_of up k) → is_ok r ≡ was_up (find (lan_of heard up) k)
   found-up k r at =

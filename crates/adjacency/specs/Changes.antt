@@ -14,6 +14,7 @@ use Rattle.adjacency.specs.declared.hello.AdjChange.TheVariants as change
 abbrev pub drop_name : HelloDrop → DropName
 drop_name drop.OwnId = name.OwnId
 drop_name drop.OtherSnpa = name.OtherSnpa
+drop_name drop.OldBoot = name.OldBoot
 drop_name drop.NoLevel = name.NoLevel
 drop_name drop.NoArea = name.NoArea
 drop_name drop.NoThreeWay = name.NoThreeWay

@@ -1,6 +1,6 @@
 -- How the neighbours that are heard on a LAN lie in two lists, all of them and those in state Up
 -- (own).
-use Rattle.std.specs.Prelude.{◌≡◌, ℕ, ◌-◌, ◌<◌, ◌≤◌, nat_le, suc, Bool, ◌||◌, false, List, [], ◌∷◌, length, take, drop, slice_index_or, Result, MatchResult, is_some, if◌then◌else◌}
+use Rattle.std.specs.Prelude.{◌≡◌, ℕ, ◌-◌, ◌<◌, ◌≤◌, ◌==◌, nat_le, suc, Bool, ◌||◌, false, Option, Some, None, List, [], ◌∷◌, length, take, drop, slice_index_or, Result, MatchResult, is_some, if◌then◌else◌}
 use Rattle.std.specs.List.{AllByRecursion}
 use Rattle.isis_model.specs.Maps.{find}
 use Rattle.isis_model.specs.Sorted.{RisesFrom}
@@ -48,6 +48,11 @@ pub record IsGap {X : Type 0} (key : X → ℕ) (xs : List X) (n place : ℕ) : 
 -- a place of the neighbour of an SNPA, where it is one of the list, and else where it would go
 abbrev pub IsAt : List Neighbour → ℕ → Result ℕ ℕ → Type 0
 IsAt ns snpa place = MatchResult place (IsPlace snpa_of ns snpa) (IsGap snpa_of ns snpa)
+
+-- whether a neighbour is one in this boot
+abbrev pub keeps_boot : Option Neighbour → ℕ → Bool
+keeps_boot None boot = false
+keeps_boot (Some n) boot = n.boot == boot
 
 -- ---- a second
 

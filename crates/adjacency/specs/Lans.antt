@@ -1,6 +1,6 @@
 -- The neighbours that are heard on a LAN, as the model of the router has them, and what becomes of
 -- them (ISO 10589 8.4.2).
-use Rattle.std.specs.Prelude.{◌≡◌, ℕ, ◌≤◌, length, Bool, false, ◌&&◌, ◌||◌, not, List, [], ◌∷◌, Option, Some, None, is_none, if◌then◌else◌}
+use Rattle.std.specs.Prelude.{◌≡◌, ℕ, ◌≤◌, ◌==◌, length, Bool, false, ◌&&◌, ◌||◌, not, List, [], ◌∷◌, Option, Some, None, if◌then◌else◌}
 use Rattle.std.specs.List.{AllByRecursion}
 use Rattle.isis_model.specs.Maps.{put}
 use Rattle.isis_model.specs.Sorted.{RisesFrom}
@@ -42,13 +42,19 @@ abbrev pub was_up : Option LanNeighbour → Bool
 was_up None = false
 was_up (Some n) = n.up
 
--- What became of a LAN neighbour, from what was kept of it before a hello and whether it is Up: its
--- state became Up, or ceased to be Up, or it is new (own).
-abbrev pub lan_change_of : Option LanNeighbour → Bool → AdjChange
-lan_change_of before up =
+-- whether a neighbour was heard in this boot (own)
+abbrev pub has_boot : Option LanNeighbour → ℕ → Bool
+has_boot None boot = false
+has_boot (Some n) boot = n.neighbour.boot == boot
+
+-- What became of a LAN neighbour, from what was kept of it before a hello, its boot number and
+-- whether it is Up: its state became Up, or ceased to be Up, or it is new, as it also is in another
+-- boot (own).
+abbrev pub lan_change_of : Option LanNeighbour → ℕ → Bool → AdjChange
+lan_change_of before boot up =
     if up && not (was_up before) then change.WentUp
     else (if was_up before && not up then change.LeftUp
-    else (if is_none before then change.Moved else change.None))
+    else (if has_boot before boot then change.None else change.Moved))
 
 -- whether the time of a neighbour in state Up is over (ISO 10589 8.4.2)
 abbrev pub some_up_over : List (ℕ × LanNeighbour) → Bool

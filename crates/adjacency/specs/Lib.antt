@@ -4,3 +4,4 @@ pub mod Views
 pub mod Changes
 pub mod Lans
 pub mod Inside
+pub mod Remembered

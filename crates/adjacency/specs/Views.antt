@@ -31,6 +31,7 @@ neighbour_of n = record {
   system = system_number n.system;
   snpa = snpa_number n.snpa;
   extended = n.id;
+  boot = n.boot;
   levels = runs_of n.levels;
   priority = n.priority;
   lan = node_number n.lan;
@@ -57,6 +58,7 @@ abbrev pub hello_of : HelloFields → model.Hello
 hello_of h = record {
   source = system_number h.source;
   snpa = snpa_number h.snpa;
+  boot = h.boot;
   runs = runs_of h.levels;
   holding = h.holding;
   priority = h.priority;

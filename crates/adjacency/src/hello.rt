@@ -12,7 +12,7 @@ pub struct Own<'a> {
     pub areas: &'a [AreaAddress],
 }
 
-/// What a hello says (ISO 10589 9.5 to 9.7): its source and the SNPA that it came from, the levels
+/// What a hello says (ISO 10589 9.5 to 9.7): its source, the SNPA and the boot number that it came from, the levels
 /// of its circuit type, the holding time in seconds, the priority and the LAN ID of a LAN hello,
 /// the area addresses, the three-way value (RFC 5303 3.1), and whether it lists one's own SNPA
 /// among those that its sender hears.
@@ -20,6 +20,7 @@ pub struct Own<'a> {
 pub struct HelloFields<'a> {
     pub source: SystemId,
     pub snpa: Snpa,
+    pub boot: u32,
     pub levels: LevelSet,
     pub holding: u16,
     pub priority: u8,
@@ -37,6 +38,8 @@ pub enum HelloDrop {
     OwnId,
     /// The source isn't the SNPA that the hello came from.
     OtherSnpa,
+    /// The boot number is below the greatest that is remembered of the source (own).
+    OldBoot,
     /// No level is in common.
     NoLevel,
     /// No level is in common, though both run level 1: no area address is shared.
@@ -45,7 +48,7 @@ pub enum HelloDrop {
     NoThreeWay,
     /// The three-way value names another system or circuit.
     OtherNeighbour,
-    /// A LAN neighbour is new where 200 are heard.
+    /// A LAN neighbour is new where 200 are heard, or the source isn't remembered where 256 systems are.
     TooMany,
 }
 

@@ -47,6 +47,7 @@ fn is_from(neighbour: Neighbour, hello: &HelloFields<'_>, levels: LevelSet, id: 
 {
     are_same_systems(neighbour.system, hello.source)
         && neighbour.id == id
+        && neighbour.boot == hello.boot
         && are_same_levels(neighbour.levels, levels)
 }
 
@@ -77,6 +78,7 @@ pub fn neighbour_in(hello: &HelloFields<'_>, levels: LevelSet, id: u32) -> Neigh
         system: hello.source,
         snpa: hello.snpa,
         id,
+        boot: hello.boot,
         levels,
         priority: hello.priority,
         lan: hello.lan,

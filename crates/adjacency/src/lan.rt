@@ -5,12 +5,14 @@ ghost use Rattle.isis_model.specs.Adjacencies as model;
 ghost use Rattle.isis_model.specs.Both as both;
 ghost use Rattle.isis_model.specs.Maps.{find};
 ghost use Rattle.isis_model.specs.HelloTests.{lan_drop};
+ghost use Rattle.isis_model.specs.Hellos.{minded};
 ghost use Rattle.isis_model.specs.Seconds.{heard_less};
 ghost use Rattle.adjacency.specs.Views.{config_of, hello_of, neighbour_of};
 ghost use Rattle.adjacency.specs.Changes.{IsTested};
 ghost use Rattle.adjacency.specs.Lans.{AreHeard, neighbours, ups, hear_lan, lan_change_of, lan_less_change};
 ghost use Rattle.isis_model.specs.Numbers.{snpa_number};
 
+use crate::boots::Boots;
 use crate::by_snpa::place_of;
 use crate::hello::{AdjChange, HelloDrop, HelloFields, Own};
 use crate::keeping::neighbour_in;
@@ -80,21 +82,28 @@ impl LanAdj {
         own: &Own<'_>,
         level: Level,
         hello: &HelloFields<'_>,
+        boots: &mut Boots,
     ) -> Result<AdjChange, HelloDrop>
         ensures tested { IsTested result
-            (lan_drop (config_of own.now) level self.old (hello_of hello.now)) }
+            (lan_drop (config_of own.now) level boots.old self.old (hello_of hello.now)) }
         ensures unchanged { OnErr result (self.new ≡ self.old) }
+        ensures forgets { OnErr result (boots.new ≡ boots.old) }
+        ensures minded { IfOk result (λ _. boots.new ≡ minded boots.old (hello_of hello.now)) }
         ensures heard { IfOk result (λ change. self.new ≡ hear_lan self.old
             (both.alone level (model.common_of (config_of own.now) (hello_of hello.now)))
             (hello_of hello.now)) }
         ensures change { IfOk result (λ change. change ≡ lan_change_of
-            (find self.old (snpa_number hello.now.snpa)) hello.now.names_me) }
+            (find self.old (snpa_number hello.now.snpa)) hello.now.boot hello.now.names_me) }
     {
         let place = place_of(&self.heard, hello.snpa);
-        let levels = match test_lan(own, level, hello, is_full(&self.heard, place)) {
+        let full = is_full(&self.heard, place);
+        let levels = match test_lan(own, level, hello, full, boots.heard(hello.source)) {
             Ok(levels) => levels,
             Err(refused) => return Err(refused),
         };
+        if boots.hear(hello.source, hello.boot).is_err() {
+            return Err(HelloDrop::TooMany);
+        }
         let neighbour = neighbour_in(hello, levels, 0);
         Ok(keep(
             &mut self.heard,

@@ -1,10 +1,10 @@
 //! The two lists of a LAN, all neighbours and those in state Up, changed together.
-ghost use Rattle.std.specs.Prelude.{◌≡◌, ℕ, List, ◌<◌, ◌≤◌, true, ◌⊎◌, length, vec_capacity, Option, IsSome, is_none, if◌then◌else◌};
+ghost use Rattle.std.specs.Prelude.{◌≡◌, ℕ, List, ◌<◌, ◌≤◌, true, ◌⊎◌, length, vec_capacity, Option, IsSome, if◌then◌else◌};
 ghost use Rattle.isis_model.specs.Maps.{find, put, erase};
 ghost use Rattle.isis_model.specs.Routers.{LanNeighbour};
 ghost use Rattle.isis_model.specs.Seconds as seconds;
 ghost use Rattle.isis_model.specs.Numbers.{system_number};
-ghost use Rattle.adjacency.specs.Inside.{by_snpa, snpa_of, lan_of, IsLan, IsAt};
+ghost use Rattle.adjacency.specs.Inside.{by_snpa, snpa_of, lan_of, IsLan, IsAt, keeps_boot};
 ghost use Rattle.adjacency.specs.Views.{neighbour_of};
 ghost use Rattle.adjacency.specs.Lans as lan;
 
@@ -31,12 +31,24 @@ pub fn keep(
     ensures kept { lan_of heard.new.items up.new.items ≡ put (lan_of heard.old.items up.old.items)
         (snpa_of neighbour) (record { up = is_up; neighbour = neighbour_of neighbour }) }
     ensures change { result ≡ lan.lan_change_of
-        (find (lan_of heard.old.items up.old.items) (snpa_of neighbour)) is_up }
+        (find (lan_of heard.old.items up.old.items) (snpa_of neighbour)) neighbour.boot is_up }
 {
+    let same_boot = is_in_boot(heard, place, neighbour);
     let up_place = place_of(up, neighbour.snpa);
     put_at(heard, place, neighbour);
     put_or_take_out(up, up_place, neighbour, is_up);
-    change(place.is_err(), up_place.is_ok(), is_up)
+    change(same_boot, up_place.is_ok(), is_up)
+}
+
+/// Whether the neighbour at this one's place is in its boot.
+fn is_in_boot(heard: &[Neighbour], place: Result<usize, usize>, neighbour: Neighbour) -> bool
+    requires { IsAt heard.now (snpa_of neighbour) place }
+    ensures { result ≡ keeps_boot (find (by_snpa heard.now) (snpa_of neighbour)) neighbour.boot }
+{
+    match place {
+        Ok(at) => heard[at].boot == neighbour.boot,
+        Err(_) => false,
+    }
 }
 
 /// Puts a neighbour in that is Up, and takes one out that isn't.
@@ -62,9 +74,9 @@ fn put_or_take_out(
 }
 
 /// What became of a neighbour.
-fn change(is_new: bool, was_up: bool, is_up: bool) -> AdjChange
-    ensures { (before : Option LanNeighbour) → is_new ≡ is_none before → was_up ≡ lan.was_up before
-        → result ≡ lan.lan_change_of before is_up }
+fn change(same_boot: bool, was_up: bool, is_up: bool) -> AdjChange
+    ensures { (before : Option LanNeighbour) (boot : ℕ) → same_boot ≡ lan.has_boot before boot
+        → was_up ≡ lan.was_up before → result ≡ lan.lan_change_of before boot is_up }
 {
     if is_up && !was_up {
         return AdjChange::WentUp;
@@ -72,10 +84,10 @@ fn change(is_new: bool, was_up: bool, is_up: bool) -> AdjChange
     if was_up && !is_up {
         return AdjChange::LeftUp;
     }
-    if is_new {
-        return AdjChange::Moved;
+    if same_boot {
+        return AdjChange::None;
     }
-    AdjChange::None
+    AdjChange::Moved
 }
 
 /// A second of all holding times.

@@ -52,8 +52,8 @@ pub fn lan_laws()
     ensures heard { (c : Circuit) (level : Level) (common : Both Bool) (h : model.Hello)
         → (at (lan_circuit c level common h).levels level).heard
         ≡ hear_lan (at c.levels level).heard common h }
-    ensures hello { (before : Option LanNeighbour) (up : Bool)
-        → (lan_change_of before up ≡ change.None) ↔ (seen_so before up ≡ true) }
+    ensures hello { (before : Option LanNeighbour) (boot : ℕ) (up : Bool)
+        → (lan_change_of before boot up ≡ change.None) ↔ (seen_so before boot up ≡ true) }
     ensures second { (heard : List (ℕ × LanNeighbour))
         → (lan_less_change heard ≡ change.None) ↔ (some_over heard ≡ false) }
     ensures opened { (heard : List (ℕ × LanNeighbour))

@@ -19,11 +19,13 @@
 //! - `common.rt`: the levels in common; `tests_of_hello.rt`: the tests of a hello, in their order
 //! - `held.rt`, `keeping.rt`: a state with the neighbour that is kept, and what becomes of it
 //! - `point.rt`: a point-to-point adjacency
+//! - `boots.rt`: the greatest boot numbers that were heard, by system
 //! - `by_snpa.rt`, `lan_lists.rt`: neighbours in a list by SNPA, and the two lists of a LAN
 //! - `lan.rt`: the adjacencies of a LAN circuit and level
 //! - `laws.rt`: when a hello is due, and who is designated among LAN neighbours
 #![tactic(auto)]
 
+mod boots;
 mod by_snpa;
 mod common;
 mod handshake;
@@ -37,6 +39,7 @@ mod neighbour;
 mod point;
 mod tests_of_hello;
 
+pub use boots::{Boots, BootsFull};
 pub use handshake::three_way;
 pub use hello::{AdjChange, HelloDrop, HelloFields, Own};
 pub use lan::LanAdj;

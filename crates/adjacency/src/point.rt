@@ -5,9 +5,11 @@ ghost use Rattle.isis_tlv.specs.declared.three_way.Adj.TheVariants as adj;
 ghost use Rattle.isis_model.specs.Adjacencies as model;
 ghost use Rattle.isis_model.specs.HelloTests.{point_drop};
 ghost use Rattle.isis_model.specs.Seconds.{point_less};
+ghost use Rattle.isis_model.specs.Hellos.{minded};
 ghost use Rattle.adjacency.specs.Views.{runs_of, config_of, hello_of, neighbour_of, point_of, point_down, shake_of};
 ghost use Rattle.adjacency.specs.Changes.{IsTested, change_of, boot_of};
 
+use crate::boots::Boots;
 use crate::held::Held;
 use crate::hello::{AdjChange, HelloDrop, HelloFields, Own};
 use crate::keeping::{change, held_after, held_less, keeps, state_of};
@@ -62,18 +64,22 @@ impl P2pAdj {
         }
     }
 
-    /// Takes a hello. The first test that fails refuses it, and the adjacency is as before. Else,
-    /// where the system, the extended circuit ID or the levels in common aren't those of the
+    /// Takes a hello. The first test that fails refuses it, and the adjacency and the boots are as
+    /// before. Else its boot number is the one that is remembered of its source (own). Where the
+    /// system, the extended circuit ID, the boot number or the levels in common aren't those of the
     /// neighbour that is kept, the adjacency first goes Down (own); then the table of the handshake
     /// says its state, and outside Down the hello's sender is kept.
     pub fn hear_hello(
         &mut self,
         own: &Own<'_>,
         hello: &HelloFields<'_>,
+        boots: &mut Boots,
     ) -> Result<AdjChange, HelloDrop>
         ensures tested { IsTested result
-            (point_drop (config_of own.now) own.now.id (hello_of hello.now)) }
+            (point_drop (config_of own.now) own.now.id boots.old (hello_of hello.now)) }
         ensures unchanged { OnErr result (self.new ≡ self.old) }
+        ensures forgets { OnErr result (boots.new ≡ boots.old) }
+        ensures minded { IfOk result (λ _. boots.new ≡ minded boots.old (hello_of hello.now)) }
         ensures heard { IfOk result (λ change. IfSome hello.now.three_way (λ shake.
             point_of self.new ≡ model.hear_point (point_of self.old)
             (model.common_of (config_of own.now) (hello_of hello.now))
@@ -84,10 +90,13 @@ impl P2pAdj {
             (model.common_of (config_of own.now) (hello_of hello.now))
             (hello_of hello.now) (shake_of shake).extended))) }
     {
-        let (levels, shake) = match test_point(own, hello) {
+        let (levels, shake) = match test_point(own, hello, boots.heard(hello.source)) {
             Ok(passed) => passed,
             Err(refused) => return Err(refused),
         };
+        if boots.hear(hello.source, hello.boot).is_err() {
+            return Err(HelloDrop::TooMany);
+        }
         let old = self.held;
         let same = keeps(old, hello, levels, shake.own_id.unwrap_or(0));
         let new = held_after(old, same, hello, levels, shake);

@@ -5,7 +5,7 @@ ghost use Rattle.isis_model.specs.Adjacencies as model;
 ghost use Rattle.isis_model.specs.Both as both;
 ghost use Rattle.isis_model.specs.Maps.{find};
 ghost use Rattle.isis_model.specs.Routers.{LanNeighbour};
-ghost use Rattle.isis_model.specs.HelloTests.{hello_drop, point_drop, lan_drop};
+ghost use Rattle.isis_model.specs.HelloTests.{is_below, hello_drop, known_point, known_lan};
 ghost use Rattle.isis_model.specs.Numbers.{system_number, snpa_number};
 ghost use Rattle.adjacency.specs.Views.{runs_of, common_runs, config_of, hello_of};
 ghost use Rattle.adjacency.specs.Changes.{IsTested};
@@ -18,15 +18,21 @@ use isis_tlv::ThreeWay;
 
 /// The tests of a point-to-point hello: the levels in common and the three-way value where all
 /// pass.
-pub fn test_point(own: &Own<'_>, hello: &HelloFields<'_>) -> Result<(LevelSet, ThreeWay), HelloDrop>
-    ensures tested { IsTested result
-        (point_drop (config_of own.now) own.now.id (hello_of hello.now)) }
+/// `greatest` is the boot number that is remembered of its source.
+pub fn test_point(
+    own: &Own<'_>,
+    hello: &HelloFields<'_>,
+    greatest: Option<u32>,
+) -> Result<(LevelSet, ThreeWay), HelloDrop>
+    ensures tested { (boots : List (ℕ × ℕ)) → greatest ≡ find boots (system_number hello.now.source)
+        → IsTested result (known_point (config_of own.now) own.now.id boots (hello_of hello.now)) }
+    ensures recent { IfOk result (λ _. is_below hello.now.boot greatest ≡ false) }
     ensures levels { IfOk result (λ p.
         runs_of p.0 ≡ model.common_of (config_of own.now) (hello_of hello.now)) }
     ensures shake { IfOk result (λ p. hello.now.three_way ≡ Some p.1) }
 {
     let both_one = both_run_one(own.levels, hello.levels);
-    let levels = match test_hello(own, hello, common_levels(own, hello), both_one) {
+    let levels = match test_hello(own, hello, common_levels(own, hello), both_one, greatest) {
         Ok(levels) => levels,
         Err(refused) => return Err(refused),
     };
@@ -48,10 +54,13 @@ pub fn test_lan(
     level: Level,
     hello: &HelloFields<'_>,
     is_full: bool,
+    greatest: Option<u32>,
 ) -> Result<LevelSet, HelloDrop>
-    ensures tested { (heard : List (ℕ × LanNeighbour))
+    ensures tested { (heard : List (ℕ × LanNeighbour)) (boots : List (ℕ × ℕ))
+        → greatest ≡ find boots (system_number hello.now.source)
         → is_full ≡ (nat_le 200 (length heard) && is_none (find heard (snpa_number hello.now.snpa)))
-        → IsTested result (lan_drop (config_of own.now) level heard (hello_of hello.now)) }
+        → IsTested result (known_lan (config_of own.now) level boots heard (hello_of hello.now)) }
+    ensures recent { IfOk result (λ _. is_below hello.now.boot greatest ≡ false) }
     ensures levels { IfOk result (λ levels.
         runs_of levels
         ≡ both.alone level (model.common_of (config_of own.now) (hello_of hello.now))) }
@@ -60,7 +69,13 @@ pub fn test_lan(
     ensures room { IfOk result (λ _. is_full ≡ false) }
 {
     let both_one = is_one(level) && both_run_one(own.levels, hello.levels);
-    let levels = match test_hello(own, hello, common_level(own, level, hello), both_one) {
+    let levels = match test_hello(
+        own,
+        hello,
+        common_level(own, level, hello),
+        both_one,
+        greatest,
+    ) {
         Ok(levels) => levels,
         Err(refused) => return Err(refused),
     };
@@ -86,9 +101,12 @@ fn test_hello(
     hello: &HelloFields<'_>,
     common: Option<LevelSet>,
     both_one: bool,
+    greatest: Option<u32>,
 ) -> Result<LevelSet, HelloDrop>
-    ensures tested { IsTested result
-        (hello_drop (config_of own.now) (common_runs common) both_one (hello_of hello.now)) }
+    ensures tested { (boots : List (ℕ × ℕ)) → greatest ≡ find boots (system_number hello.now.source)
+        → IsTested result
+        (hello_drop (config_of own.now) boots (common_runs common) both_one (hello_of hello.now)) }
+    ensures recent { IfOk result (λ _. is_below hello.now.boot greatest ≡ false) }
     ensures levels { IfOk result (λ levels. common ≡ Some levels) }
     ensures system { IfOk result (λ _.
         system_number hello.now.source ≡ snpa_number hello.now.snpa) }
@@ -99,6 +117,9 @@ fn test_hello(
     if !are_same_systems(hello.source, SystemId(hello.snpa.0)) {
         return Err(HelloDrop::OtherSnpa);
     }
+    if is_below(hello.boot, greatest) {
+        return Err(HelloDrop::OldBoot);
+    }
     let Some(levels) = common else {
         return Err(if both_one {
             HelloDrop::NoArea
@@ -107,4 +128,14 @@ fn test_hello(
         });
     };
     Ok(levels)
+}
+
+/// Whether a boot number is below the one that is remembered, if one is.
+fn is_below(boot: u32, greatest: Option<u32>) -> bool
+    ensures { result ≡ is_below boot greatest }
+{
+    match greatest {
+        Some(greatest) => boot < greatest,
+        None => false,
+    }
 }

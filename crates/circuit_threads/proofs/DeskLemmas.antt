@@ -155,8 +155,8 @@ unfolding take_lan
 keeps-taken given r place c (Refused cause) at = keeps-refl r
 keeps-taken given r place c (PointHelloHeard h) at = keeps-greeted r place c h h.handshake at
 keeps-taken given r place c (LanHelloHeard l h) at = record { system = refl; runs = refl; keys = refl; circuits = replaced r.circuits place c _ at refl }
-keeps-taken given r place c (LspHeard l snpa h) at = record { system = refl; runs = refl; keys = refl; circuits = refl }
-keeps-taken given r place c (SnpHeard l snpa source range entries) at = record { system = refl; runs = refl; keys = refl; circuits = refl }
+keeps-taken given r place c (LspHeard l from h) at = record { system = refl; runs = refl; keys = refl; circuits = refl }
+keeps-taken given r place c (SnpHeard l from source range entries) at = record { system = refl; runs = refl; keys = refl; circuits = refl }
 
 keeps-either : (given : Given) (r : Router) (place : ℕ) (c : Circuit) (m : Message) (drop : Option DropName) → nth r.circuits place ≡ Some c → Keeps r (take_or_drop given r place c m drop).router
 keeps-either given r place c m (Some cause) at = record { system = refl; runs = refl; keys = refl; circuits = refl }

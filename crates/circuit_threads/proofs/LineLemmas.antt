@@ -20,6 +20,7 @@ use Rattle.circuit_threads.specs.LineRests.{event_front, taken_octets, reply_fro
 
 pub word-short : (name : DropName) → length (drop_word name) ≤ 20
 word-short drop.Frame = omega arith
+word-short drop.Version = omega arith
 word-short drop.Pdu = omega arith
 word-short drop.TooLong = omega arith
 word-short drop.WrongKind = omega arith
@@ -30,6 +31,7 @@ word-short drop.ZeroNumber = omega arith
 word-short drop.BadChecksum = omega arith
 word-short drop.OwnId = omega arith
 word-short drop.OtherSnpa = omega arith
+word-short drop.OldBoot = omega arith
 word-short drop.NoLevel = omega arith
 word-short drop.NoArea = omega arith
 word-short drop.NoThreeWay = omega arith

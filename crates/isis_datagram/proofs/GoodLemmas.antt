@@ -27,7 +27,8 @@ use Rattle.isis_model.specs.Ranks.{is_live}
 use Rattle.isis_model.specs.Configs.{Config}
 use Rattle.isis_model.specs.Routers.{Circuit}
 use Rattle.isis_model.specs.SnpTable.{SnpEntry}
-use Rattle.isis_model.specs.Events.{Message, Refused}
+use Rattle.isis_model.specs.declared.drop_name.DropName.TheVariants as drop_name
+use Rattle.isis_model.specs.Events.{Envelope, Message, Refused}
 use Rattle.isis_model.specs.Good.{IsGoodLsp, IsGoodMessage}
 use Rattle.isis_datagram.specs.Frames.{unframed}
 use Rattle.isis_model.specs.Numbers.{u48_of}
@@ -216,41 +217,42 @@ whole-length octets kind none known =
     omega arith
 
 -- What holds of a refusal, and of what each PDU without a fault says where its tests hold, holds of all that is read.
-module _ (P : Message → Type 0) (refused : (cause : DropName) → P (Refused cause)) (by : Config) (on : Circuit) (value : (snpa : ℕ) (octets : List ℕ) (kind : PduKind) → Small octets → table.first_fault octets ≡ None → kind_at octets ≡ Some kind → first_failing (tests_of by on (value_at kind octets (body_at kind octets (length_at kind octets))) (take (length_at kind octets) octets)) ≡ None → P (message by.system snpa (value_at kind octets (body_at kind octets (length_at kind octets))) (take (length_at kind octets) octets))) where
+module _ (P : Message → Type 0) (refused : (cause : DropName) → P (Refused cause)) (by : Config) (on : Circuit) (value : (from : Envelope) (octets : List ℕ) (kind : PduKind) → Small octets → table.first_fault octets ≡ None → kind_at octets ≡ Some kind → first_failing (tests_of by on (value_at kind octets (body_at kind octets (length_at kind octets))) (take (length_at kind octets) octets)) ≡ None → P (message by.system from (value_at kind octets (body_at kind octets (length_at kind octets))) (take (length_at kind octets) octets))) where
   of-tests : (found : Option DropName) (m : Message) → (found ≡ None → P m) → P (refused_or found m)
   of-tests None m said = said refl
   of-tests (Some cause) m said = refused cause
 
-  of-decoded : (snpa : ℕ) (octets : List ℕ) → Small octets → (fault : Option PduFault) (found : Option PduKind) → table.first_fault octets ≡ fault → kind_at octets ≡ found → P (read_pdu by on snpa octets (decoded_by fault found octets))
-  of-decoded snpa octets small (Some fault) found none known = refused _
-  of-decoded snpa octets small None None none known = refused _
-  of-decoded snpa octets small None (Some kind) none known = of-tests _ _ (value snpa octets kind small none known)
+  of-decoded : (from : Envelope) (octets : List ℕ) → Small octets → (fault : Option PduFault) (found : Option PduKind) → table.first_fault octets ≡ fault → kind_at octets ≡ found → P (read_pdu by on from octets (decoded_by fault found octets))
+  of-decoded from octets small (Some fault) found none known = refused _
+  of-decoded from octets small None None none known = refused _
+  of-decoded from octets small None (Some kind) none known = of-tests _ _ (value from octets kind small none known)
 
-  of-pdu : (snpa : ℕ) (octets : List ℕ) → Small octets → P (read_pdu by on snpa octets (decoded octets))
+  of-pdu : (from : Envelope) (octets : List ℕ) → Small octets → P (read_pdu by on from octets (decoded octets))
   unfolding decoded
-  of-pdu snpa octets small = of-decoded snpa octets small (table.first_fault octets) (kind_at octets) refl refl
+  of-pdu from octets small = of-decoded from octets small (table.first_fault octets) (kind_at octets) refl refl
 
-  of-frame : (datagram : List ℕ) → Small datagram → (test : Bool) → P (read_frame by on (cond test (Some (u48_of (drop 4 datagram), drop 10 datagram)) None))
-  of-frame datagram small true = of-pdu (u48_of (drop 4 datagram)) (drop 10 datagram) (small-drop 10 datagram small)
-  of-frame datagram small false = refused _
+  of-frame : (datagram : List ℕ) → Small datagram → (old test : Bool) → P (read_frame by on (cond old (Err drop_name.Version) (cond test (Ok (record { snpa = u48_of (drop 4 datagram); boot = u32_at 10 datagram }, drop 14 datagram)) (Err drop_name.Frame))))
+  of-frame datagram small true test = refused _
+  of-frame datagram small false true = of-pdu (record { snpa = u48_of (drop 4 datagram); boot = u32_at 10 datagram }) (drop 14 datagram) (small-drop 14 datagram small)
+  of-frame datagram small false false = refused _
 
   pub of-read : (datagram : List ℕ) → Small datagram → P (read by on datagram)
   unfolding read unframed
-  of-read datagram small = of-frame datagram small _
+  of-read datagram small = of-frame datagram small _ _
 
-good-value : (by : Config) (on : Circuit) (snpa : ℕ) (octets : List ℕ) (kind : PduKind) → Small octets → table.first_fault octets ≡ None → kind_at octets ≡ Some kind → first_failing (tests_of by on (value_at kind octets (body_at kind octets (length_at kind octets))) (take (length_at kind octets) octets)) ≡ None → IsGoodMessage (message by.system snpa (value_at kind octets (body_at kind octets (length_at kind octets))) (take (length_at kind octets) octets))
-good-value by on snpa octets (kind.LanHello level) small faultless known none = tt
-good-value by on snpa octets kind.PointHello small faultless known none = tt
-good-value by on snpa octets (kind.Lsp level) small faultless known none =
+good-value : (by : Config) (on : Circuit) (from : Envelope) (octets : List ℕ) (kind : PduKind) → Small octets → table.first_fault octets ≡ None → kind_at octets ≡ Some kind → first_failing (tests_of by on (value_at kind octets (body_at kind octets (length_at kind octets))) (take (length_at kind octets) octets)) ≡ None → IsGoodMessage (message by.system from (value_at kind octets (body_at kind octets (length_at kind octets))) (take (length_at kind octets) octets))
+good-value by on from octets (kind.LanHello level) small faultless known none = tt
+good-value by on from octets kind.PointHello small faultless known none = tt
+good-value by on from octets (kind.Lsp level) small faultless known none =
     let its = kind.Lsp level in
     let n = length_at its octets in
     let tests = all-held (tests_of by on (value_at its octets (body_at its octets n)) (take n octets)) none in
     good-lsp (lsp_number (lsp_at 12 octets)) (u32_at 20 octets) (u16_at 10 octets) (u16_at 24 octets) (get_or octets 26 0) (take n octets) _ (lsp-small 12 octets small) (u32-small 20 octets small) (u16-small 10 octets small) (u16-small 24 octets small) tests.1.1.1.1.1.0 tests.1.1.1.1.1.1.0 (whole-length octets its faultless known)
-good-value by on snpa octets (kind.Csnp level) small faultless known none =
+good-value by on from octets (kind.Csnp level) small faultless known none =
     let its = kind.Csnp level in
     let body = body_at its octets (length_at its octets) in
     listed-small (entries_in body) (items-small body (small-take (length_at its octets - 33) (drop 33 octets) (small-drop 33 octets small)))
-good-value by on snpa octets (kind.Psnp level) small faultless known none =
+good-value by on from octets (kind.Psnp level) small faultless known none =
     let its = kind.Psnp level in
     let body = body_at its octets (length_at its octets) in
     listed-small (entries_in body) (items-small body (small-take (length_at its octets - 17) (drop 17 octets) (small-drop 17 octets small)))

@@ -33,7 +33,7 @@ use Rattle.isis_datagram.specs.Reading.{runs_of, message, refused_or, read}
 use Rattle.isis_datagram.specs.Signing.{signed_tlvs, signed}
 use Rattle.isis_datagram.specs.Tlvs.{own_address, hello_tlvs, three_way_value, point_tlvs, snpa_tlvs, lan_tlvs}
 use Rattle.isis_datagram.specs.Datagrams.{levels_run, datagram, pdu_octets}
-use Rattle.isis_datagram.specs.Said.{names, said, CanRead}
+use Rattle.isis_datagram.specs.Said.{envelope, names, said, CanRead}
 use Rattle.isis_datagram.specs.Senders.{IsSender, IsHandshake, IsLanHello}
 use Rattle.isis_datagram.proofs.NumberLemmas.{u48-again, node-reads_back}
 use Rattle.isis_datagram.proofs.ReadLemmas.{read-begins, octets_of_pdu-begins, all-hold}
@@ -131,9 +131,9 @@ point-head set system circuit = record {
   lives = λ tlvs. refl;
 }
 
-pub point-reads : (by config : Config) (on c : Circuit) (place : ℕ) (state : Adj) (extended : ℕ) (named : Option (ℕ × ℕ)) → IsSender config → IsHandshake extended named → CanRead by on config c kind.PointHello → read by on (datagram config place c (sent.PointHello state extended named)) ≡ said by.system config place c (sent.PointHello state extended named)
+pub point-reads : (by config : Config) (on c : Circuit) (boot place : ℕ) → boot < 2 ^ 32 → (state : Adj) (extended : ℕ) (named : Option (ℕ × ℕ)) → IsSender config → IsHandshake extended named → CanRead by on config c kind.PointHello → read by on (datagram config boot place c (sent.PointHello state extended named)) ≡ said by.system config boot place c (sent.PointHello state extended named)
 unfolding pdu_octets signed
-point-reads by config on c place state extended named sender shake takes =
+point-reads by config on c boot place low_boot state extended named sender shake takes =
     let value = three_way_value state extended named in
     let last = three_way_tlv value in
     let pdu = point (levels_run config.runs) config.system (place + 1) in
@@ -170,9 +170,9 @@ point-reads by config on c place state extended named sender shake takes =
     let runs = runs-reads_back config.runs sender.some in
     let areas_are = ap ok_prefix areas ∙ fine-items config.areas in
     let shake_is = ap (λ items. first_handshake (ok_prefix items)) shakes ∙ ap Some (handshake-reads_back state extended named shake) in
-    read-begins by on config.system octets (pdu tlvs) sender.system (octets_of_pdu-begins (pdu tlvs) writable)
-    ∙ ap (λ cause. refused_or cause (message by.system config.system (pdu tlvs) octets)) none
-    ∙ (λ i. PointHelloHeard (record { source = source i; snpa = config.system; runs = runs i; holding = 30; priority = 0; lan = 0; areas = areas_are i; handshake = shake_is i; names_me = false }))
+    read-begins by on config.system boot octets (pdu tlvs) sender.system low_boot (octets_of_pdu-begins (pdu tlvs) writable)
+    ∙ ap (λ cause. refused_or cause (message by.system (envelope config boot) (pdu tlvs) octets)) none
+    ∙ (λ i. PointHelloHeard (record { source = source i; snpa = config.system; boot = boot; runs = runs i; holding = 30; priority = 0; lan = 0; areas = areas_are i; handshake = shake_is i; names_me = false }))
 
 -- ---- LANs
 
@@ -217,9 +217,9 @@ lan-head level set system priority id low = record {
   lives = lan-lives level set system priority id;
 }
 
-pub lan-reads : (by config : Config) (on c : Circuit) (place : ℕ) (level : Level) (id : ℕ) (snpas : List ℕ) → IsSender config → IsLanHello c.priority id snpas → CanRead by on config c (kind.LanHello level) → read by on (datagram config place c (sent.LanHello level id snpas)) ≡ said by.system config place c (sent.LanHello level id snpas)
+pub lan-reads : (by config : Config) (on c : Circuit) (boot place : ℕ) → boot < 2 ^ 32 → (level : Level) (id : ℕ) (snpas : List ℕ) → IsSender config → IsLanHello c.priority id snpas → CanRead by on config c (kind.LanHello level) → read by on (datagram config boot place c (sent.LanHello level id snpas)) ≡ said by.system config boot place c (sent.LanHello level id snpas)
 unfolding pdu_octets signed
-lan-reads by config on c place level id snpas sender fits takes =
+lan-reads by config on c boot place low_boot level id snpas sender fits takes =
     let its = kind.LanHello level in
     let heard = snpa_tlvs snpas in
     let set = levels_run config.runs in
@@ -258,6 +258,6 @@ lan-reads by config on c place level id snpas sender fits takes =
     let id_is = node-reads_back id fits.seven_octets in
     let areas_are = ap ok_prefix areas ∙ fine-items config.areas in
     let named = ap (λ items. lists by.system (ok_prefix items)) listed ∙ ap (lists by.system) (fine-items (map snpa_id snpas)) ∙ lists-names by.system snpas fits.each in
-    read-begins by on config.system octets (pdu tlvs) sender.system (octets_of_pdu-begins (pdu tlvs) writable)
-    ∙ ap (λ cause. refused_or cause (message by.system config.system (pdu tlvs) octets)) none
-    ∙ (λ i. LanHelloHeard level (record { source = source i; snpa = config.system; runs = runs i; holding = 30; priority = c.priority; lan = id_is i; areas = areas_are i; handshake = None; names_me = named i }))
+    read-begins by on config.system boot octets (pdu tlvs) sender.system low_boot (octets_of_pdu-begins (pdu tlvs) writable)
+    ∙ ap (λ cause. refused_or cause (message by.system (envelope config boot) (pdu tlvs) octets)) none
+    ∙ (λ i. LanHelloHeard level (record { source = source i; snpa = config.system; boot = boot; runs = runs i; holding = 30; priority = c.priority; lan = id_is i; areas = areas_are i; handshake = None; names_me = named i }))

@@ -23,6 +23,7 @@ use Rattle.isis_model.specs.Both.{at}
 use Rattle.isis_model.specs.Waits.{no_waits}
 use Rattle.isis_model.specs.Configs.{Config}
 use Rattle.isis_model.specs.Routers.{Circuit}
+use Rattle.isis_model.specs.Events.{Envelope}
 use Rattle.isis_model.specs.Numbers.{u48_octets, lsp_id}
 use Rattle.isis_datagram.specs.Tests.{passes, tests_of, first_failing}
 use Rattle.isis_datagram.specs.Reading.{rank_read, message, read}
@@ -242,10 +243,10 @@ module _ (key : Option (List ℕ)) (level : Level) (id number checksum flags lif
         | false ↦ λ lives sums. ((λ live. live-kept (eqb-false lifetime 0 lives) sums), (λ purge. let odd = eqb-true (2 * number % 2) 1 purge in absurd (omega arith)))
       ] refl summed
 
-kept-value : (by : Config) (on : Circuit) (snpa : ℕ) (octets : List ℕ) (kind : PduKind) → Small octets → table.first_fault octets ≡ None → kind_at octets ≡ Some kind → first_failing (tests_of by on (value_at kind octets (body_at kind octets (length_at kind octets))) (take (length_at kind octets) octets)) ≡ None → TellsKept by (message by.system snpa (value_at kind octets (body_at kind octets (length_at kind octets))) (take (length_at kind octets) octets))
-kept-value by on snpa octets (kind.LanHello level) small faultless known none = tt
-kept-value by on snpa octets kind.PointHello small faultless known none = tt
-kept-value by on snpa octets (kind.Lsp level) small faultless known none =
+kept-value : (by : Config) (on : Circuit) (from : Envelope) (octets : List ℕ) (kind : PduKind) → Small octets → table.first_fault octets ≡ None → kind_at octets ≡ Some kind → first_failing (tests_of by on (value_at kind octets (body_at kind octets (length_at kind octets))) (take (length_at kind octets) octets)) ≡ None → TellsKept by (message by.system from (value_at kind octets (body_at kind octets (length_at kind octets))) (take (length_at kind octets) octets))
+kept-value by on from octets (kind.LanHello level) small faultless known none = tt
+kept-value by on from octets kind.PointHello small faultless known none = tt
+kept-value by on from octets (kind.Lsp level) small faultless known none =
     let its = kind.Lsp level in
     let n = length_at its octets in
     let whole = take n octets in
@@ -261,8 +262,8 @@ kept-value by on snpa octets (kind.Lsp level) small faultless known none =
     let named : Begins whole (Lsp level (u16_at 10 octets) (lsp_id id) (u32_at 20 octets) (u16_at 24 octets) (get_or octets 26 0) body) (length whole) =
     subst₂ (λ (it : LspId) (m : ℕ). Begins whole (Lsp level (u16_at 10 octets) it (u32_at 20 octets) (u16_at 24 octets) (get_or octets 26 0) body) m) (sym same) (sym size) its_octets in
     both-kept (at by.keys level) level id (u32_at 20 octets) (u16_at 24 octets) (get_or octets 26 0) (u16_at 10 octets) whole body (lsp-small 12 octets small) named (leb-true (length whole) 1492 tests.0) tests.1.1.1.0 (eqb-false (u32_at 20 octets) 0 (not-true (eqb (u32_at 20 octets) 0) tests.1.1.1.1.1.0)) tests.1.1.1.1.1.1.0
-kept-value by on snpa octets (kind.Csnp level) small faultless known none = tt
-kept-value by on snpa octets (kind.Psnp level) small faultless known none = tt
+kept-value by on from octets (kind.Csnp level) small faultless known none = tt
+kept-value by on from octets (kind.Psnp level) small faultless known none = tt
 
 pub kept-tells : (by : Config) (on : Circuit) (datagram : List ℕ) → Small datagram → TellsKept by (read by on datagram)
 kept-tells by on = of-read (TellsKept by) (λ cause. tt) by on (kept-value by on)

@@ -34,7 +34,7 @@ use Rattle.isis_datagram.specs.Tests.{tests_of, passes}
 use Rattle.isis_datagram.specs.Reading.{rank_read, message, refused_or, read}
 use Rattle.isis_datagram.specs.Lsps.{with_lifetime, signed_purge, lsp_sent}
 use Rattle.isis_datagram.specs.Datagrams.{datagram, pdu_octets}
-use Rattle.isis_datagram.specs.Said.{said, CanRead}
+use Rattle.isis_datagram.specs.Said.{envelope, said, CanRead}
 use Rattle.isis_datagram.specs.LspLaws.{IsLiveLsp}
 use Rattle.isis_datagram.proofs.ListLemmas.{of-leading}
 use Rattle.isis_datagram.proofs.NumberLemmas.{lsp-reads_back, high-reads_back}
@@ -182,9 +182,9 @@ live-rank rank live =
     let parts = and_parts (ltb 0 rank) (eqb (rank % 2) 0) live in
     (ltb-true 0 rank parts.0, eqb-true (rank % 2) 0 parts.1)
 
-pub lsp-reads : (by config : Config) (on c : Circuit) (place : ℕ) (level : Level) (id : ℕ) (cell : Cell) → config.system < 2 ^ 48 → IsLiveLsp (at config.keys level) level id cell → CanRead by on config c (kind.Lsp level) → read by on (datagram config place c (sent.Lsp level id cell)) ≡ said by.system config place c (sent.Lsp level id cell)
+pub lsp-reads : (by config : Config) (on c : Circuit) (boot place : ℕ) → boot < 2 ^ 32 → (level : Level) (id : ℕ) (cell : Cell) → config.system < 2 ^ 48 → IsLiveLsp (at config.keys level) level id cell → CanRead by on config c (kind.Lsp level) → read by on (datagram config boot place c (sent.Lsp level id cell)) ≡ said by.system config boot place c (sent.Lsp level id cell)
 unfolding pdu_octets lsp_sent
-lsp-reads by config on c place level id cell small is takes =
+lsp-reads by config on c boot place low_boot level id cell small is takes =
     let key = at config.keys level in
     let tells = is.tells in
     let old = cell.octets in
@@ -213,7 +213,7 @@ lsp-reads by config on c place level id cell small is takes =
     let live = is.live in
     let left_is : cell.left ≡ cond (is_live cell.rank) cell.left 0 = ap (λ (t : Bool). cond t cell.left 0) (sym live) in
     let sent_is : octets ≡ cond (is_live cell.rank) octets (signed_purge key old) = ap (λ (t : Bool). cond t octets (signed_purge key old)) (sym live) in
-    ap (λ (sent : List ℕ). read by on (framed config.system sent)) (sym sent_is)
-    ∙ read-begins by on config.system octets (pdu cell.left) small whole
-    ∙ ap (λ cause. refused_or cause (message by.system config.system (pdu cell.left) octets)) none
-    ∙ (λ i. LspHeard level config.system (record { id = id_is i; rank = rank_is i; checksum = cell.checksum; flags = cell.flags; left = left_is i; octets = sent_is i }))
+    ap (λ (sent : List ℕ). read by on (framed config.system boot sent)) (sym sent_is)
+    ∙ read-begins by on config.system boot octets (pdu cell.left) small low_boot whole
+    ∙ ap (λ cause. refused_or cause (message by.system (envelope config boot) (pdu cell.left) octets)) none
+    ∙ (λ i. LspHeard level (envelope config boot) (record { id = id_is i; rank = rank_is i; checksum = cell.checksum; flags = cell.flags; left = left_is i; octets = sent_is i }))

@@ -1,5 +1,6 @@
 -- Identifiers of numbers have those numbers.
 use Rattle.std.proofs.Common.{◌≡◌, ℕ, ◌+◌, ◌*◌, ◌/◌, ◌%◌, ◌^◌, ◌<◌, arith}
+use Rattle.isis_base.specs.Fields.{u32_at, u32_octets}
 use Rattle.isis_base.specs.Identifiers.{lsp_number}
 use Rattle.isis_model.specs.Numbers.{u48_octets, u48_of, node_id, lsp_id, node_number}
 
@@ -14,6 +15,9 @@ u48-again n h =
     let low = low-reads_back n in
     let high = high-reads_back (n / 4294967296) (omega arith) in
     omega arith
+
+pub u32-again : (n : ℕ) → n < 2 ^ 32 → u32_at 0 (u32_octets n) ≡ n
+u32-again n h = let low = low-reads_back n in omega (arith, low, h)
 
 pub node-reads_back : (n : ℕ) → n < 2 ^ 56 → node_number (node_id n) ≡ n
 node-reads_back n h =

@@ -34,7 +34,7 @@ use Rattle.isis_datagram.specs.Reading.{message, refused_or, read}
 use Rattle.isis_datagram.specs.Signing.{auth_octets, digest_of}
 use Rattle.isis_datagram.specs.Lsps.{with_lifetime, signed_purge, lsp_sent}
 use Rattle.isis_datagram.specs.Datagrams.{datagram, pdu_octets}
-use Rattle.isis_datagram.specs.Said.{said, CanRead}
+use Rattle.isis_datagram.specs.Said.{envelope, said, CanRead}
 use Rattle.isis_datagram.specs.LspLaws.{IsPurge}
 use Rattle.isis_datagram.proofs.ListLemmas.{of-exactly}
 use Rattle.isis_datagram.proofs.NumberLemmas.{lsp-reads_back}
@@ -148,9 +148,9 @@ sent-purge (Some key) level id number flags header long begins =
       passes = ap is_none (purge-passes key front size pdu);
     }
 
-pub purge-reads : (by config : Config) (on c : Circuit) (place : ℕ) (level : Level) (id : ℕ) (cell : Cell) → config.system < 2 ^ 48 → IsPurge level id cell → CanRead by on config c (kind.Lsp level) → read by on (datagram config place c (sent.Lsp level id cell)) ≡ said by.system config place c (sent.Lsp level id cell)
+pub purge-reads : (by config : Config) (on c : Circuit) (boot place : ℕ) → boot < 2 ^ 32 → (level : Level) (id : ℕ) (cell : Cell) → config.system < 2 ^ 48 → IsPurge level id cell → CanRead by on config c (kind.Lsp level) → read by on (datagram config boot place c (sent.Lsp level id cell)) ≡ said by.system config boot place c (sent.Lsp level id cell)
 unfolding pdu_octets lsp_sent
-purge-reads by config on c place level id cell small is takes =
+purge-reads by config on c boot place low_boot level id cell small is takes =
     let key = at config.keys level in
     let octets = signed_purge key cell.octets in
     let sent = sent-purge key level (lsp_id id) (cell.rank / 2) cell.flags cell.octets is.alone is.begins in
@@ -166,7 +166,7 @@ purge-reads by config on c place level id cell small is takes =
     let rank_is : 2 * (cell.rank / 2) + 1 ≡ cell.rank = omega arith in
     let left_is : 0 ≡ cond (is_live cell.rank) cell.left 0 = ap (λ (t : Bool). cond t cell.left 0) (sym dead) in
     let sent_is : octets ≡ cond (is_live cell.rank) (with_lifetime cell.left cell.octets) octets = ap (λ (t : Bool). cond t (with_lifetime cell.left cell.octets) octets) (sym dead) in
-    ap (λ (it : List ℕ). read by on (framed config.system it)) (sym sent_is)
-    ∙ read-begins by on config.system octets pdu small sent.begins
-    ∙ ap (λ cause. refused_or cause (message by.system config.system pdu octets)) none
-    ∙ (λ i. LspHeard level config.system (record { id = id_is i; rank = rank_is i; checksum = sym is.summed i; flags = cell.flags; left = left_is i; octets = sent_is i }))
+    ap (λ (it : List ℕ). read by on (framed config.system boot it)) (sym sent_is)
+    ∙ read-begins by on config.system boot octets pdu small low_boot sent.begins
+    ∙ ap (λ cause. refused_or cause (message by.system (envelope config boot) pdu octets)) none
+    ∙ (λ i. LspHeard level (envelope config boot) (record { id = id_is i; rank = rank_is i; checksum = sym is.summed i; flags = cell.flags; left = left_is i; octets = sent_is i }))

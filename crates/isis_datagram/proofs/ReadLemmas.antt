@@ -19,17 +19,19 @@ use Rattle.isis_model.specs.Numbers.{u48_octets, u48_of}
 use Rattle.isis_datagram.specs.Frames.{magic, framed, unframed}
 use Rattle.isis_datagram.specs.Tests.{Test, tests_of, first_failing}
 use Rattle.isis_datagram.specs.Reading.{message, refused_or, read_pdu, read_frame, read}
-use Rattle.isis_datagram.proofs.NumberLemmas.{u48-again}
+use Rattle.isis_datagram.proofs.NumberLemmas.{u48-again, u32-again}
+use Rattle.isis_base.specs.Fields.{u32_at, u32_octets}
+use Rattle.isis_model.specs.declared.drop_name.DropName.TheVariants as drop_name
 
 -- ---- frames
 
-pub unframed-reads_back : (snpa : ℕ) (pdu : List ℕ) → snpa < 2 ^ 48 → unframed (framed snpa pdu) ≡ Some (snpa, pdu)
+pub unframed-reads_back : (snpa boot : ℕ) (pdu : List ℕ) → snpa < 2 ^ 48 → boot < 2 ^ 32 → unframed (framed snpa boot pdu) ≡ Ok (record { snpa = snpa; boot = boot }, pdu)
 unfolding framed unframed
-unframed-reads_back snpa pdu h =
-    let octets = magic ++ u48_octets snpa ++ pdu in
-    let long : leb 10 (length octets) ≡ true = le-leb 10 (length octets) (omega arith) in
-    ap (λ (t : Bool). cond (t && true) (Some (u48_of (u48_octets snpa ++ pdu), pdu)) None) long
-    ∙ ap (λ (n : ℕ). Some (n, pdu)) (u48-again snpa h)
+unframed-reads_back snpa boot pdu h b =
+    let octets = magic ++ u48_octets snpa ++ u32_octets boot ++ pdu in
+    let long : leb 14 (length octets) ≡ true = le-leb 14 (length octets) (omega arith) in
+    ap (λ (t : Bool). cond (t && true) (Ok (record { snpa = u48_of (u48_octets snpa ++ pdu); boot = u32_at 0 (u32_octets boot) }, pdu)) (Err drop_name.Frame)) long
+    ∙ (λ i. Ok (record { snpa = u48-again snpa h i; boot = u32-again boot b i }, pdu))
 
 -- ---- PDUs
 
@@ -53,12 +55,12 @@ decoded-begins octets pdu n begins =
     ∙ ap (λ (value : PduView). Ok (value, n)) reads.value
 
 -- what a router reads of a datagram of a PDU and nothing behind it
-pub read-begins : (by : Config) (on : Circuit) (snpa : ℕ) (octets : List ℕ) (pdu : PduView) → snpa < 2 ^ 48 → Begins octets pdu (length octets) → read by on (framed snpa octets) ≡ refused_or (first_failing (tests_of by on pdu octets)) (message by.system snpa pdu octets)
+pub read-begins : (by : Config) (on : Circuit) (snpa boot : ℕ) (octets : List ℕ) (pdu : PduView) → snpa < 2 ^ 48 → boot < 2 ^ 32 → Begins octets pdu (length octets) → read by on (framed snpa boot octets) ≡ refused_or (first_failing (tests_of by on pdu octets)) (message by.system (record { snpa = snpa; boot = boot }) pdu octets)
 unfolding read
-read-begins by on snpa octets pdu small begins =
-    ap (read_frame by on) (unframed-reads_back snpa octets small)
-    ∙ ap (read_pdu by on snpa octets) (decoded-begins octets pdu (length octets) begins)
-    ∙ ap (λ (whole : List ℕ). refused_or (first_failing (tests_of by on pdu whole)) (message by.system snpa pdu whole)) (take_all (length octets) octets (omega arith))
+read-begins by on snpa boot octets pdu small low_boot begins =
+    ap (read_frame by on) (unframed-reads_back snpa boot octets small low_boot)
+    ∙ ap (read_pdu by on (record { snpa = snpa; boot = boot }) octets) (decoded-begins octets pdu (length octets) begins)
+    ∙ ap (λ (whole : List ℕ). refused_or (first_failing (tests_of by on pdu whole)) (message by.system (record { snpa = snpa; boot = boot }) pdu whole)) (take_all (length octets) octets (omega arith))
 
 -- what a PDU that is octets_of_pdu begins with
 pub octets_of_pdu-begins : (pdu : PduView) → IsWritable pdu → Begins (octets_of_pdu pdu) pdu (length (octets_of_pdu pdu))

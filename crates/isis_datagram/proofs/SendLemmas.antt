@@ -111,8 +111,8 @@ buries key level id c live k eight bounded =
 
 -- what is read or issued may be sent
 comes : (leaks : Router → Level → List (ℕ × ℕ)) (attached : Router → Bool) (r : Router) (event : Event) (level : Level) → IsGoodRouter r → IsTelling r → TellsEvent r.config event → (id rank : ℕ) (content : Content) → Source (given_octets leaks attached) r event level id rank content → Kept (at r.config.keys level) level id rank content
-comes leaks attached r event level good telling told id rank content (Taken place snpa h e i k c) eight bounded =
-    let tells : TellsKept r.config (LspHeard level snpa h) = subst (λ (x : Event). TellsEvent r.config x) e told in
+comes leaks attached r event level good telling told id rank content (Taken place from h e i k c) eight bounded =
+    let tells : TellsKept r.config (LspHeard level from h) = subst (λ (x : Event). TellsEvent r.config x) e told in
     rw (i, k, c) (record {
       live = λ l. to-plain-kept h (tells.0 l);
       purge = λ p. purge-kept h (tells.1 p);
@@ -186,35 +186,35 @@ alike key level id held sent r k eight good s = whole key level id sent (eight, 
 live-or-purge : (rank : ℕ) → 0 < rank → is_purge rank ≡ false → is_live rank ≡ true
 live-or-purge rank some e = grind (arith, nat_tests, some, e)
 
-lsp-back : (by config : Config) (on c : Circuit) (place : ℕ) (level : Level) (id : ℕ) (cell : Cell) → IsSender config → 0 < cell.rank → IsSendable (at config.keys level) level id cell → CanRead by on config c (kind.Lsp level) → ReadsBack by on config place c (Lsp level id cell)
-lsp-back by config on c place level id cell sender some s can = test (λ (purge : Bool). is_purge cell.rank ≡ purge → ReadsBack by on config place c (Lsp level id cell)) (is_purge cell.rank)
-    (λ _ p. purge-reads by config on c place level id cell sender.system (s.purge p) can)
-    (λ _ l. lsp-reads by config on c place level id cell sender.system (s.live (live-or-purge cell.rank some l)) can) refl
+lsp-back : (by config : Config) (on c : Circuit) (boot place : ℕ) → boot < 2 ^ 32 → (level : Level) (id : ℕ) (cell : Cell) → IsSender config → 0 < cell.rank → IsSendable (at config.keys level) level id cell → CanRead by on config c (kind.Lsp level) → ReadsBack by on config boot place c (Lsp level id cell)
+lsp-back by config on c boot place low_boot level id cell sender some s can = test (λ (purge : Bool). is_purge cell.rank ≡ purge → ReadsBack by on config boot place c (Lsp level id cell)) (is_purge cell.rank)
+    (λ _ p. purge-reads by config on c boot place low_boot level id cell sender.system (s.purge p) can)
+    (λ _ l. lsp-reads by config on c boot place low_boot level id cell sender.system (s.live (live-or-purge cell.rank some l)) can) refl
 
-held-back : (t : Router) (by : Config) (on c : Circuit) (place : ℕ) (level : Level) (id : ℕ) (cell : Cell) → IsSender t.config → AreSendable t → WasHeld (cell_at (book_of t level) id) cell → (id < 2 ^ 64) × IsGoodCell cell × (0 < cell.rank) → CanRead by on t.config c (kind.Lsp level) → ReadsBack by on t.config place c (Lsp level id cell)
-held-back t by on c place level id cell sender all held fine can = by-held (cell_at (book_of t level) id) refl held
+held-back : (t : Router) (by : Config) (on c : Circuit) (boot place : ℕ) → boot < 2 ^ 32 → (level : Level) (id : ℕ) (cell : Cell) → IsSender t.config → AreSendable t → WasHeld (cell_at (book_of t level) id) cell → (id < 2 ^ 64) × IsGoodCell cell × (0 < cell.rank) → CanRead by on t.config c (kind.Lsp level) → ReadsBack by on t.config boot place c (Lsp level id cell)
+held-back t by on c boot place low_boot level id cell sender all held fine can = by-held (cell_at (book_of t level) id) refl held
   where
-    by-held : (o : Option Cell) → cell_at (book_of t level) id ≡ o → WasHeld o cell → ReadsBack by on t.config place c (Lsp level id cell)
+    by-held : (o : Option Cell) → cell_at (book_of t level) id ≡ o → WasHeld o cell → ReadsBack by on t.config boot place c (Lsp level id cell)
     by-held None e h = absurd h
-    by-held (Some old) e h = lsp-back by t.config on c place level id cell sender fine.2 (alike (at t.config.keys level) level id old cell h.0 h.1 fine.0 fine.1 (all level id old e)) can
+    by-held (Some old) e h = lsp-back by t.config on c boot place low_boot level id cell sender fine.2 (alike (at t.config.keys level) level id old cell h.0 h.1 fine.0 fine.1 (all level id old e)) can
 
-sent-back : (t : Router) (by : Config) (on c : Circuit) (place : ℕ) → IsSender t.config → AreSendable t → (s : Sent) → IsExact t s → IsFine s → ReadsUpdate by on t.config place c s
-sent-back t by on c place sender all (PointHello state extended names) held fine e can = absurd (cc)
-sent-back t by on c place sender all (LanHello level lan snpas) held fine e can = absurd (cc)
-sent-back t by on c place sender all (Lsp level id cell) held fine e can = held-back t by on c place level id cell sender all held fine can
-sent-back t by on c place sender all (Csnp level start end entries) held fine e can = csnp-reads by t.config on c place level start end entries sender fine.0 fine.1 fine.2 can
-sent-back t by on c place sender all (Psnp level entries) held fine e can = psnp-reads by t.config on c place level entries sender fine can
+sent-back : (t : Router) (by : Config) (on c : Circuit) (boot place : ℕ) → boot < 2 ^ 32 → IsSender t.config → AreSendable t → (s : Sent) → IsExact t s → IsFine s → ReadsUpdate by on t.config boot place c s
+sent-back t by on c boot place low_boot sender all (PointHello state extended names) held fine e can = absurd (cc)
+sent-back t by on c boot place low_boot sender all (LanHello level lan snpas) held fine e can = absurd (cc)
+sent-back t by on c boot place low_boot sender all (Lsp level id cell) held fine e can = held-back t by on c boot place low_boot level id cell sender all held fine can
+sent-back t by on c boot place low_boot sender all (Csnp level start end entries) held fine e can = csnp-reads by t.config on c boot place low_boot level start end entries sender fine.0 fine.1 fine.2 can
+sent-back t by on c boot place low_boot sender all (Psnp level entries) held fine e can = psnp-reads by t.config on c boot place low_boot level entries sender fine can
 
-out-back : (t : Router) (by : Config) (on c : Circuit) (place : ℕ) → IsSender t.config → AreSendable t → (out : List Sent) → AllByRecursion (IsExact t) out → AllByRecursion IsFine out → AllByRecursion (ReadsUpdate by on t.config place c) out
-out-back t by on c place sender all [] held fine = tt
-out-back t by on c place sender all (s ∷ out) held fine = (sent-back t by on c place sender all s held.0 fine.0, out-back t by on c place sender all out held.1 fine.1)
+out-back : (t : Router) (by : Config) (on c : Circuit) (boot place : ℕ) → boot < 2 ^ 32 → IsSender t.config → AreSendable t → (out : List Sent) → AllByRecursion (IsExact t) out → AllByRecursion IsFine out → AllByRecursion (ReadsUpdate by on t.config boot place c) out
+out-back t by on c boot place low_boot sender all [] held fine = tt
+out-back t by on c boot place low_boot sender all (s ∷ out) held fine = (sent-back t by on c boot place low_boot sender all s held.0 fine.0, out-back t by on c boot place low_boot sender all out held.1 fine.1)
 
-reply-back : (t : Router) (by : Config) (on c : Circuit) (place : ℕ) → IsSender t.config → AreSendable t → (reply : Reply) → IsReplyExact t reply → IsReplyFine reply → AllSent (ReadsUpdate by on t.config place c) reply
-reply-back t by on c place sender all Done held fine = tt
-reply-back t by on c place sender all (Dropped cause) held fine = tt
-reply-back t by on c place sender all (Send out) held fine = out-back t by on c place sender all out held fine
+reply-back : (t : Router) (by : Config) (on c : Circuit) (boot place : ℕ) → boot < 2 ^ 32 → IsSender t.config → AreSendable t → (reply : Reply) → IsReplyExact t reply → IsReplyFine reply → AllSent (ReadsUpdate by on t.config boot place c) reply
+reply-back t by on c boot place low_boot sender all Done held fine = tt
+reply-back t by on c boot place low_boot sender all (Dropped cause) held fine = tt
+reply-back t by on c boot place low_boot sender all (Send out) held fine = out-back t by on c boot place low_boot sender all out held fine
 
-pub step-reads : (leaks : Router → Level → List (ℕ × ℕ)) (attached : Router → Bool) (r : Router) (event : Event) (by : Config) (on c : Circuit) (place : ℕ) → IsSorted r → IsGoodRouter r → IsTelling r → IsGoodEvent event → TellsEvent r.config event → AreSendable r → IsSender (step (given_octets leaks attached) r event).router.config → AllSent (ReadsUpdate by on (step (given_octets leaks attached) r event).router.config place c) (step (given_octets leaks attached) r event).reply
-step-reads leaks attached r event by on c place sorted good telling sound told all sender =
+pub step-reads : (leaks : Router → Level → List (ℕ × ℕ)) (attached : Router → Bool) (r : Router) (event : Event) (by : Config) (on c : Circuit) (boot place : ℕ) → boot < 2 ^ 32 → IsSorted r → IsGoodRouter r → IsTelling r → IsGoodEvent event → TellsEvent r.config event → AreSendable r → IsSender (step (given_octets leaks attached) r event).router.config → AllSent (ReadsUpdate by on (step (given_octets leaks attached) r event).router.config boot place c) (step (given_octets leaks attached) r event).reply
+step-reads leaks attached r event by on c boot place low_boot sorted good telling sound told all sender =
     let given = given_octets leaks attached in
-    reply-back (step given r event).router by on c place sender (step-sendable leaks attached r event good telling sound told all) (step given r event).reply (step-exact given r event sorted) (step-fine given r event sorted good sound)
+    reply-back (step given r event).router by on c boot place low_boot sender (step-sendable leaks attached r event good telling sound told all) (step given r event).reply (step-exact given r event sorted) (step-fine given r event sorted good sound)

@@ -37,7 +37,7 @@ use Rattle.isis_datagram.specs.Reading.{message, refused_or, read}
 use Rattle.isis_datagram.specs.Signing.{signed_tlvs, signed}
 use Rattle.isis_datagram.specs.Tlvs.{lsp_entry, entry_tlvs}
 use Rattle.isis_datagram.specs.Datagrams.{datagram, pdu_octets}
-use Rattle.isis_datagram.specs.Said.{said, CanRead}
+use Rattle.isis_datagram.specs.Said.{envelope, said, CanRead}
 use Rattle.isis_datagram.specs.Senders.{IsSender}
 use Rattle.isis_model.specs.Good.{IsTellable, AreTellable}
 use Rattle.isis_datagram.proofs.NumberLemmas.{u48-again, lsp-reads_back}
@@ -163,9 +163,9 @@ psnp-head level n = record {
   lives = psnp-lives level n;
 }
 
-pub psnp-reads : (by config : Config) (on c : Circuit) (place : ℕ) (level : Level) (entries : List SnpEntry) → IsSender config → AreTellable entries → CanRead by on config c (kind.Psnp level) → read by on (datagram config place c (sent.Psnp level entries)) ≡ said by.system config place c (sent.Psnp level entries)
+pub psnp-reads : (by config : Config) (on c : Circuit) (boot place : ℕ) → boot < 2 ^ 32 → (level : Level) (entries : List SnpEntry) → IsSender config → AreTellable entries → CanRead by on config c (kind.Psnp level) → read by on (datagram config boot place c (sent.Psnp level entries)) ≡ said by.system config boot place c (sent.Psnp level entries)
 unfolding pdu_octets signed
-psnp-reads by config on c place level entries sender tellable takes =
+psnp-reads by config on c boot place low_boot level entries sender tellable takes =
     let its = kind.Psnp level in
     let key = at config.keys level in
     let pdu = psnp level (node_id (256 * config.system)) in
@@ -176,9 +176,9 @@ psnp-reads by config on c place level entries sender tellable takes =
     let none = all-hold (tests_of by on (pdu tlvs) octets) (is-short its pdu head few entries tellable key, (takes.goes, (takes.runs, (is-authentic its pdu head few entries tellable key (at by.keys level) takes.key, (are-read its pdu head few entries tellable key, (refl, (refl, tt))))))) in
     let source = same-source config.system sender.system in
     let entries_are = listed its pdu head few entries tellable key in
-    read-begins by on config.system octets (pdu tlvs) sender.system (octets_of_pdu-begins (pdu tlvs) (writable its pdu head few entries tellable key))
-    ∙ ap (λ cause. refused_or cause (message by.system config.system (pdu tlvs) octets)) none
-    ∙ (λ i. SnpHeard level config.system (source i) None (entries_are i))
+    read-begins by on config.system boot octets (pdu tlvs) sender.system low_boot (octets_of_pdu-begins (pdu tlvs) (writable its pdu head few entries tellable key))
+    ∙ ap (λ cause. refused_or cause (message by.system (envelope config boot) (pdu tlvs) octets)) none
+    ∙ (λ i. SnpHeard level (envelope config boot) (source i) None (entries_are i))
 
 -- ---- CSNPs
 
@@ -200,9 +200,9 @@ csnp-head level n a b = record {
   lives = csnp-lives level n a b;
 }
 
-pub csnp-reads : (by config : Config) (on c : Circuit) (place : ℕ) (level : Level) (start end : ℕ) (entries : List SnpEntry) → IsSender config → start < 2 ^ 64 → end < 2 ^ 64 → AreTellable entries → CanRead by on config c (kind.Csnp level) → read by on (datagram config place c (sent.Csnp level start end entries)) ≡ said by.system config place c (sent.Csnp level start end entries)
+pub csnp-reads : (by config : Config) (on c : Circuit) (boot place : ℕ) → boot < 2 ^ 32 → (level : Level) (start end : ℕ) (entries : List SnpEntry) → IsSender config → start < 2 ^ 64 → end < 2 ^ 64 → AreTellable entries → CanRead by on config c (kind.Csnp level) → read by on (datagram config boot place c (sent.Csnp level start end entries)) ≡ said by.system config boot place c (sent.Csnp level start end entries)
 unfolding pdu_octets signed
-csnp-reads by config on c place level start end entries sender low high tellable takes =
+csnp-reads by config on c boot place low_boot level start end entries sender low high tellable takes =
     let its = kind.Csnp level in
     let key = at config.keys level in
     let pdu = csnp level (node_id (256 * config.system)) (lsp_id start) (lsp_id end) in
@@ -215,6 +215,6 @@ csnp-reads by config on c place level start end entries sender low high tellable
     let first = lsp-reads_back start low in
     let last = lsp-reads_back end high in
     let entries_are = listed its pdu head few entries tellable key in
-    read-begins by on config.system octets (pdu tlvs) sender.system (octets_of_pdu-begins (pdu tlvs) (writable its pdu head few entries tellable key))
-    ∙ ap (λ cause. refused_or cause (message by.system config.system (pdu tlvs) octets)) none
-    ∙ (λ i. SnpHeard level config.system (source i) (Some (first i, last i)) (entries_are i))
+    read-begins by on config.system boot octets (pdu tlvs) sender.system low_boot (octets_of_pdu-begins (pdu tlvs) (writable its pdu head few entries tellable key))
+    ∙ ap (λ cause. refused_or cause (message by.system (envelope config boot) (pdu tlvs) octets)) none
+    ∙ (λ i. SnpHeard level (envelope config boot) (source i) (Some (first i, last i)) (entries_are i))

@@ -38,6 +38,6 @@ pdu_octets config place c (Psnp level entries) =
     signed (at config.keys level) (pdu.Psnp level (node_id (256 * config.system)))
     (entry_tlvs entries)
 
--- a router's SNPA is its system ID (own)
-abbrev pub datagram : Config → ℕ → Circuit → Sent → List ℕ
-datagram config place c sent = framed config.system (pdu_octets config place c sent)
+-- a router's SNPA is its system ID; it is in a boot (own)
+abbrev pub datagram : Config → ℕ → ℕ → Circuit → Sent → List ℕ
+datagram config boot place c sent = framed config.system boot (pdu_octets config place c sent)

@@ -61,10 +61,10 @@ abbrev pub TellsKept : Config → Message → Type 0
 TellsKept by (Refused cause) = Unit {0}
 TellsKept by (PointHelloHeard h) = Unit {0}
 TellsKept by (LanHelloHeard level h) = Unit {0}
-TellsKept by (LspHeard level snpa h) =
+TellsKept by (LspHeard level from h) =
     (is_live h.rank ≡ true → TellsLive (at by.keys level) level h.id (kept h))
     × (is_purge h.rank ≡ true → IsPurge level h.id (kept h))
-TellsKept by (SnpHeard level snpa source range entries) = Unit {0}
+TellsKept by (SnpHeard level from source range entries) = Unit {0}
 
 -- ---- what a router holds
 
@@ -100,7 +100,7 @@ is_update (Psnp level entries) = true
 
 -- an LSP or an SNP that is sent on a circuit is read as what it says, by a reader that can read it
 -- (own)
-abbrev pub ReadsUpdate : Config → Circuit → Config → ℕ → Circuit → Sent → Type 0
-ReadsUpdate by on config place c sent =
+abbrev pub ReadsUpdate : Config → Circuit → Config → ℕ → ℕ → Circuit → Sent → Type 0
+ReadsUpdate by on config boot place c sent =
     is_update sent ≡ true → CanRead by on config c (kind_sent sent)
-    → ReadsBack by on config place c sent
+    → ReadsBack by on config boot place c sent

@@ -14,7 +14,7 @@ use Rattle.isis_model.specs.Ranks.{live_rank, purge_rank}
 use Rattle.isis_model.specs.Both.{Both}
 use Rattle.isis_model.specs.Configs.{Config}
 use Rattle.isis_model.specs.Routers.{Circuit}
-use Rattle.isis_model.specs.Events.{Message, Refused, PointHelloHeard, LanHelloHeard, LspHeard, SnpHeard}
+use Rattle.isis_model.specs.Events.{Envelope, Message, Refused, PointHelloHeard, LanHelloHeard, LspHeard, SnpHeard}
 use Rattle.isis_model.specs.Numbers.{system_number, node_number}
 use Rattle.isis_datagram.specs.Frames.{unframed}
 use Rattle.isis_datagram.specs.Values.{areas_in, snpas_in, entries_in, handshakes_in, snp_entry, lists, first_handshake}
@@ -30,12 +30,13 @@ runs_of levels.Both = record { one = true; two = true }
 abbrev pub rank_read : ℕ → ℕ → ℕ
 rank_read number lifetime = if lifetime == 0 then purge_rank number else live_rank number
 
--- What a PDU from an SNPA says, whose octets are these: `own` is the reader's own SNPA (9).
-abbrev pub message : ℕ → ℕ → PduView → List ℕ → Message
-message own snpa (LanHello level circuit_type source holding priority lan tlvs) octets =
+-- What a PDU in an envelope says, whose octets are these: `own` is the reader's own SNPA (9).
+abbrev pub message : ℕ → Envelope → PduView → List ℕ → Message
+message own from (LanHello level circuit_type source holding priority lan tlvs) octets =
     LanHelloHeard level (record {
       source = system_number source;
-      snpa = snpa;
+      snpa = from.snpa;
+      boot = from.boot;
       runs = runs_of circuit_type;
       holding = holding;
       priority = priority;
@@ -44,10 +45,11 @@ message own snpa (LanHello level circuit_type source holding priority lan tlvs) 
       handshake = None;
       names_me = lists own (ok_prefix (snpas_in tlvs));
     })
-message own snpa (PointHello circuit_type source holding circuit tlvs) octets =
+message own from (PointHello circuit_type source holding circuit tlvs) octets =
     PointHelloHeard (record {
       source = system_number source;
-      snpa = snpa;
+      snpa = from.snpa;
+      boot = from.boot;
       runs = runs_of circuit_type;
       holding = holding;
       priority = 0;
@@ -56,8 +58,8 @@ message own snpa (PointHello circuit_type source holding circuit tlvs) octets =
       handshake = first_handshake (ok_prefix (handshakes_in tlvs));
       names_me = false;
     })
-message own snpa (Lsp level lifetime id number checksum flags tlvs) octets =
-    LspHeard level snpa (record {
+message own from (Lsp level lifetime id number checksum flags tlvs) octets =
+    LspHeard level from (record {
       id = lsp_number id;
       rank = rank_read number lifetime;
       checksum = checksum;
@@ -65,11 +67,11 @@ message own snpa (Lsp level lifetime id number checksum flags tlvs) octets =
       left = lifetime;
       octets = octets;
     })
-message own snpa (Csnp level source start end tlvs) octets =
-    SnpHeard level snpa (system_number source.system) (Some (lsp_number start, lsp_number end))
+message own from (Csnp level source start end tlvs) octets =
+    SnpHeard level from (system_number source.system) (Some (lsp_number start, lsp_number end))
     (map snp_entry (ok_prefix (entries_in tlvs)))
-message own snpa (Psnp level source tlvs) octets =
-    SnpHeard level snpa (system_number source.system) None
+message own from (Psnp level source tlvs) octets =
+    SnpHeard level from (system_number source.system) None
     (map snp_entry (ok_prefix (entries_in tlvs)))
 
 -- own
@@ -77,18 +79,18 @@ abbrev pub refused_or : Option DropName → Message → Message
 refused_or None message = message
 refused_or (Some cause) message = Refused cause
 
--- a PDU of so many octets from an SNPA (own)
-abbrev pub read_pdu : Config → Circuit → ℕ → List ℕ → Result (PduView × ℕ) PduFault → Message
-read_pdu config c snpa octets (Err fault) = Refused drop.Pdu
-read_pdu config c snpa octets (Ok found) =
+-- a PDU of so many octets in an envelope (own)
+abbrev pub read_pdu : Config → Circuit → Envelope → List ℕ → Result (PduView × ℕ) PduFault → Message
+read_pdu config c from octets (Err fault) = Refused drop.Pdu
+read_pdu config c from octets (Ok found) =
     let whole = take found.1 octets in
     refused_or (first_failing (tests_of config c found.0 whole))
-    (message config.system snpa found.0 whole)
+    (message config.system from found.0 whole)
 
 -- own
-abbrev pub read_frame : Config → Circuit → Option (ℕ × List ℕ) → Message
-read_frame config c None = Refused drop.Frame
-read_frame config c (Some parts) = read_pdu config c parts.0 parts.1 (decoded parts.1)
+abbrev pub read_frame : Config → Circuit → Result (Envelope × List ℕ) DropName → Message
+read_frame config c (Err cause) = Refused cause
+read_frame config c (Ok parts) = read_pdu config c parts.0 parts.1 (decoded parts.1)
 
 -- what a router reads of a datagram on a circuit (own)
 unfoldable pub read : Config → Circuit → List ℕ → Message

@@ -11,7 +11,7 @@ use Rattle.isis_model.specs.Both.{Both}
 use Rattle.isis_model.specs.Configs.{Config}
 use Rattle.isis_model.specs.Cells.{Heard}
 use Rattle.isis_model.specs.SnpTable.{SnpEntry}
-use Rattle.isis_model.specs.Events.{Message, PointHelloHeard}
+use Rattle.isis_model.specs.Events.{Envelope, Message, PointHelloHeard}
 use Rattle.isis_model.specs.Rows.{config, circuit}
 use Rattle.isis_model.specs.Numbers.{system_id, node_id, lsp_id}
 use Rattle.isis_datagram.specs.Frames.{framed}
@@ -64,7 +64,7 @@ other_keys = record { one = Some (codes "AreaKey2"); two = None }
 
 -- own
 abbrev pub read_by : Config → Bool → List ℕ → Message
-read_by by lan octets = read by (circuit lan) (framed 2 octets)
+read_by by lan octets = read by (circuit lan) (framed 2 3 octets)
 
 -- an LSP of flags 3 (own)
 abbrev pub heard : ℕ → ℕ → ℕ → ℕ → List ℕ → Heard
@@ -106,6 +106,7 @@ abbrev pub down_heard : ℕ → Message
 down_heard extended = PointHelloHeard (record {
   source = 2;
   snpa = 2;
+  boot = 3;
   runs = record { one = true; two = true };
   holding = 30;
   priority = 0;
@@ -122,3 +123,7 @@ padding count =
     ++ tlv_octets 8 (replicate 255 0)
     ++ tlv_octets 8 (replicate 255 0) ++ tlv_octets 8 (replicate 255 0)
     ++ tlv_octets 8 (replicate count 0)
+
+-- the envelope of what is read (own)
+abbrev pub from_two : Envelope
+from_two = record { snpa = 2; boot = 3 }

@@ -6,7 +6,7 @@ use Rattle.isis_model.specs.Ranks.{is_live}
 use Rattle.isis_model.specs.Configs.{Config}
 use Rattle.isis_model.specs.Routers.{Circuit}
 use Rattle.isis_model.specs.Datagrams.{Sent, PointHello, LanHello, Lsp, Csnp, Psnp}
-use Rattle.isis_model.specs.Events.{Message, PointHelloHeard, LanHelloHeard, LspHeard, SnpHeard}
+use Rattle.isis_model.specs.Events.{Envelope, Message, PointHelloHeard, LanHelloHeard, LspHeard, SnpHeard}
 use Rattle.isis_datagram.specs.Datagrams.{pdu_octets, datagram}
 use Rattle.isis_datagram.specs.Reading.{read}
 use Rattle.isis_datagram.specs.Tests.{goes_on, is_run, key_for}
@@ -16,12 +16,17 @@ abbrev pub names : ℕ → List ℕ → Bool
 names snpa [] = false
 names snpa (first ∷ snpas) = (first == snpa) || names snpa snpas
 
--- The message that what is sent on a circuit says to a reader, whose SNPA is `own`. An LSP that is
--- a purge has 0 seconds left (own).
-abbrev pub said : ℕ → Config → ℕ → Circuit → Sent → Message
-said own config place c (PointHello state extended named) = PointHelloHeard (record {
+-- the envelope of what a system sends in a boot (own)
+abbrev pub envelope : Config → ℕ → Envelope
+envelope config boot = record { snpa = config.system; boot = boot }
+
+-- The message that what is sent in a boot on a circuit says to a reader, whose SNPA is `own`. An LSP
+-- that is a purge has 0 seconds left (own).
+abbrev pub said : ℕ → Config → ℕ → ℕ → Circuit → Sent → Message
+said own config boot place c (PointHello state extended named) = PointHelloHeard (record {
   source = config.system;
   snpa = config.system;
+  boot = boot;
   runs = config.runs;
   holding = 30;
   priority = 0;
@@ -30,9 +35,10 @@ said own config place c (PointHello state extended named) = PointHelloHeard (rec
   handshake = Some (record { state = state; extended = extended; names = named });
   names_me = false;
 })
-said own config place c (LanHello level lan snpas) = LanHelloHeard level (record {
+said own config boot place c (LanHello level lan snpas) = LanHelloHeard level (record {
   source = config.system;
   snpa = config.system;
+  boot = boot;
   runs = config.runs;
   holding = 30;
   priority = c.priority;
@@ -41,7 +47,7 @@ said own config place c (LanHello level lan snpas) = LanHelloHeard level (record
   handshake = None;
   names_me = names own snpas;
 })
-said own config place c (Lsp level id cell) = LspHeard level config.system (record {
+said own config boot place c (Lsp level id cell) = LspHeard level (envelope config boot) (record {
   id = id;
   rank = cell.rank;
   checksum = cell.checksum;
@@ -49,15 +55,15 @@ said own config place c (Lsp level id cell) = LspHeard level config.system (reco
   left = if is_live cell.rank then cell.left else 0;
   octets = pdu_octets config place c (Lsp level id cell);
 })
-said own config place c (Csnp level start end entries) =
-    SnpHeard level config.system config.system (Some (start, end)) entries
-said own config place c (Psnp level entries) =
-    SnpHeard level config.system config.system None entries
+said own config boot place c (Csnp level start end entries) =
+    SnpHeard level (envelope config boot) config.system (Some (start, end)) entries
+said own config boot place c (Psnp level entries) =
+    SnpHeard level (envelope config boot) config.system None entries
 
 -- what is sent is read as what it says (own)
-abbrev pub ReadsBack : Config → Circuit → Config → ℕ → Circuit → Sent → Type 0
-ReadsBack by on config place c sent =
-    read by on (datagram config place c sent) ≡ said by.system config place c sent
+abbrev pub ReadsBack : Config → Circuit → Config → ℕ → ℕ → Circuit → Sent → Type 0
+ReadsBack by on config boot place c sent =
+    read by on (datagram config boot place c sent) ≡ said by.system config boot place c sent
 
 -- ---- who reads it
 

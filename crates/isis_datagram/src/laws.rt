@@ -41,8 +41,8 @@ pub fn number_laws()
 
 /// A datagram's frame reads back.
 pub fn frame_law()
-    ensures { (snpa : ℕ) (pdu : List ℕ) → snpa < 2 ^ 48
-        → unframed (framed snpa pdu) ≡ Some (snpa, pdu) }
+    ensures { (snpa boot : ℕ) (pdu : List ℕ) → snpa < 2 ^ 48 → boot < 2 ^ 32
+        → unframed (framed snpa boot pdu) ≡ Ok (record { snpa = snpa; boot = boot }, pdu) }
 {}
 
 /// Octets that begin with a PDU decode to it.
@@ -72,36 +72,36 @@ pub fn good_law()
 
 /// A point-to-point hello reads back, with its authentication where there is a key.
 pub fn point_hello_law()
-    ensures { (by config : Config) (on c : Circuit) (place : ℕ)
+    ensures { (by config : Config) (on c : Circuit) (boot place : ℕ)
         (state : Adj) (extended : ℕ) (named : Option (ℕ × ℕ))
-        → IsSender config → IsHandshake extended named → CanRead by on config c kind.PointHello
-        → ReadsBack by on config place c (PointHello state extended named) }
+        → boot < 2 ^ 32 → IsSender config → IsHandshake extended named → CanRead by on config c kind.PointHello
+        → ReadsBack by on config boot place c (PointHello state extended named) }
 {}
 
 /// A LAN hello reads back, with its authentication where there is a key.
 pub fn lan_hello_law()
-    ensures { (by config : Config) (on c : Circuit) (place : ℕ)
+    ensures { (by config : Config) (on c : Circuit) (boot place : ℕ)
         (level : Level) (lan : ℕ) (snpas : List ℕ)
-        → IsSender config → IsLanHello c.priority lan snpas
+        → boot < 2 ^ 32 → IsSender config → IsLanHello c.priority lan snpas
         → CanRead by on config c (kind.LanHello level)
-        → ReadsBack by on config place c (LanHello level lan snpas) }
+        → ReadsBack by on config boot place c (LanHello level lan snpas) }
 {}
 
 /// A PSNP reads back, with its authentication where there is a key.
 pub fn psnp_law()
-    ensures { (by config : Config) (on c : Circuit) (place : ℕ)
+    ensures { (by config : Config) (on c : Circuit) (boot place : ℕ)
         (level : Level) (entries : List SnpEntry)
-        → IsSender config → AreTellable entries → CanRead by on config c (kind.Psnp level)
-        → ReadsBack by on config place c (Psnp level entries) }
+        → boot < 2 ^ 32 → IsSender config → AreTellable entries → CanRead by on config c (kind.Psnp level)
+        → ReadsBack by on config boot place c (Psnp level entries) }
 {}
 
 /// A CSNP reads back, with its authentication where there is a key.
 pub fn csnp_law()
-    ensures { (by config : Config) (on c : Circuit) (place : ℕ)
+    ensures { (by config : Config) (on c : Circuit) (boot place : ℕ)
         (level : Level) (start end : ℕ) (entries : List SnpEntry)
-        → IsSender config → start < 2 ^ 64 → end < 2 ^ 64 → AreTellable entries
+        → boot < 2 ^ 32 → IsSender config → start < 2 ^ 64 → end < 2 ^ 64 → AreTellable entries
         → CanRead by on config c (kind.Csnp level)
-        → ReadsBack by on config place c (Csnp level start end entries) }
+        → ReadsBack by on config boot place c (Csnp level start end entries) }
 {}
 
 /// What is issued says what is held of it, has a checksum that holds and is authentic. So it may be
@@ -117,19 +117,19 @@ pub fn issue_law()
 
 /// A live LSP that is held reads back, with the seconds that are left.
 pub fn lsp_law()
-    ensures { (by config : Config) (on c : Circuit) (place : ℕ)
+    ensures { (by config : Config) (on c : Circuit) (boot place : ℕ)
         (level : Level) (id : ℕ) (cell : Cell)
-        → config.system < 2 ^ 48 → IsLiveLsp (at config.keys level) level id cell
+        → boot < 2 ^ 32 → config.system < 2 ^ 48 → IsLiveLsp (at config.keys level) level id cell
         → CanRead by on config c (kind.Lsp level)
-        → ReadsBack by on config place c (Lsp level id cell) }
+        → ReadsBack by on config boot place c (Lsp level id cell) }
 {}
 
 /// A purge that is held reads back: its header, with its authentication where there is a key.
 pub fn purge_law()
-    ensures { (by config : Config) (on c : Circuit) (place : ℕ)
+    ensures { (by config : Config) (on c : Circuit) (boot place : ℕ)
         (level : Level) (id : ℕ) (cell : Cell)
-        → config.system < 2 ^ 48 → IsPurge level id cell → CanRead by on config c (kind.Lsp level)
-        → ReadsBack by on config place c (Lsp level id cell) }
+        → boot < 2 ^ 32 → config.system < 2 ^ 48 → IsPurge level id cell → CanRead by on config c (kind.Lsp level)
+        → ReadsBack by on config boot place c (Lsp level id cell) }
 {}
 
 /// The purge that is made of a live LSP that may be sent may be sent.
@@ -158,11 +158,11 @@ pub fn sendable_laws()
 /// Whatever LSP or SNP a step sends reads back, on whichever circuit, by a reader that can read it.
 pub fn step_reads()
     ensures { (leaks : Router → Level → List (ℕ × ℕ)) (attached : Router → Bool)
-        (r : Router) (event : Event) (by : Config) (on c : Circuit) (place : ℕ)
-        → IsSorted r → IsGoodRouter r → IsTelling r → IsGoodEvent event
+        (r : Router) (event : Event) (by : Config) (on c : Circuit) (boot place : ℕ)
+        → boot < 2 ^ 32 → IsSorted r → IsGoodRouter r → IsTelling r → IsGoodEvent event
         → TellsEvent r.config event → AreSendable r
         → IsSender (step (given_octets leaks attached) r event).router.config
         → AllSent
-        (ReadsUpdate by on (step (given_octets leaks attached) r event).router.config place c)
+        (ReadsUpdate by on (step (given_octets leaks attached) r event).router.config boot place c)
         (step (given_octets leaks attached) r event).reply }
 {}

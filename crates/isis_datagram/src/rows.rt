@@ -7,7 +7,7 @@ ghost use Rattle.isis_model.specs.declared.drop_name.DropName.TheVariants as dro
 ghost use Rattle.isis_model.specs.Events.{Refused, LspHeard, SnpHeard};
 ghost use Rattle.isis_model.specs.Rows.{config, circuit};
 ghost use Rattle.isis_datagram.specs.Reading.{read};
-ghost use Rattle.isis_datagram.specs.Rows.{frr_lsp, frr_purge, frr_csnp, frr_psnp, reader, level_one, no_keys, keys, other_keys, read_by, heard, entry, psnp, lsp, point_hello, lan_hello, down_heard, padding};
+ghost use Rattle.isis_datagram.specs.Rows.{from_two, frr_lsp, frr_purge, frr_csnp, frr_psnp, reader, level_one, no_keys, keys, other_keys, read_by, heard, entry, psnp, lsp, point_hello, lan_hello, down_heard, padding};
 ghost use Rattle.isis_datagram.specs.Tlvs.{snpa_tlvs, entry_tlvs};
 ghost use Rattle.isis_datagram.specs.Datagrams.{pdu_octets};
 ghost use Rattle.isis_datagram.specs.Frames.{framed};
@@ -17,13 +17,13 @@ ghost use Rattle.isis_tlv.specs.declared.three_way.Adj.TheVariants.{Down};
 /// PDUs of FRR, by a reader without keys.
 pub fn frr_rows()
     ensures lsp { read_by (reader no_keys) false frr_lsp
-        ≡ LspHeard level.One 2 (heard 131072 2 42760 1179 frr_lsp) }
+        ≡ LspHeard level.One from_two (heard 131072 2 42760 1179 frr_lsp) }
     ensures purge { read_by (reader no_keys) true frr_purge
-        ≡ LspHeard level.Two 2 (heard 262656 5 48576 0 frr_purge) }
+        ≡ LspHeard level.Two from_two (heard 262656 5 48576 0 frr_purge) }
     ensures csnp { read_by (reader no_keys) false frr_csnp
-        ≡ SnpHeard level.One 2 2 (Some (0, 2 ^ 64 - 1)) (entry 1179 ∷ []) }
+        ≡ SnpHeard level.One from_two 2 (Some (0, 2 ^ 64 - 1)) (entry 1179 ∷ []) }
     ensures psnp { read_by (reader no_keys) true frr_psnp
-        ≡ SnpHeard level.One 2 1 None (entry 1178 ∷ []) }
+        ≡ SnpHeard level.One from_two 1 None (entry 1178 ∷ []) }
 {}
 
 /// By a reader with the keys they say the same, and with another one nothing.
@@ -37,11 +37,12 @@ pub fn key_rows()
 
 /// The causes of a drop, each by a datagram that fails its test and none before it.
 pub fn drop_rows()
-    ensures frame { read config (circuit false) (73 ∷ 83 ∷ 85 ∷ 49 ∷ 0 ∷ []) ≡ Refused drop.Frame }
+    ensures frame { read config (circuit false) (73 ∷ 83 ∷ 85 ∷ 50 ∷ 0 ∷ []) ≡ Refused drop.Frame }
+    ensures version { read config (circuit false) (73 ∷ 83 ∷ 85 ∷ 49 ∷ []) ≡ Refused drop.Version }
     ensures pdu { read_by (reader no_keys) false [] ≡ Refused drop.Pdu }
     ensures too_long { read_by (reader no_keys) false (psnp (padding 189)) ≡ Refused drop.TooLong }
     ensures long { read_by (reader no_keys) false (psnp (padding 188))
-        ≡ SnpHeard level.One 2 2 None [] }
+        ≡ SnpHeard level.One from_two 2 None [] }
     ensures lan_hello { read_by (reader no_keys) false lan_hello ≡ Refused drop.WrongKind }
     ensures point_hello { read_by (reader no_keys) true (point_hello []) ≡ Refused drop.WrongKind }
     ensures wrong_level { read_by config false (psnp []) ≡ Refused drop.WrongLevel }
@@ -92,8 +93,8 @@ pub fn piece_rows()
 /// of system 2 (own), its hello in Down on circuit 1, its hello on LAN 2 where it is designated, a
 /// CSNP and a PSNP.
 pub fn sent_rows()
-    ensures frame { framed 2 (7 ∷ [])
-        ≡ 73 ∷ 83 ∷ 85 ∷ 49 ∷ 0 ∷ 0 ∷ 0 ∷ 0 ∷ 0 ∷ 2 ∷ 7 ∷ [] }
+    ensures frame { framed 2 3 (7 ∷ [])
+        ≡ 73 ∷ 83 ∷ 85 ∷ 50 ∷ 0 ∷ 0 ∷ 0 ∷ 0 ∷ 0 ∷ 2 ∷ 0 ∷ 0 ∷ 0 ∷ 3 ∷ 7 ∷ [] }
     ensures point_hello { pdu_octets config 0 (circuit false) (PointHello Down 257 None)
         ≡ 131 ∷ 20 ∷ 1 ∷ 0 ∷ 17 ∷ 1 ∷ 0 ∷ 0 ∷ 2 ∷ 0 ∷ 0 ∷ 0 ∷ 0 ∷ 0 ∷ 1 ∷ 0 ∷ 30 ∷ 0 ∷ 36 ∷ 1
         ∷ 1 ∷ 4 ∷ 3 ∷ 73 ∷ 0 ∷ 1 ∷ 129 ∷ 1 ∷ 204 ∷ 240 ∷ 5 ∷ 2 ∷ 0 ∷ 0 ∷ 1 ∷ 1 ∷ [] }

@@ -20,5 +20,6 @@ text_failed_text text.OutOfMemory = codes "out of memory"
 
 -- why a datagram has no frame, in words (own)
 abbrev pub frame_fault_text : FrameFault → List ℕ
-frame_fault_text frame.Short = codes "the datagram has fewer than 10 octets"
-frame_fault_text frame.Magic = codes "the datagram doesn't begin with ISU1"
+frame_fault_text frame.Version = codes "the datagram begins with ISU1"
+frame_fault_text frame.Short = codes "the datagram has fewer than 14 octets"
+frame_fault_text frame.Magic = codes "the datagram doesn't begin with ISU2"

@@ -2,7 +2,7 @@
 use Rattle.std.proofs.Common.{◌≡◌, ◌≢◌, ℕ, zero, suc, ◌<◌, Bool, true, false, List, [], ◌∷◌, length, Option, Some, None, if◌then◌else◌, refl, sym, ap, ◌∙◌, arith}
 use Rattle.isis_base.specs.declared.level.Level.{Level}
 use Rattle.isis_model.specs.declared.drop_name.DropName.{DropName}
-use Rattle.isis_model.specs.declared.drop_name.DropName.TheVariants.{Frame, Pdu, TooLong, WrongKind, WrongLevel, Auth, Value, ZeroNumber, BadChecksum, OwnId, OtherSnpa, NoLevel, NoArea, NoThreeWay, OtherNeighbour, TooMany, NoAdjacency, NotDesignated, StoreFull}
+use Rattle.isis_model.specs.declared.drop_name.DropName.TheVariants.{Frame, Version, Pdu, TooLong, WrongKind, WrongLevel, Auth, Value, ZeroNumber, BadChecksum, OwnId, OtherSnpa, OldBoot, NoLevel, NoArea, NoThreeWay, OtherNeighbour, TooMany, NoAdjacency, NotDesignated, StoreFull}
 use Rattle.isis_model.specs.declared.lsp_case.LspCase.{LspCase}
 use Rattle.isis_model.specs.declared.lsp_case.LspCase.TheVariants as lsp
 use Rattle.isis_model.specs.Places.{nth, with_nth}
@@ -33,8 +33,9 @@ nth-others (x ∷ xs) zero y (suc q) h = refl
 nth-others (x ∷ xs) (suc place) y zero h = refl
 nth-others (x ∷ xs) (suc place) y (suc q) h = nth-others xs place y q (λ e. h (ap suc e))
 
-pub place-below : (cause : DropName) → drop_place cause < 19
+pub place-below : (cause : DropName) → drop_place cause < 21
 place-below Frame = omega arith
+place-below Version = omega arith
 place-below Pdu = omega arith
 place-below TooLong = omega arith
 place-below WrongKind = omega arith
@@ -45,6 +46,7 @@ place-below ZeroNumber = omega arith
 place-below BadChecksum = omega arith
 place-below OwnId = omega arith
 place-below OtherSnpa = omega arith
+place-below OldBoot = omega arith
 place-below NoLevel = omega arith
 place-below NoArea = omega arith
 place-below NoThreeWay = omega arith
@@ -55,11 +57,12 @@ place-below NotDesignated = omega arith
 place-below StoreFull = omega arith
 
 all-causes : List DropName
-all-causes = Frame ∷ Pdu ∷ TooLong ∷ WrongKind ∷ WrongLevel ∷ Auth ∷ Value ∷ ZeroNumber ∷ BadChecksum ∷ OwnId ∷ OtherSnpa ∷ NoLevel ∷ NoArea ∷ NoThreeWay ∷ OtherNeighbour ∷ TooMany ∷ NoAdjacency ∷ NotDesignated ∷ StoreFull ∷ []
+all-causes = Frame ∷ Version ∷ Pdu ∷ TooLong ∷ WrongKind ∷ WrongLevel ∷ Auth ∷ Value ∷ ZeroNumber ∷ BadChecksum ∷ OwnId ∷ OtherSnpa ∷ OldBoot ∷ NoLevel ∷ NoArea ∷ NoThreeWay ∷ OtherNeighbour ∷ TooMany ∷ NoAdjacency ∷ NotDesignated ∷ StoreFull ∷ []
 
 named : (cause : DropName) → nth all-causes (drop_place cause) ≡ Some cause
 unfolding all-causes
 named Frame = refl
+named Version = refl
 named Pdu = refl
 named TooLong = refl
 named WrongKind = refl
@@ -70,6 +73,7 @@ named ZeroNumber = refl
 named BadChecksum = refl
 named OwnId = refl
 named OtherSnpa = refl
+named OldBoot = refl
 named NoLevel = refl
 named NoArea = refl
 named NoThreeWay = refl
@@ -85,7 +89,7 @@ apart a b h e = h (same a b (sym (named a) ∙ ap (nth all-causes) e ∙ named b
     same : (a b : DropName) → ◌≡◌ {A = Option DropName} (Some a) (Some b) → a ≡ b
     same a b e = cc
 
-pub counted-cause : (drops : List ℕ) (cause : DropName) → length drops ≡ 19 → drops_of (count_drop drops cause) cause ≡ risen (drops_of drops cause)
+pub counted-cause : (drops : List ℕ) (cause : DropName) → length drops ≡ 21 → drops_of (count_drop drops cause) cause ≡ risen (drops_of drops cause)
 counted-cause drops cause h = ap count_or (nth-set drops (drop_place cause) (risen (drops_of drops cause)) (let b = place-below cause in omega (arith, h, b)))
 
 pub counted-others : (drops : List ℕ) (cause other : DropName) → other ≢ cause → drops_of (count_drop drops cause) other ≡ drops_of drops other

@@ -1,19 +1,22 @@
 -- Adjacencies from a router to the one after a step: which circuits are open, whom they keep, and
 -- what hellos tell of it (ISO 10589 8.2.4, RFC 5303 3.2; the words: own).
-use Rattle.std.specs.Prelude.{◌≡◌, ◌≢◌, ℕ, ◌<◌, Bool, true, false, not, ◌⊎◌, length, Option, Some, None}
+use Rattle.std.specs.Prelude.{◌≡◌, ◌≢◌, ℕ, ◌<◌, ◌≤◌, List, [], Bool, true, false, not, ◌⊎◌, length, Option, Some, None}
 use Rattle.isis_tlv.specs.declared.three_way.Adj.{Adj}
 use Rattle.isis_tlv.specs.declared.three_way.Adj.TheVariants.{Up, Down}
 use Rattle.isis_base.specs.declared.level.Level.{Level}
 use Rattle.isis_model.specs.Places.{nth}
 use Rattle.isis_model.specs.Sets.{has}
-use Rattle.isis_model.specs.Adjacencies.{Handshake, Hello}
+use Rattle.std.specs.Option.{option_map}
+use Rattle.isis_model.specs.Maps.{find}
+use Rattle.isis_model.specs.Adjacencies.{Neighbour, Handshake, Hello}
 use Rattle.isis_model.specs.Routers.{Circuit, Router, book_of, is_open, extended_of}
 use Rattle.isis_model.specs.Elections.{is_designated}
 use Rattle.isis_model.specs.Both.{at}
 use Rattle.isis_model.specs.Flooding.{Covers}
 use Rattle.isis_model.specs.Datagrams.{Sent, PointHello, LanHello, Lsp, Csnp, Psnp}
 use Rattle.isis_model.specs.Pulls.{names_of}
-use Rattle.isis_model.specs.Events.{PointHelloHeard, Event, Second, Take, Pull, Metric, Overload, Prefix, Reply}
+use Rattle.isis_model.specs.Hellos.{minded}
+use Rattle.isis_model.specs.Events.{PointHelloHeard, LanHelloHeard, Event, Second, Take, Pull, Metric, Overload, Prefix, Reply}
 use Rattle.isis_model.specs.Books.{rank_at, srm_at}
 use Rattle.isis_model.specs.StepLaws.{IsPointOpen}
 use Rattle.isis_model.specs.ReplyLaws.{AllSent}
@@ -50,14 +53,47 @@ pub record Bond : Type 0 where
 abbrev pub no_bond : Bond
 no_bond = record { state = Down; names = None }
 
--- own
-abbrev pub bond_of : Option Circuit → Bond
-bond_of None = no_bond
-bond_of (Some c) = record { state = c.point.state; names = names_of c.point.neighbour }
+-- A circuit's adjacency with the boot number of the neighbour that it keeps, and the greatest boot
+-- numbers that it remembers, by system (own).
+pub record Tie : Type 0 where
+  pub bond : Bond
+  pub boot : Option ℕ
+  pub boots : List (ℕ × ℕ)
 
--- the adjacency of the circuit at a place (own)
+-- own
+abbrev pub no_tie : Tie
+no_tie = record { bond = no_bond; boot = None; boots = [] }
+
+-- own
+abbrev pub tie_of : Option Circuit → Tie
+tie_of None = no_tie
+tie_of (Some c) = record {
+  bond = record { state = c.point.state; names = names_of c.point.neighbour };
+  boot = option_map (λ (n : Neighbour). n.boot) c.point.neighbour;
+  boots = c.boots;
+}
+
+-- the adjacency of the circuit at a place, and what it remembers (own)
+abbrev pub tie_at : Router → ℕ → Tie
+tie_at r place = tie_of (nth r.circuits place)
+
+-- the same where the adjacency has ended: what is remembered stays (own)
+abbrev pub ended : Tie → Tie
+ended tie = record tie { bond = no_bond; boot = None }
+
+-- the adjacency alone (own)
+abbrev pub bond_of : Option Circuit → Bond
+bond_of c = (tie_of c).bond
+
+-- own
 abbrev pub bond_at : Router → ℕ → Bond
 bond_at r place = bond_of (nth r.circuits place)
+
+-- a hello's boot number is made the one that is remembered of its system, and none that was was
+-- greater (own)
+pub record Minds (old : Tie) (h : Hello) (new : Tie) : Type 0 where
+  pub boots : new.boots ≡ minded old.boots h
+  pub least : (boot : ℕ) → find old.boots h.source ≡ Some boot → boot ≤ h.boot
 
 -- nobody is kept exactly in Down (own)
 pub record IsBond (b : Bond) : Type 0 where
@@ -83,17 +119,26 @@ abbrev pub NamesMe : Router → ℕ → Option (ℕ × ℕ) → Type 0
 NamesMe r place None = Unit {0}
 NamesMe r place (Some names) = (names.0 ≡ r.config.system) × (names.1 ≡ extended_of r.boot place)
 
--- What a step does to a circuit's adjacency: nothing, or it ends, or a hello is taken there that
--- names nobody or this router in its present boot, and its sender is kept. Where that is another
--- neighbour than before, the circuit closed and opened anew, and every key is flagged where it is
--- open (own).
+-- What a step does to a circuit's adjacency and to the boots that it remembers: nothing; or the
+-- adjacency ends; or a hello is taken there, of a boot that isn't old, which is then remembered. A
+-- LAN hello leaves the adjacency as it is; a point-to-point one may end it. Or it names nobody or
+-- this router in its present boot, and its sender is kept. Where that is another neighbour than
+-- before, the circuit closed and opened anew, and every key is flagged where it is open (own).
 pub data Bonds (r : Router) (event : Event) (t : Router) (place : ℕ) : Type 0 where
-  Same : bond_at t place ≡ bond_at r place → Bonds r event t place
-  Ends : bond_at t place ≡ no_bond → Bonds r event t place
+  Same : tie_at t place ≡ tie_at r place → Bonds r event t place
+  Ends : tie_at t place ≡ ended (tie_at r place) → Bonds r event t place
+  Hears : (level : Level) (h : Hello) → event ≡ Take place (LanHelloHeard level h)
+      → Minds (tie_at r place) h (tie_at t place) → bond_at t place ≡ bond_at r place
+      → (tie_at t place).boot ≡ (tie_at r place).boot → Bonds r event t place
+  Learns : (h : Hello) (s : Handshake) → event ≡ Take place (PointHelloHeard h)
+      → h.handshake ≡ Some s
+      → Minds (tie_at r place) h (tie_at t place) → bond_at t place ≡ no_bond
+      → Bonds r event t place
   Meets : (h : Hello) (s : Handshake) (state : Adj) → event ≡ Take place (PointHelloHeard h)
       → h.handshake ≡ Some s
       → NamesMe r place s.names
       → state ≢ Down → (state ≡ Up → s.state ≢ Down)
+      → Minds (tie_at r place) h (tie_at t place) → (tie_at t place).boot ≡ Some h.boot
       → bond_at t place ≡ record { state = state; names = Some (h.source, s.extended) }
       → ((bond_at r place).names ≡ Some (h.source, s.extended))
       ⊎ ((level : Level) (id : ℕ) → Covers 0 (book_of t level) id place)

@@ -1,13 +1,14 @@
 -- The causes of a drop by name, and their counters (own).
 use Rattle.std.specs.Prelude.{ℕ, List, Option, Some, None, codes}
 use Rattle.isis_model.specs.declared.drop_name.DropName.{DropName}
-use Rattle.isis_model.specs.declared.drop_name.DropName.TheVariants.{Frame, Pdu, TooLong, WrongKind, WrongLevel, Auth, Value, ZeroNumber, BadChecksum, OwnId, OtherSnpa, NoLevel, NoArea, NoThreeWay, OtherNeighbour, TooMany, NoAdjacency, NotDesignated, StoreFull}
+use Rattle.isis_model.specs.declared.drop_name.DropName.TheVariants.{Frame, Version, Pdu, TooLong, WrongKind, WrongLevel, Auth, Value, ZeroNumber, BadChecksum, OwnId, OtherSnpa, OldBoot, NoLevel, NoArea, NoThreeWay, OtherNeighbour, TooMany, NoAdjacency, NotDesignated, StoreFull}
 use Rattle.isis_model.specs.Places.{nth, with_nth}
 use Rattle.isis_model.specs.Books.{risen}
 
 -- the word of a cause (own)
 abbrev pub drop_word : DropName → List ℕ
 drop_word Frame = codes "frame"
+drop_word Version = codes "version"
 drop_word Pdu = codes "pdu"
 drop_word TooLong = codes "too-long"
 drop_word WrongKind = codes "wrong-kind"
@@ -18,6 +19,7 @@ drop_word ZeroNumber = codes "zero-number"
 drop_word BadChecksum = codes "checksum"
 drop_word OwnId = codes "own-id"
 drop_word OtherSnpa = codes "other-snpa"
+drop_word OldBoot = codes "old-boot"
 drop_word NoLevel = codes "no-level"
 drop_word NoArea = codes "no-area"
 drop_word NoThreeWay = codes "no-three-way"
@@ -30,24 +32,26 @@ drop_word StoreFull = codes "store-full"
 -- the place of a cause's counter: the order in which a datagram is tested (own)
 abbrev pub drop_place : DropName → ℕ
 drop_place Frame = 0
-drop_place Pdu = 1
-drop_place TooLong = 2
-drop_place WrongKind = 3
-drop_place WrongLevel = 4
-drop_place Auth = 5
-drop_place Value = 6
-drop_place ZeroNumber = 7
-drop_place BadChecksum = 8
-drop_place OwnId = 9
-drop_place OtherSnpa = 10
-drop_place NoLevel = 11
-drop_place NoArea = 12
-drop_place NoThreeWay = 13
-drop_place OtherNeighbour = 14
-drop_place TooMany = 15
-drop_place NoAdjacency = 16
-drop_place NotDesignated = 17
-drop_place StoreFull = 18
+drop_place Version = 1
+drop_place Pdu = 2
+drop_place TooLong = 3
+drop_place WrongKind = 4
+drop_place WrongLevel = 5
+drop_place Auth = 6
+drop_place Value = 7
+drop_place ZeroNumber = 8
+drop_place BadChecksum = 9
+drop_place OwnId = 10
+drop_place OtherSnpa = 11
+drop_place OldBoot = 12
+drop_place NoLevel = 13
+drop_place NoArea = 14
+drop_place NoThreeWay = 15
+drop_place OtherNeighbour = 16
+drop_place TooMany = 17
+drop_place NoAdjacency = 18
+drop_place NotDesignated = 19
+drop_place StoreFull = 20
 
 -- own
 abbrev pub count_or : Option ℕ → ℕ

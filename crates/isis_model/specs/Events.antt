@@ -9,17 +9,22 @@ use Rattle.isis_model.specs.Routers.{Router}
 use Rattle.isis_model.specs.Elections.{idle_all}
 use Rattle.isis_model.specs.Datagrams.{Sent}
 
+-- what a datagram's frame says of its sender: its SNPA and its boot number (own)
+pub record Envelope : Type 0 where
+  pub snpa : ℕ
+  pub boot : ℕ
+
 -- What a datagram says that passed the tests that need no state (a hello of the circuit's kind, a
--- level that is run, and so on): a hello, an LSP with its sender's SNPA, or an SNP with its
--- sender's SNPA, its source's system ID, a CSNP's range and its entries. Or why the first of these
--- tests that fails refuses it (own).
+-- level that is run, and so on): a hello, an LSP with its envelope, or an SNP with its envelope, its
+-- source's system ID, a CSNP's range and its entries. Or why the first of these tests that fails
+-- refuses it (own).
 pub data Message : Type 0 where
   Refused : (cause : DropName) → Message
   PointHelloHeard : (h : Hello) → Message
   LanHelloHeard : (level : Level) (h : Hello) → Message
-  LspHeard : (level : Level) (snpa : ℕ) (h : Heard) → Message
-  SnpHeard : (level : Level) (snpa source : ℕ) (range : Option (ℕ × ℕ)) (entries : List SnpEntry)
-      → Message
+  LspHeard : (level : Level) (from : Envelope) (h : Heard) → Message
+  SnpHeard : (level : Level) (from : Envelope) (source : ℕ) (range : Option (ℕ × ℕ))
+      (entries : List SnpEntry) → Message
 
 -- A second; a datagram that is taken, and a pull, on the circuit at a place; or a change of the
 -- configuration (own).

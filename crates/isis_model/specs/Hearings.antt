@@ -8,7 +8,7 @@ use Rattle.isis_model.specs.SnpTable.{SnpEntry, lists}
 use Rattle.isis_model.specs.Routers.{Contents, Router}
 use Rattle.isis_model.specs.Givens.{Given}
 use Rattle.isis_model.specs.OwnLsps.{issue_cell}
-use Rattle.isis_model.specs.Events.{Message, Refused, PointHelloHeard, LanHelloHeard, LspHeard, SnpHeard, Event, Second, Take, Pull, Metric, Overload, Prefix}
+use Rattle.isis_model.specs.Events.{Envelope, Message, Refused, PointHelloHeard, LanHelloHeard, LspHeard, SnpHeard, Event, Second, Take, Pull, Metric, Overload, Prefix}
 use Rattle.isis_model.specs.Deeds.{Content, content_of, Hearing}
 use Rattle.isis_model.specs.Good.{IsGoodEvent, IsGoodConfig, IsGoodGiven, IsTelling, IsIssuable}
 
@@ -22,8 +22,8 @@ abbrev pub says : Message → Level → ℕ → ℕ
 says (Refused cause) level id = 0
 says (PointHelloHeard h) level id = 0
 says (LanHelloHeard l h) level id = 0
-says (LspHeard l snpa h) level id = if is_level l level && h.id == id then h.rank else 0
-says (SnpHeard l snpa source range entries) level id =
+says (LspHeard l from h) level id = if is_level l level && h.id == id then h.rank else 0
+says (SnpHeard l from source range entries) level id =
     if is_level l level then greatest entries id else 0
 
 -- the greatest rank of an LSP ID that an event says on a level and circuit (own)
@@ -40,8 +40,8 @@ abbrev pub says_of : Message → Level → ℕ → Bool
 says_of (Refused cause) level id = false
 says_of (PointHelloHeard h) level id = false
 says_of (LanHelloHeard l h) level id = false
-says_of (LspHeard l snpa h) level id = is_level l level && h.id == id
-says_of (SnpHeard l snpa source range entries) level id = is_level l level && lists entries id
+says_of (LspHeard l from h) level id = is_level l level && h.id == id
+says_of (SnpHeard l from source range entries) level id = is_level l level && lists entries id
 
 -- whether an event names an LSP ID on a level and circuit (own)
 abbrev pub named_in : Event → Level → ℕ → ℕ → Bool
@@ -57,8 +57,8 @@ abbrev pub is_greeting : Message → Bool
 is_greeting (Refused cause) = false
 is_greeting (PointHelloHeard h) = true
 is_greeting (LanHelloHeard l h) = true
-is_greeting (LspHeard l snpa h) = false
-is_greeting (SnpHeard l snpa source range entries) = false
+is_greeting (LspHeard l from h) = false
+is_greeting (SnpHeard l from source range entries) = false
 
 -- whether an event is a pull of a circuit, or a hello that is taken there (own)
 abbrev pub stirs : Event → ℕ → Bool
@@ -78,7 +78,7 @@ pub record IsOwnLsp (r : Router) (level : Level) (id : ℕ) (contents : Contents
 -- was made by what is given (own)
 pub data Source (given : Given) (old : Router) (event : Event) (level : Level) (id rank : ℕ)
     (content : Content) : Type 0 where
-  Taken : (place snpa : ℕ) (h : Heard) → event ≡ Take place (LspHeard level snpa h) → id ≡ h.id
+  Taken : (place : ℕ) (from : Envelope) (h : Heard) → event ≡ Take place (LspHeard level from h) → id ≡ h.id
       → rank ≡ h.rank
       → content ≡ content_of (kept h) → Source given old event level id rank content
   Made : (r : Router) (number : ℕ) (contents : Contents) → r.config ≡ old.config

@@ -21,25 +21,27 @@ use Rattle.isis_model.specs.Elections.{is_designated}
 use Rattle.isis_model.specs.Givens.{Given}
 use Rattle.isis_model.specs.Takes.{Scene, whose_of, take_lsp, take_snp}
 use Rattle.isis_model.specs.Datagrams.{Psnp}
-use Rattle.isis_model.specs.Events.{Message, Refused, PointHelloHeard, LanHelloHeard, LspHeard, SnpHeard, Reply, Done, Dropped, Send, Outcome, settled}
+use Rattle.isis_model.specs.Events.{Envelope, Message, Refused, PointHelloHeard, LanHelloHeard, LspHeard, SnpHeard, Reply, Done, Dropped, Send, Outcome, settled}
 
 -- ---- the tests
 
--- 7.3.15.1
-abbrev pub up_system : Option LanNeighbour → Option ℕ
-up_system None = None
-up_system (Some n) = if n.up then Some n.neighbour.system else None
+-- the system of a LAN neighbour that is Up in this boot (7.3.15.1; the boot: own)
+abbrev pub up_system : Option LanNeighbour → ℕ → Option ℕ
+up_system None boot = None
+up_system (Some n) boot =
+    if n.up && n.neighbour.boot == boot then Some n.neighbour.system else None
 
--- 7.3.15.1
-abbrev pub kept_system : Option Neighbour → Option ℕ
-kept_system None = None
-kept_system (Some n) = Some n.system
+-- the system of the neighbour that is kept, in this boot (7.3.15.1; the boot: own)
+abbrev pub kept_system : Option Neighbour → ℕ → Option ℕ
+kept_system None boot = None
+kept_system (Some n) boot = if n.boot == boot then Some n.system else None
 
 -- the system of the neighbour from whom a datagram of a level may come: on a LAN the up neighbour
--- of its SNPA (7.3.15.1, 7.3.15.2)
-abbrev pub sender_of : Circuit → Level → ℕ → Option ℕ
-sender_of c l snpa =
-    if c.lan then up_system (find (at c.levels l).heard snpa) else kept_system c.point.neighbour
+-- of its SNPA; its boot is the one that is kept (7.3.15.1, 7.3.15.2; the boot: own)
+abbrev pub sender_of : Circuit → Level → Envelope → Option ℕ
+sender_of c l from =
+    if c.lan then up_system (find (at c.levels l).heard from.snpa) from.boot
+    else kept_system c.point.neighbour from.boot
 
 -- 7.3.15.2
 abbrev pub is_from : Option ℕ → ℕ → Bool
@@ -63,15 +65,15 @@ no_room state system h =
     && makes_entry (met state.book (whose_of system state h.id) h)
 
 -- 7.3.15.1
-abbrev pub lsp_drop : Router → ℕ → Circuit → Level → ℕ → Heard → Option DropName
-lsp_drop r place c l snpa h =
-    if not (has (book_of r l).opened place && is_some (sender_of c l snpa)) then Some NoAdjacency
+abbrev pub lsp_drop : Router → ℕ → Circuit → Level → Envelope → Heard → Option DropName
+lsp_drop r place c l from h =
+    if not (has (book_of r l).opened place && is_some (sender_of c l from)) then Some NoAdjacency
     else (if no_room (level_of r l) r.config.system h then Some StoreFull else None)
 
 -- a PSNP, which is `partial`, is taken on a LAN by the designated system alone (7.3.15.2)
-abbrev pub snp_drop : Router → ℕ → Circuit → Level → ℕ → ℕ → Bool → Option DropName
-snp_drop r place c l snpa source partial =
-    if not (has (book_of r l).opened place && is_from (sender_of c l snpa) source)
+abbrev pub snp_drop : Router → ℕ → Circuit → Level → Envelope → ℕ → Bool → Option DropName
+snp_drop r place c l from source partial =
+    if not (has (book_of r l).opened place && is_from (sender_of c l from) source)
     then Some NoAdjacency
     else (if partial && c.lan && not (is_designated r.config place c l) then Some NotDesignated
     else None)
@@ -79,11 +81,11 @@ snp_drop r place c l snpa source partial =
 -- why a message is dropped, if it is (own)
 abbrev pub drop_of : Router → ℕ → Circuit → Message → Option DropName
 drop_of r place c (Refused cause) = Some cause
-drop_of r place c (PointHelloHeard h) = point_drop r.config (extended_of r.boot place) h
-drop_of r place c (LanHelloHeard l h) = lan_drop r.config l (at c.levels l).heard h
-drop_of r place c (LspHeard l snpa h) = lsp_drop r place c l snpa h
-drop_of r place c (SnpHeard l snpa source range entries) =
-    snp_drop r place c l snpa source (is_none range)
+drop_of r place c (PointHelloHeard h) = point_drop r.config (extended_of r.boot place) c.boots h
+drop_of r place c (LanHelloHeard l h) = lan_drop r.config l c.boots (at c.levels l).heard h
+drop_of r place c (LspHeard l from h) = lsp_drop r place c l from h
+drop_of r place c (SnpHeard l from source range entries) =
+    snp_drop r place c l from source (is_none range)
 
 -- ---- what is taken
 
@@ -114,14 +116,14 @@ taken given r place c (Refused cause) = record { router = r; reply = Done }
 taken given r place c (PointHelloHeard h) =
     record { router = greeted r place c h h.handshake; reply = Done }
 taken given r place c (LanHelloHeard l h) = record { router = take_lan r place c l h; reply = Done }
-taken given r place c (LspHeard l snpa h) =
+taken given r place c (LspHeard l from h) =
     let state = level_of r l in
     let whose = whose_of r.config.system state h.id in
     record {
       router = with_level r l (take_lsp (scene_of given r l) state place whose h);
       reply = acks c l h (met state.book whose h);
     }
-taken given r place c (SnpHeard l snpa source range entries) =
+taken given r place c (SnpHeard l from source range entries) =
     record {
       router = with_level r l
           (take_snp (scene_of given r l) (level_of r l) r.config.system place range entries);

@@ -17,7 +17,7 @@ use Rattle.isis_model.specs.Elections.{Candidate}
 use Rattle.isis_model.specs.Splits.{Draft}
 use Rattle.isis_model.specs.LspPrefixes.{Reach}
 use Rattle.isis_model.specs.Givens.{Given}
-use Rattle.isis_model.specs.Events.{Event, Second, Take, Prefix, PointHelloHeard, LanHelloHeard, LspHeard, Outcome}
+use Rattle.isis_model.specs.Events.{Envelope, Event, Second, Take, Prefix, PointHelloHeard, LanHelloHeard, LspHeard, Outcome}
 use Rattle.isis_model.specs.Both.{Both}
 use Rattle.isis_model.specs.HelloTests.{point_drop}
 use Rattle.isis_model.specs.Steps.{step}
@@ -125,6 +125,7 @@ circuit lan = record {
   point = record { state = Down; neighbour = None };
   levels = record { one = quiet; two = quiet };
   hello = 0;
+  boots = [];
 }
 
 -- octets are what they say, and each checksum is the sequence number (own)
@@ -146,6 +147,7 @@ abbrev pub hello_from : ℕ → Adj → Option (ℕ × ℕ) → Hello
 hello_from system state names = record {
   source = system;
   snpa = system;
+  boot = 2;
   runs = record { one = false; two = true };
   holding = 30;
   priority = 0;
@@ -169,6 +171,7 @@ abbrev pub lan_hello_of : ℕ → ℕ → Event
 lan_hello_of priority holding = Take 1 (LanHelloHeard Two (record {
   source = 2;
   snpa = 2;
+  boot = 2;
   runs = record { one = false; two = true };
   holding = holding;
   priority = priority;
@@ -189,9 +192,10 @@ low_hello = lan_hello_of 1 30
 -- a point-to-point hello's tests: of a source from an SNPA, of these levels and areas, with a
 -- handshake (own)
 abbrev pub tested : Config → ℕ → ℕ → Both Bool → List (List ℕ) → Option Handshake → Option DropName
-tested by source snpa runs areas shake = point_drop by 257 (record {
+tested by source snpa runs areas shake = point_drop by 257 [] (record {
   source = source;
   snpa = snpa;
+  boot = 2;
   runs = runs;
   holding = 30;
   priority = 0;
@@ -312,9 +316,13 @@ lan_lsps = (
     )
     ∷ []
 
+-- what comes from an SNPA in boot 2 (own)
+abbrev pub from_snpa : ℕ → Envelope
+from_snpa snpa = record { snpa = snpa; boot = 2 }
+
 -- a live LSP of an LSP ID that is heard from system 2, of a sequence number (own)
 abbrev pub heard_of : ℕ → ℕ → Event
-heard_of id number = Take 0 (LspHeard Two 2 (record {
+heard_of id number = Take 0 (LspHeard Two (from_snpa 2) (record {
   id = id;
   rank = 2 * number;
   checksum = 7;
@@ -359,6 +367,7 @@ up_from snpa = record {
     system = snpa;
     snpa = snpa;
     extended = 0;
+    boot = 2;
     levels = level_two;
     priority = 1;
     lan = 0;
@@ -370,3 +379,8 @@ up_from snpa = record {
 abbrev pub heard_from : ℕ → ℕ → List (ℕ × LanNeighbour)
 heard_from snpa zero = []
 heard_from snpa (suc count) = (snpa, up_from snpa) ∷ heard_from (suc snpa) count
+
+-- so many systems remembered in boot 1, from one on (own)
+abbrev pub boots_from : ℕ → ℕ → List (ℕ × ℕ)
+boots_from system zero = []
+boots_from system (suc count) = (system, 1) ∷ boots_from (suc system) count

@@ -10,6 +10,8 @@ use std::fmt;
 pub enum DropName {
     /// It isn't an SNPA and a PDU in this project's frame.
     Frame,
+    /// It is in the frame of the first version of the tunnel (own).
+    Version,
     /// The PDU's octets aren't those of a PDU (ISO 10589 9).
     Pdu,
     /// An LSP or SNP has a PDU length above 1,492 octets.
@@ -30,6 +32,8 @@ pub enum DropName {
     OwnId,
     /// A hello's source has other octets than the SNPA that it came from.
     OtherSnpa,
+    /// A hello's boot number is below the greatest that was heard of its system (own).
+    OldBoot,
     /// A hello's sender runs no level in common (ISO 10589 8.2.4.2).
     NoLevel,
     /// A hello's sender runs L1 in common, and shares no area address (ISO 10589 8.2.4.2).
@@ -38,7 +42,8 @@ pub enum DropName {
     NoThreeWay,
     /// A point-to-point hello names another system or circuit than one's own (RFC 5303 3.2).
     OtherNeighbour,
-    /// A LAN has 200 neighbours already, and the hello is of a further one.
+    /// A LAN has 200 neighbours already and the hello is of a further one, or a circuit remembers 256
+    /// systems and the hello is of a further one.
     TooMany,
     /// An LSP or SNP didn't come from an up neighbour of its level (ISO 10589 7.3.15.1, 7.3.15.2).
     NoAdjacency,
@@ -49,30 +54,32 @@ pub enum DropName {
 }
 
 impl DropName {
-    /// The place of the cause in the order of tests, 0 to 18.
+    /// The place of the cause in the order of tests, 0 to 20.
     pub fn place(self) -> usize
         ensures { result ≡ drop_place self }
     {
         match self {
             DropName::Frame => 0,
-            DropName::Pdu => 1,
-            DropName::TooLong => 2,
-            DropName::WrongKind => 3,
-            DropName::WrongLevel => 4,
-            DropName::Auth => 5,
-            DropName::Value => 6,
-            DropName::ZeroNumber => 7,
-            DropName::BadChecksum => 8,
-            DropName::OwnId => 9,
-            DropName::OtherSnpa => 10,
-            DropName::NoLevel => 11,
-            DropName::NoArea => 12,
-            DropName::NoThreeWay => 13,
-            DropName::OtherNeighbour => 14,
-            DropName::TooMany => 15,
-            DropName::NoAdjacency => 16,
-            DropName::NotDesignated => 17,
-            DropName::StoreFull => 18,
+            DropName::Version => 1,
+            DropName::Pdu => 2,
+            DropName::TooLong => 3,
+            DropName::WrongKind => 4,
+            DropName::WrongLevel => 5,
+            DropName::Auth => 6,
+            DropName::Value => 7,
+            DropName::ZeroNumber => 8,
+            DropName::BadChecksum => 9,
+            DropName::OwnId => 10,
+            DropName::OtherSnpa => 11,
+            DropName::OldBoot => 12,
+            DropName::NoLevel => 13,
+            DropName::NoArea => 14,
+            DropName::NoThreeWay => 15,
+            DropName::OtherNeighbour => 16,
+            DropName::TooMany => 17,
+            DropName::NoAdjacency => 18,
+            DropName::NotDesignated => 19,
+            DropName::StoreFull => 20,
         }
     }
 
@@ -82,6 +89,7 @@ impl DropName {
     {
         match self {
             DropName::Frame => "frame",
+            DropName::Version => "version",
             DropName::Pdu => "pdu",
             DropName::TooLong => "too-long",
             DropName::WrongKind => "wrong-kind",
@@ -92,6 +100,7 @@ impl DropName {
             DropName::BadChecksum => "checksum",
             DropName::OwnId => "own-id",
             DropName::OtherSnpa => "other-snpa",
+            DropName::OldBoot => "old-boot",
             DropName::NoLevel => "no-level",
             DropName::NoArea => "no-area",
             DropName::NoThreeWay => "no-three-way",

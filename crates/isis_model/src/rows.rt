@@ -3,13 +3,13 @@ ghost use Rattle.std.specs.Prelude.{◌≡◌, ◌-◌, ◌^◌, true, false, []
 ghost use Rattle.isis_base.specs.declared.level.Level.TheVariants.{One, Two};
 ghost use Rattle.isis_tlv.specs.declared.three_way.Adj.TheVariants.{Up, Initializing, Down};
 ghost use Rattle.isis_model.specs.declared.whose.Whose.TheVariants.{Other, Unissued};
-ghost use Rattle.isis_model.specs.declared.drop_name.DropName.TheVariants.{OwnId, OtherSnpa, NoLevel, NoArea, NoThreeWay, OtherNeighbour, TooMany, NoAdjacency, NotDesignated};
+ghost use Rattle.isis_model.specs.declared.drop_name.DropName.TheVariants.{OwnId, OtherSnpa, OldBoot, NoLevel, NoArea, NoThreeWay, OtherNeighbour, TooMany, NoAdjacency, NotDesignated};
 ghost use Rattle.isis_model.specs.Waits.{no_waits, wait, five_at, fallen};
 ghost use Rattle.isis_model.specs.Books.{cell_at, rank_of, is_full};
 ghost use Rattle.isis_model.specs.Adjacencies.{three_way, is_same};
 ghost use Rattle.isis_model.specs.Starts.{quiet};
 ghost use Rattle.isis_model.specs.LetGos.{let_go};
-ghost use Rattle.isis_model.specs.HelloTests.{many_drop};
+ghost use Rattle.isis_model.specs.HelloTests.{many_drop, point_drop, full_drop};
 ghost use Rattle.isis_model.specs.LspNeighbours.{lan_node, put_nodes};
 ghost use Rattle.isis_model.specs.LspPrefixes.{with_leaks, prefixes_of, reach_items};
 ghost use Rattle.isis_model.specs.Wanted.{first_flags, wanted};
@@ -25,7 +25,7 @@ ghost use Rattle.isis_model.specs.SnpTable.{asked, hear_entry, is_missed};
 ghost use Rattle.isis_model.specs.OwnLsps.{Wait, Number, Exhaust, is_due, next};
 ghost use Rattle.isis_model.specs.Datagrams.{PointHello, LanHello, Csnp, Lsp, Psnp};
 ghost use Rattle.isis_model.specs.Events.{Second, Take, Pull, LspHeard, SnpHeard, Done, Dropped, Send};
-ghost use Rattle.isis_model.specs.Rows.{cell_of, header, lsp, entry, purge_entry, asked_for, book_with, before, config, level_one, level_two, shake, tested, contents_of, issued_at, hello, hello_from, hello_by, up_from, lan_hello_of, lan_hello, low_hello, events_up, seconds, own_lsp, run, answer_to, given, router, running, attached, both_levels, elected, lan_lsps, heard_of, leaking, own_prefix, leaked_prefix, leaker, entry_heard, changed_prefix, own_after, held_after, filled_up, full_of, heard_from};
+ghost use Rattle.isis_model.specs.Rows.{cell_of, header, lsp, entry, purge_entry, asked_for, book_with, before, config, level_one, level_two, shake, tested, contents_of, issued_at, hello, hello_from, hello_by, up_from, lan_hello_of, lan_hello, low_hello, events_up, seconds, own_lsp, run, answer_to, given, router, running, attached, both_levels, elected, lan_lsps, from_snpa, heard_of, leaking, own_prefix, leaked_prefix, leaker, entry_heard, changed_prefix, own_after, held_after, filled_up, full_of, heard_from, boots_from};
 
 /// A flag that was sent waits five seconds, and each second one less.
 pub fn wait_rows()
@@ -103,6 +103,10 @@ pub fn hello_rows()
     ensures no_three_way { tested config 2 2 level_two [] None ≡ Some NoThreeWay }
     ensures other_system { tested config 2 2 level_two [] (shake (Some (3, 257)))
         ≡ Some OtherNeighbour }
+    ensures old_boot { point_drop config 257 ((2, 3) ∷ []) (hello_from 2 Down None) ≡ Some OldBoot }
+    ensures old_first { point_drop config 257 ((2, 3) ∷ []) (record (hello_from 2 Down None) { runs = level_one })
+        ≡ Some OldBoot }
+    ensures same_boot { point_drop config 257 ((2, 2) ∷ []) (hello_from 2 Down None) ≡ None }
     ensures other_boot { tested config 2 2 level_two [] (shake (Some (1, 513)))
         ≡ Some OtherNeighbour }
 {}
@@ -136,21 +140,25 @@ pub fn lan_steps()
         ≡ Send [] }
     ensures opened { (answer_to (Pull 1) (lan_hello ∷ Second ∷ [])).reply
         ≡ Send (LanHello Two 513 (2 ∷ []) ∷ []) }
-    ensures partial { (answer_to (Take 1 (SnpHeard Two 2 2 None [])) (lan_hello ∷ [])).reply
+    ensures partial { (answer_to (Take 1 (SnpHeard Two (from_snpa 2) 2 None [])) (lan_hello ∷ [])).reply
         ≡ Dropped NotDesignated }
-    ensures up { up_system (Some (up_from 2)) ≡ Some 2 }
-    ensures not_up { up_system (Some (record (up_from 2) { up = false })) ≡ None }
-    ensures lsp { (answer_to (Take 1 (LspHeard Two 2 (lsp 6 9))) (lan_hello ∷ [])).reply ≡ Done }
-    ensures purge { (answer_to (Take 1 (LspHeard Two 2 (lsp 5 0))) (lan_hello ∷ [])).reply ≡ Done }
-    ensures acknowledged { (answer_to (Take 0 (LspHeard Two 2 (lsp 5 0))) events_up).reply
+    ensures up { up_system (Some (up_from 2)) 2 ≡ Some 2 }
+    ensures not_up { up_system (Some (record (up_from 2) { up = false })) 2 ≡ None }
+    ensures old_lsp { (answer_to (Take 1 (LspHeard Two (record (from_snpa 2) { boot = 1 }) (lsp 6 9)))
+        (lan_hello ∷ [])).reply ≡ Dropped NoAdjacency }
+    ensures old_point { (answer_to (Take 0 (LspHeard Two (record (from_snpa 2) { boot = 1 }) (lsp 6 9)))
+        events_up).reply ≡ Dropped NoAdjacency }
+    ensures lsp { (answer_to (Take 1 (LspHeard Two (from_snpa 2) (lsp 6 9))) (lan_hello ∷ [])).reply ≡ Done }
+    ensures purge { (answer_to (Take 1 (LspHeard Two (from_snpa 2) (lsp 5 0))) (lan_hello ∷ [])).reply ≡ Done }
+    ensures acknowledged { (answer_to (Take 0 (LspHeard Two (from_snpa 2) (lsp 5 0))) events_up).reply
         ≡ Send (Psnp Two (purge_entry ∷ []) ∷ []) }
-    ensures let_go { (level_of (run (Take 0 (LspHeard Two 2 (lsp 5 0)) ∷ events_up)) Two).gone
+    ensures let_go { (level_of (run (Take 0 (LspHeard Two (from_snpa 2) (lsp 5 0)) ∷ events_up)) Two).gone
         ≡ Some (7 ∷ []) }
-    ensures other_lsp { (answer_to (Take 1 (LspHeard Two 3 (lsp 6 9))) (lan_hello ∷ [])).reply
+    ensures other_lsp { (answer_to (Take 1 (LspHeard Two (from_snpa 3) (lsp 6 9))) (lan_hello ∷ [])).reply
         ≡ Dropped NoAdjacency }
-    ensures complete { (answer_to (Take 1 (SnpHeard Two 2 2 (Some (0, 9)) []))
+    ensures complete { (answer_to (Take 1 (SnpHeard Two (from_snpa 2) 2 (Some (0, 9)) []))
         (lan_hello ∷ [])).reply ≡ Done }
-    ensures other_source { (answer_to (Take 1 (SnpHeard Two 2 3 (Some (0, 9)) []))
+    ensures other_source { (answer_to (Take 1 (SnpHeard Two (from_snpa 2) 3 (Some (0, 9)) []))
         (lan_hello ∷ [])).reply ≡ Dropped NoAdjacency }
 {}
 
@@ -173,6 +181,8 @@ pub fn handshake_rows()
         ≡ false }
     ensures other_circuit { is_same (Some (up_from 2).neighbour) level_two (hello_from 2 Up None) 1
         ≡ false }
+    ensures other_boot { is_same (Some (record (up_from 2).neighbour { boot = 1 })) level_two
+        (hello_from 2 Up None) 0 ≡ false }
 {}
 
 /// A hello is due on a LAN where a neighbour is new and where one goes, and not where one is heard
@@ -247,6 +257,9 @@ pub fn limit_rows()
     ensures neighbours { many_drop (heard_from 1 199) 500 ≡ None }
     ensures too_many { many_drop (heard_from 1 200) 500 ≡ Some TooMany }
     ensures known { many_drop (heard_from 1 200) 7 ≡ None }
+    ensures systems { full_drop (boots_from 1 255) 500 ≡ None }
+    ensures full_boots { full_drop (boots_from 1 256) 500 ≡ Some TooMany }
+    ensures remembered { full_drop (boots_from 1 256) 7 ≡ None }
     ensures entries { is_full (book_with (replicate 65535 (7, cell_of 4 5 9 [] 0 0)) 0) ≡ false }
     ensures full { is_full (book_with (replicate 65536 (7, cell_of 4 5 9 [] 0 0)) 0) ≡ true }
     ensures no_room { no_room (full_of 65536) 1 (record (lsp 6 9) { id = 8 }) ≡ true }

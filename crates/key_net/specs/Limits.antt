@@ -1,7 +1,7 @@
 -- The limits of a network, and their words.
 use Rattle.std.specs.Prelude.{ℕ, List, ◌++◌, codes, decimal}
 use Rattle.key_net.specs.declared.faults.LabFault.{LabFault}
-use Rattle.key_net.specs.declared.faults.LabFault.TheVariants.{NotSent, Stale, NotOn, Limit, OutOfMemory}
+use Rattle.key_net.specs.declared.faults.LabFault.TheVariants.{NotSent, NotOn, Limit, OutOfMemory}
 use Rattle.key_net.specs.declared.faults.LimitName.{LimitName}
 use Rattle.key_net.specs.declared.faults.LimitName.TheVariants.{Routers, Links, Circuits, Prefixes, Datagrams, Boots}
 
@@ -17,7 +17,6 @@ limit_word Boots = codes "boots"
 -- a fault's line (own)
 abbrev pub fault_line : LabFault → List ℕ
 fault_line (NotSent sent) = codes "not sent; " ++ decimal sent ++ codes " were"
-fault_line (Stale boot) = codes "stale: the sender is at boot " ++ decimal boot
 fault_line NotOn = codes "not on the link"
 fault_line (Limit which) = codes "limit of " ++ limit_word which
 fault_line OutOfMemory = codes "out of memory"

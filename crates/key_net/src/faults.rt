@@ -31,8 +31,6 @@ pub enum LimitName {
 pub enum LabFault {
     /// What is to be taken wasn't sent, or isn't there; `sent` is how many were.
     NotSent { sent: usize },
-    /// The sender restarted since, to this boot number.
-    Stale { boot: u32 },
     /// No link joins the routers, or the router isn't on the link.
     NotOn,
     /// A limit would be passed.
@@ -62,7 +60,6 @@ impl fmt::Display for LabFault {
     fn fmt<W: fmt::Write>(&self, f: &mut fmt::Formatter<W>) -> fmt::Result {
         match self {
             LabFault::NotSent { sent } => write!(f, "not sent; {sent} were"),
-            LabFault::Stale { boot } => write!(f, "stale: the sender is at boot {boot}"),
             LabFault::NotOn => write!(f, "not on the link"),
             LabFault::Limit(which) => write!(f, "limit of {which}"),
             LabFault::OutOfMemory => write!(f, "out of memory"),

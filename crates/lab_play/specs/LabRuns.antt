@@ -22,7 +22,6 @@ use Rattle.lab_play.specs.Layouts.{laid_out, opened}
 -- why a line is refused while it runs, or which limit it passes
 abbrev pub fault_at : ℕ → LabFault → ScriptFault
 fault_at line (lab.NotSent sent) = Refused line reason.NotSent
-fault_at line (lab.Stale boot) = Refused line reason.Stale
 fault_at line lab.NotOn = Refused line reason.NotOn
 fault_at line (lab.Limit which) = Limit which
 fault_at line lab.OutOfMemory = OutOfMemory

@@ -264,10 +264,6 @@ fn fault_at(line: usize, fault: LabFault) -> ScriptFault
             line,
             reason: Reason::NotSent,
         },
-        LabFault::Stale { boot: _ } => ScriptFault::Refused {
-            line,
-            reason: Reason::Stale,
-        },
         LabFault::NotOn => ScriptFault::Refused {
             line,
             reason: Reason::NotOn,

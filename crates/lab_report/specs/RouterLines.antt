@@ -80,8 +80,8 @@ drop_line name r cause =
 -- the causes of a drop, in the order in which they are tested
 abbrev pub causes : List DropName
 causes =
-    drop.Frame ∷ drop.Pdu ∷ drop.TooLong ∷ drop.WrongKind ∷ drop.WrongLevel ∷ drop.Auth
-    ∷ drop.Value ∷ drop.ZeroNumber ∷ drop.BadChecksum ∷ drop.OwnId ∷ drop.OtherSnpa
+    drop.Frame ∷ drop.Version ∷ drop.Pdu ∷ drop.TooLong ∷ drop.WrongKind ∷ drop.WrongLevel ∷ drop.Auth
+    ∷ drop.Value ∷ drop.ZeroNumber ∷ drop.BadChecksum ∷ drop.OwnId ∷ drop.OtherSnpa ∷ drop.OldBoot
     ∷ drop.NoLevel ∷ drop.NoArea ∷ drop.NoThreeWay ∷ drop.OtherNeighbour ∷ drop.TooMany
     ∷ drop.NoAdjacency ∷ drop.NotDesignated ∷ drop.StoreFull ∷ []
 

@@ -216,6 +216,7 @@ fn add_drops(page: &mut Octets, name: &str, router: &Router) -> Result<(), OutOf
 {
     let causes = [
         DropName::Frame,
+        DropName::Version,
         DropName::Pdu,
         DropName::TooLong,
         DropName::WrongKind,
@@ -226,6 +227,7 @@ fn add_drops(page: &mut Octets, name: &str, router: &Router) -> Result<(), OutOf
         DropName::BadChecksum,
         DropName::OwnId,
         DropName::OtherSnpa,
+        DropName::OldBoot,
         DropName::NoLevel,
         DropName::NoArea,
         DropName::NoThreeWay,

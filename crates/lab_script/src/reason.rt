@@ -25,8 +25,6 @@ pub enum Reason {
     NotOn,
     /// The copy isn't made yet, or isn't where it is passed from.
     NotSent,
-    /// The sender restarted since.
-    Stale,
 }
 
 impl fmt::Display for Reason {
@@ -41,7 +39,6 @@ impl fmt::Display for Reason {
             Reason::Again => write!(f, "again"),
             Reason::NotOn => write!(f, "not-on"),
             Reason::NotSent => write!(f, "not-sent"),
-            Reason::Stale => write!(f, "stale"),
         }
     }
 }

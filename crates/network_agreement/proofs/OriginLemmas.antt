@@ -15,7 +15,7 @@ use Rattle.isis_model.specs.Routers.{Circuit, Router, level_of, book_of}
 use Rattle.isis_model.specs.Deeds.{Content, content_of}
 use Rattle.isis_model.specs.Datagrams.{Sent, PointHello, LanHello, Lsp, Csnp, Psnp}
 use Rattle.isis_model.specs.Givens.{Given}
-use Rattle.isis_model.specs.Events.{Message, LspHeard, Event, Take, Reply, Done, Dropped, Send}
+use Rattle.isis_model.specs.Events.{Envelope, Message, LspHeard, Event, Take, Reply, Done, Dropped, Send}
 use Rattle.isis_model.specs.Steps.{step}
 use Rattle.isis_model.specs.Good.{IsGoodMessage, IsGoodEvent}
 use Rattle.isis_model.specs.Hearings.{Source, Taken, Made, hearing}
@@ -30,7 +30,7 @@ use Rattle.isis_model.proofs.ExactLemmas.{step-exact}
 use Rattle.isis_model.proofs.FineLemmas.{step-fine}
 use Rattle.isis_datagram.specs.Lsps.{with_lifetime, signed_purge, lsp_sent, given_octets}
 use Rattle.isis_datagram.specs.Datagrams.{pdu_octets}
-use Rattle.isis_datagram.specs.Said.{said}
+use Rattle.isis_datagram.specs.Said.{envelope, said}
 use Rattle.isis_datagram.specs.LspLaws.{ReadsUpdate, TellsKept, TellsEvent}
 use Rattle.isis_datagram.specs.Speakers.{IsSpeaking}
 use Rattle.isis_datagram.proofs.ListLemmas.{of-leading}
@@ -40,7 +40,7 @@ use Rattle.network_model.specs.Runs.{read_on, post, posts, posted, moved, Happen
 use Rattle.network_model.specs.Speakers.{IsReading, IsLegible, AreSpeaking, AreOctets}
 use Rattle.network_model.specs.Ports.{In}
 use Rattle.network_model.proofs.InLemmas.{in-split}
-use Rattle.network_model.proofs.LegibleLemmas.{legible-sent}
+use Rattle.network_model.proofs.LegibleLemmas.{small-boot, legible-sent}
 use Rattle.network_model.proofs.NetLemmas.{nth-less, good-event, tells-event, read-good-on, read-tells-on, in-all}
 use Rattle.network_model.proofs.ChangeLemmas.{nth-set, nth-other, some-same, Moves, Change, Still, Moved, Restarted, apply-change}
 use Rattle.network_agreement.proofs.SilentLemmas.{lan-silent}
@@ -94,17 +94,17 @@ record SaidLsp (d : Datagram) (l : Level) (h : Heard) : Type 0 where
   rank : cell.rank ≡ h.rank
   body : is_live h.rank ≡ true → body_of cell ≡ body_of (kept h)
 
-same-level : (l m : Level) (a b : ℕ) (g h : Heard) → LspHeard l a g ≡ LspHeard m b h → l ≡ m
+same-level : (l m : Level) (a b : Envelope) (g h : Heard) → LspHeard l a g ≡ LspHeard m b h → l ≡ m
 same-level l m a b g h e = cc
 
-same-heard : (l m : Level) (a b : ℕ) (g h : Heard) → LspHeard l a g ≡ LspHeard m b h → g ≡ h
+same-heard : (l m : Level) (a b : Envelope) (g h : Heard) → LspHeard l a g ≡ LspHeard m b h → g ≡ h
 same-heard l m a b g h e = cc
 
 -- what is read of a datagram that says an LSP
-said-lsp : (own : ℕ) (d : Datagram) (m : Level) (id : ℕ) (cell : Cell) → d.says ≡ Lsp m id cell → (is_live cell.rank ≡ true → 27 ≤ length cell.octets) → (l : Level) (snpa : ℕ) (h : Heard)
-    → LspHeard l snpa h ≡ said own d.config d.place d.circuit (Lsp m id cell) → SaidLsp d l h
+said-lsp : (own : ℕ) (d : Datagram) (m : Level) (id : ℕ) (cell : Cell) → d.says ≡ Lsp m id cell → (is_live cell.rank ≡ true → 27 ≤ length cell.octets) → (l : Level) (from : Envelope) (h : Heard)
+    → LspHeard l from h ≡ said own d.config d.boot d.place d.circuit (Lsp m id cell) → SaidLsp d l h
 unfolding pdu_octets
-said-lsp own d m id cell e long l snpa h q = record {
+said-lsp own d m id cell e long l from h q = record {
   cell = cell;
   says = e ∙ ap (λ (n : ℕ). Lsp m n cell) (ap (λ (x : Heard). x.id) (sym here)) ∙ ap (λ (n : Level). Lsp n h.id cell) (sym there);
   rank = ap (λ (x : Heard). x.rank) (sym here);
@@ -115,10 +115,10 @@ said-lsp own d m id cell e long l snpa h q = record {
     with-tlvs t = record { flags = cell.flags; tlvs = t }
 
     there : l ≡ m
-    there = same-level l m snpa d.config.system h _ q
+    there = same-level l m from (envelope d.config d.boot) h _ q
 
     here : h ≡ record { id = id; rank = cell.rank; checksum = cell.checksum; flags = cell.flags; left = if is_live cell.rank then cell.left else 0; octets = lsp_sent (at d.config.keys m) cell }
-    here = same-heard l m snpa d.config.system h _ q
+    here = same-heard l m from (envelope d.config d.boot) h _ q
 
     with-body : is_live h.rank ≡ true → body_of cell ≡ body h.flags h.octets
     with-body live =
@@ -127,19 +127,19 @@ said-lsp own d m id cell e long l snpa h q = record {
         (ap (λ (t : List ℕ). with-tlvs t) (sym (sent-tlvs (at d.config.keys m) cell alive (long alive))))
 
 -- what a clear datagram is read as, where that is an LSP
-read-lsp : (own : ℕ) (d : Datagram) (s : Sent) → d.says ≡ s → IsPlain d → (l : Level) (snpa : ℕ) (h : Heard)
-    → IsReading (LspHeard l snpa h) (said own d.config d.place d.circuit s) → SaidLsp d l h
-read-lsp own d s e plain l snpa h (inl q) = absurd (let clash = q.1 in cc)
-read-lsp own d (PointHello state extended names) e plain l snpa h (inr q) = absurd (cc)
-read-lsp own d (LanHello m lan snpas) e plain l snpa h (inr q) = absurd (cc)
-read-lsp own d (Lsp m id cell) e plain l snpa h (inr q) = said-lsp own d m id cell e (plain.header m id cell e) l snpa h q
-read-lsp own d (Csnp m start end entries) e plain l snpa h (inr q) = absurd (cc)
-read-lsp own d (Psnp m entries) e plain l snpa h (inr q) = absurd (cc)
+read-lsp : (own : ℕ) (d : Datagram) (s : Sent) → d.says ≡ s → IsPlain d → (l : Level) (from : Envelope) (h : Heard)
+    → IsReading (LspHeard l from h) (said own d.config d.boot d.place d.circuit s) → SaidLsp d l h
+read-lsp own d s e plain l from h (inl q) = absurd (let clash = q.1 in cc)
+read-lsp own d (PointHello state extended names) e plain l from h (inr q) = absurd (cc)
+read-lsp own d (LanHello m lan snpas) e plain l from h (inr q) = absurd (cc)
+read-lsp own d (Lsp m id cell) e plain l from h (inr q) = said-lsp own d m id cell e (plain.header m id cell e) l from h q
+read-lsp own d (Csnp m start end entries) e plain l from h (inr q) = absurd (cc)
+read-lsp own d (Psnp m entries) e plain l from h (inr q) = absurd (cc)
 
-read-on : (r : Router) (c : Option Circuit) (d : Datagram) → IsPlain d → (l : Level) (snpa : ℕ) (h : Heard) → LspHeard l snpa h ≡ read_on r c (octets_of d) → SaidLsp d l h
-read-on r None d plain l snpa h q = absurd (cc)
-read-on r (Some c) d plain l snpa h q = ⊎_elim
-    (λ (legible : IsLegible d). read-lsp r.config.system d d.says refl plain l snpa h (subst (λ (m : Message). IsReading m (said r.config.system d.config d.place d.circuit d.says)) (sym q) (legible r.config c)))
+read-on : (r : Router) (c : Option Circuit) (d : Datagram) → IsPlain d → (l : Level) (from : Envelope) (h : Heard) → LspHeard l from h ≡ read_on r c (octets_of d) → SaidLsp d l h
+read-on r None d plain l from h q = absurd (cc)
+read-on r (Some c) d plain l from h q = ⊎_elim
+    (λ (legible : IsLegible d). read-lsp r.config.system d d.says refl plain l from h (subst (λ (m : Message). IsReading m (said r.config.system d.config d.boot d.place d.circuit d.says)) (sym q) (legible r.config c)))
     (λ (silent : (by : Config) (on : Circuit) → IsSilent (read by on (octets_of d))). absurd (subst IsSilent (sym q) (silent r.config c)))
     plain.clear
 
@@ -147,13 +147,13 @@ read-on r (Some c) d plain l snpa h q = ⊎_elim
 
 -- an event takes only what was said in the network
 record TakesSaid (net : Network) (event : Event) : Type 0 where
-  said : (place snpa : ℕ) (l : Level) (h : Heard) → event ≡ Take place (LspHeard l snpa h) → (d : Datagram) × In d net.datagrams × SaidLsp d l h
+  said : (place : ℕ) (from : Envelope) (l : Level) (h : Heard) → event ≡ Take place (LspHeard l from h) → (d : Datagram) × In d net.datagrams × SaidLsp d l h
 
 takes-said : (net : Network) (i : ℕ) (link : Option ℕ) (event : Event) (r : Router) → Moves net i link event r → ((d : Datagram) → In d net.datagrams → IsPlain d) → TakesSaid net event
 takes-said net i link event r m plain = record {
-  said = λ place snpa l h q.
-      let a = m.hears place (LspHeard l snpa h) q in
-      (a.datagram, a.was_sent, read-on r (nth r.circuits place) a.datagram (plain a.datagram a.was_sent) l snpa h a.read);
+  said = λ place from l h q.
+      let a = m.hears place (LspHeard l from h) q in
+      (a.datagram, a.was_sent, read-on r (nth r.circuits place) a.datagram (plain a.datagram a.was_sent) l from h a.read);
 }
 
 module _ (leaks : Router → Level → List (ℕ × ℕ)) (attached : Router → Bool) where
@@ -178,9 +178,9 @@ module _ (leaks : Router → Level → List (ℕ × ℕ)) (attached : Router →
           was-more t net.past l id cell.rank (body_of cell)
           (was-same net.past l id c.rank cell.rank (body_of c) (body_of cell) x.0 (ap body-in x.1) (h.held i r l id c at_r k (live-as cell.rank c.rank (sym x.0) live)))
 
-      taken : (place snpa : ℕ) (y : Heard) → event ≡ Take place (LspHeard l snpa y) → id ≡ y.id → cell.rank ≡ y.rank → content_of cell ≡ content_of (kept y) → WasOwned (t ∷ net.past) l id cell.rank (body_of cell)
-      taken place snpa y q id_is rank_is content_is =
-          let found = takes.said place snpa l y q in
+      taken : (place : ℕ) (from : Envelope) (y : Heard) → event ≡ Take place (LspHeard l from y) → id ≡ y.id → cell.rank ≡ y.rank → content_of cell ≡ content_of (kept y) → WasOwned (t ∷ net.past) l id cell.rank (body_of cell)
+      taken place from y q id_is rank_is content_is =
+          let found = takes.said place from l y q in
           let s = found.2 in
           let alive = live-as cell.rank y.rank rank_is live in
           let old = h.said found.0 l y.id s.cell found.1 s.says (live-as y.rank s.cell.rank (sym s.rank) alive) in
@@ -189,7 +189,7 @@ module _ (leaks : Router → Level → List (ℕ × ℕ)) (attached : Router →
           (was-same net.past l y.id s.cell.rank cell.rank (body_of s.cell) (body_of cell) (s.rank ∙ sym rank_is) (s.body alive ∙ ap body-in (sym content_is)) old))
 
       source : Source given r event l id cell.rank (content_of cell) → WasOwned (t ∷ net.past) l id cell.rank (body_of cell)
-      source (Taken place snpa y q id_is rank_is content_is) = taken place snpa y q id_is rank_is content_is
+      source (Taken place from y q id_is rank_is content_is) = taken place from y q id_is rank_is content_is
       source (Made old number contents config mine rank_is content_is) = record {
         owner = t;
         was = inl refl;
@@ -221,21 +221,21 @@ module _ (leaks : Router → Level → List (ℕ × ℕ)) (attached : Router →
   exact-each i (Some link) t place (Dropped cause) h f d x = absurd x
   exact-each i (Some link) t place (Send out) h f d x = exact-on i link t place (nth t.circuits place) out h f d x
 
-  clear-one : (i link : ℕ) (t : Router) (place : ℕ) (c : Circuit) (s : Sent) → IsSpeaking t → place < 255 → IsGreeting t place s → ((by : Config) (on : Circuit) → ReadsUpdate by on t.config place c s) → IsClear (post i link t place c s)
+  clear-one : (i link : ℕ) (t : Router) (place : ℕ) (c : Circuit) (s : Sent) → IsSpeaking t → place < 255 → IsGreeting t place s → ((by : Config) (on : Circuit) → ReadsUpdate by on t.config t.boot place c s) → IsClear (post i link t place c s)
   clear-one i link t place c (PointHello state extended names) speaks few g u = inl (legible-sent t place c (PointHello state extended names) speaks few tt g u)
-  clear-one i link t place c (LanHello l lan snpas) speaks few g u = inr (λ by on. lan-silent by t.config on c place l lan snpas speaks.sender.system)
+  clear-one i link t place c (LanHello l lan snpas) speaks few g u = inr (λ by on. lan-silent by t.config on c t.boot place (small-boot t.boot speaks.boot) l lan snpas speaks.sender.system)
   clear-one i link t place c (Lsp l id cell) speaks few g u = inl (legible-sent t place c (Lsp l id cell) speaks few tt g u)
   clear-one i link t place c (Csnp l start end entries) speaks few g u = inl (legible-sent t place c (Csnp l start end entries) speaks few tt g u)
   clear-one i link t place c (Psnp l entries) speaks few g u = inl (legible-sent t place c (Psnp l entries) speaks few tt g u)
 
   clear-out : (i link : ℕ) (t : Router) (place : ℕ) (c : Circuit) (out : List Sent) → IsSpeaking t → place < 255 → AllByRecursion (IsGreeting t place) out
-      → ((by : Config) (on : Circuit) → AllByRecursion (ReadsUpdate by on t.config place c) out) → (d : Datagram) → In d (map (post i link t place c) out) → IsClear d
+      → ((by : Config) (on : Circuit) → AllByRecursion (ReadsUpdate by on t.config t.boot place c) out) → (d : Datagram) → In d (map (post i link t place c) out) → IsClear d
   clear-out i link t place c [] speaks few g u d x = absurd x
   clear-out i link t place c (s ∷ out) speaks few g u d (inl e) = subst IsClear (sym e) (clear-one i link t place c s speaks few g.0 (λ by on. (u by on).0))
   clear-out i link t place c (s ∷ out) speaks few g u d (inr x) = clear-out i link t place c out speaks few g.1 (λ by on. (u by on).1) d x
 
   clear-on : (i link : ℕ) (t : Router) (place : ℕ) (c : Option Circuit) (out : List Sent) → nth t.circuits place ≡ c → IsSpeaking t → AllByRecursion (IsGreeting t place) out
-      → ((by : Config) (on c : Circuit) → AllByRecursion (ReadsUpdate by on t.config place c) out) → (d : Datagram) → In d (posts i link t place c out) → IsClear d
+      → ((by : Config) (on c : Circuit) → AllByRecursion (ReadsUpdate by on t.config t.boot place c) out) → (d : Datagram) → In d (posts i link t place c out) → IsClear d
   clear-on i link t place None out e speaks g u d x = absurd x
   clear-on i link t place (Some c) out e speaks g u d x =
       let there = nth-less t.circuits place c e in
@@ -243,7 +243,7 @@ module _ (leaks : Router → Level → List (ℕ × ℕ)) (attached : Router →
       clear-out i link t place c out speaks (omega (arith, there, few)) g (λ by on. u by on c) d x
 
   clear-each : (i : ℕ) (link : Option ℕ) (t : Router) (place : ℕ) (reply : Reply) → IsSpeaking t → IsReplyGreeting t place reply
-      → ((by : Config) (on c : Circuit) → AllSent (ReadsUpdate by on t.config place c) reply) → (d : Datagram) → In d (posted i link t place reply) → IsClear d
+      → ((by : Config) (on c : Circuit) → AllSent (ReadsUpdate by on t.config t.boot place c) reply) → (d : Datagram) → In d (posted i link t place reply) → IsClear d
   clear-each i None t place reply speaks g u d x = absurd x
   clear-each i (Some link) t place Done speaks g u d x = absurd x
   clear-each i (Some link) t place (Dropped cause) speaks g u d x = absurd x
@@ -305,8 +305,8 @@ module _ (leaks : Router → Level → List (ℕ × ℕ)) (attached : Router →
           (λ (o : In d more). was-held l id cell (cell_at (book_of t l) id) refl (subst (IsExact t) q (sent d o).0) live)
           (in-split d net.datagrams more x)
 
-      updates : (by : Config) (on c : Circuit) → AllSent (ReadsUpdate by on t.config (place_of event) c) (step given r event).reply
-      updates by on c = step-reads leaks attached r event by on c (place_of event) speaks.sorted speaks.good speaks.telling is-good is-told speaks.sendable speaks_on.sender
+      updates : (by : Config) (on c : Circuit) → AllSent (ReadsUpdate by on t.config t.boot (place_of event) c) (step given r event).reply
+      updates by on c = step-reads leaks attached r event by on c t.boot (place_of event) (small-boot t.boot speaks_on.boot) speaks.sorted speaks.good speaks.telling is-good is-told speaks.sendable speaks_on.sender
 
       plain : (d : Datagram) → In d new.datagrams → IsPlain d
       plain d x = ⊎_elim (λ (o : In d net.datagrams). h.plain d o)

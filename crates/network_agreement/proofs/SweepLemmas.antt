@@ -14,7 +14,7 @@ use Rattle.isis_model.specs.SnpTable.{SnpEntry, snp_case, sets_flag, lists, is_m
 use Rattle.isis_model.specs.Routers.{Circuit, LevelState, Router, level_of, book_of}
 use Rattle.isis_model.specs.Datagrams.{Sent, PointHello, LanHello, Lsp, Csnp, Psnp}
 use Rattle.isis_model.specs.Givens.{Given}
-use Rattle.isis_model.specs.Events.{Message, Refused, PointHelloHeard, LanHelloHeard, LspHeard, SnpHeard, Event, Reply, Done, Dropped, Send}
+use Rattle.isis_model.specs.Events.{Envelope, Message, Refused, PointHelloHeard, LanHelloHeard, LspHeard, SnpHeard, Event, Reply, Done, Dropped, Send}
 use Rattle.isis_model.specs.Steps.{step}
 use Rattle.isis_model.specs.Good.{IsGood, IsGoodRouter}
 use Rattle.isis_model.specs.Deeds.{Content}
@@ -36,7 +36,7 @@ use Rattle.isis_model.proofs.KeyLemmas.{step-told}
 use Rattle.isis_model.proofs.SweepLemmas.{clean-held, clean-listed}
 use Rattle.isis_datagram.specs.Lsps.{given_octets}
 use Rattle.isis_datagram.specs.Reading.{read}
-use Rattle.isis_datagram.specs.Said.{said}
+use Rattle.isis_datagram.specs.Said.{envelope, said}
 use Rattle.network_model.specs.Networks.{Datagram, octets_of, Taking, Network, restarted}
 use Rattle.network_model.specs.Takings.{would_flag, would_flag_any, misses_any, would_flag_range, taking_of, is_clean, heard_range, ranges_of}
 use Rattle.network_model.specs.Runs.{read_on, taking, post, posts, posted, changes_of, Happening, is_injection, apply}
@@ -253,36 +253,36 @@ agreed-append net (x ∷ xs) ys a b = (a.0, agreed-append net xs ys a.1 b)
 
 -- ---- what is taken
 
-same-level : (l m : Level) (a b c d : ℕ) (x y : Option (ℕ × ℕ)) (es fs : List SnpEntry) → SnpHeard l a b x es ≡ SnpHeard m c d y fs → l ≡ m
+same-level : (l m : Level) (a : Envelope) (b : ℕ) (c : Envelope) (d : ℕ) (x y : Option (ℕ × ℕ)) (es fs : List SnpEntry) → SnpHeard l a b x es ≡ SnpHeard m c d y fs → l ≡ m
 same-level l m a b c d x y es fs e = cc
 
-same-range : (l m : Level) (a b c d : ℕ) (x y : Option (ℕ × ℕ)) (es fs : List SnpEntry) → SnpHeard l a b x es ≡ SnpHeard m c d y fs → x ≡ y
+same-range : (l m : Level) (a : Envelope) (b : ℕ) (c : Envelope) (d : ℕ) (x y : Option (ℕ × ℕ)) (es fs : List SnpEntry) → SnpHeard l a b x es ≡ SnpHeard m c d y fs → x ≡ y
 same-range l m a b c d x y es fs e = cc
 
-same-entries : (l m : Level) (a b c d : ℕ) (x y : Option (ℕ × ℕ)) (es fs : List SnpEntry) → SnpHeard l a b x es ≡ SnpHeard m c d y fs → es ≡ fs
+same-entries : (l m : Level) (a : Envelope) (b : ℕ) (c : Envelope) (d : ℕ) (x y : Option (ℕ × ℕ)) (es fs : List SnpEntry) → SnpHeard l a b x es ≡ SnpHeard m c d y fs → es ≡ fs
 same-entries l m a b c d x y es fs e = cc
 
 -- what a clear datagram is read as, where that is a CSNP
-read-csnp : (own : ℕ) (d : Datagram) (s : Sent) → d.says ≡ s → (l : Level) (snpa source first last : ℕ) (entries : List SnpEntry)
-    → IsReading (SnpHeard l snpa source (Some (first, last)) entries) (said own d.config d.place d.circuit s) → d.says ≡ Csnp l first last entries
-read-csnp own d s e l snpa source first last entries (inl q) = absurd (let clash = q.1 in cc)
-read-csnp own d (PointHello state extended names) e l snpa source first last entries (inr q) = absurd (cc)
-read-csnp own d (LanHello m lan snpas) e l snpa source first last entries (inr q) = absurd (cc)
-read-csnp own d (Lsp m id cell) e l snpa source first last entries (inr q) = absurd (cc)
-read-csnp own d (Csnp m start end others) e l snpa source first last entries (inr q) = e ∙ same-csnp q
+read-csnp : (own : ℕ) (d : Datagram) (s : Sent) → d.says ≡ s → (l : Level) (from : Envelope) (source first last : ℕ) (entries : List SnpEntry)
+    → IsReading (SnpHeard l from source (Some (first, last)) entries) (said own d.config d.boot d.place d.circuit s) → d.says ≡ Csnp l first last entries
+read-csnp own d s e l from source first last entries (inl q) = absurd (let clash = q.1 in cc)
+read-csnp own d (PointHello state extended names) e l from source first last entries (inr q) = absurd (cc)
+read-csnp own d (LanHello m lan snpas) e l from source first last entries (inr q) = absurd (cc)
+read-csnp own d (Lsp m id cell) e l from source first last entries (inr q) = absurd (cc)
+read-csnp own d (Csnp m start end others) e l from source first last entries (inr q) = e ∙ same-csnp q
   where
-    same-csnp : SnpHeard l snpa source (Some (first, last)) entries ≡ SnpHeard m d.config.system d.config.system (Some (start, end)) others → Csnp m start end others ≡ Csnp l first last entries
+    same-csnp : SnpHeard l from source (Some (first, last)) entries ≡ SnpHeard m (envelope d.config d.boot) d.config.system (Some (start, end)) others → Csnp m start end others ≡ Csnp l first last entries
     same-csnp q =
         ap (λ (p : ℕ × ℕ). Csnp m p.0 p.1 others) (sym (some-same _ _ (same-range l m _ _ _ _ _ _ _ _ q)))
         ∙ ap (λ (es : List SnpEntry). Csnp m first last es) (sym (same-entries l m _ _ _ _ _ _ _ _ q))
         ∙ ap (λ (k : Level). Csnp k first last entries) (sym (same-level l m _ _ _ _ _ _ _ _ q))
-read-csnp own d (Psnp m others) e l snpa source first last entries (inr q) = absurd (cc)
+read-csnp own d (Psnp m others) e l from source first last entries (inr q) = absurd (cc)
 
-read-on : (r : Router) (c : Option Circuit) (d : Datagram) → IsPlain d → (l : Level) (snpa source first last : ℕ) (entries : List SnpEntry)
-    → read_on r c (octets_of d) ≡ SnpHeard l snpa source (Some (first, last)) entries → d.says ≡ Csnp l first last entries
-read-on r None d plain l snpa source first last entries q = absurd (cc)
-read-on r (Some c) d plain l snpa source first last entries q = ⊎_elim
-    (λ (legible : IsLegible d). read-csnp r.config.system d d.says refl l snpa source first last entries (subst (λ (m : Message). IsReading m (said r.config.system d.config d.place d.circuit d.says)) q (legible r.config c)))
+read-on : (r : Router) (c : Option Circuit) (d : Datagram) → IsPlain d → (l : Level) (from : Envelope) (source first last : ℕ) (entries : List SnpEntry)
+    → read_on r c (octets_of d) ≡ SnpHeard l from source (Some (first, last)) entries → d.says ≡ Csnp l first last entries
+read-on r None d plain l from source first last entries q = absurd (cc)
+read-on r (Some c) d plain l from source first last entries q = ⊎_elim
+    (λ (legible : IsLegible d). read-csnp r.config.system d d.says refl l from source first last entries (subst (λ (m : Message). IsReading m (said r.config.system d.config d.boot d.place d.circuit d.says)) q (legible r.config c)))
     (λ (silent : (by : _) (on : _) → IsSilent (read by on (octets_of d))). absurd (subst IsSilent q (silent r.config c)))
     plain.clear
 
@@ -416,15 +416,15 @@ heard-agreed : (given : Given) (net : Network) (i : ℕ) (r now : Router) (place
 heard-agreed given net i r now place c d (Refused cause) o t x at_r q = tt
 heard-agreed given net i r now place c d (PointHelloHeard h) o t x at_r q = tt
 heard-agreed given net i r now place c d (LanHelloHeard l h) o t x at_r q = tt
-heard-agreed given net i r now place c d (LspHeard l snpa h) o t x at_r q = tt
-heard-agreed given net i r now place c d (SnpHeard l snpa source None entries) o t x at_r q = tt
-heard-agreed given net i r now place c d (SnpHeard l snpa source (Some range) entries) o t x at_r q =
+heard-agreed given net i r now place c d (LspHeard l from h) o t x at_r q = tt
+heard-agreed given net i r now place c d (SnpHeard l from source None entries) o t x at_r q = tt
+heard-agreed given net i r now place c d (SnpHeard l from source (Some range) entries) o t x at_r q =
     test (λ b. whole ≡ b → AreAgreed net (if b then taking_of i r d l range ∷ [] else [])) whole
-    (λ _ e. (taking-agreed given net i r now d l range entries t x at_r (read-on r (Some c) d (o.plain d x) l snpa source range.0 range.1 entries (sym q)) (and-right _ _ e), tt))
+    (λ _ e. (taking-agreed given net i r now d l range entries t x at_r (read-on r (Some c) d (o.plain d x) l from source range.0 range.1 entries (sym q)) (and-right _ _ e), tt))
     (λ _ _. tt) refl
   where
     whole : Bool
-    whole = c.lan && is_none (drop_of r place c (SnpHeard l snpa source (Some range) entries)) && is_clean r now l range entries
+    whole = c.lan && is_none (drop_of r place c (SnpHeard l from source (Some range) entries)) && is_clean r now l range entries
 
 ranges-agreed : (given : Given) (net : Network) (i : ℕ) (r now : Router) (place : ℕ) (c : Option Circuit) (d : Datagram) (m : Message) → HaveOrigins net → AreTrue net → In d net.datagrams → nth net.routers i ≡ Some r
     → m ≡ read_on r c (octets_of d) → AreAgreed net (ranges_of i r now place c d m)

@@ -43,8 +43,8 @@ abbrev pub IsSilent : Message → Type 0
 IsSilent (Refused cause) = Unit {0}
 IsSilent (PointHelloHeard h) = Unit {0}
 IsSilent (LanHelloHeard level h) = Unit {0}
-IsSilent (LspHeard level snpa h) = ⊥
-IsSilent (SnpHeard level snpa source range entries) = ⊥
+IsSilent (LspHeard level from h) = ⊥
+IsSilent (SnpHeard level from source range entries) = ⊥
 
 -- a datagram is read as what it says, but for LAN hellos, of which nothing is read that says
 -- something of LSPs (own)

@@ -11,13 +11,13 @@ use Rattle.isis_model.specs.Books.{srm_at}
 use Rattle.isis_model.specs.Configs.{Config}
 use Rattle.isis_model.specs.Routers.{Circuit, Router, LevelState, level_of, with_level, book_of}
 use Rattle.isis_model.specs.Datagrams.{Sent, PointHello, LanHello, Lsp, Csnp, Psnp}
-use Rattle.isis_model.specs.Events.{Message, Refused, SnpHeard, Take}
+use Rattle.isis_model.specs.Events.{Envelope, Message, Refused, SnpHeard, Take}
 use Rattle.isis_model.specs.AdjacencyLaws.{is_point}
 use Rattle.isis_model.specs.Receiving.{drop_of, scene_of, take_or_drop, take}
 use Rattle.isis_model.specs.Takes.{take_snp}
 use Rattle.isis_model.specs.Steps.{step}
 use Rattle.isis_model.proofs.FreeLemmas.{snp-frees}
-use Rattle.isis_datagram.specs.Said.{said}
+use Rattle.isis_datagram.specs.Said.{envelope, said}
 use Rattle.router_core.specs.Givens.{given}
 use Rattle.router_core.specs.Reached.{IsReached}
 use Rattle.network_model.specs.Networks.{Datagram, octets_of, Network, numbered}
@@ -37,14 +37,14 @@ book-with r level.One s = refl
 book-with r level.Two s = refl
 
 -- what is taken frees the flag
-pub snp-taken : (r : Router) (place : ℕ) (l : Level) (snpa source : ℕ) (range : Option (ℕ × ℕ)) (entries : List SnpEntry) (h : SnpEntry) → IsReached r → is_point (nth r.circuits place) ≡ true
-    → IsTaken (step given r (Take place (SnpHeard l snpa source range entries))).reply → ListsOnce entries h → Frees (book_of r l) h
-    → srm_at (book_of (step given r (Take place (SnpHeard l snpa source range entries))).router l) h.id place ≡ false
+pub snp-taken : (r : Router) (place : ℕ) (l : Level) (from : Envelope) (source : ℕ) (range : Option (ℕ × ℕ)) (entries : List SnpEntry) (h : SnpEntry) → IsReached r → is_point (nth r.circuits place) ≡ true
+    → IsTaken (step given r (Take place (SnpHeard l from source range entries))).reply → ListsOnce entries h → Frees (book_of r l) h
+    → srm_at (book_of (step given r (Take place (SnpHeard l from source range entries))).router l) h.id place ≡ false
 unfolding step
-snp-taken r place l snpa source range entries h reached point taken once frees = on (nth r.circuits place) point taken
+snp-taken r place l from source range entries h reached point taken once frees = on (nth r.circuits place) point taken
   where
     m : Message
-    m = SnpHeard l snpa source range entries
+    m = SnpHeard l from source range entries
 
     kind : has (book_of r l).p2p place ≡ true
     kind = reached.follows.points l place ∙ point
@@ -52,13 +52,13 @@ snp-taken r place l snpa source range entries h reached point taken once frees =
     free : srm_at (take_snp (scene_of given r l) (level_of r l) r.config.system place range entries).book h.id place ≡ false
     free = snp-frees (scene_of given r l) (level_of r l) r.config.system place range entries h kind (reached.speaking.good.on l) once frees
 
-    by : (c : Circuit) (o : Option DropName) → IsTaken (take_or_drop given r place c (SnpHeard l snpa source range entries) o).reply → srm_at (book_of (take_or_drop given r place c (SnpHeard l snpa source range entries) o).router l) h.id place ≡ false
+    by : (c : Circuit) (o : Option DropName) → IsTaken (take_or_drop given r place c (SnpHeard l from source range entries) o).reply → srm_at (book_of (take_or_drop given r place c (SnpHeard l from source range entries) o).router l) h.id place ≡ false
     by c (Some cause) t = absurd (t cause refl)
     by c None t = ap (λ b. srm_at b h.id place) (book-with r l (take_snp (scene_of given r l) (level_of r l) r.config.system place range entries)) ∙ free
 
-    on : (o : Option Circuit) → is_point o ≡ true → IsTaken (take given r place (SnpHeard l snpa source range entries) o).reply → srm_at (book_of (take given r place (SnpHeard l snpa source range entries) o).router l) h.id place ≡ false
+    on : (o : Option Circuit) → is_point o ≡ true → IsTaken (take given r place (SnpHeard l from source range entries) o).reply → srm_at (book_of (take given r place (SnpHeard l from source range entries) o).router l) h.id place ≡ false
     on None p t = absurd (cc)
-    on (Some c) p t = by c (drop_of r place c (SnpHeard l snpa source range entries)) t
+    on (Some c) p t = by c (drop_of r place c (SnpHeard l from source range entries)) t
 
 -- ---- a delivery
 
@@ -80,19 +80,19 @@ by-reading r place l h m says point reads taken f = ⊎_elim
     (λ (same : m ≡ says). subst (λ (x : Message). srm_at (book_of (step given r (Take place x)).router l) h.id place ≡ false) (sym same) (f (subst (λ (x : Message). IsTaken (step given r (Take place x)).reply) same taken))) reads
 
 -- what is said is taken
-said-taken : (r : Router) (place : ℕ) (config : Config) (from : ℕ) (c : Circuit) (s : Sent) (l : Level) (entries : List SnpEntry) (h : SnpEntry) (m : Message) → IsReached r → is_point (nth r.circuits place) ≡ true → IsListing s l entries → ListsOnce entries h → Frees (book_of r l) h
-    → IsReading m (said r.config.system config from c s) → IsTaken (step given r (Take place m)).reply → srm_at (book_of (step given r (Take place m)).router l) h.id place ≡ false
-said-taken r place config from c (PointHello state extended names) l entries h m reached point lists once frees reads taken = absurd lists
-said-taken r place config from c (LanHello k lan snpas) l entries h m reached point lists once frees reads taken = absurd lists
-said-taken r place config from c (Lsp k id cell) l entries h m reached point lists once frees reads taken = absurd lists
-said-taken r place config from c (Csnp k start end listed) l entries h m reached point lists once frees reads taken =
-    by-reading r place l h m (SnpHeard k config.system config.system (Some (start, end)) listed) point reads taken
-    (λ t. subst (λ (x : Level). srm_at (book_of (step given r (Take place (SnpHeard k config.system config.system (Some (start, end)) listed))).router x) h.id place ≡ false) lists.0
-    (snp-taken r place k config.system config.system (Some (start, end)) listed h reached point t (subst (λ (es : List SnpEntry). ListsOnce es h) (sym lists.1) once) (subst (λ (x : Level). Frees (book_of r x) h) (sym lists.0) frees)))
-said-taken r place config from c (Psnp k listed) l entries h m reached point lists once frees reads taken =
-    by-reading r place l h m (SnpHeard k config.system config.system None listed) point reads taken
-    (λ t. subst (λ (x : Level). srm_at (book_of (step given r (Take place (SnpHeard k config.system config.system None listed))).router x) h.id place ≡ false) lists.0
-    (snp-taken r place k config.system config.system None listed h reached point t (subst (λ (es : List SnpEntry). ListsOnce es h) (sym lists.1) once) (subst (λ (x : Level). Frees (book_of r x) h) (sym lists.0) frees)))
+said-taken : (r : Router) (place : ℕ) (config : Config) (boot from : ℕ) (c : Circuit) (s : Sent) (l : Level) (entries : List SnpEntry) (h : SnpEntry) (m : Message) → IsReached r → is_point (nth r.circuits place) ≡ true → IsListing s l entries → ListsOnce entries h → Frees (book_of r l) h
+    → IsReading m (said r.config.system config boot from c s) → IsTaken (step given r (Take place m)).reply → srm_at (book_of (step given r (Take place m)).router l) h.id place ≡ false
+said-taken r place config boot from c (PointHello state extended names) l entries h m reached point lists once frees reads taken = absurd lists
+said-taken r place config boot from c (LanHello k lan snpas) l entries h m reached point lists once frees reads taken = absurd lists
+said-taken r place config boot from c (Lsp k id cell) l entries h m reached point lists once frees reads taken = absurd lists
+said-taken r place config boot from c (Csnp k start end listed) l entries h m reached point lists once frees reads taken =
+    by-reading r place l h m (SnpHeard k (envelope config boot) config.system (Some (start, end)) listed) point reads taken
+    (λ t. subst (λ (x : Level). srm_at (book_of (step given r (Take place (SnpHeard k (envelope config boot) config.system (Some (start, end)) listed))).router x) h.id place ≡ false) lists.0
+    (snp-taken r place k (envelope config boot) config.system (Some (start, end)) listed h reached point t (subst (λ (es : List SnpEntry). ListsOnce es h) (sym lists.1) once) (subst (λ (x : Level). Frees (book_of r x) h) (sym lists.0) frees)))
+said-taken r place config boot from c (Psnp k listed) l entries h m reached point lists once frees reads taken =
+    by-reading r place l h m (SnpHeard k (envelope config boot) config.system None listed) point reads taken
+    (λ t. subst (λ (x : Level). srm_at (book_of (step given r (Take place (SnpHeard k (envelope config boot) config.system None listed))).router x) h.id place ≡ false) lists.0
+    (snp-taken r place k (envelope config boot) config.system None listed h reached point t (subst (λ (es : List SnpEntry). ListsOnce es h) (sym lists.1) once) (subst (λ (x : Level). Frees (book_of r x) h) (sym lists.0) frees)))
 
 read-taken : (r : Router) (d : Datagram) (place : ℕ) (l : Level) (entries : List SnpEntry) (h : SnpEntry) → IsReached r → is_point (nth r.circuits place) ≡ true → IsLegible d → IsListing d.says l entries → ListsOnce entries h → Frees (book_of r l) h
     → IsTaken (step given r (taking r place (octets_of d))).reply → srm_at (book_of (step given r (taking r place (octets_of d))).router l) h.id place ≡ false
@@ -100,7 +100,7 @@ read-taken r d place l entries h reached point legible lists once frees taken = 
   where
     on : (o : Option Circuit) → is_point o ≡ true → IsTaken (step given r (Take place (read_on r o (octets_of d)))).reply → srm_at (book_of (step given r (Take place (read_on r o (octets_of d)))).router l) h.id place ≡ false
     on None p t = absurd (cc)
-    on (Some c) p t = said-taken r place d.config d.place d.circuit d.says l entries h _ reached point lists once frees (legible r.config c) t
+    on (Some c) p t = said-taken r place d.config d.boot d.place d.circuit d.says l entries h _ reached point lists once frees (legible r.config c) t
 
 -- ---- in a network
 

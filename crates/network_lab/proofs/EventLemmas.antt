@@ -16,7 +16,7 @@ use Rattle.router_core.specs.Events as core
 use Rattle.router_core.specs.Givens.{given}
 use Rattle.network_model.specs.Networks.{Datagram, octets_of, Taking, Network, place_in, place_at, numbered, restarted}
 use Rattle.network_model.specs.Runs as model
-use Rattle.network_model.specs.Runs.{posted, moved, moved_if, taking, arrival, on_place, pull_at, arrive, arrive_at, deliver_at, inject_at, restart_at, ranges_in, boot_of, apply}
+use Rattle.network_model.specs.Runs.{posted, moved, moved_if, taking, arrival, on_place, pull_at, arrive, arrive_at, deliver_at, inject_at, restart_at, ranges_in, apply}
 use Rattle.network_lab.specs.declared.sent.SentDatagram.{SentDatagram}
 use Rattle.network_lab.specs.declared.event.LabEvent.{LabEvent}
 use Rattle.network_lab.specs.declared.event.LabEvent.TheVariants as event
@@ -68,19 +68,17 @@ pull-done s link i place r p h net e =
 pub numbered-seen : (net : Network) (s : Seen) → seen_of net ≡ s → (n : ℕ) → option_map sent_of (numbered net.datagrams n) ≡ numbered s.sent n
 numbered-seen net s e n = sym (numbered-map sent_of net.datagrams n) ∙ ap (λ (s : Seen). numbered s.sent n) e
 
-off-by : (stale same : Bool) (boot count link : ℕ) (d : Datagram) (place : Option ℕ) (f : LabFault) → (if not stale then Err (fault.Stale boot) else (if same then Err fault.NotOn else Ok link)) ≡ Err f → unless_arrives count (if not stale then model.Stale boot else (if same then model.NotOn else on_place d place)) ≡ Some f
-off-by false same boot count link d place f h = cc
-off-by true true boot count link d place f h = cc
-off-by true false boot count link d place f h = absurd (cc)
+off-by : (same : Bool) (count link : ℕ) (d : Datagram) (place : Option ℕ) (f : LabFault) → (if same then Err fault.NotOn else Ok link) ≡ Err f → unless_arrives count (if same then model.NotOn else on_place d place) ≡ Some f
+off-by true count link d place f h = cc
+off-by false count link d place f h = absurd (cc)
 
-on-by : (stale same : Bool) (boot link to : ℕ) (d : Datagram) (place : Option ℕ) → (if not stale then Err (fault.Stale boot) else (if same then Err fault.NotOn else Ok link)) ≡ Ok to → (link ≡ to) × ((if not stale then model.Stale boot else (if same then model.NotOn else on_place d place)) ≡ on_place d place)
-on-by false same boot link to d place h = absurd (cc)
-on-by true true boot link to d place h = absurd (cc)
-on-by true false boot link to d place h = (cc, refl)
+on-by : (same : Bool) (link to : ℕ) (d : Datagram) (place : Option ℕ) → (if same then Err fault.NotOn else Ok link) ≡ Ok to → (link ≡ to) × ((if same then model.NotOn else on_place d place) ≡ on_place d place)
+on-by true link to d place h = absurd (cc)
+on-by false link to d place h = (cc, refl)
 
 deliver-off-of : (net : Network) (i : ℕ) (o : Option Datagram) (f : LabFault) → delivered_on (seen_of net) (option_map sent_of o) i ≡ Err f → unless_arrives (length net.datagrams) (arrival net o i) ≡ Some f
 deliver-off-of net i None f h = let n = length-map net.datagrams sent_of in subst (λ (n : ℕ). Some (fault.NotSent n) ≡ Some f) n (cc)
-deliver-off-of net i (Some d) f h = off-by (boot_of (nth net.routers d.sender) == d.boot) (d.sender == i) (boot_of (nth net.routers d.sender)) (length net.datagrams) d.link d (place_at net d.link i) f h
+deliver-off-of net i (Some d) f h = off-by (d.sender == i) (length net.datagrams) d.link d (place_at net d.link i) f h
 
 pub deliver-off : (s : Seen) (n i : ℕ) (f : LabFault) → delivered_on s (numbered s.sent n) i ≡ Err f → (net : Network) → seen_of net ≡ s → refusal net (event.Deliver n i) ≡ Some f
 deliver-off s n i f h net e = deliver-off-of net i (numbered net.datagrams n) f (ap (λ (s : Seen). delivered_on s (option_map sent_of (numbered net.datagrams n)) i) e ∙ (ap (λ (o : Option SentDatagram). delivered_on s o i) (numbered-seen net s e n) ∙ h))
@@ -111,7 +109,7 @@ lands-of net s e n i link x (Some d) q g h = record {
     heard = ap (λ (s : Seen). delivered_on s (Some (sent_of d)) i) e ∙ (ap (λ (o : Option SentDatagram). delivered_on s o i) (there ∙ sym g) ∙ h)
 
     by : (d.link ≡ link) × (arrival net (Some d) i ≡ on_place d (place_at net d.link i))
-    by = on-by (boot_of (nth net.routers d.sender) == d.boot) (d.sender == i) (boot_of (nth net.routers d.sender)) d.link link d (place_at net d.link i) heard
+    by = on-by (d.sender == i) d.link link d (place_at net d.link i) heard
 
 pub deliver-none : (s : Seen) (n i link : ℕ) (x : SentDatagram) → numbered s.sent n ≡ Some x → delivered_on s (numbered s.sent n) i ≡ Ok link → place_in (nth s.links link) i ≡ None → (net : Network) → seen_of net ≡ s → refusal net (event.Deliver n i) ≡ Some fault.NotOn
 deliver-none s n i link x g h p net e =

@@ -15,7 +15,7 @@ use Rattle.isis_model.specs.Places.{nth}
 use Rattle.isis_model.specs.SnpTable.{SnpEntry, is_missed}
 use Rattle.isis_model.specs.Configs.{Config}
 use Rattle.isis_model.specs.Routers.{Circuit, Router, book_of}
-use Rattle.isis_model.specs.Events.{Message, Refused, PointHelloHeard, LanHelloHeard, LspHeard, SnpHeard, Take, Reply}
+use Rattle.isis_model.specs.Events.{Envelope, Message, Refused, PointHelloHeard, LanHelloHeard, LspHeard, SnpHeard, Take, Reply}
 use Rattle.isis_model.specs.Receiving.{drop_of, take_or_drop, take}
 use Rattle.isis_model.specs.Steps.{step}
 use Rattle.isis_datagram.specs.Reading.{read}
@@ -40,13 +40,13 @@ use Rattle.network_lab.proofs.PlaceLemmas.{some-same, nth-there, nth-slice_get, 
 
 -- ---- whether a sequence number PDU is dropped
 
-snp-taken : (r : Router) (place : ℕ) (c : Circuit) (l : Level) (snpa source : ℕ) (range : Option (ℕ × ℕ)) (entries : List SnpEntry) → nth r.circuits place ≡ Some c
-    → is_taken (step given r (Take place (SnpHeard l snpa source range entries))).reply ≡ is_none (drop_of r place c (SnpHeard l snpa source range entries))
+snp-taken : (r : Router) (place : ℕ) (c : Circuit) (l : Level) (from : Envelope) (source : ℕ) (range : Option (ℕ × ℕ)) (entries : List SnpEntry) → nth r.circuits place ≡ Some c
+    → is_taken (step given r (Take place (SnpHeard l from source range entries))).reply ≡ is_none (drop_of r place c (SnpHeard l from source range entries))
 unfolding step
-snp-taken r place c l snpa source range entries e =
-    ap (λ (o : Option Circuit). is_taken (take given r place (SnpHeard l snpa source range entries) o).reply) e ∙ by (drop_of r place c (SnpHeard l snpa source range entries))
+snp-taken r place c l from source range entries e =
+    ap (λ (o : Option Circuit). is_taken (take given r place (SnpHeard l from source range entries) o).reply) e ∙ by (drop_of r place c (SnpHeard l from source range entries))
   where
-    by : (o : Option DropName) → is_taken (take_or_drop given r place c (SnpHeard l snpa source range entries) o).reply ≡ is_none o
+    by : (o : Option DropName) → is_taken (take_or_drop given r place c (SnpHeard l from source range entries) o).reply ≡ is_none o
     by None = refl
     by (Some cause) = refl
 
@@ -55,15 +55,15 @@ abbrev Told : Router → ℕ → Circuit → Message → Reply → Type 0
 Told r place c (Refused cause) reply = Unit {0}
 Told r place c (PointHelloHeard h) reply = Unit {0}
 Told r place c (LanHelloHeard l h) reply = Unit {0}
-Told r place c (LspHeard l snpa h) reply = Unit {0}
-Told r place c (SnpHeard l snpa source range entries) reply = is_taken reply ≡ is_none (drop_of r place c (SnpHeard l snpa source range entries))
+Told r place c (LspHeard l from h) reply = Unit {0}
+Told r place c (SnpHeard l from source range entries) reply = is_taken reply ≡ is_none (drop_of r place c (SnpHeard l from source range entries))
 
 told : (r : Router) (place : ℕ) (c : Circuit) (m : Message) → nth r.circuits place ≡ Some c → Told r place c m (step given r (Take place m)).reply
 told r place c (Refused cause) e = tt
 told r place c (PointHelloHeard h) e = tt
 told r place c (LanHelloHeard l h) e = tt
-told r place c (LspHeard l snpa h) e = tt
-told r place c (SnpHeard l snpa source range entries) e = snp-taken r place c l snpa source range entries e
+told r place c (LspHeard l from h) e = tt
+told r place c (SnpHeard l from source range entries) e = snp-taken r place c l from source range entries e
 
 -- ---- a range with its moment
 
@@ -111,12 +111,12 @@ unfolding kept-by
 heard-is i r now place c x (Refused cause) reply range e t = none-kept i r now x reply range e
 heard-is i r now place c x (PointHelloHeard h) reply range e t = none-kept i r now x reply range e
 heard-is i r now place c x (LanHelloHeard l h) reply range e t = none-kept i r now x reply range e
-heard-is i r now place c x (LspHeard l snpa h) reply range e t = none-kept i r now x reply range e
-heard-is i r now place c x (SnpHeard l snpa source None entries) reply range e t = none-kept i r now x reply range e
-heard-is i r now place c x (SnpHeard l snpa source (Some w) entries) reply range e t = by c.lan (is_unflagged (book_of r l) w.0 w.1 entries) range e
+heard-is i r now place c x (LspHeard l from h) reply range e t = none-kept i r now x reply range e
+heard-is i r now place c x (SnpHeard l from source None entries) reply range e t = none-kept i r now x reply range e
+heard-is i r now place c x (SnpHeard l from source (Some w) entries) reply range e t = by c.lan (is_unflagged (book_of r l) w.0 w.1 entries) range e
   where
     n : Bool
-    n = is_none (drop_of r place c (SnpHeard l snpa source (Some w) entries))
+    n = is_none (drop_of r place c (SnpHeard l from source (Some w) entries))
 
     same : Bool
     same = (book_of now l).changes == (book_of r l).changes
@@ -184,9 +184,9 @@ pub not-lan : (r : Router) (c : Circuit) (m : Message) → c.lan ≡ false → N
 not-lan r c (Refused cause) e = refl
 not-lan r c (PointHelloHeard h) e = refl
 not-lan r c (LanHelloHeard l h) e = refl
-not-lan r c (LspHeard l snpa h) e = refl
-not-lan r c (SnpHeard l snpa source None entries) e = refl
-not-lan r c (SnpHeard l snpa source (Some w) entries) e = ap (λ (b : Bool). if b && is_unflagged (book_of r l) w.0 w.1 entries then Some (l, w) else None) (sym e)
+not-lan r c (LspHeard l from h) e = refl
+not-lan r c (SnpHeard l from source None entries) e = refl
+not-lan r c (SnpHeard l from source (Some w) entries) e = ap (λ (b : Bool). if b && is_unflagged (book_of r l) w.0 w.1 entries then Some (l, w) else None) (sym e)
 
 lan-kind : (lan : Bool) → kind.is_lan (kind.kind_of_circuit lan) ≡ lan
 lan-kind true = refl

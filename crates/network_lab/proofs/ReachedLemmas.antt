@@ -1,5 +1,5 @@
 -- What is kept of a network in its run, by each event.
-use Rattle.std.proofs.Common.{◌≡◌, ℕ, zero, suc, ◌+◌, ◌-◌, ◌^◌, ◌<◌, ◌==◌, nat_lt, Bool, true, false, not, List, [], ◌∷◌, map, Option, Some, None, IfSome, if◌then◌else◌, refl, sym, ap, ◌∙◌, subst, arith}
+use Rattle.std.proofs.Common.{◌≡◌, ℕ, zero, suc, ◌+◌, ◌-◌, ◌^◌, ◌<◌, ◌==◌, nat_lt, Bool, true, false, List, [], ◌∷◌, map, Option, Some, None, IfSome, if◌then◌else◌, refl, sym, ap, ◌∙◌, subst, arith}
 use Rattle.std.specs.List.{AllByRecursion}
 use Rattle.isis_model.specs.Places.{nth}
 use Rattle.isis_model.specs.Books.{risen}
@@ -16,7 +16,7 @@ use Rattle.router_core.specs.Reached.{IsReached}
 use Rattle.router_core.proofs.NameLemmas.{names-read}
 use Rattle.router_core.proofs.ReachedLemmas.{step-holds, restart-reached}
 use Rattle.network_model.specs.Networks.{Datagram, octets_of, Network, place_at, numbered, restarted}
-use Rattle.network_model.specs.Runs.{read_on, taking, Happening, Tick, PullOn, Deliver, Restart, SetMetric, SetOverload, SetPrefix, Inject, is_injection, moved_if, Arrival, NotSent, Stale, NotOn, Arrives, boot_of, on_place, arrival, arrive, arrive_at, deliver_at, pull_at, restart_at, inject_at, apply}
+use Rattle.network_model.specs.Runs.{read_on, taking, Happening, Tick, PullOn, Deliver, Restart, SetMetric, SetOverload, SetPrefix, Inject, is_injection, moved_if, Arrival, NotSent, NotOn, Arrives, on_place, arrival, arrive, arrive_at, deliver_at, pull_at, restart_at, inject_at, apply}
 use Rattle.network_model.specs.Speakers.{AreSpeaking, AreOctets}
 use Rattle.network_model.specs.Kept.{AreFollowing}
 use Rattle.network_model.proofs.ChangeLemmas.{each-router}
@@ -57,7 +57,6 @@ delivered-run net i d place (Some r) q all small = each-router IsReached net.rou
 
 arrive-run : (net : Network) (i : ℕ) (a : Arrival) → AreInRun net.routers → ((d : Datagram) (place : ℕ) → a ≡ Arrives d place → Small (octets_of d)) → AreInRun (arrive given net i a).routers
 arrive-run net i NotSent all small = all
-arrive-run net i (Stale boot) all small = all
 arrive-run net i NotOn all small = all
 arrive-run net i (Arrives d place) all small = delivered-run net i d place (nth net.routers i) refl all (small d place refl)
 
@@ -66,13 +65,12 @@ same-arrival : (x d : Datagram) (p q : ℕ) → Arrives x p ≡ Arrives d q → 
 same-arrival x d p q e = cc
 
 pub arrival-same : (net : Network) (x d : Datagram) (i place : ℕ) → arrival net (Some x) i ≡ Arrives d place → x ≡ d
-arrival-same net x d i place e = by (boot_of (nth net.routers x.sender) == x.boot) (x.sender == i) (place_at net x.link i) e
+arrival-same net x d i place e = by (x.sender == i) (place_at net x.link i) e
   where
-    by : (b c : Bool) (p : Option ℕ) → (if not b then Stale (boot_of (nth net.routers x.sender)) else (if c then NotOn else on_place x p)) ≡ Arrives d place → x ≡ d
-    by false c p e = absurd (cc)
-    by true true p e = absurd (cc)
-    by true false None e = absurd (cc)
-    by true false (Some q) e = same-arrival x d q place e
+    by : (same : Bool) (p : Option ℕ) → (if same then NotOn else on_place x p) ≡ Arrives d place → x ≡ d
+    by true p e = absurd (cc)
+    by false None e = absurd (cc)
+    by false (Some q) e = same-arrival x d q place e
 
 arrives-small : (net : Network) (o : Option Datagram) (i : ℕ) → ((d : Datagram) → o ≡ Some d → Small (octets_of d)) → (d : Datagram) (place : ℕ) → arrival net o i ≡ Arrives d place → Small (octets_of d)
 arrives-small net None i small d place e = absurd (cc)

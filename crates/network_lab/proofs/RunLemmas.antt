@@ -10,7 +10,7 @@ use Rattle.router_core.specs.Givens.{given}
 use Rattle.network_model.specs.declared.word.PduWord.{PduWord}
 use Rattle.network_model.specs.declared.end.End.{End}
 use Rattle.network_model.specs.Networks.{Datagram, octets_of, Network, place_at, numbered}
-use Rattle.network_model.specs.Runs.{Happening, Tick, PullOn, Deliver, Restart, SetMetric, SetOverload, SetPrefix, Inject, Arrival, NotSent, Stale, NotOn, Arrives, moved_if, arrival, arrive, arrive_at, deliver_at, pull_at, restart_at, inject_at, apply}
+use Rattle.network_model.specs.Runs.{Happening, Tick, PullOn, Deliver, Restart, SetMetric, SetOverload, SetPrefix, Inject, Arrival, NotSent, NotOn, Arrives, moved_if, arrival, arrive, arrive_at, deliver_at, pull_at, restart_at, inject_at, apply}
 use Rattle.network_model.specs.RunLines as line
 use Rattle.network_lab.specs.declared.event.LabEvent.{LabEvent}
 use Rattle.network_lab.specs.declared.event.LabEvent.TheVariants as event
@@ -59,7 +59,6 @@ deliver_at-grows g net i d place (Some r) = grown net _ _ refl
 
 arrive-grows : (g : Given) (net : Network) (i : ℕ) (a : Arrival) → Grows net (arrive g net i a)
 arrive-grows g net i NotSent = stays net
-arrive-grows g net i (Stale boot) = stays net
 arrive-grows g net i NotOn = stays net
 arrive-grows g net i (Arrives d place) = deliver_at-grows g net i d place (nth net.routers i)
 
@@ -148,7 +147,6 @@ stop-more net later kept (fault.Limit limit.Circuits) g h = h
 stop-more net later kept (fault.Limit limit.Prefixes) g h = h
 stop-more net later kept (fault.Limit limit.Boots) g h = h
 stop-more net later kept (fault.NotSent sent) g h = h
-stop-more net later kept (fault.Stale boot) g h = h
 stop-more net later kept fault.NotOn g h = h
 
 same-trans : (a b c : LabNet) → SameSize a b → SameSize b c → SameSize a c
@@ -261,7 +259,6 @@ pull-same net i link (Some place) f e = absurd (cc)
 
 arrive-same : (net : Network) (i count : ℕ) (a : Arrival) (f : LabFault) → unless_arrives count a ≡ Some f → arrive given net i a ≡ net
 arrive-same net i count NotSent f e = refl
-arrive-same net i count (Stale boot) f e = refl
 arrive-same net i count NotOn f e = refl
 arrive-same net i count (Arrives d place) f e = absurd (cc)
 

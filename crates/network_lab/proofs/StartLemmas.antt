@@ -8,7 +8,7 @@ use Rattle.isis_model.specs.Places.{nth}
 use Rattle.isis_model.specs.Routers.{Circuit, Router, book_of}
 use Rattle.isis_model.specs.Configs as model
 use Rattle.isis_model.specs.Starts.{start}
-use Rattle.isis_model.specs.AdjacencyLaws.{opens, is_point, bond_at, no_bond}
+use Rattle.isis_model.specs.AdjacencyLaws.{opens, is_point, tie_at, no_tie}
 use Rattle.router_desk.specs.declared.config.Config.{Config}
 use Rattle.router_core.specs.Reached.{IsReached}
 use Rattle.router_desk.specs.Configs.{config_of, circuits_of}
@@ -39,9 +39,9 @@ configs-run [] h i r e = absurd (cc)
 configs-run (c ∷ configs) h zero r e = subst IsReached (some-same (router_of c) r e) h.0.reached
 configs-run (c ∷ configs) h (suc i) r e = configs-run configs h.1 i r e
 
-configs-alone : (configs : List Config) (i : ℕ) (r : Router) → nth (map router_of configs) i ≡ Some r → (place : ℕ) → bond_at r place ≡ no_bond
+configs-alone : (configs : List Config) (i : ℕ) (r : Router) → nth (map router_of configs) i ≡ Some r → (place : ℕ) → tie_at r place ≡ no_tie
 configs-alone [] i r e place = absurd (cc)
-configs-alone (c ∷ configs) zero r e place = subst (λ (r : Router). bond_at r place ≡ no_bond) (some-same (router_of c) r e) (start-alone (config_of c) 1 (circuits_of c) place)
+configs-alone (c ∷ configs) zero r e place = subst (λ (r : Router). tie_at r place ≡ no_tie) (some-same (router_of c) r e) (start-alone (config_of c) 1 (circuits_of c) place)
 configs-alone (c ∷ configs) (suc i) r e place = configs-alone configs i r e place
 
 start-empty : (config : model.Config) (boot : ℕ) (circuits : List Circuit) (level : Level) → (book_of (start config boot circuits) level).cells ≡ []
@@ -63,7 +63,7 @@ opening-reached configs s h w = record {
     wired = record { once = w.once };
     speaking = λ i r e. (all i r e).speaking;
     following = λ i r e. (all i r e).follows;
-    alone = subst (λ (rs : List Router). (i : ℕ) (r : Router) → nth rs i ≡ Some r → (place : ℕ) → bond_at r place ≡ no_bond) (sym h.routers) (configs-alone configs);
+    alone = subst (λ (rs : List Router). (i : ℕ) (r : Router) → nth rs i ≡ Some r → (place : ℕ) → tie_at r place ≡ no_tie) (sym h.routers) (configs-alone configs);
     nothing = refl;
   });
   origins = start-origins (opening s) nothing;

@@ -22,7 +22,7 @@ use Rattle.router_core.specs.Givens.{given}
 use Rattle.network_model.specs.declared.end.End.{End}
 use Rattle.network_model.specs.Networks.{Network, place_on, place_in, numbered, restarted}
 use Rattle.network_model.specs.Runs as model
-use Rattle.network_model.specs.Runs.{taking, boot_of}
+use Rattle.network_model.specs.Runs.{taking}
 use Rattle.network_lab.specs.declared.notes.Notes.{Notes}
 use Rattle.network_lab.specs.declared.sent.SentDatagram.{SentDatagram}
 use Rattle.network_lab.specs.declared.event.LabEvent.{LabEvent}
@@ -279,12 +279,11 @@ pull-ends old new i link circuit o res h running q e t =
 
 calm-delivery : (a : Seen) (o : Option SentDatagram) (i : ℕ) → IfErr (delivered_on a o i) (λ f. IsStop f → ⊥)
 calm-delivery a None i = λ s. s
-calm-delivery a (Some d) i = by (boot_of (nth a.routers d.sender) == d.boot) (d.sender == i)
+calm-delivery a (Some d) i = by (d.sender == i)
   where
-    by : (b c : Bool) → IfErr (if not b then Err (fault.Stale (boot_of (nth a.routers d.sender))) else (if c then Err fault.NotOn else Ok d.link)) (λ f. IsStop f → ⊥)
-    by false c = λ s. s
-    by true true = λ s. s
-    by true false = tt
+    by : (same : Bool) → IfErr (if same then Err fault.NotOn else Ok d.link) (λ f. IsStop f → ⊥)
+    by true = λ s. s
+    by false = tt
 
 pub deliver-off-ends : (old : LabNet) (n i : ℕ) (f : LabFault) → delivered_on old.seen (numbered old.seen.sent n) i ≡ Err f → Ending (event.Deliver n i) old old (Err f)
 deliver-off-ends old n i f h = Refused f refl refl (subst (λ (r : Result ℕ LabFault). IfErr r (λ f. IsStop f → ⊥)) h (calm-delivery old.seen (numbered old.seen.sent n) i)) (λ net s. deliver-off old.seen n i f h net s.seen)

@@ -30,9 +30,9 @@ abbrev pub unflagged_range : Router → Circuit → Message → Option (Level ×
 unflagged_range r c (Refused cause) = None
 unflagged_range r c (PointHelloHeard h) = None
 unflagged_range r c (LanHelloHeard level h) = None
-unflagged_range r c (LspHeard level snpa h) = None
-unflagged_range r c (SnpHeard level snpa source None entries) = None
-unflagged_range r c (SnpHeard level snpa source (Some range) entries) =
+unflagged_range r c (LspHeard level from h) = None
+unflagged_range r c (SnpHeard level from source None entries) = None
+unflagged_range r c (SnpHeard level from source (Some range) entries) =
     if c.lan && is_unflagged (book_of r level) range.0 range.1 entries
     then Some (level, range) else None
 
@@ -41,8 +41,8 @@ abbrev pub IsSnpRun : Router → Message → Type 0
 IsSnpRun r (Refused cause) = Unit {0}
 IsSnpRun r (PointHelloHeard h) = Unit {0}
 IsSnpRun r (LanHelloHeard level h) = Unit {0}
-IsSnpRun r (LspHeard level snpa h) = Unit {0}
-IsSnpRun r (SnpHeard level snpa source range entries) = at r.config.runs level ≡ true
+IsSnpRun r (LspHeard level from h) = Unit {0}
+IsSnpRun r (SnpHeard level from source range entries) = at r.config.runs level ≡ true
 
 -- the count of a level
 abbrev pub count_of : Changes → Level → ℕ

@@ -21,6 +21,13 @@ pub record IsJoined (configs : List Config) (ports : List (List ℕ)) (link : �
   pub reached : IsReached j.setup.router
   pub ports_is : j.ports ≡ list ++ link ∷ []
 
+-- one more stands at the end, of this router, of which this holds
+pub record Adds (P : Joined → Type 0) (number : ℕ) (old new : List Joined) : Type 0 where
+  pub joined : Joined
+  pub holds : P joined
+  pub router : joined.router ≡ number
+  pub added : new ≡ old ++ joined ∷ []
+
 abbrev pub configs_with : List Joined → List Config → List Config
 configs_with [] configs = configs
 configs_with (j ∷ joined) configs =

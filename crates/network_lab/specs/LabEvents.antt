@@ -11,7 +11,7 @@ use Rattle.router_core.specs.Events.{IsThere}
 use Rattle.router_core.specs.Givens.{given}
 use Rattle.network_model.specs.Networks.{Network, place_at, numbered}
 use Rattle.network_model.specs.Runs as model
-use Rattle.network_model.specs.Runs.{Happening, Arrival, NotSent, Stale, NotOn, Arrives, arrival, apply}
+use Rattle.network_model.specs.Runs.{Happening, Arrival, NotSent, NotOn, Arrives, arrival, apply}
 use Rattle.key_net.specs.declared.faults.LabFault.{LabFault}
 use Rattle.key_net.specs.declared.faults.LabFault.TheVariants as fault
 use Rattle.key_net.specs.declared.faults.LimitName.TheVariants as limit
@@ -62,11 +62,9 @@ abbrev pub unless_on : Option ℕ → Option LabFault
 unless_on None = Some fault.NotOn
 unless_on (Some place) = None
 
--- the datagram isn't there yet; its sender restarted since; the router isn't an end of its link, or
--- sent it itself (own)
+-- the datagram isn't there yet; the router isn't an end of its link, or sent it itself (own)
 abbrev pub unless_arrives : ℕ → Arrival → Option LabFault
 unless_arrives count NotSent = Some (fault.NotSent count)
-unless_arrives count (Stale boot) = Some (fault.Stale boot)
 unless_arrives count NotOn = Some fault.NotOn
 unless_arrives count (Arrives d place) = None
 

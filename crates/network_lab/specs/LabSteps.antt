@@ -1,5 +1,5 @@
 -- What an event does to what is seen of a network, and how a call that carries it out ends (own).
-use Rattle.std.specs.Prelude.{◌≡◌, ℕ, ◌==◌, not, true, List, ◌++◌, map, length, Option, Some, None, Result, Ok, Err, IfErr, OnOk, if◌then◌else◌}
+use Rattle.std.specs.Prelude.{◌≡◌, ℕ, ◌==◌, true, List, ◌++◌, map, length, Option, Some, None, Result, Ok, Err, IfErr, OnOk, if◌then◌else◌}
 use Rattle.isis_model.specs.Places.{nth, with_nth}
 use Rattle.isis_model.specs.Routers.{Router}
 use Rattle.isis_model.specs.Events.{Event}
@@ -9,7 +9,7 @@ use Rattle.router_desk.specs.declared.circuit_config.CircuitConfig.{CircuitConfi
 use Rattle.router_desk.specs.declared.config.Config.{Config}
 use Rattle.router_core.specs.Givens.{given}
 use Rattle.network_model.specs.Networks.{Network}
-use Rattle.network_model.specs.Runs.{posted, boot_of}
+use Rattle.network_model.specs.Runs.{posted}
 use Rattle.network_lab.specs.declared.sent.Changes.{Changes}
 use Rattle.network_lab.specs.declared.sent.SentDatagram.{SentDatagram}
 use Rattle.network_lab.specs.declared.heard_range.HeardRange.{HeardRange}
@@ -54,14 +54,12 @@ StopCause sent kept fault.OutOfMemory = Unit {0}
 StopCause sent kept (fault.Limit limit.Datagrams) = IsPast sent kept
 StopCause sent kept fault = ⊥
 
--- the link on which a datagram is delivered, or why it isn't: it isn't there yet, its sender restarted
--- since, or the router sent it itself
+-- the link on which a datagram is delivered, or why it isn't: it isn't there yet, or the router sent
+-- it itself
 abbrev pub delivered_on : Seen → Option SentDatagram → ℕ → Result ℕ LabFault
 delivered_on a None router = Err (fault.NotSent (length a.sent))
 delivered_on a (Some d) router =
-    let boot = boot_of (nth a.routers d.sender) in
-    if not (boot == d.boot) then Err (fault.Stale boot)
-    else (if d.sender == router then Err fault.NotOn else Ok d.link)
+    if d.sender == router then Err fault.NotOn else Ok d.link
 
 -- the links and the number of routers stay
 pub record SameSize (old new : LabNet) : Type 0 where

@@ -19,7 +19,7 @@ use crate::config_changes::changed;
 use crate::event::LabEvent;
 use crate::heard_range::HeardRange;
 use crate::network::Network;
-use crate::places::{boot_at, one_more, place_at, put_at};
+use crate::places::{one_more, place_at, put_at};
 use crate::taking::{restart_at, take_at, taking_at};
 use isis_base::Octets;
 use key_net::{LabFault, LimitName};
@@ -34,9 +34,9 @@ const PREFIX_LIMIT: usize = 4096;
 
 impl Network {
     /// One event. Whatever network of the model this network stood for, it then stands for that
-    /// network after the event. `NotSent`, `Stale`, `NotOn`, `Limit(Prefixes)` and `Limit(Boots)`
-    /// come exactly where the event is refused, which changes nothing; `Limit(Datagrams)` where it
-    /// sends past 262,144 datagrams, of which the first are kept. After `Limit(Datagrams)` or
+    /// network after the event. `NotSent`, `NotOn`, `Limit(Prefixes)` and `Limit(Boots)` come exactly
+    /// where the event is refused, which changes nothing; `Limit(Datagrams)` where it sends past
+    /// 262,144 datagrams, of which the first are kept. After `Limit(Datagrams)` or
     /// `OutOfMemory` each later call answers the same. At Ok, where nothing was injected, the claims
     /// hold (ISO 10589 7.3.17): each end of a point-to-point link that is up names the other, and
     /// what one end holds the other holds as new or newer, or its SRM flag stands; routers of one
@@ -206,10 +206,6 @@ impl Network {
             return Err(LabFault::NotSent { sent });
         }
         let datagram = &self.sent[number - 1];
-        let boot = boot_at(&self.routers, datagram.sender);
-        if boot != datagram.boot {
-            return Err(LabFault::Stale { boot });
-        }
         if datagram.sender == router {
             return Err(LabFault::NotOn);
         }

@@ -7,14 +7,13 @@ ghost use Rattle.isis_model.specs.Both.{at};
 ghost use Rattle.isis_model.specs.Events as event;
 ghost use Rattle.isis_model.specs.Places.{nth};
 ghost use Rattle.isis_model.specs.Routers.{Circuit as ModelCircuit, book_of};
-ghost use Rattle.isis_model.specs.Numbers.{snpa_number};
 ghost use Rattle.isis_datagram.specs.Reading.{message};
 ghost use Rattle.isis_datagram.specs.Tests.{has_number};
 ghost use Rattle.flag_sync.specs.BookStates.{book_of as book_in};
 ghost use Rattle.flag_sync.specs.Heard.{entries_of};
 ghost use Rattle.router_desk.specs.Desks as desk;
 ghost use Rattle.router_desk.specs.Desks.{desk_of};
-ghost use Rattle.router_desk.specs.Opening.{message_of as opened_message, IsOpenedBy};
+ghost use Rattle.router_desk.specs.Opening.{envelope_of, message_of as opened_message, IsOpenedBy};
 ghost use Rattle.router_desk.specs.Table.{is_run};
 ghost use Rattle.router_reading.specs.Heard.{message_of};
 ghost use Rattle.router_core.specs.Events.{event_of, Fits, IsThere};
@@ -169,7 +168,7 @@ fn unflagged_pdu(
     requires run { is_run r.now.config.runs (kind_of (pdu_view seen.now.pdu)) ≡ true }
     ensures { IfOk result (λ range. (c : ModelCircuit) → c.lan ≡ true
         → range_view range ≡ hears.unflagged_range r.now c (message r.now.config.system
-        (snpa_number seen.now.sender) (pdu_view seen.now.pdu) seen.now.octets.now)) }
+        (envelope_of seen.now.from) (pdu_view seen.now.pdu) seen.now.octets.now)) }
 {
     match seen.pdu {
         Pdu::Csnp { .. } => unflagged_csnp(alloc, r, seen),
@@ -187,11 +186,11 @@ fn unflagged_csnp(
     seen: &Seen<'_>,
 ) -> Result<Option<CsnpRange>, OutOfMemory>
     requires number { has_number (pdu_view seen.now.pdu) ≡ true }
-    requires run { IsSnpRun r.now (message r.now.config.system (snpa_number seen.now.sender)
-        (pdu_view seen.now.pdu) seen.now.octets.now) }
+    requires run { IsSnpRun r.now (message r.now.config.system
+        (envelope_of seen.now.from) (pdu_view seen.now.pdu) seen.now.octets.now) }
     ensures { IfOk result (λ range. (c : ModelCircuit) → c.lan ≡ true
         → range_view range ≡ hears.unflagged_range r.now c (message r.now.config.system
-        (snpa_number seen.now.sender) (pdu_view seen.now.pdu) seen.now.octets.now)) }
+        (envelope_of seen.now.from) (pdu_view seen.now.pdu) seen.now.octets.now)) }
 {
     match hear(alloc, r.desk().system(), seen) {
         Ok(heard) => Ok(unflagged_heard(r, &heard)),
@@ -211,7 +210,7 @@ fn unflagged_heard(r: &Router, heard: &Heard<'_>) -> Option<CsnpRange>
         Heard::Lsp { .. } => None,
         Heard::Snp {
             level,
-            snpa: _,
+            from: _,
             source: _,
             range,
             entries,
@@ -231,8 +230,8 @@ fn unflagged_range(
     entries: &[LspEntry],
 ) -> Option<CsnpRange>
     requires run { at r.now.config.runs level ≡ true }
-    ensures { (c : ModelCircuit) (snpa source : ℕ) → c.lan ≡ true
-        → range_view result ≡ hears.unflagged_range r.now c (event.SnpHeard level snpa source
+    ensures { (c : ModelCircuit) (from : event.Envelope) (source : ℕ) → c.lan ≡ true
+        → range_view result ≡ hears.unflagged_range r.now c (event.SnpHeard level from source
         (Some (lsp_number first, lsp_number last)) (entries_of entries.now)) }
 {
     let book = r.book(level)?;

@@ -9,7 +9,7 @@ ghost use Rattle.network_model.specs.RunLines as line;
 ghost use Rattle.network_lab.specs.LabNets.{circuit_count, new_circuit, next_end, with_circuit, router_of};
 ghost use Rattle.router_core.specs.Reached.{IsReached};
 ghost use Rattle.network_lab.specs.LabCauses as cause;
-ghost use Rattle.network_lab.specs.Joining.{IsJoined, configs_with, routers_with, ports_with};
+ghost use Rattle.network_lab.specs.Joining.{Adds, IsJoined, configs_with, routers_with, ports_with};
 
 use crate::places::put_at;
 use crate::row::Row;
@@ -141,23 +141,40 @@ pub(crate) fn joined_all(
     let mut list = Vec::new(alloc);
     let mut left = members;
     while let [member, more @ ..] = left {
-        let joined = match joined_at(alloc, configs, ports, *member, link, kind, metric) {
-            Ok(joined) => joined,
-            Err(error) => {
-                drop(list);
-                return Err(error);
-            }
-        };
-        match list.push(joined) {
+        match join(&mut list, configs, ports, *member, link, kind, metric) {
             Ok(()) => {}
-            Err(_) => {
-                drop(list);
-                return Err(OutOfMemory);
-            }
+            Err(error) => return Err(error),
         }
         left = more;
     }
     Ok(list)
+}
+
+/// Adds what becomes of a router.
+fn join(
+    list: &mut Vec<Joined>,
+    configs: &[Config],
+    ports: &[Row<usize>],
+    router: usize,
+    link: usize,
+    kind: CircuitKind,
+    metric: u32,
+) -> Result<(), OutOfMemory>
+    requires valid { AllByRecursion IsValid configs.now }
+    requires same { length ports.now ≡ length configs.now }
+    requires there { router < length configs.now }
+    requires room { circuit_count (nth configs.now router) < 64 }
+    requires metric { metric ≤ 16777215 }
+    ensures { OnOk result (Adds (IsJoined configs.now ports.now link (new_circuit kind metric))
+        router list.old.items list.new.items) }
+{
+    let alloc = *list.allocator();
+    let joined = joined_at(alloc, configs, ports, router, link, kind, metric)?;
+    match list.push(joined) {
+        Ok(()) => {}
+        Err(_) => return Err(OutOfMemory),
+    }
+    Ok(())
 }
 
 /// What becomes of a router.

@@ -6,7 +6,7 @@ ghost use Rattle.isis_model.specs.Books.{srm_at};
 ghost use Rattle.isis_model.specs.SnpTable.{SnpEntry};
 ghost use Rattle.isis_model.specs.SweepLaws.{ListsOnce, Frees};
 ghost use Rattle.isis_model.specs.Routers.{Router, book_of};
-ghost use Rattle.isis_model.specs.Events.{SnpHeard, Take};
+ghost use Rattle.isis_model.specs.Events.{Envelope, SnpHeard, Take};
 ghost use Rattle.isis_model.specs.AdjacencyLaws.{is_point};
 ghost use Rattle.isis_model.specs.Steps.{step};
 ghost use Rattle.router_core.specs.Reached.{IsReached};
@@ -51,13 +51,13 @@ pub fn sweep_laws()
 /// one number, its SRM flag for the LSP ID is clear there afterwards (ISO 10589 7.3.15.2). So the
 /// acknowledgement of an LSP, when it is delivered, clears the flag, unless the key changed meanwhile.
 pub fn acknowledgement_laws()
-    ensures taken { (r : Router) (place : ℕ) (level : Level) (snpa source : ℕ)
+    ensures taken { (r : Router) (place : ℕ) (level : Level) (from : Envelope) (source : ℕ)
         (range : Option (ℕ × ℕ)) (entries : List SnpEntry) (h : SnpEntry) → IsReached r
         → is_point (nth r.circuits place) ≡ true
-        → IsTaken (step given r (Take place (SnpHeard level snpa source range entries))).reply
+        → IsTaken (step given r (Take place (SnpHeard level from source range entries))).reply
         → ListsOnce entries h → Frees (book_of r level) h
         → srm_at (book_of (step given r
-        (Take place (SnpHeard level snpa source range entries))).router level) h.id place ≡ false }
+        (Take place (SnpHeard level from source range entries))).router level) h.id place ≡ false }
     ensures delivered { (net : Network) (e f : Port) (link n : ℕ) (a : Router) (level : Level)
         (h : SnpEntry) → IsReachedNet net → net.injected ≡ 0 → IsPointLink net e f link
         → Acknowledges net e f link n a level h → (t : Router)

@@ -57,7 +57,7 @@ impl LeftOut {
 fn is_of(word: PduWord, octets: &[u8]) -> bool
     ensures { result ≡ line.is_of word (line.type_of octets.now) }
 {
-    let code = match octets.get(14) {
+    let code = match octets.get(18) {
         Some(octet) => *octet % 32,
         None => 0,
     };

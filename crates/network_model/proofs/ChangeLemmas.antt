@@ -1,5 +1,5 @@
 -- What an event does to a network: nothing, or one router takes an event, or one restarts.
-use Rattle.std.proofs.Common.{◌≡◌, ◌≢◌, ℕ, zero, suc, ◌==◌, eqb, Bool, true, false, not, inl, inr, List, [], ◌∷◌, Option, Some, None, if◌then◌else◌, refl, sym, ap, ◌∙◌, subst, arith}
+use Rattle.std.proofs.Common.{◌≡◌, ◌≢◌, ℕ, zero, suc, ◌==◌, eqb, Bool, true, false, inl, inr, List, [], ◌∷◌, Option, Some, None, if◌then◌else◌, refl, sym, ap, ◌∙◌, subst, arith}
 use Rattle.std.proofs.lemmas.Bool.Decides.{nat_tests}
 use Rattle.std.specs.Option.{option_map}
 use Rattle.isis_model.specs.Places.{nth, with_nth}
@@ -10,7 +10,7 @@ use Rattle.isis_model.specs.AdjacencyLaws.{place_of}
 use Rattle.isis_model.proofs.BookLemmas.{test, same-or}
 use Rattle.isis_model.proofs.TouchLemmas.{nth-with_nth}
 use Rattle.network_model.specs.Networks.{Datagram, octets_of, Taking, Network, place_at, numbered}
-use Rattle.network_model.specs.Runs.{read_on, taking, moved, moved_if, Happening, Tick, PullOn, Deliver, Restart, SetMetric, SetOverload, SetPrefix, Inject, is_injection, Stale, NotOn, boot_of, on_place, arrival, ranges_in, deliver_at, arrive, pull_at, restart_at, apply}
+use Rattle.network_model.specs.Runs.{read_on, taking, moved, moved_if, Happening, Tick, PullOn, Deliver, Restart, SetMetric, SetOverload, SetPrefix, Inject, is_injection, NotOn, on_place, arrival, ranges_in, deliver_at, arrive, pull_at, restart_at, apply}
 use Rattle.network_model.specs.Ports.{In}
 
 -- ---- lists
@@ -51,7 +51,6 @@ pub record Arrived (net : Network) (i : ℕ) (r : Router) (place : ℕ) (m : Mes
   pub was_sent : In datagram net.datagrams
   pub foreign : datagram.sender ≢ i
   pub on : place_at net datagram.link i ≡ Some place
-  pub fresh : (b : Router) → nth net.routers datagram.sender ≡ Some b → datagram.boot ≡ b.boot
   pub read : m ≡ read_on r (nth r.circuits place) (octets_of datagram)
 
 -- an event of a router, and where it comes from
@@ -78,15 +77,10 @@ nth-in [] n d e = absurd (cc)
 nth-in (x ∷ ds) zero d e = inl (sym (some-same x d e))
 nth-in (x ∷ ds) (suc n) d e = inr (nth-in ds n d e)
 
-not-stale : (o : Option Router) (boot : ℕ) (b : Router) → not (boot_of o == boot) ≡ false → o ≡ Some b → boot ≡ b.boot
-not-stale None boot b e k = absurd (cc)
-not-stale (Some r) boot b e k = let same = some-same r b k in grind (arith, nat_tests, same)
-
 -- what holds of a datagram that arrives
 record Lands (net : Network) (i : ℕ) (d : Datagram) (place : ℕ) : Type 0 where
   foreign : d.sender ≢ i
   on : place_at net d.link i ≡ Some place
-  fresh : (b : Router) → nth net.routers d.sender ≡ Some b → d.boot ≡ b.boot
 
 same-place : (p q : ℕ) (m n : Message) → Take p m ≡ Take q n → p ≡ q
 same-place p q m n e = cc
@@ -106,24 +100,21 @@ taken-change given net i d place (Some r) q x l = Moved i (Some d.link) (taking 
         was_sent = x;
         foreign = l.foreign;
         on = l.on ∙ ap (λ (n : ℕ). Some n) here;
-        fresh = l.fresh;
         read = sym (same-message _ _ _ _ y) ∙ ap (λ (n : ℕ). read_on r (nth r.circuits n) (octets_of d)) here;
       };
 }) (Ranges d place x)
 
-placed-change : (given : Given) (net : Network) (i : ℕ) (d : Datagram) (o : Option ℕ) → place_at net d.link i ≡ o → In d net.datagrams → not (boot_of (nth net.routers d.sender) == d.boot) ≡ false → d.sender ≢ i → Change given net (arrive given net i (on_place d o))
-placed-change given net i d None q x new foreign = Still net
-placed-change given net i d (Some place) q x new foreign = taken-change given net i d place (nth net.routers i) refl x (record { foreign = foreign; on = q; fresh = λ b y. not-stale (nth net.routers d.sender) d.boot b new y })
+placed-change : (given : Given) (net : Network) (i : ℕ) (d : Datagram) (o : Option ℕ) → place_at net d.link i ≡ o → In d net.datagrams → d.sender ≢ i → Change given net (arrive given net i (on_place d o))
+placed-change given net i d None q x foreign = Still net
+placed-change given net i d (Some place) q x foreign = taken-change given net i d place (nth net.routers i) refl x (record { foreign = foreign; on = q })
 
 -- a delivery, by what becomes of it
 deliver-change : (given : Given) (net : Network) (i : ℕ) (o : Option Datagram) → ((d : Datagram) → o ≡ Some d → In d net.datagrams) → Change given net (arrive given net i (arrival net o i))
 deliver-change given net i None there = Still net
 deliver-change given net i (Some d) there =
-    test (λ t. not (boot_of (nth net.routers d.sender) == d.boot) ≡ t → Change given net (arrive given net i (if t then Stale (boot_of (nth net.routers d.sender)) else (if d.sender == i then NotOn else on_place d (place_at net d.link i))))) (not (boot_of (nth net.routers d.sender) == d.boot))
+    test (λ t. (d.sender == i) ≡ t → Change given net (arrive given net i (if t then NotOn else on_place d (place_at net d.link i)))) (d.sender == i)
     (λ _ _. Still net)
-    (λ _ new. test (λ t. (d.sender == i) ≡ t → Change given net (arrive given net i (if t then NotOn else on_place d (place_at net d.link i)))) (d.sender == i)
-    (λ _ _. Still net)
-    (λ _ n. placed-change given net i d (place_at net d.link i) refl (there d refl) new (λ x. grind (arith, nat_tests))) refl) refl
+    (λ _ n. placed-change given net i d (place_at net d.link i) refl (there d refl) (λ x. grind (arith, nat_tests))) refl
 
 -- ---- the others
 

@@ -9,7 +9,7 @@ use Rattle.isis_model.specs.Adjacencies.{is_up, point_open}
 use Rattle.isis_model.specs.Both.{at}
 use Rattle.isis_model.specs.Routers.{Circuit, Router, some_up}
 use Rattle.isis_model.specs.AdjacencyLaws.{opens, is_point}
-use Rattle.isis_model.specs.AdjacencyLaws.{Bond, no_bond, bond_of, bond_at}
+use Rattle.isis_model.specs.AdjacencyLaws.{no_bond, bond_of, bond_at, Tie, tie_at}
 use Rattle.isis_model.specs.Books.{risen}
 use Rattle.isis_model.specs.Givens.{Given}
 use Rattle.network_model.specs.Networks.{Datagram, Network, place_at}
@@ -18,7 +18,7 @@ use Rattle.network_model.specs.Ports.{Port, name_of, Hellos}
 use Rattle.network_model.specs.Links.{IsSound, EndHolds, LinkHolds, Holds, IsUp, Claim, Standing}
 use Rattle.isis_model.specs.Flooding.{Stands}
 use Rattle.network_model.specs.Starts.{IsOpening, Opens}
-use Rattle.network_model.proofs.PortLemmas.{no-bond}
+use Rattle.network_model.proofs.PortLemmas.{no-bond, keeps-boot, recalled}
 use Rattle.network_model.proofs.ChangeLemmas.{Change, Still, Moved, Restarted, apply-change}
 
 -- ---- the handshake
@@ -56,13 +56,13 @@ link-claim e f k a b ds l h up =
     let g = q.hello in
     let met = meet d.boot b.boot g.boot a.boot (h.far.sent.boot d p.was_sent p.hails.sender) (h.near.sent.boot g q.was_sent q.hails.sender)
     (λ x y. h.uncrossed.none g d q.state p.state q.extended p.extended b.boot a.boot q.was_sent p.was_sent q.hails p.hails x y)
-    (λ x. (h.near.hellos.named g q.state q.extended (Some (name_of f b.boot)) q.was_sent q.hails).kept b.boot d.boot x refl p.keeps)
-    (λ x. (h.far.hellos.named d p.state p.extended (Some (name_of e a.boot)) p.was_sent p.hails).kept a.boot g.boot x refl q.keeps) in
+    (λ x. recalled e a.boot (tie_at a e.place) f b.boot k ds h.near.hellos b.boot d.boot ((h.near.hellos.named g q.state q.extended (Some (name_of f b.boot)) q.was_sent q.hails).kept b.boot x refl) p.keeps)
+    (λ x. recalled f b.boot (tie_at b f.place) e a.boot k ds h.far.hellos a.boot g.boot ((h.far.hellos.named d p.state p.extended (Some (name_of e a.boot)) p.was_sent p.hails).kept a.boot x refl) q.keeps) in
     let near : (bond_at a e.place).names ≡ Some (name_of f b.boot) = p.keeps ∙ ap (λ (n : ℕ). Some (name_of f n)) met.0 in
     let far : (bond_at b f.place).names ≡ Some (name_of e a.boot) = q.keeps ∙ ap (λ (n : ℕ). Some (name_of e n)) met.1 in
     record {
-      near = record { up = ua; names = near };
-      far = record { up = ub; names = far };
+      near = record { up = ua; names = near; boot = keeps-boot e a.boot (tie_at a e.place) f b.boot k ds h.near.hellos b.boot near };
+      far = record { up = ub; names = far; boot = keeps-boot f b.boot (tie_at b f.place) e a.boot k ds h.far.hellos a.boot far };
       there = λ id x y. stand e a b l id h.near.sound up.near (h.near.standing.stands near l id x y);
       back = λ id x y. stand f b a l id h.far.sound up.far (h.far.standing.stands far l id y x);
     }
@@ -72,14 +72,15 @@ link-claim e f k a b ds l h up =
 opening-holds : (e f : Port) (k : ℕ) (a b : Router) → IsOpening e a → EndHolds e a f b k []
 opening-holds e f k a b o = record {
   sound = o.sound;
-  hellos = subst (λ (m : Bond). Hellos e a.boot m f b.boot k []) (sym o.alone) (record {
+  hellos = subst (λ (m : Tie). Hellos e a.boot m f b.boot k []) (sym o.alone) (record {
     bond = no-bond;
     kept = λ n x. absurd (cc);
+    past = λ boot x. absurd (cc);
     named = λ d s p n i hail. absurd i;
     reason = λ up. absurd (cc);
   });
-  sent = record { system = λ d i q. absurd i; boot = λ d i q. absurd i; held = λ d i q x. absurd i; legible = λ d i q x. absurd i };
-  standing = record { stands = λ names l id x y. absurd (let none : no_bond.names ≡ Some (name_of f b.boot) = sym (ap (λ (m : Bond). m.names) o.alone) ∙ names in cc) };
+  sent = record { system = λ d i q. absurd i; boot = λ d i q. absurd i; held = λ d i q x. absurd i; legible = λ d i q x. absurd i; point = λ d i q x. absurd i };
+  standing = record { stands = λ names l id x y. absurd (let none : no_bond.names ≡ Some (name_of f b.boot) = sym (ap (λ (m : Tie). m.bond.names) o.alone) ∙ names in cc) };
 }
 
 pub start-holds : (net : Network) (e f : Port) (k : ℕ) → Opens net e f → Holds net e f k

@@ -13,7 +13,7 @@ use Rattle.isis_model.specs.Routers.{Circuit, Router}
 use Rattle.isis_model.specs.Starts.{start}
 use Rattle.isis_model.specs.Events.{Event}
 use Rattle.isis_model.specs.Steps.{step}
-use Rattle.isis_model.specs.AdjacencyLaws.{is_point, FollowsAdjacencies, bond_at, no_bond}
+use Rattle.isis_model.specs.AdjacencyLaws.{is_point, FollowsAdjacencies, tie_at, no_tie}
 use Rattle.isis_model.proofs.BookLemmas.{test}
 use Rattle.isis_model.proofs.BondLemmas.{step-stays}
 use Rattle.isis_datagram.specs.Lsps.{given_octets}
@@ -29,7 +29,7 @@ use Rattle.network_model.proofs.ChangeLemmas.{nth-set, nth-other, some-same, Cha
 use Rattle.network_model.proofs.ClaimLemmas.{start-holds, apply-links, link-claim}
 use Rattle.network_model.proofs.CountLemmas.{ahead-flags}
 use Rattle.network_model.proofs.NetLemmas.{apply-holds}
-use Rattle.network_model.proofs.RestartLemmas.{quiet-point, quiet-bond}
+use Rattle.network_model.proofs.RestartLemmas.{quiet-point, quiet-tie}
 use Rattle.isis_model.proofs.StepLemmas.{step-keeps}
 
 -- ---- an end that is there was there before
@@ -210,5 +210,5 @@ kept-claim net e f k a b l kept none up =
 
 -- ---- a router at its start
 
-pub start-alone : (config : Config) (boot : ℕ) (circuits : List Circuit) (place : ℕ) → bond_at (start config boot circuits) place ≡ no_bond
-start-alone config boot circuits place = quiet-bond circuits place
+pub start-alone : (config : Config) (boot : ℕ) (circuits : List Circuit) (place : ℕ) → tie_at (start config boot circuits) place ≡ no_tie
+start-alone config boot circuits place = quiet-tie circuits place

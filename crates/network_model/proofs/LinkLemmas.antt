@@ -1,5 +1,5 @@
 -- What is kept of a link, by a step of one of its ends, by its restart, and by others.
-use Rattle.std.proofs.Common.{◌≡◌, ◌≢◌, ℕ, ◌≤◌, inl, inr, ⊎_elim, List, ◌++◌, Option, Some, None, if◌then◌else◌, refl, sym, ap, ◌∙◌, subst, zero-le, le_trans, le_of_eq}
+use Rattle.std.proofs.Common.{◌≡◌, ◌≢◌, ℕ, ◌≤◌, eqb, true, arith, ◌⊎◌, inl, inr, ⊎_elim, List, ◌++◌, Option, Some, None, if◌then◌else◌, refl, sym, ap, ◌∙◌, subst, zero-le, le_trans, le_of_eq}
 use Rattle.isis_tlv.specs.declared.three_way.Adj.TheVariants.{Up}
 use Rattle.isis_base.specs.declared.level.Level.{Level}
 use Rattle.isis_base.specs.declared.level.Level.TheVariants as level
@@ -10,12 +10,20 @@ use Rattle.isis_model.specs.Adjacencies.{Handshake, Hello}
 use Rattle.isis_model.specs.Routers.{Router, level_of, book_of, extended_of}
 use Rattle.isis_model.specs.Givens.{Given}
 use Rattle.isis_model.specs.Datagrams.{PointHello}
-use Rattle.isis_model.specs.Events.{Message, PointHelloHeard, Event, Second, Take, Pull, Metric, Overload, Prefix}
+use Rattle.std.proofs.lemmas.Bool.Decides.{nat_tests}
+use Rattle.isis_model.specs.declared.drop_name.DropName.TheVariants.{NoAdjacency}
+use Rattle.isis_model.specs.Maps.{find}
+use Rattle.isis_model.specs.Places.{nth}
+use Rattle.isis_model.specs.Drops.{count_drop}
+use Rattle.isis_model.specs.Hellos.{minded}
+use Rattle.isis_model.proofs.MapLemmas.{find-put}
+use Rattle.isis_model.proofs.StrangerLemmas.{strange-lsp, strange-snp}
+use Rattle.isis_model.specs.Events.{Envelope, Message, Refused, PointHelloHeard, LanHelloHeard, LspHeard, SnpHeard, Event, Second, Take, Pull, Metric, Overload, Prefix}
 use Rattle.isis_model.specs.Steps.{step}
 use Rattle.isis_model.specs.Hearings.{heard_in, says}
 use Rattle.isis_model.specs.Flooding.{Covers, KeepsBoth, Stands, IsKept}
 use Rattle.isis_model.specs.ReplyLaws.{IsHeld}
-use Rattle.isis_model.specs.AdjacencyLaws.{NamesMe, Bond, no_bond, bond_at, Bonds, Same, Ends, Meets, IsGreeting}
+use Rattle.isis_model.specs.AdjacencyLaws.{is_point, NamesMe, IsBond, Bond, no_bond, bond_at, Tie, tie_at, Minds, Bonds, Same, Ends, Hears, Learns, Meets, IsGreeting}
 use Rattle.isis_model.proofs.BookLemmas.{test, same-or}
 use Rattle.isis_model.proofs.StepLemmas.{step-keeps}
 use Rattle.isis_model.proofs.StepWays.{step-course}
@@ -25,19 +33,19 @@ use Rattle.isis_model.proofs.BondLemmas.{step-stays, step-bonds}
 use Rattle.isis_model.proofs.StandingLemmas.{stands-here, stands-there}
 use Rattle.network_model.specs.Networks.{Datagram}
 use Rattle.network_model.specs.Ports.{Port, name_of, In, Hails, Reason, Hellos}
-use Rattle.network_model.specs.Speakers.{IsLegible}
+use Rattle.network_model.specs.Speakers.{IsLegible, NotLan}
 use Rattle.network_model.specs.Links.{IsSound, IsSent, IsStanding, EndHolds}
 use Rattle.network_model.proofs.InLemmas.{in-split}
-use Rattle.network_model.proofs.PortLemmas.{Own, hellos-more, hellos-own, hellos-none, hellos-meets}
+use Rattle.network_model.proofs.ChangeLemmas.{if-yes, self}
+use Rattle.network_model.proofs.PortLemmas.{Own, no-bond, keeps-boot, hellos-more, hellos-own, hellos-ended, hellos-minds}
 use Rattle.network_model.proofs.ReadLemmas.{Reads, said-later}
 
--- a message is what the other end sent on the link in its present boot
+-- a message is what the other end sent on the link, in its present boot or before
 pub record Carried (f : Port) (b : Router) (k : ℕ) (ds : List Datagram) (m : Message) : Type 0 where
   pub datagram : Datagram
   pub was_sent : In datagram ds
   pub sender : datagram.sender ≡ f.router
   pub on : datagram.link ≡ k
-  pub boot : datagram.boot ≡ b.boot
   pub reads : Reads datagram m
 
 -- what a router posts after a step
@@ -48,20 +56,45 @@ pub record Posts (e : Port) (t : Router) (k : ℕ) (more : List Datagram) : Type
   pub held : (d : Datagram) → In d more → IsHeld t d.says
   pub greets : (d : Datagram) → In d more → d.link ≡ k → IsGreeting t e.place d.says
   pub legible : (d : Datagram) → In d more → d.link ≡ k → IsLegible d
+  pub point : (d : Datagram) → In d more → d.link ≡ k → NotLan d.says
 
 -- ---- a step of an end, seen from itself
 
--- what a step hears there is at most what the other end holds
-heard-within : (e f : Port) (b : Router) (k : ℕ) (ds : List Datagram) (event : Event) → ((m : Message) → event ≡ Take e.place m → Carried f b k ds m) → IsSent f b k ds
-    → (l : Level) (id : ℕ) → IsKept b l id → heard_in event l e.place id ≤ rank_at (book_of b l) id
-heard-within e f b k ds Second comes sent l id kept = zero-le
-heard-within e f b k ds (Take p m) comes sent l id kept = same-or (λ t. (if t then says m l id else 0) ≤ rank_at (book_of b l) id) p e.place
-    (λ same. let c = comes m (ap (λ (n : ℕ). Take n m) same) in c.reads.within b l id (sent.held c.datagram c.was_sent c.sender c.boot) kept)
-    (λ _. zero-le)
-heard-within e f b k ds (Pull p) comes sent l id kept = zero-le
-heard-within e f b k ds (Metric p metric) comes sent l id kept = zero-le
-heard-within e f b k ds (Overload on) comes sent l id kept = zero-le
-heard-within e f b k ds (Prefix prefix metric) comes sent l id kept = zero-le
+same-number : (m n : ℕ) → ◌≡◌ {A = Option ℕ} (Some m) (Some n) → m ≡ n
+same-number m n e = cc
+
+-- what a step hears there is at most what the other end holds, or it is dropped: where the end keeps the other's present boot it takes
+-- no LSP or SNP of another
+module _ (given : Given) (e : Port) (a : Router) (f : Port) (b : Router) (k : ℕ) (ds : List Datagram) (l : Level) (id : ℕ) (point : is_point (nth a.circuits e.place) ≡ true) (boot : (tie_at a e.place).boot ≡ Some b.boot) (sent : IsSent f b k ds) (kept : IsKept b l id) where
+  abbrev Bounds : Event → ℕ → Type 0
+  Bounds event rank = (rank ≤ rank_at (book_of b l) id) ⊎ ((step given a event).router ≡ record a { drops = count_drop a.drops NoAdjacency })
+
+  in-present : (m : Message) (c : Carried f b k ds m) → c.datagram.boot ≡ b.boot → says m l id ≤ rank_at (book_of b l) id
+  in-present m c same = c.reads.within b l id (sent.held c.datagram c.was_sent c.sender same) kept
+
+  other-boot : (from : Envelope) → from.boot ≢ b.boot → (tie_at a e.place).boot ≢ Some from.boot
+  other-boot from n q = n (same-number from.boot b.boot (sym q ∙ boot))
+
+  message-bounds : (m : Message) → Carried f b k ds m → Bounds (Take e.place m) (says m l id)
+  message-bounds (Refused cause) c = inl zero-le
+  message-bounds (PointHelloHeard h) c = inl zero-le
+  message-bounds (LanHelloHeard m h) c = inl zero-le
+  message-bounds (LspHeard m from h) c = test (λ t. eqb from.boot b.boot ≡ t → Bounds (Take e.place (LspHeard m from h)) (says (LspHeard m from h) l id)) (eqb from.boot b.boot)
+      (λ _ y. let same : from.boot ≡ b.boot = grind (arith, nat_tests, y) in inl (in-present (LspHeard m from h) c (sym (c.reads.lsp m from h refl) ∙ same)))
+      (λ _ n. inr (strange-lsp given a e.place m from h point (other-boot from (λ q. grind (arith, nat_tests, n, q))))) refl
+  message-bounds (SnpHeard m from source range entries) c = test (λ t. eqb from.boot b.boot ≡ t → Bounds (Take e.place (SnpHeard m from source range entries)) (says (SnpHeard m from source range entries) l id)) (eqb from.boot b.boot)
+      (λ _ y. let same : from.boot ≡ b.boot = grind (arith, nat_tests, y) in inl (in-present (SnpHeard m from source range entries) c (sym (c.reads.snp m from source range entries refl) ∙ same)))
+      (λ _ n. inr (strange-snp given a e.place m from source range entries point (other-boot from (λ q. grind (arith, nat_tests, n, q))))) refl
+
+  pub heard-bounds : (event : Event) → ((m : Message) → event ≡ Take e.place m → Carried f b k ds m) → Bounds event (heard_in event l e.place id)
+  heard-bounds Second comes = inl zero-le
+  heard-bounds (Take p m) comes = same-or (λ t. Bounds (Take p m) (if t then says m l id else 0)) p e.place
+      (λ same. subst (λ (n : ℕ). Bounds (Take n m) (says m l id)) (sym same) (message-bounds m (comes m (ap (λ (n : ℕ). Take n m) same))))
+      (λ _. inl zero-le)
+  heard-bounds (Pull p) comes = inl zero-le
+  heard-bounds (Metric p metric) comes = inl zero-le
+  heard-bounds (Overload on) comes = inl zero-le
+  heard-bounds (Prefix prefix metric) comes = inl zero-le
 
 -- what isn't let go after a step wasn't before it
 kept-before : (heard : Level → ℕ → ℕ → ℕ) (r t : Router) → KeepsBoth heard r t → (l : Level) (id : ℕ) → IsKept t l id → IsKept r l id
@@ -90,45 +123,91 @@ own-name : (r : Router) (place : ℕ) (o : Option (ℕ × ℕ)) → NamesMe r pl
 own-name r place None d n = absurd (n refl)
 own-name r place (Some names) d n = both-same names r.config.system (extended_of r.boot place) d.0 d.1
 
--- whom a hello that is taken makes an end keep
-met-name : (e : Port) (a : Router) (f : Port) (b : Router) (k : ℕ) (ds : List Datagram) (h : Hello) (s : Handshake) → EndHolds f b e a k ds → Carried f b k ds (PointHelloHeard h) → h.handshake ≡ Some s
-    → ◌≡◌ {A = Option (ℕ × ℕ)} (Some (h.source, s.extended)) (Some (name_of f b.boot))
-met-name e a f b k ds h s far c shakes =
+-- what an end learns of a hello that it takes there
+record Heard (f : Port) (b : Router) (k : ℕ) (ds : List Datagram) (h : Hello) (s : Handshake) (c : Carried f b k ds (PointHelloHeard h)) : Type 0 where
+  says : c.datagram.says ≡ PointHello s.state s.extended s.names
+  source : h.source ≡ f.system
+  boot : h.boot ≡ c.datagram.boot
+  past : c.datagram.boot ≤ b.boot
+  hails : Hails f k c.datagram s.state s.extended s.names
+  name : ◌≡◌ {A = Option (ℕ × ℕ)} (Some (h.source, s.extended)) (Some (name_of f c.datagram.boot))
+
+hears : (e : Port) (a : Router) (f : Port) (b : Router) (k : ℕ) (ds : List Datagram) (h : Hello) (s : Handshake) → EndHolds f b e a k ds → (c : Carried f b k ds (PointHelloHeard h)) → h.handshake ≡ Some s → Heard f b k ds h s c
+hears e a f b k ds h s far c shakes =
     let said = c.reads.greets h s refl shakes in
     let hail : Hails f k c.datagram s.state s.extended s.names = record { sender = c.sender; on = c.on; says = said.0 } in
     let own = (far.hellos.named c.datagram s.state s.extended s.names c.was_sent hail).own in
-    ap (λ (n : ℕ). Some (n, s.extended)) (said.1 ∙ far.sent.system c.datagram c.was_sent c.sender) ∙ ap (λ (n : ℕ). Some (f.system, n)) (own ∙ ap (λ (n : ℕ). extended_of n f.place) c.boot)
+    let source = said.1 ∙ far.sent.system c.datagram c.was_sent c.sender in
+    record {
+      says = said.0;
+      source = source;
+      boot = said.2;
+      past = far.sent.boot c.datagram c.was_sent c.sender;
+      hails = hail;
+      name = ap (λ (n : ℕ). Some (n, s.extended)) source ∙ ap (λ (n : ℕ). Some (f.system, n)) own;
+    }
+
+minded-find : (boots : List (ℕ × ℕ)) (h : Hello) → find (minded boots h) h.source ≡ Some h.boot
+minded-find boots h = find-put boots h.source h.boot h.source ∙ if-yes _ _ _ (self h.source)
+
+some-name : (m n : ℕ × ℕ) → ◌≡◌ {A = Option (ℕ × ℕ)} (Some m) (Some n) → m ≡ n
+some-name m n e = cc
+
+-- what a hello leaves remembered
+recalls-of : (f : Port) (h : Hello) (old new : Tie) (boot : ℕ) → Minds old h new → h.source ≡ f.system → h.boot ≡ boot → find new.boots f.system ≡ Some boot
+recalls-of f h old new boot m source same = ap (λ (bs : List (ℕ × ℕ)). find bs f.system) m.boots ∙ ap (λ (n : ℕ). find (minded old.boots h) n) (sym source) ∙ minded-find old.boots h ∙ ap (λ (n : ℕ). Some n) same
+
+least-of : (f : Port) (h : Hello) (old new : Tie) (boot : ℕ) → Minds old h new → h.source ≡ f.system → h.boot ≡ boot → (was : ℕ) → find old.boots f.system ≡ Some was → was ≤ boot
+least-of f h old new boot m source same was e = le_trans (m.least was (ap (λ (n : ℕ). find old.boots n) source ∙ e)) (le_of_eq same)
 
 -- the hellos after the step, before it posts
 hellos-bonds : (e : Port) (a : Router) (f : Port) (b : Router) (k : ℕ) (ds : List Datagram) (event : Event) (t : Router)
     → ((m : Message) → event ≡ Take e.place m → Carried f b k ds m) → EndHolds e a f b k ds → EndHolds f b e a k ds
-    → Bonds a event t e.place → Hellos e a.boot (bond_at t e.place) f b.boot k ds
-hellos-bonds e a f b k ds event t comes near far (Same q) = subst (λ (m : Bond). Hellos e a.boot m f b.boot k ds) (sym q) near.hellos
-hellos-bonds e a f b k ds event t comes near far (Ends q) = subst (λ (m : Bond). Hellos e a.boot m f b.boot k ds) (sym q) (hellos-none e a.boot a.boot (bond_at a e.place) f b.boot k ds near.hellos)
-hellos-bonds e a f b k ds event t comes near far (Meets h s state takes shakes drop up heard q covered) =
-    subst (λ (m : Bond). Hellos e a.boot m f b.boot k ds) (sym (q ∙ ap (λ (o : Option (ℕ × ℕ)). record { state = state; names = o }) (met-name e a f b k ds h s far c shakes)))
-    (hellos-meets e a.boot (bond_at a e.place) state f b.boot k ds up why near.hellos)
+    → Bonds a event t e.place → Hellos e a.boot (tie_at t e.place) f b.boot k ds
+hellos-bonds e a f b k ds event t comes near far (Same q) = subst (λ (m : Tie). Hellos e a.boot m f b.boot k ds) (sym q) near.hellos
+hellos-bonds e a f b k ds event t comes near far (Ends q) = subst (λ (m : Tie). Hellos e a.boot m f b.boot k ds) (sym q) (hellos-ended e a.boot (tie_at a e.place) f b.boot k ds near.hellos)
+hellos-bonds e a f b k ds event t comes near far (Hears l h takes minds same boot) =
+    let c = comes (LanHelloHeard l h) takes in absurd (c.reads.lan l h refl (far.sent.point c.datagram c.was_sent c.sender c.on))
+hellos-bonds e a f b k ds event t comes near far (Learns h s takes shakes minds none) =
+    let c = comes (PointHelloHeard h) takes in
+    let x = hears e a f b k ds h s far c shakes in
+    let nobody : (n : ℕ × ℕ) → (bond_at t e.place).names ≡ Some n → ⊥ = λ n q. let clash : no_bond.names ≡ Some n = sym (ap (λ (m : Bond). m.names) none) ∙ q in absurd (cc) in
+    hellos-minds e a.boot (tie_at a e.place) (tie_at t e.place) c.datagram.boot f b.boot k ds x.past (record {
+      bond = subst IsBond (sym none) no-bond;
+      recalls = recalls-of f h (tie_at a e.place) (tie_at t e.place) c.datagram.boot minds x.source x.boot;
+      least = least-of f h (tie_at a e.place) (tie_at t e.place) c.datagram.boot minds x.source x.boot;
+      names = λ n q. absurd (nobody n q);
+      kept = λ n q. absurd (nobody n q);
+    }) (λ up. absurd (let clash : no_bond.state ≡ Up = sym (ap (λ (m : Bond). m.state) none) ∙ up in cc)) near.hellos
+hellos-bonds e a f b k ds event t comes near far (Meets h s state takes shakes drop up heard minds boot q covered) =
+    hellos-minds e a.boot (tie_at a e.place) (tie_at t e.place) c.datagram.boot f b.boot k ds x.past (record {
+      bond = subst IsBond (sym q) (record { down = λ d. absurd (up d); names = λ d. absurd (cc) });
+      recalls = recalls-of f h (tie_at a e.place) (tie_at t e.place) c.datagram.boot minds x.source x.boot;
+      least = least-of f h (tie_at a e.place) (tie_at t e.place) c.datagram.boot minds x.source x.boot;
+      names = λ n z. some-name n (name_of f c.datagram.boot) (sym z ∙ name_is);
+      kept = λ n z. boot ∙ ap (λ (i : ℕ). Some i) x.boot;
+    }) (λ z. why (sym (ap (λ (m : Bond). m.state) q) ∙ z)) near.hellos
   where
     c : Carried f b k ds (PointHelloHeard h)
     c = comes (PointHelloHeard h) takes
 
-    said : (c.datagram.says ≡ PointHello s.state s.extended s.names) × (h.source ≡ c.datagram.config.system)
-    said = c.reads.greets h s refl shakes
+    x : Heard f b k ds h s c
+    x = hears e a f b k ds h s far c shakes
 
-    hail : Hails f k c.datagram s.state s.extended s.names
-    hail = record { sender = c.sender; on = c.on; says = said.0 }
+    name_is : (bond_at t e.place).names ≡ Some (name_of f c.datagram.boot)
+    name_is = ap (λ (m : Bond). m.names) q ∙ x.name
 
-    why : state ≡ Up → Reason e a.boot (record { state = state; names = Some (name_of f b.boot) }) f k ds
+    why : state ≡ Up → Reason e a.boot (tie_at t e.place) f k ds
     why is_up =
-        let some : s.names ≢ None = λ n. heard is_up ((far.hellos.named c.datagram s.state s.extended s.names c.was_sent hail).bond.names n) in
+        let some : s.names ≢ None = λ n. heard is_up ((far.hellos.named c.datagram s.state s.extended s.names c.was_sent x.hails).bond.names n) in
         let mine : s.names ≡ Some (name_of e a.boot) = own-name a e.place s.names drop some ∙ ap (λ (n : ℕ). Some (n, extended_of a.boot e.place)) near.sound.system in
         record {
           hello = c.datagram;
           state = s.state;
           extended = s.extended;
           was_sent = c.was_sent;
-          hails = record { sender = c.sender; on = c.on; says = said.0 ∙ ap (λ (o : Option (ℕ × ℕ)). PointHello s.state s.extended o) mine };
-          keeps = ap (λ (n : ℕ). Some (name_of f n)) (sym c.boot);
+          hails = record { sender = c.sender; on = c.on; says = x.says ∙ ap (λ (o : Option (ℕ × ℕ)). PointHello s.state s.extended o) mine };
+          keeps = name_is;
         }
 
 standing-step : (given : Given) (e : Port) (a : Router) (f : Port) (b : Router) (k : ℕ) (ds : List Datagram) (event : Event)
@@ -140,17 +219,22 @@ standing-step given e a f b k ds event comes near sent = record { stands = λ na
     t = (step given a event).router
 
     old : (bond_at a e.place).names ≡ Some (name_of f b.boot) → (l : Level) (id : ℕ) → IsKept t l id → IsKept b l id → Stands t e.place b l id
-    old names l id kept_t kept_b = stands-here given a b event l e.place id (heard-within e f b k ds event comes sent l id kept_b)
-        (near.standing.stands names l id (kept-before (heard_in event) a t (step-keeps given a event) l id kept_t) kept_b)
+    old names l id kept_t kept_b =
+        let before = near.standing.stands names l id (kept-before (heard_in event) a t (step-keeps given a event) l id kept_t) kept_b in
+        ⊎_elim (λ within. stands-here given a b event l e.place id within before)
+        (λ dropped. subst (λ (r : Router). Stands r e.place b l id) (sym dropped) before)
+        (heard-bounds given e a f b k ds l id near.sound.point (keeps-boot e a.boot (tie_at a e.place) f b.boot k ds near.hellos b.boot names) sent kept_b event comes)
 
     by-bonds : (bond_at t e.place).names ≡ Some (name_of f b.boot) → (l : Level) (id : ℕ) → IsKept t l id → IsKept b l id → Bonds a event t e.place → Stands t e.place b l id
-    by-bonds names l id kept_t kept_b (Same q) = old (sym (ap (λ (m : Bond). m.names) q) ∙ names) l id kept_t kept_b
-    by-bonds names l id kept_t kept_b (Ends q) = absurd (let none : no_bond.names ≡ Some (name_of f b.boot) = sym (ap (λ (m : Bond). m.names) q) ∙ names in cc)
-    by-bonds names l id kept_t kept_b (Meets h s state takes shakes drop up heard q (inl was)) = old (was ∙ sym (ap (λ (m : Bond). m.names) q) ∙ names) l id kept_t kept_b
-    by-bonds names l id kept_t kept_b (Meets h s state takes shakes drop up heard q (inr covered)) = covers-less _ t l id e.place (covered l id)
+    by-bonds names l id kept_t kept_b (Same q) = old (sym (ap (λ (m : Tie). m.bond.names) q) ∙ names) l id kept_t kept_b
+    by-bonds names l id kept_t kept_b (Ends q) = absurd (let none : no_bond.names ≡ Some (name_of f b.boot) = sym (ap (λ (m : Tie). m.bond.names) q) ∙ names in cc)
+    by-bonds names l id kept_t kept_b (Hears m h takes minds same boot) = old (sym (ap (λ (x : Bond). x.names) same) ∙ names) l id kept_t kept_b
+    by-bonds names l id kept_t kept_b (Learns h s takes shakes minds none) = absurd (let nobody : no_bond.names ≡ Some (name_of f b.boot) = sym (ap (λ (m : Bond). m.names) none) ∙ names in cc)
+    by-bonds names l id kept_t kept_b (Meets h s state takes shakes drop up heard minds boot q (inl was)) = old (was ∙ sym (ap (λ (m : Bond). m.names) q) ∙ names) l id kept_t kept_b
+    by-bonds names l id kept_t kept_b (Meets h s state takes shakes drop up heard minds boot q (inr covered)) = covers-less _ t l id e.place (covered l id)
 
 -- what an end posts is its own
-own-posts : (e : Port) (t : Router) (x k : ℕ) (more : List Datagram) → t.boot ≡ x → Posts e t k more → Own e x (bond_at t e.place) k more
+own-posts : (e : Port) (t : Router) (x k : ℕ) (more : List Datagram) → t.boot ≡ x → Posts e t k more → Own e x (tie_at t e.place) k more
 own-posts e t x k more same p = record {
   boot = λ d i. p.boot d i ∙ same;
   sender = p.sender;
@@ -167,6 +251,7 @@ sent-step given e a event k ds more sound p s =
       boot = λ d i q. ⊎_elim (λ (o : In d ds). le_trans (s.boot d o q) (le_of_eq (sym stays.boot))) (λ (o : In d more). le_of_eq (p.boot d o)) (in-split d ds more i);
       held = λ d i q x. ⊎_elim (λ (o : In d ds). said-later (heard_in event) a t (step-keeps given a event) d.says (s.held d o q (x ∙ stays.boot))) (λ (o : In d more). p.held d o) (in-split d ds more i);
       legible = λ d i q x. ⊎_elim (λ (o : In d ds). s.legible d o q x) (λ (o : In d more). p.legible d o x) (in-split d ds more i);
+      point = λ d i q x. ⊎_elim (λ (o : In d ds). s.point d o q x) (λ (o : In d more). p.point d o x) (in-split d ds more i);
     }
 
 -- ---- an end steps
@@ -179,8 +264,8 @@ step-near given e a f b k ds more event comes posts near far =
     let same = (step-stays given a event).boot in
     record {
       sound = sound-step given e a event near.sound;
-      hellos = subst (λ (x : ℕ). Hellos e x (bond_at t e.place) f b.boot k (ds ++ more)) (sym same)
-          (hellos-own e a.boot (bond_at t e.place) f b.boot k ds more (own-posts e t a.boot k more same posts)
+      hellos = subst (λ (x : ℕ). Hellos e x (tie_at t e.place) f b.boot k (ds ++ more)) (sym same)
+          (hellos-own e a.boot (tie_at t e.place) f b.boot k ds more (own-posts e t a.boot k more same posts)
           (hellos-bonds e a f b k ds event t comes near far (step-bonds given a event e.place)));
       sent = sent-step given e a event k ds more near.sound posts near.sent;
       standing = standing-step given e a f b k ds event comes near far.sent;
@@ -192,6 +277,7 @@ sent-more e a k ds more foreign s = record {
   boot = λ d i q. ⊎_elim (λ (o : In d ds). s.boot d o q) (λ (o : In d more). absurd (foreign d o q)) (in-split d ds more i);
   held = λ d i q x. ⊎_elim (λ (o : In d ds). s.held d o q x) (λ (o : In d more). absurd (foreign d o q)) (in-split d ds more i);
   legible = λ d i q x. ⊎_elim (λ (o : In d ds). s.legible d o q x) (λ (o : In d more). absurd (foreign d o q)) (in-split d ds more i);
+  point = λ d i q x. ⊎_elim (λ (o : In d ds). s.point d o q x) (λ (o : In d more). absurd (foreign d o q)) (in-split d ds more i);
 }
 
 -- the other end's step, seen from an end
@@ -203,7 +289,7 @@ step-far given e a f b k ds more event foreign far =
     let same = (step-stays given a event).boot in
     record {
       sound = far.sound;
-      hellos = hellos-more f b.boot (bond_at b f.place) e t.boot k ds more foreign (subst (λ (x : ℕ). Hellos f b.boot (bond_at b f.place) e x k ds) (sym same) far.hellos);
+      hellos = hellos-more f b.boot (tie_at b f.place) e t.boot k ds more foreign (subst (λ (x : ℕ). Hellos f b.boot (tie_at b f.place) e x k ds) (sym same) far.hellos);
       sent = sent-more f b k ds more foreign far.sent;
       standing = record {
         stands = λ names l id kept_b kept_t. stands-there given b a event l f.place id kept_t
@@ -215,7 +301,7 @@ step-far given e a f b k ds more event foreign far =
 pub others-step : (e : Port) (a : Router) (f : Port) (b : Router) (k : ℕ) (ds more : List Datagram) → ((d : Datagram) → In d more → d.sender ≢ e.router) → EndHolds e a f b k ds → EndHolds e a f b k (ds ++ more)
 others-step e a f b k ds more foreign h = record {
   sound = h.sound;
-  hellos = hellos-more e a.boot (bond_at a e.place) f b.boot k ds more foreign h.hellos;
+  hellos = hellos-more e a.boot (tie_at a e.place) f b.boot k ds more foreign h.hellos;
   sent = sent-more e a k ds more foreign h.sent;
   standing = h.standing;
 }

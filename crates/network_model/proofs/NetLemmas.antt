@@ -22,7 +22,7 @@ use Rattle.isis_datagram.proofs.GoodLemmas.{good-read}
 use Rattle.isis_datagram.proofs.KeptLemmas.{kept-tells}
 use Rattle.isis_datagram.proofs.SendLemmas.{step-reads}
 use Rattle.isis_datagram.specs.Speakers.{IsSpeaking}
-use Rattle.network_model.specs.Speakers.{AreSpeaking, AreOctets, IsLegible}
+use Rattle.network_model.specs.Speakers.{AreSpeaking, AreOctets, IsLegible, NotLan}
 use Rattle.network_model.specs.declared.end.End.{End}
 use Rattle.network_model.specs.Networks.{Datagram, octets_of, Taking, Network, place_on, place_in, place_at, restarted}
 use Rattle.network_model.specs.Runs.{read_on, post, posts, posted, moved, Happening, is_injection, restart_at, apply}
@@ -32,8 +32,8 @@ use Rattle.network_model.proofs.InLemmas.{in-split}
 use Rattle.network_model.proofs.ChangeLemmas.{if-yes, if-no, self, differ, nth-set, nth-other, some-same, Moves, Change, Still, Moved, Restarted, apply-change}
 use Rattle.network_model.proofs.PortLemmas.{uncrossed-flip, uncrossed-more, uncrossed-own}
 use Rattle.network_model.proofs.ReadLemmas.{Reads, reads}
-use Rattle.network_model.proofs.PointReplies.{NotLan, point-reply}
-use Rattle.network_model.proofs.LegibleLemmas.{legible-sent}
+use Rattle.network_model.proofs.PointReplies.{point-reply}
+use Rattle.network_model.proofs.LegibleLemmas.{small-boot, legible-sent}
 use Rattle.network_model.proofs.LinkLemmas.{Carried, Posts, step-near, step-far, others-step}
 use Rattle.network_model.proofs.RestartLemmas.{restart-near, restart-far}
 
@@ -110,7 +110,7 @@ posted-each i (Some link) t place (Send out) h g d x = posted-on i link t place 
 -- ---- it is legible
 
 legible-out : (i link : ℕ) (t : Router) (place : ℕ) (c : Circuit) (out : List Sent) → IsSpeaking t → place < 255 → AllByRecursion NotLan out → AllByRecursion (IsGreeting t place) out
-    → ((by : Config) (on : Circuit) → AllByRecursion (ReadsUpdate by on t.config place c) out) → (d : Datagram) → In d (map (post i link t place c) out) → IsLegible d
+    → ((by : Config) (on : Circuit) → AllByRecursion (ReadsUpdate by on t.config t.boot place c) out) → (d : Datagram) → In d (map (post i link t place c) out) → IsLegible d
 legible-out i link t place c [] speaks few n g u d x = absurd x
 legible-out i link t place c (s ∷ out) speaks few n g u d (inl e) = subst IsLegible (sym e) (legible-sent t place c s speaks few n.0 g.0 (λ by on. (u by on).0))
 legible-out i link t place c (s ∷ out) speaks few n g u d (inr x) = legible-out i link t place c out speaks few n.1 g.1 (λ by on. (u by on).1) d x
@@ -121,7 +121,7 @@ nth-less (x ∷ cs) zero c e = omega arith
 nth-less (x ∷ cs) (suc place) c e = let h = nth-less cs place c e in omega (arith, h)
 
 legible-on : (i link : ℕ) (t : Router) (place : ℕ) (c : Option Circuit) (out : List Sent) → nth t.circuits place ≡ c → IsSpeaking t → AllByRecursion NotLan out → AllByRecursion (IsGreeting t place) out
-    → ((by : Config) (on c : Circuit) → AllByRecursion (ReadsUpdate by on t.config place c) out) → (d : Datagram) → In d (posts i link t place c out) → IsLegible d
+    → ((by : Config) (on c : Circuit) → AllByRecursion (ReadsUpdate by on t.config t.boot place c) out) → (d : Datagram) → In d (posts i link t place c out) → IsLegible d
 legible-on i link t place None out e speaks n g u d x = absurd x
 legible-on i link t place (Some c) out e speaks n g u d x =
     let there = nth-less t.circuits place c e in
@@ -129,11 +129,28 @@ legible-on i link t place (Some c) out e speaks n g u d x =
     legible-out i link t place c out speaks (omega (arith, there, few)) n g (λ by on. u by on c) d x
 
 legible-each : (i : ℕ) (link : Option ℕ) (t : Router) (place : ℕ) (reply : Reply) → IsSpeaking t → AllSent NotLan reply → IsReplyGreeting t place reply
-    → ((by : Config) (on c : Circuit) → AllSent (ReadsUpdate by on t.config place c) reply) → (d : Datagram) → In d (posted i link t place reply) → IsLegible d
+    → ((by : Config) (on c : Circuit) → AllSent (ReadsUpdate by on t.config t.boot place c) reply) → (d : Datagram) → In d (posted i link t place reply) → IsLegible d
 legible-each i None t place reply speaks n g u d x = absurd x
 legible-each i (Some link) t place Done speaks n g u d x = absurd x
 legible-each i (Some link) t place (Dropped cause) speaks n g u d x = absurd x
 legible-each i (Some link) t place (Send out) speaks n g u d x = legible-on i link t place (nth t.circuits place) out refl speaks n g u d x
+
+-- ---- it is no LAN hello
+
+point-out : (i link : ℕ) (t : Router) (place : ℕ) (c : Circuit) (out : List Sent) → AllByRecursion NotLan out → (d : Datagram) → In d (map (post i link t place c) out) → NotLan d.says
+point-out i link t place c [] n d x = absurd x
+point-out i link t place c (s ∷ out) n d (inl e) = subst (λ (d : Datagram). NotLan d.says) (sym e) n.0
+point-out i link t place c (s ∷ out) n d (inr x) = point-out i link t place c out n.1 d x
+
+point-on : (i link : ℕ) (t : Router) (place : ℕ) (c : Option Circuit) (out : List Sent) → AllByRecursion NotLan out → (d : Datagram) → In d (posts i link t place c out) → NotLan d.says
+point-on i link t place None out n d x = absurd x
+point-on i link t place (Some c) out n d x = point-out i link t place c out n d x
+
+point-each : (i : ℕ) (link : Option ℕ) (t : Router) (place : ℕ) (reply : Reply) → AllSent NotLan reply → (d : Datagram) → In d (posted i link t place reply) → NotLan d.says
+point-each i None t place reply n d x = absurd x
+point-each i (Some link) t place Done n d x = absurd x
+point-each i (Some link) t place (Dropped cause) n d x = absurd x
+point-each i (Some link) t place (Send out) n d x = point-on i link t place (nth t.circuits place) out n d x
 
 -- ---- what a router takes is good
 
@@ -238,8 +255,8 @@ end-moves leaks attached net e f k link event r ts wired octets speaks speaks_on
     is-told = tells-event r.config event (λ place m q. let a = moves.hears place m q in
         subst (TellsKept r.config) (sym a.read) (read-tells-on r (nth r.circuits place) (octets_of a.datagram) (in-all _ net.datagrams octets a.datagram a.was_sent)))
 
-    updates : (by : Config) (on c : Circuit) → AllSent (ReadsUpdate by on t.config (place_of event) c) (step given r event).reply
-    updates by on c = step-reads leaks attached r event by on c (place_of event) speaks.sorted speaks.good speaks.telling is-good is-told speaks.sendable speaks_on.sender
+    updates : (by : Config) (on c : Circuit) → AllSent (ReadsUpdate by on t.config t.boot (place_of event) c) (step given r event).reply
+    updates by on c = step-reads leaks attached r event by on c t.boot (place_of event) (small-boot t.boot speaks_on.boot) speaks.sorted speaks.good speaks.telling is-good is-told speaks.sendable speaks_on.sender
 
     posts-of : Posts e t k more
     posts-of = record {
@@ -251,6 +268,9 @@ end-moves leaks attached net e f k link event r ts wired octets speaks speaks_on
       legible = λ d x q.
           let point : is_point (nth r.circuits (place_of event)) ≡ true = ap (λ (n : ℕ). is_point (nth r.circuits n)) (here d x q) ∙ held.near.sound.point in
           legible-each e.router link t (place_of event) (step given r event).reply speaks_on (point-reply given r event point) greets-all updates d x;
+      point = λ d x q.
+          let point : is_point (nth r.circuits (place_of event)) ≡ true = ap (λ (n : ℕ). is_point (nth r.circuits n)) (here d x q) ∙ held.near.sound.point in
+          point-each e.router link t (place_of event) (step given r event).reply (point-reply given r event point) d x;
     }
 
     carried : (m : Message) → event ≡ Take e.place m → Carried f h.b k net.datagrams m
@@ -263,7 +283,6 @@ end-moves leaks attached net e f k link event r ts wired octets speaks speaks_on
           was_sent = c.was_sent;
           sender = from;
           on = same;
-          boot = c.fresh h.b (ap (λ (n : ℕ). nth net.routers n) from ∙ h.at_b);
           reads = subst (Reads c.datagram) (sym c.read) (reads r (nth r.circuits e.place) c.datagram (held.far.sent.legible c.datagram c.was_sent from same));
         }
 

@@ -13,7 +13,7 @@ use Rattle.isis_model.specs.Cells.{Cell, Heard}
 use Rattle.isis_model.specs.SnpTable.{SnpEntry}
 use Rattle.isis_model.specs.Routers.{Circuit, Router, book_of}
 use Rattle.isis_model.specs.Givens.{Given}
-use Rattle.isis_model.specs.Datagrams.{Sent, PointHello, LanHello, Lsp, Csnp, Psnp}
+use Rattle.isis_model.specs.Datagrams.{Sent, Lsp}
 use Rattle.isis_model.specs.SnpLists.{owed, csnp_set, csnps, last_id, pieces, psnps}
 use Rattle.isis_model.specs.Pulls.{Sending, hellos, on_circuit, at_circuit, pull_hello, pull_csnp, pull_lsps, pull_psnp, pull_level, pull, is_csnp_due, due_lsps, srm_due}
 use Rattle.isis_model.specs.Events.{Message, Refused, PointHelloHeard, LanHelloHeard, LspHeard, SnpHeard, Event, Second, Take, Pull, Metric, Overload, Prefix, Done, Send}
@@ -22,16 +22,9 @@ use Rattle.isis_model.specs.Receiving as receiving
 use Rattle.isis_model.specs.Steps.{step}
 use Rattle.isis_model.specs.AdjacencyLaws.{is_point, place_of}
 use Rattle.isis_model.specs.ReplyLaws.{AllSent}
+use Rattle.network_model.specs.Speakers.{NotLan}
 use Rattle.isis_model.proofs.BookLemmas.{choose}
 use Rattle.isis_model.proofs.ListLemmas.{all-append}
-
--- what is sent is no LAN hello
-abbrev pub NotLan : Sent → Type 0
-NotLan (PointHello state extended names) = Unit {0}
-NotLan (LanHello l lan snpas) = ⊥
-NotLan (Lsp l id cell) = Unit {0}
-NotLan (Csnp l start end entries) = Unit {0}
-NotLan (Psnp l entries) = Unit {0}
 
 abbrev none : List Sent → Type 0
 none out = AllByRecursion NotLan out

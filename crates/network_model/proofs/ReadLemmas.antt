@@ -10,21 +10,27 @@ use Rattle.isis_model.specs.Books.{rank_at}
 use Rattle.isis_model.specs.Adjacencies.{Handshake, Hello}
 use Rattle.isis_model.specs.Routers.{Circuit, Router, book_of}
 use Rattle.isis_model.specs.Datagrams.{Sent, PointHello, LanHello, Lsp, Csnp, Psnp}
-use Rattle.isis_model.specs.Events.{Message, PointHelloHeard}
+use Rattle.isis_model.specs.declared.drop_name.DropName.{DropName}
+use Rattle.isis_model.specs.declared.drop_name.DropName.TheVariants as drop
+use Rattle.isis_model.specs.Cells.{Heard}
+use Rattle.isis_model.specs.Events.{Envelope, Message, Refused, PointHelloHeard, LanHelloHeard, LspHeard, SnpHeard}
 use Rattle.isis_model.specs.Hearings.{greatest, says}
 use Rattle.isis_model.specs.Flooding.{KeepsBoth, IsKept}
 use Rattle.isis_model.specs.ReplyLaws.{HasRank, IsHeld}
 use Rattle.isis_model.proofs.BookLemmas.{choose}
 use Rattle.isis_model.proofs.SentLemmas.{held-later}
 use Rattle.isis_model.proofs.ListLemmas.{all-map}
-use Rattle.isis_datagram.specs.Said.{said}
+use Rattle.isis_datagram.specs.Said.{said, envelope}
 use Rattle.network_model.specs.Networks.{Datagram, octets_of}
 use Rattle.network_model.specs.Runs.{read_on}
-use Rattle.network_model.specs.Speakers.{IsReading, IsLegible}
+use Rattle.network_model.specs.Speakers.{IsReading, IsLegible, NotLan}
 
 -- a message is what a datagram says, or says nothing
 pub record Reads (d : Datagram) (m : Message) : Type 0 where
-  pub greets : (h : Hello) (s : Handshake) → m ≡ PointHelloHeard h → h.handshake ≡ Some s → (d.says ≡ PointHello s.state s.extended s.names) × (h.source ≡ d.config.system)
+  pub greets : (h : Hello) (s : Handshake) → m ≡ PointHelloHeard h → h.handshake ≡ Some s → (d.says ≡ PointHello s.state s.extended s.names) × (h.source ≡ d.config.system) × (h.boot ≡ d.boot)
+  pub lan : (l : Level) (h : Hello) → m ≡ LanHelloHeard l h → NotLan d.says → ⊥
+  pub lsp : (l : Level) (from : Envelope) (h : Heard) → m ≡ LspHeard l from h → from.boot ≡ d.boot
+  pub snp : (l : Level) (from : Envelope) (source : ℕ) (range : Option (ℕ × ℕ)) (entries : List SnpEntry) → m ≡ SnpHeard l from source range entries → from.boot ≡ d.boot
   pub within : (r : Router) (level : Level) (id : ℕ) → IsHeld r d.says → IsKept r level id → says m level id ≤ rank_at (book_of r level) id
 
 has-kept : (r : Router) (l : Level) (id rank : ℕ) → HasRank r l id rank → IsKept r l id → rank ≤ rank_at (book_of r l) id
@@ -58,32 +64,77 @@ same-hello g h e = cc
 same-shake : (a b : Handshake) → ◌≡◌ {A = Option Handshake} (Some a) (Some b) → a ≡ b
 same-shake a b e = cc
 
-said-hello : (d : Datagram) (g h : Hello) (shake s : Handshake) → g.handshake ≡ Some shake → g.source ≡ d.config.system → d.says ≡ PointHello shake.state shake.extended shake.names → PointHelloHeard g ≡ PointHelloHeard h → h.handshake ≡ Some s → (d.says ≡ PointHello s.state s.extended s.names) × (h.source ≡ d.config.system)
-said-hello d g h shake s a source e q k =
+said-hello : (d : Datagram) (g h : Hello) (shake s : Handshake) → g.handshake ≡ Some shake → g.source ≡ d.config.system → g.boot ≡ d.boot → d.says ≡ PointHello shake.state shake.extended shake.names → PointHelloHeard g ≡ PointHelloHeard h → h.handshake ≡ Some s → (d.says ≡ PointHello s.state s.extended s.names) × (h.source ≡ d.config.system) × (h.boot ≡ d.boot)
+said-hello d g h shake s a source boot e q k =
     let same = same-hello g h q in
     let one = same-shake shake s (sym a ∙ ap (λ (x : Hello). x.handshake) same ∙ k) in
-    (e ∙ ap (λ (x : Handshake). PointHello x.state x.extended x.names) one, ap (λ (x : Hello). x.source) (sym same) ∙ source)
+    (e ∙ ap (λ (x : Handshake). PointHello x.state x.extended x.names) one, ap (λ (x : Hello). x.source) (sym same) ∙ source, ap (λ (x : Hello). x.boot) (sym same) ∙ boot)
 
-reads-said : (own : ℕ) (d : Datagram) (s : Sent) → d.says ≡ s → Reads d (said own d.config d.place d.circuit s)
+same-lsp : (l m : Level) (x y : Envelope) (g h : Heard) → LspHeard l x g ≡ LspHeard m y h → x ≡ y
+same-lsp l m x y g h e = cc
+
+same-snp : (l m : Level) (x y : Envelope) (a b : ℕ) (u v : Option (ℕ × ℕ)) (es fs : List SnpEntry) → SnpHeard l x a u es ≡ SnpHeard m y b v fs → x ≡ y
+same-snp l m x y a b u v es fs e = cc
+
+lsp-boot : (m : Level) (x : Envelope) (g : Heard) (boot : ℕ) → x.boot ≡ boot → (l : Level) (from : Envelope) (h : Heard) → LspHeard m x g ≡ LspHeard l from h → from.boot ≡ boot
+lsp-boot m x g boot e l from h q = ap (λ (y : Envelope). y.boot) (sym (same-lsp m l x from g h q)) ∙ e
+
+snp-boot : (m : Level) (x : Envelope) (a : ℕ) (u : Option (ℕ × ℕ)) (es : List SnpEntry) (boot : ℕ) → x.boot ≡ boot → (l : Level) (from : Envelope) (source : ℕ) (range : Option (ℕ × ℕ)) (entries : List SnpEntry) → SnpHeard m x a u es ≡ SnpHeard l from source range entries → from.boot ≡ boot
+snp-boot m x a u es boot e l from source range entries q = ap (λ (y : Envelope). y.boot) (sym (same-snp m l x from a source u range es entries q)) ∙ e
+
+reads-said : (own : ℕ) (d : Datagram) (s : Sent) → d.says ≡ s → Reads d (said own d.config d.boot d.place d.circuit s)
 reads-said own d (PointHello state extended names) e = record {
-  greets = λ h s q k. said-hello d _ h (record { state = state; extended = extended; names = names }) s refl refl e q k;
+  greets = λ h s q k. said-hello d _ h (record { state = state; extended = extended; names = names }) s refl refl refl e q k;
+  lan = λ l h q. absurd (cc);
+  lsp = λ l from h q. absurd (cc);
+  snp = λ l from source range entries q. absurd (cc);
   within = λ t l id held kept. zero-le;
 }
-reads-said own d (LanHello l lan snpas) e = record { greets = λ h s q k. absurd (cc); within = λ t l id held kept. zero-le }
-reads-said own d (Lsp l x cell) e = record { greets = λ h s q k. absurd (cc); within = λ t m id held kept. lsp-within t l m x cell.rank id (subst (IsHeld t) e held) kept }
-reads-said own d (Csnp l start end entries) e = record { greets = λ h s q k. absurd (cc); within = λ t m id held kept. snp-within t l m id entries (subst (IsHeld t) e held) kept }
-reads-said own d (Psnp l entries) e = record { greets = λ h s q k. absurd (cc); within = λ t m id held kept. snp-within t l m id entries (subst (IsHeld t) e held) kept }
-
-reads-by : (own : ℕ) (d : Datagram) (m : Message) → IsReading m (said own d.config d.place d.circuit d.says) → Reads d m
-reads-by own d m (inl refused) = record {
-  greets = λ h s q k. absurd (let clash = sym refused.1 ∙ q in cc);
-  within = λ t l id held kept. subst (λ (x : Message). says x l id ≤ rank_at (book_of t l) id) (sym refused.1) zero-le;
+reads-said own d (LanHello l lan snpas) e = record {
+  greets = λ h s q k. absurd (cc);
+  lan = λ m h q n. subst NotLan e n;
+  lsp = λ l from h q. absurd (cc);
+  snp = λ l from source range entries q. absurd (cc);
+  within = λ t l id held kept. zero-le;
 }
+reads-said own d (Lsp l x cell) e = record {
+  greets = λ h s q k. absurd (cc);
+  lan = λ m h q. absurd (cc);
+  lsp = lsp-boot l (envelope d.config d.boot) _ d.boot refl;
+  snp = λ m from source range entries q. absurd (cc);
+  within = λ t m id held kept. lsp-within t l m x cell.rank id (subst (IsHeld t) e held) kept;
+}
+reads-said own d (Csnp l start end entries) e = record {
+  greets = λ h s q k. absurd (cc);
+  lan = λ m h q. absurd (cc);
+  lsp = λ m from h q. absurd (cc);
+  snp = snp-boot l (envelope d.config d.boot) d.config.system (Some (start, end)) entries d.boot refl;
+  within = λ t m id held kept. snp-within t l m id entries (subst (IsHeld t) e held) kept;
+}
+reads-said own d (Psnp l entries) e = record {
+  greets = λ h s q k. absurd (cc);
+  lan = λ m h q. absurd (cc);
+  lsp = λ m from h q. absurd (cc);
+  snp = snp-boot l (envelope d.config d.boot) d.config.system None entries d.boot refl;
+  within = λ t m id held kept. snp-within t l m id entries (subst (IsHeld t) e held) kept;
+}
+
+reads-refused : (d : Datagram) (cause : DropName) → Reads d (Refused cause)
+reads-refused d cause = record {
+  greets = λ h s q k. absurd (cc);
+  lan = λ m h q. absurd (cc);
+  lsp = λ m from h q. absurd (cc);
+  snp = λ m from source range entries q. absurd (cc);
+  within = λ t l id held kept. zero-le;
+}
+
+reads-by : (own : ℕ) (d : Datagram) (m : Message) → IsReading m (said own d.config d.boot d.place d.circuit d.says) → Reads d m
+reads-by own d m (inl refused) = subst (Reads d) (sym refused.1) (reads-refused d refused.0)
 reads-by own d m (inr same) = subst (Reads d) (sym same) (reads-said own d d.says refl)
 
 -- what is read of a legible datagram on a circuit, where that is there
 pub reads : (r : Router) (c : Option Circuit) (d : Datagram) → IsLegible d → Reads d (read_on r c (octets_of d))
-reads r None d legible = record { greets = λ h s q k. absurd (cc); within = λ t l id held kept. zero-le }
+reads r None d legible = reads-refused d drop.WrongKind
 reads r (Some c) d legible = reads-by r.config.system d _ (legible r.config c)
 
 -- ---- what is held stays so

@@ -6,18 +6,18 @@ use Rattle.isis_model.specs.Places.{nth}
 use Rattle.isis_model.specs.Routers.{Circuit, Router, book_of}
 use Rattle.isis_model.specs.AdjacencyLaws.{is_point}
 use Rattle.isis_model.specs.Sorted.{RisesFrom}
-use Rattle.isis_model.specs.AdjacencyLaws.{Bond, no_bond, bond_of, bond_at}
+use Rattle.isis_model.specs.AdjacencyLaws.{no_bond, Tie, no_tie, tie_of, tie_at}
 use Rattle.isis_model.specs.Starts.{started}
 use Rattle.isis_model.proofs.StartLemmas.{start-follows}
 use Rattle.network_model.specs.Networks.{Datagram, restarted}
 use Rattle.network_model.specs.Ports.{Port, name_of, Hellos}
 use Rattle.network_model.specs.Links.{IsSound, EndHolds}
-use Rattle.network_model.proofs.PortLemmas.{told, hellos-none, hellos-later}
+use Rattle.network_model.proofs.PortLemmas.{keeps-past, hellos-anew, hellos-later}
 
-pub quiet-bond : (cs : List Circuit) (place : ℕ) → bond_of (nth (map started cs) place) ≡ no_bond
-quiet-bond [] place = refl
-quiet-bond (c ∷ cs) zero = refl
-quiet-bond (c ∷ cs) (suc place) = quiet-bond cs place
+pub quiet-tie : (cs : List Circuit) (place : ℕ) → tie_of (nth (map started cs) place) ≡ no_tie
+quiet-tie [] place = refl
+quiet-tie (c ∷ cs) zero = refl
+quiet-tie (c ∷ cs) (suc place) = quiet-tie cs place
 
 pub quiet-point : (cs : List Circuit) (place : ℕ) → is_point (nth (map started cs) place) ≡ is_point (nth cs place)
 quiet-point [] place = refl
@@ -45,20 +45,22 @@ up-one n = omega arith
 pub restart-near : (e : Port) (a : Router) (f : Port) (b : Router) (k : ℕ) (ds : List Datagram) → EndHolds e a f b k ds → EndHolds e (restarted a) f b k ds
 restart-near e a f b k ds h = record {
   sound = restart-sound e a h.sound;
-  hellos = subst (λ (m : Bond). Hellos e (a.boot + 1) m f b.boot k ds) (sym (quiet-bond a.circuits e.place)) (hellos-none e a.boot (a.boot + 1) (bond_at a e.place) f b.boot k ds h.hellos);
+  hellos = subst (λ (m : Tie). Hellos e (a.boot + 1) m f b.boot k ds) (sym (quiet-tie a.circuits e.place))
+      (hellos-anew e a.boot (a.boot + 1) (tie_at a e.place) f b.boot k ds (λ d i q x. no-later d.boot a.boot (h.sent.boot d i q) x) h.hellos);
   sent = record {
     system = h.sent.system;
     boot = λ d i q. le_trans (h.sent.boot d i q) (up-one a.boot);
     held = λ d i q x. absurd (no-later d.boot a.boot (h.sent.boot d i q) x);
     legible = h.sent.legible;
+    point = h.sent.point;
   };
-  standing = record { stands = λ names l id kept_a kept_b. absurd (let none : no_bond.names ≡ Some (name_of f b.boot) = sym (ap (λ (m : Bond). m.names) (quiet-bond a.circuits e.place)) ∙ names in cc) };
+  standing = record { stands = λ names l id kept_a kept_b. absurd (let none : no_bond.names ≡ Some (name_of f b.boot) = sym (ap (λ (m : Tie). m.bond.names) (quiet-tie a.circuits e.place)) ∙ names in cc) };
 }
 
 pub restart-far : (e : Port) (a : Router) (f : Port) (b : Router) (k : ℕ) (ds : List Datagram) → EndHolds f b e a k ds → EndHolds f b e (restarted a) k ds
 restart-far e a f b k ds h = record {
   sound = h.sound;
-  hellos = hellos-later f b.boot (bond_at b f.place) e a.boot (a.boot + 1) k ds (up-one a.boot) h.hellos;
+  hellos = hellos-later f b.boot (tie_at b f.place) e a.boot (a.boot + 1) k ds (up-one a.boot) h.hellos;
   sent = h.sent;
-  standing = record { stands = λ names l id kept_b kept_a. absurd (no-later (a.boot + 1) a.boot (told e a.boot (a.boot + 1) (h.hellos.kept (name_of e (a.boot + 1)) names)) refl) };
+  standing = record { stands = λ names l id kept_b kept_a. absurd (no-later (a.boot + 1) a.boot (keeps-past f b.boot (tie_at b f.place) e a.boot k ds h.hellos (a.boot + 1) names) refl) };
 }

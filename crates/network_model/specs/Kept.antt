@@ -3,7 +3,7 @@ use Rattle.std.specs.Prelude.{◌≡◌, ℕ, ◌≤◌, true, [], Some}
 use Rattle.isis_base.specs.declared.level.Level.{Level}
 use Rattle.isis_model.specs.Places.{nth}
 use Rattle.isis_model.specs.Routers.{Router}
-use Rattle.isis_model.specs.AdjacencyLaws.{is_point, FollowsAdjacencies, no_bond, bond_at}
+use Rattle.isis_model.specs.AdjacencyLaws.{is_point, FollowsAdjacencies, no_tie, tie_at}
 use Rattle.network_model.specs.Networks.{Network}
 use Rattle.network_model.specs.Speakers.{AreSpeaking, AreOctets}
 use Rattle.network_model.specs.Ports.{Port}
@@ -39,13 +39,13 @@ pub record IsKeptNet (net : Network) : Type 0 where
   pub holds : net.injected ≡ 0 → (e f : Port) (link : ℕ) → IsPointLink net e f link
       → Holds net e f link
 
--- a network before its run: no router keeps a neighbour, and nothing was sent (own)
+-- a network before its run: no router keeps a neighbour or remembers one, and nothing was sent (own)
 pub record IsFreshNet (net : Network) : Type 0 where
   pub wired : IsWired net
   pub speaking : AreSpeaking net
   pub following : AreFollowing net
   pub alone : (i : ℕ) (r : Router) → nth net.routers i ≡ Some r → (place : ℕ)
-      → bond_at r place ≡ no_bond
+      → tie_at r place ≡ no_tie
   pub nothing : net.datagrams ≡ []
 
 -- the two routers of a link that is up at a level (own)

@@ -6,12 +6,12 @@ use Rattle.isis_base.specs.declared.level.Level.{Level}
 use Rattle.isis_model.specs.Places.{nth}
 use Rattle.isis_model.specs.Books.{rank_at, srm_at}
 use Rattle.isis_model.specs.Routers.{Router, book_of}
-use Rattle.isis_model.specs.AdjacencyLaws.{opens, is_point, FollowsAdjacencies, bond_at}
+use Rattle.isis_model.specs.AdjacencyLaws.{opens, is_point, FollowsAdjacencies, bond_at, tie_at}
 use Rattle.isis_model.specs.Sorted.{IsSorted}
 use Rattle.isis_model.specs.ReplyLaws.{IsHeld}
 use Rattle.isis_model.specs.Flooding.{Stands, IsKept}
 use Rattle.network_model.specs.Networks.{Datagram, Network, place_at}
-use Rattle.network_model.specs.Speakers.{IsLegible}
+use Rattle.network_model.specs.Speakers.{IsLegible, NotLan}
 use Rattle.network_model.specs.Ports.{Port, name_of, In, Hellos, Uncrossed}
 
 -- ---- what is kept
@@ -25,12 +25,13 @@ pub record IsSound (e : Port) (a : Router) : Type 0 where
   pub point : is_point (nth a.circuits e.place) ≡ true
 
 -- What a router sent: in its own name, in no later boot, of what it holds where in its present
--- boot, and on the link legible (own).
+-- boot, and on the link legible and no LAN hello (own).
 pub record IsSent (e : Port) (a : Router) (link : ℕ) (ds : List Datagram) : Type 0 where
   pub system : (d : Datagram) → In d ds → d.sender ≡ e.router → d.config.system ≡ e.system
   pub boot : (d : Datagram) → In d ds → d.sender ≡ e.router → d.boot ≤ a.boot
   pub held : (d : Datagram) → In d ds → d.sender ≡ e.router → d.boot ≡ a.boot → IsHeld a d.says
   pub legible : (d : Datagram) → In d ds → d.sender ≡ e.router → d.link ≡ link → IsLegible d
+  pub point : (d : Datagram) → In d ds → d.sender ≡ e.router → d.link ≡ link → NotLan d.says
 
 -- an end that names the other's present boot stands to it (own)
 pub record IsStanding (e : Port) (a : Router) (f : Port) (b : Router) : Type 0 where
@@ -41,7 +42,7 @@ pub record IsStanding (e : Port) (a : Router) (f : Port) (b : Router) : Type 0 w
 pub record EndHolds (e : Port) (a : Router) (f : Port) (b : Router) (link : ℕ)
     (ds : List Datagram) : Type 0 where
   pub sound : IsSound e a
-  pub hellos : Hellos e a.boot (bond_at a e.place) f b.boot link ds
+  pub hellos : Hellos e a.boot (tie_at a e.place) f b.boot link ds
   pub sent : IsSent e a link ds
   pub standing : IsStanding e a f b
 
@@ -81,10 +82,11 @@ pub record IsUp (e : Port) (a : Router) (f : Port) (b : Router) (level : Level) 
   pub near : opens (nth a.circuits e.place) level ≡ true
   pub far : opens (nth b.circuits f.place) level ≡ true
 
--- an end names the other: it is up, and keeps the other's present name (RFC 5303 3.2)
+-- an end names the other: it is up, and keeps the other's present name (RFC 5303 3.2) and boot (own)
 pub record Named (e : Port) (a : Router) (f : Port) (b : Router) : Type 0 where
   pub up : (bond_at a e.place).state ≡ Up
   pub names : (bond_at a e.place).names ≡ Some (name_of f b.boot)
+  pub boot : (tie_at a e.place).boot ≡ Some b.boot
 
 -- what one end holds of an LSP ID the other holds as new or newer, or the one's SRM flag stands on
 -- the link (ISO 10589 7.3.17)

@@ -4,7 +4,8 @@ use Rattle.isis_tlv.specs.declared.three_way.Adj.{Adj}
 use Rattle.isis_tlv.specs.declared.three_way.Adj.TheVariants.{Up}
 use Rattle.isis_model.specs.Routers.{extended_of}
 use Rattle.isis_model.specs.Datagrams.{PointHello}
-use Rattle.isis_model.specs.AdjacencyLaws.{Bond, IsBond}
+use Rattle.isis_model.specs.Maps.{find}
+use Rattle.isis_model.specs.AdjacencyLaws.{Tie, IsBond}
 use Rattle.network_model.specs.Networks.{Datagram}
 
 -- an end of a link, with its router's system ID (own)
@@ -35,38 +36,52 @@ pub record TellsBoot (f : Port) (present : ℕ) (name : ℕ × ℕ) : Type 0 whe
   pub name_is : name ≡ name_of f boot
   pub past : boot ≤ present
 
--- What holds of a hello that an end e sent, which is in boot x and keeps m: its own name is in it;
--- in Down alone it names nobody; whom it names is the other end f in a boot that was, at most y;
--- and one of the present boot names no later boot than the end keeps (own).
-pub record IsHail (e : Port) (x : ℕ) (m : Bond) (f : Port) (y : ℕ) (d : Datagram) (state : Adj)
+-- whom an end keeps is the other end in a boot, which is the one that it keeps and remembers (own)
+pub record Keeps (f : Port) (m : Tie) (name : ℕ × ℕ) : Type 0 where
+  pub boot : ℕ
+  pub name_is : name ≡ name_of f boot
+  pub kept : m.boot ≡ Some boot
+  pub recalls : find m.boots f.system ≡ Some boot
+
+-- an end remembers of the other end a boot that is at least this one (own)
+pub record Recalls (f : Port) (m : Tie) (least : ℕ) : Type 0 where
+  pub boot : ℕ
+  pub recalls : find m.boots f.system ≡ Some boot
+  pub least_is : least ≤ boot
+
+-- What holds of a hello that an end e sent, which is in boot x with adjacency and memory m: its own
+-- name is in it; in Down alone it names nobody; whom it names is the other end f in a boot that was,
+-- at most y; and where it is of the present boot the end remembers at least the boot that it names
+-- (own).
+pub record IsHail (e : Port) (x : ℕ) (m : Tie) (f : Port) (y : ℕ) (d : Datagram) (state : Adj)
     (extended : ℕ) (names : Option (ℕ × ℕ)) : Type 0 where
   pub own : extended ≡ extended_of d.boot e.place
   pub bond : IsBond (record { state = state; names = names })
   pub other : (n : ℕ × ℕ) → names ≡ Some n → TellsBoot f y n
-  pub kept : (z w : ℕ) → d.boot ≡ x → names ≡ Some (name_of f z) → m.names ≡ Some (name_of f w)
-      → z ≤ w
+  pub kept : (z : ℕ) → d.boot ≡ x → names ≡ Some (name_of f z) → Recalls f m z
 
 -- why an end is up: the other end sent a hello in the boot that is kept, and named this end's
 -- present boot (own)
-pub record Reason (e : Port) (x : ℕ) (m : Bond) (f : Port) (link : ℕ)
+pub record Reason (e : Port) (x : ℕ) (m : Tie) (f : Port) (link : ℕ)
     (ds : List Datagram) : Type 0 where
   pub hello : Datagram
   pub state : Adj
   pub extended : ℕ
   pub was_sent : In hello ds
   pub hails : Hails f link hello state extended (Some (name_of e x))
-  pub keeps : m.names ≡ Some (name_of f hello.boot)
+  pub keeps : m.bond.names ≡ Some (name_of f hello.boot)
 
--- What is kept of the hellos of an end e in boot x with adjacency m, where the other end f is in
--- boot y: whom it keeps is the other end in a boot that was; what its hellos say; and why it is up
--- (own).
-pub record Hellos (e : Port) (x : ℕ) (m : Bond) (f : Port) (y : ℕ) (link : ℕ)
+-- What is kept of the hellos of an end e in boot x with adjacency and memory m, where the other end f
+-- is in boot y: whom it keeps is the other end in the boot that it remembers; that boot was; what its
+-- hellos say; and why it is up (own).
+pub record Hellos (e : Port) (x : ℕ) (m : Tie) (f : Port) (y : ℕ) (link : ℕ)
     (ds : List Datagram) : Type 0 where
-  pub bond : IsBond m
-  pub kept : (n : ℕ × ℕ) → m.names ≡ Some n → TellsBoot f y n
+  pub bond : IsBond m.bond
+  pub kept : (n : ℕ × ℕ) → m.bond.names ≡ Some n → Keeps f m n
+  pub past : (boot : ℕ) → find m.boots f.system ≡ Some boot → boot ≤ y
   pub named : (d : Datagram) (state : Adj) (extended : ℕ) (names : Option (ℕ × ℕ)) → In d ds
       → Hails e link d state extended names → IsHail e x m f y d state extended names
-  pub reason : m.state ≡ Up → Reason e x m f link ds
+  pub reason : m.bond.state ≡ Up → Reason e x m f link ds
 
 -- no two hellos of the two ends cross: that each names a later boot than the other's sender had
 -- (own)

@@ -12,9 +12,10 @@ use Rattle.network_model.specs.Runs.{Tick, PullOn, Deliver, apply}
 
 -- ---- what isn't delivered, and to whom
 
--- the type of a datagram's PDU: the low five bits of the PDU's fifth octet (ISO 10589 9.5)
+-- the type of a datagram's PDU: the low five bits of the PDU's fifth octet (ISO 10589 9.5), behind
+-- the frame's 14 (own)
 abbrev pub type_of : List ℕ → ℕ
-type_of octets = slice_index octets 14 % 32
+type_of octets = slice_index octets 18 % 32
 
 -- whether a type of PDU is of a kind (ISO 10589 9.5 to 9.13)
 abbrev pub is_of : PduWord → ℕ → Bool

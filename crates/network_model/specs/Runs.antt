@@ -1,5 +1,5 @@
 -- Runs of a network: what each event does to it (own).
-use Rattle.std.specs.Prelude.{ℕ, ◌==◌, Bool, true, false, not, List, [], ◌∷◌, ◌++◌, map, Option, Some, None, if◌then◌else◌}
+use Rattle.std.specs.Prelude.{ℕ, ◌==◌, Bool, true, false, List, [], ◌∷◌, ◌++◌, map, Option, Some, None, if◌then◌else◌}
 use Rattle.isis_base.specs.declared.level.Level.TheVariants as level
 use Rattle.isis_model.specs.Places.{nth, with_nth}
 use Rattle.isis_model.specs.Both.{Both}
@@ -89,12 +89,11 @@ read_on r (Some c) octets = read r.config c octets
 abbrev pub taking : Router → ℕ → List ℕ → Event
 taking r place octets = Take place (read_on r (nth r.circuits place) octets)
 
--- What becomes of a delivery: the datagram isn't there yet; its sender restarted since; the router
--- isn't an end of its link or LAN, or sent it itself; or it arrives at the router's circuit there
--- (own).
+-- What becomes of a delivery: the datagram isn't there yet; the router isn't an end of its link or
+-- LAN, or sent it itself; or it arrives at the router's circuit there, also where its sender or the
+-- router restarted since (own).
 pub data Arrival : Type 0 where
   NotSent : Arrival
-  Stale : (boot : ℕ) → Arrival
   NotOn : Arrival
   Arrives : (d : Datagram) (place : ℕ) → Arrival
 
@@ -112,9 +111,7 @@ on_place d (Some place) = Arrives d place
 abbrev pub arrival : Network → Option Datagram → ℕ → Arrival
 arrival net None router = NotSent
 arrival net (Some d) router =
-    let boot = boot_of (nth net.routers d.sender) in
-    if not (boot == d.boot) then Stale boot
-    else (if d.sender == router then NotOn else on_place d (place_at net d.link router))
+    if d.sender == router then NotOn else on_place d (place_at net d.link router)
 
 -- own
 abbrev pub arrive_at : Given → Network → ℕ → ℕ → ℕ → List ℕ → Option Router → Network
@@ -138,7 +135,6 @@ deliver_at given net i d place (Some r) =
 -- own
 abbrev pub arrive : Given → Network → ℕ → Arrival → Network
 arrive given net i NotSent = net
-arrive given net i (Stale boot) = net
 arrive given net i NotOn = net
 arrive given net i (Arrives d place) =
     deliver_at given net i d place (nth net.routers i)

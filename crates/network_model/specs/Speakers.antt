@@ -6,6 +6,7 @@ use Rattle.isis_model.specs.declared.drop_name.DropName.{DropName}
 use Rattle.isis_model.specs.Places.{nth}
 use Rattle.isis_model.specs.Configs.{Config}
 use Rattle.isis_model.specs.Routers.{Circuit, Router}
+use Rattle.isis_model.specs.Datagrams.{Sent, PointHello, LanHello, Lsp, Csnp, Psnp}
 use Rattle.isis_model.specs.Events.{Message, Refused}
 use Rattle.isis_datagram.specs.Reading.{read}
 use Rattle.isis_datagram.specs.Said.{said}
@@ -16,10 +17,18 @@ use Rattle.network_model.specs.Networks.{Datagram, octets_of, Network}
 abbrev pub IsReading : Message → Message → Type 0
 IsReading m says = ((cause : DropName) × (m ≡ Refused cause)) ⊎ (m ≡ says)
 
+-- what is sent is no LAN hello (own)
+abbrev pub NotLan : Sent → Type 0
+NotLan (PointHello state extended names) = Unit {0}
+NotLan (LanHello level lan snpas) = ⊥
+NotLan (Lsp level id cell) = Unit {0}
+NotLan (Csnp level start end entries) = Unit {0}
+NotLan (Psnp level entries) = Unit {0}
+
 -- whoever takes a datagram's octets, on whichever circuit, reads what was said, or refuses it (own)
 abbrev pub IsLegible : Datagram → Type 0
 IsLegible d = (by : Config) (on : Circuit)
-    → IsReading (read by on (octets_of d)) (said by.system d.config d.place d.circuit d.says)
+    → IsReading (read by on (octets_of d)) (said by.system d.config d.boot d.place d.circuit d.says)
 
 -- each router of a network (own)
 abbrev pub AreSpeaking : Network → Type 0

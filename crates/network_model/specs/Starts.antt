@@ -2,15 +2,15 @@
 use Rattle.std.specs.Prelude.{◌≡◌, [], Some}
 use Rattle.isis_model.specs.Places.{nth}
 use Rattle.isis_model.specs.Routers.{Router}
-use Rattle.isis_model.specs.AdjacencyLaws.{no_bond, bond_at}
+use Rattle.isis_model.specs.AdjacencyLaws.{no_tie, tie_at}
 use Rattle.network_model.specs.Networks.{Network}
 use Rattle.network_model.specs.Ports.{Port}
 use Rattle.network_model.specs.Links.{IsSound}
 
--- a router of a link's end as it opens: it keeps nobody there (own)
+-- a router of a link's end as it opens: it keeps and remembers nobody there (own)
 pub record IsOpening (e : Port) (a : Router) : Type 0 where
   pub sound : IsSound e a
-  pub alone : bond_at a e.place ≡ no_bond
+  pub alone : tie_at a e.place ≡ no_tie
 
 -- nothing was sent, and both ends of a link open (own)
 pub record Opens (net : Network) (e f : Port) : Type 0 where

@@ -6,7 +6,7 @@ ghost use Rattle.isis_model.specs.Places.{nth};
 ghost use Rattle.isis_model.specs.Givens.{Given};
 ghost use Rattle.isis_model.specs.Configs.{Config};
 ghost use Rattle.isis_model.specs.Routers.{Circuit, Router};
-ghost use Rattle.isis_model.specs.AdjacencyLaws.{bond_at, no_bond};
+ghost use Rattle.isis_model.specs.AdjacencyLaws.{tie_at, no_tie};
 ghost use Rattle.isis_model.specs.Starts.{start};
 ghost use Rattle.isis_datagram.specs.Lsps.{given_octets};
 ghost use Rattle.network_model.specs.Networks.{Network, Datagram};
@@ -64,7 +64,7 @@ pub fn network_keeps()
         → IsKeptNet net → net.injected ≡ 0 → IsUpIn net e f link a b level
         → IsClaimedOf e f a b level }
     ensures alone { (config : Config) (boot : ℕ) (circuits : List Circuit) (place : ℕ)
-        → bond_at (start config boot circuits) place ≡ no_bond }
+        → tie_at (start config boot circuits) place ≡ no_tie }
 {}
 
 /// A line `run` is the list of its events, which are seconds, pulls and deliveries: one after another

@@ -1,5 +1,7 @@
 -- How a datagram ends: with the PDU length and the digest.
-use Rattle.std.proofs.Common.{◌≡◌, ◌∙◌, ℕ, ◌+◌, ◌≤◌, List, [], ◌∷◌, ◌++◌, length, Bool, true, false, is_some, Option, Some, None, refl, sym, ap, subst, arith, take_all, append-nil, length-append}
+use Rattle.std.proofs.Common.{◌≡◌, ◌∙◌, ℕ, ◌+◌, ◌-◌, ◌≤◌, List, [], ◌∷◌, ◌++◌, length, take, drop, Bool, true, false, is_some, Option, Some, None, refl, sym, ap, subst, arith, take_all, append-nil, length-append, length-drop}
+use Rattle.std.proofs.lemmas.List.{drop_all}
+use borrow.Rule.Slice.PartMut.{put_mid}
 use Rattle.isis_base.specs.declared.pdu_kind.PduKind.{PduKind}
 use Rattle.isis_base.specs.PduKinds.{header_length, length_place}
 use Rattle.isis_base.specs.Fields.{u16_octets}
@@ -21,14 +23,23 @@ use Rattle.isis_datagram.proofs.ReadLemmas.{octets_of_pdu-begins}
 use Rattle.lsp_octets.specs.Drafts.{blank_auth}
 use Rattle.pdu_sender.specs.Writing.{frame_of, sized, digested, ended, IsSignable, IsEndable}
 
+-- a datagram of which all behind the frame was lent, and given its end
+pub behind-frame : (kind : PduKind) (key : Option (List ℕ)) (octets new : List ℕ) → 14 ≤ length octets → new ≡ digested kind key (sized kind (take (length octets - 14) (drop 14 octets)))
+    → put_mid 14 (length octets - 14) octets new ≡ ended kind key octets
+behind-frame kind key octets new long is =
+    let rest = length-drop 14 octets in
+    ap (λ (back : List ℕ). take 14 octets ++ (new ++ back)) (drop_all (length octets - 14) (drop 14 octets) (omega (arith, rest)))
+    ∙ ap (λ (back : List ℕ). take 14 octets ++ back) (append-nil new ∙ is)
+    ∙ ap (λ (pdu : List ℕ). take 14 octets ++ digested kind key (sized kind pdu)) (take_all (length octets - 14) (drop 14 octets) (omega (arith, rest)))
+
 -- a PDU but for its TLVs, whose length stands in its place
 pub record IsBegun (kind : PduKind) (pdu : List ℕ → PduView) : Type 0 where
   pub head : IsHead kind pdu
   pub sizes : (rest : List ℕ) → with_piece (length_place kind) (u16_octets (header_length kind + length rest)) (octets_of_pdu (pdu []) ++ rest) ≡ octets_of_pdu (pdu rest)
 
--- a system's datagram before its length and digest are known
-abbrev pub before_end : ℕ → (List ℕ → PduView) → Bool → List ℕ → List ℕ
-before_end system pdu keyed tlvs = frame_of (system_id system) (octets_of_pdu (pdu []) ++ (blank_auth keyed ++ tlvs))
+-- a system's datagram in a boot before its length and digest are known
+abbrev pub before_end : ℕ → ℕ → (List ℕ → PduView) → Bool → List ℕ → List ℕ
+before_end system boot pdu keyed tlvs = frame_of (system_id system) boot (octets_of_pdu (pdu []) ++ (blank_auth keyed ++ tlvs))
 
 module _ (kind : PduKind) (pdu : List ℕ → PduView) (is : IsBegun kind pdu) (tlvs : List ℕ) (are : AreTlvs tlvs) where
   abbrev inside : Bool → List ℕ
@@ -82,8 +93,8 @@ module _ (kind : PduKind) (pdu : List ℕ → PduView) (is : IsBegun kind pdu) (
         let size = pdu-size true in
         record { header = omega (arith, size); short = omega (arith, size, fits); room = omega (arith, size); place = placed }
 
-    pub endable : (system : ℕ) (key : Option (List ℕ)) → IsEndable kind key (before_end system pdu (is_some key) tlvs)
-    endable system key = record { frame = omega arith; pdu = signable key }
+    pub endable : (system boot : ℕ) (key : Option (List ℕ)) → IsEndable kind key (before_end system boot pdu (is_some key) tlvs)
+    endable system boot key = record { frame = omega arith; pdu = signable key }
 
   digest-written : (key : List ℕ) → digested kind (Some key) (octets_of_pdu (pdu (auth blank))) ≡ signed (Some key) pdu tlvs
   unfolding signed
@@ -106,5 +117,5 @@ module _ (kind : PduKind) (pdu : List ℕ → PduView) (is : IsBegun kind pdu) (
   pdu-ended None = sized-is false
   pdu-ended (Some key) = ap (digested kind (Some key)) (sized-is true) ∙ digest-written key
 
-  pub datagram-ended : (system : ℕ) (key : Option (List ℕ)) → ended kind key (before_end system pdu (is_some key) tlvs) ≡ frame_of (system_id system) (signed key pdu tlvs)
-  datagram-ended system key = ap (frame_of (system_id system)) (pdu-ended key)
+  pub datagram-ended : (system boot : ℕ) (key : Option (List ℕ)) → ended kind key (before_end system boot pdu (is_some key) tlvs) ≡ frame_of (system_id system) boot (signed key pdu tlvs)
+  datagram-ended system boot key = ap (frame_of (system_id system) boot) (pdu-ended key)

@@ -6,6 +6,7 @@ use Rattle.isis_base.specs.declared.level.Level.TheVariants as level
 use Rattle.isis_base.specs.declared.level.LevelSet.{LevelSet}
 use Rattle.isis_base.specs.declared.level.LevelSet.TheVariants as levels
 use Rattle.isis_base.specs.declared.pdu_kind.PduKind.TheVariants as kind
+use Rattle.isis_base.specs.Fields.{u32_octets}
 use Rattle.isis_tlv.specs.Tlvs.{tlv_octets, AreTlvs}
 use Rattle.isis_tlv.specs.Spelling.{area_value, area_tlv, snpa_value, snpa_tlv, entry_value, entry_tlv, address_value, protocol_tlv, three_way_octets, three_way_tlv}
 use Rattle.isis_tlv.specs.declared.three_way.Adj.{Adj}
@@ -239,9 +240,10 @@ pub behind : {a b c : List ℕ} (t : List ℕ) → a ≡ b ++ t → b ≡ c → 
 behind t more is = more ∙ ap (λ (xs : List ℕ). xs ++ t) is
 
 -- TLVs behind what was begun
-pub begun-more : (system : SystemId) (header auth tlvs : List ℕ) → frame_of system (header ++ auth) ++ tlvs ≡ frame_of system (header ++ (auth ++ tlvs))
-begun-more system header auth tlvs =
-    ap (λ (xs : List ℕ). magic ++ xs) (append_assoc system.0 (header ++ auth) tlvs ∙ ap (λ (xs : List ℕ). system.0 ++ xs) (append_assoc header auth tlvs))
+pub begun-more : (system : SystemId) (boot : ℕ) (header auth tlvs : List ℕ) → frame_of system boot (header ++ auth) ++ tlvs ≡ frame_of system boot (header ++ (auth ++ tlvs))
+begun-more system boot header auth tlvs =
+    ap (λ (xs : List ℕ). magic ++ xs) (append_assoc system.0 (u32_octets boot ++ (header ++ auth)) tlvs
+    ∙ ap (λ (xs : List ℕ). system.0 ++ (u32_octets boot ++ xs)) (append_assoc header auth tlvs))
 
 pub few-snpas : (heard : List Neighbour) → length heard ≤ 200 → length (snpas_of heard) ≤ 200
 few-snpas heard few = let size = length-map heard (λ (n : Neighbour). snpa_number n.snpa) in omega (arith, size, few)
@@ -264,26 +266,26 @@ own-node n =
     let none : 256 * n % 256 ≡ 0 = omega arith in
     (λ i. record { system = system_id (whole i); pseudonode = none i })
 
-module _ (system : SystemId) (n : ℕ) (same : system_id n ≡ system) (keyed : Bool) where
+module _ (system : SystemId) (n boot : ℕ) (same : system_id n ≡ system) (keyed : Bool) where
   abbrev pub begun : PduView → List ℕ
-  begun header = frame_of system (octets_of_pdu header ++ blank_auth keyed)
+  begun header = frame_of system boot (octets_of_pdu header ++ blank_auth keyed)
 
   pub point-written : (set : LevelSet) (circuit : ℕ) (areas : List (List ℕ)) (address : Option ℕ) (state : Adj) (extended : ℕ) (neighbour : Option (SystemId × ℕ)) (named : Option (ℕ × ℕ))
       → option_map (λ (name : ℕ × ℕ). (system_id name.0, name.1)) named ≡ neighbour
       → begun (PointHello set system 30 circuit []) ++ hello_tlvs areas address [] ++ three_way_tlv (record { state = state; own_id = Some extended; neighbour = neighbour })
-      ≡ before_end n (point set n circuit) keyed (point_tlvs areas address state extended named)
+      ≡ before_end n boot (point set n circuit) keyed (point_tlvs areas address state extended named)
   point-written set circuit areas address state extended neighbour named names =
       let front = begun (PointHello set system 30 circuit []) in
       let last = three_way_tlv (record { state = state; own_id = Some extended; neighbour = neighbour }) in
       append_assoc front (hello_tlvs areas address []) last
       ∙ ap (λ (xs : List ℕ). front ++ xs) (hello-more areas address last)
-      ∙ begun-more system (octets_of_pdu (PointHello set system 30 circuit [])) (blank_auth keyed) (hello_tlvs areas address last)
-      ∙ (λ i. frame_of (sym same i) (octets_of_pdu (PointHello set (sym same i) 30 circuit []) ++ (blank_auth keyed ++ hello_tlvs areas address (three_way_tlv (record { state = state; own_id = Some extended; neighbour = sym names i })))))
+      ∙ begun-more system boot (octets_of_pdu (PointHello set system 30 circuit [])) (blank_auth keyed) (hello_tlvs areas address last)
+      ∙ (λ i. frame_of (sym same i) boot (octets_of_pdu (PointHello set (sym same i) 30 circuit []) ++ (blank_auth keyed ++ hello_tlvs areas address (three_way_tlv (record { state = state; own_id = Some extended; neighbour = sym names i })))))
 
   pub lan-written : (level : Level) (set : LevelSet) (priority : ℕ) (node : NodeId) (id : ℕ) (areas : List (List ℕ)) (address : Option ℕ) (heard : List Neighbour)
       → node_id id ≡ node → map snpa_id (snpas_of heard) ≡ map (λ (h : Neighbour). h.snpa) heard
       → begun (LanHello level set system 30 priority node []) ++ hello_tlvs areas address [] ++ pieced 42 heard_tlv heard
-      ≡ before_end n (lan level set n priority id) keyed (lan_tlvs areas address (snpas_of heard))
+      ≡ before_end n boot (lan level set n priority id) keyed (lan_tlvs areas address (snpas_of heard))
   lan-written level set priority node id areas address heard node_is snpas_are =
       let front = begun (LanHello level set system 30 priority node []) in
       let last = pieced 42 heard_tlv heard in
@@ -294,8 +296,8 @@ module _ (system : SystemId) (n : ℕ) (same : system_id n ≡ system) (keyed : 
       ∙ sym (pieced-map snpa_id snpa_tlv 41 list) in
       append_assoc front (hello_tlvs areas address []) last
       ∙ ap (λ (xs : List ℕ). front ++ xs) (hello-more areas address last)
-      ∙ begun-more system (octets_of_pdu (LanHello level set system 30 priority node [])) (blank_auth keyed) (hello_tlvs areas address last)
-      ∙ (λ i. frame_of (sym same i) (octets_of_pdu (LanHello level set (sym same i) 30 priority (sym node_is i) []) ++ (blank_auth keyed ++ hello_tlvs areas address (last_is i))))
+      ∙ begun-more system boot (octets_of_pdu (LanHello level set system 30 priority node [])) (blank_auth keyed) (hello_tlvs areas address last)
+      ∙ (λ i. frame_of (sym same i) boot (octets_of_pdu (LanHello level set (sym same i) 30 priority (sym node_is i) []) ++ (blank_auth keyed ++ hello_tlvs areas address (last_is i))))
 
   abbrev own : NodeId
   own = record { system = system; pseudonode = 0 }
@@ -309,17 +311,17 @@ module _ (system : SystemId) (n : ℕ) (same : system_id n ≡ system) (keyed : 
   pub full-written : (level : Level) (start end : LspId) (first last : ℕ) (entries : List LspEntry)
       → lsp_id first ≡ start → lsp_id last ≡ end → map lsp_entry (entries_of entries) ≡ entries
       → begun (Csnp level own start end []) ++ pieced 15 entry_tlv entries
-      ≡ before_end n (full level (256 * n) first last) keyed (entry_tlvs (entries_of entries))
+      ≡ before_end n boot (full level (256 * n) first last) keyed (entry_tlvs (entries_of entries))
   full-written level start end first last entries start_is end_is same_entries =
-      begun-more system (octets_of_pdu (Csnp level own start end [])) (blank_auth keyed) (pieced 15 entry_tlv entries)
-      ∙ (λ i. frame_of (sym same i) (octets_of_pdu (Csnp level (own-is i) (sym start_is i) (sym end_is i) []) ++ (blank_auth keyed ++ entries-are entries same_entries i)))
+      begun-more system boot (octets_of_pdu (Csnp level own start end [])) (blank_auth keyed) (pieced 15 entry_tlv entries)
+      ∙ (λ i. frame_of (sym same i) boot (octets_of_pdu (Csnp level (own-is i) (sym start_is i) (sym end_is i) []) ++ (blank_auth keyed ++ entries-are entries same_entries i)))
 
   pub partial-written : (level : Level) (entries : List LspEntry) → map lsp_entry (entries_of entries) ≡ entries
       → begun (Psnp level own []) ++ pieced 15 entry_tlv entries
-      ≡ before_end n (partial level (256 * n)) keyed (entry_tlvs (entries_of entries))
+      ≡ before_end n boot (partial level (256 * n)) keyed (entry_tlvs (entries_of entries))
   partial-written level entries same_entries =
-      begun-more system (octets_of_pdu (Psnp level own [])) (blank_auth keyed) (pieced 15 entry_tlv entries)
-      ∙ (λ i. frame_of (sym same i) (octets_of_pdu (Psnp level (own-is i) []) ++ (blank_auth keyed ++ entries-are entries same_entries i)))
+      begun-more system boot (octets_of_pdu (Psnp level own [])) (blank_auth keyed) (pieced 15 entry_tlv entries)
+      ∙ (λ i. frame_of (sym same i) boot (octets_of_pdu (Psnp level (own-is i) []) ++ (blank_auth keyed ++ entries-are entries same_entries i)))
 
 -- ---- for the model's router
 
@@ -328,7 +330,7 @@ levels-again levels.One = refl
 levels-again levels.Two = refl
 levels-again levels.Both = refl
 
-module _ (sender : Sender) (config : Config) (place : ℕ) (c : Circuit) (sends : Sends sender config place c) where
+module _ (sender : Sender) (config : Config) (boot place : ℕ) (c : Circuit) (sends : Sends sender config boot place c) where
   abbrev its_number : ℕ
   its_number = system_number sender.system
 
@@ -339,19 +341,19 @@ module _ (sender : Sender) (config : Config) (place : ℕ) (c : Circuit) (sends 
   keys-are level.One = sym sends.area_key
   keys-are level.Two = sym sends.domain_key
 
-  framed-is : (pdu : List ℕ) → frame_of (system_id its_number) pdu ≡ framed config.system pdu
+  framed-is : (pdu : List ℕ) → frame_of (system_id its_number) sender.boot pdu ≡ framed config.system boot pdu
   unfolding framed
-  framed-is pdu = ap (λ (n : ℕ). framed n pdu) (sym sends.system)
+  framed-is pdu = (λ i. framed (sym sends.system i) (sym sends.boot i) pdu)
 
-  pub lsp-datagram : (level : Level) (id : ℕ) (cell : Cell) → frame_of (system_id its_number) (lsp_sent (level_key level) cell) ≡ datagram config place c (sent.Lsp level id cell)
+  pub lsp-datagram : (level : Level) (id : ℕ) (cell : Cell) → frame_of (system_id its_number) sender.boot (lsp_sent (level_key level) cell) ≡ datagram config boot place c (sent.Lsp level id cell)
   unfolding pdu_octets
   lsp-datagram level id cell =
       framed-is (lsp_sent (level_key level) cell)
-      ∙ ap (λ (k : Option (List ℕ)). framed config.system (lsp_sent k cell)) (keys-are level)
+      ∙ ap (λ (k : Option (List ℕ)). framed config.system boot (lsp_sent k cell)) (keys-are level)
 
   pub point-datagram : (state : Adj) (extended : ℕ) (named : Option (ℕ × ℕ))
-      → frame_of (system_id its_number) (signed (option_copied sender.key) (point sender.levels its_number sender.circuit) (point_tlvs sender.areas.now sender.address state extended named))
-      ≡ datagram config place c (sent.PointHello state extended named)
+      → frame_of (system_id its_number) sender.boot (signed (option_copied sender.key) (point sender.levels its_number sender.circuit) (point_tlvs sender.areas.now sender.address state extended named))
+      ≡ datagram config boot place c (sent.PointHello state extended named)
   unfolding pdu_octets
   point-datagram state extended named =
       let system = sym sends.system in
@@ -361,11 +363,11 @@ module _ (sender : Sender) (config : Config) (place : ℕ) (c : Circuit) (sends 
       let areas = sym sends.areas in
       let address = sym sends.address in
       framed-is _
-      ∙ ap (framed config.system) (λ i. signed (key i) (point (set i) (system i) (circuit i)) (point_tlvs (areas i) (address i) state extended named))
+      ∙ ap (framed config.system boot) (λ i. signed (key i) (point (set i) (system i) (circuit i)) (point_tlvs (areas i) (address i) state extended named))
 
   pub lan-datagram : (level : Level) (id : ℕ) (snpas : List ℕ)
-      → frame_of (system_id its_number) (signed (option_copied sender.key) (lan level sender.levels its_number sender.priority id) (lan_tlvs sender.areas.now sender.address snpas))
-      ≡ datagram config place c (sent.LanHello level id snpas)
+      → frame_of (system_id its_number) sender.boot (signed (option_copied sender.key) (lan level sender.levels its_number sender.priority id) (lan_tlvs sender.areas.now sender.address snpas))
+      ≡ datagram config boot place c (sent.LanHello level id snpas)
   unfolding pdu_octets
   lan-datagram level id snpas =
       let system = sym sends.system in
@@ -375,24 +377,24 @@ module _ (sender : Sender) (config : Config) (place : ℕ) (c : Circuit) (sends 
       let areas = sym sends.areas in
       let address = sym sends.address in
       framed-is _
-      ∙ ap (framed config.system) (λ i. signed (key i) (lan level (set i) (system i) (priority i) id) (lan_tlvs (areas i) (address i) snpas))
+      ∙ ap (framed config.system boot) (λ i. signed (key i) (lan level (set i) (system i) (priority i) id) (lan_tlvs (areas i) (address i) snpas))
 
   pub full-datagram : (level : Level) (start end : ℕ) (entries : List SnpEntry)
-      → frame_of (system_id its_number) (signed (level_key level) (full level (256 * its_number) start end) (entry_tlvs entries))
-      ≡ datagram config place c (sent.Csnp level start end entries)
+      → frame_of (system_id its_number) sender.boot (signed (level_key level) (full level (256 * its_number) start end) (entry_tlvs entries))
+      ≡ datagram config boot place c (sent.Csnp level start end entries)
   unfolding pdu_octets
   full-datagram level start end entries =
       let system = sym sends.system in
       let key = keys-are level in
       framed-is _
-      ∙ ap (framed config.system) (λ i. signed (key i) (full level (256 * system i) start end) (entry_tlvs entries))
+      ∙ ap (framed config.system boot) (λ i. signed (key i) (full level (256 * system i) start end) (entry_tlvs entries))
 
   pub partial-datagram : (level : Level) (entries : List SnpEntry)
-      → frame_of (system_id its_number) (signed (level_key level) (partial level (256 * its_number)) (entry_tlvs entries))
-      ≡ datagram config place c (sent.Psnp level entries)
+      → frame_of (system_id its_number) sender.boot (signed (level_key level) (partial level (256 * its_number)) (entry_tlvs entries))
+      ≡ datagram config boot place c (sent.Psnp level entries)
   unfolding pdu_octets
   partial-datagram level entries =
       let system = sym sends.system in
       let key = keys-are level in
       framed-is _
-      ∙ ap (framed config.system) (λ i. signed (key i) (partial level (256 * system i)) (entry_tlvs entries))
+      ∙ ap (framed config.system boot) (λ i. signed (key i) (partial level (256 * system i)) (entry_tlvs entries))

@@ -10,10 +10,11 @@ use Rattle.isis_datagram.specs.Reading.{runs_of}
 use Rattle.adjacency.specs.declared.neighbour.Neighbour.{Neighbour}
 use Rattle.pdu_sender.specs.declared.sender.Sender.{Sender}
 
--- the sender is the router of this configuration, on this circuit, whose number is its place and 1
--- (own)
-pub record Sends (sender : Sender) (config : Config) (place : ℕ) (c : Circuit) : Type 0 where
+-- the sender is the router of this configuration in this boot, on this circuit, whose number is its
+-- place and 1 (own)
+pub record Sends (sender : Sender) (config : Config) (present place : ℕ) (c : Circuit) : Type 0 where
   pub system : config.system ≡ system_number sender.system
+  pub boot : present ≡ sender.boot
   pub runs : config.runs ≡ runs_of sender.levels
   pub areas : config.areas ≡ sender.areas.now
   pub area_key : config.keys.one ≡ option_copied sender.area_key

@@ -5,7 +5,7 @@ use Rattle.std.specs.List.{flat_map}
 use Rattle.isis_base.specs.declared.identifiers.SystemId.{SystemId}
 use Rattle.isis_base.specs.declared.pdu_kind.PduKind.{PduKind}
 use Rattle.isis_base.specs.PduKinds.{header_length, length_place}
-use Rattle.isis_base.specs.Fields.{u16_octets}
+use Rattle.isis_base.specs.Fields.{u16_octets, u32_octets}
 use Rattle.isis_pdu.specs.Views.{PduView}
 use Rattle.isis_pdu.specs.Spelling.{octets_of_pdu}
 use Rattle.hmac_auth.specs.Hmac.{hmac}
@@ -17,14 +17,14 @@ use Rattle.isis_tlv.specs.Spelling.{snpa_tlv}
 use Rattle.adjacency.specs.declared.neighbour.Neighbour.{Neighbour}
 use Rattle.lsp_octets.specs.Drafts.{blank_auth}
 
--- the frame of a system, and what stands behind it (own)
-abbrev pub frame_of : SystemId → List ℕ → List ℕ
-frame_of system pdu = magic ++ (system.0 ++ pdu)
+-- the frame of a system in a boot, and what stands behind it (own)
+abbrev pub frame_of : SystemId → ℕ → List ℕ → List ℕ
+frame_of system boot pdu = magic ++ (system.0 ++ (u32_octets boot ++ pdu))
 
 -- a datagram's octets before its length and digest are known, of a PDU but for its TLVs (own)
-abbrev pub begun : SystemId → (List ℕ → PduView) → Bool → List ℕ → List ℕ
-begun system pdu keyed tlvs =
-    frame_of system (octets_of_pdu (pdu []) ++ (blank_auth keyed ++ tlvs))
+abbrev pub begun : SystemId → ℕ → (List ℕ → PduView) → Bool → List ℕ → List ℕ
+begun system boot pdu keyed tlvs =
+    frame_of system boot (octets_of_pdu (pdu []) ++ (blank_auth keyed ++ tlvs))
 
 -- a PDU's octets with their length in its place (ISO 10589 9)
 abbrev pub sized : PduKind → List ℕ → List ℕ
@@ -46,12 +46,12 @@ digested kind (Some key) pdu =
 
 -- the datagram with both (own)
 abbrev pub ended : PduKind → Option (List ℕ) → List ℕ → List ℕ
-ended kind key octets = take 10 octets ++ digested kind key (sized kind (drop 10 octets))
+ended kind key octets = take 14 octets ++ digested kind key (sized kind (drop 14 octets))
 
 -- a datagram that has both's places (own)
 pub record IsEndable (kind : PduKind) (key : Option (List ℕ)) (octets : List ℕ) : Type 0 where
-  pub frame : 10 ≤ length octets
-  pub pdu : IsSignable kind key (drop 10 octets)
+  pub frame : 14 ≤ length octets
+  pub pdu : IsSignable kind key (drop 14 octets)
 
 -- a list in pieces of a size, each piece as octets (own)
 abbrev pub pieced : {X : Type 0} → ℕ → (List X → List ℕ) → List X → List ℕ

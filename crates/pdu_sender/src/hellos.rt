@@ -32,9 +32,9 @@ pub fn point_hello(
     neighbour: Option<(SystemId, u32)>,
 ) -> Result<Octets, OutOfMemory>
     requires { FitAreas sender.now }
-    ensures { (config : Config) (place : ℕ) (c : Circuit) → Sends sender.now config place c
+    ensures { (config : Config) (boot place : ℕ) (c : Circuit) → Sends sender.now config boot place c
         → IfOk result (λ octets. octets
-        ≡ datagram config place c (sent.PointHello state extended (names_of neighbour))) }
+        ≡ datagram config boot place c (sent.PointHello state extended (names_of neighbour))) }
 {
     system_law(sender.system);
     names_law(neighbour);
@@ -45,7 +45,13 @@ pub fn point_hello(
         circuit: sender.circuit,
         tlvs: &[],
     };
-    let mut octets = begin(alloc, sender.system, &header, sender.key.is_some())?;
+    let mut octets = begin(
+        alloc,
+        sender.system,
+        sender.boot,
+        &header,
+        sender.key.is_some(),
+    )?;
     put_common(&mut octets, sender)?;
     let three_way = ThreeWay {
         state,
@@ -69,9 +75,9 @@ pub fn lan_hello(
     requires areas { FitAreas sender.now }
     requires priority { sender.now.priority ≤ 127 }
     requires few { length heard.now ≤ 200 }
-    ensures { (config : Config) (place : ℕ) (c : Circuit) → Sends sender.now config place c
+    ensures { (config : Config) (boot place : ℕ) (c : Circuit) → Sends sender.now config boot place c
         → IfOk result (λ octets. octets
-        ≡ datagram config place c (sent.LanHello level (node_number lan) (snpas_of heard.now))) }
+        ≡ datagram config boot place c (sent.LanHello level (node_number lan) (snpas_of heard.now))) }
 {
     system_law(sender.system);
     node_law(lan);
@@ -85,7 +91,13 @@ pub fn lan_hello(
         lan,
         tlvs: &[],
     };
-    let mut octets = begin(alloc, sender.system, &header, sender.key.is_some())?;
+    let mut octets = begin(
+        alloc,
+        sender.system,
+        sender.boot,
+        &header,
+        sender.key.is_some(),
+    )?;
     put_common(&mut octets, sender)?;
     put_heard(&mut octets, heard)?;
     end(&mut octets, PduKind::LanHello(level), sender.key);

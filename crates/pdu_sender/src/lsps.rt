@@ -27,12 +27,12 @@ pub fn lsp(
     entry: &Entry,
 ) -> Result<Octets, OutOfMemory>
     requires { IsPuttable entry.now }
-    ensures { (config : Config) (place : ℕ) (c : Circuit) (id : ℕ) (row : FlagRow)
-        → Sends sender.now config place c → IfOk result (λ octets. octets
-        ≡ datagram config place c (sent.Lsp level id (cell_of entry.now row))) }
+    ensures { (config : Config) (boot place : ℕ) (c : Circuit) (id : ℕ) (row : FlagRow)
+        → Sends sender.now config boot place c → IfOk result (λ octets. octets
+        ≡ datagram config boot place c (sent.Lsp level id (cell_of entry.now row))) }
 {
     system_law(sender.system);
-    let mut octets = frame(alloc, sender.system, &[])?;
+    let mut octets = frame(alloc, sender.system, sender.boot, &[])?;
     put_lsp(&mut octets, sender.level_key(level), entry)?;
     Ok(octets)
 }

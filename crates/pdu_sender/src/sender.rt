@@ -5,12 +5,13 @@ ghost use Rattle.isis_model.specs.Both.{at};
 
 use isis_base::{AreaAddress, Level, LevelSet, SystemId};
 
-/// A router as it sends on a circuit: its system, the levels that it runs, its area addresses and
-/// the keys of L1 and L2 (RFC 5304 3); the circuit's number, its priority on a LAN (ISO 10589
-/// 8.4.5), its IPv4 address, and the key of its hellos.
+/// A router as it sends on a circuit: its system, its boot number (own), the levels that it runs,
+/// its area addresses and the keys of L1 and L2 (RFC 5304 3); the circuit's number, its priority on
+/// a LAN (ISO 10589 8.4.5), its IPv4 address, and the key of its hellos.
 #[derive(Clone, Copy)]
 pub struct Sender<'a> {
     pub system: SystemId,
+    pub boot: u32,
     pub levels: LevelSet,
     pub areas: &'a [AreaAddress],
     pub area_key: Option<&'a [u8]>,

@@ -28,8 +28,8 @@ pub fn csnp(
     entries: &[LspEntry],
 ) -> Result<Octets, OutOfMemory>
     requires { length entries.now ≤ 75 }
-    ensures { (config : Config) (place : ℕ) (c : Circuit) → Sends sender.now config place c
-        → IfOk result (λ octets. octets ≡ datagram config place c
+    ensures { (config : Config) (boot place : ℕ) (c : Circuit) → Sends sender.now config boot place c
+        → IfOk result (λ octets. octets ≡ datagram config boot place c
         (sent.Csnp level (lsp_number start) (lsp_number end_id) (entries_of entries.now))) }
 {
     system_law(sender.system);
@@ -47,7 +47,7 @@ pub fn csnp(
         tlvs: &[],
     };
     let key = sender.level_key(level);
-    let mut octets = begin(alloc, sender.system, &header, key.is_some())?;
+    let mut octets = begin(alloc, sender.system, sender.boot, &header, key.is_some())?;
     put_all_entries(&mut octets, entries)?;
     end(&mut octets, PduKind::Csnp(level), key);
     Ok(octets)
@@ -62,9 +62,9 @@ pub fn psnp(
     entries: &[LspEntry],
 ) -> Result<Octets, OutOfMemory>
     requires { length entries.now ≤ 75 }
-    ensures { (config : Config) (place : ℕ) (c : Circuit) → Sends sender.now config place c
+    ensures { (config : Config) (boot place : ℕ) (c : Circuit) → Sends sender.now config boot place c
         → IfOk result (λ octets. octets
-        ≡ datagram config place c (sent.Psnp level (entries_of entries.now))) }
+        ≡ datagram config boot place c (sent.Psnp level (entries_of entries.now))) }
 {
     system_law(sender.system);
     entries_law(entries);
@@ -77,7 +77,7 @@ pub fn psnp(
         tlvs: &[],
     };
     let key = sender.level_key(level);
-    let mut octets = begin(alloc, sender.system, &header, key.is_some())?;
+    let mut octets = begin(alloc, sender.system, sender.boot, &header, key.is_some())?;
     put_all_entries(&mut octets, entries)?;
     end(&mut octets, PduKind::Psnp(level), key);
     Ok(octets)

@@ -15,23 +15,24 @@ use lsp_octets::BLANK_AUTH;
 use std::alloc::Global;
 
 /// The octets of the frame.
-const FRAME: usize = 10;
+const FRAME: usize = 14;
 
 /// The frame, a header without TLVs, and, where it is to be signed, the room for the digest.
 pub(crate) fn begin(
     alloc: Global,
     system: SystemId,
+    boot: u32,
     header: &Pdu<'_>,
     keyed: bool,
 ) -> Result<Octets, OutOfMemory>
     requires tlvs { tlvs_of_pdu (pdu_view header.now) ≡ [] }
     requires priority { priority_of (pdu_view header.now) ≤ 127 }
     ensures octets { IfOk result (λ octets. octets
-        ≡ frame_of system (octets_of_pdu (pdu_view header.now) ++ blank_auth keyed)) }
+        ≡ frame_of system boot (octets_of_pdu (pdu_view header.now) ++ blank_auth keyed)) }
     ensures six { length system.0 ≡ 6 }
 {
     let header = encode(alloc, header)?;
-    let mut octets = frame(alloc, system, header.as_slice())?;
+    let mut octets = frame(alloc, system, boot, header.as_slice())?;
     if keyed {
         octets.extend(&BLANK_AUTH)?;
     }
@@ -40,11 +41,16 @@ pub(crate) fn begin(
 
 /// The frame, and octets behind it.
 #[tactic(auto, unfolding(isis_edge::specs::Frames::framed))]
-pub(crate) fn frame(alloc: Global, system: SystemId, pdu: &[u8]) -> Result<Octets, OutOfMemory>
-    ensures octets { IfOk result (λ octets. octets ≡ frame_of system pdu.now) }
+pub(crate) fn frame(
+    alloc: Global,
+    system: SystemId,
+    boot: u32,
+    pdu: &[u8],
+) -> Result<Octets, OutOfMemory>
+    ensures octets { IfOk result (λ octets. octets ≡ frame_of system boot pdu.now) }
     ensures six { length system.0 ≡ 6 }
 {
-    wrap(alloc, Snpa(system.0), pdu)
+    wrap(alloc, Snpa(system.0), boot, pdu)
 }
 
 /// Writes the PDU length, and the digest where there is a key.

@@ -1,10 +1,10 @@
 -- What became of adjacencies, and what the model says comes of it.
-use Rattle.std.proofs.Common.{◌≡◌, ℕ, Bool, true, false, not, ◌&&◌, nat_lt, eqb, if◌then◌else◌, List, [], ◌∷◌, Option, Some, None, IfSome, IsSome, refl, sym, ap, subst, ◌∙◌, arith}
+use Rattle.std.proofs.Common.{◌≡◌, ℕ, Bool, true, false, not, ◌&&◌, nat_lt, eqb, ◌==◌, if◌then◌else◌, List, [], ◌∷◌, Option, Some, None, IfSome, IfOk, Result, Ok, IsSome, refl, sym, ap, subst, ◌∙◌, arith}
 use Rattle.std.proofs.lemmas.Bool.Decides.{nat_tests}
 use Rattle.isis_model.specs.Adjacencies as model
 use Rattle.isis_model.specs.Both.{Both, same_flag}
 use Rattle.isis_model.specs.Routers.{LanNeighbour, Circuit}
-use Rattle.isis_model.specs.Hellos.{is_moved, comes_up, seen_so, point_circuit}
+use Rattle.isis_model.specs.Hellos.{is_moved, comes_up, minded, seen_so, point_circuit}
 use Rattle.isis_model.specs.Maps.{put}
 use Rattle.isis_model.proofs.BookLemmas.{choose}
 use Rattle.isis_model.specs.Seconds as seconds
@@ -22,7 +22,7 @@ use Rattle.isis_tlv.specs.declared.three_way.ThreeWay.{ThreeWay}
 use Rattle.isis_base.specs.declared.level.Level.{Level}
 use Rattle.isis_base.specs.declared.level.Level.TheVariants as level
 use Rattle.isis_model.specs.Configs.{Config}
-use Rattle.isis_model.specs.HelloTests.{hello_drop, shake_drop, point_drop, lan_drop}
+use Rattle.isis_model.specs.HelloTests.{hello_drop, shake_drop, full_drop, point_drop, lan_drop}
 use Rattle.isis_model.specs.Drops.{or_else}
 use Rattle.isis_model.specs.declared.drop_name.DropName.{DropName}
 use Rattle.isis_model.specs.declared.drop_name.DropName.TheVariants.{NoThreeWay}
@@ -88,15 +88,19 @@ moved (held.Up m) (held.Up n) true = refl
 moved (held.Up m) (held.Up n) false = refl
 
 -- a LAN hello makes one's own due exactly where something becomes of its neighbour
-pub seen : (before : Option LanNeighbour) (up : Bool) → is_change (lan_change_of before up) ≡ not (seen_so before up)
-seen None true = refl
-seen None false = refl
-seen (Some n) up = by n.up up where
-  by : (a b : Bool) → is_change (if b && not a then change.WentUp else (if a && not b then change.LeftUp else (if false then change.Moved else change.None))) ≡ not (same_flag a b)
-  by true true = refl
-  by true false = refl
-  by false true = refl
-  by false false = refl
+pub seen : (before : Option LanNeighbour) (boot : ℕ) (up : Bool) → is_change (lan_change_of before boot up) ≡ not (seen_so before boot up)
+seen None boot true = refl
+seen None boot false = refl
+seen (Some n) boot up = by n.up up (n.neighbour.boot == boot) where
+  by : (a b same : Bool) → is_change (if b && not a then change.WentUp else (if a && not b then change.LeftUp else (if same then change.None else change.Moved))) ≡ not (same && same_flag a b)
+  by true true true = refl
+  by true true false = refl
+  by true false true = refl
+  by true false false = refl
+  by false true true = refl
+  by false true false = refl
+  by false false true = refl
+  by false false false = refl
 
 -- an adjacency comes up where the model has it come up
 pub coming_up : (old new : model.PointAdj) (same : Bool) → is_coming_up (change_of old new same) ≡ comes_up old new same
@@ -167,7 +171,7 @@ of_medium c m one two = record c { lan = is_lan m; point = point_in m; levels = 
 -- a circuit after a point-to-point hello
 pub met : (old new : Medium) (one two : Timers) (c : Circuit) (common : Both Bool) (h : model.Hello) (shake : model.Handshake) (g : Greeted)
     → is_lan old ≡ false → is_lan new ≡ false → IsGreeted (point_in old) (point_in new) common h shake g
-    → record (of_medium c new (with_due one g.one) (with_due two g.two)) { hello = if g.moved then 0 else c.hello }
+    → record (of_medium c new (with_due one g.one) (with_due two g.two)) { hello = if g.moved then 0 else c.hello; boots = minded c.boots h }
     ≡ point_circuit (of_medium c old one two) common h shake
 met (medium.Lan a b) new one two c common h shake g o n m = absurd (grind (arith, o))
 met (medium.Point p) (medium.Lan a b) one two c common h shake g o n m = absurd (grind (arith, n))
@@ -185,22 +189,27 @@ met (medium.Point p) (medium.Point q) one two c common h shake g o n m =
           two = level_in [] (with_due two (comes_up (point_of p) x same && model.point_open x level.Two));
         };
         hello = if is_moved (point_of p) x same then 0 else c.hello;
+        boots = minded c.boots h;
       }
 
 module _ (old new : Medium) (one two : Timers) (c now : Circuit) (common : Both Bool) (h : model.Hello) (g : Greeted) (was : of_medium c old one two ≡ now) where
-  pub met-some : (o : Option model.Handshake) (hello : ℕ) (first second : Timers)
-      → hello ≡ (if g.moved then 0 else c.hello) → first ≡ with_due one g.one → second ≡ with_due two g.two
+  pub met-some : (o : Option model.Handshake) (hello : ℕ) (first second : Timers) (boots : List (ℕ × ℕ))
+      → hello ≡ (if g.moved then 0 else c.hello) → first ≡ with_due one g.one → second ≡ with_due two g.two → boots ≡ minded c.boots h
       → is_lan old ≡ false → is_lan new ≡ false
       → IfSome o (λ shake. IsGreeted (point_in old) (point_in new) common h shake g)
-      → IfSome o (λ shake. record (of_medium c new first second) { hello = hello } ≡ point_circuit now common h shake)
-  met-some None hello first second d e f p n m = tt
-  met-some (Some shake) hello first second d e f p n m =
-      rw (d, e, f) (met old new one two c common h shake g p n m ∙ ap (λ (x : Circuit). point_circuit x common h shake) was)
+      → IfSome o (λ shake. record (of_medium c new first second) { hello = hello; boots = boots } ≡ point_circuit now common h shake)
+  met-some None hello first second boots d e f b p n m = tt
+  met-some (Some shake) hello first second boots d e f b p n m =
+      rw (d, e, f, b) (met old new one two c common h shake g p n m ∙ ap (λ (x : Circuit). point_circuit x common h shake) was)
 
   pub anew-some : (o : Option model.Handshake) → IfSome o (λ shake. IsGreeted (point_in old) (point_in new) common h shake g)
       → IfSome o (λ shake. g.anew ≡ not (model.is_same now.point.neighbour common h shake.extended))
   anew-some None m = tt
   anew-some (Some shake) m = m.anew ∙ ap (λ (x : Circuit). not (model.is_same x.point.neighbour common h shake.extended)) was
+
+-- what holds of an answer that is Ok
+pub ok-of : {A E : Type 0} (P : A → Type 0) {q : Result A E} {x : A} → q ≡ Ok x → IfOk q P → P x
+ok-of P e f = subst (λ (r : Result _ _). IfOk r P) e f
 
 -- ---- sizes of those heard
 
@@ -219,17 +228,20 @@ hear-sizes heard common h s all = put-sizes heard h.snpa (record { up = h.names_
 pub same-common : (a b : Config) (h : model.Hello) → IsAlike a b → model.common_of a h ≡ model.common_of b h
 same-common a b h s = rw (s.areas, s.runs) refl
 
-pub same-point : (a b : Config) (extended : ℕ) (h : model.Hello) → IsAlike a b → point_drop a extended h ≡ point_drop b extended h
-same-point a b extended h s = rw (s.system, s.areas, s.runs) refl
+pub same-point : (a b : Config) (extended : ℕ) (boots : List (ℕ × ℕ)) (h : model.Hello) → IsAlike a b → point_drop a extended boots h ≡ point_drop b extended boots h
+same-point a b extended boots h s = rw (s.system, s.areas, s.runs) refl
 
-pub same-lan : (a b : Config) (l : Level) (heard : List (ℕ × LanNeighbour)) (h : model.Hello) → IsAlike a b → lan_drop a l heard h ≡ lan_drop b l heard h
-same-lan a b l heard h s = rw (s.system, s.areas, s.runs) refl
+pub same-lan : (a b : Config) (l : Level) (boots : List (ℕ × ℕ)) (heard : List (ℕ × LanNeighbour)) (h : model.Hello) → IsAlike a b → lan_drop a l boots heard h ≡ lan_drop b l boots heard h
+same-lan a b l boots heard h s = rw (s.system, s.areas, s.runs) refl
 
 -- a point-to-point hello that passes its tests has a three-way value
-pub shaken : (config : Config) (extended : ℕ) (h : model.Hello) (three : Option ThreeWay) → h.handshake ≡ views.shakes_of three → point_drop config extended h ≡ None → IsSome three
-shaken config extended h (Some shake) e passed = refl
-shaken config extended h None e passed =
-    absurd (by (hello_drop config (model.common_of config h) (config.runs.one && h.runs.one) h) (subst (λ (o : Option model.Handshake). or_else (hello_drop config (model.common_of config h) (config.runs.one && h.runs.one) h) (shake_drop config extended o) ≡ None) e passed)) where
-      by : (d : Option DropName) → or_else d (Some NoThreeWay) ≡ None → ⊥
-      by None f = grind (arith, f)
-      by (Some d) f = grind (arith, f)
+pub shaken : (config : Config) (extended : ℕ) (boots : List (ℕ × ℕ)) (h : model.Hello) (three : Option ThreeWay) → h.handshake ≡ views.shakes_of three → point_drop config extended boots h ≡ None → IsSome three
+shaken config extended boots h (Some shake) e passed = refl
+shaken config extended boots h None e passed =
+    absurd (by tests (full_drop boots h.source) (subst (λ (o : Option model.Handshake). or_else (or_else tests (shake_drop config extended o)) (full_drop boots h.source) ≡ None) e passed)) where
+      tests : Option DropName
+      tests = hello_drop config boots (model.common_of config h) (config.runs.one && h.runs.one) h
+
+      by : (d e : Option DropName) → or_else (or_else d (Some NoThreeWay)) e ≡ None → ⊥
+      by None e f = grind (arith, f)
+      by (Some d) e f = grind (arith, f)

@@ -1,5 +1,5 @@
 -- Neighbours by SNPA: what a binary search finds, and those Up among all that are heard.
-use Rattle.std.proofs.Common.{◌≡◌, ◌≢◌, ℕ, zero, suc, ◌+◌, ◌<◌, ◌≤◌, true, false, Bool, eqb, nat_lt, List, [], ◌∷◌, length, map, get_or, Some, None, if◌then◌else◌, refl, sym, ap, ◌∙◌, subst, arith}
+use Rattle.std.proofs.Common.{◌≡◌, ◌≢◌, ℕ, zero, suc, ◌+◌, ◌<◌, ◌≤◌, true, false, Bool, eqb, nat_lt, List, [], ◌∷◌, length, map, get_or, Option, Some, None, if◌then◌else◌, refl, sym, ap, ◌∙◌, subst, arith}
 use Rattle.std.specs.Option.{option_map}
 use Rattle.std.specs.List.{AllByRecursion}
 use Rattle.std.specs.List.Sorted.{IsNonDecreasingBy}
@@ -8,7 +8,7 @@ use Rattle.std.specs.declared.cmp.Ordering.TheVariants.{Less, Equal, Greater}
 use Rattle.std.proofs.lemmas.Bool.Decides.{nat_tests}
 use Rattle.isis_model.specs.Adjacencies as model
 use Rattle.isis_model.specs.Maps.{find}
-use Rattle.isis_model.specs.Receiving.{up_system}
+use Rattle.isis_model.specs.Receiving.{kept_system, up_system}
 use Rattle.isis_model.specs.Routers.{LanNeighbour}
 use Rattle.isis_model.specs.Sorted.{RisesFrom}
 use Rattle.adjacency.specs.declared.neighbour.Neighbour.{Neighbour}
@@ -109,25 +109,22 @@ above-none : (m : List (ℕ × model.Neighbour)) (least n : ℕ) → n < least �
 above-none [] least n lt r = refl
 above-none (p ∷ m) least n lt r = let h = r.0 in grind (arith, nat_tests, h, lt, above-none m (p.0 + 1) n (omega (arith, h, lt)) r.1)
 
-system_in : model.Neighbour → ℕ
-system_in n = n.system
-
-find-seen : (ns : List Neighbour) (k : ℕ) → option_map system_in (find (keyed snpa_in (map neighbour_of ns)) k) ≡ option_map (λ n. (neighbour_of n).system) (find (by_snpa ns) k)
-unfolding snpa_in system_in
+find-seen : (ns : List Neighbour) (k : ℕ) → find (keyed snpa_in (map neighbour_of ns)) k ≡ option_map neighbour_of (find (by_snpa ns) k)
+unfolding snpa_in
 find-seen [] k = refl
 find-seen (n ∷ ns) k = by (eqb (snpa_of n) k) (find-seen ns k) where
-  by : (t : Bool) → option_map system_in (find (keyed snpa_in (map neighbour_of ns)) k) ≡ option_map (λ n. (neighbour_of n).system) (find (by_snpa ns) k)
-      → option_map system_in (if t then Some (neighbour_of n) else find (keyed snpa_in (map neighbour_of ns)) k) ≡ option_map (λ n. (neighbour_of n).system) (if t then Some n else find (by_snpa ns) k)
+  by : (t : Bool) → find (keyed snpa_in (map neighbour_of ns)) k ≡ option_map neighbour_of (find (by_snpa ns) k)
+      → (if t then Some (neighbour_of n) else find (keyed snpa_in (map neighbour_of ns)) k) ≡ option_map neighbour_of (if t then Some n else find (by_snpa ns) k)
   by true rest = refl
   by false rest = rest
 
-find-ups : (heard : List (ℕ × LanNeighbour)) (least k : ℕ) → RisesFrom least heard → AllByRecursion (λ pair. pair.1.neighbour.snpa ≡ pair.0) heard → option_map system_in (find (keyed snpa_in (ups heard)) k) ≡ up_system (find heard k)
-unfolding snpa_in system_in
-find-ups [] least k r s = refl
-find-ups (p ∷ heard) least k r s =
-    by p.1.up (eqb p.0 k) refl refl (find-ups heard (p.0 + 1) k r.1 s.1) where
-      by : (t u : Bool) → p.1.up ≡ t → eqb p.0 k ≡ u → option_map system_in (find (keyed snpa_in (ups heard)) k) ≡ up_system (find heard k)
-          → option_map system_in (find (keyed snpa_in (if t then p.1.neighbour ∷ ups heard else ups heard)) k) ≡ up_system (if u then Some p.1 else find heard k)
+find-ups : (heard : List (ℕ × LanNeighbour)) (least k boot : ℕ) → RisesFrom least heard → AllByRecursion (λ pair. pair.1.neighbour.snpa ≡ pair.0) heard → kept_system (find (keyed snpa_in (ups heard)) k) boot ≡ up_system (find heard k) boot
+unfolding snpa_in
+find-ups [] least k boot r s = refl
+find-ups (p ∷ heard) least k boot r s =
+    by p.1.up (eqb p.0 k) refl refl (find-ups heard (p.0 + 1) k boot r.1 s.1) where
+      by : (t u : Bool) → p.1.up ≡ t → eqb p.0 k ≡ u → kept_system (find (keyed snpa_in (ups heard)) k) boot ≡ up_system (find heard k) boot
+          → kept_system (find (keyed snpa_in (if t then p.1.neighbour ∷ ups heard else ups heard)) k) boot ≡ up_system (if u then Some p.1 else find heard k) boot
       by true true e f rest = rw (s.0, f, e) refl
       by true false e f rest = rw (s.0, f) rest
       by false true e f rest =
@@ -135,11 +132,11 @@ find-ups (p ∷ heard) least k r s =
           rw (above-none (keyed snpa_in (ups heard)) (p.0 + 1) k (omega (arith, same)) (ups-rise heard (p.0 + 1) r.1 s.1), e) refl
       by false false e f rest = rest
 
--- the system of a neighbour Up, by its SNPA
-pub up-system : (up : List Neighbour) (heard : List (ℕ × LanNeighbour)) (k : ℕ) → AreHeard heard → map neighbour_of up ≡ ups heard → option_map (λ n. (neighbour_of n).system) (find (by_snpa up) k) ≡ up_system (find heard k)
-up-system up heard k are e =
-    sym (find-seen up k) ∙ ap (λ (m : List model.Neighbour). option_map system_in (find (keyed snpa_in m) k)) e
-    ∙ find-ups heard 0 k are.rises are.snpas
+-- the system of a neighbour Up in a boot, by its SNPA
+pub up-system : (up : List Neighbour) (heard : List (ℕ × LanNeighbour)) (k boot : ℕ) → AreHeard heard → map neighbour_of up ≡ ups heard → kept_system (option_map neighbour_of (find (by_snpa up) k)) boot ≡ up_system (find heard k) boot
+up-system up heard k boot are e =
+    ap (λ (o : Option model.Neighbour). kept_system o boot) (sym (find-seen up k) ∙ ap (λ (m : List model.Neighbour). find (keyed snpa_in m) k) e)
+    ∙ find-ups heard 0 k boot are.rises are.snpas
 
 -- ---- the SNPAs of those heard
 

@@ -40,6 +40,7 @@ abbrev pub hello_of : HelloFields → Hello
 hello_of h = record {
   source = system_number h.source;
   snpa = snpa_number h.snpa;
+  boot = h.boot;
   runs = runs_of h.levels;
   holding = h.holding;
   priority = h.priority;
@@ -65,12 +66,13 @@ is_coming_up change.Moved = false
 is_coming_up change.WentUp = true
 is_coming_up change.LeftUp = false
 
--- whether two neighbours are one: by system, extended circuit ID and levels in common (own)
+-- whether two neighbours are one: by system, extended circuit ID, boot number and levels in common
+-- (own)
 abbrev pub is_one : Option Neighbour → Option Neighbour → Bool
 is_one None b = false
 is_one (Some a) None = false
 is_one (Some a) (Some b) =
-    a.system == b.system && a.extended == b.extended && same_levels a.levels b.levels
+    a.system == b.system && a.extended == b.extended && a.boot == b.boot && same_levels a.levels b.levels
 
 -- counters of a level with a CSNP set due, where one is (ISO 10589 7.3.17)
 abbrev pub with_due : Timers → Bool → Timers

@@ -1,5 +1,5 @@
 -- A circuit's adjacencies and counters as the model of the router has them (own).
-use Rattle.std.specs.Prelude.{◌≡◌, ℕ, ◌+◌, ◌^◌, ◌<◌, Bool, true, false, List, []}
+use Rattle.std.specs.Prelude.{◌≡◌, ℕ, ◌+◌, ◌^◌, ◌<◌, Bool, true, false, List, [], Option, Some, None}
 use Rattle.std.specs.List.{AllByRecursion}
 use Rattle.isis_base.specs.declared.identifiers.SystemId.{SystemId}
 use Rattle.isis_model.specs.Both.{Both}
@@ -33,6 +33,11 @@ point_in (medium.Lan one two) = point_down
 abbrev pub heard_in : Medium → Both (List (ℕ × LanNeighbour))
 heard_in (medium.Point held) = record { one = []; two = [] }
 heard_in (medium.Lan one two) = record { one = one; two = two }
+
+-- the boots that are remembered; none before room was taken for them (own)
+abbrev pub boots_in : Option (List (ℕ × ℕ)) → List (ℕ × ℕ)
+boots_in None = []
+boots_in (Some boots) = boots
 
 -- a level of a circuit, of those heard and the counters (ISO 10589 7.3.15.3, 7.3.15.4)
 abbrev pub level_in : List (ℕ × LanNeighbour) → Timers → CircuitLevel

@@ -1,5 +1,5 @@
 //! A circuit.
-ghost use Rattle.std.specs.Prelude.{◌≡◌, true, false, map, IfOk, MatchOption};
+ghost use Rattle.std.specs.Prelude.{◌≡◌, true, false, [], map, IfOk, MatchOption};
 ghost use Rattle.std.specs.Option.{option_map};
 ghost use Rattle.isis_model.specs.Both.{at};
 ghost use Rattle.isis_model.specs.Pulls.{snpas_of};
@@ -13,14 +13,15 @@ ghost use Rattle.router_circuits.specs.Facts.{IsCircuit};
 use crate::medium::Medium;
 use crate::sizes::point_sizes;
 use crate::timers::Timers;
-use adjacency::{Neighbour, P2pAdj};
+use adjacency::{Boots, Neighbour, P2pAdj};
 use isis_base::{Level, Octets, OutOfMemory};
 use router_desk::CircuitConfig;
 use std::alloc::Global;
 use std::marker::Model;
 
-/// A circuit of a router: its configuration, its adjacencies, and its counters. Contracts see it as
-/// the router's model has it.
+/// A circuit of a router: its configuration, its adjacencies, its counters, and the boots that it
+/// remembers, for which room is taken when the first hello is heard (own). Contracts see it as the
+/// router's model has it.
 #[derive(Drop, Debug)]
 pub struct Circuit {
     metric: u32,
@@ -31,11 +32,12 @@ pub struct Circuit {
     pub(crate) one: Timers,
     pub(crate) two: Timers,
     pub(crate) hello: u8,
+    pub(crate) boots: Option<Boots>,
 }
 
 impl Model for Circuit {
     ghost use Rattle.isis_model.specs.Routers as model;
-    ghost use Rattle.router_circuits.specs.Views.{AreSized, heard_in, is_lan, levels_in, point_in};
+    ghost use Rattle.router_circuits.specs.Views.{AreSized, boots_in, heard_in, is_lan, levels_in, point_in};
 
     ghost Value = { model.Circuit };
 
@@ -48,6 +50,7 @@ impl Model for Circuit {
       point = point_in c.medium;
       levels = levels_in (heard_in c.medium) c.one c.two;
       hello = c.hello;
+      boots = boots_in c.boots;
     } };
 
     ghost invariant = { λ c. AreSized c.medium };
@@ -69,12 +72,23 @@ impl Circuit {
             one: QUIET,
             two: QUIET,
             hello: 0,
+            boots: None,
         })
     }
 
     /// An equal circuit.
     pub fn copy(&self) -> Result<Circuit, OutOfMemory>
         ensures { IfOk result (λ copy. copy ≡ self.now) }
+    {
+        let boots = copy_of_boots(&self.boots)?;
+        let mut copy = self.copy_without_boots()?;
+        copy.boots = boots;
+        Ok(copy)
+    }
+
+    /// A circuit that is equal but for the boots, of which it remembers none (own).
+    pub fn copy_without_boots(&self) -> Result<Circuit, OutOfMemory>
+        ensures { IfOk result (λ copy. copy ≡ record self.now { boots = [] }) }
     {
         let key = copy_of_key(&self.key)?;
         let medium = self.medium.copy()?;
@@ -87,7 +101,15 @@ impl Circuit {
             one: self.one,
             two: self.two,
             hello: self.hello,
+            boots: None,
         })
+    }
+
+    /// Takes the boots that another circuit remembers.
+    pub fn take_boots(&mut self, from: &mut Circuit)
+        ensures { self.new ≡ record self.old { boots = from.old.boots } }
+    {
+        self.boots = from.boots.take();
     }
 
     /// What always holds of a circuit. It does nothing.
@@ -189,6 +211,19 @@ const QUIET: Timers = Timers {
     psnp: 0,
     due: false,
 };
+
+/// Equal boots, where room for them was taken.
+fn copy_of_boots(boots: &Option<Boots>) -> Result<Option<Boots>, OutOfMemory>
+    ensures { IfOk result (λ copy. copy ≡ boots.now) }
+{
+    match boots {
+        None => Ok(None),
+        Some(boots) => {
+            let copy = boots.copy()?;
+            Ok(Some(copy))
+        }
+    }
+}
 
 /// An equal key, where there is one.
 fn copy_of_key(key: &Option<Octets>) -> Result<Option<Octets>, OutOfMemory>

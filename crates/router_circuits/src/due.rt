@@ -22,8 +22,16 @@ const CSNP: u8 = 10;
 const PSNP: u8 = 2;
 
 impl Circuit {
+    /// A second: of all counters, then of all holding times (ISO 10589 8.2.3, 8.2.5, 8.4.1, 8.4.2).
+    pub fn second(&mut self)
+        ensures { self.new ≡ seconds.circuit_less (seconds.counted self.old) }
+    {
+        self.count();
+        self.hold();
+    }
+
     /// A second of all counters.
-    pub fn count(&mut self)
+    fn count(&mut self)
         ensures { self.new ≡ seconds.counted self.old }
     {
         self.hello = self.hello.saturating_sub(1);
@@ -33,7 +41,7 @@ impl Circuit {
 
     /// A second of all holding times: where one ends, its neighbour goes and a hello is due (ISO
     /// 10589 8.2.5, 8.4.2).
-    pub fn hold(&mut self)
+    fn hold(&mut self)
         ensures { self.new ≡ seconds.circuit_less self.old }
     {
         if self.medium.second() {

@@ -6,6 +6,7 @@ ghost use Rattle.isis_model.specs.Adjacencies as model;
 ghost use Rattle.isis_model.specs.Both as both;
 ghost use Rattle.isis_model.specs.Configs.{Config};
 ghost use Rattle.isis_model.specs.HelloTests.{point_drop};
+ghost use Rattle.isis_model.specs.Hellos.{minded};
 ghost use Rattle.adjacency.specs.Changes.{IsTested};
 ghost use Rattle.adjacency.specs.Views.{neighbour_of, point_of, runs_of};
 ghost use Rattle.router_circuits.specs.Hellos.{IsGreeted, IsOwn, hello_of, is_change, is_coming_up, is_one};
@@ -13,7 +14,7 @@ ghost use Rattle.router_circuits.specs.Hellos.{IsGreeted, IsOwn, hello_of, is_ch
 use crate::adjacencies::is_change;
 use crate::greeted::Greeted;
 use crate::sizes::{hello_sizes, own_words};
-use adjacency::{AdjChange, HelloDrop, HelloFields, Neighbour, Own, P2pAdj};
+use adjacency::{AdjChange, Boots, HelloDrop, HelloFields, Neighbour, Own, P2pAdj};
 use designated_is::are_same_systems;
 use isis_base::{Level, LevelSet};
 use isis_tlv::Adj;
@@ -23,11 +24,14 @@ pub(crate) fn greet(
     point: &mut P2pAdj,
     own: &Own<'_>,
     hello: &HelloFields<'_>,
+    boots: &mut Boots,
 ) -> Result<Greeted, HelloDrop>
     ensures tested { (config : Config) → IsOwn config own.now
-        → IsTested result (point_drop config own.now.id (hello_of hello.now)) }
+        → IsTested result (point_drop config own.now.id boots.old (hello_of hello.now)) }
     ensures shaken { IfOk result (λ _. IsSome hello.now.three_way) }
     ensures unchanged { OnErr result (point.new ≡ point.old) }
+    ensures forgets { OnErr result (boots.new ≡ boots.old) }
+    ensures minded { IfOk result (λ _. boots.new ≡ minded boots.old (hello_of hello.now)) }
     ensures greeted { (config : Config) → IsOwn config own.now
         → IfOk result (λ greeted. IfSome (hello_of hello.now).handshake (λ shake.
         IsGreeted (point_of point.old) (point_of point.new)
@@ -36,7 +40,7 @@ pub(crate) fn greet(
     own_words(own);
     hello_sizes(hello);
     let old = *point;
-    let change = match point.hear_hello(own, hello) {
+    let change = match point.hear_hello(own, hello, boots) {
         Ok(change) => change,
         Err(refused) => return Err(refused),
     };
@@ -104,7 +108,7 @@ fn has(levels: LevelSet, level: Level) -> bool
     }
 }
 
-/// Whether two neighbours are one: by system, extended circuit ID and levels in common.
+/// Whether two neighbours are one: by system, extended circuit ID, boot number and levels in common.
 fn are_one(a: Option<Neighbour>, b: Option<Neighbour>) -> bool
     ensures { result ≡ is_one (option_map neighbour_of a) (option_map neighbour_of b) }
 {
@@ -112,6 +116,7 @@ fn are_one(a: Option<Neighbour>, b: Option<Neighbour>) -> bool
         (Some(a), Some(b)) => {
             are_same_systems(a.system, b.system)
                 && a.id == b.id
+                && a.boot == b.boot
                 && are_same_levels(a.levels, b.levels)
         }
         _ => false,

@@ -9,7 +9,7 @@ ghost use Rattle.isis_model.specs.Maps.{find};
 ghost use Rattle.adjacency.specs.Changes.{IsTested};
 ghost use Rattle.adjacency.specs.Lans as lans;
 ghost use Rattle.router_circuits.specs.Hellos.{hello_of, IsGreeted, IsOwn, with_due};
-ghost use Rattle.router_circuits.specs.Views.{AllSized, AreSized, heard_in, is_lan, point_in};
+ghost use Rattle.router_circuits.specs.Views.{AllSized, AreSized, boots_in, heard_in, is_lan, point_in};
 
 use crate::adjacencies::is_change;
 use crate::circuit::Circuit;
@@ -18,73 +18,109 @@ use crate::greeting::greet;
 use crate::medium::Medium;
 use crate::sizes::{hello_sizes, own_words};
 use crate::timers::Timers;
-use adjacency::{HelloDrop, HelloFields, LanAdj, Own};
-use isis_base::Level;
+use adjacency::{Boots, HelloDrop, HelloFields, LanAdj, Own};
+use isis_base::{Level, OutOfMemory};
+use std::alloc::Global;
 
 impl Circuit {
     /// Takes a hello on a point-to-point circuit (ISO 10589 8.2.4, RFC 5303 3.2). The first test
     /// that fails refuses it, and the circuit is as before. Else: whether it isn't from the
-    /// neighbour that was kept, for then the circuit closes first.
-    pub fn hear_point(&mut self, own: &Own<'_>, hello: &HelloFields<'_>) -> Result<bool, HelloDrop>
+    /// neighbour that was kept, for then the circuit closes first. At `OutOfMemory`, where it is the
+    /// first hello and there is no room for boots, the circuit is as before too.
+    pub fn hear_point(
+        &mut self,
+        alloc: Global,
+        own: &Own<'_>,
+        hello: &HelloFields<'_>,
+    ) -> Result<Result<bool, HelloDrop>, OutOfMemory>
         requires { self.old.lan ≡ false }
         ensures kind { self.new.lan ≡ false }
-        ensures tested { (config : Config) → IsOwn config own.now
-            → IsTested result (point_drop config own.now.id (hello_of hello.now)) }
-        ensures shaken { IfOk result (λ _. IsSome hello.now.three_way) }
-        ensures unchanged { OnErr result (self.new ≡ self.old) }
-        ensures heard { (config : Config) → IsOwn config own.now
-            → IfOk result (λ _. IfSome (hello_of hello.now).handshake (λ shake.
+        ensures tested { (config : Config) → IsOwn config own.now → IfOk result (λ heard.
+            IsTested heard (point_drop config own.now.id self.old.boots (hello_of hello.now))) }
+        ensures shaken { IfOk result (λ heard. IfOk heard (λ _. IsSome hello.now.three_way)) }
+        ensures unchanged { IfOk result (λ heard. OnErr heard (self.new ≡ self.old)) }
+        ensures heard { (config : Config) → IsOwn config own.now → IfOk result (λ heard.
+            IfOk heard (λ _. IfSome (hello_of hello.now).handshake (λ shake.
             self.new ≡ hellos.point_circuit self.old (model.common_of config (hello_of hello.now))
-            (hello_of hello.now) shake)) }
-        ensures anew { (config : Config) → IsOwn config own.now
-            → IfOk result (λ anew. IfSome (hello_of hello.now).handshake (λ shake.
+            (hello_of hello.now) shake))) }
+        ensures anew { (config : Config) → IsOwn config own.now → IfOk result (λ heard.
+            IfOk heard (λ anew. IfSome (hello_of hello.now).handshake (λ shake.
             anew ≡ not (model.is_same self.old.point.neighbour
-            (model.common_of config (hello_of hello.now)) (hello_of hello.now) shake.extended))) }
+            (model.common_of config (hello_of hello.now)) (hello_of hello.now) shake.extended)))) }
+        ensures err { OnErr result (self.new ≡ self.old) }
     {
-        let greeted = match self.medium.hear_point(own, hello) {
+        let mut boots = boots_of(alloc, &mut self.boots)?;
+        let heard = self.medium.hear_point(own, hello, &mut boots);
+        self.boots = Some(boots);
+        let greeted = match heard {
             Ok(greeted) => greeted,
-            Err(refused) => return Err(refused),
+            Err(refused) => return Ok(Err(refused)),
         };
         self.hello = due_or(greeted.moved, self.hello);
         self.one = with_due(self.one, greeted.one);
         self.two = with_due(self.two, greeted.two);
-        Ok(greeted.anew)
+        Ok(Ok(greeted.anew))
     }
 
     /// Takes a hello of a level on a LAN (ISO 10589 8.4.2). The first test that fails refuses it,
-    /// and the circuit is as before.
+    /// and the circuit is as before. At `OutOfMemory`, where it is the first hello and there is no
+    /// room for boots, the circuit is as before too.
     pub fn hear_lan(
         &mut self,
+        alloc: Global,
         own: &Own<'_>,
         level: Level,
         hello: &HelloFields<'_>,
-    ) -> Result<(), HelloDrop>
+    ) -> Result<Result<(), HelloDrop>, OutOfMemory>
         requires { self.old.lan ≡ true }
         ensures kind { self.new.lan ≡ true }
-        ensures tested { (config : Config) → IsOwn config own.now → IsTested result
-            (lan_drop config level (at self.old.levels level).heard (hello_of hello.now)) }
-        ensures unchanged { OnErr result (self.new ≡ self.old) }
-        ensures heard { (config : Config) → IsOwn config own.now → IfOk result (λ _. self.new
-            ≡ hellos.lan_circuit self.old level
-            (alone level (model.common_of config (hello_of hello.now))) (hello_of hello.now)) }
+        ensures tested { (config : Config) → IsOwn config own.now → IfOk result (λ heard.
+            IsTested heard (lan_drop config level self.old.boots (at self.old.levels level).heard
+            (hello_of hello.now))) }
+        ensures unchanged { IfOk result (λ heard. OnErr heard (self.new ≡ self.old)) }
+        ensures heard { (config : Config) → IsOwn config own.now → IfOk result (λ heard.
+            IfOk heard (λ _. self.new ≡ hellos.lan_circuit self.old level
+            (alone level (model.common_of config (hello_of hello.now))) (hello_of hello.now))) }
+        ensures err { OnErr result (self.new ≡ self.old) }
     {
-        let due = match self.medium.hear_lan(own, level, hello) {
+        let mut boots = boots_of(alloc, &mut self.boots)?;
+        let heard = self.medium.hear_lan(own, level, hello, &mut boots);
+        self.boots = Some(boots);
+        let due = match heard {
             Ok(due) => due,
-            Err(refused) => return Err(refused),
+            Err(refused) => return Ok(Err(refused)),
         };
         self.hello = due_or(due, self.hello);
-        Ok(())
+        Ok(Ok(()))
+    }
+}
+
+/// The boots that are remembered, taken out, or else the room for them.
+fn boots_of(alloc: Global, boots: &mut Option<Boots>) -> Result<Boots, OutOfMemory>
+    ensures taken { IfOk result (λ taken. taken ≡ boots_in boots.old) }
+    ensures err { OnErr result (boots_in boots.new ≡ boots_in boots.old) }
+{
+    match boots.take() {
+        Some(boots) => Ok(boots),
+        None => Boots::new(alloc),
     }
 }
 
 impl Medium {
     /// Takes a hello on a point-to-point circuit.
-    fn hear_point(&mut self, own: &Own<'_>, hello: &HelloFields<'_>) -> Result<Greeted, HelloDrop>
+    fn hear_point(
+        &mut self,
+        own: &Own<'_>,
+        hello: &HelloFields<'_>,
+        boots: &mut Boots,
+    ) -> Result<Greeted, HelloDrop>
         requires { is_lan self.old ≡ false }
         ensures tested { (config : Config) → IsOwn config own.now
-            → IsTested result (point_drop config own.now.id (hello_of hello.now)) }
+            → IsTested result (point_drop config own.now.id boots.old (hello_of hello.now)) }
         ensures shaken { IfOk result (λ _. IsSome hello.now.three_way) }
         ensures unchanged { OnErr result (self.new ≡ self.old) }
+        ensures forgets { OnErr result (boots.new ≡ boots.old) }
+        ensures minded { IfOk result (λ _. boots.new ≡ hellos.minded boots.old (hello_of hello.now)) }
         ensures lan { is_lan self.new ≡ false }
         ensures greeted { (config : Config) → IsOwn config own.now
             → IfOk result (λ greeted. IfSome (hello_of hello.now).handshake (λ shake.
@@ -92,7 +128,7 @@ impl Medium {
             (model.common_of config (hello_of hello.now)) (hello_of hello.now) shake greeted)) }
     {
         match self {
-            Medium::Point(point) => greet(point, own, hello),
+            Medium::Point(point) => greet(point, own, hello, boots),
             Medium::Lan(_, _) => unreachable!(),
         }
     }
@@ -103,12 +139,15 @@ impl Medium {
         own: &Own<'_>,
         level: Level,
         hello: &HelloFields<'_>,
+        boots: &mut Boots,
     ) -> Result<bool, HelloDrop>
         requires lan { is_lan self.old ≡ true }
         requires sized { AreSized self.old }
         ensures tested { (config : Config) → IsOwn config own.now → IsTested result
-            (lan_drop config level (at (heard_in self.old) level) (hello_of hello.now)) }
+            (lan_drop config level boots.old (at (heard_in self.old) level) (hello_of hello.now)) }
         ensures unchanged { OnErr result (self.new ≡ self.old) }
+        ensures forgets { OnErr result (boots.new ≡ boots.old) }
+        ensures minded { IfOk result (λ _. boots.new ≡ hellos.minded boots.old (hello_of hello.now)) }
         ensures lan { is_lan self.new ≡ true }
         ensures heard { (config : Config) → IsOwn config own.now
             → IfOk result (λ _. heard_in self.new ≡ with_at (heard_in self.old) level
@@ -116,14 +155,14 @@ impl Medium {
             (alone level (model.common_of config (hello_of hello.now))) (hello_of hello.now))) }
         ensures due { IfOk result (λ due. due ≡ not (hellos.seen_so
             (find (at (heard_in self.old) level) (hello_of hello.now).snpa)
-            hello.now.names_me)) }
+            hello.now.boot hello.now.names_me)) }
         ensures sized { AreSized self.new }
     {
         match self {
             Medium::Point(_) => unreachable!(),
             Medium::Lan(one, two) => match level {
-                Level::One => hear(one, own, level, hello),
-                Level::Two => hear(two, own, level, hello),
+                Level::One => hear(one, own, level, hello, boots),
+                Level::Two => hear(two, own, level, hello, boots),
             },
         }
     }
@@ -135,20 +174,23 @@ fn hear(
     own: &Own<'_>,
     level: Level,
     hello: &HelloFields<'_>,
+    boots: &mut Boots,
 ) -> Result<bool, HelloDrop>
     ensures tested { (config : Config) → IsOwn config own.now
-        → IsTested result (lan_drop config level lan.old (hello_of hello.now)) }
+        → IsTested result (lan_drop config level boots.old lan.old (hello_of hello.now)) }
     ensures unchanged { OnErr result (lan.new ≡ lan.old) }
+    ensures forgets { OnErr result (boots.new ≡ boots.old) }
+    ensures minded { IfOk result (λ _. boots.new ≡ hellos.minded boots.old (hello_of hello.now)) }
     ensures heard { (config : Config) → IsOwn config own.now
         → IfOk result (λ _. lan.new ≡ lans.hear_lan lan.old
         (alone level (model.common_of config (hello_of hello.now))) (hello_of hello.now)) }
     ensures due { IfOk result (λ due. due ≡ not (hellos.seen_so
-        (find lan.old (hello_of hello.now).snpa) hello.now.names_me)) }
+        (find lan.old (hello_of hello.now).snpa) hello.now.boot hello.now.names_me)) }
     ensures sized { AllSized lan.old → AllSized lan.new }
 {
     own_words(own);
     hello_sizes(hello);
-    match lan.hear_hello(own, level, hello) {
+    match lan.hear_hello(own, level, hello, boots) {
         Ok(change) => Ok(is_change(change)),
         Err(refused) => Err(refused),
     }

@@ -316,11 +316,11 @@ taken-counts : (given : Given) (r : Router) (place : ℕ) (c : Circuit) (m : Mes
 taken-counts given r place c (Refused cause) calm = counts-refl r
 taken-counts given r place c (PointHelloHeard h) calm = point-counts r place c h h.handshake
 taken-counts given r place c (LanHelloHeard l h) calm = lan-counts r place c l h
-taken-counts given r place c (LspHeard l snpa h) calm =
+taken-counts given r place c (LspHeard l from h) calm =
     let state = level_of r l in
     let w = whose_of r.config.system state h.id in
     level-counts r l (take_lsp (scene_of given r l) state place w h) (lsp-changes (scene_of given r l) state place w h calm)
-taken-counts given r place c (SnpHeard l snpa source range entries) calm =
+taken-counts given r place c (SnpHeard l from source range entries) calm =
     level-counts r l (take_snp (scene_of given r l) (level_of r l) r.config.system place range entries) (snp-changes (scene_of given r l) (level_of r l) r.config.system place range entries calm)
 
 drop-counts : (given : Given) (r : Router) (place : ℕ) (c : Circuit) (m : Message) (o : Option DropName) → (is_some o ≡ true) ⊎ IsCalmMessage r m → Counts r (take_or_drop given r place c m o).router

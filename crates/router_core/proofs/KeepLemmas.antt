@@ -32,7 +32,7 @@ use Rattle.isis_model.specs.Receiving.{scene_of, greeted, taken, take_or_drop, t
 use Rattle.isis_model.specs.Steps.{sent_all, step}
 use Rattle.isis_model.proofs.BookLemmas.{choose}
 use Rattle.adjacency.specs.Lans.{neighbours}
-use Rattle.router_core.specs.Seconds.{later}
+use Rattle.router_core.specs.Seconds.{bare_later}
 use Rattle.router_core.specs.Calm.{is_calm_row, is_calm_entry, AreClear, IsCalmMessage, IsCalm}
 use Rattle.router_core.proofs.CalmLemmas.{take-face, clear-face}
 use Rattle.router_core.proofs.IdleLemmas.{nth-with}
@@ -182,7 +182,7 @@ length-heard [] = refl
 length-heard (p ∷ heard) = ap suc (length-heard heard)
 
 -- one circuit a second later
-pub later-face : (c d : Circuit) → d ≡ later c → point_face d.point ≡ point_face c.point → length d.levels.one.heard ≡ length c.levels.one.heard → length d.levels.two.heard ≡ length c.levels.two.heard → face d ≡ face c
+pub later-face : (c d : Circuit) → d ≡ bare_later c → point_face d.point ≡ point_face c.point → length d.levels.one.heard ≡ length c.levels.one.heard → length d.levels.two.heard ≡ length c.levels.two.heard → face d ≡ face c
 later-face c d is p one two =
     let heard-one : heard_face d.levels.one.heard ≡ heard_face c.levels.one.heard =
     subst (λ (x : Circuit). length x.levels.one.heard ≡ length c.levels.one.heard → heard_face x.levels.one.heard ≡ heard_face c.levels.one.heard) (sym is) (heard-less-face c.levels.one.heard) one in
@@ -290,11 +290,11 @@ taken-keeps : (given : Given) (r : Router) (place : ℕ) (c : Circuit) (m : Mess
 taken-keeps given r place c (Refused cause) calm aside = keeps-refl r
 taken-keeps given r place c (PointHelloHeard h) calm aside = absurd aside
 taken-keeps given r place c (LanHelloHeard l h) calm aside = absurd aside
-taken-keeps given r place c (LspHeard l snpa h) calm aside =
+taken-keeps given r place c (LspHeard l from h) calm aside =
     let state = level_of r l in
     let w = whose_of r.config.system state h.id in
     keeps-level r l (take_lsp (scene_of given r l) state place w h) (take-own (scene_of given r l) state place w h calm)
-taken-keeps given r place c (SnpHeard l snpa source range entries) calm aside =
+taken-keeps given r place c (SnpHeard l from source range entries) calm aside =
     keeps-level r l (take_snp (scene_of given r l) (level_of r l) r.config.system place range entries) (snp-own (scene_of given r l) (level_of r l) r.config.system place range entries calm)
 
 drop-keeps : (given : Given) (r : Router) (place : ℕ) (c : Circuit) (m : Message) (o : Option DropName) → (is_some o ≡ true) ⊎ IsCalmMessage r m → IsNoHello m → Keeps r (take_or_drop given r place c m o).router
@@ -361,8 +361,8 @@ hello-keeps-own given r (Take place (PointHelloHeard h)) is e = of (nth r.circui
     of None n e = keeps-refl r
     of (Some c) n e = by-drop c (drop_of r place c (PointHelloHeard h)) n e
 hello-keeps-own given r (Take place (LanHelloHeard l h)) is e = absurd is
-hello-keeps-own given r (Take place (LspHeard l snpa h)) is e = absurd is
-hello-keeps-own given r (Take place (SnpHeard l snpa source range entries)) is e = absurd is
+hello-keeps-own given r (Take place (LspHeard l from h)) is e = absurd is
+hello-keeps-own given r (Take place (SnpHeard l from source range entries)) is e = absurd is
 hello-keeps-own given r (Pull place) is e = absurd is
 hello-keeps-own given r (Metric place metric) is e = absurd is
 hello-keeps-own given r (Overload on) is e = absurd is

@@ -25,7 +25,7 @@ use Rattle.isis_model.specs.Takes.{Scene, whose_of, lsp_taken, take_lsp}
 use Rattle.isis_model.specs.Routers.{Circuit, LevelState, Router, book_of, level_of, with_level}
 use Rattle.isis_model.specs.Givens.{Given}
 use Rattle.isis_model.specs.Receiving.{scene_of, lsp_drop, taken}
-use Rattle.isis_model.specs.Events.{Event, LspHeard, Take, Outcome, settled}
+use Rattle.isis_model.specs.Events.{Envelope, Event, LspHeard, Take, Outcome, settled}
 use Rattle.isis_model.specs.Steps.{step}
 use Rattle.isis_model.specs.Maps as model
 use Rattle.isis_model.specs.Numbers.{system_id}
@@ -305,14 +305,14 @@ settled-stored : (r : Router) (o : Outcome) (l : Level) (place : ℕ) (h : Heard
 settled-stored r o level.One place h s = record { cells = s.cells; other = s.other }
 settled-stored r o level.Two place h s = record { cells = s.cells; other = s.other }
 
-pub step-stored : (given : Given) (r : Router) (place : ℕ) (l : Level) (snpa : ℕ) (h : Heard) (c : Circuit) → nth r.circuits place ≡ Some c → lsp_drop r place c l snpa h ≡ None → met (book_of r l) (whose_of r.config.system (level_of r l) h.id) h ≡ lsp.Stored → IsStored r (step given r (Take place (LspHeard l snpa h))).router l place h
+pub step-stored : (given : Given) (r : Router) (place : ℕ) (l : Level) (from : Envelope) (h : Heard) (c : Circuit) → nth r.circuits place ≡ Some c → lsp_drop r place c l from h ≡ None → met (book_of r l) (whose_of r.config.system (level_of r l) h.id) h ≡ lsp.Stored → IsStored r (step given r (Take place (LspHeard l from h))).router l place h
 unfolding step
-step-stored given r place l snpa h c there kept met =
+step-stored given r place l from h c there kept met =
     let state = level_of r l in
     let w = whose_of r.config.system state h.id in
     let book = stored-book (scene_of given r l) state place w h met in
     let after = stored-level r l place h (take_lsp (scene_of given r l) state place w h) book in
-    rw (there, kept) (settled-stored r (taken given r place c (LspHeard l snpa h)) l place h after)
+    rw (there, kept) (settled-stored r (taken given r place c (LspHeard l from h)) l place h after)
 
 -- ---- what routes look at
 
@@ -361,14 +361,14 @@ stored-tells book place h e key flags octets = record {
     live : is_live h.rank ≡ store.is_live e
     live = ap is_live (sym key) ∙ live-is e.key
 
-module _ (r : Router) (place : ℕ) (l : Level) (snpa : ℕ) (lsp_in : heard.LspHeard) (c : Circuit) (v : BookState) (e : Entry)
-    (there : nth r.circuits place ≡ Some c) (kept : lsp_drop r place c l snpa (heard_of lsp_in) ≡ None)
+module _ (r : Router) (place : ℕ) (l : Level) (from : Envelope) (lsp_in : heard.LspHeard) (c : Circuit) (v : BookState) (e : Entry)
+    (there : nth r.circuits place ≡ Some c) (kept : lsp_drop r place c l from (heard_of lsp_in) ≡ None)
     (row : met (book_of r l) (whose_of r.config.system (level_of r l) (lsp_number lsp_in.entry.id)) (heard_of lsp_in) ≡ lsp.Stored)
     (runs : at r.config.runs l ≡ true) (of_book : sync.book_of v ≡ book_of r l) (long : length v.rows ≡ length v.store.entries)
     (is : IsId lsp_in.entry.id) (ids : AllByRecursion (λ (p : LspId × Entry). IsId p.0) v.store.entries) (rises : RisesFrom 0 v.store.entries)
     (key : rank e.key ≡ entry_rank lsp_in.entry) (flags : e.flags ≡ lsp_in.flags) (octets : e.octets ≡ lsp_in.octets.now) where
   abbrev pub event-of : Event
-  event-of = Take place (LspHeard l snpa (heard_of lsp_in))
+  event-of = Take place (LspHeard l from (heard_of lsp_in))
 
   abbrev id : LspId
   id = lsp_in.entry.id
@@ -380,7 +380,7 @@ module _ (r : Router) (place : ℕ) (l : Level) (snpa : ℕ) (lsp_in : heard.Lsp
       let entries = v.store.entries in
       let cell = stored (book_of r l) place h in
       let tells = stored-tells (book_of r l) place h e key flags octets in
-      let s = step-stored given r place l snpa h c there kept row in
+      let s = step-stored given r place l from h c there kept row in
       let cells : (book_of r l).cells ≡ cells_of entries v.rows = ap (λ (b : Book). b.cells) (sym of_book) in
       let later : told_by (book_of t l).cells ≡ told_in (put entries id e) =
       ap told_by s.cells ∙ ap (λ (m : List (ℕ × Cell)). told_by (model.put m (lsp_number id) cell)) cells ∙ put-told id cell e entries v.rows is tells long ids in

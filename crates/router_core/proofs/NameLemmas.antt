@@ -17,7 +17,7 @@ use Rattle.isis_pdu.specs.Layout.{length_at, body_at, value_at}
 use Rattle.isis_pdu.specs.Table as table
 use Rattle.isis_model.specs.Configs.{Config}
 use Rattle.isis_model.specs.Routers.{Circuit}
-use Rattle.isis_model.specs.Events.{Message, Refused, PointHelloHeard, LanHelloHeard, LspHeard, SnpHeard}
+use Rattle.isis_model.specs.Events.{Envelope, Message, Refused, PointHelloHeard, LanHelloHeard, LspHeard, SnpHeard}
 use Rattle.isis_model.specs.Numbers.{u48_of}
 use Rattle.isis_datagram.specs.Values.{items_if, items_in, handshakes_in, first_handshake}
 use Rattle.isis_datagram.specs.Tests.{first_failing, tests_of}
@@ -29,8 +29,8 @@ abbrev pub HasNames : Message → Type 0
 HasNames (Refused cause) = Unit {0}
 HasNames (PointHelloHeard h) = (h.source < 2 ^ 48) × IfSome h.handshake (λ s. s.extended < 2 ^ 32)
 HasNames (LanHelloHeard l h) = Unit {0}
-HasNames (LspHeard l snpa h) = Unit {0}
-HasNames (SnpHeard l snpa source range entries) = Unit {0}
+HasNames (LspHeard l from h) = Unit {0}
+HasNames (SnpHeard l from source range entries) = Unit {0}
 
 six-small : (octets : List ℕ) → Small octets → u48_of octets < 2 ^ 48
 six-small octets small =
@@ -95,17 +95,17 @@ first-shake [] all = tt
 first-shake (Ok value ∷ items) all = all.0
 first-shake (Err fault ∷ items) all = tt
 
-names-value : (by : Config) (on : Circuit) (snpa : ℕ) (octets : List ℕ) (kind : PduKind) → Small octets → table.first_fault octets ≡ None → kind_at octets ≡ Some kind → first_failing (tests_of by on (value_at kind octets (body_at kind octets (length_at kind octets))) (take (length_at kind octets) octets)) ≡ None → HasNames (message by.system snpa (value_at kind octets (body_at kind octets (length_at kind octets))) (take (length_at kind octets) octets))
-names-value by on snpa octets (kind.LanHello level) small faultless known none = tt
-names-value by on snpa octets kind.PointHello small faultless known none =
+names-value : (by : Config) (on : Circuit) (from : Envelope) (octets : List ℕ) (kind : PduKind) → Small octets → table.first_fault octets ≡ None → kind_at octets ≡ Some kind → first_failing (tests_of by on (value_at kind octets (body_at kind octets (length_at kind octets))) (take (length_at kind octets) octets)) ≡ None → HasNames (message by.system from (value_at kind octets (body_at kind octets (length_at kind octets))) (take (length_at kind octets) octets))
+names-value by on from octets (kind.LanHello level) small faultless known none = tt
+names-value by on from octets kind.PointHello small faultless known none =
     let its = kind.PointHello in
     let body = body_at its octets (length_at its octets) in (
       six-small (take 6 (drop 9 octets)) (small-take 6 (drop 9 octets) (small-drop 9 octets small)),
       first-shake (handshakes_in body) (shakes-small body (small-take (length_at its octets - 20) (drop 20 octets) (small-drop 20 octets small))),
     )
-names-value by on snpa octets (kind.Lsp level) small faultless known none = tt
-names-value by on snpa octets (kind.Csnp level) small faultless known none = tt
-names-value by on snpa octets (kind.Psnp level) small faultless known none = tt
+names-value by on from octets (kind.Lsp level) small faultless known none = tt
+names-value by on from octets (kind.Csnp level) small faultless known none = tt
+names-value by on from octets (kind.Psnp level) small faultless known none = tt
 
 pub names-read : (by : Config) (on : Circuit) (datagram : List ℕ) → Small datagram → HasNames (read by on datagram)
 names-read by on = of-read HasNames (λ cause. tt) by on (names-value by on)

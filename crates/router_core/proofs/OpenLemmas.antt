@@ -3,6 +3,7 @@ use Rattle.std.proofs.Common.{◌≡◌, ℕ, zero, suc, ◌-◌, ◌<◌, Bool,
 use Rattle.std.specs.Prelude.{slice_get}
 use Rattle.std.specs.Option.{IsSomeAnd}
 use Rattle.std.proofs.lemmas.Option.{slice_get-map}
+use Rattle.isis_model.specs.Events.{Envelope}
 use Rattle.isis_model.specs.Configs.{Config}
 use Rattle.isis_model.specs.Places.{nth}
 use Rattle.isis_model.specs.Routers.{Circuit}
@@ -23,12 +24,12 @@ point-kind : (b : Bool) → is_point (kind_of_circuit b) ≡ true → b ≡ fals
 point-kind true e = sym e
 point-kind false e = refl
 
-pdu-kind : (desk : DeskView) (c : Circuit) (own snpa : ℕ) (pdu : PduView) (octets : List ℕ) → AllHold (tests_of desk (desk_circuit c) pdu octets) → FitsKind c (message own snpa pdu octets)
-pdu-kind desk c own snpa (LanHello level circuit_type source holding priority lan tlvs) octets all = lan-kind c.lan all.1.0
-pdu-kind desk c own snpa (PointHello circuit_type source holding circuit tlvs) octets all = point-kind c.lan all.1.0
-pdu-kind desk c own snpa (Lsp level lifetime id number checksum flags tlvs) octets all = tt
-pdu-kind desk c own snpa (Csnp level source start end tlvs) octets all = tt
-pdu-kind desk c own snpa (Psnp level source tlvs) octets all = tt
+pdu-kind : (desk : DeskView) (c : Circuit) (own : ℕ) (from : Envelope) (pdu : PduView) (octets : List ℕ) → AllHold (tests_of desk (desk_circuit c) pdu octets) → FitsKind c (message own from pdu octets)
+pdu-kind desk c own from (LanHello level circuit_type source holding priority lan tlvs) octets all = lan-kind c.lan all.1.0
+pdu-kind desk c own from (PointHello circuit_type source holding circuit tlvs) octets all = point-kind c.lan all.1.0
+pdu-kind desk c own from (Lsp level lifetime id number checksum flags tlvs) octets all = tt
+pdu-kind desk c own from (Csnp level source start end tlvs) octets all = tt
+pdu-kind desk c own from (Psnp level source tlvs) octets all = tt
 
 nth-slice_get : {A : Type 0} (xs : List A) (place : ℕ) → slice_get xs place ≡ nth xs place
 nth-slice_get [] place = refl

@@ -9,7 +9,7 @@ use Rattle.spf_repair.specs.Changes.{RepairedOf}
 use Rattle.isis_base.specs.declared.prefix.Prefix as base
 use Rattle.isis_tlv.specs.Fits.{IsArea}
 use Rattle.isis_tlv.specs.Spelling.{area_value, area_octets}
-use Rattle.isis_model.specs.AdjacencyLaws.{Bond, Bonds, Same, Ends, Meets, no_bond, bond_of, bond_at}
+use Rattle.isis_model.specs.AdjacencyLaws.{Bond, Bonds, Same, Ends, Meets, no_bond, bond_of, bond_at, Tie, Hears, Learns}
 use Rattle.isis_model.specs.Both.{Both}
 use Rattle.isis_model.specs.Configs as model
 use Rattle.isis_model.specs.Events.{Message, Event, Second, Take, Pull, Metric, Overload, Prefix}
@@ -150,9 +150,11 @@ NamesEvent (Overload on) = Unit {0}
 NamesEvent (Prefix prefix metric) = Unit {0}
 
 names-after : (r : Router) (event : Event) (t : Router) (place : ℕ) → Bonds r event t place → NamesEvent event → IfSome (bond_at r place).names IsName → IfSome (bond_at t place).names IsName
-names-after r event t place (Same e) told h = subst (λ (b : Bond). IfSome b.names IsName) (sym e) h
-names-after r event t place (Ends e) told h = subst (λ (b : Bond). IfSome b.names IsName) (sym e) tt
-names-after r event t place (Meets h s state e k n apart up met covered) told old =
+names-after r event t place (Same e) told h = subst (λ (tie : Tie). IfSome tie.bond.names IsName) (sym e) h
+names-after r event t place (Ends e) told h = subst (λ (tie : Tie). IfSome tie.bond.names IsName) (sym e) tt
+names-after r event t place (Hears level h e minds bond boot) told old = subst (λ (b : Bond). IfSome b.names IsName) (sym bond) old
+names-after r event t place (Learns h s e k minds bond) told old = subst (λ (b : Bond). IfSome b.names IsName) (sym bond) tt
+names-after r event t place (Meets h s state e k n apart up minds boot met covered) told old =
     let heard : (h.source < 2 ^ 48) × IfSome h.handshake (λ s. s.extended < 2 ^ 32) = subst NamesEvent e told in
     subst (λ (b : Bond). IfSome b.names IsName) (sym met) (heard.0, from-some (λ s. s.extended < 2 ^ 32) h.handshake s k heard.1)
 

@@ -127,8 +127,8 @@ taken-rests : (given : Given) (r : Router) (place : ℕ) (c : Circuit) (m : Mess
 taken-rests given r place c (Refused cause) = record { config = refl; drops = refl }
 taken-rests given r place c (PointHelloHeard h) = let p = point-rests r place c h h.handshake in record { config = p.config; drops = p.drops }
 taken-rests given r place c (LanHelloHeard l h) = let p = lan-rests r place c l h in record { config = p.config; drops = p.drops }
-taken-rests given r place c (LspHeard l snpa h) = record { config = refl; drops = refl }
-taken-rests given r place c (SnpHeard l snpa source range entries) = record { config = refl; drops = refl }
+taken-rests given r place c (LspHeard l from h) = record { config = refl; drops = refl }
+taken-rests given r place c (SnpHeard l from source range entries) = record { config = refl; drops = refl }
 
 with-length : {A : Type 0} (xs : List A) (i : ℕ) (y : A) → length (with_nth xs i y) ≡ length xs
 with-length [] i y = refl

@@ -22,7 +22,9 @@ use Rattle.router_levels.specs.Views.{LevelView}
 use Rattle.router_desk.specs.Desks.{desk_circuit}
 use Rattle.router_core.specs.Givens.{given}
 use Rattle.router_core.specs.Machines.{IsFit}
-use Rattle.router_core.specs.Seconds.{later, follow_one, follow_first, level_later, later_or, IsMade}
+use Rattle.router_core.specs.Seconds.{bare_later, later, follow_one, follow_first, level_later, later_or, IsMade}
+use Rattle.router_core.specs.Settled.{face, faces}
+use Rattle.isis_model.specs.Ageing.{age}
 
 -- ---- lists whose first items are changed
 
@@ -120,22 +122,57 @@ take-whole (suc n) [] h = refl
 take-whole zero (x ∷ xs) h = absurd (omega (arith, h))
 take-whole (suc n) (x ∷ xs) h = ap (λ (ys : List _). x ∷ ys) (take-whole n xs (omega (arith, h)))
 
-pub later-all : (n : ℕ) (cs xs : List Circuit) → length cs ≤ n → xs ≡ map later (take n cs) → xs ≡ map later cs
-later-all n cs xs h e = e ∙ ap (λ (ys : List Circuit). map later ys) (take-whole n cs h)
+pub later-all : (n : ℕ) (cs xs : List Circuit) → length cs ≤ n → xs ≡ map bare_later (take n cs) → xs ≡ map bare_later cs
+later-all n cs xs h e = e ∙ ap (λ (ys : List Circuit). map bare_later ys) (take-whole n cs h)
 
-later-desk : (cs : List Circuit) → map desk_circuit (map later cs) ≡ map desk_circuit cs
+later-desk : (cs : List Circuit) → map desk_circuit (map bare_later cs) ≡ map desk_circuit cs
 later-desk [] = refl
 later-desk (c ∷ cs) = ap (λ (xs : List _). desk_circuit c ∷ xs) (later-desk cs)
 
-later-fit : (cs : List Circuit) → AllByRecursion IsFit cs → AllByRecursion IsFit (map later cs)
+later-fit : (cs : List Circuit) → AllByRecursion IsFit cs → AllByRecursion IsFit (map bare_later cs)
 later-fit [] a = tt
 later-fit (c ∷ cs) a = (record { metric = a.0.metric; priority = a.0.priority }, later-fit cs a.1)
 
-pub same-desk : (cs xs : List Circuit) → xs ≡ map later cs → map desk_circuit xs ≡ map desk_circuit cs
+pub same-desk : (cs xs : List Circuit) → xs ≡ map bare_later cs → map desk_circuit xs ≡ map desk_circuit cs
 same-desk cs xs e = ap (λ (ys : List Circuit). map desk_circuit ys) e ∙ later-desk cs
 
-pub same-fit : (cs xs : List Circuit) → xs ≡ map later cs → AllByRecursion IsFit cs → AllByRecursion IsFit xs
+pub same-fit : (cs xs : List Circuit) → xs ≡ map bare_later cs → AllByRecursion IsFit cs → AllByRecursion IsFit xs
 same-fit cs xs e a = subst (AllByRecursion IsFit) (sym e) (later-fit cs a)
+
+-- each is, by the same change
+pub changed-map-all : (g : Circuit → Circuit) (n : ℕ) (cs : List Circuit) → length cs ≤ n → changed (λ (_ : ℕ) (c : Circuit). g c) 0 n cs ≡ map g cs
+changed-map-all g n cs h = changed-most g 0 n cs h
+  where
+    changed-most : (g : Circuit → Circuit) (k n : ℕ) (cs : List Circuit) → length cs ≤ n → changed (λ (_ : ℕ) (c : Circuit). g c) k n cs ≡ map g cs
+    changed-most g k zero [] h = refl
+    changed-most g k (suc n) [] h = refl
+    changed-most g k zero (c ∷ cs) h = absurd (omega (arith, h))
+    changed-most g k (suc n) (c ∷ cs) h = ap (λ (xs : List Circuit). g c ∷ xs) (changed-most g (k + 1) n cs (omega (arith, h)))
+
+-- ---- boots, which neither own LSPs nor levels look at
+
+pub bare-faces : (cs : List Circuit) → faces (map bare_later cs) ≡ faces (map later cs)
+bare-faces [] = refl
+bare-faces (c ∷ cs) = ap (λ (xs : List Circuit). face (later c) ∷ xs) (bare-faces cs)
+
+bare-first : (s : LevelState) (l : Level) (cs : List Circuit) (n : ℕ) → follow_first s l (map bare_later cs) n ≡ follow_first s l (map later cs) n
+bare-first s l cs zero = refl
+bare-first s l cs (suc n) =
+    ap (λ (t : LevelState). follow_one t l n (nth (map bare_later cs) n)) (bare-first s l cs n)
+    ∙ (ap (λ (o : Option Circuit). follow_one first l n o) (nth-map bare_later cs n)
+    ∙ (of (nth cs n) ∙ ap (λ (o : Option Circuit). follow_one first l n o) (sym (nth-map later cs n))))
+  where
+    first : LevelState
+    first = follow_first s l (map later cs) n
+
+    of : (o : Option Circuit) → follow_one first l n (option_map bare_later o) ≡ follow_one first l n (option_map later o)
+    of None = refl
+    of (Some c) = refl
+
+bare-level : (s : LevelState) (l : Level) (cs : List Circuit) → level_later s l (map bare_later cs) ≡ level_later s l (map later cs)
+bare-level s l cs =
+    ap (λ (n : ℕ). age (follow_first (waited s) l (map bare_later cs) n)) (length-map bare_later cs ∙ sym (length-map later cs))
+    ∙ ap age (bare-first (waited s) l cs (length (map later cs)))
 
 -- ---- the router
 
@@ -201,12 +238,14 @@ second-is r one two circuits e f g =
 pub second-of : (r s : Router) (one two : LevelState) (circuits : List Circuit) → s ≡ r → circuits ≡ idle_all r.config 0 (map later r.circuits) → IsLater r level.One r.levels.one one → IsLater r level.Two r.levels.two two → record s { circuits = circuits; levels = record { one = one; two = two } } ≡ (settled (record { router = second given r; reply = Done })).router
 second-of r s one two circuits k e f g = ap (λ (q : Router). record q { circuits = circuits; levels = record { one = one; two = two } }) k ∙ second-is r one two circuits e f g
 
-later-with : (r : Router) (l : Level) (old new : LevelState) (cs : List Circuit) → cs ≡ map later r.circuits → ((q : Router) → q.config ≡ r.config → q.circuits ≡ cs → new ≡ renew given q l (level_later old l cs) (wanted given r q l)) → IsLater r l old new
-later-with r l old new cs e f q a b = f q a (b ∙ sym e) ∙ ap (λ (xs : List Circuit). renew given q l (level_later old l xs) (wanted given r q l)) e
-
--- a level that was made anew, or had its second in place
-pub later-part : (r : Router) (l : Level) (old : LevelState) (part : Option LevelView) (now new : LevelState) (cs ds : List Circuit) → now ≡ old → cs ≡ map later r.circuits → ds ≡ map later r.circuits → new ≡ later_or part (level_later now l ds) → ((q : Router) → q.config ≡ r.config → q.circuits ≡ cs → later_or part (level_later old l cs) ≡ renew given q l (level_later old l cs) (wanted given r q l)) → IsLater r l old new
-later-part r l old part now new cs ds k e d h f = later-with r l old new cs e (λ q a b. h ∙ (ap (λ (s : LevelState). later_or part (level_later s l ds)) k ∙ (ap (λ (xs : List Circuit). later_or part (level_later old l xs)) (d ∙ sym e) ∙ f q a b)))
+-- a level that was made anew, or had its second in place, by copies of the circuits
+pub later-part : (r : Router) (l : Level) (old : LevelState) (part : Option LevelView) (now new : LevelState) (cs ds : List Circuit) → now ≡ old → cs ≡ map bare_later r.circuits → ds ≡ map bare_later r.circuits → new ≡ later_or part (level_later now l ds) → ((q : Router) → q.config ≡ r.config → faces q.circuits ≡ faces cs → later_or part (level_later old l cs) ≡ renew given q l (level_later old l cs) (wanted given r q l)) → IsLater r l old new
+later-part r l old part now new cs ds k e d h f q a b =
+    h
+    ∙ (ap (λ (s : LevelState). later_or part (level_later s l ds)) k
+    ∙ (ap (λ (xs : List Circuit). later_or part (level_later old l xs)) (d ∙ sym e)
+    ∙ (f q a (ap faces b ∙ (sym (bare-faces r.circuits) ∙ ap faces (sym e)))
+    ∙ ap (λ (s : LevelState). renew given q l s (wanted given r q l)) (ap (λ (xs : List Circuit). level_later old l xs) e ∙ bare-level old l r.circuits))))
 
 pub same-count : (cs ds : List Circuit) → map desk_circuit cs ≡ map desk_circuit ds → length cs ≡ length ds
 same-count cs ds e = sym (length-map desk_circuit cs) ∙ (ap length e ∙ length-map desk_circuit ds)

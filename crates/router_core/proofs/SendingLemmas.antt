@@ -40,9 +40,10 @@ use Rattle.pdu_sender.specs.Sends.{Sends}
 use Rattle.router_core.specs.Sending.{config_of, circuit_of, octets_of, all_octets, MaySend, hellos_due, csnps_due, psnps_due, level_due, open_due, all_due}
 
 -- a sender sends for what its datagrams look at
-pub sends-here : (sender : Sender) → 1 ≤ sender.circuit → Sends sender (config_of sender) (sender.circuit - 1) (circuit_of sender)
+pub sends-here : (sender : Sender) → 1 ≤ sender.circuit → Sends sender (config_of sender) sender.boot (sender.circuit - 1) (circuit_of sender)
 sends-here sender h = record {
   system = refl;
+  boot = refl;
   runs = refl;
   areas = refl;
   area_key = refl;
@@ -55,13 +56,13 @@ sends-here sender h = record {
 
 -- ---- one datagram more
 
-pub put-one : {A E : Type 0} (r : Result A E) (new old : List (List ℕ)) (sender : Sender) (says : Sent) (octets : List ℕ) → octets ≡ datagram (config_of sender) (sender.circuit - 1) (circuit_of sender) says → OnOk r (new ≡ old ++ octets ∷ []) → OnOk r (new ≡ old ++ octets_of sender says ∷ [])
+pub put-one : {A E : Type 0} (r : Result A E) (new old : List (List ℕ)) (sender : Sender) (says : Sent) (octets : List ℕ) → octets ≡ datagram (config_of sender) sender.boot (sender.circuit - 1) (circuit_of sender) says → OnOk r (new ≡ old ++ octets ∷ []) → OnOk r (new ≡ old ++ octets_of sender says ∷ [])
 unfolding octets_of
 put-one (Ok v) new old sender says octets e h = h ∙ ap (λ (x : List ℕ). old ++ x ∷ []) e
 put-one (Err b) new old sender says octets e h = tt
 
 -- an LSP that is due
-pub due-one : {A E : Type 0} (r : Result A E) (new old : List (List ℕ)) (sender : Sender) (level : Level) (entry : Entry) (row : FlagRow) (octets : List ℕ) → srm_due (sender.circuit - 1) (cell_of entry row) ≡ true → ((id : ℕ) → octets ≡ datagram (config_of sender) (sender.circuit - 1) (circuit_of sender) (Lsp level id (cell_of entry row))) → OnOk r (new ≡ old ++ octets ∷ []) → OnOk r ((id : ℕ) (rest : List (ℕ × Cell)) → new ++ all_octets sender (due_lsps level (sender.circuit - 1) rest) ≡ old ++ all_octets sender (due_lsps level (sender.circuit - 1) ((id, cell_of entry row) ∷ rest)))
+pub due-one : {A E : Type 0} (r : Result A E) (new old : List (List ℕ)) (sender : Sender) (level : Level) (entry : Entry) (row : FlagRow) (octets : List ℕ) → srm_due (sender.circuit - 1) (cell_of entry row) ≡ true → ((id : ℕ) → octets ≡ datagram (config_of sender) sender.boot (sender.circuit - 1) (circuit_of sender) (Lsp level id (cell_of entry row))) → OnOk r (new ≡ old ++ octets ∷ []) → OnOk r ((id : ℕ) (rest : List (ℕ × Cell)) → new ++ all_octets sender (due_lsps level (sender.circuit - 1) rest) ≡ old ++ all_octets sender (due_lsps level (sender.circuit - 1) ((id, cell_of entry row) ∷ rest)))
 unfolding octets_of
 due-one (Err b) new old sender level entry row octets t e h = tt
 due-one (Ok v) new old sender level entry row octets t e h = λ id rest.
@@ -144,29 +145,29 @@ level-out (Ok v) sender config place c l book old a b new t e f g =
     ∙ ap (λ (k : Bool). old ++ all_octets sender (if k then level_due config place c l book else [])) (sym t))
 
 -- what a sender sends is what its router sends
-pub octets-same : (sender : Sender) (config : Config) (c : Circuit) (says : Sent) → Sends sender config (sender.circuit - 1) c → octets_of sender says ≡ datagram config (sender.circuit - 1) c says
+pub octets-same : (sender : Sender) (config : Config) (boot : ℕ) (c : Circuit) (says : Sent) → Sends sender config boot (sender.circuit - 1) c → octets_of sender says ≡ datagram config boot (sender.circuit - 1) c says
 unfolding octets_of pdu_octets
-octets-same sender config c (PointHello state extended names) s = rw (s.system, s.runs, s.areas, s.address, s.key) refl
-octets-same sender config c (LanHello l lan snpas) s = rw (s.system, s.runs, s.areas, s.priority, s.address, s.key) refl
-octets-same sender config c (Lsp level.One id cell) s = rw (s.system, s.area_key) refl
-octets-same sender config c (Lsp level.Two id cell) s = rw (s.system, s.domain_key) refl
-octets-same sender config c (Csnp level.One start end entries) s = rw (s.system, s.area_key) refl
-octets-same sender config c (Csnp level.Two start end entries) s = rw (s.system, s.domain_key) refl
-octets-same sender config c (Psnp level.One entries) s = rw (s.system, s.area_key) refl
-octets-same sender config c (Psnp level.Two entries) s = rw (s.system, s.domain_key) refl
+octets-same sender config boot c (PointHello state extended names) s = rw (s.system, s.boot, s.runs, s.areas, s.address, s.key) refl
+octets-same sender config boot c (LanHello l lan snpas) s = rw (s.system, s.boot, s.runs, s.areas, s.priority, s.address, s.key) refl
+octets-same sender config boot c (Lsp level.One id cell) s = rw (s.system, s.boot, s.area_key) refl
+octets-same sender config boot c (Lsp level.Two id cell) s = rw (s.system, s.boot, s.domain_key) refl
+octets-same sender config boot c (Csnp level.One start end entries) s = rw (s.system, s.boot, s.area_key) refl
+octets-same sender config boot c (Csnp level.Two start end entries) s = rw (s.system, s.boot, s.domain_key) refl
+octets-same sender config boot c (Psnp level.One entries) s = rw (s.system, s.boot, s.area_key) refl
+octets-same sender config boot c (Psnp level.Two entries) s = rw (s.system, s.boot, s.domain_key) refl
 
-pub all-same-octets : (sender : Sender) (config : Config) (c : Circuit) (list : List Sent) → Sends sender config (sender.circuit - 1) c → all_octets sender list ≡ map (λ (says : Sent). datagram config (sender.circuit - 1) c says) list
-all-same-octets sender config c [] s = refl
-all-same-octets sender config c (says ∷ list) s = ap₂ (λ (x : List ℕ) (xs : List (List ℕ)). x ∷ xs) (octets-same sender config c says s) (all-same-octets sender config c list s)
+pub all-same-octets : (sender : Sender) (config : Config) (boot : ℕ) (c : Circuit) (list : List Sent) → Sends sender config boot (sender.circuit - 1) c → all_octets sender list ≡ map (λ (says : Sent). datagram config boot (sender.circuit - 1) c says) list
+all-same-octets sender config boot c [] s = refl
+all-same-octets sender config boot c (says ∷ list) s = ap₂ (λ (x : List ℕ) (xs : List (List ℕ)). x ∷ xs) (octets-same sender config boot c says s) (all-same-octets sender config boot c list s)
 
 -- all that is due
-pub all-out : (sender : Sender) (r : Router) (c : Circuit) (one two : Book) (nil a b out : List (List ℕ)) → Sends sender r.config (sender.circuit - 1) c → one ≡ routers.book_of r level.One → two ≡ routers.book_of r level.Two → nil ≡ [] → a ≡ nil ++ all_octets sender (hellos_due r (sender.circuit - 1) c) → b ≡ a ++ all_octets sender (open_due r.config (sender.circuit - 1) c level.One one) → out ≡ b ++ all_octets sender (open_due r.config (sender.circuit - 1) c level.Two two) → out ≡ map (λ (says : Sent). datagram r.config (sender.circuit - 1) c says) (all_due r (sender.circuit - 1) c)
+pub all-out : (sender : Sender) (r : Router) (c : Circuit) (one two : Book) (nil a b out : List (List ℕ)) → Sends sender r.config r.boot (sender.circuit - 1) c → one ≡ routers.book_of r level.One → two ≡ routers.book_of r level.Two → nil ≡ [] → a ≡ nil ++ all_octets sender (hellos_due r (sender.circuit - 1) c) → b ≡ a ++ all_octets sender (open_due r.config (sender.circuit - 1) c level.One one) → out ≡ b ++ all_octets sender (open_due r.config (sender.circuit - 1) c level.Two two) → out ≡ map (λ (says : Sent). datagram r.config r.boot (sender.circuit - 1) c says) (all_due r (sender.circuit - 1) c)
 all-out sender r c one two nil a b out s e f z g h i =
     two-lists sender a b out (open_due r.config place c level.One (routers.book_of r level.One)) (open_due r.config place c level.Two (routers.book_of r level.Two))
     (h ∙ ap (λ (k : Book). a ++ all_octets sender (open_due r.config place c level.One k)) e)
     (i ∙ ap (λ (k : Book). b ++ all_octets sender (open_due r.config place c level.Two k)) f)
     ∙ (ap (λ (xs : List (List ℕ)). xs ++ all_octets sender rest) (g ∙ ap (λ (xs : List (List ℕ)). xs ++ all_octets sender (hellos_due r place c)) z)
-    ∙ (sym (all-append sender (hellos_due r place c) rest) ∙ all-same-octets sender r.config c (all_due r place c) s))
+    ∙ (sym (all-append sender (hellos_due r place c) rest) ∙ all-same-octets sender r.config r.boot c (all_due r place c) s))
   where
     place : ℕ
     place = sender.circuit - 1

@@ -263,7 +263,7 @@ level-sent r out place l c n = of (has (book_of r l).opened place)
 
 -- the circuit after a pull, and what of the router stays
 pub data IsPulled (r : Router) (place : ℕ) (c : Circuit) (s : Router) : Type 0 where
-  Pulled : (one two : CircuitLevel) (hello : ℕ) → s.circuits ≡ with_nth r.circuits place (record c { levels = record { one = one; two = two }; hello = hello }) → s.config ≡ r.config → IsPulled r place c s
+  Pulled : (one two : CircuitLevel) (hello : ℕ) → s.circuits ≡ with_nth r.circuits place (record c { levels = record { one = one; two = two }; hello = hello }) → s.config ≡ r.config → s.boot ≡ r.boot → IsPulled r place c s
 
 -- what is sent, and what becomes of the router
 pub record IsSent (r : Router) (place : ℕ) (c : Circuit) : Type 0 where
@@ -330,6 +330,7 @@ all-sent r place c n = of (subst (λ (q : Router). IsPart q place level.One c1 s
             ∙ (ap (λ (cs : List Circuit). with_nth cs place (with_part c2 level.Two two)) (with-twice r.circuits place c1 c2)
             ∙ with-twice r.circuits place c2 (with_part c2 level.Two two))))
             (ap (λ (q : Router). q.config) f ∙ ap (λ (q : Router). q.config) e)
+            (ap (λ (q : Router). q.boot) f ∙ ap (λ (q : Router). q.boot) e)
 
 -- ---- the circuits stay as many
 
@@ -350,7 +351,7 @@ all-length r place h = on-there r.circuits place (λ o. length (after_all r plac
     (λ c n. of c (all-sent r place c n).pulled)
   where
     of : (c : Circuit) → IsPulled r place c (after_all r place) → length (after_all r place).circuits ≡ length r.circuits
-    of c (Pulled one two hello e k) = ap (λ (cs : List Circuit). length cs) e ∙ length-with r.circuits place (record c { levels = record { one = one; two = two }; hello = hello })
+    of c (Pulled one two hello e k b) = ap (λ (cs : List Circuit). length cs) e ∙ length-with r.circuits place (record c { levels = record { one = one; two = two }; hello = hello })
 
 -- ---- the router that was settled, and its datagrams
 
@@ -358,25 +359,25 @@ pub pulled-state : (r s t : Router) (place : ℕ) (c : Circuit) → AreIdle r �
 pulled-state r s t place c idles n e f = of (all-sent r place c n).pulled
   where
     of : IsPulled r place c (after_all r place) → t ≡ (settled (sent_all (pull r place))).router
-    of (Pulled one two hello g k) =
+    of (Pulled one two hello g k b) =
         settle-with r (after_all r place) t (Send (pull r place).out) place c (record c { levels = record { one = one; two = two }; hello = hello }) idles n g k
         (subst (λ (q : Router). IfSome (nth q.circuits place) (λ y. t ≡ with_circuit q place (idle q.config place y))) e f)
         ∙ ap (λ (q : Router). (settled (record { router = q; reply = Send (pull r place).out })).router) (sym (ap (λ (q : Sending). q.router) (all-sent r place c n).all))
 
 -- datagrams look at a circuit's priority, address and key alone
-same-says : (config other : Config) (place : ℕ) (c : Circuit) (one two : CircuitLevel) (hello : ℕ) (says : Sent) → datagram config place c says ≡ datagram config place (idle other place (record c { levels = record { one = one; two = two }; hello = hello })) says
+same-says : (config other : Config) (boot place : ℕ) (c : Circuit) (one two : CircuitLevel) (hello : ℕ) (says : Sent) → datagram config boot place c says ≡ datagram config boot place (idle other place (record c { levels = record { one = one; two = two }; hello = hello })) says
 unfolding pdu_octets
-same-says config other place c one two hello (PointHello state extended names) = refl
-same-says config other place c one two hello (LanHello l lan snpas) = refl
-same-says config other place c one two hello (Lsp l id cell) = refl
-same-says config other place c one two hello (Csnp l start end entries) = refl
-same-says config other place c one two hello (Psnp l entries) = refl
+same-says config other boot place c one two hello (PointHello state extended names) = refl
+same-says config other boot place c one two hello (LanHello l lan snpas) = refl
+same-says config other boot place c one two hello (Lsp l id cell) = refl
+same-says config other boot place c one two hello (Csnp l start end entries) = refl
+same-says config other boot place c one two hello (Psnp l entries) = refl
 
 map-same : {A B : Type 0} (f g : A → B) (xs : List A) → ((x : A) → f x ≡ g x) → map f xs ≡ map g xs
 map-same f g [] h = refl
 map-same f g (x ∷ xs) h = ap₂ (λ y ys. y ∷ ys) (h x) (map-same f g xs h)
 
-pub pulled-sent : (r s t : Router) (place : ℕ) (c : Circuit) (out : List (List ℕ)) → nth r.circuits place ≡ Some c → s ≡ after_all r place → IfSome (nth s.circuits place) (λ y. t ≡ with_circuit s place (idle s.config place y)) → out ≡ map (λ (says : Sent). datagram r.config place c says) (all_due r place c) → out ≡ datagrams_of t place (pull r place).out
+pub pulled-sent : (r s t : Router) (place : ℕ) (c : Circuit) (out : List (List ℕ)) → nth r.circuits place ≡ Some c → s ≡ after_all r place → IfSome (nth s.circuits place) (λ y. t ≡ with_circuit s place (idle s.config place y)) → out ≡ map (λ (says : Sent). datagram r.config r.boot place c says) (all_due r place c) → out ≡ datagrams_of t place (pull r place).out
 pulled-sent r s t place c out n e f d = of (all-sent r place c n).pulled
   where
     a : Router
@@ -386,12 +387,13 @@ pulled-sent r s t place c out n e f d = of (all-sent r place c n).pulled
     sent-is = ap (λ (q : Sending). q.out) (all-sent r place c n).all
 
     of : IsPulled r place c a → out ≡ datagrams_of t place (pull r place).out
-    of (Pulled one two hello g k) =
+    of (Pulled one two hello g k b) =
         d
-        ∙ (ap (λ (xs : List Sent). map (λ (says : Sent). datagram r.config place c says) xs) (sym sent-is)
-        ∙ (map-same (λ (says : Sent). datagram r.config place c says) (λ (says : Sent). datagram r.config place y says) (pull r place).out (λ says. same-says r.config a.config place c one two hello says)
-        ∙ (ap (λ (config : Config). map (λ (says : Sent). datagram config place y says) (pull r place).out) (sym config-is)
-        ∙ ap (λ (o : Option Circuit). datagrams_on t place o (pull r place).out) (sym last))))
+        ∙ (ap (λ (xs : List Sent). map (λ (says : Sent). datagram r.config r.boot place c says) xs) (sym sent-is)
+        ∙ (map-same (λ (says : Sent). datagram r.config r.boot place c says) (λ (says : Sent). datagram r.config r.boot place y says) (pull r place).out (λ says. same-says r.config a.config r.boot place c one two hello says)
+        ∙ (ap (λ (config : Config). map (λ (says : Sent). datagram config r.boot place y says) (pull r place).out) (sym config-is)
+        ∙ (ap (λ (boot : ℕ). map (λ (says : Sent). datagram t.config boot place y says) (pull r place).out) (sym boot-is)
+        ∙ ap (λ (o : Option Circuit). datagrams_on t place o (pull r place).out) (sym last)))))
       where
         x : Circuit
         x = record c { levels = record { one = one; two = two }; hello = hello }
@@ -408,6 +410,9 @@ pulled-sent r s t place c out n e f d = of (all-sent r place c n).pulled
 
         config-is : t.config ≡ r.config
         config-is = ap (λ (q : Router). q.config) t-is ∙ k
+
+        boot-is : t.boot ≡ r.boot
+        boot-is = ap (λ (q : Router). q.boot) t-is ∙ b
 
         last : nth t.circuits place ≡ Some y
         last = ap (λ (q : Router). nth q.circuits place) t-is ∙ nth-with a.circuits place x y here

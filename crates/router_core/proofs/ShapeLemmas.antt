@@ -12,7 +12,7 @@ use Rattle.isis_model.specs.Drops.{or_else}
 use Rattle.isis_model.specs.Routers.{Circuit, Router, with_circuit}
 use Rattle.isis_model.specs.Adjacencies.{Hello, Handshake, common_of}
 use Rattle.isis_model.specs.Hellos.{point_circuit}
-use Rattle.isis_model.specs.HelloTests.{point_drop, hello_drop, shake_drop}
+use Rattle.isis_model.specs.HelloTests.{point_drop, hello_drop, shake_drop, full_drop}
 
 -- a configuration of these, and nothing else
 abbrev pub bare : ℕ → List (List ℕ) → Both Bool → Config
@@ -46,16 +46,23 @@ point-at (Err b) o f g xs i x y h e p q = p
 point-at (Ok v) None f g xs i x y h e p q = at-place (λ c ys. IfSome None (λ s. (ys ≡ with_nth xs i (f c s)) × (v ≡ g c s))) xs i x y h e p
 point-at (Ok v) (Some s) f g xs i x y h e p q = at-place (λ c ys. (ys ≡ with_nth xs i (f c s)) × (v ≡ g c s)) xs i x y h e (ap (λ (z : _). with_nth xs i z) p, q)
 
--- a hello that was taken has a handshake
-pub has-shake : (a : Option DropName) (cause : DropName) → or_else a (Some cause) ≡ None → ⊥
-has-shake None cause e = cc
-has-shake (Some b) cause e = cc
+-- what holds of an item at a place, which is named in another way
+pub here-holds : {A : Type 0} (P : A → Type 0) (xs : List A) (i j : ℕ) → i ≡ j → (x : A) → i < length xs → x ≡ get_or xs i x → P x → IfSome (nth xs j) P
+here-holds P xs i j k x h e p = subst (λ (n : ℕ). IfSome (nth xs n) P) k (at-place (λ c _. P c) xs i x x h e p)
 
-pub point-keeps : (P : Circuit → Type 0) (config : Config) (extended : ℕ) (h : Hello) (common : Both Bool) (x y : Circuit) → point_drop config extended h ≡ None → IfSome h.handshake (λ s. y ≡ point_circuit x common h s) → ((s : Handshake) → y ≡ point_circuit x common h s → P y) → P y
-point-keeps P config extended h common x y t k f = of h.handshake t k
+-- a hello that was taken has a handshake
+pub has-shake : (a : Option DropName) (cause : DropName) (b : Option DropName) → or_else (or_else a (Some cause)) b ≡ None → ⊥
+has-shake None cause b e = cc
+has-shake (Some a) cause b e = cc
+
+pub point-keeps : (P : Circuit → Type 0) (config : Config) (extended : ℕ) (boots : List (ℕ × ℕ)) (h : Hello) (common : Both Bool) (x y : Circuit) → point_drop config extended boots h ≡ None → IfSome h.handshake (λ s. y ≡ point_circuit x common h s) → ((s : Handshake) → y ≡ point_circuit x common h s → P y) → P y
+point-keeps P config extended boots h common x y t k f = of h.handshake t k
   where
-    of : (o : Option Handshake) → or_else (hello_drop config (common_of config h) (config.runs.one && h.runs.one) h) (shake_drop config extended o) ≡ None → IfSome o (λ s. y ≡ point_circuit x common h s) → P y
-    of None e s = absurd (has-shake (hello_drop config (common_of config h) (config.runs.one && h.runs.one) h) NoThreeWay e)
+    tests : Option DropName
+    tests = hello_drop config boots (common_of config h) (config.runs.one && h.runs.one) h
+
+    of : (o : Option Handshake) → or_else (or_else tests (shake_drop config extended o)) (full_drop boots h.source) ≡ None → IfSome o (λ s. y ≡ point_circuit x common h s) → P y
+    of None e s = absurd (has-shake tests NoThreeWay (full_drop boots h.source) e)
     of (Some shake) e s = f shake s
 
 -- the same, of a place that is named in another way
@@ -74,6 +81,11 @@ circuits-set f place items r s e h = subst (λ (t : Router). IfSome (nth t.circu
     of (Some c) h = ap (λ (cs : List Circuit). record r { circuits = cs }) h
 
 -- ---- one circuit of a router hears a hello
+
+-- what was answered has both
+pub ok-both : {A E : Type 0} (P Q : A → Type 0) (q : Result A E) → IfOk q P → IfOk q Q → IfOk q (λ a. P a × Q a)
+ok-both P Q (Ok a) f g = (f, g)
+ok-both P Q (Err e) f g = tt
 
 pub lan-set : {R E : Type 0} (res : Result R E) (f : Config → Circuit → Circuit) (place : ℕ) (items : List Circuit) (r s : Router) → r ≡ s → IfOk res (λ _. IfSome (nth r.circuits place) (λ c. items ≡ with_nth r.circuits place (f r.config c))) → OnOk res (IfSome (nth s.circuits place) (λ c. record r { circuits = items } ≡ with_circuit s place (f s.config c)))
 lan-set (Ok v) f place items r s e h = circuits-set f place items r s e h

@@ -52,7 +52,7 @@ level-circuits (Err b) cs kinds e h = h
 -- a router whose parts are those of the start
 pub started-is : (config : model.Config) (boot : ℕ) (cs : List Circuit) (system : ℕ) (areas : List (List ℕ)) (runs : Both Bool) (prefixes : List (ℕ × ℕ)) (keys : Both (Option (List ℕ))) (items : List Circuit) (one two : LevelState)
     → system ≡ config.system → areas ≡ config.areas → runs ≡ config.runs → prefixes ≡ config.prefixes → keys ≡ config.keys → items ≡ map started cs → one ≡ empty_level (points_of 0 cs) → two ≡ empty_level (points_of 0 cs)
-    → record { config = record { system = system; areas = areas; runs = runs; leak = config.leak; overload = config.overload; prefixes = prefixes; keys = keys }; boot = boot; circuits = items; levels = record { one = one; two = two }; drops = replicate 19 0 } ≡ start config boot cs
+    → record { config = record { system = system; areas = areas; runs = runs; leak = config.leak; overload = config.overload; prefixes = prefixes; keys = keys }; boot = boot; circuits = items; levels = record { one = one; two = two }; drops = replicate 21 0 } ≡ start config boot cs
 started-is config boot cs system areas runs prefixes keys items one two a b c d e f g h =
     ap (λ x. of x areas runs prefixes keys items one two) a
     ∙ (ap (λ x. of config.system x runs prefixes keys items one two) b
@@ -64,7 +64,7 @@ started-is config boot cs system areas runs prefixes keys items one two a b c d 
     ∙ ap (λ x. of config.system config.areas config.runs config.prefixes config.keys (map started cs) (empty_level (points_of 0 cs)) x) h))))))
   where
     of : ℕ → List (List ℕ) → Both Bool → List (ℕ × ℕ) → Both (Option (List ℕ)) → List Circuit → LevelState → LevelState → Router
-    of system areas runs prefixes keys items one two = record { config = record { system = system; areas = areas; runs = runs; leak = config.leak; overload = config.overload; prefixes = prefixes; keys = keys }; boot = boot; circuits = items; levels = record { one = one; two = two }; drops = replicate 19 0 }
+    of system areas runs prefixes keys items one two = record { config = record { system = system; areas = areas; runs = runs; leak = config.leak; overload = config.overload; prefixes = prefixes; keys = keys }; boot = boot; circuits = items; levels = record { one = one; two = two }; drops = replicate 21 0 }
 
 pub same-points : (k : ℕ) (cs : List CircuitConfig) (items : List Circuit) → items ≡ map circuit_of cs → empty_level (points_of k items) ≡ empty_level (points_of k (map circuit_of cs))
 same-points k cs items e = ap (λ (xs : List Circuit). empty_level (points_of k xs)) e

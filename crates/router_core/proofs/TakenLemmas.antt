@@ -10,7 +10,7 @@ use Rattle.isis_model.specs.Takes.{take_lsp, whose_of}
 use Rattle.isis_model.specs.declared.drop_name.DropName.{DropName}
 use Rattle.isis_model.specs.AdjacencyLaws.{AreIdle}
 use Rattle.isis_model.specs.Events as model
-use Rattle.isis_model.specs.Events.{Message, Outcome, settled}
+use Rattle.isis_model.specs.Events.{Envelope, Message, Outcome, settled}
 use Rattle.isis_model.specs.Receiving.{acks, drop_of, lsp_drop, scene_of, taken, take_or_drop}
 use Rattle.isis_model.specs.Routers.{Circuit, LevelState, Router, level_of, with_level}
 use Rattle.router_levels.specs.Drafts as levels
@@ -53,14 +53,14 @@ none-same (Some range) false e = refl
 
 -- ---- an LSP
 
-pub lsp-taken : (r t : Router) (place : ℕ) (level : Level) (snpa : ℕ) (h : Heard) (q : Result Reply OutOfMemory) → AreIdle r → IfSome (nth r.circuits place) (λ x. None ≡ lsp_drop r place x level snpa h)
+pub lsp-taken : (r t : Router) (place : ℕ) (level : Level) (from : Envelope) (h : Heard) (q : Result Reply OutOfMemory) → AreIdle r → IfSome (nth r.circuits place) (λ x. None ≡ lsp_drop r place x level from h)
     → OnOk q (t ≡ with_level r level (take_lsp (scene_of given r level) (level_of r level) place (whose_of r.config.system (level_of r level) h.id) h))
     → IfOk q (λ a. IfSome (nth r.circuits place) (λ x. Answers r place (acks x level h (met (level_of r level).book (whose_of r.config.system (level_of r level) h.id) h)) a))
-    → IfOk q (λ a. IsTaken r place (model.LspHeard level snpa h) t a)
-lsp-taken r t place level snpa h (Err b) idle d e f = f
-lsp-taken r t place level snpa h (Ok a) idle d e f =
-    each-some (nth r.circuits place) (λ x. (t ≡ (outcome r place x (model.LspHeard level snpa h)).router) × Answers t place (outcome r place x (model.LspHeard level snpa h)).reply a)
-    (λ x n. level-taken r t place x (model.LspHeard level snpa h) level (take_lsp (scene_of given r level) (level_of r level) place (whose_of r.config.system (level_of r level) h.id) h)
+    → IfOk q (λ a. IsTaken r place (model.LspHeard level from h) t a)
+lsp-taken r t place level from h (Err b) idle d e f = f
+lsp-taken r t place level from h (Ok a) idle d e f =
+    each-some (nth r.circuits place) (λ x. (t ≡ (outcome r place x (model.LspHeard level from h)).router) × Answers t place (outcome r place x (model.LspHeard level from h)).reply a)
+    (λ x n. level-taken r t place x (model.LspHeard level from h) level (take_lsp (scene_of given r level) (level_of r level) place (whose_of r.config.system (level_of r level) h.id) h)
     (acks x level h (met (level_of r level).book (whose_of r.config.system (level_of r level) h.id) h)) a idle
-    (sym (from-some (λ y. None ≡ lsp_drop r place y level snpa h) (nth r.circuits place) x n d)) refl e
+    (sym (from-some (λ y. None ≡ lsp_drop r place y level from h) (nth r.circuits place) x n d)) refl e
     (from-some (λ y. Answers r place (acks y level h (met (level_of r level).book (whose_of r.config.system (level_of r level) h.id) h)) a) (nth r.circuits place) x n f))

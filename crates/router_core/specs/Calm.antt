@@ -55,9 +55,9 @@ abbrev pub IsCalmMessage : Router → Message → Type 0
 IsCalmMessage r (Refused cause) = Unit {0}
 IsCalmMessage r (PointHelloHeard h) = Unit {0}
 IsCalmMessage r (LanHelloHeard l h) = Unit {0}
-IsCalmMessage r (LspHeard l snpa h) =
+IsCalmMessage r (LspHeard l from h) =
     is_calm_row (met (book_of r l) (whose_of r.config.system (level_of r l) h.id) h) ≡ true
-IsCalmMessage r (SnpHeard l snpa source range entries) = AreClear (book_of r l) entries
+IsCalmMessage r (SnpHeard l from source range entries) = AreClear (book_of r l) entries
 
 -- a message on the circuit at a place is dropped
 abbrev pub IsDropped : Router → ℕ → Message → Type 0

@@ -62,5 +62,5 @@ abbrev pub FitsKind : Circuit → Message → Type 0
 FitsKind c (Refused cause) = Unit {0}
 FitsKind c (PointHelloHeard h) = c.lan ≡ false
 FitsKind c (LanHelloHeard level h) = c.lan ≡ true
-FitsKind c (LspHeard level snpa h) = Unit {0}
-FitsKind c (SnpHeard level snpa source range entries) = Unit {0}
+FitsKind c (LspHeard level from h) = Unit {0}
+FitsKind c (SnpHeard level from source range entries) = Unit {0}

@@ -10,14 +10,14 @@ use Rattle.router_core.specs.declared.marks.Marks.{Marks}
 use Rattle.router_core.specs.Settled.{AreTrue}
 
 -- Whatever it sends is legible; its books follow its adjacencies, a neighbour is kept exactly
--- outside Down, and CSNP counters stand at 0 where it isn't designated; there are 19 counters of
+-- outside Down, and CSNP counters stand at 0 where it isn't designated; there are 21 counters of
 -- drops, at most 64 circuits, and at most 4,096 own prefixes, in order.
 pub record IsReached (r : Router) : Type 0 where
   pub speaking : IsSpeaking r
   pub follows : FollowsAdjacencies r
   pub bonds : AreBonds r
   pub idle : AreIdle r
-  pub drops : length r.drops ≡ 19
+  pub drops : length r.drops ≡ 21
   pub circuits : length r.circuits ≤ 64
   pub few : length r.config.prefixes ≤ 4096
   pub prefixes : RisesFrom 0 r.config.prefixes

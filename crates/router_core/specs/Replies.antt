@@ -16,7 +16,7 @@ use Rattle.router_core.specs.declared.reply.Reply.TheVariants as reply
 -- own
 abbrev pub datagrams_on : Router → ℕ → Option Circuit → List Sent → List (List ℕ)
 datagrams_on r place None out = []
-datagrams_on r place (Some c) out = map (λ says. datagram r.config place c says) out
+datagrams_on r place (Some c) out = map (λ says. datagram r.config r.boot place c says) out
 
 -- what a router sends on the circuit at a place, each as a datagram (ISO 10589 9)
 abbrev pub datagrams_of : Router → ℕ → List Sent → List (List ℕ)

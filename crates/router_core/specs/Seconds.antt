@@ -17,6 +17,10 @@ use Rattle.router_levels.specs.Views.{LevelView, state_of}
 abbrev pub later : Circuit → Circuit
 later c = circuit_less (counted c)
 
+-- the same of a circuit that remembers no boots (own)
+abbrev pub bare_later : Circuit → Circuit
+bare_later c = later (record c { boots = [] })
+
 -- a level follows the circuit at a place, where there is one (own)
 abbrev pub follow_one : LevelState → Level → ℕ → Option Circuit → LevelState
 follow_one state level place None = state

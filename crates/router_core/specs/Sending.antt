@@ -52,11 +52,13 @@ circuit_of sender = record {
   point = point_down;
   levels = record { one = no_part; two = no_part };
   hello = 0;
+  boots = [];
 }
 
 -- a datagram of a sender (ISO 10589 9)
 unfoldable pub octets_of : Sender → Sent → List ℕ
-octets_of sender says = datagram (config_of sender) (sender.circuit - 1) (circuit_of sender) says
+octets_of sender says =
+    datagram (config_of sender) sender.boot (sender.circuit - 1) (circuit_of sender) says
 
 -- those of a list, in order (ISO 10589 9)
 abbrev pub all_octets : Sender → List Sent → List (List ℕ)

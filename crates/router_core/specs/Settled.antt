@@ -56,6 +56,7 @@ neighbour_face n = record {
   system = n.system;
   snpa = 0;
   extended = 0;
+  boot = 0;
   levels = n.levels;
   priority = 0;
   lan = 0;
@@ -71,7 +72,7 @@ point_face point =
 abbrev pub level_face : CircuitLevel → CircuitLevel
 level_face part = record { heard = heard_face part.heard; csnp = 0; psnp = 0; due = false }
 
--- a circuit without its key, counters and times, which own LSPs don't look at
+-- a circuit without its key, counters, times and boots, which own LSPs don't look at
 abbrev pub face : Circuit → Circuit
 face c = record {
   lan = c.lan;
@@ -82,6 +83,7 @@ face c = record {
   point = point_face c.point;
   levels = record { one = level_face c.levels.one; two = level_face c.levels.two };
   hello = 0;
+  boots = [];
 }
 
 -- own
@@ -102,8 +104,8 @@ abbrev pub IsNoHello : Message → Type 0
 IsNoHello (Refused cause) = Unit {0}
 IsNoHello (PointHelloHeard h) = ⊥
 IsNoHello (LanHelloHeard l h) = ⊥
-IsNoHello (LspHeard l snpa h) = Unit {0}
-IsNoHello (SnpHeard l snpa source range entries) = Unit {0}
+IsNoHello (LspHeard l from h) = Unit {0}
+IsNoHello (SnpHeard l from source range entries) = Unit {0}
 
 -- neither a hello nor a second nor a change of the configuration (own)
 abbrev pub IsAside : Event → Type 0
@@ -121,8 +123,8 @@ abbrev pub IsPointHello : Message → Type 0
 IsPointHello (Refused cause) = ⊥
 IsPointHello (PointHelloHeard h) = Unit {0}
 IsPointHello (LanHelloHeard l h) = ⊥
-IsPointHello (LspHeard l snpa h) = ⊥
-IsPointHello (SnpHeard l snpa source range entries) = ⊥
+IsPointHello (LspHeard l from h) = ⊥
+IsPointHello (SnpHeard l from source range entries) = ⊥
 
 -- a point-to-point hello is heard (own)
 abbrev pub IsGreeting : Event → Type 0

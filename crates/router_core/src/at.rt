@@ -14,10 +14,12 @@ ghost use Rattle.adjacency.specs.Changes.{IsTested};
 ghost use Rattle.router_circuits.specs.Hellos.{hello_of, IsOwn};
 ghost use Rattle.router_desk.specs.Desks.{desk_circuit};
 ghost use Rattle.router_core.specs.Machines.{IsFit};
+ghost use Rattle.router_core.specs.Seconds.{later};
 
 use adjacency::{HelloDrop, HelloFields, Own};
-use isis_base::{Level, SystemId};
+use isis_base::{Level, OutOfMemory, SystemId};
 use router_circuits::Circuit;
+use std::alloc::Global;
 
 /// The CSNP counters of a circuit stand at 0 where the router isn't designated.
 pub(crate) fn idle_at(circuits: &mut Vec<Circuit>, system: SystemId, circuit: u8)
@@ -29,6 +31,17 @@ pub(crate) fn idle_at(circuits: &mut Vec<Circuit>, system: SystemId, circuit: u8
     ensures fit { AllByRecursion IsFit circuits.old.items → AllByRecursion IsFit circuits.new.items }
 {
     circuits[usize::from(circuit) - 1].idle(system, circuit);
+}
+
+/// A second of a circuit: its counters, then its holding times.
+pub(crate) fn second_at(circuits: &mut Vec<Circuit>, circuit: u8)
+    requires { (1 ≤ circuit) × (circuit ≤ length circuits.old.items) }
+    ensures state { IfSome (nth circuits.old.items (circuit - 1)) (λ c. circuits.new.items
+        ≡ with_nth circuits.old.items (circuit - 1) (later c)) }
+    ensures same { map desk_circuit circuits.new.items ≡ map desk_circuit circuits.old.items }
+    ensures fit { AllByRecursion IsFit circuits.old.items → AllByRecursion IsFit circuits.new.items }
+{
+    circuits[usize::from(circuit) - 1].second();
 }
 
 /// A hello was sent on a circuit.
@@ -81,48 +94,57 @@ pub(crate) fn set_metric_at(circuits: &mut Vec<Circuit>, circuit: u8, metric: u3
 /// A hello is taken on a point-to-point circuit: whether it isn't from the neighbour that was kept.
 pub(crate) fn hear_point_at(
     circuits: &mut Vec<Circuit>,
+    alloc: Global,
     circuit: u8,
     own: &Own<'_>,
     hello: &HelloFields<'_>,
-) -> Result<bool, HelloDrop>
+) -> Result<Result<bool, HelloDrop>, OutOfMemory>
     requires there { (1 ≤ circuit) × (circuit ≤ length circuits.old.items) }
     requires kind { IfSome (nth circuits.old.items (circuit - 1)) (λ c. c.lan ≡ false) }
-    ensures tested { (config : configs.Config) → IsOwn config own.now
-        → IsTested result (point_drop config own.now.id (hello_of hello.now)) }
-    ensures unchanged { OnErr result (circuits.new.items ≡ circuits.old.items) }
+    ensures tested { (config : configs.Config) → IsOwn config own.now → IfOk result (λ heard.
+        IfSome (nth circuits.old.items (circuit - 1)) (λ c.
+        IsTested heard (point_drop config own.now.id c.boots (hello_of hello.now)))) }
+    ensures unchanged { IfOk result
+        (λ heard. OnErr heard (circuits.new.items ≡ circuits.old.items)) }
     ensures state { (config : configs.Config) → IsOwn config own.now
-        → IfOk result (λ anew. IfSome (nth circuits.old.items (circuit - 1)) (λ c.
+        → IfOk result (λ heard. IfOk heard (λ anew.
+        IfSome (nth circuits.old.items (circuit - 1)) (λ c.
         IfSome (hello_of hello.now).handshake (λ shake. (circuits.new.items
         ≡ with_nth circuits.old.items (circuit - 1) (hellos.point_circuit c
         (model.common_of config (hello_of hello.now)) (hello_of hello.now) shake))
         × (anew ≡ not (model.is_same c.point.neighbour
-        (model.common_of config (hello_of hello.now)) (hello_of hello.now) shake.extended))))) }
+        (model.common_of config (hello_of hello.now)) (hello_of hello.now) shake.extended)))))) }
+    ensures err { OnErr result (circuits.new.items ≡ circuits.old.items) }
     ensures same { map desk_circuit circuits.new.items ≡ map desk_circuit circuits.old.items }
     ensures fit { AllByRecursion IsFit circuits.old.items → AllByRecursion IsFit circuits.new.items }
 {
-    circuits[usize::from(circuit) - 1].hear_point(own, hello)
+    circuits[usize::from(circuit) - 1].hear_point(alloc, own, hello)
 }
 
 /// A hello of a level is taken on a LAN.
 pub(crate) fn hear_lan_at(
     circuits: &mut Vec<Circuit>,
+    alloc: Global,
     circuit: u8,
     own: &Own<'_>,
     level: Level,
     hello: &HelloFields<'_>,
-) -> Result<(), HelloDrop>
+) -> Result<Result<(), HelloDrop>, OutOfMemory>
     requires there { (1 ≤ circuit) × (circuit ≤ length circuits.old.items) }
     requires kind { IfSome (nth circuits.old.items (circuit - 1)) (λ c. c.lan ≡ true) }
-    ensures tested { (config : configs.Config) → IsOwn config own.now
-        → IfSome (nth circuits.old.items (circuit - 1)) (λ c. IsTested result
-        (lan_drop config level (at c.levels level).heard (hello_of hello.now))) }
-    ensures unchanged { OnErr result (circuits.new.items ≡ circuits.old.items) }
+    ensures tested { (config : configs.Config) → IsOwn config own.now → IfOk result (λ heard.
+        IfSome (nth circuits.old.items (circuit - 1)) (λ c. IsTested heard
+        (lan_drop config level c.boots (at c.levels level).heard (hello_of hello.now)))) }
+    ensures unchanged { IfOk result
+        (λ heard. OnErr heard (circuits.new.items ≡ circuits.old.items)) }
     ensures state { (config : configs.Config) → IsOwn config own.now
-        → IfOk result (λ _. IfSome (nth circuits.old.items (circuit - 1)) (λ c. circuits.new.items
+        → IfOk result (λ heard. IfOk heard (λ _.
+        IfSome (nth circuits.old.items (circuit - 1)) (λ c. circuits.new.items
         ≡ with_nth circuits.old.items (circuit - 1) (hellos.lan_circuit c level
-        (alone level (model.common_of config (hello_of hello.now))) (hello_of hello.now)))) }
+        (alone level (model.common_of config (hello_of hello.now))) (hello_of hello.now))))) }
+    ensures err { OnErr result (circuits.new.items ≡ circuits.old.items) }
     ensures same { map desk_circuit circuits.new.items ≡ map desk_circuit circuits.old.items }
     ensures fit { AllByRecursion IsFit circuits.old.items → AllByRecursion IsFit circuits.new.items }
 {
-    circuits[usize::from(circuit) - 1].hear_lan(own, level, hello)
+    circuits[usize::from(circuit) - 1].hear_lan(alloc, own, level, hello)
 }

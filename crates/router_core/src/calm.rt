@@ -2,13 +2,13 @@
 ghost use Rattle.std.specs.Prelude.{◌≡◌, ◌-◌, true, IfOk};
 ghost use Rattle.router_desk.specs.Desks.{desk_of};
 ghost use Rattle.router_desk.specs.Opening as opening;
-ghost use Rattle.router_desk.specs.Opening.{IsOpenedBy};
+ghost use Rattle.router_desk.specs.Opening.{IsOpenedBy, envelope_of};
 ghost use Rattle.router_reading.specs.Heard.{message_of, range_of};
 ghost use Rattle.isis_model.specs.Routers.{Router, book_of};
 ghost use Rattle.isis_base.specs.Identifiers.{lsp_number};
 ghost use Rattle.isis_model.specs.Books.{cell_at};
 ghost use Rattle.isis_model.specs.Events as model;
-ghost use Rattle.isis_model.specs.Numbers.{snpa_number, system_number};
+ghost use Rattle.isis_model.specs.Numbers.{system_number};
 ghost use Rattle.isis_model.specs.SnpTable.{snp_case};
 ghost use Rattle.isis_model.specs.declared.whose.Whose.{Whose};
 ghost use Rattle.flag_sync.specs.BookStates.{book_of as state_of};
@@ -20,8 +20,8 @@ ghost use Rattle.router_core.specs.Events.{change_of, event_of, Fits, IsThere};
 use crate::event::NodeEvent;
 use crate::machine::Machine;
 use flag_sync::{Book, LspAnswer, LspHeard};
-use isis_base::{Level, LspEntry, LspId, Order3, OutOfMemory, Snpa, SystemId, newer};
-use router_desk::{Change, Opened};
+use isis_base::{Level, LspEntry, LspId, Order3, OutOfMemory, SystemId, newer};
+use router_desk::{Change, Envelope, Opened};
 use router_reading::laws::numbered_law;
 use router_reading::{Heard, hear};
 
@@ -86,19 +86,19 @@ impl Machine {
         match heard {
             Heard::PointHello(_) => GREETING,
             Heard::LanHello(_, _) => HELLO,
-            Heard::Lsp { level, snpa, lsp } => Known {
-                calm: self.is_calm_lsp(circuit, *level, *snpa, lsp),
+            Heard::Lsp { level, from, lsp } => Known {
+                calm: self.is_calm_lsp(circuit, *level, *from, lsp),
                 aside: true,
                 greets: false,
             },
             Heard::Snp {
                 level,
-                snpa,
+                from,
                 source,
                 range,
                 entries,
             } => Known {
-                calm: self.is_calm_snp(circuit, *level, (*snpa, *source), *range, entries),
+                calm: self.is_calm_snp(circuit, *level, (*from, *source), *range, entries),
                 aside: true,
                 greets: false,
             },
@@ -106,15 +106,15 @@ impl Machine {
     }
 
     /// Whether an LSP isn't newer than what is held, or is dropped.
-    fn is_calm_lsp(&self, circuit: u8, level: Level, snpa: Snpa, lsp: &LspHeard<'_>) -> bool
+    fn is_calm_lsp(&self, circuit: u8, level: Level, from: Envelope, lsp: &LspHeard<'_>) -> bool
         requires { IsThere self.now circuit }
         ensures { result ≡ true → IsCalmOn self.now (circuit - 1)
-            (model.LspHeard level (snpa_number snpa) (heard_of lsp.now)) }
+            (model.LspHeard level (envelope_of from) (heard_of lsp.now)) }
     {
         if is_calm_row(self.level(level).lsp_case(self.desk.system(), lsp)) {
             return true;
         }
-        self.lsp_cause(circuit, level, snpa, lsp).is_some()
+        self.lsp_cause(circuit, level, from, lsp).is_some()
     }
 
     /// Whether a sequence number PDU is dropped, or no entry of it changes a key.
@@ -122,18 +122,18 @@ impl Machine {
         &self,
         circuit: u8,
         level: Level,
-        from: (Snpa, SystemId),
+        from: (Envelope, SystemId),
         range: Option<(LspId, LspId)>,
         entries: &[LspEntry],
     ) -> bool
         requires { IsThere self.now circuit }
         ensures { result ≡ true → IsCalmOn self.now (circuit - 1)
-            (model.SnpHeard level (snpa_number from.0) (system_number from.1) (range_of range)
+            (model.SnpHeard level (envelope_of from.0) (system_number from.1) (range_of range)
             (entries_of entries.now)) }
     {
-        let (snpa, source) = from;
+        let (envelope, source) = from;
         if self
-            .snp_cause(circuit, level, snpa, source, range.is_none())
+            .snp_cause(circuit, level, envelope, source, range.is_none())
             .is_some()
         {
             return true;

@@ -21,7 +21,7 @@ use crate::machine::Machine;
 use crate::marks::Marks;
 use crate::quiet::{is_quiet, is_settled};
 use crate::renewal::pass_in_place;
-use crate::second::{circuits_later, idle_all};
+use crate::second::{circuits_later, idle_all, pass_circuits};
 use flag_sync::Book;
 use isis_base::{Level, OutOfMemory};
 use lsp_store::{Entry, Pairs};
@@ -47,7 +47,7 @@ impl Machine {
         ensures err { OnErr result (self.new ≡ self.old) }
         ensures marks { outlook_of self.new ≡ outlook_of self.old → AreTrue marks.new self.new }
     {
-        let mut circuits = circuits_later(self.alloc, &self.circuits)?;
+        let circuits = circuits_later(self.alloc, &self.circuits)?;
         let keeps = keep_faces(&self.circuits, &circuits);
         let one = match self.calm_level(&circuits, Level::One, following, keeps && marks.one) {
             Ok(Some(one)) => one,
@@ -61,8 +61,8 @@ impl Machine {
         };
         pass_in_place(&mut self.one, &circuits, Level::One);
         pass_in_place(&mut self.two, &circuits, Level::Two);
-        idle_all(&mut circuits, self.desk.system());
-        self.circuits = circuits;
+        pass_circuits(&mut self.circuits);
+        idle_all(&mut self.circuits, self.desk.system());
         *marks = Marks { one, two };
         Ok(true)
     }
@@ -82,7 +82,7 @@ impl Machine {
         requires following { IsFollowing (outlook_of self.now) following.now }
         requires marked { marked ≡ true
             → IsSettledAt self.now level × (faces circuits.now ≡ faces self.now.circuits) }
-        ensures calm { (r : Router) → r.config ≡ self.now.config → r.circuits ≡ circuits.now
+        ensures calm { (r : Router) → r.config ≡ self.now.config → faces r.circuits ≡ faces circuits.now
             → IfOk result (λ o. IfSome o (λ settled.
             level_later (level_of self.now level) level circuits.now ≡ own.renew given r
             level (level_later (level_of self.now level) level circuits.now)

@@ -2,7 +2,7 @@
 ghost use Rattle.std.specs.Prelude.{◌≡◌, ℕ, true, Some, IfSome, is_some, length, map};
 ghost use Rattle.std.specs.Option.{option_map};
 ghost use Rattle.isis_model.specs.Both.{at};
-ghost use Rattle.router_core.specs.Seconds.{later};
+ghost use Rattle.router_core.specs.Seconds.{bare_later};
 ghost use Rattle.isis_model.specs.Routers.{Router};
 ghost use Rattle.adjacency.specs.Views.{neighbour_of, point_of};
 ghost use Rattle.router_core.specs.Settled.{face, faces, neighbour_face, point_at, point_face};
@@ -13,7 +13,7 @@ use router_circuits::Circuit;
 
 /// Whether circuits say a second later what they said: the time of no adjacency is over.
 pub(crate) fn keep_faces(before: &[Circuit], after: &[Circuit]) -> bool
-    requires { after.now ≡ map later before.now }
+    requires { after.now ≡ map bare_later before.now }
     ensures { result ≡ true → faces after.now ≡ faces before.now }
 {
     for place in 0..before.len() {
@@ -26,7 +26,7 @@ pub(crate) fn keep_faces(before: &[Circuit], after: &[Circuit]) -> bool
 
 /// Whether one does.
 fn keeps_face(before: &Circuit, after: &Circuit) -> bool
-    requires { after.now ≡ later before.now }
+    requires { after.now ≡ bare_later before.now }
     ensures { result ≡ true → face after.now ≡ face before.now }
 {
     let one = heard_count(after, Level::One) == heard_count(before, Level::One);
@@ -36,7 +36,7 @@ fn keeps_face(before: &Circuit, after: &Circuit) -> bool
 
 /// Whether a point-to-point adjacency does: a neighbour that was kept is kept.
 fn keeps_point(before: &Circuit, after: &Circuit) -> bool
-    requires { after.now ≡ later before.now }
+    requires { after.now ≡ bare_later before.now }
     ensures { result ≡ true → point_face after.now.point ≡ point_face before.now.point }
 {
     if has_neighbour(before) {

@@ -22,18 +22,17 @@ pub(crate) fn put_hellos(
     alloc: Global,
     sender: &Sender<'_>,
     on: &Circuit,
-    boot: u32,
 ) -> Result<(), OutOfMemory>
     requires here { 1 ≤ sender.now.circuit }
     requires areas { FitAreas sender.now }
     requires priority { sender.now.priority ≤ 127 }
-    requires boot { boot < 2 ^ 24 }
-    ensures { (r : Router) → Sends sender.now r.config (sender.now.circuit - 1) on.now
-        → r.boot ≡ boot → OnOk result (out.new ≡ out.old
+    requires boot { sender.now.boot < 2 ^ 24 }
+    ensures { (r : Router) → Sends sender.now r.config r.boot (sender.now.circuit - 1) on.now
+        → OnOk result (out.new ≡ out.old
         ++ all_octets sender.now (pulls.hellos r (sender.now.circuit - 1) on.now)) }
 {
     match on.point() {
-        Some(point) => put_point(out, alloc, sender, point, boot),
+        Some(point) => put_point(out, alloc, sender, point),
         None => {
             put_lan(out, alloc, sender, on, Level::One)?;
             put_lan(out, alloc, sender, on, Level::Two)
@@ -47,16 +46,15 @@ fn put_point(
     alloc: Global,
     sender: &Sender<'_>,
     point: &P2pAdj,
-    boot: u32,
 ) -> Result<(), OutOfMemory>
     requires here { 1 ≤ sender.now.circuit }
     requires areas { FitAreas sender.now }
-    requires boot { boot < 2 ^ 24 }
+    requires boot { sender.now.boot < 2 ^ 24 }
     ensures { OnOk result (out.new ≡ out.old ++ octets_of sender.now (sent.PointHello
-        (point_of point.now).state (extended_of boot (sender.now.circuit - 1))
+        (point_of point.now).state (extended_of sender.now.boot (sender.now.circuit - 1))
         (pulls.names_of (point_of point.now).neighbour)) ∷ []) }
 {
-    let extended = extended(boot, sender.circuit);
+    let extended = extended(sender.boot, sender.circuit);
     let octets = point_hello(alloc, sender, point.state(), extended, named(point))?;
     out.push(octets)
 }
@@ -90,7 +88,7 @@ fn put_lan(
     requires here { 1 ≤ sender.now.circuit }
     requires areas { FitAreas sender.now }
     requires priority { sender.now.priority ≤ 127 }
-    ensures { (r : Router) → Sends sender.now r.config (sender.now.circuit - 1) on.now
+    ensures { (r : Router) → Sends sender.now r.config r.boot (sender.now.circuit - 1) on.now
         → OnOk result (out.new ≡ out.old ++ all_octets sender.now
         (pulls.lan_hello r (sender.now.circuit - 1) on.now level)) }
 {
@@ -111,7 +109,7 @@ fn put_run(
     requires here { 1 ≤ sender.now.circuit }
     requires areas { FitAreas sender.now }
     requires priority { sender.now.priority ≤ 127 }
-    ensures { (r : Router) → Sends sender.now r.config (sender.now.circuit - 1) on.now
+    ensures { (r : Router) → Sends sender.now r.config r.boot (sender.now.circuit - 1) on.now
         → OnOk result (out.new ≡ out.old ++ octets_of sender.now (sent.LanHello level
         (pulls.lan_of r (sender.now.circuit - 1) on.now level)
         (pulls.snpas_of (at on.now.levels level).heard)) ∷ []) }

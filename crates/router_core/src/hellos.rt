@@ -17,7 +17,7 @@ use crate::at::{hear_lan_at, hear_point_at};
 use crate::machine::Machine;
 use crate::own::own_of;
 use adjacency::{HelloDrop, HelloFields};
-use isis_base::Level;
+use isis_base::{Level, OutOfMemory};
 
 impl Machine {
     /// A circuit hears a point-to-point hello: whether it isn't from the neighbour that was kept.
@@ -25,23 +25,27 @@ impl Machine {
         &mut self,
         circuit: u8,
         hello: &HelloFields<'_>,
-    ) -> Result<bool, HelloDrop>
+    ) -> Result<Result<bool, HelloDrop>, OutOfMemory>
         requires there { IsThere self.old circuit }
         requires kind { IfSome (nth self.old.circuits (circuit - 1)) (λ c. c.lan ≡ false) }
         requires boot { self.old.boot < 2 ^ 24 }
-        ensures tested { IsTested result (point_drop self.old.config
-            (extended_of self.old.boot (circuit - 1)) (hello_of hello.now)) }
-        ensures unchanged { OnErr result (self.new ≡ self.old) }
-        ensures state { IfOk result (λ anew. IfSome (nth self.old.circuits (circuit - 1)) (λ c.
+        ensures tested { IfOk result (λ heard. IfSome (nth self.old.circuits (circuit - 1)) (λ c.
+            IsTested heard (point_drop self.old.config (extended_of self.old.boot (circuit - 1))
+            c.boots (hello_of hello.now)))) }
+        ensures unchanged { IfOk result (λ heard. OnErr heard (self.new ≡ self.old)) }
+        ensures state { IfOk result (λ heard. IfOk heard (λ anew.
+            IfSome (nth self.old.circuits (circuit - 1)) (λ c.
             IfSome (hello_of hello.now).handshake (λ shake. (self.new
             ≡ with_circuit self.old (circuit - 1) (hellos.point_circuit c
             (model.common_of self.old.config (hello_of hello.now)) (hello_of hello.now) shake))
             × (anew ≡ not (model.is_same c.point.neighbour
             (model.common_of self.old.config (hello_of hello.now)) (hello_of hello.now)
-            shake.extended))))) }
+            shake.extended)))))) }
+        ensures there { IsThere self.new circuit }
+        ensures err { OnErr result (self.new ≡ self.old) }
     {
         let own = own_of(&self.desk, self.areas.as_slice(), self.boot, circuit);
-        hear_point_at(&mut self.circuits, circuit, &own, hello)
+        hear_point_at(&mut self.circuits, self.alloc, circuit, &own, hello)
     }
 
     /// A circuit hears a hello of a level on a LAN.
@@ -50,20 +54,24 @@ impl Machine {
         circuit: u8,
         level: Level,
         hello: &HelloFields<'_>,
-    ) -> Result<(), HelloDrop>
+    ) -> Result<Result<(), HelloDrop>, OutOfMemory>
         requires there { IsThere self.old circuit }
         requires kind { IfSome (nth self.old.circuits (circuit - 1)) (λ c. c.lan ≡ true) }
         requires boot { self.old.boot < 2 ^ 24 }
-        ensures tested { IfSome (nth self.old.circuits (circuit - 1)) (λ c. IsTested result
-            (lan_drop self.old.config level (at c.levels level).heard (hello_of hello.now))) }
-        ensures unchanged { OnErr result (self.new ≡ self.old) }
-        ensures state { OnOk result (IfSome (nth self.old.circuits (circuit - 1)) (λ c.
+        ensures tested { IfOk result (λ heard. IfSome (nth self.old.circuits (circuit - 1)) (λ c.
+            IsTested heard (lan_drop self.old.config level c.boots (at c.levels level).heard
+            (hello_of hello.now)))) }
+        ensures unchanged { IfOk result (λ heard. OnErr heard (self.new ≡ self.old)) }
+        ensures state { IfOk result (λ heard. OnOk heard
+            (IfSome (nth self.old.circuits (circuit - 1)) (λ c.
             self.new ≡ with_circuit self.old (circuit - 1) (hellos.lan_circuit c level
             (alone level (model.common_of self.old.config (hello_of hello.now)))
-            (hello_of hello.now)))) }
+            (hello_of hello.now))))) }
+        ensures there { IsThere self.new circuit }
+        ensures err { OnErr result (self.new ≡ self.old) }
     {
         let own = own_of(&self.desk, self.areas.as_slice(), self.boot, circuit);
-        hear_lan_at(&mut self.circuits, circuit, &own, level, hello)
+        hear_lan_at(&mut self.circuits, self.alloc, circuit, &own, level, hello)
     }
 
     /// A point-to-point hello is taken.
@@ -71,25 +79,31 @@ impl Machine {
         &mut self,
         circuit: u8,
         hello: &HelloFields<'_>,
-    ) -> Result<(), HelloDrop>
+    ) -> Result<Result<(), HelloDrop>, OutOfMemory>
         requires there { IsThere self.old circuit }
         requires kind { IfSome (nth self.old.circuits (circuit - 1)) (λ c. c.lan ≡ false) }
         requires boot { self.old.boot < 2 ^ 24 }
         requires idle { AreIdle self.old }
-        ensures tested { IsTested result (point_drop self.old.config
-            (extended_of self.old.boot (circuit - 1)) (hello_of hello.now)) }
-        ensures unchanged { OnErr result (self.new ≡ self.old) }
-        ensures state { OnOk result (IfSome (nth self.old.circuits (circuit - 1)) (λ c.
+        ensures tested { IfOk result (λ heard. IfSome (nth self.old.circuits (circuit - 1)) (λ c.
+            IsTested heard (point_drop self.old.config (extended_of self.old.boot (circuit - 1))
+            c.boots (hello_of hello.now)))) }
+        ensures unchanged { IfOk result (λ heard. OnErr heard (self.new ≡ self.old)) }
+        ensures state { IfOk result (λ heard. OnOk heard
+            (IfSome (nth self.old.circuits (circuit - 1)) (λ c.
             self.new ≡ (settled (record {
               router = greeted self.old (circuit - 1) c (hello_of hello.now)
                   (hello_of hello.now).handshake;
               reply = Done;
-            })).router)) }
+            })).router))) }
+        ensures err { OnErr result (self.new ≡ self.old) }
     {
-        let anew = self.hear_point(circuit, hello)?;
+        let anew = match self.hear_point(circuit, hello)? {
+            Ok(anew) => anew,
+            Err(refused) => return Ok(Err(refused)),
+        };
         self.follow(circuit, anew);
         self.settle(circuit);
-        Ok(())
+        Ok(Ok(()))
     }
 
     /// A hello of a level is taken on a LAN.
@@ -98,23 +112,29 @@ impl Machine {
         circuit: u8,
         level: Level,
         hello: &HelloFields<'_>,
-    ) -> Result<(), HelloDrop>
+    ) -> Result<Result<(), HelloDrop>, OutOfMemory>
         requires there { IsThere self.old circuit }
         requires kind { IfSome (nth self.old.circuits (circuit - 1)) (λ c. c.lan ≡ true) }
         requires boot { self.old.boot < 2 ^ 24 }
         requires idle { AreIdle self.old }
-        ensures tested { IfSome (nth self.old.circuits (circuit - 1)) (λ c. IsTested result
-            (lan_drop self.old.config level (at c.levels level).heard (hello_of hello.now))) }
-        ensures unchanged { OnErr result (self.new ≡ self.old) }
-        ensures state { OnOk result (IfSome (nth self.old.circuits (circuit - 1)) (λ c.
+        ensures tested { IfOk result (λ heard. IfSome (nth self.old.circuits (circuit - 1)) (λ c.
+            IsTested heard (lan_drop self.old.config level c.boots (at c.levels level).heard
+            (hello_of hello.now)))) }
+        ensures unchanged { IfOk result (λ heard. OnErr heard (self.new ≡ self.old)) }
+        ensures state { IfOk result (λ heard. OnOk heard
+            (IfSome (nth self.old.circuits (circuit - 1)) (λ c.
             self.new ≡ (settled (record {
               router = hellos.take_lan self.old (circuit - 1) c level (hello_of hello.now);
               reply = Done;
-            })).router)) }
+            })).router))) }
+        ensures err { OnErr result (self.new ≡ self.old) }
     {
-        self.hear_lan(circuit, level, hello)?;
+        match self.hear_lan(circuit, level, hello)? {
+            Ok(()) => {}
+            Err(refused) => return Ok(Err(refused)),
+        }
         self.follow(circuit, false);
         self.settle(circuit);
-        Ok(())
+        Ok(Ok(()))
     }
 }

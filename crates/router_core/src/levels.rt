@@ -9,19 +9,19 @@ ghost use Rattle.isis_model.specs.declared.lsp_case.LspCase.TheVariants as case;
 ghost use Rattle.isis_model.specs.Takes as takes;
 ghost use Rattle.isis_model.specs.Takes.{whose_of};
 ghost use Rattle.isis_model.specs.Receiving.{lsp_drop, no_room, scene_of};
-ghost use Rattle.isis_model.specs.Numbers.{snpa_number};
 ghost use Rattle.flag_sync.specs.Heard.{answer_of, heard_of};
 ghost use Rattle.router_levels.specs.Views.{state_of};
 ghost use Rattle.router_levels.specs.Drafts.{IsAnswer};
 ghost use Rattle.router_desk.specs.Causes.{name_of};
+ghost use Rattle.router_desk.specs.Opening.{envelope_of};
 ghost use Rattle.router_core.specs.Givens.{given};
 ghost use Rattle.router_core.specs.Events.{IsThere};
 
 use crate::machine::Machine;
 use flag_sync::{LspAnswer, LspHeard};
-use isis_base::{Level, OutOfMemory, Snpa};
+use isis_base::{Level, OutOfMemory};
 use lsp_octets::{Draft, lent_key};
-use router_desk::DropCause;
+use router_desk::{DropCause, Envelope};
 use router_levels::LevelParts;
 
 impl Machine {
@@ -41,15 +41,15 @@ impl Machine {
         &self,
         circuit: u8,
         level: Level,
-        snpa: Snpa,
+        from: Envelope,
         lsp: &LspHeard<'_>,
     ) -> Option<DropCause>
         requires { IsThere self.now circuit }
         ensures { IfSome (nth self.now.circuits (circuit - 1)) (λ c. option_map name_of result
-            ≡ lsp_drop self.now (circuit - 1) c level (snpa_number snpa) (heard_of lsp.now)) }
+            ≡ lsp_drop self.now (circuit - 1) c level (envelope_of from) (heard_of lsp.now)) }
     {
         let on = self.level(level);
-        let sender = self.circuits[usize::from(circuit) - 1].sender(level, snpa);
+        let sender = self.circuits[usize::from(circuit) - 1].sender(level, from);
         if !on.book().is_open(circuit) || sender.is_none() {
             return Some(DropCause::NoAdjacency);
         }

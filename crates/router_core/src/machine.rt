@@ -31,7 +31,7 @@ pub(crate) struct Machine {
     pub(crate) circuits: Vec<Circuit>,
     pub(crate) one: LevelParts,
     pub(crate) two: LevelParts,
-    pub(crate) drops: [u64; 19],
+    pub(crate) drops: [u64; 21],
 }
 
 impl Model for Machine {

@@ -33,7 +33,7 @@ impl Machine {
             one: level_of(alloc, &circuits)?,
             two: level_of(alloc, &circuits)?,
             circuits,
-            drops: [0; 19],
+            drops: [0; 21],
         })
     }
 
@@ -53,7 +53,7 @@ impl Machine {
             circuits: fresh_circuits(self.alloc, &self.circuits)?,
             one: level_of(self.alloc, &self.circuits)?,
             two: level_of(self.alloc, &self.circuits)?,
-            drops: [0; 19],
+            drops: [0; 21],
         })
     }
 }

@@ -2,12 +2,11 @@
 //! (own).
 ghost use Rattle.std.specs.Prelude.{◌≡◌, ◌-◌, true, IfOk, IfSome};
 ghost use Rattle.isis_model.specs.Events as model;
-ghost use Rattle.isis_model.specs.Numbers.{snpa_number};
 ghost use Rattle.flag_sync.specs.declared.heard.LspAnswer.TheVariants as answer;
 ghost use Rattle.flag_sync.specs.Heard.{heard_of};
 ghost use Rattle.router_desk.specs.Desks.{desk_of};
 ghost use Rattle.router_desk.specs.Opening as opening;
-ghost use Rattle.router_desk.specs.Opening.{IsOpenedBy};
+ghost use Rattle.router_desk.specs.Opening.{IsOpenedBy, envelope_of};
 ghost use Rattle.router_core.specs.Events.{event_of, Fits, IsThere};
 ghost use Rattle.router_core.specs.Moved.{Moves};
 ghost use Rattle.router_core.specs.Reached.{IsReached};
@@ -18,9 +17,9 @@ use crate::machine::Machine;
 use crate::routes::has_rows;
 use flag_sync::{LspAnswer, LspHeard};
 use isis_base::laws::lsp_id_law;
-use isis_base::{Level, NodeId, OutOfMemory, Snpa};
+use isis_base::{Level, NodeId, OutOfMemory};
 use lsp_store::Store;
-use router_desk::Opened;
+use router_desk::{Envelope, Opened};
 use router_reading::laws::numbered_law;
 use router_reading::{Heard, hear};
 
@@ -61,8 +60,8 @@ impl Machine {
             Err(_) => return Ok(None),
         };
         match hear(self.alloc, self.desk.system(), &seen)? {
-            Heard::Lsp { level, snpa, lsp } => {
-                self.moving_lsp(opened.circuit(), level, snpa, &lsp)
+            Heard::Lsp { level, from, lsp } => {
+                self.moving_lsp(opened.circuit(), level, from, &lsp)
             }
             _ => Ok(None),
         }
@@ -73,13 +72,13 @@ impl Machine {
         &self,
         circuit: u8,
         level: Level,
-        snpa: Snpa,
+        from: Envelope,
         lsp: &LspHeard<'_>,
     ) -> Result<Option<Moving>, OutOfMemory>
         requires there { IsThere self.now circuit }
         requires reached { IsReached self.now }
         ensures { IfOk result (λ o. IfSome o (Moves self.now (model.Take (circuit - 1)
-            (model.LspHeard level (snpa_number snpa) (heard_of lsp.now))))) }
+            (model.LspHeard level (envelope_of from) (heard_of lsp.now))))) }
     {
         let on = self.level(level);
         let book = on.book();
@@ -92,7 +91,7 @@ impl Machine {
         if !self.runs(level) {
             return Ok(None);
         }
-        if self.lsp_cause(circuit, level, snpa, lsp).is_some() {
+        if self.lsp_cause(circuit, level, from, lsp).is_some() {
             return Ok(None);
         }
         let store = book.store();

@@ -71,19 +71,19 @@ impl Machine {
         ensures err { OnErr result (self.new ≡ self.old) }
     {
         match heard {
-            Heard::PointHello(hello) => Ok(self.point_hello(circuit, hello)),
-            Heard::LanHello(level, hello) => Ok(self.lan_hello(circuit, *level, hello)),
-            Heard::Lsp { level, snpa, lsp } => self.lsp(circuit, *level, *snpa, lsp, following),
+            Heard::PointHello(hello) => self.point_hello(circuit, hello),
+            Heard::LanHello(level, hello) => self.lan_hello(circuit, *level, hello),
+            Heard::Lsp { level, from, lsp } => self.lsp(circuit, *level, *from, lsp, following),
             Heard::Snp {
                 level,
-                snpa,
+                from,
                 source,
                 range,
                 entries,
             } => self.snp(
                 circuit,
                 *level,
-                (*snpa, *source),
+                (*from, *source),
                 *range,
                 entries,
                 following,

@@ -1,5 +1,5 @@
 //! What is due on a circuit is sent.
-ghost use Rattle.std.specs.Prelude.{◌≡◌, ◌≤◌, ◌<◌, ◌-◌, ◌^◌, ◌++◌, map, Some, OnOk, OnErr, IfOk, IfSome};
+ghost use Rattle.std.specs.Prelude.{◌≡◌, ◌≤◌, ◌<◌, ◌-◌, ◌^◌, ◌++◌, ℕ, map, Some, OnOk, OnErr, IfOk, IfSome};
 ghost use Rattle.isis_model.specs.Configs.{Config};
 ghost use Rattle.isis_model.specs.Events.{settled};
 ghost use Rattle.isis_model.specs.Good.{IsGoodBook};
@@ -68,14 +68,14 @@ impl Machine {
         requires there { IsThere self.now circuit }
         requires reached { IsReached self.now }
         ensures { IfOk result (λ out. IfSome (nth self.now.circuits (circuit - 1)) (λ c. out
-            ≡ map (λ says. datagram self.now.config (circuit - 1) c says)
+            ≡ map (λ says. datagram self.now.config self.now.boot (circuit - 1) c says)
             (all_due self.now (circuit - 1) c))) }
     {
         let mut out = Datagrams::new(self.alloc);
         let sender = self.sender(circuit);
         let on = self.on(circuit);
         sendable_law();
-        put_due_hellos(&mut out, self.alloc, &sender, on, self.boot)?;
+        put_due_hellos(&mut out, self.alloc, &sender, on)?;
         put_level(
             &mut out,
             self.alloc,
@@ -102,18 +102,17 @@ fn put_due_hellos(
     alloc: Global,
     sender: &Sender<'_>,
     on: &Circuit,
-    boot: u32,
 ) -> Result<(), OutOfMemory>
     requires here { 1 ≤ sender.now.circuit }
     requires areas { FitAreas sender.now }
     requires priority { sender.now.priority ≤ 127 }
-    requires boot { boot < 2 ^ 24 }
-    ensures { (r : Router) → Sends sender.now r.config (sender.now.circuit - 1) on.now
-        → r.boot ≡ boot → OnOk result (out.new ≡ out.old
+    requires boot { sender.now.boot < 2 ^ 24 }
+    ensures { (r : Router) → Sends sender.now r.config r.boot (sender.now.circuit - 1) on.now
+        → OnOk result (out.new ≡ out.old
         ++ all_octets sender.now (hellos_due r (sender.now.circuit - 1) on.now)) }
 {
     if on.hello_is_due() {
-        return put_hellos(out, alloc, sender, on, boot);
+        return put_hellos(out, alloc, sender, on);
     }
     Ok(())
 }
@@ -131,7 +130,7 @@ fn put_level(
     requires few { sender.now.circuit ≤ 64 }
     requires good { IsGoodBook (book_of book.now) }
     requires may { MaySend (sender.now.circuit - 1) book.now.store.entries book.now.rows }
-    ensures { (config : Config) → Sends sender.now config (sender.now.circuit - 1) on.now
+    ensures { (config : Config) (boot : ℕ) → Sends sender.now config boot (sender.now.circuit - 1) on.now
         → OnOk result (out.new ≡ out.old ++ all_octets sender.now
         (open_due config (sender.now.circuit - 1) on.now level (book_of book.now))) }
 {
@@ -154,7 +153,7 @@ fn put_due_csnps(
 ) -> Result<(), OutOfMemory>
     requires here { 1 ≤ sender.now.circuit }
     requires good { IsGoodBook (book_of book.now) }
-    ensures { (config : Config) → Sends sender.now config (sender.now.circuit - 1) on.now
+    ensures { (config : Config) (boot : ℕ) → Sends sender.now config boot (sender.now.circuit - 1) on.now
         → OnOk result (out.new ≡ out.old ++ all_octets sender.now
         (csnps_due config (sender.now.circuit - 1) on.now level (book_of book.now))) }
 {

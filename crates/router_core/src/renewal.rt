@@ -15,6 +15,7 @@ ghost use Rattle.router_routes.specs.Outlooks.{outlook_of};
 ghost use Rattle.router_routes.specs.Following.{IsFollowing};
 ghost use Rattle.router_core.specs.Givens.{given};
 ghost use Rattle.router_core.specs.Machines.{IsFit};
+ghost use Rattle.router_core.specs.Settled.{faces};
 ghost use Rattle.router_core.specs.Seconds.{follow_first, later_or, level_later, IsMade};
 
 use crate::machine::Machine;
@@ -39,7 +40,7 @@ impl Machine {
         requires few { length circuits.now ≤ 64 }
         requires fit { AllByRecursion IsFit circuits.now }
         ensures wanted { (before r : Router) → IsFollowing (outlook_of before) following.now
-            → r.config ≡ self.now.config → r.circuits ≡ circuits.now → IfOk result (λ list. map wanted_of list.items
+            → r.config ≡ self.now.config → faces r.circuits ≡ faces circuits.now → IfOk result (λ list. map wanted_of list.items
             ≡ model.wanted given before r level) }
         ensures issuable { IfOk result (λ list. AllByRecursion
             (λ w. IsIssuable (at self.now.config.keys level) (contents_of w)) list.items) }
@@ -79,7 +80,7 @@ impl Machine {
         requires same { length circuits.now ≡ length self.now.circuits }
         ensures state { (before r : Router) → IsFollowing (outlook_of before) following.now
             → r.config ≡ self.now.config
-            → r.circuits ≡ circuits.now → IfOk result (λ later. later_or later
+            → faces r.circuits ≡ faces circuits.now → IfOk result (λ later. later_or later
             (level_later (level_of self.now level) level circuits.now) ≡ own.renew given r
             level (level_later (level_of self.now level) level circuits.now)
             (model.wanted given before r level)) }

@@ -12,9 +12,9 @@ ghost use Rattle.router_routes.specs.Following.{IsFollowing};
 ghost use Rattle.router_core.specs.Givens.{given};
 ghost use Rattle.router_core.specs.Machines.{IsFit};
 ghost use Rattle.router_core.specs.Reached.{IsReached};
-ghost use Rattle.router_core.specs.Seconds.{later};
+ghost use Rattle.router_core.specs.Seconds.{bare_later, later};
 
-use crate::at::idle_at;
+use crate::at::{idle_at, second_at};
 use crate::machine::Machine;
 use crate::renewal::pass;
 use isis_base::{Level, OutOfMemory, SystemId};
@@ -32,23 +32,37 @@ impl Machine {
             (record { router = second given self.old; reply = Done })).router) }
         ensures err { OnErr result (self.new ≡ self.old) }
     {
-        let mut circuits = circuits_later(self.alloc, &self.circuits)?;
+        let circuits = circuits_later(self.alloc, &self.circuits)?;
         let one = self.level_renewed(&circuits, Level::One, following)?;
         let two = self.level_renewed(&circuits, Level::Two, following)?;
         pass(&mut self.one, one, &circuits, Level::One);
         pass(&mut self.two, two, &circuits, Level::Two);
-        idle_all(&mut circuits, self.desk.system());
-        self.circuits = circuits;
+        pass_circuits(&mut self.circuits);
+        idle_all(&mut self.circuits, self.desk.system());
         Ok(())
     }
 }
 
-/// Circuits a second later.
+/// A second of all circuits: their counters, then their holding times.
+pub(crate) fn pass_circuits(circuits: &mut Vec<Circuit>)
+    requires { length circuits.old.items ≤ 64 }
+    ensures state { circuits.new.items ≡ map later circuits.old.items }
+    ensures count { length circuits.new.items ≡ length circuits.old.items }
+    ensures same { map desk_circuit circuits.new.items ≡ map desk_circuit circuits.old.items }
+    ensures fit { AllByRecursion IsFit circuits.old.items
+        → AllByRecursion IsFit circuits.new.items }
+{
+    for place in 0..circuits.len() {
+        second_at(circuits, place as u8 + 1);
+    }
+}
+
+/// Copies of circuits a second later, which remember no boots: own LSPs don't look at those.
 pub(crate) fn circuits_later(
     alloc: Global,
     circuits: &[Circuit],
 ) -> Result<Vec<Circuit>, OutOfMemory>
-    ensures state { IfOk result (λ list. list.items ≡ map later circuits.now) }
+    ensures state { IfOk result (λ list. list.items ≡ map bare_later circuits.now) }
     ensures count { IfOk result (λ list. length list.items ≡ length circuits.now) }
     ensures same { IfOk result
         (λ list. map desk_circuit list.items ≡ map desk_circuit circuits.now) }
@@ -69,13 +83,12 @@ pub(crate) fn circuits_later(
     Ok(list)
 }
 
-/// A circuit a second later.
+/// One of them.
 fn circuit_later(circuit: &Circuit) -> Result<Circuit, OutOfMemory>
-    ensures { IfOk result (λ circuit_later. circuit_later ≡ later circuit.now) }
+    ensures { IfOk result (λ copy. copy ≡ bare_later circuit.now) }
 {
-    let mut circuit = circuit.copy()?;
-    circuit.count();
-    circuit.hold();
+    let mut circuit = circuit.copy_without_boots()?;
+    circuit.second();
     Ok(circuit)
 }
 

@@ -7,20 +7,21 @@ ghost use Rattle.isis_model.specs.Routers.{book_of, level_of, with_level};
 ghost use Rattle.isis_model.specs.Sets.{has};
 ghost use Rattle.isis_model.specs.Takes as takes;
 ghost use Rattle.isis_model.specs.Receiving.{is_from, scene_of, sender_of, snp_drop};
-ghost use Rattle.isis_model.specs.Numbers.{snpa_number, system_number};
+ghost use Rattle.isis_model.specs.Numbers.{system_number};
 ghost use Rattle.flag_sync.specs.Heard.{entries_of};
 ghost use Rattle.flag_sync.specs.BookStates.{IsCircuit};
 ghost use Rattle.router_levels.specs.Views.{state_of};
 ghost use Rattle.router_levels.specs.Drafts.{AreAnswers, AreReady, range_of, scene_with};
 ghost use Rattle.router_desk.specs.Causes.{name_of};
+ghost use Rattle.router_desk.specs.Opening.{envelope_of};
 ghost use Rattle.router_core.specs.Givens.{given};
 ghost use Rattle.router_core.specs.Events.{IsThere};
 
 use crate::machine::Machine;
 use designated_is::are_same_systems;
-use isis_base::{Level, LspEntry, LspId, OutOfMemory, Snpa, SystemId};
+use isis_base::{Level, LspEntry, LspId, OutOfMemory, SystemId};
 use lsp_octets::{Draft, lent_key};
-use router_desk::DropCause;
+use router_desk::{DropCause, Envelope};
 
 impl Machine {
     /// Why a sequence number PDU is dropped, if it is (ISO 10589 7.3.15.2); `partial` for a PSNP.
@@ -28,16 +29,16 @@ impl Machine {
         &self,
         circuit: u8,
         level: Level,
-        snpa: Snpa,
+        from: Envelope,
         source: SystemId,
         partial: bool,
     ) -> Option<DropCause>
         requires { IsThere self.now circuit }
         ensures { IfSome (nth self.now.circuits (circuit - 1)) (λ c. option_map name_of result
-            ≡ snp_drop self.now (circuit - 1) c level (snpa_number snpa) (system_number source)
+            ≡ snp_drop self.now (circuit - 1) c level (envelope_of from) (system_number source)
             partial) }
     {
-        if !self.is_open(circuit, level) || !self.is_from(circuit, level, snpa, source) {
+        if !self.is_open(circuit, level) || !self.is_from(circuit, level, from, source) {
             return Some(DropCause::NoAdjacency);
         }
         if partial && !self.may_take_partial(circuit, level) {
@@ -54,14 +55,14 @@ impl Machine {
         self.level(level).book().is_open(circuit)
     }
 
-    /// Whether a datagram of a level may come from this SNPA, and is this system's (ISO 10589
+    /// Whether a datagram of a level may come in this envelope, and is this system's (ISO 10589
     /// 7.3.15.2).
-    fn is_from(&self, circuit: u8, level: Level, snpa: Snpa, source: SystemId) -> bool
+    fn is_from(&self, circuit: u8, level: Level, from: Envelope, source: SystemId) -> bool
         requires { IsThere self.now circuit }
         ensures { IfSome (nth self.now.circuits (circuit - 1)) (λ c. result
-            ≡ is_from (sender_of c level (snpa_number snpa)) (system_number source)) }
+            ≡ is_from (sender_of c level (envelope_of from)) (system_number source)) }
     {
-        match self.circuits[usize::from(circuit) - 1].sender(level, snpa) {
+        match self.circuits[usize::from(circuit) - 1].sender(level, from) {
             Some(sender) => are_same_systems(sender, source),
             None => false,
         }

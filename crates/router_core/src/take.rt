@@ -139,12 +139,13 @@ impl Machine {
     pub(crate) fn sender(&self, circuit: u8) -> Sender<'_>
         requires { IsThere self.now circuit }
         ensures sends { IfSome (nth self.now.circuits (circuit - 1)) (λ c.
-            Sends result self.now.config (circuit - 1) c) }
+            Sends result self.now.config self.now.boot (circuit - 1) c) }
         ensures circuit { result.circuit ≡ circuit }
     {
         let on = &self.circuits[usize::from(circuit) - 1];
         Sender {
             system: self.desk.system(),
+            boot: self.boot,
             levels: self.desk.levels(),
             areas: self.areas.as_slice(),
             area_key: self.level_key(Level::One),

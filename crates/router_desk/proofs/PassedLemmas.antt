@@ -34,16 +34,16 @@ module _ (desk : DeskView) (c : DeskCircuit) (seen : SeenView) where
   abbrev Passed : Type 0
   Passed = AllHold (tests_of desk c seen.pdu seen.octets)
 
-  passed-pdu : (snpa : Snpa) (octets : List ℕ) (found : Result (PduView × ℕ) PduFault) → seen_pdu desk c snpa octets found ≡ Ok seen → Passed
-  passed-pdu snpa octets (Err fault) is = cc
-  passed-pdu snpa octets (Ok found) is =
+  passed-pdu : (snpa : Snpa) (boot : ℕ) (octets : List ℕ) (found : Result (PduView × ℕ) PduFault) → seen_pdu desk c snpa boot octets found ≡ Ok seen → Passed
+  passed-pdu snpa boot octets (Err fault) is = cc
+  passed-pdu snpa boot octets (Ok found) is =
       let tests = tests_of desk c found.0 (take found.1 octets) in
-      let it = is-seen (first_failing tests) (record { snpa = snpa; pdu = found.0; octets = take found.1 octets }) seen is in
+      let it = is-seen (first_failing tests) (record { snpa = snpa; boot = boot; pdu = found.0; octets = take found.1 octets }) seen is in
       subst (λ (seen : SeenView). AllHold (tests_of desk c seen.pdu seen.octets)) it.same (all-hold tests it.none)
 
-  passed-frame : (parts : Result (Snpa × List ℕ) FrameFault) → seen_frame desk c parts ≡ Ok seen → Passed
+  passed-frame : (parts : Result (Snpa × ℕ × List ℕ) FrameFault) → seen_frame desk c parts ≡ Ok seen → Passed
   passed-frame (Err fault) is = cc
-  passed-frame (Ok parts) is = passed-pdu parts.0 parts.1 (decoded parts.1) is
+  passed-frame (Ok parts) is = passed-pdu parts.0 parts.1 parts.2 (decoded parts.2) is
 
   passed-on : (datagram : List ℕ) → seen_on desk c datagram ≡ Ok seen → Passed
   unfolding seen_on

@@ -16,7 +16,7 @@ use Rattle.isis_tlv.specs.Walks.{fault_of}
 use Rattle.isis_tlv.specs.Tlvs.{TlvView, tlv_list}
 use Rattle.isis_tlv.specs.Items.{areas_of, snpas_of, entries_of, three_way_of}
 use Rattle.isis_edge.specs.declared.frame.FrameFault.{FrameFault}
-use Rattle.isis_edge.specs.declared.frame.FrameFault.TheVariants.{Short, Magic}
+use Rattle.isis_edge.specs.declared.frame.FrameFault.TheVariants.{Version, Short, Magic}
 use Rattle.isis_edge.specs.Frames as edge
 use Rattle.isis_pdu.specs.declared.fault.PduFault.{PduFault}
 use Rattle.isis_pdu.specs.Views.{PduView, tlvs_of_pdu}
@@ -24,11 +24,13 @@ use Rattle.isis_pdu.specs.Layout.{kind_of}
 use Rattle.isis_pdu.specs.Decoded.{decoded}
 use Rattle.isis_model.specs.declared.drop_name.DropName.{DropName}
 use Rattle.isis_model.specs.declared.drop_name.DropName.TheVariants as drop
+use Rattle.isis_base.specs.Fields.{u32_at}
+use Rattle.isis_model.specs.Events.{Envelope}
 use Rattle.isis_model.specs.Places.{nth}
 use Rattle.isis_model.specs.Configs.{Config}
 use Rattle.isis_model.specs.Routers.{Circuit}
 use Rattle.isis_model.specs.Numbers.{u48_of, snpa_number}
-use Rattle.isis_datagram.specs.Frames.{magic, unframed}
+use Rattle.isis_datagram.specs.Frames.{magic, first_magic, unframed}
 use Rattle.isis_datagram.specs.Values.{items_if, items_in}
 use Rattle.isis_datagram.specs.Tests as model
 use Rattle.isis_datagram.specs.Reading as reading
@@ -38,7 +40,7 @@ use Rattle.router_desk.specs.Causes.{name_of}
 use Rattle.router_desk.specs.Desks.{DeskView, is_lan, is_point, kind_of_circuit, desk_circuit, desk_of}
 use Rattle.router_desk.specs.Values.{hello_fault, snp_fault, value_fault, place_in_pdu, value_place}
 use Rattle.router_desk.specs.Table.{Test, first_failing, goes_on, is_run, key_for, auth_fault_under, tests_of}
-use Rattle.router_desk.specs.Opening.{SeenView, refused_or, seen_pdu, seen_frame, seen_by, seen_on, seen_at, message_of}
+use Rattle.router_desk.specs.Opening.{frame_cause, envelope_in, SeenView, refused_or, seen_pdu, seen_frame, seen_by, seen_on, seen_at, message_of}
 
 -- ---- frames
 
@@ -52,32 +54,40 @@ u48-take (a ∷ b ∷ c ∷ d ∷ e ∷ []) = refl
 u48-take (a ∷ b ∷ c ∷ d ∷ e ∷ f ∷ octets) = refl
 
 -- a frame as the model has it
-abbrev parts_of : Result (Snpa × List ℕ) FrameFault → Option (ℕ × List ℕ)
-parts_of (Err fault) = None
-parts_of (Ok parts) = Some (snpa_number parts.0, parts.1)
+abbrev Parts : Type 0
+Parts = Result (Envelope × List ℕ) DropName
 
-abbrev framed_by : Bool → Bool → List ℕ → Result (Snpa × List ℕ) FrameFault
-framed_by short right datagram =
-    cond short (Err Short) (cond right (Ok (record { 0 = take 6 (past 4 datagram) }, past 10 datagram)) (Err Magic))
+abbrev Framed : Type 0
+Framed = Result (Snpa × ℕ × List ℕ) FrameFault
 
-abbrev parts_by : Bool → Bool → List ℕ → Option (ℕ × List ℕ)
-parts_by long right datagram = cond (long && right) (Some (u48_of (past 4 datagram), past 10 datagram)) None
+abbrev parts_of : Framed → Parts
+parts_of (Err fault) = Err (name_of (frame_cause fault))
+parts_of (Ok parts) = Ok (record { snpa = snpa_number parts.0; boot = parts.1 }, parts.2)
 
-parts-by : (short right : Bool) (datagram : List ℕ) → parts_of (framed_by short right datagram) ≡ parts_by (not short) right datagram
-parts-by true right datagram = refl
-parts-by false true datagram = ap (λ (n : ℕ). Some (n, past 10 datagram)) (u48-take (past 4 datagram))
-parts-by false false datagram = refl
+abbrev framed_by : Bool → Bool → Bool → List ℕ → Framed
+framed_by old short right datagram =
+    cond old (Err Version) (cond short (Err Short) (cond right (Ok (record { 0 = take 6 (past 4 datagram) }, u32_at 10 datagram, past 14 datagram)) (Err Magic)))
 
-long-short : (n : ℕ) (short : Bool) → ltb n 10 ≡ short → not short ≡ leb 10 n
-long-short n true is = sym (lt-leb 10 n (ltb-true n 10 is))
-long-short n false is = sym (le-leb 10 n (ltb-false n 10 is))
+abbrev parts_by : Bool → Bool → Bool → List ℕ → Parts
+parts_by old long right datagram = cond old (Err drop.Version) (cond (long && right) (Ok (record { snpa = u48_of (past 4 datagram); boot = u32_at 10 datagram }, past 14 datagram)) (Err drop.Frame))
+
+parts-by : (old short right : Bool) (datagram : List ℕ) → parts_of (framed_by old short right datagram) ≡ parts_by old (not short) right datagram
+parts-by true short right datagram = refl
+parts-by false true right datagram = refl
+parts-by false false true datagram = ap (λ (n : ℕ). Ok (record { snpa = n; boot = u32_at 10 datagram }, past 14 datagram)) (u48-take (past 4 datagram))
+parts-by false false false datagram = refl
+
+long-short : (n : ℕ) (short : Bool) → ltb n 14 ≡ short → not short ≡ leb 14 n
+long-short n true is = sym (lt-leb 14 n (ltb-true n 14 is))
+long-short n false is = sym (le-leb 14 n (ltb-false n 14 is))
 
 parts-unframed : (datagram : List ℕ) → parts_of (edge.unframed datagram) ≡ unframed datagram
 unfolding edge.unframed unframed
 parts-unframed datagram =
+    let old = bytes_eq (take 4 datagram) first_magic in
     let right = bytes_eq (take 4 datagram) magic in
-    parts-by (ltb (length datagram) 10) right datagram
-    ∙ ap (λ (long : Bool). parts_by long right datagram) (long-short (length datagram) (ltb (length datagram) 10) refl)
+    parts-by old (ltb (length datagram) 14) right datagram
+    ∙ ap (λ (long : Bool). parts_by old long right datagram) (long-short (length datagram) (ltb (length datagram) 14) refl)
 
 -- ---- values
 
@@ -271,22 +281,22 @@ module _ (config : Config) (circuits : List Circuit) (c : Circuit) where
   abbrev its_desk : DeskView
   its_desk = desk_of config circuits
 
-  refused-reads : (found : Option DropCause) (seen : SeenView) → message_of config.system (refused_or found seen) ≡ reading.refused_or (option_map name_of found) (reading.message config.system (snpa_number seen.snpa) seen.pdu seen.octets)
+  refused-reads : (found : Option DropCause) (seen : SeenView) → message_of config.system (refused_or found seen) ≡ reading.refused_or (option_map name_of found) (reading.message config.system (envelope_in seen) seen.pdu seen.octets)
   refused-reads None seen = refl
   refused-reads (Some why) seen = refl
 
-  pdu-reads : (snpa : Snpa) (octets : List ℕ) (found : Result (PduView × ℕ) PduFault) → message_of config.system (seen_pdu its_desk (desk_circuit c) snpa octets found) ≡ reading.read_pdu config c (snpa_number snpa) octets found
-  pdu-reads snpa octets (Err fault) = refl
-  pdu-reads snpa octets (Ok found) =
+  pdu-reads : (snpa : Snpa) (boot : ℕ) (octets : List ℕ) (found : Result (PduView × ℕ) PduFault) → message_of config.system (seen_pdu its_desk (desk_circuit c) snpa boot octets found) ≡ reading.read_pdu config c (record { snpa = snpa_number snpa; boot = boot }) octets found
+  pdu-reads snpa boot octets (Err fault) = refl
+  pdu-reads snpa boot octets (Ok found) =
       let whole = take found.1 octets in
       let tests = tests_of its_desk (desk_circuit c) found.0 whole in
-      refused-reads (first_failing tests) (record { snpa = snpa; pdu = found.0; octets = whole })
-      ∙ ap (λ (name : Option DropName). reading.refused_or name (reading.message config.system (snpa_number snpa) found.0 whole))
+      refused-reads (first_failing tests) (record { snpa = snpa; boot = boot; pdu = found.0; octets = whole })
+      ∙ ap (λ (name : Option DropName). reading.refused_or name (reading.message config.system (record { snpa = snpa_number snpa; boot = boot }) found.0 whole))
       (sym (first-named tests) ∙ ap model.first_failing (tests-named config circuits c found.0 whole))
 
-  frame-reads : (parts : Result (Snpa × List ℕ) FrameFault) → message_of config.system (seen_frame its_desk (desk_circuit c) parts) ≡ reading.read_frame config c (parts_of parts)
+  frame-reads : (parts : Framed) → message_of config.system (seen_frame its_desk (desk_circuit c) parts) ≡ reading.read_frame config c (parts_of parts)
   frame-reads (Err fault) = refl
-  frame-reads (Ok parts) = pdu-reads parts.0 parts.1 (decoded parts.1)
+  frame-reads (Ok parts) = pdu-reads parts.0 parts.1 parts.2 (decoded parts.2)
 
   on-reads : (datagram : List ℕ) → message_of config.system (seen_on its_desk (desk_circuit c) datagram) ≡ reading.read config c datagram
   unfolding seen_on reading.read

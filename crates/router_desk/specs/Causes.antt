@@ -8,6 +8,7 @@ use Rattle.router_desk.specs.declared.cause.DropCause.TheVariants as cause
 -- a cause's name: the cause without its details (own)
 abbrev pub name_of : DropCause → DropName
 name_of (cause.Frame fault) = name.Frame
+name_of cause.Version = name.Version
 name_of (cause.Pdu fault) = name.Pdu
 name_of cause.TooLong = name.TooLong
 name_of cause.WrongKind = name.WrongKind

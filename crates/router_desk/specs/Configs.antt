@@ -43,6 +43,7 @@ circuit_of c = record {
   point = record { state = Down; neighbour = None };
   levels = record { one = quiet; two = quiet };
   hello = 0;
+  boots = [];
 }
 
 abbrev pub circuits_of : Config → List Circuit

@@ -10,6 +10,8 @@ use isis_pdu::PduFault;
 pub enum DropCause {
     /// It has no frame.
     Frame(FrameFault),
+    /// Its frame is of the first version.
+    Version,
     /// The octets behind the frame are no PDU (ISO 10589 9).
     Pdu(PduFault),
     /// An LSP or SNP has a PDU length above 1,492 octets.

@@ -9,7 +9,7 @@ ghost use Rattle.isis_model.specs.Both.{at};
 ghost use Rattle.isis_datagram.specs.Reading.{runs_of};
 ghost use Rattle.isis_datagram.specs.Tests.{has_number, is_summed};
 ghost use Rattle.router_desk.specs.Table as table;
-ghost use Rattle.router_desk.specs.Opening.{seen_at, seen_on, result_in, LiesIn};
+ghost use Rattle.router_desk.specs.Opening.{frame_cause, seen_at, seen_on, result_in, LiesIn};
 
 use crate::cause::DropCause;
 use crate::desk_circuit::DeskCircuit;
@@ -19,7 +19,7 @@ use crate::opened::Opened;
 use crate::values::value_place;
 use hmac_auth::{AuthFault, check_pdu};
 use isis_base::{CircuitKind, Level, LevelSet, Octets, PduKind, SystemId};
-use isis_edge::unwrap;
+use isis_edge::{FrameFault, unwrap};
 use isis_pdu::laws::framed_law;
 use isis_pdu::{Pdu, decode};
 use std::marker::Model;
@@ -74,9 +74,9 @@ impl Desk {
         ensures seen { result_in datagram.now result ≡ seen_on self.now on.now datagram.now }
         ensures lies { LiesIn datagram.now result }
     {
-        let (sender, octets) = match unwrap(datagram) {
+        let (sender, boot, octets) = match unwrap(datagram) {
             Ok(parts) => parts,
-            Err(fault) => return Err(DropCause::Frame(fault)),
+            Err(fault) => return Err(frame_cause(fault)),
         };
         let (pdu, end) = match decode(octets) {
             Ok(found) => found,
@@ -89,6 +89,7 @@ impl Desk {
                 let header = Header::of(&pdu);
                 Ok(Found {
                     sender,
+                    boot,
                     header,
                     end,
                 })
@@ -161,6 +162,17 @@ impl Desk {
             }
         };
         auth_fault(key, kind, octets)
+    }
+}
+
+/// Why a datagram without a frame is dropped.
+fn frame_cause(fault: FrameFault) -> DropCause
+    ensures { result ≡ frame_cause fault }
+{
+    match fault {
+        FrameFault::Version => DropCause::Version,
+        FrameFault::Short => DropCause::Frame(FrameFault::Short),
+        FrameFault::Magic => DropCause::Frame(FrameFault::Magic),
     }
 }
 

@@ -13,7 +13,7 @@
 //! - `cause.rt`, `naming.rt`: the causes of a drop, and their names
 //! - `header.rt`, `header_of.rt`: the fields of a PDU's header;
 //!   `found.rt`: what was found in a datagram
-//! - `opened.rt`: a datagram with what was found in it; `seen.rt`: that, lent
+//! - `opened.rt`: a datagram with what was found in it; `seen.rt`: that, lent; `envelope.rt`: whom it is from
 //! - `values.rt`: the first value that doesn't fit
 //! - `desk.rt`: the desk and its tests; `making.rt`: desks made; `parts.rt`: what a desk knows;
 //!   `desk_circuit.rt`: what the tests look at of a circuit
@@ -27,6 +27,7 @@ mod config;
 mod copies;
 mod desk;
 mod desk_circuit;
+mod envelope;
 mod found;
 mod header;
 mod header_of;
@@ -44,6 +45,7 @@ pub use cause::DropCause;
 pub use circuit_config::CircuitConfig;
 pub use config::{Change, Config};
 pub use desk::Desk;
+pub use envelope::Envelope;
 pub use isis_model::DropName;
 pub use list::{Areas, Circuits, ConfigList, Prefixes};
 pub use opened::Opened;

@@ -14,6 +14,7 @@ impl DropCause {
     {
         match *self {
             DropCause::Frame(_) => DropName::Frame,
+            DropCause::Version => DropName::Version,
             DropCause::Pdu(_) => DropName::Pdu,
             DropCause::TooLong => DropName::TooLong,
             DropCause::WrongKind => DropName::WrongKind,
@@ -37,6 +38,7 @@ fn name_of_hello(refused: HelloDrop) -> DropName
     match refused {
         HelloDrop::OwnId => DropName::OwnId,
         HelloDrop::OtherSnpa => DropName::OtherSnpa,
+        HelloDrop::OldBoot => DropName::OldBoot,
         HelloDrop::NoLevel => DropName::NoLevel,
         HelloDrop::NoArea => DropName::NoArea,
         HelloDrop::NoThreeWay => DropName::NoThreeWay,

@@ -4,13 +4,14 @@ ghost use Rattle.std.specs.Result.{result_err};
 ghost use Rattle.router_desk.specs.Opening.{LiesIn, result_in, seen_view};
 
 use crate::cause::DropCause;
+use crate::envelope::Envelope;
 use crate::found::Found;
 use crate::seen::Seen;
 use isis_base::{Octets, OutOfMemory};
 use std::marker::Model;
 
 /// How many octets stand before a datagram's PDU.
-const FRAME: usize = 10;
+const FRAME: usize = 14;
 
 /// A datagram that came on a circuit, with what the tests that need no state found in it.
 #[derive(Drop, Debug)]
@@ -88,7 +89,10 @@ impl Opened {
         let header = usize::from(found.header.kind().header_length());
         let pdu = found.header.with_tlvs(&behind[header..found.end]);
         Ok(Seen {
-            sender: found.sender,
+            from: Envelope {
+                snpa: found.sender,
+                boot: found.boot,
+            },
             pdu,
             octets: &behind[..found.end],
         })

@@ -12,6 +12,7 @@ use Rattle.isis_model.specs.Numbers.{system_number, snpa_number, node_number}
 use Rattle.isis_datagram.specs.Reading.{runs_of}
 use Rattle.isis_datagram.specs.Values.{areas_in}
 use Rattle.adjacency.specs.Views as adjacency
+use Rattle.router_desk.specs.Opening.{envelope_of}
 use Rattle.flag_sync.specs.Heard.{heard_of, entries_of}
 use Rattle.router_reading.specs.declared.heard.HelloHeard.{HelloHeard}
 use Rattle.router_reading.specs.declared.heard.Heard.{Heard}
@@ -22,6 +23,7 @@ abbrev pub hello_heard : HelloHeard → model.Hello
 hello_heard h = record {
   source = system_number h.source;
   snpa = snpa_number h.snpa;
+  boot = h.boot;
   runs = adjacency.runs_of h.levels;
   holding = h.holding;
   priority = h.priority;
@@ -31,11 +33,12 @@ hello_heard h = record {
   names_me = h.names_me;
 }
 
--- a hello from an SNPA with these fields and areas, and nothing else (own)
-abbrev pub hello_without : ℕ → LevelSet → SystemId → ℕ → List ℕ → model.Hello
-hello_without snpa levels source holding tlvs = record {
+-- a hello in an envelope with these fields and areas, and nothing else (own)
+abbrev pub hello_without : event.Envelope → LevelSet → SystemId → ℕ → List ℕ → model.Hello
+hello_without from levels source holding tlvs = record {
   source = system_number source;
-  snpa = snpa;
+  snpa = from.snpa;
+  boot = from.boot;
   runs = runs_of levels;
   holding = holding;
   priority = 0;
@@ -52,14 +55,14 @@ range_of range = option_map (λ (r : LspId × LspId). (lsp_number r.0, lsp_numbe
 abbrev pub message_of : Heard → event.Message
 message_of (heard.PointHello h) = event.PointHelloHeard (hello_heard h)
 message_of (heard.LanHello level h) = event.LanHelloHeard level (hello_heard h)
-message_of (heard.Lsp level snpa lsp) = event.LspHeard level (snpa_number snpa) (heard_of lsp)
-message_of (heard.Snp level snpa source range entries) =
-    event.SnpHeard level (snpa_number snpa) (system_number source) (range_of range)
+message_of (heard.Lsp level from lsp) = event.LspHeard level (envelope_of from) (heard_of lsp)
+message_of (heard.Snp level from source range entries) =
+    event.SnpHeard level (envelope_of from) (system_number source) (range_of range)
     (entries_of entries.items)
 
 -- an LSP has a number (ISO 10589 7.3.16.1)
 abbrev pub IsNumbered : Heard → Type 0
 IsNumbered (heard.PointHello h) = Unit {0}
 IsNumbered (heard.LanHello level h) = Unit {0}
-IsNumbered (heard.Lsp level snpa lsp) = 0 < lsp.entry.number
-IsNumbered (heard.Snp level snpa source range entries) = Unit {0}
+IsNumbered (heard.Lsp level from lsp) = 0 < lsp.entry.number
+IsNumbered (heard.Snp level from source range entries) = Unit {0}

@@ -7,13 +7,15 @@ use adjacency::HelloFields;
 use flag_sync::LspHeard;
 use isis_base::{AreaAddress, Level, LevelSet, LspEntry, LspId, NodeId, Snpa, SystemId};
 use isis_tlv::ThreeWay;
+use router_desk::Envelope;
 
-/// What a hello says (ISO 10589 9.5 to 9.7), with its area addresses. Of a point-to-point hello
+/// What a hello says (ISO 10589 9.5 to 9.7), with its area addresses, and what its frame says (own). Of a point-to-point hello
 /// priority and LAN ID are 0, and no SNPA is listed.
 #[derive(Debug, Drop)]
 pub struct HelloHeard {
     pub source: SystemId,
     pub snpa: Snpa,
+    pub boot: u32,
     pub levels: LevelSet,
     pub holding: u16,
     pub priority: u8,
@@ -31,6 +33,7 @@ impl HelloHeard {
         HelloFields {
             source: self.source,
             snpa: self.snpa,
+            boot: self.boot,
             levels: self.levels,
             holding: self.holding,
             priority: self.priority,
@@ -43,19 +46,19 @@ impl HelloHeard {
 }
 
 /// What a PDU says that a router takes: a hello; an LSP, or a sequence number PDU with its source,
-/// the range of a CSNP and its entries, with the SNPA that it came from.
+/// the range of a CSNP and its entries, with its envelope.
 #[derive(Debug, Drop)]
 pub enum Heard<'a> {
     PointHello(HelloHeard),
     LanHello(Level, HelloHeard),
     Lsp {
         level: Level,
-        snpa: Snpa,
+        from: Envelope,
         lsp: LspHeard<'a>,
     },
     Snp {
         level: Level,
-        snpa: Snpa,
+        from: Envelope,
         source: SystemId,
         range: Option<(LspId, LspId)>,
         entries: Vec<LspEntry>,

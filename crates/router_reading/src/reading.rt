@@ -3,22 +3,23 @@ ghost use Rattle.std.specs.Prelude.{◌≡◌, true, map, IfOk};
 ghost use Rattle.std.specs.Option.{option_map};
 ghost use Rattle.std.specs.Result.{ok_prefix};
 ghost use Rattle.isis_pdu.specs.Views.{pdu_view};
-ghost use Rattle.isis_model.specs.Numbers.{system_number, snpa_number};
+ghost use Rattle.isis_model.specs.Numbers.{system_number};
 ghost use Rattle.isis_datagram.specs.Reading.{message};
 ghost use Rattle.isis_datagram.specs.Tests.{has_number};
 ghost use Rattle.isis_datagram.specs.Values as values;
 ghost use Rattle.isis_datagram.specs.Values.{handshake, snp_entry};
 ghost use Rattle.adjacency.specs.Views as adjacency;
+ghost use Rattle.router_desk.specs.Opening.{envelope_of};
 ghost use Rattle.isis_model.specs.Events as event;
 ghost use Rattle.router_reading.specs.Heard.{hello_heard, hello_without, message_of, range_of, IsNumbered};
 
 use crate::heard::{Heard, HelloHeard};
 use crate::items::{areas_in, entries_in, names_own, three_way_in};
 use flag_sync::LspHeard;
-use isis_base::{Level, LevelSet, LspEntry, LspId, NodeId, OutOfMemory, Snpa, SystemId};
+use isis_base::{Level, LevelSet, LspEntry, LspId, NodeId, OutOfMemory, SystemId};
 use isis_pdu::Pdu;
 use isis_tlv::ThreeWay;
-use router_desk::Seen;
+use router_desk::{Envelope, Seen};
 use std::alloc::Global;
 
 /// No LAN ID.
@@ -32,10 +33,10 @@ const NO_LAN: NodeId = NodeId {
 pub fn hear<'a>(alloc: Global, own: SystemId, seen: &Seen<'a>) -> Result<Heard<'a>, OutOfMemory>
     requires number { has_number (pdu_view seen.now.pdu) ≡ true }
     ensures message { IfOk result (λ heard. message_of heard ≡ message (system_number own)
-        (snpa_number seen.now.sender) (pdu_view seen.now.pdu) seen.now.octets.now) }
+        (envelope_of seen.now.from) (pdu_view seen.now.pdu) seen.now.octets.now) }
     ensures numbered { IfOk result IsNumbered }
 {
-    let snpa = seen.sender;
+    let from = seen.from;
     match seen.pdu {
         Pdu::PointHello {
             circuit_type,
@@ -44,7 +45,7 @@ pub fn hear<'a>(alloc: Global, own: SystemId, seen: &Seen<'a>) -> Result<Heard<'
             tlvs,
             ..
         } => {
-            let mut hello = hello_heard(alloc, snpa, circuit_type, source, holding, tlvs)?;
+            let mut hello = hello_heard(alloc, from, circuit_type, source, holding, tlvs)?;
             hello.three_way = three_way_in(tlvs);
             handshake_words(hello.three_way);
             Ok(Heard::PointHello(hello))
@@ -58,7 +59,7 @@ pub fn hear<'a>(alloc: Global, own: SystemId, seen: &Seen<'a>) -> Result<Heard<'
             lan,
             tlvs,
         } => {
-            let mut hello = hello_heard(alloc, snpa, circuit_type, source, holding, tlvs)?;
+            let mut hello = hello_heard(alloc, from, circuit_type, source, holding, tlvs)?;
             hello.priority = priority;
             hello.lan = lan;
             hello.names_me = names_own(own, tlvs);
@@ -85,7 +86,7 @@ pub fn hear<'a>(alloc: Global, own: SystemId, seen: &Seen<'a>) -> Result<Heard<'
                 flags,
                 octets,
             };
-            Ok(Heard::Lsp { level, snpa, lsp })
+            Ok(Heard::Lsp { level, from, lsp })
         }
         Pdu::Csnp {
             level,
@@ -93,31 +94,32 @@ pub fn hear<'a>(alloc: Global, own: SystemId, seen: &Seen<'a>) -> Result<Heard<'
             start,
             end,
             tlvs,
-        } => snp(alloc, snpa, level, source, Some((start, end)), tlvs),
+        } => snp(alloc, from, level, source, Some((start, end)), tlvs),
         Pdu::Psnp {
             level,
             source,
             tlvs,
-        } => snp(alloc, snpa, level, source, None, tlvs),
+        } => snp(alloc, from, level, source, None, tlvs),
     }
 }
 
 /// What every hello says: a point-to-point one without its three-way value.
 fn hello_heard(
     alloc: Global,
-    snpa: Snpa,
+    from: Envelope,
     levels: LevelSet,
     source: SystemId,
     holding: u16,
     tlvs: &[u8],
 ) -> Result<HelloHeard, OutOfMemory>
     ensures { IfOk result (λ hello. hello_heard hello
-        ≡ hello_without (snpa_number snpa) levels source holding tlvs.now) }
+        ≡ hello_without (envelope_of from) levels source holding tlvs.now) }
 {
     let areas = areas_in(alloc, tlvs)?;
     Ok(HelloHeard {
         source,
-        snpa,
+        snpa: from.snpa,
+        boot: from.boot,
         levels,
         holding,
         priority: 0,
@@ -136,21 +138,21 @@ fn handshake_words(value: Option<ThreeWay>)
 /// A sequence number PDU.
 fn snp<'a>(
     alloc: Global,
-    snpa: Snpa,
+    from: Envelope,
     level: Level,
     source: NodeId,
     range: Option<(LspId, LspId)>,
     tlvs: &[u8],
 ) -> Result<Heard<'a>, OutOfMemory>
     ensures message { IfOk result (λ heard. message_of heard ≡ event.SnpHeard level
-        (snpa_number snpa) (system_number source.system) (range_of range)
+        (envelope_of from) (system_number source.system) (range_of range)
         (map snp_entry (ok_prefix (values.entries_in tlvs.now)))) }
     ensures numbered { IfOk result IsNumbered }
 {
     let entries = entries_in(alloc, tlvs)?;
     Ok(Heard::Snp {
         level,
-        snpa,
+        from,
         source: source.system,
         range,
         entries,

@@ -273,36 +273,68 @@ fn adapts_broken_readers_and_writers(rt: HostRuntime) {
     assert_eq!(rt; write_all(&mut StdSink::new(Broken), b""), Ok(()));
 }
 
-/// Whether a PDU is wrapped as this datagram, and unwrapped as it was.
+/// Whether a PDU is wrapped as this datagram, in boot 7, and unwrapped as it was.
 fn is_wrapped(alloc: Global, pdu: &[u8], want: &[u8]) -> Result<bool, OutOfMemory> {
     let snpa = Snpa([0, 0, 0, 0, 0, 1]);
-    let datagram = wrap(alloc, snpa, pdu)?;
-    Ok(datagram.as_slice() == want && unwrap(datagram.as_slice()) == Ok((snpa, pdu)))
+    let datagram = wrap(alloc, snpa, 7, pdu)?;
+    Ok(datagram.as_slice() == want && unwrap(datagram.as_slice()) == Ok((snpa, 7, pdu)))
 }
 
 #[test]
 fn wraps_and_unwraps(rt: HostRuntime) -> Result<(), Fail> {
-    let header = b"ISU1\x00\x00\x00\x00\x00\x01";
+    let header = b"ISU2\x00\x00\x00\x00\x00\x01\x00\x00\x00\x07";
     assert!(rt; is_wrapped(rt.alloc(), b"", header)?);
     assert!(rt;
         is_wrapped(
             rt.alloc(),
             b"\x83\x1b",
-            b"ISU1\x00\x00\x00\x00\x00\x01\x83\x1b"
+            b"ISU2\x00\x00\x00\x00\x00\x01\x00\x00\x00\x07\x83\x1b"
         )?
     );
-    assert_eq!(rt; unwrap(b""), Err(FrameFault::Short));
-    assert_eq!(rt; unwrap(b"ISU1\x00\x00\x00\x00\x00"), Err(FrameFault::Short));
-    assert_eq!(rt; unwrap(b"ISU2\x00\x00\x00\x00\x00"), Err(FrameFault::Short));
-    assert_eq!(rt;
-        unwrap(b"ISU2\x00\x00\x00\x00\x00\x01"),
-        Err(FrameFault::Magic)
-    );
-    assert_eq!(rt;
-        unwrap(b"isu1\x00\x00\x00\x00\x00\x01\x83"),
-        Err(FrameFault::Magic)
-    );
     Ok(())
+}
+
+/// Datagrams without a frame, and why; `-` is the empty one.
+const UNFRAMED: &str = "\
+- Short
+ISU Short
+ISU1 Version
+ISU1123456789 Version
+ISU11234567890 Version
+ISU112345678901 Version
+ISU2 Short
+ISU2123456789 Short
+ISU3 Short
+ISU3123456789 Short
+ISU31234567890 Magic
+isu21234567890 Magic
+xISU1234567890 Magic";
+
+/// Whether a datagram has no frame, for the reason of a row.
+fn is_unframed(row: &str) -> Option<bool> {
+    let (datagram, want) = row.split_once(' ')?;
+    let octets = if datagram == "-" { "" } else { datagram };
+    let is_right = match unwrap(octets.as_bytes()) {
+        Ok(_) => false,
+        Err(FrameFault::Version) => want == "Version",
+        Err(FrameFault::Short) => want == "Short",
+        Err(FrameFault::Magic) => want == "Magic",
+    };
+    Some(is_right)
+}
+
+fn first_framed(rows: &str) -> Option<&str> {
+    for row in rows.lines() {
+        if is_unframed(row) != Some(true) {
+            return Some(row);
+        }
+    }
+    None
+}
+
+#[test]
+fn tells_why_there_is_no_frame(rt: HostRuntime) {
+    assert_eq!(rt; first_framed(UNFRAMED), None);
 }
 
 #[test]

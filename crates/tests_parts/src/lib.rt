@@ -6,7 +6,7 @@
 //! - `entries`: entries and books that the next four share; `books`, `rows`: flag_sync
 //! - `ageing`: purge_ageing; `exchange`: snp_exchange
 //! - `fragments`: lsp_fragments
-//! - `neighbours`: adjacency; `elections`: designated_is
+//! - `neighbours`, `boots`: adjacency; `elections`: designated_is
 //! - `causes`: isis_model
 #![tactic(auto)]
 
@@ -14,6 +14,8 @@
 mod ageing;
 #[cfg(test)]
 mod books;
+#[cfg(test)]
+mod boots;
 #[cfg(test)]
 mod causes;
 #[cfg(test)]

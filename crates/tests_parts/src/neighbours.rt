@@ -1,16 +1,19 @@
-//! Rows of point-to-point adjacencies and of LANs, of adjacency: each call once, each refusal for both kinds, and 200 neighbours.
-use adjacency::{AdjChange, HelloDrop, HelloFields, LanAdj, Neighbour, Own, P2pAdj, three_way};
+//! Rows of point-to-point adjacencies and of LANs, of adjacency: each call once, each refusal for both kinds, and 200
+//! neighbours.
+use adjacency::{
+    AdjChange, Boots, HelloDrop, HelloFields, LanAdj, Neighbour, Own, P2pAdj, three_way,
+};
 use isis_base::{AreaAddress, Level, LevelSet, NodeId, OutOfMemory, Snpa, SystemId};
 use isis_tlv::{Adj, ThreeWay};
 use std::alloc::Global;
 use std::test::Fail;
 
-const MINE: SystemId = SystemId([0, 0, 0, 0, 0, 1]);
+pub const MINE: SystemId = SystemId([0, 0, 0, 0, 0, 1]);
 
-const OTHER: SystemId = SystemId([0, 0, 0, 0, 0, 2]);
+pub const OTHER: SystemId = SystemId([0, 0, 0, 0, 0, 2]);
 
 /// One's own part, in an area.
-fn own<'a>(areas: &'a [AreaAddress]) -> Own<'a> {
+pub fn own<'a>(areas: &'a [AreaAddress]) -> Own<'a> {
     Own {
         system: MINE,
         id: 257,
@@ -19,11 +22,12 @@ fn own<'a>(areas: &'a [AreaAddress]) -> Own<'a> {
     }
 }
 
-/// A hello of another system, over a link or a LAN, with a holding time of 2 seconds.
-fn hello<'a>(state: Adj, areas: &'a [AreaAddress]) -> HelloFields<'a> {
+/// A hello of another system in boot 2, over a link or a LAN, with a holding time of 2 seconds.
+pub fn hello<'a>(state: Adj, areas: &'a [AreaAddress]) -> HelloFields<'a> {
     HelloFields {
         source: OTHER,
         snpa: Snpa(OTHER.0),
+        boot: 2,
         levels: LevelSet::One,
         holding: 2,
         priority: 64,
@@ -42,7 +46,7 @@ fn hello<'a>(state: Adj, areas: &'a [AreaAddress]) -> HelloFields<'a> {
 }
 
 /// A LAN hello of system 9.0.0.0.0.number.
-fn lan_hello<'a>(
+pub fn lan_hello<'a>(
     number: u8,
     holding: u16,
     names_me: bool,
@@ -60,22 +64,32 @@ fn lan_hello<'a>(
 }
 
 /// The area 49.0001, or with another last octet.
-fn area(last: u8) -> Option<AreaAddress> {
+pub fn area(last: u8) -> Option<AreaAddress> {
     AreaAddress::new(&[0x49, 0, last])
 }
 
 /// What comes of a hello in a state.
-fn heard(adjacency: &mut P2pAdj, areas: &[AreaAddress], state: Adj) -> Option<AdjChange> {
-    adjacency.hear_hello(&own(areas), &hello(state, areas)).ok()
+fn heard(
+    adjacency: &mut P2pAdj,
+    areas: &[AreaAddress],
+    state: Adj,
+    boots: &mut Boots,
+) -> Option<AdjChange> {
+    adjacency
+        .hear_hello(&own(areas), &hello(state, areas), boots)
+        .ok()
 }
 
 #[test]
 fn comes_up_and_ends(rt: HostRuntime) -> Result<(), Fail> {
     let areas = [area(1).ok_or("an area")?];
+    let mut boots = Boots::new(rt.alloc())?;
     let mut adjacency = P2pAdj::new();
-    assert!(rt; heard(&mut adjacency, &areas, Adj::Down) == Some(AdjChange::Moved));
+    let moved = heard(&mut adjacency, &areas, Adj::Down, &mut boots);
+    assert!(rt; moved == Some(AdjChange::Moved));
     assert!(rt; adjacency.state() == Adj::Initializing);
-    assert!(rt; heard(&mut adjacency, &areas, Adj::Initializing) == Some(AdjChange::WentUp));
+    let up = heard(&mut adjacency, &areas, Adj::Initializing, &mut boots);
+    assert!(rt; up == Some(AdjChange::WentUp));
     assert!(rt; adjacency.state() == three_way(Adj::Initializing, Adj::Initializing));
     assert!(rt; adjacency.names_boot() == Some(2));
     assert!(rt; adjacency.second() == AdjChange::None && adjacency.neighbour().is_some());
@@ -87,17 +101,24 @@ fn comes_up_and_ends(rt: HostRuntime) -> Result<(), Fail> {
 const REFUSALS: &str = "\
 mine OwnId OwnId
 elsewhere OtherSnpa OtherSnpa
+old OldBoot OldBoot
+oldtwo OldBoot OldBoot
 two NoLevel NoLevel
 far NoArea NoArea
 plain NoThreeWay -
 named OtherNeighbour -";
 
-/// A hello that is spoilt.
+/// A hello that is spoilt, in boot 2 where it isn't old.
 fn spoilt<'a>(how: &str, areas: &'a [AreaAddress], others: &'a [AreaAddress]) -> HelloFields<'a> {
     let mut hello = hello(Adj::Down, areas);
     match how.as_bytes() {
         b"mine" => hello.source = MINE,
         b"elsewhere" => hello.snpa = Snpa(MINE.0),
+        b"old" => hello.boot = 0,
+        b"oldtwo" => {
+            hello.boot = 0;
+            hello.levels = LevelSet::Two;
+        }
         b"two" => hello.levels = LevelSet::Two,
         b"far" => hello.areas = others,
         b"plain" => hello.three_way = None,
@@ -117,6 +138,7 @@ fn drop_of(word: &str) -> Option<HelloDrop> {
     match word.as_bytes() {
         b"OwnId" => Some(HelloDrop::OwnId),
         b"OtherSnpa" => Some(HelloDrop::OtherSnpa),
+        b"OldBoot" => Some(HelloDrop::OldBoot),
         b"NoLevel" => Some(HelloDrop::NoLevel),
         b"NoArea" => Some(HelloDrop::NoArea),
         b"NoThreeWay" => Some(HelloDrop::NoThreeWay),
@@ -125,10 +147,27 @@ fn drop_of(word: &str) -> Option<HelloDrop> {
     }
 }
 
+/// Boots in which the other system's boot 1 is remembered.
+fn remembering(alloc: Global) -> Option<Boots> {
+    let mut boots = Boots::new(alloc).ok()?;
+    let heard = boots.hear(OTHER, 1);
+    if heard.is_ok() { Some(boots) } else { None }
+}
+
+/// The boot of the other system that is remembered, where a hello of its boot 2 is refused or not.
+fn is_remembered(boots: &Boots, why: Option<HelloDrop>) -> bool {
+    boots.heard(OTHER) == Some(if why.is_some() { 1 } else { 2 })
+}
+
 /// Whether a hello is refused so over a link.
-fn is_refused_over_link(own: &Own<'_>, hello: &HelloFields<'_>, why: Option<HelloDrop>) -> bool {
+fn is_refused_over_link(
+    own: &Own<'_>,
+    hello: &HelloFields<'_>,
+    boots: &mut Boots,
+    why: Option<HelloDrop>,
+) -> bool {
     let mut point = P2pAdj::new();
-    point.hear_hello(own, hello).err() == why
+    point.hear_hello(own, hello, boots).err() == why && is_remembered(boots, why)
 }
 
 /// Whether a hello is refused so on a LAN, and its sender heard where it isn't refused.
@@ -136,10 +175,32 @@ fn is_refused_on_lan(
     lan: &mut LanAdj,
     own: &Own<'_>,
     hello: &HelloFields<'_>,
+    boots: &mut Boots,
     why: Option<HelloDrop>,
 ) -> bool {
-    let got = lan.hear_hello(own, Level::One, hello).err();
-    got == why && lan.heard().len() == usize::from(why.is_none())
+    let got = lan.hear_hello(own, Level::One, hello, boots).err();
+    got == why && is_remembered(boots, why) && lan.heard().len() == usize::from(why.is_none())
+}
+
+fn is_right_over_link(
+    alloc: Global,
+    own: &Own<'_>,
+    hello: &HelloFields<'_>,
+    why: &str,
+) -> Option<bool> {
+    let mut boots = remembering(alloc)?;
+    Some(is_refused_over_link(own, hello, &mut boots, drop_of(why)))
+}
+
+fn is_right_on_lan(
+    alloc: Global,
+    own: &Own<'_>,
+    hello: &HelloFields<'_>,
+    why: &str,
+) -> Option<bool> {
+    let mut boots = remembering(alloc)?;
+    let mut lan = LanAdj::new(alloc).ok()?;
+    Some(is_refused_on_lan(&mut lan, own, hello, &mut boots, drop_of(why)))
 }
 
 fn is_refused(
@@ -152,9 +213,8 @@ fn is_refused(
     let (over_link, on_lan) = rest.split_once(' ')?;
     let own = own(areas);
     let hello = spoilt(how, areas, others);
-    let mut lan = LanAdj::new(alloc).ok()?;
-    let is_right = is_refused_over_link(&own, &hello, drop_of(over_link));
-    Some(is_right && is_refused_on_lan(&mut lan, &own, &hello, drop_of(on_lan)))
+    let is_right = is_right_over_link(alloc, &own, &hello, over_link)?;
+    Some(is_right && is_right_on_lan(alloc, &own, &hello, on_lan)?)
 }
 
 fn first_misjudged<'a>(
@@ -195,10 +255,10 @@ const TURNS: [(u8, bool, AdjChange, usize, usize); 7] = [
 ];
 
 /// The place of the first turn that goes otherwise.
-fn first_wrong_turn(lan: &mut LanAdj, areas: &[AreaAddress]) -> Option<usize> {
+fn first_wrong_turn(lan: &mut LanAdj, areas: &[AreaAddress], boots: &mut Boots) -> Option<usize> {
     for (place, (number, names_me, change, heard, up)) in TURNS.iter().enumerate() {
         let hello = lan_hello(*number, 2, *names_me, areas);
-        let got = lan.hear_hello(&own(areas), Level::One, &hello);
+        let got = lan.hear_hello(&own(areas), Level::One, &hello, boots);
         if got != Ok(*change) || lan.heard().len() != *heard || lan.up().len() != *up {
             return Some(place);
         }
@@ -225,10 +285,10 @@ fn are_heard(lan: &LanAdj, heard: &[u8], up: &[u8]) -> bool {
 }
 
 /// Whether the neighbours of the turns end in their seconds, of which one has three.
-fn all_end(lan: &mut LanAdj, areas: &[AreaAddress]) -> bool {
+fn all_end(lan: &mut LanAdj, areas: &[AreaAddress], boots: &mut Boots) -> bool {
     let first = lan.second() == AdjChange::None;
     let longer = lan_hello(3, 3, true, areas);
-    let again = lan.hear_hello(&own(areas), Level::One, &longer) == Ok(AdjChange::None);
+    let again = lan.hear_hello(&own(areas), Level::One, &longer, boots) == Ok(AdjChange::None);
     let moved = lan.second() == AdjChange::Moved && are_heard(lan, &[3], &[3]);
     let third = lan.second() == AdjChange::None;
     let left = lan.second() == AdjChange::LeftUp && are_heard(lan, &[], &[]);
@@ -236,19 +296,24 @@ fn all_end(lan: &mut LanAdj, areas: &[AreaAddress]) -> bool {
 }
 
 /// Whether a copy stays as it was while the neighbours end.
-fn is_copied(lan: &mut LanAdj, areas: &[AreaAddress]) -> Result<bool, OutOfMemory> {
+fn is_copied(
+    lan: &mut LanAdj,
+    areas: &[AreaAddress],
+    boots: &mut Boots,
+) -> Result<bool, OutOfMemory> {
     let copy = lan.copy()?;
     let is_same = are_heard(&copy, &[3, 5, 7], &[3]);
-    Ok(is_same && all_end(lan, areas) && copy.heard().len() == 3)
+    Ok(is_same && all_end(lan, areas, boots) && copy.heard().len() == 3)
 }
 
 #[test]
 fn hears_neighbours_on_a_lan(rt: HostRuntime) -> Result<(), Fail> {
     let areas = [area(1).ok_or("an area")?];
+    let mut boots = Boots::new(rt.alloc())?;
     let mut lan = LanAdj::new(rt.alloc())?;
-    assert_eq!(rt; first_wrong_turn(&mut lan, &areas), None);
+    assert_eq!(rt; first_wrong_turn(&mut lan, &areas, &mut boots), None);
     assert!(rt; are_heard(&lan, &[3, 5, 7], &[3]));
-    assert!(rt; is_copied(&mut lan, &areas)?);
+    assert!(rt; is_copied(&mut lan, &areas, &mut boots)?);
     Ok(())
 }
 
@@ -258,18 +323,16 @@ fn heard_on_lan(
     areas: &[AreaAddress],
     number: u8,
     names_me: bool,
+    boots: &mut Boots,
 ) -> Result<AdjChange, HelloDrop> {
-    lan.hear_hello(
-        &own(areas),
-        Level::One,
-        &lan_hello(number, 1, names_me, areas),
-    )
+    let hello = lan_hello(number, 1, names_me, areas);
+    lan.hear_hello(&own(areas), Level::One, &hello, boots)
 }
 
 /// The first of 200 neighbours that isn't heard, of whom every second one names one's own SNPA.
-fn first_not_heard(lan: &mut LanAdj, areas: &[AreaAddress]) -> Option<u8> {
+fn first_not_heard(lan: &mut LanAdj, areas: &[AreaAddress], boots: &mut Boots) -> Option<u8> {
     for number in 0..200u8 {
-        if heard_on_lan(lan, areas, number, number % 2 == 0).is_err() {
+        if heard_on_lan(lan, areas, number, number % 2 == 0, boots).is_err() {
             return Some(number);
         }
     }
@@ -279,12 +342,16 @@ fn first_not_heard(lan: &mut LanAdj, areas: &[AreaAddress]) -> Option<u8> {
 #[test]
 fn hears_200_neighbours(rt: HostRuntime) -> Result<(), Fail> {
     let areas = [area(1).ok_or("an area")?];
+    let mut boots = Boots::new(rt.alloc())?;
     let mut lan = LanAdj::new(rt.alloc())?;
-    assert_eq!(rt; first_not_heard(&mut lan, &areas), None);
-    assert!(rt; heard_on_lan(&mut lan, &areas, 200, true) == Err(HelloDrop::TooMany));
-    assert!(rt; heard_on_lan(&mut lan, &areas, 199, true) == Ok(AdjChange::WentUp));
+    assert_eq!(rt; first_not_heard(&mut lan, &areas, &mut boots), None);
+    let full = heard_on_lan(&mut lan, &areas, 200, true, &mut boots);
+    assert!(rt; full == Err(HelloDrop::TooMany));
+    let last = heard_on_lan(&mut lan, &areas, 199, true, &mut boots);
+    assert!(rt; last == Ok(AdjChange::WentUp));
     assert!(rt; lan.heard().len() == 200 && lan.up().len() == 101);
     assert!(rt; lan.second() == AdjChange::LeftUp);
-    assert!(rt; heard_on_lan(&mut lan, &areas, 200, true) == Ok(AdjChange::WentUp));
+    let one_more = heard_on_lan(&mut lan, &areas, 200, true, &mut boots);
+    assert!(rt; one_more == Ok(AdjChange::WentUp));
     Ok(())
 }

@@ -7,6 +7,7 @@ use adjacency::{HelloDrop, HelloFields, Own};
 use isis_base::{CircuitKind, Level, LevelSet, NodeId, OutOfMemory, Snpa, SystemId};
 use isis_tlv::{Adj, ThreeWay};
 use router_circuits::{Circuit, Designated};
+use router_desk::Envelope;
 use std::alloc::Global;
 
 const MINE: SystemId = FIRST;
@@ -19,6 +20,22 @@ const LAN: NodeId = NodeId {
 };
 
 const SNPA: Snpa = Snpa([0, 0, 0, 0, 0, 2]);
+
+/// What the frames of the other system say, in its second boot; of another SNPA; and of the boot before.
+const FROM: Envelope = Envelope {
+    snpa: SNPA,
+    boot: 2,
+};
+
+const FROM_MINE: Envelope = Envelope {
+    snpa: Snpa([0, 0, 0, 0, 0, 1]),
+    boot: 2,
+};
+
+const FROM_BEFORE: Envelope = Envelope {
+    snpa: SNPA,
+    boot: 1,
+};
 
 const L2: Level = Level::Two;
 
@@ -41,13 +58,14 @@ fn own<'a>() -> Own<'a> {
     }
 }
 
-/// A hello from the SNPA of another system, in its second boot, with a holding time of 2 seconds.
+/// A hello from the SNPA of another system, in its second boot, with a holding time of 3 seconds.
 fn hello<'a>(source: SystemId) -> HelloFields<'a> {
     HelloFields {
         source,
         snpa: SNPA,
+        boot: 2,
         levels: LevelSet::Two,
-        holding: 2,
+        holding: 3,
         priority: 64,
         lan: LAN,
         areas: &[],
@@ -90,8 +108,9 @@ fn wrong_when_heard(lan: &Circuit) -> Option<usize> {
         !lan.is_open(Level::One),
         lan.heard(L2).len() == 1,
         lan.up(L2).len() == 1,
-        lan.sender(L2, SNPA) == Some(OTHER),
-        lan.sender(L2, Snpa(MINE.0)).is_none(),
+        lan.sender(L2, FROM) == Some(OTHER),
+        lan.sender(L2, FROM_MINE).is_none(),
+        lan.sender(L2, FROM_BEFORE).is_none(),
         lan.designated(MINE, 3, L2) == Some(designated),
         lan.lan_id(MINE, 3, L2) == LAN,
         !lan.is_designated(MINE, 3, L2),
@@ -100,23 +119,37 @@ fn wrong_when_heard(lan: &Circuit) -> Option<usize> {
 }
 
 /// Hears a hello on a LAN; the first row that is wrong then.
-fn hears_lan(lan: &mut Circuit) -> Option<usize>
+fn hears_lan(alloc: Global, lan: &mut Circuit) -> Option<usize>
     requires { lan.old.lan ≡ true }
 {
-    match lan.hear_lan(&own(), L2, &hello(OTHER)) {
-        Ok(_) => wrong_when_heard(lan),
-        Err(_) => Some(99),
+    match lan.hear_lan(alloc, &own(), L2, &hello(OTHER)) {
+        Ok(Ok(_)) => wrong_when_heard(lan),
+        _ => Some(99),
     }
 }
 
-/// Whether what was heard on a LAN is held for two seconds.
-fn is_held(lan: &mut Circuit) -> bool {
+/// Whether what was heard on a LAN is held for three seconds, and its boot is remembered for longer.
+fn is_held(alloc: Global, lan: &mut Circuit) -> bool {
     lan.csnp_sent(L2);
     lan.idle(MINE, 3);
-    lan.hold();
+    lan.second();
+    lan.second();
     let held = lan.is_open(L2);
-    lan.hold();
-    held & !lan.is_open(L2) & lan.hello_is_due()
+    lan.second();
+    let left = !lan.is_open(L2) & lan.hello_is_due();
+    held & left & remembers(alloc, lan)
+}
+
+/// Whether a hello of the boot before is too old for a LAN.
+fn remembers(alloc: Global, lan: &mut Circuit) -> bool {
+    if !lan.is_lan() {
+        return false;
+    }
+    let before = HelloFields {
+        boot: 1,
+        ..hello(OTHER)
+    };
+    lan.hear_lan(alloc, &own(), L2, &before) == Ok(Err(HelloDrop::OldBoot))
 }
 
 /// Whether a copy changes alone.
@@ -131,19 +164,19 @@ fn wrong_on_a_lan(alloc: Global) -> Result<([Option<usize>; 2], [bool; 2]), OutO
     let mut lan = circuit_of(alloc, CircuitKind::Lan)?;
     let first = wrong_at_first(&lan);
     let copied = is_copied(&lan);
-    let heard = hears_lan(&mut lan);
-    let held = is_held(&mut lan);
+    let heard = hears_lan(alloc, &mut lan);
+    let held = is_held(alloc, &mut lan);
     drop(lan);
     Ok(([first, heard], [copied?, held]))
 }
 
 /// Whether a hello with one's own system ID is refused over a link, and leaves it shut.
-fn is_refused(link: &mut Circuit) -> bool
+fn is_refused(alloc: Global, link: &mut Circuit) -> bool
     requires { link.old.lan ≡ false }
     ensures { link.new.lan ≡ false }
 {
-    let refused = link.hear_point(&own(), &hello(MINE)) == Err(HelloDrop::OwnId);
-    refused & !link.is_csnp_due(MINE, 3, L2)
+    let heard = link.hear_point(alloc, &own(), &hello(MINE));
+    (heard == Ok(Err(HelloDrop::OwnId))) & !link.is_csnp_due(MINE, 3, L2)
 }
 
 /// The first row that is wrong of a link over which another system was heard.
@@ -155,7 +188,8 @@ fn wrong_when_up(link: &Circuit) -> Option<usize> {
         link.hello_is_due(),
         link.is_csnp_due(MINE, 3, L2),
         link.is_open(L2),
-        link.sender(L2, SNPA) == Some(OTHER),
+        link.sender(L2, FROM) == Some(OTHER),
+        link.sender(L2, FROM_BEFORE).is_none(),
         link.names_boot() == Some(2),
         !link.may_answer(L2),
         link.heard(L2).is_empty(),
@@ -164,21 +198,21 @@ fn wrong_when_up(link: &Circuit) -> Option<usize> {
 
 /// Whether an answer may be sent after two seconds, and no CSNP is due once it was sent.
 fn is_counted(link: &mut Circuit) -> bool {
-    link.count();
-    link.count();
+    link.second();
+    link.second();
     link.csnp_sent(L2);
     link.may_answer(L2) & !link.is_csnp_due(MINE, 3, L2)
 }
 
 /// Whether a hello of another system is heard over a link, and what is due is as it should be.
-fn hears_point(link: &mut Circuit) -> ([bool; 4], Option<usize>)
+fn hears_point(alloc: Global, link: &mut Circuit) -> ([bool; 4], Option<usize>)
     requires { link.old.lan ≡ false }
 {
     link.hello_sent();
     link.answer_sent(L2);
-    let refused = is_refused(link);
+    let refused = is_refused(alloc, link);
     let sent = !link.hello_is_due();
-    let heard = link.hear_point(&own(), &hello(OTHER)) == Ok(true);
+    let heard = link.hear_point(alloc, &own(), &hello(OTHER)) == Ok(Ok(true));
     let wrong = wrong_when_up(link);
     ([refused, sent, heard, is_counted(link)], wrong)
 }
@@ -186,7 +220,7 @@ fn hears_point(link: &mut Circuit) -> ([bool; 4], Option<usize>)
 /// The same of a link that is made.
 fn over_a_link(alloc: Global) -> Result<([bool; 4], Option<usize>), OutOfMemory> {
     let mut link = circuit_of(alloc, CircuitKind::PointToPoint)?;
-    let heard = hears_point(&mut link);
+    let heard = hears_point(alloc, &mut link);
     drop(link);
     Ok(heard)
 }

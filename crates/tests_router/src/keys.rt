@@ -17,12 +17,8 @@ const SECOND: LspId = LspId {
 };
 
 /// Each fault with its words.
-const WORDS: [(LabFault, &str); 10] = [
+const WORDS: [(LabFault, &str); 9] = [
     (LabFault::NotSent { sent: 7 }, "not sent; 7 were"),
-    (
-        LabFault::Stale { boot: 2 },
-        "stale: the sender is at boot 2",
-    ),
     (LabFault::NotOn, "not on the link"),
     (LabFault::Limit(LimitName::Routers), "limit of routers"),
     (LabFault::Limit(LimitName::Links), "limit of links"),

@@ -4,7 +4,7 @@ use crate::made::{FIRST, HELLO};
 use isis_base::{Level, OutOfMemory, Snpa, SystemId};
 use isis_pdu::{Pdu, decode};
 use isis_tlv::Adj;
-use router_desk::Seen;
+use router_desk::{Envelope, Seen};
 use router_reading::{Heard, HelloHeard, hear};
 use std::alloc::Global;
 
@@ -23,19 +23,28 @@ const OWN: SystemId = SystemId([0, 0, 0, 0, 0, 9]);
 
 const SENDER: Snpa = Snpa([0, 0, 0, 0, 0, 1]);
 
+/// The boot that stands in the frames.
+const BOOT: u32 = 7;
+
+/// Whether these are the SNPA and the boot that stand in the frames.
+fn is_from(snpa: Snpa, boot: u32) -> bool {
+    (snpa == SENDER) & (boot == BOOT)
+}
+
 /// Whether a hello says what the first of the PDUs does.
 fn is_point_hello(hello: &HelloHeard) -> bool {
     let Some(value) = hello.three_way else {
         return false;
     };
     let state = (value.state == Adj::Down) & (value.own_id == Some(257));
-    state & (hello.fields().areas.len() == 1)
+    let fields = hello.fields();
+    state & (fields.areas.len() == 1) & is_from(fields.snpa, fields.boot)
 }
 
 /// Whether a hello says what the second of the PDUs does.
 fn is_lan_hello(hello: &HelloHeard) -> bool {
     let head = (hello.priority == 64) & (hello.lan.pseudonode == 2);
-    head & (hello.areas.len() == 2) & hello.names_me
+    head & (hello.areas.len() == 2) & hello.names_me & is_from(hello.snpa, hello.boot)
 }
 
 /// Whether this is what one of the PDUs says.
@@ -45,12 +54,13 @@ fn is_right(place: usize, heard: &Heard<'_>) -> bool {
         Heard::LanHello(level, hello) => {
             (place == 1) & (*level == Level::One) & is_lan_hello(hello)
         }
-        Heard::Lsp { level, snpa, lsp } => {
-            let head = (place == 2) & (*level == Level::Two) & (*snpa == SENDER);
+        Heard::Lsp { level, from, lsp } => {
+            let head = (place == 2) & (*level == Level::Two) & is_from(from.snpa, from.boot);
             let key = (lsp.entry.number == 7) & (lsp.entry.lifetime == 0);
             head & key & (lsp.octets.len() == 27)
         }
         Heard::Snp {
+            from,
             source,
             range,
             entries,
@@ -58,7 +68,7 @@ fn is_right(place: usize, heard: &Heard<'_>) -> bool {
         } => {
             let whole = (place == 3) & (entries.len() == 2) & range.is_some();
             let part = (place == 4) & entries.is_empty() & range.is_none();
-            (*source == FIRST) & (whole | part)
+            (*source == FIRST) & is_from(from.snpa, from.boot) & (whole | part)
         }
     }
 }
@@ -72,7 +82,10 @@ fn is_heard(alloc: Global, place: usize, octets: &[u8]) -> Result<bool, OutOfMem
         return Ok(false);
     }
     let seen = Seen {
-        sender: SENDER,
+        from: Envelope {
+            snpa: SENDER,
+            boot: BOOT,
+        },
         pdu,
         octets,
     };

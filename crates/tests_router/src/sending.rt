@@ -24,8 +24,8 @@ const CSNP: &[u8] =
 const PSNP: &[u8] =
     b"\x83\x11\x01\x00\x1a\x01\x00\x00\x00\x36\x00\x00\x00\x00\x00\x01\x00\x0a\x11\x36\x2d\x44\x2b\x81\xda\xe6\x68\x4b\xd0\x18\xc7\xb2\xb8\x35\xf0\x1d\x09\x10\x04\xb0\x00\x00\x00\x00\x00\x01\x00\x01\x00\x00\x00\x01\x01\x02";
 
-/// What stands before each PDU.
-const FRAME: &[u8] = b"ISU1\x00\x00\x00\x00\x00\x01";
+/// What stands before each PDU, in boot 7.
+const FRAME: &[u8] = b"ISU2\x00\x00\x00\x00\x00\x01\x00\x00\x00\x07";
 
 /// A LAN of the system.
 const LAN_ID: NodeId = NodeId {
@@ -39,7 +39,7 @@ fn is_framed(datagram: &[u8], pdu: &[u8]) -> bool {
     long & datagram.starts_with(FRAME) & datagram.ends_with(pdu)
 }
 
-/// The system on circuit 1.
+/// The system on circuit 1, in boot 7.
 fn sender<'a>(
     areas: &'a [AreaAddress],
     levels: LevelSet,
@@ -51,6 +51,7 @@ fn sender<'a>(
 {
     Sender {
         system: FIRST,
+        boot: 7,
         levels,
         areas,
         area_key: Some(b"area"),
@@ -69,6 +70,7 @@ fn neighbour(last: u8) -> Neighbour {
         system: SystemId(octets),
         snpa: Snpa(octets),
         id: 513,
+        boot: 2,
         levels: LevelSet::Both,
         priority: 64,
         lan: LAN_ID,

@@ -17,6 +17,7 @@ fn hello<'a>(areas: &'a [AreaAddress]) -> HelloFields<'a> {
     HelloFields {
         source: SECOND,
         snpa: SNPA,
+        boot: 1,
         levels: LevelSet::One,
         holding: 30,
         priority: 1,
@@ -39,7 +40,7 @@ fn lan(alloc: Global, areas: &[AreaAddress]) -> Result<Circuit, OutOfMemory>
         levels: LevelSet::Both,
         areas,
     };
-    let _ = lan.hear_lan(&own, Level::One, &hello(areas));
+    let _ = lan.hear_lan(alloc, &own, Level::One, &hello(areas));
     lan.set_metric(10);
     Ok(lan)
 }

@@ -1,5 +1,5 @@
 //! Laws of adjacencies: which circuits are open, whom they keep, and what hellos tell of it.
-ghost use Rattle.std.specs.Prelude.{◌≡◌, ℕ, false, ◌&&◌, Some, None};
+ghost use Rattle.std.specs.Prelude.{◌≡◌, ◌≢◌, ℕ, true, false, List, Option, ◌&&◌, Some, None};
 ghost use Rattle.isis_base.specs.declared.level.Level.{Level};
 ghost use Rattle.isis_model.specs.Both.{at};
 ghost use Rattle.isis_model.specs.Configs.{Config};
@@ -7,9 +7,14 @@ ghost use Rattle.isis_model.specs.Routers.{Router, Circuit, some_up};
 ghost use Rattle.isis_model.specs.Elections.{Candidate, beats, designated};
 ghost use Rattle.isis_model.specs.ElectionLaws.{IsElected, SameRank};
 ghost use Rattle.isis_model.specs.Givens.{Given};
-ghost use Rattle.isis_model.specs.Events.{Event};
+ghost use Rattle.isis_model.specs.declared.drop_name.DropName.TheVariants.{NoAdjacency};
+ghost use Rattle.isis_model.specs.Places.{nth};
+ghost use Rattle.isis_model.specs.Cells.{Heard};
+ghost use Rattle.isis_model.specs.SnpTable.{SnpEntry};
+ghost use Rattle.isis_model.specs.Drops.{count_drop};
+ghost use Rattle.isis_model.specs.Events.{Envelope, LspHeard, SnpHeard, Event, Take};
 ghost use Rattle.isis_model.specs.Steps.{step};
-ghost use Rattle.isis_model.specs.AdjacencyLaws.{FollowsAdjacencies, AreBonds, NewcomerIsFlagged, Stays, Bonds, place_of, IsReplyGreeting};
+ghost use Rattle.isis_model.specs.AdjacencyLaws.{is_point, tie_at, FollowsAdjacencies, AreBonds, NewcomerIsFlagged, Stays, Bonds, place_of, IsReplyGreeting};
 
 /// A book's open circuits are those whose adjacency is up, before and after a step.
 pub fn step_follows()
@@ -32,6 +37,21 @@ pub fn step_bonds()
         → AreBonds r → AreBonds (step given r event).router }
     ensures greets { (given : Given) (r : Router) (event : Event)
         → IsReplyGreeting (step given r event).router (place_of event) (step given r event).reply }
+{}
+
+/// A point-to-point circuit takes no LSP or SNP but of the boot that it keeps: it is dropped, and its
+/// counter alone changes.
+pub fn step_strange()
+    ensures lsp { (given : Given) (r : Router) (place : ℕ) (level : Level) (from : Envelope)
+        (h : Heard) → is_point (nth r.circuits place) ≡ true
+        → (tie_at r place).boot ≢ Some from.boot
+        → (step given r (Take place (LspHeard level from h))).router
+        ≡ record r { drops = count_drop r.drops NoAdjacency } }
+    ensures snp { (given : Given) (r : Router) (place : ℕ) (level : Level) (from : Envelope)
+        (source : ℕ) (range : Option (ℕ × ℕ)) (entries : List SnpEntry)
+        → is_point (nth r.circuits place) ≡ true → (tie_at r place).boot ≢ Some from.boot
+        → (step given r (Take place (SnpHeard level from source range entries))).router
+        ≡ record r { drops = count_drop r.drops NoAdjacency } }
 {}
 
 /// Who is designated on a LAN and level (ISO 10589 8.4.5): a candidate that stands behind none, by

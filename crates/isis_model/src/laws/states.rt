@@ -133,9 +133,9 @@ pub fn step_drops()
 
 /// Each cause has a counter of its own, which rises to its type's end.
 pub fn count_laws()
-    ensures counted { (drops : List ℕ) (cause : DropName) → length drops ≡ 19
+    ensures counted { (drops : List ℕ) (cause : DropName) → length drops ≡ 21
         → drops_of (count_drop drops cause) cause ≡ risen (drops_of drops cause) }
     ensures others { (drops : List ℕ) (cause other : DropName) → other ≢ cause
         → drops_of (count_drop drops cause) other ≡ drops_of drops other }
-    ensures places { (cause : DropName) → drop_place cause < 19 }
+    ensures places { (cause : DropName) → drop_place cause < 21 }
 {}

@@ -1,10 +1,10 @@
-use Rattle.std.proofs.Common.{◌∙◌, arith}
-use Rattle.adjacency.proofs.LanLemmas.{up-rises, put-few, up-few, lan-kept, is_lan-kept, found-heard, found-up}
+use Rattle.std.proofs.Common.{◌∙◌, sym, arith}
+use Rattle.adjacency.proofs.LanLemmas.{up-rises, put-few, up-few, lan-kept, is_lan-kept, found-boot, found-up}
 use Rattle.adjacency.proofs.lan_lists.keep.Goals as goal
 
 pub place_of-up_place-requires : goal.place_of-up_place-requires
 place_of-up_place-requires c =
-    rw c.deref.ensures.value (up-rises c.args.heard.now.items c.args.up.now.items _ _ c.requires.lan)
+    rw c.deref-2.ensures.value (up-rises c.args.heard.now.items c.args.up.now.items _ _ c.requires.lan)
 
 pub put_at-requires-clause-room : goal.put_at-requires-clause-room
 put_at-requires-clause-room c =
@@ -28,6 +28,6 @@ returns-clause-kept c =
 
 pub returns-clause-change : goal.returns-clause-change
 returns-clause-change c =
-    c.change.ensures _
-    (c.is_err.ensures.value ∙ found-heard c.args.heard.now.items c.args.up.now.items _ _ c.requires.lan _ c.args.place c.requires.place)
-    (c.is_ok.ensures.value ∙ found-up c.args.heard.now.items c.args.up.now.items _ _ c.requires.lan _ c.place_of-up_place.result (rw c.deref.ensures.value at c.place_of-up_place.ensures))
+    c.change.ensures _ c.args.neighbour.boot
+    ((rw c.deref.ensures.value at c.is_in_boot-same_boot.ensures) ∙ sym (found-boot c.args.heard.now.items c.args.up.now.items _ _ c.requires.lan _ c.args.neighbour.boot))
+    (c.is_ok.ensures.value ∙ found-up c.args.heard.now.items c.args.up.now.items _ _ c.requires.lan _ c.place_of-up_place.result (rw c.deref-2.ensures.value at c.place_of-up_place.ensures))

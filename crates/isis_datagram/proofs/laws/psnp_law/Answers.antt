@@ -3,4 +3,4 @@ use Rattle.isis_datagram.proofs.SnpLemmas.{psnp-reads}
 use Rattle.isis_datagram.proofs.laws.psnp_law.Goals as goal
 
 pub returns : goal.returns
-returns c = psnp-reads
+returns c = λ by config on d boot place level entries b. psnp-reads by config on d boot place b level entries

@@ -63,3 +63,7 @@ returns-clause-zero_checksum c = refl
 pub returns-clause-bad_checksum : goal.returns-clause-bad_checksum
 unfolding read framed unframed decoded first_fault kind_of_number items_of items_in lsp_number checksum_holds auth_fault digest_place
 returns-clause-bad_checksum c = refl
+
+pub returns-clause-version : goal.returns-clause-version
+unfolding read framed unframed decoded first_fault kind_of_number items_of items_in lsp_number checksum_holds auth_fault digest_place
+returns-clause-version c = refl

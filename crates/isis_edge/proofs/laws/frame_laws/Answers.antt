@@ -1,14 +1,11 @@
-use Rattle.std.proofs.Common.{refl}
-use Rattle.isis_edge.specs.Frames.{framed}
-use Rattle.isis_edge.proofs.FrameLemmas.{unframed-framed, framed-unframed}
+use Rattle.isis_edge.proofs.FrameLemmas.{unframed-framed, framed-begins, framed-unframed}
 use Rattle.isis_edge.proofs.laws.frame_laws.Goals as goal
 
 pub returns-clause-again : goal.returns-clause-again
 returns-clause-again c = unframed-framed
 
 pub returns-clause-begins : goal.returns-clause-begins
-unfolding framed
-returns-clause-begins c = λ snpa pdu. refl
+returns-clause-begins c = framed-begins
 
 pub returns-clause-whole : goal.returns-clause-whole
 returns-clause-whole c = framed-unframed

@@ -40,3 +40,6 @@ returns-clause-other_system c = refl
 
 pub returns-clause-other_circuit : goal.returns-clause-other_circuit
 returns-clause-other_circuit c = refl
+
+pub returns-clause-other_boot : goal.returns-clause-other_boot
+returns-clause-other_boot c = refl

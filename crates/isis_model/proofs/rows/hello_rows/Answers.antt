@@ -28,3 +28,12 @@ returns-clause-other_boot c = refl
 
 pub returns-clause-own_before_snpa : goal.returns-clause-own_before_snpa
 returns-clause-own_before_snpa c = refl
+
+pub returns-clause-old_boot : goal.returns-clause-old_boot
+returns-clause-old_boot c = refl
+
+pub returns-clause-old_first : goal.returns-clause-old_first
+returns-clause-old_first c = refl
+
+pub returns-clause-same_boot : goal.returns-clause-same_boot
+returns-clause-same_boot c = refl

@@ -70,3 +70,11 @@ returns-clause-acknowledged c = refl
 pub returns-clause-let_go : goal.returns-clause-let_go
 unfolding put erase each has with_one without only fallen let_go set_cell lsp_case hear_lsp hear_range close open_up take_point take_lan with_item split system_lsp pseudonode_lsp wanted install retire look take_lsp take_snp wait_less age_one age count_down hold second sent answered pull_hello pull_csnp pull_lsps pull_psnp pull_level pull step
 returns-clause-let_go c = refl
+
+pub returns-clause-old_lsp : goal.returns-clause-old_lsp
+unfolding put erase each has with_one without only fallen let_go set_cell lsp_case hear_lsp hear_range close open_up take_point take_lan with_item split system_lsp pseudonode_lsp wanted install retire look take_lsp take_snp wait_less age_one age count_down hold second sent answered pull_hello pull_csnp pull_lsps pull_psnp pull_level pull step
+returns-clause-old_lsp c = refl
+
+pub returns-clause-old_point : goal.returns-clause-old_point
+unfolding put erase each has with_one without only fallen let_go set_cell lsp_case hear_lsp hear_range close open_up take_point take_lan with_item split system_lsp pseudonode_lsp wanted install retire look take_lsp take_snp wait_less age_one age count_down hold second sent answered pull_hello pull_csnp pull_lsps pull_psnp pull_level pull step
+returns-clause-old_point c = refl

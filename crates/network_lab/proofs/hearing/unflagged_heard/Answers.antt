@@ -3,8 +3,9 @@ use Rattle.isis_base.specs.declared.entry.LspEntry.{LspEntry}
 use Rattle.isis_base.specs.declared.identifiers.LspId.{LspId}
 use Rattle.isis_base.specs.Identifiers.{lsp_number}
 use Rattle.isis_model.specs.Events.{SnpHeard}
-use Rattle.isis_model.specs.Numbers.{snpa_number, system_number}
+use Rattle.isis_model.specs.Numbers.{system_number}
 use Rattle.flag_sync.specs.Heard.{entries_of}
+use Rattle.router_desk.specs.Opening.{envelope_of}
 use Rattle.router_reading.specs.declared.heard.Heard.{Heard}
 use Rattle.router_reading.specs.declared.heard.Heard.TheVariants as heard
 use Rattle.router_reading.specs.Heard.{message_of}
@@ -14,10 +15,10 @@ use Rattle.network_lab.proofs.hearing.unflagged_heard.Goals as goal
 pub returns-in-Some : goal.returns-in-Some
 returns-in-Some c on lan =
     let r = c.args.r.now in
-    let snpa = c.in-Snp.snpa in
+    let from = c.in-Snp.from in
     let source = c.in-Snp.source in
     let level = c.in-Snp.level in
-    c.unflagged_range.ensures on (snpa_number snpa) (system_number source) lan
-    ∙ (ap (λ (es : List LspEntry). unflagged_range r on (SnpHeard level (snpa_number snpa) (system_number source) (Some (lsp_number c.in-Some.first, lsp_number c.in-Some.last)) (entries_of es))) c.as_slice.ensures.value
-    ∙ (sym (ap (λ (range : Option (LspId × LspId)). unflagged_range r on (message_of (heard.Snp level snpa source range c.in-Snp.entries))) c.in-Some.is)
+    c.unflagged_range.ensures on (envelope_of from) (system_number source) lan
+    ∙ (ap (λ (es : List LspEntry). unflagged_range r on (SnpHeard level (envelope_of from) (system_number source) (Some (lsp_number c.in-Some.first, lsp_number c.in-Some.last)) (entries_of es))) c.as_slice.ensures.value
+    ∙ (sym (ap (λ (range : Option (LspId × LspId)). unflagged_range r on (message_of (heard.Snp level from source range c.in-Snp.entries))) c.in-Some.is)
     ∙ sym (ap (λ (h : Heard). unflagged_range r on (message_of h)) c.in-Snp.is)))

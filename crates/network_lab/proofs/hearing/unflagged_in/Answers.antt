@@ -9,7 +9,7 @@ use Rattle.network_lab.proofs.hearing.unflagged_in.Goals as goal
 pub unflagged_pdu-requires : goal.unflagged_pdu-requires
 unflagged_pdu-requires c =
     let desk = desk_of c.args.r.now.config c.args.r.now.circuits in
-    let view : SeenView = record { snpa = c.in-Ok.seen.sender; pdu = pdu_view c.in-Ok.seen.pdu; octets = c.in-Ok.seen.octets.now } in
+    let view : SeenView = record { snpa = c.in-Ok.seen.from.snpa; boot = c.in-Ok.seen.from.boot; pdu = pdu_view c.in-Ok.seen.pdu; octets = c.in-Ok.seen.octets.now } in
     record { run = level-run desk c.args.opened.now.circuit view (c.passed_law.ensures desk c.args.opened.now.circuit c.args.opened.now.octets view (sym c.requires.opened ∙ (sym c.seen.ensures ∙ ap seen_view c.in-Ok.is))) }
 
 pub returns-in-Ok : goal.returns-in-Ok

@@ -22,13 +22,13 @@ end-requires c =
     let keyed = c.is_some.ensures ∙ copied-some s.key in
     let written =
     behind (pieced 42 heard_tlv c.args.heard.now) c.in_ok-put_heard.ensures (behind (hello_tlvs s.areas.now s.address []) c.in_ok-put_common.ensures c.in_ok-octets.ensures.octets)
-    ∙ lan-written s.system n c.system_law.ensures c.is_some.result c.args.level s.levels s.priority c.args.lan id s.areas.now s.address c.args.heard.now c.node_law.ensures c.snpas_law.ensures
-    ∙ ap (λ (k : Bool). before_end n pdu k tlvs) keyed in
+    ∙ lan-written s.system n s.boot c.system_law.ensures c.is_some.result c.args.level s.levels s.priority c.args.lan id s.areas.now s.address c.args.heard.now c.node_law.ensures c.snpas_law.ensures
+    ∙ ap (λ (k : Bool). before_end n s.boot pdu k tlvs) keyed in
     let size = fit.fits in
-    subst (IsEndable (kind.LanHello c.args.level) key) (sym written) (endable (kind.LanHello c.args.level) pdu (lan-begun c.args.level s.levels n s.priority id c.requires.priority) tlvs fit.are (omega (arith, size)) n key)
+    subst (IsEndable (kind.LanHello c.args.level) key) (sym written) (endable (kind.LanHello c.args.level) pdu (lan-begun c.args.level s.levels n s.priority id c.requires.priority) tlvs fit.are (omega (arith, size)) n s.boot key)
 
 pub returns : goal.returns
-returns c config place circuit sends =
+returns c config boot place circuit sends =
     let s = c.args.sender.now in
     let n = system_number s.system in
     let key = option_copied s.key in
@@ -40,7 +40,7 @@ returns c config place circuit sends =
     let keyed = c.is_some.ensures ∙ copied-some s.key in
     let written =
     behind (pieced 42 heard_tlv c.args.heard.now) c.in_ok-put_heard.ensures (behind (hello_tlvs s.areas.now s.address []) c.in_ok-put_common.ensures c.in_ok-octets.ensures.octets)
-    ∙ lan-written s.system n c.system_law.ensures c.is_some.result c.args.level s.levels s.priority c.args.lan id s.areas.now s.address c.args.heard.now c.node_law.ensures c.snpas_law.ensures
-    ∙ ap (λ (k : Bool). before_end n pdu k tlvs) keyed in
-    c.end.ensures ∙ ap (ended (kind.LanHello c.args.level) key) written ∙ datagram-ended (kind.LanHello c.args.level) pdu (lan-begun c.args.level s.levels n s.priority id c.requires.priority) tlvs fit.are n key
-    ∙ lan-datagram s config place circuit sends c.args.level id list
+    ∙ lan-written s.system n s.boot c.system_law.ensures c.is_some.result c.args.level s.levels s.priority c.args.lan id s.areas.now s.address c.args.heard.now c.node_law.ensures c.snpas_law.ensures
+    ∙ ap (λ (k : Bool). before_end n s.boot pdu k tlvs) keyed in
+    c.end.ensures ∙ ap (ended (kind.LanHello c.args.level) key) written ∙ datagram-ended (kind.LanHello c.args.level) pdu (lan-begun c.args.level s.levels n s.priority id c.requires.priority) tlvs fit.are n s.boot key
+    ∙ lan-datagram s config boot place circuit sends c.args.level id list

@@ -22,13 +22,13 @@ end-requires c =
     let keyed = c.is_some.ensures ∙ copied-some s.key in
     let written =
     behind (three_way_tlv (record { state = c.args.state; own_id = Some c.args.extended; neighbour = c.args.neighbour })) c.in_ok-put_three_way.ensures.ok (behind (hello_tlvs s.areas.now s.address []) c.in_ok-put_common.ensures c.in_ok-octets.ensures.octets)
-    ∙ point-written s.system n c.system_law.ensures c.is_some.result s.levels s.circuit s.areas.now s.address c.args.state c.args.extended c.args.neighbour named c.names_law.ensures
-    ∙ ap (λ (k : Bool). before_end n pdu k tlvs) keyed in
+    ∙ point-written s.system n s.boot c.system_law.ensures c.is_some.result s.levels s.circuit s.areas.now s.address c.args.state c.args.extended c.args.neighbour named c.names_law.ensures
+    ∙ ap (λ (k : Bool). before_end n s.boot pdu k tlvs) keyed in
     let size = fit.fits in
-    subst (IsEndable (kind.PointHello) key) (sym written) (endable (kind.PointHello) pdu (point-begun s.levels n s.circuit) tlvs fit.are (omega (arith, size)) n key)
+    subst (IsEndable (kind.PointHello) key) (sym written) (endable (kind.PointHello) pdu (point-begun s.levels n s.circuit) tlvs fit.are (omega (arith, size)) n s.boot key)
 
 pub returns : goal.returns
-returns c config place circuit sends =
+returns c config boot place circuit sends =
     let s = c.args.sender.now in
     let n = system_number s.system in
     let key = option_copied s.key in
@@ -39,7 +39,7 @@ returns c config place circuit sends =
     let keyed = c.is_some.ensures ∙ copied-some s.key in
     let written =
     behind (three_way_tlv (record { state = c.args.state; own_id = Some c.args.extended; neighbour = c.args.neighbour })) c.in_ok-put_three_way.ensures.ok (behind (hello_tlvs s.areas.now s.address []) c.in_ok-put_common.ensures c.in_ok-octets.ensures.octets)
-    ∙ point-written s.system n c.system_law.ensures c.is_some.result s.levels s.circuit s.areas.now s.address c.args.state c.args.extended c.args.neighbour named c.names_law.ensures
-    ∙ ap (λ (k : Bool). before_end n pdu k tlvs) keyed in
-    c.end.ensures ∙ ap (ended (kind.PointHello) key) written ∙ datagram-ended (kind.PointHello) pdu (point-begun s.levels n s.circuit) tlvs fit.are n key
-    ∙ point-datagram s config place circuit sends c.args.state c.args.extended named
+    ∙ point-written s.system n s.boot c.system_law.ensures c.is_some.result s.levels s.circuit s.areas.now s.address c.args.state c.args.extended c.args.neighbour named c.names_law.ensures
+    ∙ ap (λ (k : Bool). before_end n s.boot pdu k tlvs) keyed in
+    c.end.ensures ∙ ap (ended (kind.PointHello) key) written ∙ datagram-ended (kind.PointHello) pdu (point-begun s.levels n s.circuit) tlvs fit.are n s.boot key
+    ∙ point-datagram s config boot place circuit sends c.args.state c.args.extended named

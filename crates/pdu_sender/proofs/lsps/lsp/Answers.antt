@@ -7,10 +7,10 @@ use Rattle.pdu_sender.proofs.SendLemmas.{lsp-datagram}
 use Rattle.pdu_sender.proofs.lsps.lsp.Goals as goal
 
 pub returns : goal.returns
-returns c config place circuit id row sends =
+returns c config boot place circuit id row sends =
     let s = c.args.sender.now in
     let cell = cell_of c.args.entry.now row in
     c.in_ok-put_lsp.ensures.ok row
     ∙ ap (λ (front : List ℕ). front ++ lsp_sent (option_copied c.level_key.result) cell) c.in_ok-octets.ensures.octets
-    ∙ (λ i. frame_of (sym c.system_law.ensures i) [] ++ lsp_sent (c.level_key.ensures i) cell)
-    ∙ lsp-datagram s config place circuit sends c.args.level id cell
+    ∙ (λ i. frame_of (sym c.system_law.ensures i) s.boot [] ++ lsp_sent (c.level_key.ensures i) cell)
+    ∙ lsp-datagram s config boot place circuit sends c.args.level id cell

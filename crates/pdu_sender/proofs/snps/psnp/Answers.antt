@@ -25,13 +25,13 @@ end-requires c =
     let keyed = c.is_some.ensures ∙ copied-some c.level_key-key.result in
     let written =
     behind (pieced 15 entry_tlv c.args.entries.now) c.in_ok-put_all_entries.ensures c.in_ok-octets.ensures.octets
-    ∙ partial-written s.system n c.system_law.ensures c.is_some.result c.args.level c.args.entries.now c.entries_law.ensures
-    ∙ ap (λ (k : Bool). before_end n pdu k tlvs) keyed in
+    ∙ partial-written s.system n s.boot c.system_law.ensures c.is_some.result c.args.level c.args.entries.now c.entries_law.ensures
+    ∙ ap (λ (k : Bool). before_end n s.boot pdu k tlvs) keyed in
     let size = fit.fits in
-    subst (IsEndable (kind.Psnp c.args.level) key) (sym written) (endable (kind.Psnp c.args.level) pdu (partial-begun c.args.level (256 * n)) tlvs fit.are (omega (arith, size)) n key)
+    subst (IsEndable (kind.Psnp c.args.level) key) (sym written) (endable (kind.Psnp c.args.level) pdu (partial-begun c.args.level (256 * n)) tlvs fit.are (omega (arith, size)) n s.boot key)
 
 pub returns : goal.returns
-returns c config place circuit sends =
+returns c config boot place circuit sends =
     let s = c.args.sender.now in
     let n = system_number s.system in
     let key = option_copied c.level_key-key.result in
@@ -42,8 +42,8 @@ returns c config place circuit sends =
     let keyed = c.is_some.ensures ∙ copied-some c.level_key-key.result in
     let written =
     behind (pieced 15 entry_tlv c.args.entries.now) c.in_ok-put_all_entries.ensures c.in_ok-octets.ensures.octets
-    ∙ partial-written s.system n c.system_law.ensures c.is_some.result c.args.level c.args.entries.now c.entries_law.ensures
-    ∙ ap (λ (k : Bool). before_end n pdu k tlvs) keyed in
-    c.end.ensures ∙ ap (ended (kind.Psnp c.args.level) key) written ∙ datagram-ended (kind.Psnp c.args.level) pdu (partial-begun c.args.level (256 * n)) tlvs fit.are n key
-    ∙ subst (λ (k : Option (List ℕ)). frame_of (system_id n) (signed k pdu tlvs) ≡ datagram config place circuit (sent.Psnp c.args.level list)) (sym c.level_key-key.ensures)
-    (partial-datagram s config place circuit sends c.args.level list)
+    ∙ partial-written s.system n s.boot c.system_law.ensures c.is_some.result c.args.level c.args.entries.now c.entries_law.ensures
+    ∙ ap (λ (k : Bool). before_end n s.boot pdu k tlvs) keyed in
+    c.end.ensures ∙ ap (ended (kind.Psnp c.args.level) key) written ∙ datagram-ended (kind.Psnp c.args.level) pdu (partial-begun c.args.level (256 * n)) tlvs fit.are n s.boot key
+    ∙ subst (λ (k : Option (List ℕ)). frame_of (system_id n) s.boot (signed k pdu tlvs) ≡ datagram config boot place circuit (sent.Psnp c.args.level list)) (sym c.level_key-key.ensures)
+    (partial-datagram s config boot place circuit sends c.args.level list)

@@ -9,14 +9,14 @@ use Rattle.router_circuits.proofs.greeting.greet.Goals as goal
 pub returns-in-Err-clause-tested : goal.returns-in-Err-clause-tested
 returns-in-Err-clause-tested c config is =
     let own = views.config_of c.args.own.now in
-    sym (same-point own config c.args.own.now.id (hello_of c.args.hello.now) (c.own_words.ensures config is))
-    ∙ ap (λ (h : model.Hello). point_drop own c.args.own.now.id h) (sym c.hello_sizes.ensures.same) ∙ c.in-Err.ensures.tested
+    sym (same-point own config c.args.own.now.id c.args.boots.now (hello_of c.args.hello.now) (c.own_words.ensures config is))
+    ∙ ap (λ (h : model.Hello). point_drop own c.args.own.now.id c.args.boots.now h) (sym c.hello_sizes.ensures.same) ∙ c.in-Err.ensures.tested
 
 pub returns-clause-tested : goal.returns-clause-tested
 returns-clause-tested c config is =
     let own = views.config_of c.args.own.now in
-    sym (same-point own config c.args.own.now.id (hello_of c.args.hello.now) (c.own_words.ensures config is))
-    ∙ ap (λ (h : model.Hello). point_drop own c.args.own.now.id h) (sym c.hello_sizes.ensures.same) ∙ c.in-Ok.ensures.tested
+    sym (same-point own config c.args.own.now.id c.args.boots.now (hello_of c.args.hello.now) (c.own_words.ensures config is))
+    ∙ ap (λ (h : model.Hello). point_drop own c.args.own.now.id c.args.boots.now h) (sym c.hello_sizes.ensures.same) ∙ c.in-Ok.ensures.tested
 
 pub returns-clause-greeted : goal.returns-clause-greeted
 returns-clause-greeted c config is =
@@ -28,4 +28,4 @@ returns-clause-greeted c config is =
 
 pub returns-clause-shaken : goal.returns-clause-shaken
 returns-clause-shaken c =
-    shaken (views.config_of c.args.own.now) c.args.own.now.id (views.hello_of c.args.hello.now) c.args.hello.now.three_way refl c.in-Ok.ensures.tested
+    shaken (views.config_of c.args.own.now) c.args.own.now.id c.args.boots.now (views.hello_of c.args.hello.now) c.args.hello.now.three_way refl c.in-Ok.ensures.tested

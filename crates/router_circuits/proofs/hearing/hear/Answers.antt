@@ -13,14 +13,14 @@ use Rattle.router_circuits.proofs.hearing.hear.Goals as goal
 pub returns-in-Ok-clause-tested : goal.returns-in-Ok-clause-tested
 returns-in-Ok-clause-tested c config is =
     let own = views.config_of c.args.own.now in
-    sym (same-lan own config c.args.level c.args.lan.now (hello_of c.args.hello.now) (c.own_words.ensures config is))
-    ∙ ap (λ (h : model.Hello). lan_drop own c.args.level c.args.lan.now h) (sym c.hello_sizes.ensures.same) ∙ c.in-Ok.ensures.tested
+    sym (same-lan own config c.args.level c.args.boots.now c.args.lan.now (hello_of c.args.hello.now) (c.own_words.ensures config is))
+    ∙ ap (λ (h : model.Hello). lan_drop own c.args.level c.args.boots.now c.args.lan.now h) (sym c.hello_sizes.ensures.same) ∙ c.in-Ok.ensures.tested
 
 pub returns-in-Err-clause-tested : goal.returns-in-Err-clause-tested
 returns-in-Err-clause-tested c config is =
     let own = views.config_of c.args.own.now in
-    sym (same-lan own config c.args.level c.args.lan.now (hello_of c.args.hello.now) (c.own_words.ensures config is))
-    ∙ ap (λ (h : model.Hello). lan_drop own c.args.level c.args.lan.now h) (sym c.hello_sizes.ensures.same) ∙ c.in-Err.ensures.tested
+    sym (same-lan own config c.args.level c.args.boots.now c.args.lan.now (hello_of c.args.hello.now) (c.own_words.ensures config is))
+    ∙ ap (λ (h : model.Hello). lan_drop own c.args.level c.args.boots.now c.args.lan.now h) (sym c.hello_sizes.ensures.same) ∙ c.in-Err.ensures.tested
 
 pub returns-in-Ok-clause-sized : goal.returns-in-Ok-clause-sized
 returns-in-Ok-clause-sized c sized =

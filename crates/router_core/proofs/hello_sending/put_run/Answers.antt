@@ -16,8 +16,8 @@ lan_hello-requires-clause-few c =
 pub returns : goal.returns
 returns c r sends =
     put-one c.push.result c.push.new.self c.args.out.now c.args.sender.now _ c.in_ok-octets.octets
-    (c.in_ok-octets.ensures (config_of c.args.sender.now) (c.args.sender.now.circuit - 1) (circuit_of c.args.sender.now) (sends-here c.args.sender.now c.requires.here)
-    ∙ ap (λ (says : Sent). datagram (config_of c.args.sender.now) (c.args.sender.now.circuit - 1) (circuit_of c.args.sender.now) says)
+    (c.in_ok-octets.ensures (config_of c.args.sender.now) c.args.sender.now.boot (c.args.sender.now.circuit - 1) (circuit_of c.args.sender.now) (sends-here c.args.sender.now c.requires.here)
+    ∙ ap (λ (says : Sent). datagram (config_of c.args.sender.now) c.args.sender.now.boot (c.args.sender.now.circuit - 1) (circuit_of c.args.sender.now) says)
     (lan-says c.args.level _ _ _ _
     (c.lan_id-lan.ensures r (c.args.sender.now.circuit - 1) (record { system = sends.system; circuit = sends.circuit }))
     c.heard-heard.ensures.snpas))

@@ -5,7 +5,7 @@ use Rattle.router_core.proofs.pull.put_level.Goals as goal
 
 -- src/pull.rt
 pub returns-then-is_open : goal.returns-then-is_open
-returns-then-is_open c config sends =
+returns-then-is_open c config boot sends =
     level-out c.put_due_psnps.result c.args.sender.now config (c.args.sender.now.circuit - 1) c.args.on.now c.args.level (book_of c.args.book.now)
     c.args.out.now c.put_due_csnps.new.out c.put_lsps.new.out c.put_due_psnps.new.out
-    (sym c.is_open.ensures ∙ c.if-is_open.true) (c.in_ok-put_due_csnps.ensures config sends) c.in_ok-put_lsps.ensures c.put_due_psnps.ensures
+    (sym c.is_open.ensures ∙ c.if-is_open.true) (c.in_ok-put_due_csnps.ensures config boot sends) c.in_ok-put_lsps.ensures c.put_due_psnps.ensures

@@ -12,6 +12,6 @@ use Rattle.router_core.proofs.sending.put_piece.Goals as goal
 pub returns : goal.returns
 returns c =
     put-one c.push.result c.push.new.self c.args.out.now c.args.sender.now _ c.in_ok-octets.octets
-    (c.in_ok-octets.ensures (config_of c.args.sender.now) (c.args.sender.now.circuit - 1) (circuit_of c.args.sender.now) (sends-here c.args.sender.now c.requires.here)
-    ∙ ap (λ (es : List LspEntry). datagram (config_of c.args.sender.now) (c.args.sender.now.circuit - 1) (circuit_of c.args.sender.now) (sent.Csnp c.args.level (lsp_number c.args.piece.start) (lsp_number c.args.piece.end) (entries_of es))) (c.as_slice.ensures.value ∙ c.in-Ok.ensures))
+    (c.in_ok-octets.ensures (config_of c.args.sender.now) c.args.sender.now.boot (c.args.sender.now.circuit - 1) (circuit_of c.args.sender.now) (sends-here c.args.sender.now c.requires.here)
+    ∙ ap (λ (es : List LspEntry). datagram (config_of c.args.sender.now) c.args.sender.now.boot (c.args.sender.now.circuit - 1) (circuit_of c.args.sender.now) (sent.Csnp c.args.level (lsp_number c.args.piece.start) (lsp_number c.args.piece.end) (entries_of es))) (c.as_slice.ensures.value ∙ c.in-Ok.ensures))
     c.push.ensures.ok

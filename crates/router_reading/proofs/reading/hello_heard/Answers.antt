@@ -9,7 +9,8 @@ returns c =
     let areas = c.in_ok-areas.ensures in
     (λ i. record {
       source = system_number c.args.source;
-      snpa = snpa_number c.args.snpa;
+      snpa = snpa_number c.args.from.snpa;
+      boot = c.args.from.boot;
       runs = runs i;
       holding = c.args.holding;
       priority = 0;

@@ -1,9 +1,10 @@
-use Rattle.std.proofs.Common.{◌≡◌, false, ◌∙◌, ap}
+use Rattle.std.proofs.Common.{◌≡◌, ℕ, List, false, ◌∙◌, ap}
 use Rattle.isis_model.specs.Adjacencies as model
+use Rattle.isis_model.specs.Hellos.{minded}
 use Rattle.isis_model.specs.Routers.{Circuit}
 use Rattle.router_circuits.specs.Hellos.{hello_of}
-use Rattle.router_circuits.specs.Views.{heard_in, is_lan, levels_in, point_in}
-use Rattle.router_circuits.proofs.ChangeLemmas.{met-some, anew-some}
+use Rattle.router_circuits.specs.Views.{boots_in, heard_in, is_lan, levels_in, point_in}
+use Rattle.router_circuits.proofs.ChangeLemmas.{met-some, anew-some, ok-of}
 use Rattle.router_circuits.proofs.circuit.Circuit.hear_point.Goals as goal
 
 pub returns-clause-heard : goal.returns-clause-heard
@@ -20,9 +21,12 @@ returns-clause-heard c config is =
       point = point_in old.medium;
       levels = levels_in (heard_in old.medium) old.one old.two;
       hello = old.hello;
+      boots = boots_in old.boots;
     } in
-    met-some old.medium c.hear_point.new.self old.one old.two view c.args.self.now (model.common_of config h) h c.in-Ok.greeted c.self.view_is h.handshake _ _ _
-    c.due_or-self-inside.ensures c.with_due-self-inside.ensures c.with_due-self-inside-2.ensures lan c.in-Ok.ensures.lan (c.in-Ok.ensures.greeted config is)
+    met-some old.medium c.hear_point-heard.new.self old.one old.two view c.args.self.now (model.common_of config h) h c.in-Ok.greeted c.self.view_is h.handshake _ _ _ _
+    c.due_or-self-inside.ensures c.with_due-self-inside.ensures c.with_due-self-inside-2.ensures
+    (ok-of _ c.in-Ok.is c.hear_point-heard.ensures.minded ∙ ap (λ (boots : List (ℕ × ℕ)). minded boots h) c.in_ok-boots.ensures.taken)
+    lan c.hear_point-heard.ensures.lan (ok-of _ c.in-Ok.is (c.hear_point-heard.ensures.greeted config is))
 
 pub returns-clause-anew : goal.returns-clause-anew
 returns-clause-anew c config is =
@@ -37,6 +41,7 @@ returns-clause-anew c config is =
       point = point_in old.medium;
       levels = levels_in (heard_in old.medium) old.one old.two;
       hello = old.hello;
+      boots = boots_in old.boots;
     } in
-    anew-some old.medium c.hear_point.new.self old.one old.two view c.args.self.now (model.common_of config h) h c.in-Ok.greeted c.self.view_is h.handshake
-    (c.in-Ok.ensures.greeted config is)
+    anew-some old.medium c.hear_point-heard.new.self old.one old.two view c.args.self.now (model.common_of config h) h c.in-Ok.greeted c.self.view_is h.handshake
+    (ok-of _ c.in-Ok.is (c.hear_point-heard.ensures.greeted config is))

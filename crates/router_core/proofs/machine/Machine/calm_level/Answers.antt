@@ -18,7 +18,7 @@ returns-then-rests-clause-calm c = λ r e f.
     let own = own-is c.level-on.result.now c.own-own.result.now (level_of q c.args.level) c.own-own.ensures c.level-on.ensures.state in
     settled-later r c.args.level (level_of q c.args.level) c.args.circuits.now (model.wanted given q r c.args.level)
     (ap all_rest (sym own) ∙ (sym c.rests.ensures ∙ c.if-rests.true))
-    (marked-wants q r c.args.level c.args.circuits.now (c.requires.marked c.if-marked.true) e (ap faces f))
+    (marked-wants q r c.args.level c.args.circuits.now (c.requires.marked c.if-marked.true) e f)
 
 -- src/calm_second.rt
 pub returns-then-rests-clause-counts : goal.returns-then-rests-clause-counts
@@ -36,7 +36,7 @@ returns-then-rests-2-clause-settled c = λ r e f _.
     let q = c.args.self.now in
     let own = own-is c.level-on.result.now c.own-own.result.now (level_of q c.args.level) c.own-own.ensures c.level-on.ensures.state in
     told-wants q r c.args.level c.args.circuits.now (level_of q c.args.level).own (map wanted_of c.deref.result.now)
-    (λ x a b. ap (λ (list : List Wanted). map wanted_of list) c.deref.ensures.value ∙ c.in_ok-wanted.ensures.wanted q x c.requires.following a b)
+    (λ x a b. ap (λ (list : List Wanted). map wanted_of list) c.deref.ensures.value ∙ c.in_ok-wanted.ensures.wanted q x c.requires.following a (ap faces b))
     (subst (λ (xs : List _). IsSettled xs (map wanted_of c.deref.result.now)) own (c.is_settled.ensures c.if-is_settled.true)) e f
 
 -- src/calm_second.rt
@@ -47,8 +47,8 @@ returns-then-rests-2-clause-calm c = λ r e f.
     settled-later r c.args.level (level_of q c.args.level) c.args.circuits.now (model.wanted given q r c.args.level)
     (ap all_rest (sym own) ∙ (sym c.rests-then-is_settled.ensures ∙ c.if-rests-2.true))
     (told-wants q r c.args.level c.args.circuits.now (level_of q c.args.level).own (map wanted_of c.deref.result.now)
-    (λ x a b. ap (λ (list : List Wanted). map wanted_of list) c.deref.ensures.value ∙ c.in_ok-wanted.ensures.wanted q x c.requires.following a b)
-    (subst (λ (xs : List _). IsSettled xs (map wanted_of c.deref.result.now)) own (c.is_settled.ensures c.if-is_settled.true)) e (ap faces f))
+    (λ x a b. ap (λ (list : List Wanted). map wanted_of list) c.deref.ensures.value ∙ c.in_ok-wanted.ensures.wanted q x c.requires.following a (ap faces b))
+    (subst (λ (xs : List _). IsSettled xs (map wanted_of c.deref.result.now)) own (c.is_settled.ensures c.if-is_settled.true)) e f)
 
 -- src/calm_second.rt
 pub returns-then-rests-2-clause-counts : goal.returns-then-rests-2-clause-counts

@@ -8,11 +8,11 @@ use Rattle.router_levels.specs.Views.{state_of}
 use Rattle.router_routes.specs.Outlooks.{outlook_of}
 use Rattle.router_core.specs.Givens.{given}
 use Rattle.router_core.specs.Machines.{machine_of}
-use Rattle.router_core.specs.Seconds.{later}
+use Rattle.router_core.specs.Seconds.{bare_later}
 use Rattle.router_core.specs.Settled.{faces}
 use Rattle.router_core.proofs.KeepLemmas.{idle-faces}
 use Rattle.router_core.proofs.QuietLemmas.{later-own}
-use Rattle.router_core.proofs.SecondLemmas.{second-of, later-part}
+use Rattle.router_core.proofs.SecondLemmas.{second-of, later-part, bare-faces}
 use Rattle.router_core.proofs.SettledLemmas.{calm-marks, some-told}
 use Rattle.router_core.proofs.machine.Machine.calm_second.Goals as goal
 
@@ -20,15 +20,15 @@ use Rattle.router_core.proofs.machine.Machine.calm_second.Goals as goal
 pub returns-clause-state : goal.returns-clause-state
 returns-clause-state c =
     let v = machine_of c.self.inside in
-    let circuits : c.in_ok-circuits.circuits.items ≡ map later v.circuits =
-    c.in_ok-circuits.ensures.state ∙ ap (λ (cs : List Circuit). map later cs) c.deref.ensures.value in
+    let circuits : c.in_ok-circuits.circuits.items ≡ map bare_later v.circuits =
+    c.in_ok-circuits.ensures.state ∙ ap (λ (cs : List Circuit). map bare_later cs) c.deref.ensures.value in
     let t : Router = record v {
       circuits = c.idle_all.new.circuits.items;
       levels = record { one = state_of c.pass_in_place.new.on; two = state_of c.pass_in_place-2.new.on };
     } in
     λ e. subst (λ (q : Router). t ≡ (settled (record { router = second given q; reply = Done })).router) c.self.view_is
     (second-of v v (state_of c.pass_in_place.new.on) (state_of c.pass_in_place-2.new.on) c.idle_all.new.circuits.items refl
-    (c.idle_all.ensures.state v.config (sym c.system.ensures) ∙ ap (λ (cs : List Circuit). idle_all v.config 0 cs) circuits)
+    (c.idle_all.ensures.state v.config (sym c.system.ensures) ∙ ap (λ (cs : List Circuit). idle_all v.config 0 cs) c.pass_circuits.ensures.state)
     (later-part v level.One v.levels.one None (state_of c.self.inside.one) (state_of c.pass_in_place.new.on) c.deref-4.result.now c.deref-6.result.now
     refl (c.deref-4.ensures.value ∙ circuits) (c.deref-6.ensures.value ∙ circuits) c.pass_in_place.ensures.state (λ q a b. some-told _ _ _ c.in-Ok-Some.field-0-is (c.in-Ok-Some.ensures.calm q a b)))
     (later-part v level.Two v.levels.two None (state_of c.self.inside.two) (state_of c.pass_in_place-2.new.on) c.deref-5.result.now c.deref-7.result.now
@@ -43,7 +43,10 @@ returns-clause-marks c =
       levels = record { one = state_of c.pass_in_place.new.on; two = state_of c.pass_in_place-2.new.on };
     } in
     let same : faces t.circuits ≡ faces c.in_ok-circuits.circuits.items =
-    ap faces (c.idle_all.ensures.state v.config (sym c.system.ensures)) ∙ idle-faces v.config 0 c.in_ok-circuits.circuits.items in
+    ap faces (c.idle_all.ensures.state v.config (sym c.system.ensures))
+    ∙ (idle-faces v.config 0 c.pass_circuits.new.circuits.items
+    ∙ (ap faces c.pass_circuits.ensures.state
+    ∙ (sym (bare-faces v.circuits) ∙ ap faces (sym (c.in_ok-circuits.ensures.state ∙ ap (λ (cs : List Circuit). map bare_later cs) c.deref.ensures.value))))) in
     λ stays. let outlook : outlook_of t ≡ outlook_of v = stays ∙ ap outlook_of (sym c.self.view_is) in
     record {
       one = λ h. calm-marks v t level.One outlook

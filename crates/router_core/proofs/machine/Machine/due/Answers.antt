@@ -31,14 +31,14 @@ put_level-requires-2-clause-may c = may-of c.args.self.now level.Two _ c.book-2.
 -- src/pull.rt
 pub returns : goal.returns
 returns c =
-    subst (λ (o : Option Circuit). IfSome o (λ x. c.put_level-2.new.out ≡ map (λ (says : Sent). datagram c.args.self.now.config (c.args.circuit - 1) x says) (all_due c.args.self.now (c.args.circuit - 1) x))) (sym c.on-on.ensures)
-    (subst (λ (n : ℕ). c.put_level-2.new.out ≡ map (λ (says : Sent). datagram c.args.self.now.config (n - 1) c.on-on.result.now says) (all_due c.args.self.now (n - 1) c.on-on.result.now)) c.sender-sender.ensures.circuit
+    subst (λ (o : Option Circuit). IfSome o (λ x. c.put_level-2.new.out ≡ map (λ (says : Sent). datagram c.args.self.now.config c.args.self.now.boot (c.args.circuit - 1) x says) (all_due c.args.self.now (c.args.circuit - 1) x))) (sym c.on-on.ensures)
+    (subst (λ (n : ℕ). c.put_level-2.new.out ≡ map (λ (says : Sent). datagram c.args.self.now.config c.args.self.now.boot (n - 1) c.on-on.result.now says) (all_due c.args.self.now (n - 1) c.on-on.result.now)) c.sender-sender.ensures.circuit
     (all-out c.sender-sender.result c.args.self.now c.on-on.result.now (book_of c.book.result.now) (book_of c.book-2.result.now)
     c.new-out.result c.put_due_hellos.new.out c.put_level.new.out c.put_level-2.new.out sends c.book.ensures.book c.book-2.ensures.book c.new-out.ensures
-    (c.in_ok-put_due_hellos.ensures c.args.self.now sends (sym (ap (λ (r : Router). r.boot) c.self.view_is)))
-    (c.in_ok-put_level.ensures c.args.self.now.config sends)
-    (c.in_ok-put_level-2.ensures c.args.self.now.config sends)))
+    (c.in_ok-put_due_hellos.ensures c.args.self.now sends)
+    (c.in_ok-put_level.ensures c.args.self.now.config c.args.self.now.boot sends)
+    (c.in_ok-put_level-2.ensures c.args.self.now.config c.args.self.now.boot sends)))
   where
-    sends : Sends c.sender-sender.result c.args.self.now.config (c.sender-sender.result.circuit - 1) c.on-on.result.now
-    sends = subst (λ (n : ℕ). Sends c.sender-sender.result c.args.self.now.config (n - 1) c.on-on.result.now) (sym c.sender-sender.ensures.circuit)
-        (from-some (λ x. Sends c.sender-sender.result c.args.self.now.config (c.args.circuit - 1) x) (nth c.args.self.now.circuits (c.args.circuit - 1)) c.on-on.result.now c.on-on.ensures c.sender-sender.ensures.sends)
+    sends : Sends c.sender-sender.result c.args.self.now.config c.args.self.now.boot (c.sender-sender.result.circuit - 1) c.on-on.result.now
+    sends = subst (λ (n : ℕ). Sends c.sender-sender.result c.args.self.now.config c.args.self.now.boot (n - 1) c.on-on.result.now) (sym c.sender-sender.ensures.circuit)
+        (from-some (λ x. Sends c.sender-sender.result c.args.self.now.config c.args.self.now.boot (c.args.circuit - 1) x) (nth c.args.self.now.circuits (c.args.circuit - 1)) c.on-on.result.now c.on-on.ensures c.sender-sender.ensures.sends)

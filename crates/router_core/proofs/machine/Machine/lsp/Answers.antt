@@ -1,5 +1,5 @@
 use Rattle.std.proofs.Common.{◌-◌}
-use Rattle.isis_model.specs.Numbers.{snpa_number}
+use Rattle.router_desk.specs.Opening.{envelope_of}
 use Rattle.flag_sync.specs.Heard.{heard_of}
 use Rattle.router_core.proofs.TakenLemmas.{lsp-taken}
 use Rattle.router_core.proofs.machine.Machine.lsp.Goals as goal
@@ -7,5 +7,5 @@ use Rattle.router_core.proofs.machine.Machine.lsp.Goals as goal
 -- src/taking.rt
 pub returns-in-None-clause-taken : goal.returns-in-None-clause-taken
 returns-in-None-clause-taken c =
-    lsp-taken c.args.self.now c.take_lsp.new.self (c.args.circuit - 1) c.args.level (snpa_number c.args.snpa) (heard_of c.args.lsp.now) c.take_lsp.result
+    lsp-taken c.args.self.now c.take_lsp.new.self (c.args.circuit - 1) c.args.level (envelope_of c.args.from) (heard_of c.args.lsp.now) c.take_lsp.result
     c.requires.idle c.in-None.ensures c.take_lsp.ensures.state c.take_lsp.ensures.reply

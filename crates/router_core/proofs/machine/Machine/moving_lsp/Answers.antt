@@ -9,7 +9,8 @@ use Rattle.isis_model.specs.Places.{nth}
 use Rattle.isis_model.specs.Receiving.{lsp_drop}
 use Rattle.isis_model.specs.Routers.{Circuit, LevelState, Router, book_of, level_of}
 use Rattle.isis_model.specs.Takes.{whose_of}
-use Rattle.isis_model.specs.Numbers.{snpa_number, system_number}
+use Rattle.isis_model.specs.Numbers.{system_number}
+use Rattle.router_desk.specs.Opening.{envelope_of}
 use Rattle.flag_sync.specs.BookStates as sync
 use Rattle.flag_sync.specs.Heard.{heard_of, answer_of}
 use Rattle.flag_sync.specs.declared.heard.LspAnswer.TheVariants as answer
@@ -38,9 +39,9 @@ returns c =
     let low = c.requires.there.0 in
     let high = c.requires.there.1 in
     let there = some-there r.circuits place (omega (arith, low, high)) in
-    let dropped : option_map name_of c.lsp_cause.result ≡ lsp_drop r place there.0 l (snpa_number c.args.snpa) (heard_of heard) =
-    from-some (λ (x : Circuit). option_map name_of c.lsp_cause.result ≡ lsp_drop r place x l (snpa_number c.args.snpa) (heard_of heard)) (nth r.circuits place) there.0 there.1 c.lsp_cause.ensures in
-    let kept : lsp_drop r place there.0 l (snpa_number c.args.snpa) (heard_of heard) ≡ None =
+    let dropped : option_map name_of c.lsp_cause.result ≡ lsp_drop r place there.0 l (envelope_of c.args.from) (heard_of heard) =
+    from-some (λ (x : Circuit). option_map name_of c.lsp_cause.result ≡ lsp_drop r place x l (envelope_of c.args.from) (heard_of heard)) (nth r.circuits place) there.0 there.1 c.lsp_cause.ensures in
+    let kept : lsp_drop r place there.0 l (envelope_of c.args.from) (heard_of heard) ≡ None =
     sym dropped ∙ ap (option_map name_of) (none-of c.lsp_cause.result (sym c.is_some.ensures ∙ c.if-is_some.false)) in
     let state : state_of c.level-on.result.now ≡ level_of r l = c.level-on.ensures.state in
     let system : system_number c.system.result ≡ r.config.system = c.system.ensures ∙ ap (λ (q : Router). q.config.system) c.self.view_is in
@@ -55,5 +56,5 @@ returns c =
     let ids = subst (λ (d : Database). AllByRecursion (λ (p : LspId × Entry). IsId p.0) d.entries) c.store-store.ensures c.len-entries.ensures.ids in
     let rises = subst (λ (d : Database). RisesFrom 0 d.entries) c.store-store.ensures c.len-entries.ensures.rises in
     let e = c.in_ok-entry.ensures in
-    subst (λ (es : List (LspId × Entry)). IsMovedAt (outlook_of r) (outlook_of (step given r (Take place (LspHeard l (snpa_number c.args.snpa) (heard_of heard)))).router) l heard.entry.id.node (told_in es)) (sym c.in_ok-aside.ensures)
-    (stored-moves-in r place l (snpa_number c.args.snpa) heard there.0 v c.in_ok-entry.entry there.1 kept row runs of_book (c.has_rows.ensures c.if-not-has_rows.false) c.lsp_id_law.ensures ids rises e.key e.flags e.octets c.store-store.result.now c.store-store.ensures)
+    subst (λ (es : List (LspId × Entry)). IsMovedAt (outlook_of r) (outlook_of (step given r (Take place (LspHeard l (envelope_of c.args.from) (heard_of heard)))).router) l heard.entry.id.node (told_in es)) (sym c.in_ok-aside.ensures)
+    (stored-moves-in r place l (envelope_of c.args.from) heard there.0 v c.in_ok-entry.entry there.1 kept row runs of_book (c.has_rows.ensures c.if-not-has_rows.false) c.lsp_id_law.ensures ids rises e.key e.flags e.octets c.store-store.result.now c.store-store.ensures)

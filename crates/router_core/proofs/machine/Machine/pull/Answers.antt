@@ -31,4 +31,4 @@ pub returns-clause-sent : goal.returns-clause-sent
 returns-clause-sent c =
     on-there c.args.self.now.circuits (c.args.circuit - 1) (λ o. c.in_ok-out.out ≡ datagrams_of c.settle.new.self (c.args.circuit - 1) (pull c.args.self.now (c.args.circuit - 1)).out) (omega (arith, c.requires.there))
     (λ x n. pulled-sent c.args.self.now c.all_gone.new.self c.settle.new.self (c.args.circuit - 1) x c.in_ok-out.out n c.all_gone.ensures c.settle.ensures
-    (from-some (λ y. c.in_ok-out.out ≡ map (λ (says : Sent). datagram c.args.self.now.config (c.args.circuit - 1) y says) (all_due c.args.self.now (c.args.circuit - 1) y)) (nth c.args.self.now.circuits (c.args.circuit - 1)) x n c.in_ok-out.ensures))
+    (from-some (λ y. c.in_ok-out.out ≡ map (λ (says : Sent). datagram c.args.self.now.config c.args.self.now.boot (c.args.circuit - 1) y says) (all_due c.args.self.now (c.args.circuit - 1) y)) (nth c.args.self.now.circuits (c.args.circuit - 1)) x n c.in_ok-out.ensures))

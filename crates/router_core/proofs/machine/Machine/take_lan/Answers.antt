@@ -6,6 +6,7 @@ use Rattle.isis_model.specs.Places.{nth}
 use Rattle.isis_model.specs.Hellos.{lan_circuit, take_lan}
 use Rattle.isis_model.specs.Routers.{with_circuit}
 use Rattle.router_circuits.specs.Hellos.{hello_of}
+use Rattle.router_circuits.proofs.ChangeLemmas.{ok-of}
 use Rattle.router_core.proofs.IdleLemmas.{each-some, from-some, heard-with}
 use Rattle.router_core.proofs.machine.Machine.take_lan.Goals as goal
 
@@ -16,5 +17,5 @@ returns-clause-state c =
     each-some (nth c.args.self.now.circuits (c.args.circuit - 1)) (λ x. c.settle.new.self ≡ (settled (record { router = take_lan c.args.self.now (c.args.circuit - 1) x c.args.level (hello_of c.args.hello.now); reply = Done })).router)
     (λ x e. heard-with c.args.self.now c.hear_lan.new.self c.follow.new.self c.settle.new.self Done false (c.args.circuit - 1) x
     (lan_circuit x c.args.level (alone c.args.level (common_of c.args.self.now.config (hello_of c.args.hello.now))) (hello_of c.args.hello.now)) c.requires.idle e
-    (from-some (λ y. c.hear_lan.new.self ≡ with_circuit c.args.self.now (c.args.circuit - 1) (lan_circuit y c.args.level (alone c.args.level (common_of c.args.self.now.config (hello_of c.args.hello.now))) (hello_of c.args.hello.now))) (nth c.args.self.now.circuits (c.args.circuit - 1)) x e c.in_ok-hear_lan.ensures.state)
+    (from-some (λ y. c.hear_lan.new.self ≡ with_circuit c.args.self.now (c.args.circuit - 1) (lan_circuit y c.args.level (alone c.args.level (common_of c.args.self.now.config (hello_of c.args.hello.now))) (hello_of c.args.hello.now))) (nth c.args.self.now.circuits (c.args.circuit - 1)) x e (ok-of _ c.in-Ok.is c.in_ok-hear_lan.ensures.state))
     c.follow.ensures c.settle.ensures)

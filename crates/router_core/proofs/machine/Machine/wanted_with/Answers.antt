@@ -1,13 +1,14 @@
-use Rattle.std.proofs.Common.{◌≡◌, map, is_some, IfOk, sym, subst, ◌∙◌, ap}
+use Rattle.std.proofs.Common.{◌≡◌, ℕ, List, map, is_some, IfOk, refl, sym, subst, ◌∙◌, ap}
 use Rattle.std.specs.List.{AllByRecursion}
 use Rattle.isis_model.specs.Both.{at}
 use Rattle.isis_model.specs.Configs.{Config}
 use Rattle.isis_model.specs.Good.{IsIssuable}
-use Rattle.isis_model.specs.Routers.{Router}
-use Rattle.lsp_wanted.specs.Views.{contents_of, prefix_pair}
+use Rattle.isis_model.specs.Routers.{Contents, Router}
+use Rattle.lsp_wanted.specs.Views.{contents_of, prefix_pair, wanted_of}
 use Rattle.router_routes.specs.Outlooks.{outlook_of}
 use Rattle.router_core.specs.Givens.{given}
 use Rattle.router_core.specs.Machines.{machine_of}
+use Rattle.router_core.proofs.FaceLemmas.{wanted-faces}
 use Rattle.router_core.proofs.ShapeLemmas.{signed-by}
 use Rattle.router_core.proofs.machine.Machine.wanted_with.Goals as goal
 
@@ -15,7 +16,8 @@ use Rattle.router_core.proofs.machine.Machine.wanted_with.Goals as goal
 pub returns-clause-wanted : goal.returns-clause-wanted
 returns-clause-wanted c before r on e f =
     let same : r.config ≡ (machine_of c.self.inside).config = e ∙ sym (ap (λ (q : Router). q.config) c.self.view_is) in
-    c.wanted_lsps.ensures.wanted given before r (record {
+    subst (λ (wants : List (ℕ × Contents)). IfOk c.wanted_lsps.result (λ list. map wanted_of list.items ≡ wants)) (sym (wanted-faces given before told r c.args.level refl f))
+    (c.wanted_lsps.ensures.wanted given before told (record {
       system = ap (λ (config : Config). config.system) same ∙ sym c.system.ensures;
       areas = ap (λ (config : Config). config.areas) same ∙ sym c.as_slice.ensures;
       runs = ap (λ (config : Config). config.runs) same ∙ sym c.levels.ensures;
@@ -23,10 +25,13 @@ returns-clause-wanted c before r on e f =
       overload = ap (λ (config : Config). config.overload) same;
       prefixes = ap (λ (config : Config). config.prefixes) same ∙ sym c.as_slice-2.ensures.pairs;
       signed = ap (λ (config : Config). is_some (at config.keys c.args.level)) same ∙ signed-by _ _ _ c.key.ensures c.is_some.ensures;
-      circuits = f;
+      circuits = refl;
       leaks = sym (ap (map prefix_pair) c.as_slice-3.ensures.value ∙ c.in_ok-leaks.ensures (outlook_of before) on);
       attached = sym (c.attached-attached.ensures ∙ on.attached);
-    })
+    }))
+  where
+    told : Router
+    told = record r { circuits = c.args.circuits.now }
 
 -- src/renewal.rt
 pub returns-clause-issuable : goal.returns-clause-issuable

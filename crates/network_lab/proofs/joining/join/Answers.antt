@@ -1,0 +1,10 @@
+use Rattle.network_lab.proofs.joining.join.Goals as goal
+
+-- src/joining.rt
+pub returns : goal.returns
+returns c = record {
+  joined = c.in_ok-joined.joined;
+  holds = c.in_ok-joined.ensures.joined;
+  router = c.in_ok-joined.ensures.router;
+  added = c.in-Ok.ensures.items;
+}
