@@ -129,17 +129,21 @@ def grids(run):
 
 
 def cut_datagrams(run):
-    """What a run sends, each datagram cut to each length: dropped for its frame or its PDU, and nothing else changes."""
+    """What a run sends, each datagram cut to each length, at the other end: dropped for its frame or its PDU, and nothing else changes."""
     text = TWO + "link X A B 10\nrun 7\n"
     plain = run(["lab"], text).output
     shown = run(["lab"], text + "".join(f"dump {n}\n" for n in range(1, 15))).output
-    words = [line.split()[4] for line in shown.splitlines() if line.startswith("datagram ")]
-    cuts = [word[: 2 * size] for word in words for size in range(1, len(word) // 2)]
-    ended = run(["lab"], text + "".join(f"inject B X {cut}\n" for cut in cuts))
-    frames = 13 * len(words)
-    drops = f"drop B frame {frames}\ndrop B pdu {len(cuts) - frames}\n"
-    wanted = plain.replace("link X ", drops + "link X ").replace("injected 0", f"injected {len(cuts)}")
-    yield f"{len(cuts)} cut datagrams", told(ended, 0, "", wanted) if len(words) == 14 else "fourteen were sent"
+    sent = [line.split()[2::2] for line in shown.splitlines() if line.startswith("datagram ")]
+    wanted, lines = plain, ""
+    for end, other, behind in (("A", "B", "router B "), ("B", "A", "link X ")):
+        cuts = [word[: 2 * size] for sender, word in sent if sender == other for size in range(1, len(word) // 2)]
+        frames = 13 * sum(sender == other for sender, _ in sent)
+        wanted = wanted.replace(behind, f"drop {end} frame {frames}\ndrop {end} pdu {len(cuts) - frames}\n{behind}")
+        lines += "".join(f"inject {end} X {cut}\n" for cut in cuts)
+    count = lines.count("\n")
+    ended = run(["lab"], text + lines)
+    fault = told(ended, 0, "", wanted.replace("injected 0", f"injected {count}"))
+    yield f"{count} cut datagrams", fault if len(sent) == 14 else "fourteen were sent"
 
 
 # Two routers that a link joins, three seconds of them, and the first five datagrams, which come again, the last one first.

@@ -1,19 +1,28 @@
 """Words, and an outside that fails: each exit code that a user can meet, with its line, of the program and of the launcher."""
+import fcntl
 import os
 import pty
 import resource
+import signal
+import socket
+import struct
 import tempfile
+import termios
 import threading
+import time
 from pathlib import Path
 
-from limits import INPUT_LIMIT, told
+from limits import INPUT_LIMIT, TWO, told
 
 LAUNCHER = Path(__file__).resolve().parent.parent / "isis"
 NO_WORDS = [[], [""], ["Lab"], ["lab", "lab"], ["lab "], ["--help"], ["grid"], ["grid", "0"], ["grid", "9"], ["grid", "01"], [b"\xff"]]
 SCRIPT = "isis-keys 1\nrouter A\nissue A 0000.0000.0001.00-00 2 live\n"
 REPORT = "isis-report 1\nkey A 0000.0000.0001.00-00 2 live\n"
-# Lines of which much more is shown than a pipe holds.
+# Lines of which much more is shown than a pipe holds, and what is shown.
 LINES = "8\n" * 20_000
+SHOWN = "".join(f"pdu {number} fault Hex 1\n" for number in range(1, 20_001))
+# What the program writes at once, at most.
+PAGE = 8192
 
 
 def words(run):
@@ -49,6 +58,94 @@ def outputs(run):
     yield "a reader that goes away", told(ended, 5, "write fault")
 
 
+def fed(end, pieces, whole):
+    """Hands a socket's pieces over, each when the one before was read; at the end either closes it for good, or has the next read fail."""
+    for piece in pieces:
+        end.send(piece)
+        while struct.unpack("i", fcntl.ioctl(end, termios.TIOCOUTQ, b"\0\0\0\0"))[0]:
+            time.sleep(0.0005)
+    if whole:
+        end.shutdown(socket.SHUT_WR)
+    else:
+        # what its other end sent was never read, so that end is told of a reset
+        end.close()
+
+
+def reads(run):
+    """The first, the second, to the twentieth read fails: of a script that is read seven octets at a time, the last read finds its end."""
+    script = (TWO + "link X A B 10\nrun 7\n").encode()
+    report = run(["lab"], script).output
+    pieces = [script[place : place + 7] for place in range(0, len(script), 7)]
+    for count in range(1, 21):
+        near, far = socket.socketpair()
+        near.send(b"unread")
+        is_whole = count > len(pieces) + 1
+        feeder = threading.Thread(target=fed, args=(far, pieces[: count - 1], is_whole))
+        feeder.start()
+        ended = run(["lab"], "", stdin=near)
+        feeder.join()
+        near.close()
+        far.close()
+        yield f"read {count} fails", told(ended, 0, "", report) if is_whole else told(ended, 4, "read fault", "")
+
+
+def limited(size, handler):
+    """Before the program starts: no file is to pass a size, and what the signal of that does."""
+
+    def set_limit():
+        signal.signal(signal.SIGXFSZ, handler)
+        resource.setrlimit(resource.RLIMIT_FSIZE, (size, size))
+
+    return set_limit
+
+
+def writes(run):
+    """The first, the second, to the twentieth write fails, and each at its start or on its way; what was written is a prefix."""
+    keys = "isis-keys 1\nrouter A\n" + "".join(f"issue A 0000.0000.{n:04x}.00-00 2 live\n" for n in range(5000))
+    report = run(["lab"], keys).output
+    for words, text, whole in ((["show"], LINES, SHOWN), (["lab"], keys, report)):
+        for size in sorted([PAGE * count for count in range(20)] + [1, 100, PAGE - 1, PAGE + 1, 12_345]):
+            with tempfile.TemporaryFile() as file:
+                ended = run(words, text, stdout=file, preexec_fn=limited(size, signal.SIG_IGN))
+                file.seek(0)
+                written = file.read().decode()
+            fault = told(ended, 5, "write fault") or (None if written == whole[:size] else f"{len(written)} octets stand there")
+            yield f"{words[0]}: a file of at most {size} octets", fault
+
+
+def killed(run):
+    """At the limit of a file's size the system stops the program, unless that signal is ignored."""
+    with tempfile.TemporaryFile() as file:
+        ended = run(["show"], LINES, stdout=file, preexec_fn=limited(100, signal.SIG_DFL))
+        file.seek(0)
+        written = file.read().decode()
+    right = (ended.code, ended.line, written) == (-signal.SIGXFSZ, "", SHOWN[:100])
+    yield "the signal of a file's limit", None if right else f"ended with {ended.code} {ended.line!r}, {len(written)} octets stand there"
+
+
+def readers(run):
+    """A reader that goes away after so many octets, of a pipe that holds a page at most."""
+    for size in (1, 100, PAGE, 20 * PAGE, 200_001):
+        near, far = os.pipe()
+        fcntl.fcntl(far, fcntl.F_SETPIPE_SZ, 4096)
+        taken = []
+        reader = threading.Thread(target=lambda: (taken.append(read_whole(near, size)), os.close(near)))
+        reader.start()
+        ended = run(["show"], LINES, stdout=far)
+        reader.join()
+        os.close(far)
+        fault = told(ended, 5, "write fault") or (None if taken[0] == SHOWN[:size] else "it read what isn't the output's beginning")
+        yield f"a reader that goes away after {size} octets", fault
+
+
+def read_whole(end, size):
+    """So many octets of a pipe, as text."""
+    octets = b""
+    while len(octets) < size:
+        octets += os.read(end, size - len(octets))
+    return octets.decode()
+
+
 def memory(run):
     """Memory for the program, and none for what it asks for."""
     limit = 16 << 20
@@ -74,5 +171,5 @@ def launcher(run):
 
 def faults(run):
     """Each of these runs by name, and what comes out otherwise than it should, if anything does."""
-    for cases in (words, inputs, outputs, memory, launcher):
+    for cases in (words, inputs, reads, outputs, writes, killed, readers, memory, launcher):
         yield from cases(run)
