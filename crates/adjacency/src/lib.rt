@@ -10,8 +10,8 @@
 //!
 //! A LAN keeps its neighbours in two lists by SNPA: all that are heard, and once more those in
 //! state Up, so that both are lent as they lie. A hello finds its place in each by a binary
-//! search. Both lists have the room for 200 from the start, so no call but `LanAdj::new` and
-//! `LanAdj::copy` takes memory.
+//! search. Both lists have the room for 200 from the start, and boots that for 256 systems, so no
+//! call but `new` and `copy` of `LanAdj` and of `Boots` takes memory.
 //!
 //! - `handshake.rt`: the table of the handshake
 //! - `neighbour.rt`: a neighbour that is kept

@@ -5,7 +5,7 @@
 //! three-way handshake). What each call does is what the router's model (isis_model) says of a
 //! circuit. Own: the designated system is looked up where it is asked for, at once and without a
 //! wait; the CSNP counter stands at 0 where the router isn't designated; a circuit's number counts
-//! from 1. Only `Circuit::new` and `Circuit::copy` take memory.
+//! from 1. Beside `Circuit::new` and the copies only the first hello on a circuit takes memory.
 //!
 //! - `circuit.rt`: a circuit, made and copied, its configuration and what always holds of it
 //! - `medium.rt`: its adjacencies, by its kind; `adjacencies.rt`: their calls
