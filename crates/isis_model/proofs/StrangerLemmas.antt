@@ -17,7 +17,7 @@ use Rattle.isis_model.specs.Drops.{count_drop}
 use Rattle.isis_model.specs.Givens.{Given}
 use Rattle.isis_model.specs.Events.{Envelope, Message, LspHeard, SnpHeard, Take}
 use Rattle.isis_model.specs.Receiving as receiving
-use Rattle.isis_model.specs.Receiving.{up_system, kept_system, sender_of, is_from, lsp_drop, snp_drop, drop_of, take_or_drop}
+use Rattle.isis_model.specs.Receiving.{up_system, kept_system, sender_of, is_from, drop_of, take_or_drop}
 use Rattle.isis_model.specs.Steps.{step}
 use Rattle.isis_model.specs.AdjacencyLaws.{is_point, tie_of, tie_at}
 use Rattle.isis_model.proofs.BookLemmas.{test}

@@ -5,7 +5,7 @@ use Rattle.lab_script.specs.declared.script.Script.{Script}
 use Rattle.lab_script.specs.declared.script.Script.TheVariants.{Lab}
 use Rattle.lab_script.specs.LabJudged.{with_words}
 use Rattle.lab_script.specs.LabScripts.{LabScript, nothing_laid}
-use Rattle.lab_script.specs.Words.{words_of, lines_of}
+use Rattle.line_cuts.specs.Words.{words_of, lines_of}
 use Rattle.lab_script.specs.Scripts.{◌>>=◌, is_skipped, hear_lines, script_of, is_lab_script}
 use Rattle.lab_grid.specs.GridText.{router_line, across_line, down_line, prefix_line, row_by_row, grid_text}
 

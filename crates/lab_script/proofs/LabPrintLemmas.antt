@@ -40,7 +40,7 @@ use Rattle.lab_script.specs.LabFields.{number_to, metric_of, prefix_metric_of, s
 use Rattle.lab_script.specs.LabLines.{lab_line_of, priority_form, members_form, HasMembers}
 use Rattle.lab_script.specs.Printed.{IsName}
 use Rattle.lab_script.specs.LabPrinted.{AreOctets, IsSomeOctets, IsRouterLine, IsScopeLine, IsDeedLine, IsLabLine, hex_text, flag_words, pdus_text, scope_text, prefix_metric_text, deed_words, lab_words}
-use Rattle.lab_script.proofs.FieldLemmas.{own}
+use Rattle.line_cuts.proofs.NumeralLemmas.{own}
 use Rattle.lab_script.proofs.NumberTexts.{numeral_of-decimal, copy-read}
 
 -- ---- numbers

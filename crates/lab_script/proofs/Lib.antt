@@ -1,6 +1,4 @@
 -- The lemmas, a module for each topic.
-pub mod CutLemmas
-pub mod FieldLemmas
 pub mod HexLemmas
 pub mod IdLemmas
 pub mod KeyLemmas

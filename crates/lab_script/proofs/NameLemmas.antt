@@ -6,7 +6,7 @@ use Rattle.std.specs.Borrow.{Bor}
 use Rattle.std.proofs.lemmas.Bool.{cases_Bool}
 use Rattle.std.proofs.lemmas.Slice.Eq.{bytes_eq-Decides}
 use Rattle.lab_script.specs.Names.{number_of_name}
-use Rattle.lab_script.specs.Words.{texts}
+use Rattle.line_cuts.specs.Words.{texts}
 use Rattle.lab_script.proofs.LineLemmas.{no_word}
 
 passed : (t : List ℕ → Bool) (i : ℕ) (xs : List (List ℕ)) (x : List ℕ) → t x ≡ false → position_from t i (xs ++ x ∷ []) ≡ position_from t i xs

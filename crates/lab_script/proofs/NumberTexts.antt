@@ -6,8 +6,9 @@ use Rattle.std.proofs.lemmas.Fmt.{decimal_is_IsNumeral_wide, decimal_by_steps_wi
 use Rattle.std.proofs.lemmas.List.{length-append}
 use Rattle.std.proofs.lemmas.Bool.{lt-ltb}
 use Rattle.std.proofs.lemmas.Bool.Decides.{nat_tests}
-use Rattle.lab_script.specs.Fields.{has_plain_lead, numeral_of, copy_of}
-use Rattle.lab_script.proofs.FieldLemmas.{own, numbered}
+use Rattle.line_cuts.specs.Numerals.{has_plain_lead, numeral_of}
+use Rattle.lab_script.specs.Fields.{copy_of}
+use Rattle.line_cuts.proofs.NumeralLemmas.{own, numbered}
 
 first-of_append : (ds : List ℕ) (d : ℕ) → 0 < length ds → get_or (ds ++ d ∷ []) 0 0 ≡ get_or ds 0 0
 first-of_append [] d h = absurd (omega arith)

@@ -1,11 +1,11 @@
 -- The fields of lines: a reader for each kind, from a word to the value that it writes (own).
-use Rattle.std.specs.Prelude.{ℕ, zero, suc, ◌^◌, ◌==◌, ◌&&◌, not, nat_lt, nat_le, Bool, true, false, List, [], ◌∷◌, length, Option, Some, None, codes, option_and_then, if◌then◌else◌}
+use Rattle.std.specs.Prelude.{ℕ, zero, suc, ◌^◌, ◌&&◌, nat_lt, nat_le, Bool, true, false, List, [], ◌∷◌, length, Option, Some, None, codes, option_and_then, if◌then◌else◌}
 use Rattle.std.specs.List.{list_all}
-use Rattle.std.specs.Char.{is_ascii_alphabetic, is_ascii_alphanumeric, is_ascii_digit}
+use Rattle.std.specs.Char.{is_ascii_alphabetic, is_ascii_alphanumeric}
 use Rattle.std.specs.Option.{option_map}
 use Rattle.std.specs.Str.{bytes_eq}
-use Rattle.std.specs.Str.Parse.{digits_value}
 use Rattle.std.proofs.Math.Nat.{zero-lt-suc}
+use Rattle.line_cuts.specs.Numerals.{numeral_of}
 use Rattle.isis_base.specs.declared.identifiers.LspId.{LspId}
 use Rattle.isis_base.specs.declared.key.Key.{Key}
 use Rattle.isis_base.specs.declared.texts.TheConstants.{LSP_TEXT}
@@ -22,26 +22,9 @@ is_name (first ∷ rest) =
 abbrev pub name_of : List ℕ → Option (List ℕ)
 name_of word = if is_name word then Some word else None
 
--- there is something, and no 0 before another digit
-abbrev pub has_plain_lead : List ℕ → Bool
-has_plain_lead [] = false
-has_plain_lead (first ∷ []) = true
-has_plain_lead (first ∷ second ∷ rest) = not (first == 48)
-
 -- each word is a name
 abbrev pub are_names : List (List ℕ) → Bool
 are_names words = list_all is_name words
-
--- a decimal number without sign or leading zero (own)
-abbrev pub is_numeral : List ℕ → Bool
-is_numeral word = has_plain_lead word && list_all is_ascii_digit word
-
--- the number that a word writes, up to 128 bits (own)
-abbrev pub numeral_of : List ℕ → Option ℕ
-numeral_of word =
-    if is_numeral word
-    then (if nat_lt (digits_value 10 word) (2 ^ 128) then Some (digits_value 10 word) else None)
-    else None
 
 -- the number of a copy: none has number 0, nor one above the numbers of this machine, so such a one counts as 0 (own)
 abbrev pub copy_of : List ℕ → Option ℕ

@@ -14,7 +14,8 @@ use Rattle.network_model.specs.declared.word.PduWord.{PduWord}
 use Rattle.network_model.specs.declared.word.PduWord.TheVariants.{Hello, Lsp, Csnp, Psnp}
 use Rattle.lab_script.specs.declared.named.NamedScope.{NamedScope}
 use Rattle.lab_script.specs.declared.named.NamedScope.TheVariants as scope
-use Rattle.lab_script.specs.Fields.{numeral_of, name_of}
+use Rattle.line_cuts.specs.Numerals.{numeral_of}
+use Rattle.lab_script.specs.Fields.{name_of}
 
 -- a number up to the greatest
 abbrev pub number_to : ℕ → List ℕ → Option ℕ

@@ -1,9 +1,7 @@
--- The definitions: counts, cuts, fault texts, fields, forms, gives, hex texts, index, keys
--- judged, keys lines, keys scripts, keys sound, lab fields, lab judged, lab lines, lab link
--- index, lab printed, lab scripts, lab sound, links, link index, names, printed, reasons, router
--- index, scripts, words.
+-- The definitions: counts, fault texts, fields, forms, gives, hex texts, index, keys judged, keys
+-- lines, keys scripts, keys sound, lab fields, lab judged, lab lines, lab link index, lab printed,
+-- lab scripts, lab sound, links, link index, names, printed, reasons, router index, scripts.
 pub mod Counts
-pub mod Cuts
 pub mod FaultTexts
 pub mod Fields
 pub mod Forms
@@ -28,4 +26,3 @@ pub mod Printed
 pub mod Reasons
 pub mod RouterIndex
 pub mod Scripts
-pub mod Words

@@ -11,7 +11,7 @@ use Rattle.lab_script.specs.KeysLines.{line_of}
 use Rattle.lab_script.specs.KeysScripts.{hear_line}
 use Rattle.lab_script.specs.LabJudged.{with_words}
 use Rattle.lab_script.specs.LabScripts.{nothing_laid, router_names, link_names}
-use Rattle.lab_script.specs.Words.{words_of, lines_of}
+use Rattle.line_cuts.specs.Words.{words_of, lines_of}
 
 infixl 10 ◌>>=◌
 abbrev pub ◌>>=◌ : {A B : Type 0} → Result A ScriptFault → (A → Result B ScriptFault)

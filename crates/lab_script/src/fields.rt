@@ -1,23 +1,17 @@
 //! What a word of a line says.
-ghost use Rattle.std.specs.Prelude.{◌≡◌, true, IfSome};
-ghost use Rattle.std.specs.Char.{is_ascii_alphanumeric, is_ascii_digit};
+ghost use Rattle.std.specs.Prelude.{◌≡◌};
+ghost use Rattle.std.specs.Char.{is_ascii_alphanumeric};
 ghost use Rattle.std.specs.List.{list_all};
-ghost use Rattle.std.specs.Str.Parse.{digits_value};
-ghost use Rattle.lab_script.specs.Fields.{is_name, name_of, has_plain_lead, numeral_of, id_of, mark_of, key_from, key_of, copy_of};
+ghost use Rattle.lab_script.specs.Fields.{is_name, name_of, id_of, mark_of, key_from, key_of, copy_of};
 
 use crate::name::Name;
 use isis_base::{Key, LspId, read_lsp_id};
+use line_cuts::read_number;
 
 fn all_alphanumeric(word: &[u8]) -> bool
     ensures { result ≡ list_all is_ascii_alphanumeric word.now }
 {
     word.iter().all(|byte| byte.is_ascii_alphanumeric())
-}
-
-fn all_digits(word: &[u8]) -> bool
-    ensures { result ≡ list_all is_ascii_digit word.now }
-{
-    word.iter().all(|byte| byte.is_ascii_digit())
 }
 
 /// The name of a word: a letter, then up to 15 letters or digits.
@@ -42,59 +36,6 @@ pub(crate) fn reads_name(word: &[u8]) -> bool
         [first, rest @ ..] => {
             first.is_ascii_alphabetic() && rest.len() <= 15 && all_alphanumeric(rest)
         }
-    }
-}
-
-/// Whether there is something, and no 0 before another digit.
-fn leads_plainly(word: &[u8]) -> bool
-    ensures { result ≡ has_plain_lead word.now }
-{
-    match word {
-        [] => false,
-        [_] => true,
-        [first, ..] => *first != b'0',
-    }
-}
-
-/// The number of a word of digits, where it has up to 64 bits. This is how nearly all numbers are read.
-fn read_short(word: &[u8]) -> Option<u64>
-    ensures { IfSome result (λ number. (list_all is_ascii_digit word.now ≡ true)
-        × (digits_value 10 word.now ≡ number)) }
-{
-    let mut left = word;
-    let mut number = 0u64;
-    while let [digit, behind @ ..] = left {
-        if !digit.is_ascii_digit() {
-            return None;
-        }
-        let Some(tens) = number.checked_mul(10) else {
-            return None;
-        };
-        let Some(more) = tens.checked_add(u64::from(*digit - b'0')) else {
-            return None;
-        };
-        number = more;
-        left = behind;
-    }
-    Some(number)
-}
-
-/// The number of a word: decimal digits without sign or leading zero, up to 128 bits.
-pub(crate) fn read_number(word: &[u8]) -> Option<u128>
-    ensures { result ≡ numeral_of word.now }
-{
-    if !leads_plainly(word) {
-        return None;
-    }
-    if let Some(number) = read_short(word) {
-        return Some(u128::from(number));
-    }
-    if !all_digits(word) {
-        return None;
-    }
-    match std::str::from_utf8(word) {
-        Ok(text) => text.parse::<u128>().ok(),
-        Err(_) => None,
     }
 }
 

@@ -1,7 +1,7 @@
 //! The line of some words, a reader for each form.
 ghost use Rattle.std.specs.Prelude.{◌≡◌};
 ghost use Rattle.lab_script.specs.KeysLines as form;
-ghost use Rattle.lab_script.specs.Words.{words_of};
+ghost use Rattle.line_cuts.specs.Words.{words_of};
 
 use crate::fields::{read_copy, read_id, read_key, read_name};
 use crate::line::KeysLine;

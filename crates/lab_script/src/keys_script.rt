@@ -9,7 +9,7 @@ ghost use Rattle.lab_script.specs.KeysScripts as script;
 ghost use Rattle.lab_script.specs.KeysSound.{IsSound};
 ghost use Rattle.lab_script.specs.Names.{number_of_name};
 ghost use Rattle.lab_script.specs.KeysLines.{line_of};
-ghost use Rattle.lab_script.specs.Words.{texts, words_of};
+ghost use Rattle.line_cuts.specs.Words.{texts, words_of};
 ghost use Rattle.lab_script.specs.declared.line.KeysLine.TheVariants.{Router, Link, Issue, Pass};
 
 use crate::events::{EventLine, KeyEvent};

@@ -7,10 +7,11 @@ ghost use Rattle.isis_base.specs.Levels.{levels_of};
 ghost use Rattle.lab_script.specs.HexTexts.{is_hex, hex_of, key_octets_of};
 ghost use Rattle.lab_script.specs.LabFields as field;
 
-use crate::fields::{read_name, read_number};
+use crate::fields::read_name;
 use crate::hexes::Hex;
 use crate::named::NamedScope;
 use isis_base::{AreaAddress, LevelSet, Prefix, SystemId, read_area, read_prefix, read_system};
+use line_cuts::read_number;
 use network_model::PduWord;
 
 /// The number of a word, up to the greatest.

@@ -2,7 +2,7 @@
 ghost use Rattle.std.specs.Prelude.{◌≡◌, ◌≤◌, IfSome};
 ghost use Rattle.lab_script.specs.LabLines as form;
 ghost use Rattle.lab_script.specs.LabLines.{IsInRange};
-ghost use Rattle.lab_script.specs.Words.{words_of};
+ghost use Rattle.line_cuts.specs.Words.{words_of};
 
 use crate::fields::{read_copy, read_name};
 use crate::lab_fields::{

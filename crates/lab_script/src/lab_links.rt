@@ -6,7 +6,7 @@ ghost use Rattle.lab_script.specs.Counts.{CountsSame, one_more};
 ghost use Rattle.lab_script.specs.LabScripts as script;
 ghost use Rattle.lab_script.specs.LabScripts.{link_names, circuit_count, place_at, next_ends, link_between};
 ghost use Rattle.lab_script.specs.Names.{number_of_name};
-ghost use Rattle.lab_script.specs.Words.{texts};
+ghost use Rattle.line_cuts.specs.Words.{texts};
 
 use crate::name::Name;
 use crate::names::Names;

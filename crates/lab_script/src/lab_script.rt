@@ -7,7 +7,7 @@ ghost use Rattle.lab_script.specs.LabLines.{IsInRange, IsDeedInRange, IsKeyLengt
 ghost use Rattle.lab_script.specs.LabScripts.{nothing_laid, router_names, link_names, place_at, circuit_count};
 ghost use Rattle.lab_script.specs.LabSound.{IsSoundLab, IsDeed, IsKeyScope, IsEnd, IsCircuit, HasEnds};
 ghost use Rattle.lab_script.specs.Names.{number_of_name};
-ghost use Rattle.lab_script.specs.Words.{texts, words_of};
+ghost use Rattle.line_cuts.specs.Words.{texts, words_of};
 ghost use Rattle.lab_script.specs.declared.named.NamedLine.TheVariants as line;
 
 use crate::circuit::Circuit;

@@ -5,7 +5,7 @@
 //! are taken one after another, and a script borrows the text that it was read from. Names, system IDs and a router's
 //! circuits are found by look-ups, so a line costs what it says, not what came before.
 //!
-//! - `cuts.rt`: a text up to a mark, and what stands behind it; `words.rt`: the words of a line
+//! - `words.rt`: the words of a line
 //! - `name.rt`, `hexes.rt`: names, and octets in hex; `fields.rt`, `lab_fields.rt`: what a word says
 //! - `line.rt`, `forms.rt`: a line of a keys script, and the line of some words; `named.rt`, `lab_forms.rt`: those of lab
 //!   scripts
@@ -19,7 +19,6 @@
 #![tactic(auto)]
 
 mod circuit;
-mod cuts;
 mod deeds;
 mod events;
 mod fields;
@@ -44,7 +43,6 @@ mod script_list;
 mod setup;
 mod words;
 
-pub use cuts::cut;
 pub use deeds::{LabDeed, LabLine};
 pub use events::{EventLine, KeyEvent};
 pub use hexes::Hex;

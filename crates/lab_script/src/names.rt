@@ -1,7 +1,7 @@
 //! Names in the order in which lines give them, and their look-up.
 ghost use Rattle.std.specs.Prelude.{◌≡◌, ◌<◌, None, [], ◌∷◌, ◌++◌, length, map, IfSome, OnOk, OnErr};
 ghost use Rattle.lab_script.specs.Names.{number_of_name};
-ghost use Rattle.lab_script.specs.Words.{texts};
+ghost use Rattle.line_cuts.specs.Words.{texts};
 
 use std::alloc::{AllocError, Global};
 use std::collections::HashMap;

@@ -2,7 +2,7 @@
 ghost use Rattle.std.specs.Prelude.{◌≡◌, ◌<◌, None, false, [], ◌∷◌, ◌++◌, length, IfSome, OnOk, OnErr};
 ghost use Rattle.lab_script.specs.LabScripts.{router_names, has_system};
 ghost use Rattle.lab_script.specs.Names.{number_of_name};
-ghost use Rattle.lab_script.specs.Words.{texts};
+ghost use Rattle.line_cuts.specs.Words.{texts};
 
 use crate::names::Names;
 use crate::setup::LabRouter;

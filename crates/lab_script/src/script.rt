@@ -6,12 +6,12 @@ ghost use Rattle.lab_script.specs.Gives.{Gives, Answers};
 ghost use Rattle.lab_script.specs.Names.{number_of_name};
 ghost use Rattle.lab_script.specs.Scripts as said;
 ghost use Rattle.lab_script.specs.Scripts.{is_lab_script, names_in, links_in};
-ghost use Rattle.lab_script.specs.Words.{words_of};
+ghost use Rattle.line_cuts.specs.Words.{words_of};
 
-use crate::cuts::cut;
 use crate::keys_script::KeysScript;
 use crate::lab_script::LabScript;
 use crate::reason::{Reason, ScriptFault, refused};
+use line_cuts::cut;
 use std::alloc::Global;
 
 /// A script of either kind.

@@ -1,9 +1,9 @@
 //! The words of a line, taken one after another.
 ghost use Rattle.std.specs.Prelude.{◌≡◌, [], ◌∷◌, MatchOption};
 ghost use Rattle.lab_script.specs.Forms.{marked};
-ghost use Rattle.lab_script.specs.Words.{words_of};
+ghost use Rattle.line_cuts.specs.Words.{words_of};
 
-use crate::cuts::cut;
+use line_cuts::cut;
 use std::marker::Model;
 
 /// The words that are left of a line, which one space parts.
@@ -14,7 +14,7 @@ pub(crate) struct Words<'a> {
 
 impl<'a> Model for Words<'a> {
     ghost use Rattle.std.specs.Prelude.{ℕ, List};
-    ghost use Rattle.lab_script.specs.Cuts.{parts_behind};
+    ghost use Rattle.line_cuts.specs.Cuts.{parts_behind};
 
     ghost Value = { List (List ℕ) };
 

@@ -12,7 +12,7 @@ use Rattle.lab_script.specs.declared.setup.LabLink.{LabLink}
 use Rattle.lab_script.specs.declared.setup.LabRouter.{LabRouter}
 use Rattle.lab_script.specs.LabScripts.{LabScript, router_names, link_names}
 use Rattle.lab_script.specs.Scripts.{◌>>=◌}
-use Rattle.lab_script.specs.Words.{texts}
+use Rattle.line_cuts.specs.Words.{texts}
 use Rattle.lab_report.specs.Reports.{AreAllRoutes}
 use Rattle.lab_play.specs.LabRuns.{end_of}
 use Rattle.lab_play.specs.Played.{IsLaid, ends_of}

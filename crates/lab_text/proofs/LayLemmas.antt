@@ -10,7 +10,7 @@ use Rattle.lab_script.specs.declared.events.EventLine.{EventLine}
 use Rattle.lab_script.specs.declared.events.KeyEvent.{KeyEvent}
 use Rattle.lab_script.specs.declared.events.KeyEvent.TheVariants.{Issue, Pass}
 use Rattle.lab_script.specs.Links.{has_link}
-use Rattle.lab_script.specs.Words.{texts}
+use Rattle.line_cuts.specs.Words.{texts}
 use Rattle.lab_script.proofs.NameLemmas.{length-texts}
 use Rattle.lab_script.specs.KeysJudged.{KeysScript}
 use Rattle.lab_text.specs.KeysRuns.{routers_only, with_links, laid_out}

@@ -5,7 +5,7 @@ use Rattle.key_net.specs.KeysNet.{Net}
 use Rattle.key_net.specs.KeysHeld.{keys_at}
 use Rattle.lab_text.specs.declared.left.KeysReport.{KeysReport}
 use Rattle.lab_text.specs.KeysReport.{key_line, router_lines}
-use Rattle.lab_script.specs.Words.{texts}
+use Rattle.line_cuts.specs.Words.{texts}
 
 -- the head, the keys of the router that comes next, and the lines of those behind it
 abbrev pub lines_left : KeysReport → List ℕ

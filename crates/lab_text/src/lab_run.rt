@@ -3,7 +3,7 @@ ghost use Rattle.std.specs.Prelude.{◌≡◌, ◌≤◌, ◌++◌, ℕ, List, l
 ghost use Rattle.isis_edge.specs.Faults.{Rose};
 ghost use Rattle.lab_script.specs.declared.script.Script.TheVariants.{Lab};
 ghost use Rattle.lab_script.specs.LabScripts.{router_names, link_names};
-ghost use Rattle.lab_script.specs.Words.{texts};
+ghost use Rattle.line_cuts.specs.Words.{texts};
 ghost use Rattle.lab_report.specs.ReportLeft.{routes_of, lines_left};
 ghost use Rattle.lab_report.specs.Reports.{AreAllRoutes};
 ghost use Rattle.lab_play.specs.LabRuns as run;

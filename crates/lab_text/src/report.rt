@@ -3,7 +3,7 @@ ghost use Rattle.std.specs.Prelude.{◌≡◌, ◌≤◌, ◌+◌, ◌++◌, len
 ghost use Rattle.key_net.specs.KeysNet.{Net};
 ghost use Rattle.lab_text.specs.KeysReport.{key_line, report_of_net};
 ghost use Rattle.lab_text.specs.ReportLeft.{lines_left, calls_left};
-ghost use Rattle.lab_script.specs.Words.{texts};
+ghost use Rattle.line_cuts.specs.Words.{texts};
 
 use crate::left::KeysReport;
 use isis_base::{Key, LspId, Octets, OutOfMemory, add_lsp_id, add_number};

@@ -1,6 +1,6 @@
 -- What an event does to what is seen of a network, and how a call that carries it out ends (own).
 use Rattle.std.specs.Prelude.{◌≡◌, ℕ, ◌==◌, true, List, ◌++◌, map, length, Option, Some, None, Result, Ok, Err, IfErr, OnOk, if◌then◌else◌}
-use Rattle.isis_model.specs.Places.{nth, with_nth}
+use Rattle.isis_model.specs.Places.{with_nth}
 use Rattle.isis_model.specs.Routers.{Router}
 use Rattle.isis_model.specs.Events.{Event}
 use Rattle.isis_model.specs.Steps.{step}

@@ -172,7 +172,10 @@ fn join(
     let joined = joined_at(alloc, configs, ports, router, link, kind, metric)?;
     match list.push(joined) {
         Ok(()) => {}
-        Err(_) => return Err(OutOfMemory),
+        Err(refused) => {
+            drop(refused);
+            return Err(OutOfMemory);
+        }
     }
     Ok(())
 }

@@ -185,17 +185,10 @@ impl Router {
         ensures err { OnErr result (self.new ≡ self.old) }
     {
         reached_laws();
-        let mut machine = self.machine.copy()?;
-        let reply = match machine.step(event, &self.following) {
-            Ok(reply) => reply,
-            Err(error) => {
-                drop(machine);
-                return Err(error);
-            }
-        };
+        let (machine, reply) = self.machine.copy_after(event, &self.following)?;
         match machine.follow_routes(&mut self.following, &self.machine, event) {
             Ok(()) => {
-                self.machine = machine;
+                put_machine(&mut self.machine, machine);
                 self.marks = Marks::none();
                 Ok(reply)
             }
@@ -323,6 +316,13 @@ impl Router {
     {
         self.machine.prefix_count()
     }
+}
+
+/// Another machine takes a machine's place.
+fn put_machine(machine: &mut Machine, next: Machine)
+    ensures { machine.new ≡ next }
+{
+    *machine = next;
 }
 
 /// Another value follows the router, where there is one.

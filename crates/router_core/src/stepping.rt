@@ -124,6 +124,31 @@ impl Machine {
         }
     }
 
+    /// A copy after an event, and what it answers.
+    pub(crate) fn copy_after(
+        &self,
+        event: &NodeEvent,
+        following: &Following,
+    ) -> Result<(Machine, Reply), OutOfMemory>
+        requires following { IsFollowing (outlook_of self.now) following.now }
+        requires fits { Fits self.now event.now }
+        requires reached { IsReached self.now }
+        ensures state { IfOk result (λ made. made.0
+            ≡ (step given self.now (event_of self.now event.now)).router) }
+        ensures reply { IfOk result (λ made. Answers made.0
+            (place_of (event_of self.now event.now))
+            (step given self.now (event_of self.now event.now)).reply made.1) }
+    {
+        let mut machine = self.copy()?;
+        match machine.step(event, following) {
+            Ok(reply) => Ok((machine, reply)),
+            Err(error) => {
+                drop(machine);
+                Err(error)
+            }
+        }
+    }
+
     /// An event, with what follows the router as it is before it.
     pub(crate) fn step(
         &mut self,

@@ -1,8 +1,8 @@
 use Rattle.std.proofs.Common.{◌≡◌, ◌∙◌, ◌+◌, ◌∷◌, length, suc, sym, ap, arith}
-use Rattle.lab_script.specs.Cuts.{parts_behind}
+use Rattle.line_cuts.specs.Cuts.{parts_behind}
 use Rattle.lab_script.specs.Scripts.{hear_lines}
 use Rattle.lab_script.specs.declared.script.Script.{Script}
-use Rattle.lab_script.proofs.CutLemmas.{size_left, size_left-of_behind}
+use Rattle.line_cuts.proofs.CutLemmas.{size_left, size_left-of_behind}
 use Rattle.lab_script.proofs.ReadLemmas.{hear_lines-next, hear_lines-end, hear_lines-ok, hear_lines-err, Answers-from_line}
 use Rattle.lab_script.proofs.script.read_script.Goals as goal
 

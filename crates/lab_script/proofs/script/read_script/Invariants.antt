@@ -1,7 +1,7 @@
 use Rattle.std.proofs.Common.{◌≡◌, ◌+◌, ◌≤◌, length}
-use Rattle.lab_script.specs.Cuts.{parts_behind}
+use Rattle.line_cuts.specs.Cuts.{parts_behind}
 use Rattle.lab_script.specs.Scripts.{hear_lines, script_of}
-use Rattle.lab_script.proofs.CutLemmas.{size_left}
+use Rattle.line_cuts.proofs.CutLemmas.{size_left}
 use Rattle.lab_script.proofs.script.read_script.Given as goal
 
 abbrev pub invariant-loop-left : goal.invariant-loop-left

@@ -3,7 +3,7 @@ use Rattle.std.specs.Str.{bytes_eq}
 use Rattle.std.specs.Borrow.{Bor}
 use Rattle.std.specs.HashMap.{get_by}
 use Rattle.lab_script.specs.Names.{number_of_name}
-use Rattle.lab_script.specs.Words.{texts}
+use Rattle.line_cuts.specs.Words.{texts}
 use Rattle.lab_script.proofs.NameLemmas.{number_of_name-push, texts-push, length-texts}
 use Rattle.lab_script.proofs.names.Names.add.Goals as goal
 

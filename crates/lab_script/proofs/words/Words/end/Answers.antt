@@ -1,6 +1,6 @@
 use Rattle.std.proofs.Common.{◌∙◌, sym, ap}
-use Rattle.lab_script.specs.Cuts.{parts_behind}
-use Rattle.lab_script.proofs.CutLemmas.{never-empty}
+use Rattle.line_cuts.specs.Cuts.{parts_behind}
+use Rattle.line_cuts.proofs.CutLemmas.{never-empty}
 use Rattle.lab_script.proofs.words.Words.end.Goals as goal
 
 pub returns-in-Some : goal.returns-in-Some

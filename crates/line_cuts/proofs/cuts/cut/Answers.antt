@@ -1,7 +1,7 @@
 use Rattle.std.proofs.Common.{◌∙◌, ◌+◌, ◌∷◌, ◌==◌, ℕ, List, take, sym, ap, arith}
 use Rattle.std.specs.List.{slice_split}
-use Rattle.lab_script.proofs.CutLemmas.{split-at, split-none, to_end}
-use Rattle.lab_script.proofs.cuts.cut.Goals as goal
+use Rattle.line_cuts.proofs.CutLemmas.{split-at, split-none, to_end}
+use Rattle.line_cuts.proofs.cuts.cut.Goals as goal
 
 pub returns-in-Some-clause-parts : goal.returns-in-Some-clause-parts
 returns-in-Some-clause-parts c =

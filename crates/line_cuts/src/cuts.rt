@@ -1,7 +1,7 @@
 //! A text up to a mark, and what stands behind it.
 ghost use Rattle.std.specs.Prelude.{◌≡◌, ◌<◌, ◌==◌, ◌∷◌, length, IfSome};
 ghost use Rattle.std.specs.List.{slice_split};
-ghost use Rattle.lab_script.specs.Cuts.{parts_behind};
+ghost use Rattle.line_cuts.specs.Cuts.{parts_behind};
 
 use memchr::memchr;
 

@@ -1,7 +1,7 @@
 use Rattle.std.proofs.Common.{◌∙◌, ℕ, List, sym, subst}
 use Rattle.std.specs.Str.Parse.{ParsesUnsigned}
-use Rattle.lab_script.proofs.FieldLemmas.{numeral_of-parsed, digits-text}
-use Rattle.lab_script.proofs.fields.read_number.Goals as goal
+use Rattle.line_cuts.proofs.NumeralLemmas.{numeral_of-parsed, digits-text}
+use Rattle.line_cuts.proofs.numerals.read_number.Goals as goal
 
 pub returns-in-Ok : goal.returns-in-Ok
 returns-in-Ok c =

@@ -1,0 +1,3 @@
+-- Lemmas on texts cut at marks, and on decimal numbers.
+pub mod CutLemmas
+pub mod NumeralLemmas
