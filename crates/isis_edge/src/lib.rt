@@ -24,6 +24,7 @@ mod standard;
 mod text;
 mod writing;
 
+pub use calls::Calls;
 pub use frame::{FrameFault, unwrap, wrap};
 pub use memory_sink::MemorySink;
 pub use memory_source::MemorySource;

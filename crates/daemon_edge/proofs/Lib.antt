@@ -1,0 +1,3 @@
+-- Lemmas on lists and on what is kept.
+mod KeptLemmas
+mod Lists

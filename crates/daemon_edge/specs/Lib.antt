@@ -1,0 +1,7 @@
+-- The definitions: closings, kept, memory ports, pacing, ports, workers.
+pub mod Closings
+pub mod Kept
+pub mod MemoryPorts
+pub mod Pacing
+pub mod Ports
+pub mod Workers

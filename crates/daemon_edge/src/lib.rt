@@ -1,0 +1,37 @@
+//! The outside as a daemon sees it: ports, seconds and threads.
+//!
+//! A port tells, for contracts alone, the datagrams that it gave and those that it was offered, where they are known,
+//! and each object has a count of faults that never falls. So a fault is answered only where a count rose. What opens
+//! ports tells those that were closed, each with the circuit and the place that it was opened with. It is this
+//! project's own; no standard speaks of it. It stands apart from isis_edge, since nothing below a daemon needs it.
+//!
+//! - `place.rt`: where a circuit's port is bound, and whom it sends to
+//! - `port.rt`, `ports.rt`: ports, and what opens and closes them
+//! - `pacing.rt`: pacers, which give seconds, and gates, which turns pass
+//! - `spawning.rt`: workers, and the threads that they work in
+//! - `memory_ports.rt`, `kept.rt`: ports in memory, and what they keep; `memory_pacer.rt`: a pacer in memory
+//! - `faults.rt`: faults counted
+//! - `udp.rt`: ports over UDP; `sleep_pacer.rt`: a pacer that sleeps
+#![tactic(auto)]
+
+mod faults;
+mod kept;
+mod memory_pacer;
+mod memory_ports;
+mod pacing;
+mod place;
+mod port;
+mod ports;
+mod sleep_pacer;
+mod spawning;
+mod udp;
+
+pub use memory_pacer::MemoryPacer;
+pub use memory_ports::{MemoryPort, MemoryPorts};
+pub use pacing::{Gate, OpenGate, Pace, Pacer};
+pub use place::{Address, CircuitPlace, Peers, PlaceList, Places};
+pub use port::{Offered, Port, Taken};
+pub use ports::{Ports, Refused};
+pub use sleep_pacer::SleepPacer;
+pub use spawning::{Spawner, Started, ThreadSpawner, Worker, run_all};
+pub use udp::{UdpPort, UdpPorts};
