@@ -1,6 +1,6 @@
 -- What a shared router was made of, what may be submitted to it, and what comes back when it is
 -- closed (own).
-use Rattle.std.specs.Prelude.{◌≡◌, ℕ, List, Some}
+use Rattle.std.specs.Prelude.{◌≡◌, ℕ, ◌≤◌, List, Some}
 use Rattle.std.specs.Option.{option_map}
 use Rattle.isis_model.specs.Routers.{Router}
 use Rattle.isis_edge.specs.Faults.{Rose}
@@ -44,12 +44,13 @@ KeepsPrefixes (event.Change c) = KeepsPrefixesIn c
 -- ---- what comes back
 
 -- The router and the journal after the notes of all turns: the router is the replay of the history,
--- and the journal tells the history, beside the journal at first; where an entry is marked, its
--- append failed, and the journal's count of faults rose (own).
+-- and the journal tells the history, beside the journal at first; its count of faults didn't fall, and where an
+-- entry is marked, its append failed, and the count rose (own).
 pub record Closed {J : Type 0} (tells : J → J → Told → Type 0) (faults : J → ℕ) (start : Start J)
     (notes : List Note) (router : Router) (journal : J) : Type 0 where
   pub history : IsHistory start.router.value router notes
       (option_map (λ (e : JournalEntry). e.number) (marked notes))
   pub told : ∥ tells start.journal.value journal (told_of notes) ∥₁
+  pub later : faults start.journal.value ≤ faults journal
   pub fault : (e : JournalEntry) → marked notes ≡ Some e
       → Rose (faults start.journal.value) (faults journal)

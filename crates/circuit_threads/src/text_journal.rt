@@ -27,6 +27,7 @@ impl<O: Sink> TextJournal<O> {
     pub fn open(sink: O) -> Result<TextJournal<O>, (O, WriteFailed)>
         ensures ok { IfOk result (λ journal. Wrote (O.held sink) (O.held journal.sink) head_text) }
         ensures later { IfOk result (λ journal. O.faults sink ≤ O.faults journal.sink) }
+        ensures never { IfErr result (λ back. O.faults sink ≤ O.faults back.0) }
         ensures begun { IfErr result (λ back. WrotePrefix (O.held sink) (O.held back.0) head_text) }
         ensures cause { IfErr result (λ back. Rose (O.faults sink) (O.faults back.0)) }
     {

@@ -1,0 +1,11 @@
+-- The lemmas, a module for each topic.
+mod Picks
+mod ByLabels
+pub mod Told
+pub mod Running
+mod Joins
+mod Jobs
+mod Stops
+pub mod Gathered
+mod Afterwards
+pub mod Places
