@@ -1,0 +1,11 @@
+-- The definitions.
+pub mod Words
+pub mod Steps
+pub mod Documents
+pub mod Fields
+pub mod Shapes
+pub mod Config
+pub mod Seen
+pub mod Named
+pub mod Written
+pub mod Examples

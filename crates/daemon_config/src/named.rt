@@ -1,0 +1,73 @@
+//! Prefixes of which none is named twice.
+ghost use Rattle.std.specs.Prelude.{◌≡◌, ◌==◌, [], ◌∷◌, ◌++◌, IfOk};
+ghost use Rattle.std.specs.List.{list_any};
+ghost use Rattle.router_desk.specs.Configs.{prefix_number};
+ghost use Rattle.router_desk.specs.Limits.{numbers_of};
+
+use isis_base::{OutOfMemory, Prefix};
+use router_desk::Prefixes;
+use std::alloc::Global;
+use std::collections::BTreeSet;
+use std::marker::Model;
+
+/// Prefixes with their metrics, and the numbers of those that are among them, so that whether one
+/// was named is found without a walk. Contracts see it as the list.
+#[derive(Drop)]
+pub(crate) struct NamedPrefixes {
+    numbers: BTreeSet<u64>,
+    list: Prefixes,
+}
+
+impl Model for NamedPrefixes {
+    ghost use Rattle.std.specs.Prelude.{ℕ, List};
+    ghost use Rattle.isis_base.specs.declared.prefix.Prefix.{Prefix};
+    ghost use Rattle.daemon_config.specs.Named.{HasNumbers};
+
+    ghost Value = { List (Prefix × ℕ) };
+
+    ghost view = { λ named. named.list };
+
+    ghost invariant = { λ named. HasNumbers named.numbers named.list };
+}
+
+/// A prefix as a number: 64 times its address, and its length.
+fn number_of(prefix: &Prefix) -> u64
+    ensures { result ≡ prefix_number prefix.now }
+{
+    64 * u64::from(prefix.address()) + u64::from(prefix.length())
+}
+
+impl NamedPrefixes {
+    /// No prefixes. It takes no memory.
+    pub(crate) fn new(alloc: Global) -> NamedPrefixes
+        ensures { result ≡ [] }
+    {
+        NamedPrefixes {
+            numbers: BTreeSet::new(alloc),
+            list: Prefixes::new(alloc),
+        }
+    }
+
+    /// Whether a prefix is among them.
+    pub(crate) fn has(&self, prefix: &Prefix) -> bool
+        ensures { result ≡ list_any (λ n. n == prefix_number prefix.now) (numbers_of self.now) }
+    {
+        self.numbers.contains(&number_of(prefix))
+    }
+
+    /// These, and a prefix with its metric behind them.
+    pub(crate) fn with(mut self, prefix: Prefix, metric: u32) -> Result<NamedPrefixes, OutOfMemory>
+        ensures { IfOk result (λ named. named ≡ self ++ (prefix, metric) ∷ []) }
+    {
+        self.numbers.insert(number_of(&prefix))?;
+        self.list.push((prefix, metric))?;
+        Ok(self)
+    }
+
+    /// The prefixes, given away.
+    pub(crate) fn into_list(self) -> Prefixes
+        ensures { result ≡ self }
+    {
+        self.list
+    }
+}
