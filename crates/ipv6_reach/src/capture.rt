@@ -219,6 +219,7 @@ impl Capture {
         ensures other { IfOk result (λ took. (took ≡ Kept → ⊥) → self.new ≡ self.old) }
         ensures full { result ≡ Err fault.Full → (took_lsp self.old octets.now (Some head.now) ≡ Kept)
             × IsFullFor self.old head.now }
+        ensures room { result ≡ Ok Kept → IsFullFor self.old head.now → ⊥ }
         ensures err { OnErr result (self.new ≡ self.old) }
     {
         if !is_same(self.level, head.level) {
@@ -247,6 +248,7 @@ impl Capture {
         ensures other { IfOk result (λ took. (took ≡ Kept → ⊥) → self.new ≡ self.old) }
         ensures full { result ≡ Err fault.Full → (took_of self.old octets.now ≡ Kept)
             × IsFullBy self.old (decoded octets.now) }
+        ensures room { result ≡ Ok Kept → IsFullBy self.old (decoded octets.now) → ⊥ }
         ensures err { OnErr result (self.new ≡ self.old) }
     {
         let (pdu, end) = match decode(octets) {

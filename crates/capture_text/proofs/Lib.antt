@@ -1,0 +1,4 @@
+-- The lemmas, a module for each topic.
+mod BackupLemmas
+mod HopLemmas
+mod ReadLemmas
