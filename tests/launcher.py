@@ -87,6 +87,31 @@ def built(run, clone):
     yield "a program that is built", told(start(), 0, "", "grid 2\ntext\n")
 
 
+def numbered(run, clone):
+    """The words of `daemon`, and boot numbers that are kept in a file."""
+    start = lambda *words: run(words, "text\n", program=clone.program, env=clone.environment)
+    for words in (["--boot", "7", "--turns", "5"], ["--turns=86400", "--boot=16777215"]):
+        yield f"daemon: {words}", told(start("daemon", *words), 0, "", f"daemon {' '.join(words)}\ntext\n")
+    for words in ([], ["--boot", "1"], ["--boot", "0", "--turns", "5"], ["--boot=1", "--boot=1"], ["--boot", "16777216", "--turns", "5"], ["--turns"]):
+        yield f"daemon: {words}", told(start("daemon", *words), 2, "usage", "")
+    state = clone.folder / "state"
+    for words in ([], [state], [state, "--boot", "5", "--turns", "5"], [state, "--turns", "5", "--turns", "5"], ["", "--turns", "5"]):
+        yield f"daemon-next: {words}", told(start("daemon-next", *words), 2, "usage", "")
+    for before, boot in ((None, 1), ("1\n", 2), ("16777214", 16777215)):
+        if before:
+            clone.put("state", before)
+        fault = told(start("daemon-next", state, "--turns", "5"), 0, "", f"daemon --boot {boot} --turns 5\ntext\n")
+        yield f"daemon-next behind {before}", fault or (None if state.read_text() == f"{boot}\n" else f"kept {state.read_text()!r}")
+    line = f"{state} isn't a boot number from 1 to 16777214, after which there is a next one"
+    for before in ("", "0", "01", "5\n6\n", "16777215", "five", "5\0"):
+        clone.put("state", before)
+        fault = told(start("daemon-next", state, "--turns", "5"), 1, line, "")
+        yield f"daemon-next behind {before!r}", fault or (None if state.read_text() == before else "kept another number")
+    for file, what in ((clone.folder, "read"), (clone.folder / "none" / "state", "written")):
+        yield f"daemon-next where it can't be {what}", told(start("daemon-next", file, "--turns", "5"), 1, f"{file} can't be {what}", "")
+    yield "daemon-next leaves no file", None if {"state"} == {it.name for it in clone.folder.glob("state*")} else "it left one"
+
+
 def stopped(clone, number, code):
     """What is other than it should be where a signal stops a build. SIGINT comes as from a terminal, to all of the group."""
     how = {"stdin": subprocess.DEVNULL, "stderr": subprocess.PIPE, "env": clone.environment, "start_new_session": True}
@@ -119,3 +144,4 @@ def faults(run):
         clone = Clone(folder)
         yield from answered(run, clone)
         yield from built(run, clone)
+        yield from numbered(run, clone)

@@ -3,3 +3,4 @@ mod GridLemmas
 pub mod HeadlineLemmas
 pub mod ShowLemmas
 mod TakenLemmas
+mod OptionLemmas

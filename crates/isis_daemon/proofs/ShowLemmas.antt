@@ -4,7 +4,7 @@ use Rattle.std.specs.Prelude.{◌==◌}
 use Rattle.std.specs.Result.{ok_prefix}
 use Rattle.std.proofs.lemmas.List.Splits.{length-slice_split}
 use Rattle.std.proofs.lemmas.List.Sums.{count_by-le-length}
-use Rattle.lab_script.specs.Words.{lines_of}
+use Rattle.line_cuts.specs.Words.{lines_of}
 use Rattle.isis_tlv.specs.Tlvs.{tlv_at, tlv_list}
 use Rattle.isis_tlv.specs.Walks.{before, walk, items_of}
 use Rattle.isis_daemon.specs.ShowText.{shown_line, shown_lines}

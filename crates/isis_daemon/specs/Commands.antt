@@ -1,16 +1,44 @@
 -- What the words after the program's name ask for (own).
-use Rattle.std.specs.Prelude.{◌≡◌, ℕ, ◌-◌, nat_le, ◌&&◌, List, [], ◌∷◌, Option, Some, None, codes, if◌then◌else◌}
+use Rattle.std.specs.Prelude.{◌≡◌, ℕ, ◌-◌, nat_le, ◌&&◌, List, [], ◌∷◌, Option, Some, None, codes, option_and_then, if◌then◌else◌}
+use Rattle.std.specs.Option.{option_map}
+use Rattle.isis_base.specs.declared.identifiers.SystemId.{SystemId}
+use Rattle.isis_base.specs.declared.level.Level.{Level}
+use Rattle.isis_base.specs.declared.level.Level.TheVariants.{One, Two}
+use Rattle.isis_base.specs.declared.texts.TheConstants.{SYSTEM_TEXT}
+use Rattle.isis_base.specs.Identifiers.{system_from}
+use Rattle.isis_base.specs.Misfit.{text_octets}
 use Rattle.std.specs.Str.{bytes_eq}
 use Rattle.isis_daemon.specs.declared.command.Command.{Command}
-use Rattle.isis_daemon.specs.declared.command.Command.TheVariants.{Lab, Show}
+use Rattle.isis_daemon.specs.declared.command.Command.TheVariants.{Lab, Show, Routes6, Alternates}
+use Rattle.isis_daemon.specs.Options.{daemon_of}
 
--- one word, `lab` or `show`
+-- a level, `L1` or `L2`
+abbrev pub level_in : List ℕ → Option Level
+level_in word =
+    if bytes_eq word (codes "L1") then Some One else if bytes_eq word (codes "L2")
+    then Some Two else None
+
+-- the text of a system ID
+abbrev pub system_in : List ℕ → Option SystemId
+system_in word = option_map system_from (text_octets SYSTEM_TEXT word)
+
+-- `routes6` or `alternates`, of a level and a system
+abbrev pub captured_of : List ℕ → List ℕ → List ℕ → Option Command
+captured_of word level system =
+    option_and_then (λ level. option_and_then (λ system.
+    if bytes_eq word (codes "routes6") then Some (Routes6 level system)
+    else if bytes_eq word (codes "alternates") then Some (Alternates level system) else None)
+    (system_in system)) (level_in level)
+
+-- one word, `lab` or `show`; or a word of captured LSPs, a level and a system
 abbrev pub command_of : List (List ℕ) → Option Command
 command_of [] = None
 command_of (word ∷ []) =
     if bytes_eq word (codes "lab") then Some Lab else if bytes_eq word (codes "show")
     then Some Show else None
-command_of (word ∷ next ∷ words) = None
+command_of (word ∷ level ∷ []) = None
+command_of (word ∷ level ∷ system ∷ []) = captured_of word level system
+command_of (word ∷ level ∷ system ∷ next ∷ words) = None
 
 -- a number from 1 to 8, in its one digit
 abbrev pub size_of : List ℕ → Option ℕ
@@ -26,6 +54,10 @@ grid_size_of (word ∷ number ∷ []) =
     if bytes_eq word (codes "grid") then size_of number else None
 grid_size_of (word ∷ number ∷ next ∷ words) = None
 
+-- words that ask for no text of an input, and for no grid
+abbrev pub AreNoText : List (List ℕ) → Type 0
+AreNoText words = (command_of words ≡ None) × (grid_size_of words ≡ None)
+
 -- words that ask for nothing
 abbrev pub AreNone : List (List ℕ) → Type 0
-AreNone words = (command_of words ≡ None) × (grid_size_of words ≡ None)
+AreNone words = AreNoText words × (daemon_of words ≡ None)

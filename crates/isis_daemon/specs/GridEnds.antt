@@ -29,5 +29,7 @@ GridEnds size before now status.WriteFault = WroteGrid size (WrotePrefix before 
 GridEnds size before now status.TooLong = ⊥
 GridEnds size before now status.OutOfMemory =
     TellsSame before now ⊎ WroteGrid size (WrotePrefix before now)
+GridEnds size before now (status.ConfigRefused what key) = ⊥
+GridEnds size before now status.NotStarted = ⊥
 GridEnds size before now (status.LabLimit which) =
     (grid_end size ≡ Err (Limit which)) × TellsSame before now

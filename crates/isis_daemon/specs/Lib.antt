@@ -1,7 +1,10 @@
--- The definitions: commands, grid ends, headline, runs, show text, shown left, statuses.
+-- The definitions: commands, daemon ends, grid ends, headline, options, runs, show text, shown left,
+-- statuses.
 pub mod Commands
+pub mod DaemonEnds
 pub mod GridEnds
 pub mod Headline
+pub mod Options
 pub mod Runs
 pub mod ShowText
 pub mod ShownLeft

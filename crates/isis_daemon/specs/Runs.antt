@@ -6,24 +6,31 @@ use Rattle.lab_script.specs.declared.reason.ScriptFault.TheVariants.{Refused, Li
 use Rattle.lab_script.specs.Scripts.{◌>>=◌, script_of}
 use Rattle.lab_text.specs.Runs.{IsReport, outcome_of, WrotePart}
 use Rattle.isis_daemon.specs.declared.command.Command.{Command}
-use Rattle.isis_daemon.specs.declared.command.Command.TheVariants.{Lab, Show}
+use Rattle.isis_daemon.specs.declared.command.Command.TheVariants.{Lab, Show, Routes6, Alternates}
 use Rattle.isis_daemon.specs.declared.status.Status.{Status}
 use Rattle.isis_daemon.specs.declared.status.Status.TheVariants as status
+use Rattle.capture_text.specs.Routes6Text.{IsRoutes6Text}
+use Rattle.capture_text.specs.AlternatesText.{IsAlternatesText}
 use Rattle.isis_daemon.specs.ShowText.{shown_text}
 
 -- how many octets an input may have
 abbrev pub input_limit : ℕ
 input_limit = 16777216
 
--- a text is what a command makes of an input: of a script its report, and of other input the fields of its PDUs
+-- a text is what a command makes of an input: of a script its report, of PDUs their fields, and of captured LSPs
+-- the IPv6 routes or the alternates of a system
 abbrev pub IsTextOf : Command → List ℕ → List ℕ → Type 0
 IsTextOf Lab input text = IsOkAnd (script_of input) (λ script. IsReport script text)
 IsTextOf Show input text = text ≡ shown_text input
+IsTextOf (Routes6 level system) input text = IsRoutes6Text level system input text
+IsTextOf (Alternates level system) input text = IsAlternatesText level system input text
 
 -- what a command comes to: an end, or what refuses its input
 abbrev pub outcome : Command → List ℕ → Result (Unit {0}) ScriptFault
 outcome Lab input = script_of input >>= λ script. outcome_of script
 outcome Show input = Ok tt
+outcome (Routes6 level system) input = Ok tt
+outcome (Alternates level system) input = Ok tt
 
 -- of the input no more was taken than its first octets, at most one more than it may have
 abbrev pub IsTakenWithin : (before now : Option (List ℕ)) → Type 0
@@ -53,6 +60,8 @@ Ends command input left before now status.TooLong =
     IfSome input (λ octets. input_limit < length octets) × TellsSame before now
 Ends command input left before now status.OutOfMemory =
     IfSome input (λ octets. TellsSame before now ⊎ WrotePart (IsTextOf command octets) before now)
+Ends command input left before now (status.ConfigRefused what key) = ⊥
+Ends command input left before now status.NotStarted = ⊥
 Ends command input left before now (status.LabLimit which) =
     (command ≡ Lab)
     × IfSome input (λ octets. IsReadWhole octets left

@@ -20,7 +20,7 @@ use Rattle.isis_pdu.specs.Decoded.{decoded}
 use Rattle.isis_pdu.specs.Layout.{kind_of}
 use Rattle.isis_base.specs.PduKinds.{header_length}
 use Rattle.isis_pdu.specs.Views.{PduView, LanHello, PointHello, Lsp, Csnp, Psnp, tlvs_of_pdu}
-use Rattle.lab_script.specs.Words.{lines_of}
+use Rattle.line_cuts.specs.Words.{lines_of}
 
 -- one of two words, by the level
 abbrev pub by_level : Level → List ℕ → List ℕ → List ℕ

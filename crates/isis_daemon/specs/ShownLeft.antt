@@ -1,6 +1,6 @@
 -- What is still to come of what an input is shown as (own).
 use Rattle.std.specs.Prelude.{ℕ, List, length}
-use Rattle.lab_script.specs.Cuts.{parts_behind}
+use Rattle.line_cuts.specs.Cuts.{parts_behind}
 use Rattle.isis_daemon.specs.declared.shown.Shown.{Shown}
 use Rattle.isis_daemon.specs.ShowText.{shown_lines}
 

@@ -4,13 +4,18 @@ use Rattle.isis_edge.specs.declared.reading.WholeFault.{WholeFault}
 use Rattle.isis_edge.specs.declared.reading.WholeFault.TheVariants as whole
 use Rattle.isis_edge.specs.declared.text.TextFailed.{TextFailed}
 use Rattle.isis_edge.specs.declared.text.TextFailed.TheVariants as text
+use Rattle.daemon_config.specs.declared.fault.ConfigFault.{ConfigFault}
+use Rattle.daemon_config.specs.declared.fault.ConfigFault.TheVariants as config
+use Rattle.daemon_config.specs.Words.{kind_word, key_word}
+use Rattle.daemon_run.specs.declared.end.DaemonEnd.{DaemonEnd}
+use Rattle.daemon_run.specs.declared.end.DaemonEnd.TheVariants as daemon
 use Rattle.key_net.specs.Limits.{limit_word}
 use Rattle.lab_script.specs.declared.reason.ScriptFault.{ScriptFault}
 use Rattle.lab_script.specs.declared.reason.ScriptFault.TheVariants as script
 use Rattle.lab_text.specs.declared.fault.RunFault.{RunFault}
 use Rattle.lab_text.specs.declared.fault.RunFault.TheVariants as run
 use Rattle.isis_daemon.specs.declared.status.Status.{Status}
-use Rattle.isis_daemon.specs.declared.status.Status.TheVariants.{Done, Usage, ScriptRefused, ReadFault, WriteFault, TooLong, OutOfMemory, LabLimit}
+use Rattle.isis_daemon.specs.declared.status.Status.TheVariants.{Done, Usage, ScriptRefused, ReadFault, WriteFault, TooLong, OutOfMemory, ConfigRefused, NotStarted, LabLimit}
 use Rattle.lab_script.specs.Reasons.{reason_word}
 
 -- what ends a run whose script can't be read (own)
@@ -37,6 +42,18 @@ whole_status whole.Fault = ReadFault
 whole_status whole.TooLong = TooLong
 whole_status whole.OutOfMemory = OutOfMemory
 
+-- what ends a run whose configuration can't be read (own)
+abbrev pub config_status : ConfigFault → Status
+config_status (config.Refused what key) = ConfigRefused what key
+config_status config.OutOfMemory = OutOfMemory
+
+-- what ends the run of a daemon (own)
+abbrev pub daemon_status : DaemonEnd → Status
+daemon_status daemon.Done = Done
+daemon_status daemon.NotStarted = NotStarted
+daemon_status daemon.WriteFault = WriteFault
+daemon_status daemon.OutOfMemory = OutOfMemory
+
 -- the exit code (own)
 abbrev pub status_code : Status → ℕ
 status_code Done = 0
@@ -46,6 +63,8 @@ status_code ReadFault = 4
 status_code WriteFault = 5
 status_code TooLong = 6
 status_code OutOfMemory = 7
+status_code (ConfigRefused what key) = 8
+status_code NotStarted = 9
 status_code (LabLimit which) = 10
 
 -- what stands on standard error; at 0 nothing is printed (own)
@@ -58,4 +77,7 @@ status_line ReadFault = codes "isis: read fault"
 status_line WriteFault = codes "isis: write fault"
 status_line TooLong = codes "isis: input too long"
 status_line OutOfMemory = codes "isis: out of memory"
+status_line (ConfigRefused what key) =
+    codes "isis: config " ++ kind_word what ++ codes " " ++ key_word key
+status_line NotStarted = codes "isis: not started"
 status_line (LabLimit which) = codes "isis: limit " ++ limit_word which

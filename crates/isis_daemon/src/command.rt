@@ -1,6 +1,8 @@
 //! What the words after the program's name ask for.
-ghost use Rattle.std.specs.Prelude.{◌≡◌, ◌≤◌, map, string_bytes, None, IfSome};
-ghost use Rattle.isis_daemon.specs.Commands.{command_of, grid_size_of, size_of};
+ghost use Rattle.std.specs.Prelude.{◌≡◌, ◌≤◌, [], ◌∷◌, map, string_bytes, None, IfSome};
+ghost use Rattle.isis_daemon.specs.Commands.{command_of, captured_of, level_in, system_in, grid_size_of, size_of};
+
+use isis_base::{Level, SystemId, read_system};
 
 /// What the words after the program's name ask to be done with an input.
 #[derive(Clone, Copy, Debug, PartialEq, Eq)]
@@ -9,16 +11,27 @@ pub enum Command {
     Lab,
     /// `show`: the fields of PDUs.
     Show,
+    /// `routes6`: the IPv6 routes of a system, by captured LSPs of a level (RFC 5308).
+    Routes6 { level: Level, system: SystemId },
+    /// `alternates`: the loop-free alternates of a system, by captured LSPs of a level (RFC 5286).
+    Alternates { level: Level, system: SystemId },
 }
 
 /// The command that the words are, if they are one.
 pub fn command_of(words: &[String]) -> Option<Command>
     ensures { result ≡ command_of (map string_bytes words.now) }
 {
-    if words.len() != 1 {
-        return None;
+    match words {
+        [word] => text_command(word.as_str()),
+        [word, level, system] => captured_of(word.as_str(), level.as_str(), system.as_str()),
+        _ => None,
     }
-    let word = words[0].as_str();
+}
+
+/// The command that one word is.
+fn text_command(word: &str) -> Option<Command>
+    ensures { result ≡ command_of (word.now ∷ []) }
+{
     if word == "lab" {
         return Some(Command::Lab);
     }
@@ -26,6 +39,41 @@ pub fn command_of(words: &[String]) -> Option<Command>
         return Some(Command::Show);
     }
     None
+}
+
+/// The command of captured LSPs that a word, a level and a system are.
+fn captured_of(word: &str, level: &str, system: &str) -> Option<Command>
+    ensures { result ≡ captured_of word.now level.now system.now }
+{
+    let level = level_in(level)?;
+    let system = system_in(system)?;
+    if word == "routes6" {
+        return Some(Command::Routes6 { level, system });
+    }
+    if word == "alternates" {
+        return Some(Command::Alternates { level, system });
+    }
+    None
+}
+
+/// A level, `L1` or `L2`.
+fn level_in(word: &str) -> Option<Level>
+    ensures { result ≡ level_in word.now }
+{
+    if word == "L1" {
+        return Some(Level::One);
+    }
+    if word == "L2" {
+        return Some(Level::Two);
+    }
+    None
+}
+
+/// A system ID.
+fn system_in(word: &str) -> Option<SystemId>
+    ensures { result ≡ system_in word.now }
+{
+    read_system(word).ok()
 }
 
 /// How many rows and columns the grid has that the words ask for, `grid N` with N from 1 to 8.

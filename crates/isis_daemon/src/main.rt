@@ -3,24 +3,30 @@
 //! `isis lab` reads a script from standard input and writes its report to standard output. `isis show` reads lines of
 //! hex text, each one PDU, and writes their fields. `isis grid N`, with N from 1 to 8, runs a grid of N rows and as many
 //! columns of routers, and writes a summary. Where the exit code isn't 0, the status's line stands on standard
-//! error.
+//! error. `isis daemon --boot N --turns N` reads a configuration from standard input, opens a UDP port for each of its
+//! circuits, runs its router, and writes the router's journal.
 //!
-//! - `run.rt`: the call `run`, from the octets read to the octets written
-//! - `command.rt`: what the words ask for; `status.rt`: how a run ends; `grid.rt`: the run of a grid
+//! - `run.rt`: the call `run`, from the octets read to the octets written; `texts.rt`: that of what reads a text
+//! - `command.rt`, `options.rt`: what the words ask for; `status.rt`: how a run ends
+//! - `grid.rt`: the run of a grid; `daemon.rt`: a router over its circuits' ports
 //! - `show.rt`: the call `show`, line by line; `show/lines.rt` the lines of a PDU, and `shown.rt` what is still to come
 #![tactic(auto)]
 
 mod command;
+mod daemon;
 mod grid;
+mod options;
 mod run;
 mod show;
 mod shown;
 mod status;
 #[cfg(test)]
 mod tests;
+mod texts;
 
 use crate::run::run;
 use crate::status::Status;
+use daemon_edge::{OpenGate, SleepPacer, ThreadSpawner, UdpPorts};
 use isis_edge::{StdSink, StdSource};
 use std::process::ExitCode;
 use std::{env, io};
@@ -41,13 +47,22 @@ fn main(rt: HostRuntime) -> ExitCode {
     let status = match words(&rt) {
         Ok(words) => {
             let mut input = StdSource::new(rt.stdin());
+            let output = StdSink::new(rt.stdout());
+            let mut ports = UdpPorts::new();
+            let mut spawner = ThreadSpawner::new(Vec::new(rt.alloc()));
+            let gate = OpenGate::new();
             run(
+                &rt,
                 rt.alloc(),
                 words.as_slice(),
                 &mut input,
-                StdSink::new(rt.stdout()),
+                output,
+                &mut ports,
+                &mut spawner,
+                SleepPacer::new(),
+                &gate,
             )
-            .1
+            .2
         }
         Err(status) => status,
     };

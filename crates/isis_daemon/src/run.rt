@@ -1,25 +1,32 @@
 //! The call `run`, from the octets read to the octets written.
-ghost use Rattle.std.specs.Prelude.{◌≡◌, ◌≤◌, [], length, map, Some, None, string_bytes, IfSome, IsOk, IsSomeAnd, ◌↔◌};
+ghost use Rattle.std.specs.Prelude.{◌≡◌, ◌≤◌, ◌↔◌, ◌⊎◌, map, Some, None, string_bytes, IfSome, IsOk, IsSomeAnd};
 ghost use Rattle.isis_edge.specs.Faults.{Rose};
-ghost use Rattle.isis_edge.specs.Told.{TellsSame};
 ghost use Rattle.lab_grid.specs.GridRuns.{grid_end};
+ghost use Rattle.isis_daemon.specs.declared.command.Command.TheVariants as command;
 ghost use Rattle.isis_daemon.specs.Commands.{command_of, grid_size_of, AreNone};
+ghost use Rattle.isis_daemon.specs.DaemonEnds.{DaemonEnds, IsConfiguration};
 ghost use Rattle.isis_daemon.specs.GridEnds.{GridEnds};
 ghost use Rattle.isis_daemon.specs.Headline.{IsHeadline, IsGridHeadline};
-ghost use Rattle.isis_daemon.specs.Runs.{input_limit, Ends, IsTaken, IsTakenWithin, IsDoneUnlessMemory};
+ghost use Rattle.isis_daemon.specs.Options.{daemon_of};
+ghost use Rattle.isis_daemon.specs.Runs.{Ends, IsTaken, IsTakenWithin, IsDoneUnlessMemory};
 
-use crate::command::{Command, command_of, grid_size_of};
-use crate::grid::grid;
-use crate::shown::Shown;
-use crate::status::{INPUT_LIMIT, Status};
-use isis_edge::{Sink, Source, read_whole, write_text};
-use lab_text::{read_script, run_script};
+use crate::daemon::daemon;
+use crate::options::daemon_of;
+use crate::status::Status;
+use crate::texts::run_text;
+use daemon_edge::{Gate, Pacer, Ports, Spawner};
+use isis_edge::{Sink, Source};
 use std::alloc::Global;
+use std::net::Net;
+use std::sync::Wait;
+use std::thread::Threads;
+use std::time::Clock;
 
-/// Runs the program: the words after its name, its input and its output, which is handed back. The words are
-/// tested first, then the input is read, of which at most 16,777,217 octets are taken. Of `lab` it is a script, which is read and played, and at last the report is
-/// written; of `show` it is shown line by line. At `grid N` no input is read: the script of a grid is run, and its
-/// summary is written.
+/// Runs the program: the words after its name, its input and its output, which is handed back beside the pacer, and what a
+/// daemon needs. The words are tested first, then the input is read, of which at most 16,777,217 octets are taken. Of `lab`
+/// it is a script, which is read and played, and at last the report is written; of `show` it is shown line by line. At
+/// `grid N` no input is read: the script of a grid is run, and its summary is written. Of `daemon` it is a configuration:
+/// a port is opened at each circuit's place, and the router runs until its seconds and turns are made.
 ///
 /// At `lab` and status 0 the headline holds (ISO 10589 7.3.15 to 7.3.17, RFC 5302 3.2). After each event of the script,
 /// where nothing was injected: on each point-to-point link that is up each end names the other, and of what neither let go
@@ -27,124 +34,86 @@ use std::alloc::Global;
 /// swept LANs join hold the same live LSPs, of what none of them let go, and so does a member of a LAN with the router
 /// that sweeps it, whatever they let go; and what is held under one number has the same contents, unless the LSP ID is
 /// doubled. Each `route` line is the best route over that router's own databases. At `grid N` and status 0 the same
-/// holds of the grid's script.
-#[tactic(auto, using(crate::proofs::TakenLemmas::taken_none))]
-pub fn run<I: Source, O: Sink>(
+/// holds of the grid's script. At `daemon` and status 0 the octets written are the journal of one history of the router,
+/// from its start on, and each circuit's port gave and was offered what that history took and sent there.
+pub fn run<
+    I: Source,
+    O: Sink + Drop,
+    P: Ports,
+    S: Spawner,
+    T: Pacer + Drop + Send,
+    G: Gate + Sync,
+    R: Net + Threads + Wait + Clock + Sync,
+>(
+    rt: &R,
     alloc: Global,
     words: &[String],
     input: &mut I,
     output: O,
-) -> (O, Status)
-    ensures usage { (result.1 ≡ Status.Usage) ↔ AreNone (map string_bytes words.now) }
-    ensures untouched { result.1 ≡ Status.Usage
+    ports: &mut P,
+    spawner: &mut S,
+    pacer: T,
+    gate: &G,
+) -> (O, T, Status)
+    ensures usage { (result.2 ≡ Status.Usage) ↔ AreNone (map string_bytes words.now) }
+    ensures untouched { result.2 ≡ Status.Usage
         → (I.left input.new ≡ I.left input.old) × (I.faults input.new ≡ I.faults input.old) × (result.0 ≡ output) }
     ensures ends { IfSome (command_of (map string_bytes words.now))
-        (λ command. Ends command (I.left input.old) (I.left input.new) (O.held output) (O.held result.0) result.1) }
+        (λ command. Ends command (I.left input.old) (I.left input.new) (O.held output) (O.held result.0) result.2) }
     ensures taken { IsTakenWithin (I.left input.old) (I.left input.new) }
-    ensures headline { result.1 ≡ Status.Done
-        → command_of (map string_bytes words.now) ≡ Some Command.Lab
+    ensures headline { result.2 ≡ Status.Done
+        → command_of (map string_bytes words.now) ≡ Some command.Lab
         → IfSome (I.left input.old) (λ octets. IsHeadline octets (O.held output) (O.held result.0)) }
-    ensures read_fault { result.1 ≡ Status.ReadFault
+    ensures read_fault { result.2 ≡ Status.ReadFault
         → Rose (I.faults input.old) (I.faults input.new) }
-    ensures write_fault { result.1 ≡ Status.WriteFault
+    ensures write_fault { result.2 ≡ Status.WriteFault
         → Rose (O.faults output) (O.faults result.0) }
+    ensures not_started { result.2 ≡ Status.NotStarted
+        → Rose (S.faults spawner.old) (S.faults spawner.new) ⊎ Rose (P.faults ports.old) (P.faults ports.new) }
     ensures complete { IfSome (command_of (map string_bytes words.now))
         (λ command. IsSomeAnd (I.left input.old) (IsTaken command)
         → ¬ Rose (I.faults input.old) (I.faults input.new) → ¬ Rose (O.faults output) (O.faults result.0)
-        → IsDoneUnlessMemory result.1) }
+        → IsDoneUnlessMemory result.2) }
     ensures later { (I.faults input.old ≤ I.faults input.new)
-        × (O.faults output ≤ O.faults result.0) }
+        × (O.faults output ≤ O.faults result.0) × (P.faults ports.old ≤ P.faults ports.new)
+        × (S.faults spawner.old ≤ S.faults spawner.new) }
     ensures grid { IfSome (grid_size_of (map string_bytes words.now))
-        (λ size. GridEnds size (O.held output) (O.held result.0) result.1) }
+        (λ size. GridEnds size (O.held output) (O.held result.0) result.2) }
     ensures grid_unread { IfSome (grid_size_of (map string_bytes words.now))
         (λ _. (I.left input.new ≡ I.left input.old) × (I.faults input.new ≡ I.faults input.old)) }
-    ensures grid_headline { result.1 ≡ Status.Done
+    ensures grid_headline { result.2 ≡ Status.Done
         → IfSome (grid_size_of (map string_bytes words.now))
         (λ size. IsGridHeadline size (O.held output) (O.held result.0)) }
     ensures grid_complete { IfSome (grid_size_of (map string_bytes words.now))
         (λ size. IsOk (grid_end size) → ¬ Rose (O.faults output) (O.faults result.0)
-        → IsDoneUnlessMemory result.1) }
+        → IsDoneUnlessMemory result.2) }
+    ensures daemon { IfSome (daemon_of (map string_bytes words.now)) (λ asked.
+        DaemonEnds (I.left input.old) (I.left input.new) (record {
+          boot = asked.0;
+          turns = asked.1;
+          given = T.given pacer;
+          given' = T.given result.1;
+          ended = T.ended result.1;
+          held = O.held output;
+          held' = O.held result.0;
+          opened = P.opened ports.old;
+          opened' = P.opened ports.new;
+          closed = P.closed ports.old;
+          closed' = P.closed ports.new;
+        }) result.2) }
+    ensures daemon_complete { IfSome (daemon_of (map string_bytes words.now)) (λ asked.
+        IsSomeAnd (I.left input.old) IsConfiguration
+        → ¬ Rose (I.faults input.old) (I.faults input.new) → ¬ Rose (O.faults output) (O.faults result.0)
+        → ¬ Rose (P.faults ports.old) (P.faults ports.new) → ¬ Rose (S.faults spawner.old) (S.faults spawner.new)
+        → IsDoneUnlessMemory result.2) }
+    ensures aside { daemon_of (map string_bytes words.now) ≡ None
+        → (ports.new ≡ ports.old) × (spawner.new ≡ spawner.old) × (result.1 ≡ pacer) }
 {
-    let mut output = output;
-    if let Some(size) = grid_size_of(words) {
-        let status = grid(alloc, size, &mut output);
-        return (output, status);
+    if let Some(options) = daemon_of(words) {
+        return daemon(
+            rt, alloc, options, input, output, ports, spawner, pacer, gate,
+        );
     }
-    let Some(command) = command_of(words) else {
-        return (output, Status::Usage);
-    };
-    let status = execute(alloc, command, input, &mut output);
-    (output, status)
-}
-
-/// Reads the whole input, and writes a command's text of it.
-pub(crate) fn execute<I: Source, O: Sink>(
-    alloc: Global,
-    command: Command,
-    input: &mut I,
-    output: &mut O,
-) -> Status
-    ensures ends { Ends command (I.left input.old) (I.left input.new) (O.held output.old)
-        (O.held output.new) result }
-    ensures taken { IsTakenWithin (I.left input.old) (I.left input.new) }
-    ensures headline { result ≡ Status.Done → command ≡ Command.Lab
-        → IfSome (I.left input.old)
-        (λ octets. IsHeadline octets (O.held output.old) (O.held output.new)) }
-    ensures read_fault { result ≡ Status.ReadFault
-        → Rose (I.faults input.old) (I.faults input.new) }
-    ensures write_fault { result ≡ Status.WriteFault
-        → Rose (O.faults output.old) (O.faults output.new) }
-    ensures complete { IsSomeAnd (I.left input.old) (IsTaken command)
-        → ¬ Rose (I.faults input.old) (I.faults input.new) → ¬ Rose (O.faults output.old) (O.faults output.new)
-        → IsDoneUnlessMemory result }
-    ensures later { (I.faults input.old ≤ I.faults input.new)
-        × (O.faults output.old ≤ O.faults output.new) }
-{
-    let octets = match read_whole(alloc, input, INPUT_LIMIT) {
-        Ok(octets) => octets,
-        Err(fault) => return Status::from(fault),
-    };
-    match command {
-        Command::Lab => lab(alloc, octets.as_slice(), output),
-        Command::Show => put_shown(alloc, octets.as_slice(), output),
-    }
-}
-
-/// Plays a script, and writes its report.
-fn lab<O: Sink>(alloc: Global, text: &[u8], output: &mut O) -> Status
-    requires { length text.now ≤ input_limit }
-    ensures ends { Ends Command.Lab (Some text.now) (Some []) (O.held output.old)
-        (O.held output.new) result }
-    ensures headline { result ≡ Status.Done
-        → IsHeadline text.now (O.held output.old) (O.held output.new) }
-    ensures read { ¬ (result ≡ Status.ReadFault) }
-    ensures write_fault { result ≡ Status.WriteFault
-        → Rose (O.faults output.old) (O.faults output.new) }
-    ensures later { O.faults output.old ≤ O.faults output.new }
-{
-    let script = match read_script(alloc, text) {
-        Ok(script) => script,
-        Err(fault) => return Status::from(fault),
-    };
-    match run_script(alloc, &script, output) {
-        Ok(()) => Status::Done,
-        Err(fault) => Status::from(fault),
-    }
-}
-
-/// Writes the fields of the PDUs of an input.
-fn put_shown<O: Sink>(alloc: Global, input: &[u8], output: &mut O) -> Status
-    requires { length input.now ≤ input_limit }
-    ensures ends { Ends Command.Show (Some input.now) (Some []) (O.held output.old)
-        (O.held output.new) result }
-    ensures read { ¬ (result ≡ Status.ReadFault) }
-    ensures write_fault { result ≡ Status.WriteFault
-        → Rose (O.faults output.old) (O.faults output.new) }
-    ensures later { O.faults output.old ≤ O.faults output.new }
-{
-    let mut shown = Shown::new(alloc, input);
-    match write_text(alloc, &mut shown, output) {
-        Ok(()) => Status::Done,
-        Err(fault) => Status::from(fault),
-    }
+    let (output, status) = run_text(alloc, words, input, output);
+    (output, pacer, status)
 }

@@ -9,13 +9,13 @@ mod lines;
 
 use self::lines::{add_fault, add_octets};
 use crate::command::Command;
-use crate::run::execute;
 use crate::shown::Shown;
 use crate::status::Status;
+use crate::texts::execute;
 use hex::FromHexError;
 use isis_base::{Octets, OutOfMemory};
 use isis_edge::{Sink, Source, Text};
-use lab_text::cut;
+use line_cuts::cut;
 use std::alloc::Global;
 
 /// Reads lines of hex text, each one PDU, and writes their fields. Empty lines are skipped, but counted.

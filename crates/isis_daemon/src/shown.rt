@@ -1,6 +1,6 @@
 //! What is still to come of what an input is shown as.
 ghost use Rattle.std.specs.Prelude.{◌≤◌, ◌+◌, length};
-ghost use Rattle.lab_script.specs.Cuts.{parts_behind};
+ghost use Rattle.line_cuts.specs.Cuts.{parts_behind};
 
 use std::alloc::Global;
 

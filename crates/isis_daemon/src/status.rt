@@ -1,7 +1,9 @@
 //! How a run of the program ended.
 ghost use Rattle.std.specs.Prelude.{◌≡◌, Some};
-ghost use Rattle.isis_daemon.specs.Statuses.{script_status, run_status, whole_status, text_status, status_code, status_line};
+ghost use Rattle.isis_daemon.specs.Statuses.{script_status, run_status, whole_status, text_status, config_status, daemon_status, status_code, status_line};
 
+use daemon_config::{ConfigFault, ConfigKey, ConfigKind};
+use daemon_run::DaemonEnd;
 use isis_edge::{TextFailed, WholeFault};
 use lab_text::{Reason, RunFault, ScriptFault};
 use network_lab::LimitName;
@@ -27,6 +29,10 @@ pub enum Status {
     TooLong,
     /// There is no memory for the run. A prefix of the output was written.
     OutOfMemory,
+    /// The configuration is refused for this, at this key. Nothing was written.
+    ConfigRefused { kind: ConfigKind, key: ConfigKey },
+    /// A circuit's port couldn't be opened, or a thread wasn't started. A prefix of the journal was written.
+    NotStarted,
     /// The script asks for more than this limit allows. Nothing was written.
     LabLimit { which: LimitName },
 }
@@ -44,6 +50,8 @@ impl Status {
             Status::WriteFault => 5,
             Status::TooLong => 6,
             Status::OutOfMemory => 7,
+            Status::ConfigRefused { .. } => 8,
+            Status::NotStarted => 9,
             Status::LabLimit { .. } => 10,
         }
     }
@@ -61,6 +69,8 @@ impl fmt::Display for Status {
             Status::WriteFault => write!(f, "isis: write fault"),
             Status::TooLong => write!(f, "isis: input too long"),
             Status::OutOfMemory => write!(f, "isis: out of memory"),
+            Status::ConfigRefused { kind, key } => write!(f, "isis: config {kind} {key}"),
+            Status::NotStarted => write!(f, "isis: not started"),
             Status::LabLimit { which } => write!(f, "isis: limit {which}"),
         }
     }
@@ -110,6 +120,30 @@ impl From<TextFailed> for Status {
         match fault {
             TextFailed::Write => Status::WriteFault,
             TextFailed::OutOfMemory => Status::OutOfMemory,
+        }
+    }
+}
+
+impl From<ConfigFault> for Status {
+    ghost from_gives = { λ fault status. status ≡ config_status fault };
+
+    fn from(fault: ConfigFault) -> Status {
+        match fault {
+            ConfigFault::Refused { kind, key } => Status::ConfigRefused { kind, key },
+            ConfigFault::OutOfMemory => Status::OutOfMemory,
+        }
+    }
+}
+
+impl From<DaemonEnd> for Status {
+    ghost from_gives = { λ end status. status ≡ daemon_status end };
+
+    fn from(end: DaemonEnd) -> Status {
+        match end {
+            DaemonEnd::Done => Status::Done,
+            DaemonEnd::NotStarted => Status::NotStarted,
+            DaemonEnd::WriteFault => Status::WriteFault,
+            DaemonEnd::OutOfMemory => Status::OutOfMemory,
         }
     }
 }

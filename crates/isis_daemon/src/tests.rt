@@ -1,10 +1,15 @@
 //! What no case of tests/ at the top can say: calls of the outside that fail, each in its turn.
 use crate::run::run;
 use crate::status::Status;
+use daemon_edge::{MemoryPacer, OpenGate, ThreadSpawner, UdpPorts};
 use isis_base::{Octets, OutOfMemory};
 use isis_edge::{MemorySink, MemorySource};
 use std::alloc::Global;
+use std::net::Net;
+use std::sync::Wait;
 use std::test::Fail;
+use std::thread::Threads;
+use std::time::Clock;
 
 /// How the outside is: how many octets a call gives or takes, which call fails, none at 0, and the sink's room.
 #[derive(Clone, Copy)]
@@ -32,7 +37,8 @@ fn sink(alloc: Global, outside: Outside) -> Result<MemorySink, Fail> {
 }
 
 /// Whether the program, run with a word, ends so and has written this.
-fn ends(
+fn ends<R: Net + Threads + Wait + Clock + Sync>(
+    rt: &R,
     alloc: Global,
     word: &str,
     input: &[u8],
@@ -44,7 +50,19 @@ fn ends(
     words.push(String::from_str(alloc, word)?)?;
     let mut source = source(alloc, input, outside)?;
     let sink = sink(alloc, outside)?;
-    let (sink, ended) = run(alloc, words.as_slice(), &mut source, sink);
+    let mut ports = UdpPorts::new();
+    let mut spawner = ThreadSpawner::new(Vec::new(alloc));
+    let (sink, _, ended) = run(
+        rt,
+        alloc,
+        words.as_slice(),
+        &mut source,
+        sink,
+        &mut ports,
+        &mut spawner,
+        MemoryPacer::new(0),
+        &OpenGate::new(),
+    );
     Ok(ended == status && sink.octets() == held)
 }
 
@@ -76,14 +94,19 @@ const WORKED: [(&str, &[u8], &[u8]); 3] = [
 #[test]
 fn failing_calls_are_told(rt: HostRuntime) -> Result<(), Fail> {
     for (row, (word, input, text)) in WORKED.iter().enumerate() {
-        assert_eq!(rt; first_untold(rt.alloc(), word, input, text)?, None, "{row}");
+        assert_eq!(rt;
+            first_untold(&rt, rt.alloc(), word, input, text)?,
+            None,
+            "{row}"
+        );
     }
     Ok(())
 }
 
 /// Calls of 7 octets: the read that fails, the write that fails, the sink's room, how it ends, and how much is held then. A
 /// read or write counted from the end stands behind the last one.
-fn first_untold(
+fn first_untold<R: Net + Threads + Wait + Clock + Sync>(
+    rt: &R,
     alloc: Global,
     word: &str,
     input: &[u8],
@@ -110,11 +133,63 @@ fn first_untold(
             room: *room,
         };
         let held = text.get(..*held).unwrap_or(text);
-        if !ends(alloc, word, input, outside, *status, held)? {
+        if !ends(rt, alloc, word, input, outside, *status, held)? {
             return Ok(Some(row));
         }
     }
     Ok(None)
+}
+
+/// Each of the first 20 reads fails, and each of the first 20 writes: it is told exactly where a call of that number was
+/// made, and what was written before stands.
+#[test]
+fn each_call_fails_once(rt: HostRuntime) -> Result<(), Fail> {
+    for call in 1..=20u64 {
+        let read = is_read_told(&rt, rt.alloc(), call)?;
+        let write = is_write_told(&rt, rt.alloc(), call)?;
+        assert!(rt; read & write, "{call}");
+    }
+    Ok(())
+}
+
+/// Whether a read that fails, of 7 octets each, is told.
+fn is_read_told<R: Net + Threads + Wait + Clock + Sync>(
+    rt: &R,
+    alloc: Global,
+    call: u64,
+) -> Result<bool, Fail> {
+    let reads = (LAB.len().div_ceil(7) as u64).saturating_add(1);
+    let outside = Outside {
+        piece: 7,
+        failing_read: call,
+        failing_write: 0,
+        room: 65_536,
+    };
+    if call <= reads {
+        return ends(rt, alloc, "lab", LAB, outside, Status::ReadFault, b"");
+    }
+    ends(rt, alloc, "lab", LAB, outside, Status::Done, LAB_REPORT)
+}
+
+/// Whether a write that fails, of 64 octets each, is told.
+fn is_write_told<R: Net + Threads + Wait + Clock + Sync>(
+    rt: &R,
+    alloc: Global,
+    call: u64,
+) -> Result<bool, Fail> {
+    let writes = LAB_REPORT.len().div_ceil(64) as u64;
+    let outside = Outside {
+        piece: 64,
+        failing_read: 0,
+        failing_write: call,
+        room: 65_536,
+    };
+    if call <= writes {
+        let before = call.saturating_sub(1).saturating_mul(64) as usize;
+        let held = LAB_REPORT.get(..before).unwrap_or(LAB_REPORT);
+        return ends(rt, alloc, "lab", LAB, outside, Status::WriteFault, held);
+    }
+    ends(rt, alloc, "lab", LAB, outside, Status::Done, LAB_REPORT)
 }
 
 /// A text of several pages is written page by page: where the second write fails, the first page stands.
@@ -122,13 +197,13 @@ fn first_untold(
 fn pages_are_written_in_order(rt: HostRuntime) -> Result<(), Fail> {
     let input = numbered(rt.alloc(), false)?;
     let text = numbered(rt.alloc(), true)?;
-    assert!(rt;
-        are_paged(
-            rt.alloc(),
-            input.as_str().as_bytes(),
-            text.as_str().as_bytes()
-        )?
-    );
+    let good = are_paged(
+        &rt,
+        rt.alloc(),
+        input.as_str().as_bytes(),
+        text.as_str().as_bytes(),
+    )?;
+    assert!(rt; good);
     Ok(())
 }
 
@@ -146,7 +221,12 @@ fn numbered(alloc: Global, shown: bool) -> Result<String, Fail> {
 }
 
 /// Whether all is written where nothing fails, and the first 8,192 octets where the second write does.
-fn are_paged(alloc: Global, input: &[u8], text: &[u8]) -> Result<bool, Fail> {
+fn are_paged<R: Net + Threads + Wait + Clock + Sync>(
+    rt: &R,
+    alloc: Global,
+    input: &[u8],
+    text: &[u8],
+) -> Result<bool, Fail> {
     let well = Outside {
         piece: 1 << 20,
         failing_read: 0,
@@ -159,7 +239,7 @@ fn are_paged(alloc: Global, input: &[u8], text: &[u8]) -> Result<bool, Fail> {
     };
     let held = text.get(..8192).unwrap_or(text);
     Ok(
-        ends(alloc, "show", input, well, Status::Done, text)?
-            && ends(alloc, "show", input, second, Status::WriteFault, held)?,
+        ends(rt, alloc, "show", input, well, Status::Done, text)?
+            && ends(rt, alloc, "show", input, second, Status::WriteFault, held)?,
     )
 }

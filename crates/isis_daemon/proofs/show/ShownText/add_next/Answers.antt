@@ -1,5 +1,5 @@
 use Rattle.std.proofs.Common.{◌≡◌, ◌∙◌, ◌+◌, ◌++◌, ◌∷◌, List, ℕ, sym, ap, append_assoc}
-use Rattle.lab_script.specs.Cuts.{parts_behind}
+use Rattle.line_cuts.specs.Cuts.{parts_behind}
 use Rattle.isis_daemon.specs.ShowText.{shown_line, shown_lines}
 use Rattle.isis_daemon.proofs.ShowLemmas.{shown_lines-next, shown_lines-end}
 use Rattle.isis_daemon.proofs.show.ShownText.add_next.Goals as goal

@@ -1,0 +1,76 @@
+-- The name and the value of an option.
+use Rattle.std.proofs.Common.{◌≡◌, ◌∙◌, ℕ, zero, suc, ◌+◌, ◌<◌, ◌==◌, Bool, true, false, if◌then◌else◌, List, [], ◌∷◌, length, get_or, take, drop, Option, Some, None, option_and_then, codes, refl, sym, ap, subst, arith}
+use Rattle.std.specs.Str.{bytes_eq}
+use Rattle.std.proofs.lemmas.Slice.Eq.{bytes_eq-Decides}
+use Rattle.isis_base.specs.declared.identifiers.SystemId.{SystemId}
+use Rattle.isis_base.specs.declared.level.Level.{Level}
+use Rattle.isis_daemon.specs.declared.command.Command.TheVariants.{Routes6, Alternates}
+use Rattle.isis_daemon.specs.Commands.{command_of, captured_of, level_in, system_in}
+use Rattle.isis_daemon.specs.Options.{name_in, value_in, pieces_of, options_of, daemon_of}
+
+fails : (b : Bool) → ¬ (b ≡ true) → b ≡ false
+fails true h = absurd (h refl)
+fails false h = refl
+
+module _ (x : ℕ) (word : List ℕ) where
+  name_here : (x == 61) ≡ true → name_in (x ∷ word) ≡ []
+  name_here hit = ap (λ (b : Bool). if b then [] else x ∷ name_in word) hit
+
+  name_later : (x == 61) ≡ false → name_in (x ∷ word) ≡ x ∷ name_in word
+  name_later miss = ap (λ (b : Bool). if b then [] else x ∷ name_in word) miss
+
+  value_here : (x == 61) ≡ true → value_in (x ∷ word) ≡ Some word
+  value_here hit = ap (λ (b : Bool). if b then Some word else value_in word) hit
+
+  value_later : (x == 61) ≡ false → value_in (x ∷ word) ≡ value_in word
+  value_later miss = ap (λ (b : Bool). if b then Some word else value_in word) miss
+
+-- what stands before the first mark is the name
+pub name_at : (word : List ℕ) (place : ℕ) → place < length word → ((k : ℕ) → k < place → ¬ ((get_or word k 0 == 61) ≡ true)) → (get_or word place 0 == 61) ≡ true → take place word ≡ name_in word
+name_at [] place lt none hit = absurd (omega (arith, lt))
+name_at (x ∷ word) zero lt none hit = sym (name_here x word hit)
+name_at (x ∷ word) (suc place) lt none hit =
+    ap (λ z. x ∷ z) (name_at word place (omega (arith, lt)) (λ k below. none (suc k) (omega (arith, below))) hit) ∙ sym (name_later x word (fails (x == 61) (none 0 (omega arith))))
+
+-- what stands behind it is the value
+pub value_at : (word : List ℕ) (place : ℕ) → place < length word → ((k : ℕ) → k < place → ¬ ((get_or word k 0 == 61) ≡ true)) → (get_or word place 0 == 61) ≡ true → Some (drop (place + 1) word) ≡ value_in word
+value_at [] place lt none hit = absurd (omega (arith, lt))
+value_at (x ∷ word) zero lt none hit = sym (value_here x word hit)
+value_at (x ∷ word) (suc place) lt none hit =
+    let step : suc place + 1 ≡ suc (place + 1) = omega arith in
+    ap (λ (n : ℕ). Some (drop n (x ∷ word))) step
+    ∙ (value_at word place (omega (arith, lt)) (λ k below. none (suc k) (omega (arith, below))) hit ∙ sym (value_later x word (fails (x == 61) (none 0 (omega arith)))))
+
+-- without a mark all is the name
+pub name_none : (word : List ℕ) → ((k : ℕ) → k < length word → ¬ ((get_or word k 0 == 61) ≡ true)) → word ≡ name_in word
+name_none [] none = refl
+name_none (x ∷ word) none =
+    ap (λ z. x ∷ z) (name_none word (λ k below. none (suc k) (omega (arith, below)))) ∙ sym (name_later x word (fails (x == 61) (none 0 (omega arith))))
+
+pub value_none : (word : List ℕ) → ((k : ℕ) → k < length word → ¬ ((get_or word k 0 == 61) ≡ true)) → None ≡ value_in word
+value_none [] none = refl
+value_none (x ∷ word) none =
+    value_none word (λ k below. none (suc k) (omega (arith, below))) ∙ sym (value_later x word (fails (x == 61) (none 0 (omega arith))))
+
+-- ---- words that ask for a daemon ask for no text of an input
+
+captured_none : (l : Option Level) (s : Option SystemId) → option_and_then (λ level. option_and_then (λ system. if bytes_eq (codes "daemon") (codes "routes6") then Some (Routes6 level system) else if bytes_eq (codes "daemon") (codes "alternates") then Some (Alternates level system) else None) s) l ≡ None
+captured_none None s = refl
+captured_none (Some level) None = refl
+captured_none (Some level) (Some system) = refl
+
+pub alone : (words : List (List ℕ)) (x : ℕ × ℕ) → daemon_of words ≡ Some x → command_of words ≡ None
+alone [] x is = refl
+alone (word ∷ []) x is = absurd (none (bytes_eq word (codes "daemon")) is)
+  where
+    none : (b : Bool) → (if b then options_of [] else None) ≡ Some x → ⊥
+    none true e = cc e
+    none false e = cc e
+alone (word ∷ l ∷ []) x is = refl
+alone (word ∷ l ∷ s ∷ []) x is =
+    subst (λ (w : List ℕ). captured_of w l s ≡ None) (sym ((bytes_eq-Decides word (codes "daemon")).0 (hit (bytes_eq word (codes "daemon")) is))) (captured_none (level_in l) (system_in s))
+  where
+    hit : (b : Bool) → (if b then options_of (pieces_of (l ∷ s ∷ [])) else None) ≡ Some x → b ≡ true
+    hit true e = refl
+    hit false e = absurd (cc e)
+alone (word ∷ l ∷ s ∷ next ∷ words) x is = refl

@@ -1,0 +1,191 @@
+//! Texts made of an input: the report of a script, the fields of PDUs, the summary of a grid.
+ghost use Rattle.std.specs.Prelude.{◌≡◌, ◌≤◌, [], length, map, Some, None, string_bytes, IfSome, IsOk, IsSomeAnd, ◌↔◌};
+ghost use Rattle.isis_edge.specs.Faults.{Rose};
+ghost use Rattle.isis_edge.specs.Told.{TellsSame};
+ghost use Rattle.lab_grid.specs.GridRuns.{grid_end};
+ghost use Rattle.isis_daemon.specs.Commands.{command_of, grid_size_of, AreNoText};
+ghost use Rattle.isis_daemon.specs.GridEnds.{GridEnds};
+ghost use Rattle.isis_daemon.specs.Headline.{IsHeadline, IsGridHeadline};
+ghost use Rattle.isis_daemon.specs.Runs.{input_limit, Ends, IsTaken, IsTakenWithin, IsDoneUnlessMemory};
+
+use crate::command::{Command, command_of, grid_size_of};
+use crate::grid::grid;
+use crate::shown::Shown;
+use crate::status::{INPUT_LIMIT, Status};
+use capture_text::{write_alternates, write_routes6};
+use isis_base::{Level, SystemId};
+use isis_edge::{Sink, Source, read_whole, write_text};
+use lab_text::{read_script, run_script};
+use std::alloc::Global;
+
+/// Runs what makes a text of its input, or of nothing. The words are tested first, then the input is read.
+#[tactic(auto, using(crate::proofs::TakenLemmas::taken_none))]
+pub(crate) fn run_text<I: Source, O: Sink>(
+    alloc: Global,
+    words: &[String],
+    input: &mut I,
+    output: O,
+) -> (O, Status)
+    ensures usage { (result.1 ≡ Status.Usage) ↔ AreNoText (map string_bytes words.now) }
+    ensures untouched { result.1 ≡ Status.Usage
+        → (I.left input.new ≡ I.left input.old) × (I.faults input.new ≡ I.faults input.old) × (result.0 ≡ output) }
+    ensures ends { IfSome (command_of (map string_bytes words.now))
+        (λ command. Ends command (I.left input.old) (I.left input.new) (O.held output) (O.held result.0) result.1) }
+    ensures taken { IsTakenWithin (I.left input.old) (I.left input.new) }
+    ensures headline { result.1 ≡ Status.Done
+        → command_of (map string_bytes words.now) ≡ Some Command.Lab
+        → IfSome (I.left input.old) (λ octets. IsHeadline octets (O.held output) (O.held result.0)) }
+    ensures read_fault { result.1 ≡ Status.ReadFault
+        → Rose (I.faults input.old) (I.faults input.new) }
+    ensures write_fault { result.1 ≡ Status.WriteFault
+        → Rose (O.faults output) (O.faults result.0) }
+    ensures complete { IfSome (command_of (map string_bytes words.now))
+        (λ command. IsSomeAnd (I.left input.old) (IsTaken command)
+        → ¬ Rose (I.faults input.old) (I.faults input.new) → ¬ Rose (O.faults output) (O.faults result.0)
+        → IsDoneUnlessMemory result.1) }
+    ensures later { (I.faults input.old ≤ I.faults input.new)
+        × (O.faults output ≤ O.faults result.0) }
+    ensures grid { IfSome (grid_size_of (map string_bytes words.now))
+        (λ size. GridEnds size (O.held output) (O.held result.0) result.1) }
+    ensures grid_unread { IfSome (grid_size_of (map string_bytes words.now))
+        (λ _. (I.left input.new ≡ I.left input.old) × (I.faults input.new ≡ I.faults input.old)) }
+    ensures grid_headline { result.1 ≡ Status.Done
+        → IfSome (grid_size_of (map string_bytes words.now))
+        (λ size. IsGridHeadline size (O.held output) (O.held result.0)) }
+    ensures grid_complete { IfSome (grid_size_of (map string_bytes words.now))
+        (λ size. IsOk (grid_end size) → ¬ Rose (O.faults output) (O.faults result.0)
+        → IsDoneUnlessMemory result.1) }
+{
+    let mut output = output;
+    if let Some(size) = grid_size_of(words) {
+        let status = grid(alloc, size, &mut output);
+        return (output, status);
+    }
+    let Some(command) = command_of(words) else {
+        return (output, Status::Usage);
+    };
+    let status = execute(alloc, command, input, &mut output);
+    (output, status)
+}
+
+/// Reads the whole input, and writes a command's text of it.
+pub(crate) fn execute<I: Source, O: Sink>(
+    alloc: Global,
+    command: Command,
+    input: &mut I,
+    output: &mut O,
+) -> Status
+    ensures ends { Ends command (I.left input.old) (I.left input.new) (O.held output.old)
+        (O.held output.new) result }
+    ensures taken { IsTakenWithin (I.left input.old) (I.left input.new) }
+    ensures headline { result ≡ Status.Done → command ≡ Command.Lab
+        → IfSome (I.left input.old)
+        (λ octets. IsHeadline octets (O.held output.old) (O.held output.new)) }
+    ensures read_fault { result ≡ Status.ReadFault
+        → Rose (I.faults input.old) (I.faults input.new) }
+    ensures write_fault { result ≡ Status.WriteFault
+        → Rose (O.faults output.old) (O.faults output.new) }
+    ensures complete { IsSomeAnd (I.left input.old) (IsTaken command)
+        → ¬ Rose (I.faults input.old) (I.faults input.new) → ¬ Rose (O.faults output.old) (O.faults output.new)
+        → IsDoneUnlessMemory result }
+    ensures later { (I.faults input.old ≤ I.faults input.new)
+        × (O.faults output.old ≤ O.faults output.new) }
+{
+    let octets = match read_whole(alloc, input, INPUT_LIMIT) {
+        Ok(octets) => octets,
+        Err(fault) => return Status::from(fault),
+    };
+    match command {
+        Command::Lab => lab(alloc, octets.as_slice(), output),
+        Command::Show => put_shown(alloc, octets.as_slice(), output),
+        Command::Routes6 { level, system } => {
+            put_routes6(alloc, level, system, octets.as_slice(), output)
+        }
+        Command::Alternates { level, system } => {
+            put_alternates(alloc, level, system, octets.as_slice(), output)
+        }
+    }
+}
+
+/// Plays a script, and writes its report.
+fn lab<O: Sink>(alloc: Global, text: &[u8], output: &mut O) -> Status
+    requires { length text.now ≤ input_limit }
+    ensures ends { Ends Command.Lab (Some text.now) (Some []) (O.held output.old)
+        (O.held output.new) result }
+    ensures headline { result ≡ Status.Done
+        → IsHeadline text.now (O.held output.old) (O.held output.new) }
+    ensures read { ¬ (result ≡ Status.ReadFault) }
+    ensures write_fault { result ≡ Status.WriteFault
+        → Rose (O.faults output.old) (O.faults output.new) }
+    ensures later { O.faults output.old ≤ O.faults output.new }
+{
+    let script = match read_script(alloc, text) {
+        Ok(script) => script,
+        Err(fault) => return Status::from(fault),
+    };
+    match run_script(alloc, &script, output) {
+        Ok(()) => Status::Done,
+        Err(fault) => Status::from(fault),
+    }
+}
+
+/// Writes the fields of the PDUs of an input.
+fn put_shown<O: Sink>(alloc: Global, input: &[u8], output: &mut O) -> Status
+    requires { length input.now ≤ input_limit }
+    ensures ends { Ends Command.Show (Some input.now) (Some []) (O.held output.old)
+        (O.held output.new) result }
+    ensures read { ¬ (result ≡ Status.ReadFault) }
+    ensures write_fault { result ≡ Status.WriteFault
+        → Rose (O.faults output.old) (O.faults output.new) }
+    ensures later { O.faults output.old ≤ O.faults output.new }
+{
+    let mut shown = Shown::new(alloc, input);
+    match write_text(alloc, &mut shown, output) {
+        Ok(()) => Status::Done,
+        Err(fault) => Status::from(fault),
+    }
+}
+
+/// Writes the IPv6 routes of a system, by captured LSPs.
+fn put_routes6<O: Sink>(
+    alloc: Global,
+    level: Level,
+    system: SystemId,
+    input: &[u8],
+    output: &mut O,
+) -> Status
+    requires { length input.now ≤ input_limit }
+    ensures ends { Ends (Command.Routes6 level system) (Some input.now) (Some [])
+        (O.held output.old) (O.held output.new) result }
+    ensures read { ¬ (result ≡ Status.ReadFault) }
+    ensures write_fault { result ≡ Status.WriteFault
+        → Rose (O.faults output.old) (O.faults output.new) }
+    ensures later { O.faults output.old ≤ O.faults output.new }
+{
+    match write_routes6(alloc, level, system, input, output) {
+        Ok(()) => Status::Done,
+        Err(fault) => Status::from(fault),
+    }
+}
+
+/// Writes the loop-free alternates of a system, by captured LSPs.
+fn put_alternates<O: Sink>(
+    alloc: Global,
+    level: Level,
+    system: SystemId,
+    input: &[u8],
+    output: &mut O,
+) -> Status
+    requires { length input.now ≤ input_limit }
+    ensures ends { Ends (Command.Alternates level system) (Some input.now) (Some [])
+        (O.held output.old) (O.held output.new) result }
+    ensures read { ¬ (result ≡ Status.ReadFault) }
+    ensures write_fault { result ≡ Status.WriteFault
+        → Rose (O.faults output.old) (O.faults output.new) }
+    ensures later { O.faults output.old ≤ O.faults output.new }
+{
+    match write_alternates(alloc, level, system, input, output) {
+        Ok(()) => Status::Done,
+        Err(fault) => Status::from(fault),
+    }
+}
