@@ -25,7 +25,8 @@ use Rattle.isis_model.specs.AdjacencyLaws.{place_of, IsGreeting, IsReplyGreeting
 use Rattle.isis_model.proofs.BookLemmas.{test}
 use Rattle.isis_model.proofs.StepWays.{step-course}
 use Rattle.isis_model.proofs.TellLemmas.{course-tells}
-use Rattle.isis_model.proofs.BondLemmas.{step-stays, step-greets}
+use Rattle.isis_model.proofs.BondLemmas.{step-stays}
+use Rattle.isis_model.proofs.GreetLemmas.{step-greets}
 use Rattle.isis_model.proofs.ExactLemmas.{step-exact}
 use Rattle.isis_model.proofs.FineLemmas.{step-fine}
 use Rattle.isis_datagram.specs.Lsps.{with_lifetime, signed_purge, lsp_sent, given_octets}

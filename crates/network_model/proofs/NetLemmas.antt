@@ -15,7 +15,8 @@ use Rattle.isis_model.specs.ReplyLaws.{AllSent, IsHeld, IsReplyHeld}
 use Rattle.isis_model.specs.AdjacencyLaws.{Stays, is_point, place_of, IsGreeting, IsReplyGreeting}
 use Rattle.isis_model.proofs.BookLemmas.{test, same-or}
 use Rattle.isis_model.proofs.SentLemmas.{step-reply}
-use Rattle.isis_model.proofs.BondLemmas.{step-stays, step-greets}
+use Rattle.isis_model.proofs.BondLemmas.{step-stays}
+use Rattle.isis_model.proofs.GreetLemmas.{step-greets}
 use Rattle.isis_datagram.specs.Lsps.{given_octets}
 use Rattle.isis_datagram.specs.LspLaws.{TellsKept, TellsEvent, ReadsUpdate}
 use Rattle.isis_datagram.proofs.GoodLemmas.{good-read}

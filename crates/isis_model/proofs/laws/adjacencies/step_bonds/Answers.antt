@@ -1,5 +1,6 @@
 -- What a step leaves of a router, and how it changes adjacencies.
-use Rattle.isis_model.proofs.BondLemmas.{step-stays, step-bonds, step-newcomer, step-kept, step-greets}
+use Rattle.isis_model.proofs.BondLemmas.{step-stays, step-bonds, step-newcomer, step-kept}
+use Rattle.isis_model.proofs.GreetLemmas.{step-greets}
 use Rattle.isis_model.proofs.laws.adjacencies.step_bonds.Goals as goal
 
 pub returns-clause-stays : goal.returns-clause-stays
