@@ -1,5 +1,7 @@
 -- Another configuration of a router before the run.
-use Rattle.std.proofs.Common.{◌≡◌, ℕ, zero, suc, ◌+◌, ◌-◌, ◌≤◌, List, [], ◌∷◌, ◌++◌, map, take, length, true, false, Option, Some, sym, ap, ◌∙◌, arith}
+use Rattle.std.proofs.Common.{◌≡◌, ℕ, zero, suc, ◌+◌, ◌-◌, ◌≤◌, List, [], ◌∷◌, ◌++◌, map, take, length, true, false, Option, Some, sym, ap, ◌∙◌, subst, arith}
+use Rattle.std.specs.Option.{option_map}
+use Rattle.isis_model.specs.Numbers.{system_number}
 use Rattle.isis_model.specs.Places.{nth, with_nth}
 use Rattle.isis_model.specs.Routers.{Router}
 use Rattle.network_model.specs.declared.end.End.{End}
@@ -7,10 +9,10 @@ use Rattle.router_desk.specs.declared.circuit_config.CircuitConfig.{CircuitConfi
 use Rattle.router_desk.specs.declared.config.Config.{Config}
 use Rattle.router_desk.specs.Limits.{IsCircuit, IsKey, IsValid}
 use Rattle.router_core.specs.Reached.{IsReached}
-use Rattle.network_lab.specs.LabNets.{LabNet, router_of, reconfigured, configured, with_config, with_changed, at_circuit}
+use Rattle.network_lab.specs.LabNets.{LabNet, AreDistinct, systems_of, router_of, reconfigured, configured, with_config, with_changed, at_circuit}
 use Rattle.network_lab.specs.LabInside.{counts_of, IsFit, IsSetUp, IsNet}
 use Rattle.network_lab.specs.LabSteps.{with_circuit_at}
-use Rattle.network_lab.proofs.PlaceLemmas.{some-same, map-with, length-with}
+use Rattle.network_lab.proofs.PlaceLemmas.{some-same, nth-map, map-with, length-with}
 use Rattle.network_lab.proofs.LinkLemmas.{all-with, setup-counts}
 use Rattle.network_lab.proofs.StepLemmas.{counts-with}
 
@@ -27,10 +29,18 @@ valid-with config place c v fits = record {
   domain_key = v.domain_key;
 }
 
-pub net-config : (ports : List (List ℕ)) (ordered : List (List End)) (a : LabNet) (i : ℕ) (config new : Config) → IsNet ports ordered a → a.begun ≡ false → nth a.configs i ≡ Some config → IsFit new → length new.circuits ≡ length config.circuits → IsNet ports ordered (with_config a i new)
-net-config ports ordered a i config new h begun at fit same = record {
+-- another configuration of a router, of the same system
+pub systems-with : (rs : List Router) (configs : List Config) (i : ℕ) (config new : Config) → rs ≡ map router_of configs → nth configs i ≡ Some config → new.system ≡ config.system → systems_of (with_nth rs i (router_of new)) ≡ systems_of rs
+systems-with rs configs i config new are at own =
+    counts-with (λ (r : Router). r.config.system) rs i (router_of config) (router_of new)
+    (ap (λ (rs : List Router). nth rs i) are ∙ (nth-map router_of configs i ∙ ap (option_map router_of) at)) (ap system_number own)
+
+pub net-config : (ports : List (List ℕ)) (ordered : List (List End)) (a : LabNet) (i : ℕ) (config new : Config) → IsNet ports ordered a → a.begun ≡ false → nth a.configs i ≡ Some config → IsFit new → length new.circuits ≡ length config.circuits → new.system ≡ config.system
+    → IsNet ports ordered (with_config a i new)
+net-config ports ordered a i config new h begun at fit same own = record {
   routers = ap counts_of routers_are ∙ (setup-counts (with_nth a.configs i new) ∙ configs_are);
   configs = configs_are;
+  systems = subst AreDistinct (sym (systems-with a.seen.routers a.configs i config new s.routers at own)) h.systems;
   ends = h.ends;
   ported = h.ported;
   sorted = h.sorted;
@@ -78,4 +88,4 @@ priority-fits c priority h k = record { metric = h.metric; priority = k; key = h
 
 -- another circuit of a configuration
 pub fit-with : (config : Config) (place : ℕ) (c : CircuitConfig) → IsFit config → IsCircuit c → IsReached (router_of (with_circuit_at config place c)) → IsFit (with_circuit_at config place c)
-fit-with config place c f fits reached = record { valid = valid-with config place c f.valid fits; reached = reached }
+fit-with config place c f fits reached = record { valid = valid-with config place c f.valid fits; system = f.system; reached = reached }

@@ -26,7 +26,8 @@ use Rattle.network_lab.specs.Joining.{IsJoined, configs_with, routers_with, port
 use Rattle.network_lab.proofs.PlaceLemmas.{differ, nth-set, nth-other, some-same, nth-map, map-with}
 use Rattle.network_lab.proofs.WiredLemmas.{wired-row, wired-end}
 use Rattle.network_lab.proofs.LinkLemmas.{valid-more, all-with, all-at, setup-counts, more-with, count-here}
-use Rattle.network_lab.proofs.LabLemmas.{first_of, nth-snoc, link-snoc, ends-more}
+use Rattle.network_lab.proofs.LabLemmas.{distinct-snoc, first_of, nth-snoc, link-snoc, ends-more}
+use Rattle.network_lab.proofs.ConfigLemmas.{systems-with}
 use Rattle.network_lab.proofs.SetupLemmas.{lab}
 
 -- ---- lists
@@ -38,10 +39,6 @@ all-front P (x ∷ xs) ys h = (h.0, all-front P xs ys h.1)
 all-rest : {A : Type 0} (P : A → Type 0) (xs ys : List A) → AllByRecursion P (xs ++ ys) → AllByRecursion P ys
 all-rest P [] ys h = h
 all-rest P (x ∷ xs) ys h = all-rest P xs ys h.1
-
-distinct-snoc : (xs : List ℕ) (y : ℕ) → AreDistinct xs → AllByRecursion (λ x. x ≢ y) xs → AreDistinct (xs ++ (y ∷ []))
-distinct-snoc [] y h off = (tt, tt)
-distinct-snoc (x ∷ xs) y h off = (all-append (λ z. x ≢ z) xs (y ∷ []) h.0 (off.0, tt), distinct-snoc xs y h.1 off.1)
 
 pub opens-at : {X : Type 0} (xs : List X) (d : X) → 1 ≤ length xs → xs ≡ get_or xs 0 d ∷ take (length xs - 1) (drop 1 xs)
 opens-at [] d h = absurd (omega (arith, h))
@@ -96,6 +93,7 @@ pub net-row : (ports : List (List ℕ)) (ordered links : List (List End)) (confi
 net-row ports ordered links configs rs ds n ts begun stopped h b = record {
   routers = h.routers;
   configs = h.configs;
+  systems = h.systems;
   ends = all-append (AreEndsThere (map length ports)) links ([] ∷ []) h.ends (tt, tt);
   ported = record { each = λ router list e place. link-snoc router place 0 links [] ∙ (none-first (link_of router place 0 links) ∙ h.ported.each router list e place) };
   sorted = refl;
@@ -174,6 +172,7 @@ pub net-end : (ports : List (List ℕ)) (base : List (List End)) (row : List End
 net-end ports base row configs rs ds n ts begun stopped kind metric i p config h b off at_i on_i room fits reached = record {
   routers = ap counts_of routers_are ∙ (setup-counts configs_now ∙ counts_are);
   configs = counts_are;
+  systems = subst AreDistinct (sym (systems-with rs configs i config first s.routers on_i refl)) h.systems;
   ends = ends_there;
   ported = subst (λ (m : ℕ). ArePorts ports_now (base ++ ((row ++ (record { router = i; place = m } ∷ [])) ∷ []))) (sym count_is) (ports-end ports base row i p at_i off h.ported);
   sorted = refl;
@@ -182,7 +181,7 @@ net-end ports base row configs rs ds n ts begun stopped kind metric i p config h
   few = h.few;
   small = h.small;
   setup = λ e. record {
-    fit = all-with IsFit configs i first s.fit (record { valid = valid-more config kind metric (all-at IsFit configs i config s.fit on_i).valid room fits; reached = reached });
+    fit = all-with IsFit configs i first s.fit (record { valid = valid-more config kind metric (all-at IsFit configs i config s.fit on_i).valid room fits; system = (all-at IsFit configs i config s.fit on_i).system; reached = reached });
     routers = routers_are;
     nothing = s.nothing;
     none = s.none;

@@ -1,10 +1,11 @@
 -- What holds of a network's parts, as it is set up and goes on.
-use Rattle.std.proofs.Common.{◌≡◌, ℕ, zero, suc, ◌+◌, ◌<◌, ◌≤◌, ◌==◌, ◌||◌, ◌&&◌, Bool, true, false, List, [], ◌∷◌, ◌++◌, map, length, Option, Some, None, IfSome, unwrap_or, if◌then◌else◌, refl, sym, ap, ◌∙◌, subst, arith}
+use Rattle.std.proofs.Common.{◌≡◌, ◌≢◌, ℕ, zero, suc, ◌+◌, ◌<◌, ◌≤◌, ◌==◌, ◌||◌, ◌&&◌, Bool, true, false, List, [], ◌∷◌, ◌++◌, map, length, Option, Some, None, IfSome, unwrap_or, if◌then◌else◌, refl, sym, ap, ◌∙◌, subst, arith}
 use Rattle.std.specs.List.{AllByRecursion}
 use Rattle.std.proofs.lemmas.Bool.Decides.{nat_tests}
 use Rattle.std.proofs.lemmas.List.{map-append, length-map}
 use Rattle.isis_model.specs.Places.{nth, with_nth}
 use Rattle.isis_model.specs.Routers.{Router}
+use Rattle.isis_model.specs.Numbers.{system_id, system_number}
 use Rattle.isis_model.proofs.ListLemmas.{all-map, all-append}
 use Rattle.isis_model.proofs.BookLemmas.{same-or}
 use Rattle.network_model.specs.declared.end.End.{End}
@@ -13,19 +14,28 @@ use Rattle.router_desk.specs.declared.config.Config.{Config}
 use Rattle.network_lab.specs.declared.notes.Notes.{Notes}
 use Rattle.network_lab.specs.declared.sent.SentDatagram.{SentDatagram}
 use Rattle.key_net.specs.declared.faults.LabFault.{LabFault}
-use Rattle.network_lab.specs.LabNets.{LabNet, router_of, with_router}
-use Rattle.network_lab.specs.LabInside.{counts_of, IsEndThere, AreEndsThere, ArePorts, IsFit, IsSetUp, IsNet}
+use Rattle.network_lab.specs.LabNets.{LabNet, router_of, with_router, AreDistinct, systems_of}
+use Rattle.network_lab.specs.LabInside.{counts_of, shapes_of, IsEndThere, AreEndsThere, ArePorts, IsFit, IsSetUp, IsNet}
 use Rattle.network_lab.specs.Reached.{AreSmall, HasRun}
 use Rattle.network_lab.proofs.PlaceLemmas.{if-no, self, differ, some-same}
 
 -- ---- a run
 
-pub net-goes : (ports : List (List ℕ)) (ordered : List (List End)) (old : LabNet) (rs : List Router) (ds : List SentDatagram) (n : ℕ) (ts : Notes) (stop : Option LabFault) → IsNet ports ordered old → counts_of rs ≡ counts_of old.seen.routers → length ds ≤ 262144
+counts-in : (rs : List Router) → map (λ (s : ℕ × ℕ). s.1) (shapes_of rs) ≡ counts_of rs
+counts-in [] = refl
+counts-in (r ∷ rs) = ap (λ (ns : List ℕ). length r.circuits ∷ ns) (counts-in rs)
+
+systems-in : (rs : List Router) → map (λ (s : ℕ × ℕ). s.0) (shapes_of rs) ≡ systems_of rs
+systems-in [] = refl
+systems-in (r ∷ rs) = ap (λ (ns : List ℕ). r.config.system ∷ ns) (systems-in rs)
+
+pub net-goes : (ports : List (List ℕ)) (ordered : List (List End)) (old : LabNet) (rs : List Router) (ds : List SentDatagram) (n : ℕ) (ts : Notes) (stop : Option LabFault) → IsNet ports ordered old → shapes_of rs ≡ shapes_of old.seen.routers → length ds ≤ 262144
     → AreSmall ds → (stop ≡ None → n ≡ 0 → HasRun (record { routers = rs; links = old.seen.links; sent = ds; injected = n; noted = ts }))
     → IsNet ports ordered (record { configs = old.configs; seen = record { routers = rs; links = old.seen.links; sent = ds; injected = n; noted = ts }; begun = true; stopped = stop })
 net-goes ports ordered old rs ds n ts stop h same few small run = record {
-  routers = same ∙ h.routers;
+  routers = sym (counts-in rs) ∙ (ap (map (λ (s : ℕ × ℕ). s.1)) same ∙ (counts-in old.seen.routers ∙ h.routers));
   configs = h.configs;
+  systems = subst AreDistinct (sym (systems-in old.seen.routers) ∙ (ap (map (λ (s : ℕ × ℕ). s.0)) (sym same) ∙ systems-in rs)) h.systems;
   ends = h.ends;
   ported = h.ported;
   sorted = h.sorted;
@@ -48,6 +58,7 @@ pub net-put : (ports : List (List ℕ)) (ordered : List (List End)) (old : LabNe
 net-put ports ordered old i config h begun count = record {
   routers = h.routers;
   configs = counts-put old.configs i config count ∙ h.configs;
+  systems = h.systems;
   ends = h.ends;
   ported = h.ported;
   sorted = h.sorted;
@@ -130,10 +141,25 @@ counts-snoc (c ∷ counts) n (suc i) = counts-snoc counts n i
 pub router-count : (config : Config) → length (router_of config).circuits ≡ length config.circuits
 router-count config = length-map _ _ ∙ length-map _ _
 
-pub net-router : (ports : List (List ℕ)) (ordered : List (List End)) (old : LabNet) (config : Config) → IsNet ports ordered old → old.begun ≡ false → IsFit config → config.circuits ≡ [] → IsNet (ports ++ ([] ∷ [])) ordered (with_router old config)
-net-router ports ordered old config h begun fit bare = record {
+pub distinct-snoc : (xs : List ℕ) (y : ℕ) → AreDistinct xs → AllByRecursion (λ x. x ≢ y) xs → AreDistinct (xs ++ (y ∷ []))
+distinct-snoc [] y h off = (tt, tt)
+distinct-snoc (x ∷ xs) y h off = (all-append (λ z. x ≢ z) xs (y ∷ []) h.0 (off.0, tt), distinct-snoc xs y h.1 off.1)
+
+-- other system IDs have other numbers
+other-systems : (config : Config) → IsFit config → (configs : List Config) → AllByRecursion IsFit configs → AllByRecursion (λ (other : Config). other.system ≢ config.system) configs
+    → AllByRecursion (λ n. n ≢ system_number config.system) (systems_of (map router_of configs))
+other-systems config fit [] fits fresh = tt
+other-systems config fit (other ∷ configs) fits fresh =
+    ((λ e. fresh.0 (sym fits.0.system ∙ (ap system_id e ∙ fit.system))), other-systems config fit configs fits.1 fresh.1)
+
+pub net-router : (ports : List (List ℕ)) (ordered : List (List End)) (old : LabNet) (config : Config) → IsNet ports ordered old → old.begun ≡ false → IsFit config → config.circuits ≡ [] → AllByRecursion (λ (other : Config). other.system ≢ config.system) old.configs
+    → IsNet (ports ++ ([] ∷ [])) ordered (with_router old config)
+net-router ports ordered old config h begun fit bare fresh = record {
   routers = map-append _ old.seen.routers (router_of config ∷ []) ∙ (two h.routers (router-count config ∙ ap length bare) ∙ sym (map-append length ports ([] ∷ [])));
   configs = map-append _ old.configs (config ∷ []) ∙ (two h.configs (ap length bare) ∙ sym (map-append length ports ([] ∷ [])));
+  systems = subst AreDistinct (sym (map-append (λ (r : Router). r.config.system) old.seen.routers (router_of config ∷ [])))
+      (distinct-snoc (systems_of old.seen.routers) (system_number config.system) h.systems
+      (subst (λ (rs : List Router). AllByRecursion (λ n. n ≢ system_number config.system) (systems_of rs)) (sym s.routers) (other-systems config fit old.configs s.fit fresh)));
   ends = subst (λ (counts : List ℕ). AllByRecursion (AreEndsThere counts) old.seen.links) (sym (map-append length ports ([] ∷ []))) (ends-more (map length ports) (map length ports ++ (0 ∷ [])) (counts-snoc (map length ports) 0) old.seen.links h.ends);
   ported = ports-router ports old.seen.links h.ends h.ported;
   sorted = h.sorted;

@@ -1,5 +1,7 @@
 -- A network that is set up, as its parts change.
-use Rattle.std.proofs.Common.{◌≡◌, ℕ, ◌-◌, ◌<◌, ◌≤◌, List, [], ◌∷◌, ◌++◌, length, get_or, arith, Bool, false, Option, Some, sym, ap, ◌∙◌, subst}
+use Rattle.std.proofs.Common.{◌≡◌, ◌≢◌, ℕ, ◌-◌, ◌<◌, ◌≤◌, List, [], ◌∷◌, ◌++◌, length, get_or, arith, Bool, false, Option, Some, refl, sym, ap, ◌∙◌, subst}
+use Rattle.std.specs.List.{AllByRecursion}
+use Rattle.isis_model.specs.Numbers.{system_id, system_number}
 use Rattle.isis_model.specs.Places.{nth, with_nth}
 use Rattle.isis_model.specs.Routers.{Router}
 use Rattle.network_model.specs.declared.end.End.{End}
@@ -30,22 +32,23 @@ lab configs rs links ds n ts begun stopped = record {
 
 pub router-more : (ports ports_now : List (List ℕ)) (ordered links : List (List End)) (configs configs_now : List Config) (rs rs_now : List Router) (ds : List SentDatagram) (n : ℕ) (ts : Notes) (begun : Bool) (stopped : Option LabFault) (config : Config)
     → IsNet ports ordered (lab configs rs links ds n ts begun stopped) → begun ≡ false → IsValid config → IsReached (router_of config) → config.circuits ≡ []
+    → system_id (system_number config.system) ≡ config.system → AllByRecursion (λ (other : Config). other.system ≢ config.system) configs
     → configs_now ≡ configs ++ (config ∷ []) → rs_now ≡ rs ++ (router_of config ∷ []) → ports_now ≡ ports ++ ([] ∷ [])
     → IsNet ports_now ordered (lab configs_now rs_now links ds n ts begun stopped)
-router-more ports ports_now ordered links configs configs_now rs rs_now ds n ts begun stopped config h b valid reached bare c r p =
+router-more ports ports_now ordered links configs configs_now rs rs_now ds n ts begun stopped config h b valid reached bare known fresh c r p =
     subst (λ (xs : List (List ℕ)). IsNet xs ordered (lab configs_now rs_now links ds n ts begun stopped)) (sym p)
     (subst (λ (xs : List Router). IsNet (ports ++ ([] ∷ [])) ordered (lab configs_now xs links ds n ts begun stopped)) (sym r)
     (subst (λ (xs : List Config). IsNet (ports ++ ([] ∷ [])) ordered (lab xs (rs ++ (router_of config ∷ [])) links ds n ts begun stopped)) (sym c)
-    (net-router ports ordered (lab configs rs links ds n ts begun stopped) config h b (record { valid = valid; reached = reached }) bare)))
+    (net-router ports ordered (lab configs rs links ds n ts begun stopped) config h b (record { valid = valid; system = known; reached = reached }) bare fresh)))
 
 pub config-new : (ports : List (List ℕ)) (ordered links : List (List End)) (configs configs_now : List Config) (rs rs_now : List Router) (ds : List SentDatagram) (n : ℕ) (ts : Notes) (begun : Bool) (stopped : Option LabFault) (i : ℕ) (config new : Config)
-    → IsNet ports ordered (lab configs rs links ds n ts begun stopped) → begun ≡ false → nth configs i ≡ Some config → IsFit new → length new.circuits ≡ length config.circuits
+    → IsNet ports ordered (lab configs rs links ds n ts begun stopped) → begun ≡ false → nth configs i ≡ Some config → IsFit new → length new.circuits ≡ length config.circuits → new.system ≡ config.system
     → configs_now ≡ with_nth configs i new → rs_now ≡ with_nth rs i (router_of new)
     → IsNet ports ordered (lab configs_now rs_now links ds n ts begun stopped)
-config-new ports ordered links configs configs_now rs rs_now ds n ts begun stopped i config new h b at fit same c r =
+config-new ports ordered links configs configs_now rs rs_now ds n ts begun stopped i config new h b at fit same own c r =
     subst (λ (xs : List Router). IsNet ports ordered (lab configs_now xs links ds n ts begun stopped)) (sym r)
     (subst (λ (xs : List Config). IsNet ports ordered (lab xs (with_nth rs i (router_of new)) links ds n ts begun stopped)) (sym c)
-    (net-config ports ordered (lab configs rs links ds n ts begun stopped) i config new h b at fit same))
+    (net-config ports ordered (lab configs rs links ds n ts begun stopped) i config new h b at fit same own))
 
 pub config-view : (links : List (List End)) (configs configs_now : List Config) (rs rs_now : List Router) (ds : List SentDatagram) (n : ℕ) (ts : Notes) (begun : Bool) (stopped : Option LabFault) (old : LabNet) (i : ℕ) (new : Config)
     → lab configs rs links ds n ts begun stopped ≡ old → configs_now ≡ with_nth configs i new → rs_now ≡ with_nth rs i (router_of new)
@@ -79,7 +82,7 @@ pub change-setup : (change : CircuitConfig → CircuitConfig) (ports : List (Lis
     → setup_config ≡ with_circuit_at config (from - 1) (change changed) → setup_router ≡ router_of (with_circuit_at config (from - 1) (change changed)) → IsReached setup_router → configs_now ≡ with_nth configs i setup_config → rs_now ≡ with_nth rs i setup_router
     → IsNet ports ordered (lab configs_now rs_now links ds n ts begun stopped) × (lab configs_now rs_now links ds n ts begun stopped ≡ reconfigured old i (with_changed change circuit))
 change-setup change ports ordered links configs configs_now rs rs_now ds n ts begun stopped old i circuit from first config setup_config setup_router slice item changed is h b there e1 e2 sl fr it ch fits sc sr reached cn rn = (
-  config-new ports ordered links configs configs_now rs rs_now ds n ts begun stopped i config new h begun_is at fit (length-with config.circuits (circuit - 1) (change item)) configs_are routers_are,
+  config-new ports ordered links configs configs_now rs rs_now ds n ts begun stopped i config new h begun_is at fit (length-with config.circuits (circuit - 1) (change item)) refl configs_are routers_are,
   config-view links configs configs_now rs rs_now ds n ts begun stopped old i new is configs_are routers_are ∙ sym (config-is old i circuit change config item (ap (λ (l : LabNet). nth l.configs i) (sym is) ∙ at) here),
 )
   where

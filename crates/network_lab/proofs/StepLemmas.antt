@@ -22,18 +22,22 @@ use Rattle.key_net.specs.declared.faults.LabFault.{LabFault}
 use Rattle.network_lab.specs.declared.sent.Changes.{Changes}
 use Rattle.network_lab.specs.declared.heard_range.HeardRange.{HeardRange}
 use Rattle.network_lab.specs.LabNets.{counts_in, sent_of}
+use Rattle.network_lab.specs.LabInside.{shape_of}
 use Rattle.network_lab.specs.LabTakings.{is_taken, counts_at, kept_ranges, noted_in}
 use Rattle.lan_sweeps.specs.Sweeps.{taking_at}
 use Rattle.isis_base.specs.Identifiers.{lsp_number}
 use Rattle.network_lab.specs.LabSteps.{posted_in, StopCause}
 use Rattle.network_lab.proofs.PlaceLemmas.{nth-set, nth-map, map-with, with-same, at-place}
 
-pub step-kept : {R E : Type 0} (res : Result R E) (old new : Router) (ev : model.Event) → OnOk res (new ≡ (step given old ev).router) → OnErr res (new ≡ old) → length new.circuits ≡ length old.circuits
-step-kept (Ok a) old new ev h k = ap (λ (r : Router). length r.circuits) h ∙ (step-stays given old ev).circuits
-step-kept (Err e) old new ev h k = ap (λ (r : Router). length r.circuits) k
+shape-same : {system other : ℕ} {count more : ℕ} → system ≡ other → count ≡ more → ◌≡◌ {A = ℕ × ℕ} (system, count) (other, more)
+shape-same e f = λ i. (e i, f i)
 
-pub start-kept : (old new : Router) (boot : ℕ) → new ≡ start old.config boot old.circuits → length new.circuits ≡ length old.circuits
-start-kept old new boot h = ap (λ (r : Router). length r.circuits) h ∙ length-map old.circuits started
+pub step-kept : {R E : Type 0} (res : Result R E) (old new : Router) (ev : model.Event) → OnOk res (new ≡ (step given old ev).router) → OnErr res (new ≡ old) → shape_of new ≡ shape_of old
+step-kept (Ok a) old new ev h k = ap shape_of h ∙ shape-same (step-stays given old ev).system (step-stays given old ev).circuits
+step-kept (Err e) old new ev h k = ap shape_of k
+
+pub start-kept : (old new : Router) (boot : ℕ) → new ≡ start old.config boot old.circuits → shape_of new ≡ shape_of old
+start-kept old new boot h = ap shape_of h ∙ shape-same refl (length-map old.circuits started)
 
 -- the new state and the answer of the router
 abbrev Now : List Router → List Router → ℕ → NodeEvent → Router → Type 0

@@ -34,7 +34,7 @@ use Rattle.network_lab.specs.LabNets.{Seen, LabNet, seen_of, at_circuit}
 use Rattle.network_lab.specs.LabConfigs.{config_after, changed_at, configs_after}
 use Rattle.network_lab.specs.LabEvents.{refusal, after, unless_changes, change_of}
 use Rattle.network_lab.specs.LabCauses.{IsStop}
-use Rattle.network_lab.specs.LabInside.{counts_of, AreEndsThere, IsNet}
+use Rattle.network_lab.specs.LabInside.{shape_of, shapes_of, AreEndsThere, IsNet}
 use Rattle.network_lab.specs.declared.heard_range.HeardRange.{HeardRange}
 use Rattle.network_lab.specs.LabTakings.{noted_in, IsHeard}
 use Rattle.network_lab.specs.LabSteps.{moved_in, posted_in, StopCause, delivered_on, Taken, Ending, Done, Refused, Stopped}
@@ -58,14 +58,14 @@ view configs rs links ds n ts begun stopped = record {
 }
 
 taken-of : (configs : List Config) (rs now : List Router) (links : List (List End)) (ds sent : List SentDatagram) (n : ℕ) (ts us : Notes) (begun : Bool) (i : ℕ) (link : Option ℕ) (event : NodeEvent) (range : Option HeardRange) (res : Result (Unit {0}) LabFault) (r : Router)
-    → OnOk res (now ≡ with_nth rs i (step given r (event_of r event)).router) → OnOk res (sent ≡ ds ++ posted_in i link (event_of r event) r) → OnOk res (us ≡ noted_in range (step given r (event_of r event)) ts) → IfErr res (StopCause (ds ++ posted_in i link (event_of r event) r) sent) → counts_of now ≡ counts_of rs
+    → OnOk res (now ≡ with_nth rs i (step given r (event_of r event)).router) → OnOk res (sent ≡ ds ++ posted_in i link (event_of r event) r) → OnOk res (us ≡ noted_in range (step given r (event_of r event)) ts) → IfErr res (StopCause (ds ++ posted_in i link (event_of r event) r) sent) → shapes_of now ≡ shapes_of rs
     → Taken (view configs rs links ds n ts begun None) (view configs now links sent n us true (result_err res)) (moved_in (view configs rs links ds n ts begun None).seen i link (event_of r event) r range) res
 unfolding view
 taken-of configs rs now links ds sent n ts us begun i link event range (Ok u) r a b w c k = record {
   done = both a b w;
   stop = tt;
   cause = tt;
-  size = record { links = refl; routers = sym (length-map now (λ (r : Router). length r.circuits)) ∙ (ap length k ∙ length-map rs (λ (r : Router). length r.circuits)) };
+  size = record { links = refl; routers = sym (length-map now shape_of) ∙ (ap length k ∙ length-map rs shape_of) };
 }
   where
     both : {x y : List Router} {v w : List SentDatagram} {p q : Notes} → x ≡ y → v ≡ w → p ≡ q → view configs x links v n p true None ≡ view configs y links w n q true None
@@ -74,13 +74,13 @@ taken-of configs rs now links ds sent n ts us begun i link event range (Err f) r
   done = tt;
   stop = refl;
   cause = c;
-  size = record { links = refl; routers = sym (length-map now (λ (r : Router). length r.circuits)) ∙ (ap length k ∙ length-map rs (λ (r : Router). length r.circuits)) };
+  size = record { links = refl; routers = sym (length-map now shape_of) ∙ (ap length k ∙ length-map rs shape_of) };
 }
 
 pub take-ends : (configs : List Config) (rs now : List Router) (links : List (List End)) (ds sent : List SentDatagram) (n : ℕ) (ts us : Notes) (begun : Bool) (stopped stop : Option LabFault) (old : LabNet) (i : ℕ) (link : Option ℕ) (event : NodeEvent) (range : Option HeardRange) (res : Result (Unit {0}) LabFault)
     → (record { configs = configs; seen = record { routers = rs; links = links; sent = ds; injected = n; noted = ts }; begun = begun; stopped = stopped }) ≡ old → old.stopped ≡ None
     → OnOk res (IfSome (nth rs i) (λ r. now ≡ with_nth rs i (step given r (event_of r event)).router)) → OnOk res (IfSome (nth rs i) (λ r. sent ≡ ds ++ posted_in i link (event_of r event) r)) → OnOk res (IfSome (nth rs i) (λ r. us ≡ noted_in range (step given r (event_of r event)) ts)) → IfErr res (λ f. IfSome (nth rs i) (λ r. StopCause (ds ++ posted_in i link (event_of r event) r) sent f))
-    → counts_of now ≡ counts_of rs → stop ≡ result_err res
+    → shapes_of now ≡ shapes_of rs → stop ≡ result_err res
     → IfSome (nth old.seen.routers i) (λ r. Taken old (record { configs = configs; seen = record { routers = now; links = links; sent = sent; injected = n; noted = us }; begun = true; stopped = stop }) (moved_in old.seen i link (event_of r event) r range) res)
 unfolding view
 take-ends configs rs now links ds sent n ts us begun stopped stop old i link event range res is running a b w c k s =
@@ -155,7 +155,7 @@ pub take-goes : (ports : List (List ℕ)) (ordered : List (List End)) (configs :
     → IsNet ports ordered (record { configs = configs; seen = record { routers = rs; links = links; sent = ds; injected = n; noted = ts }; begun = begun; stopped = stopped })
     → OnOk res (IfSome (nth rs i) (λ r. now ≡ with_nth rs i (step given r (event_of r event)).router)) → OnOk res (IfSome (nth rs i) (λ r. sent ≡ ds ++ posted_in i link (event_of r event) r)) → OnOk res (IfSome (nth rs i) (λ r. us ≡ noted_in range (step given r (event_of r event)) ts)) → AreSmall sent → stop ≡ result_err res
     → IfSome (nth old.seen.routers i) (λ r. Happen old.seen (moved_in old.seen i link (event_of r event) r range))
-    → counts_of now ≡ counts_of rs → length sent ≤ 262144
+    → shapes_of now ≡ shapes_of rs → length sent ≤ 262144
     → IsNet ports ordered (record { configs = configs; seen = record { routers = now; links = links; sent = sent; injected = n; noted = us }; begun = true; stopped = stop })
 take-goes ports ordered configs rs now links ds sent n ts us begun stopped stop old i link event range res is running inside h a b w small s happens counts few =
     net-goes ports ordered (record { configs = configs; seen = record { routers = rs; links = links; sent = ds; injected = n; noted = ts }; begun = begun; stopped = stopped }) now sent n us stop h counts few small
@@ -237,7 +237,7 @@ restart-happens old i r q b none net e = record {
 
 pub restart-goes : (ports : List (List ℕ)) (ordered : List (List End)) (configs : List Config) (rs now : List Router) (links : List (List End)) (ds : List SentDatagram) (n : ℕ) (ts : Notes) (begun : Bool) (stopped : Option LabFault) (i : ℕ) (r : Router)
     → IsNet ports ordered (record { configs = configs; seen = record { routers = rs; links = links; sent = ds; injected = n; noted = ts }; begun = begun; stopped = stopped })
-    → nth rs i ≡ Some r → r.boot < 16777215 → now ≡ with_nth rs i (restarted r) → counts_of now ≡ counts_of rs
+    → nth rs i ≡ Some r → r.boot < 16777215 → now ≡ with_nth rs i (restarted r) → shapes_of now ≡ shapes_of rs
     → IsNet ports ordered (record { configs = configs; seen = record { routers = now; links = links; sent = ds; injected = n; noted = ts }; begun = true; stopped = stopped })
 restart-goes ports ordered configs rs now links ds n ts begun stopped i r h at b is counts = net-goes ports ordered whole now ds n ts stopped h counts h.few h.small runs
   where
@@ -254,7 +254,7 @@ pub same-goes : (ports : List (List ℕ)) (ordered : List (List End)) (configs :
     → IsNet ports ordered (record { configs = configs; seen = record { routers = rs; links = links; sent = ds; injected = n; noted = ts }; begun = begun; stopped = stopped })
     → now ≡ rs
     → IsNet ports ordered (record { configs = configs; seen = record { routers = now; links = links; sent = ds; injected = n; noted = ts }; begun = true; stopped = stopped })
-same-goes ports ordered configs rs now links ds n ts begun stopped h is = net-goes ports ordered whole now ds n ts stopped h (ap counts_of is) h.few h.small
+same-goes ports ordered configs rs now links ds n ts begun stopped h is = net-goes ports ordered whole now ds n ts stopped h (ap shapes_of is) h.few h.small
     (λ going none. subst (λ (xs : List Router). HasRun (record { routers = xs; links = links; sent = ds; injected = n; noted = ts })) (sym is) (has-run ports ordered whole h going none))
   where
     whole : LabNet

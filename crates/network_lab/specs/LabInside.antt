@@ -3,6 +3,7 @@ use Rattle.std.specs.Prelude.{◌≡◌, ℕ, ◌≤◌, ◌<◌, true, false, L
 use Rattle.std.specs.List.{AllByRecursion}
 use Rattle.isis_model.specs.Places.{nth}
 use Rattle.isis_model.specs.Routers.{Router}
+use Rattle.isis_model.specs.Numbers.{system_id, system_number}
 use Rattle.router_desk.specs.declared.config.Config.{Config}
 use Rattle.router_desk.specs.Limits.{IsValid}
 use Rattle.router_core.specs.Reached.{IsReached}
@@ -10,7 +11,7 @@ use Rattle.network_model.specs.declared.end.End.{End}
 use Rattle.network_model.specs.Networks.{place_in}
 use Rattle.network_model.specs.RunLines.{by_router, link_of}
 use Rattle.network_lab.specs.declared.network.Network.TheInside.{Inside}
-use Rattle.network_lab.specs.LabNets.{Seen, LabNet, nothing_noted, router_of, AreDistinct}
+use Rattle.network_lab.specs.LabNets.{Seen, LabNet, nothing_noted, router_of, AreDistinct, systems_of}
 use Rattle.network_lab.specs.Reached.{AreSmall, HasRun}
 
 -- what is seen of the fields
@@ -36,6 +37,13 @@ lab_of a = record {
 abbrev pub counts_of : List Router → List ℕ
 counts_of routers = map (λ (r : Router). length r.circuits) routers
 
+-- a router's system and how many circuits it has, neither of which changes in a run
+abbrev pub shape_of : Router → ℕ × ℕ
+shape_of r = (r.config.system, length r.circuits)
+
+abbrev pub shapes_of : List Router → List (ℕ × ℕ)
+shapes_of routers = map shape_of routers
+
 -- an end's place is one of its router's circuits, of which there are so many
 abbrev pub IsEndThere : List ℕ → End → Type 0
 IsEndThere counts e = e.place < unwrap_or (nth counts e.router) 0
@@ -58,9 +66,10 @@ pub record AreWired (links : List (List End)) : Type 0 where
   pub once : (link other router place : ℕ) → place_in (nth links link) router ≡ Some place
       → place_in (nth links other) router ≡ Some place → link ≡ other
 
--- a configuration whose router can be reached
+-- a configuration whose router can be reached, and whose system ID is that of its number
 pub record IsFit (config : Config) : Type 0 where
   pub valid : IsValid config
+  pub system : system_id (system_number config.system) ≡ config.system
   pub reached : IsReached (router_of config)
 
 -- before an event the routers are at their start, of such configurations, and nothing was sent
@@ -71,12 +80,13 @@ pub record IsSetUp (configs : List Config) (seen : Seen) : Type 0 where
   pub none : seen.injected ≡ 0
   pub unnoted : seen.noted ≡ nothing_noted
 
--- Routers, configurations and links have the same circuits; a link joins different routers, and the ends
--- of each are at hand in order of their routers too; not too much was sent; and in a run that wasn't
--- stopped, where nothing was injected, it is seen as a network in its run.
+-- Routers, configurations and links have the same circuits, and no two routers one system; a link joins
+-- different routers, and the ends of each are at hand in order of their routers too; not too much was
+-- sent; and in a run that wasn't stopped, where nothing was injected, it is seen as a network in its run.
 pub record IsNet (ports : List (List ℕ)) (ordered : List (List End)) (net : LabNet) : Type 0 where
   pub routers : counts_of net.seen.routers ≡ map length ports
   pub configs : map (λ (c : Config). length c.circuits) net.configs ≡ map length ports
+  pub systems : AreDistinct (systems_of net.seen.routers)
   pub ends : AllByRecursion (AreEndsThere (map length ports)) net.seen.links
   pub ported : ArePorts ports net.seen.links
   pub sorted : ordered ≡ map by_router net.seen.links

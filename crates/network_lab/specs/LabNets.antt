@@ -162,6 +162,10 @@ abbrev pub AreDistinct : List ℕ → Type 0
 AreDistinct [] = Unit {0}
 AreDistinct (i ∷ list) = AllByRecursion (λ j. i ≢ j) list × AreDistinct list
 
+-- each router's system, as a number (ISO 10589 7.1)
+abbrev pub systems_of : List Router → List ℕ
+systems_of routers = map (λ (r : Router). r.config.system) routers
+
 -- own
 abbrev pub at_circuit : (CircuitConfig → CircuitConfig) → ℕ → List CircuitConfig → Option CircuitConfig
     → List CircuitConfig

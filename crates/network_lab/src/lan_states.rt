@@ -136,7 +136,7 @@ fn are_six(octets: [u8; 6])
 }
 
 /// A system ID is that of its number. It does nothing.
-fn system_law(system: SystemId)
+pub(crate) fn system_law(system: SystemId)
     ensures { system_id (system_number system) ≡ system }
 {
     are_six(system.0);

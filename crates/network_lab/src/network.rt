@@ -6,7 +6,7 @@ ghost use Rattle.network_model.specs.Networks.{numbered};
 ghost use Rattle.network_model.specs.RunLines.{link_of as link_at};
 ghost use Rattle.flag_sync.specs.Walks.{numbers_of};
 ghost use Rattle.own_histories.specs.Sightings.{doubled_in};
-ghost use Rattle.network_lab.specs.LabNets.{empty_lab};
+ghost use Rattle.network_lab.specs.LabNets.{empty_lab, systems_of, AreDistinct};
 ghost use Rattle.network_lab.specs.Claims.{AreEnds, IsClaimed};
 ghost use Rattle.network_lab.specs.LinkStates.{AreWithin};
 ghost use Rattle.network_lab.specs.Reached.{AreSmall, HasRun, HoldNothing};
@@ -83,11 +83,12 @@ impl Network {
     /// ends of links are there. Before an event no router holds anything. In a run that wasn't
     /// stopped, where nothing was injected, it is seen as a network whose routers can be reached; the
     /// claims of links, groups, sweeps and contents hold; and no end of a link is ahead in more LSP
-    /// IDs than its SRM flags. It does nothing.
+    /// IDs than its SRM flags. No two routers have one system. It does nothing.
     pub fn facts(&self)
         ensures few { length self.now.seen.sent ≤ 262144 }
         ensures small { AreSmall self.now.seen.sent }
         ensures ends { AreEnds self.now.seen }
+        ensures systems { AreDistinct (systems_of self.now.seen.routers) }
         ensures run { self.now.stopped ≡ None → self.now.seen.injected ≡ 0
             → HasRun self.now.seen }
         ensures fresh { self.now.begun ≡ false → HoldNothing self.now.seen.routers }

@@ -1,6 +1,7 @@
 //! How a network of routers is set up.
 ghost use Rattle.std.specs.Prelude.{◌≡◌, ◌≢◌, ◌<◌, ◌≤◌, true, false, [], ◌∷◌, length, Some, Err, vec_len, vec_capacity, IfOk, IfErr, OnOk, OnErr, slice_index};
 ghost use Rattle.std.specs.List.{AllByRecursion};
+ghost use Rattle.isis_model.specs.Numbers.{system_id, system_number};
 ghost use Rattle.isis_model.specs.Places.{nth, with_nth};
 ghost use Rattle.router_desk.specs.Limits.{IsCircuit, IsKey, IsValid};
 ghost use Rattle.router_core.specs.Reached.{IsReached};
@@ -11,6 +12,7 @@ ghost use Rattle.network_lab.specs.LabSteps.{with_circuit_at};
 ghost use Rattle.network_lab.specs.LabCauses.{RouterCause, LinkCause, HasCircuit, has_full};
 
 use crate::joining::{ends_of, has_full, joined_all, ordered_of, put_all};
+use crate::lan_states::system_law;
 use crate::network::Network;
 use crate::places::put_at;
 use crate::row::Row;
@@ -224,7 +226,9 @@ pub(crate) fn setup_of(alloc: Global, config: Config) -> Result<Setup, OutOfMemo
     ensures config { IfOk result (λ setup. setup.config ≡ config) }
     ensures router { IfOk result (λ setup. setup.router ≡ router_of config) }
     ensures reached { IfOk result (λ setup. IsReached setup.router) }
+    ensures system { system_id (system_number config.system) ≡ config.system }
 {
+    system_law(config.system);
     let copy = config.copy()?;
     match Router::new(alloc, copy, 1) {
         Ok(router) => Ok(Setup { config, router }),

@@ -14,7 +14,7 @@ ghost use Rattle.network_model.specs.Networks.{restarted};
 ghost use Rattle.network_model.specs.Runs.{taking, boot_of, posted, changes_of as counts_of_keys};
 ghost use Rattle.network_lab.specs.LabNets.{counts_in, sent_of};
 ghost use Rattle.network_lab.specs.LabTakings.{is_taken, kept_ranges, noted_in};
-ghost use Rattle.network_lab.specs.LabInside.{counts_of};
+ghost use Rattle.network_lab.specs.LabInside.{shapes_of};
 ghost use Rattle.network_lab.specs.LabSteps.{sent_by, posted_in, StopCause};
 ghost use Rattle.network_lab.specs.Reached.{AreSmall};
 
@@ -57,7 +57,7 @@ pub(crate) fn take_at(
     ensures cause { IfErr result (λ fault. IfSome (nth routers.old.items router) (λ r.
         StopCause (sent.old.items ++ posted_in router link (event_of r event) r) sent.new.items
         fault)) }
-    ensures counts { counts_of routers.new.items ≡ counts_of routers.old.items }
+    ensures shapes { shapes_of routers.new.items ≡ shapes_of routers.old.items }
     ensures few { length sent.new.items ≤ 262144 }
     ensures small { AreSmall sent.new.items }
 {
@@ -200,7 +200,7 @@ fn step_at(routers: &mut Vec<Router>, router: usize, event: NodeEvent) -> Result
     ensures reply { IfOk result (λ reply. IfSome (nth routers.old.items router) (λ r.
         Answers (step given r (event_of r event)).router (place_of (event_of r event))
         (step given r (event_of r event)).reply reply)) }
-    ensures counts { counts_of routers.new.items ≡ counts_of routers.old.items }
+    ensures shapes { shapes_of routers.new.items ≡ shapes_of routers.old.items }
     ensures err { OnErr result (routers.new.items ≡ routers.old.items) }
 {
     step_bonds();
@@ -280,7 +280,7 @@ pub(crate) fn restart_at(routers: &mut Vec<Router>, router: usize) -> Result<(),
     requires boot { boot_of (nth routers.old.items router) < 16777215 }
     ensures state { OnOk result (IfSome (nth routers.old.items router) (λ r. routers.new.items
         ≡ with_nth routers.old.items router (restarted r))) }
-    ensures counts { counts_of routers.new.items ≡ counts_of routers.old.items }
+    ensures shapes { shapes_of routers.new.items ≡ shapes_of routers.old.items }
     ensures err { OnErr result (routers.new.items ≡ routers.old.items) }
 {
     let old = &routers[router];

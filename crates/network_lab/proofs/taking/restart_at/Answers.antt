@@ -1,17 +1,17 @@
-use Rattle.std.proofs.Common.{length, ◌≡◌, ◌+◌, IfSome, ℕ, List, ap, sym, subst, ◌∙◌}
+use Rattle.std.proofs.Common.{◌≡◌, ◌+◌, IfSome, ℕ, List, ap, sym, subst, ◌∙◌}
 use Rattle.isis_model.specs.Places.{with_nth}
 use Rattle.network_model.specs.Networks.{restarted}
 use Rattle.isis_model.specs.Places.{nth}
 use Rattle.isis_model.specs.Routers.{Router}
-use Rattle.network_lab.specs.LabInside.{counts_of}
+use Rattle.network_lab.specs.LabInside.{shape_of, shapes_of}
 use Rattle.network_lab.proofs.PlaceLemmas.{nth-get}
 use Rattle.network_lab.proofs.StepLemmas.{counts-with, start-kept, restart-state}
 use Rattle.network_lab.proofs.taking.restart_at.Goals as goal
 
-pub returns-clause-counts : goal.returns-clause-counts
-returns-clause-counts c =
-    ap counts_of c.put_at.ensures
-    ∙ counts-with (λ (r : Router). length r.circuits) c.args.routers.now.items c.args.router c.index-old.result.now c.in_ok-fresh.fresh
+pub returns-clause-shapes : goal.returns-clause-shapes
+returns-clause-shapes c =
+    ap shapes_of c.put_at.ensures
+    ∙ counts-with shape_of c.args.routers.now.items c.args.router c.index-old.result.now c.in_ok-fresh.fresh
     (nth-get c.args.routers.now.items c.args.router c.index-old.result.now c.requires.there c.index-old.ensures) (start-kept c.index-old.result.now c.in_ok-fresh.fresh _ c.in_ok-fresh.ensures.start)
 
 pub returns-clause-state : goal.returns-clause-state

@@ -44,7 +44,7 @@ invariant_of-self c =
     restart-goes i.ports.items i.ordered.items i.configs.items i.routers.items c.restart_at.new.routers.items i.links.items i.sent.items i.injected i.notes i.begun i.stopped c.args.router c.index.result.now
     c.self.invariant p (omega (arith, c.if-boot-ge-LAST_BOOT.false, c.boot.ensures))
     (of-place (λ (r : Router). c.restart_at.new.routers.items ≡ with_nth i.routers.items c.args.router (restarted r)) (nth i.routers.items c.args.router) c.index.result.now p c.in-Ok.ensures.state)
-    c.restart_at.ensures.counts
+    c.restart_at.ensures.shapes
 
 pub invariant_of-self-in-Err : goal.invariant_of-self-in-Err
 invariant_of-self-in-Err c =
