@@ -1,0 +1,2 @@
+-- The lemmas: why the cost falls along a move.
+pub mod MoveLemmas

@@ -1,0 +1,3 @@
+-- The lemmas: why routes fall along a move, and why walks end.
+pub mod RouteLemmas
+pub mod WalkedLemmas

@@ -1,0 +1,3 @@
+-- The definitions: a prefix of one owner, and walks along routes.
+pub mod Owned
+pub mod Walked
