@@ -1,19 +1,12 @@
 -- The words of a lab script's line are read as that line.
-use Rattle.std.proofs.Common.{◌≡◌, ◌∙◌, ℕ, ◌+◌, ◌*◌, ◌/◌, ◌%◌, ◌<◌, ◌≤◌, ◌^◌, Bool, true, false, cond, List, [], ◌∷◌, ◌++◌, length, Option, Some, None, refl, ap, subst, arith, rules, inl, inr}
+use Rattle.std.proofs.Common.{◌≡◌, ◌∙◌, ℕ, ◌*◌, ◌%◌, ◌<◌, ◌≤◌, ◌^◌, Bool, true, false, cond, List, [], ◌∷◌, ◌++◌, length, Option, Some, None, refl, ap, arith, rules}
 use Rattle.std.specs.Prelude.{decimal, codes, option_and_then, ◌==◌, ◌&&◌, nat_lt, nat_le, IfSome}
-use Rattle.std.specs.Char.{digit_char, digit_value, is_ascii_digit, is_ascii_hexdigit}
-use Rattle.std.specs.List.{list_all}
 use Rattle.std.specs.Option.{option_map}
-use Rattle.std.specs.Str.{bytes_eq}
-use Rattle.std.proofs.lemmas.Bool.{cases_Bool, le-leb, false≢true}
-use Rattle.std.proofs.lemmas.Fmt.{decimal_is_IsNumeral_wide}
-use Rattle.std.proofs.lemmas.Slice.Eq.{bytes_eq-Decides}
+use Rattle.std.proofs.lemmas.Bool.{le-leb}
 use Rattle.std.proofs.lemmas.Bool.Decides.{nat_tests}
 use Rattle.isis_base.specs.AreaTexts.{area_of, area_text}
 use Rattle.isis_base.specs.Identifiers.{system_from}
 use Rattle.isis_base.specs.Levels.{levels_of, levels_text}
-use Rattle.isis_base.specs.PrefixTexts.{prefix_text}
-use Rattle.isis_base.specs.Prefixes.{prefix_from}
 use Rattle.isis_base.specs.Texts.{system_text}
 use Rattle.isis_base.specs.declared.identifiers.SystemId.{SystemId}
 use Rattle.isis_base.specs.declared.level.LevelSet.{LevelSet}
@@ -21,8 +14,6 @@ use Rattle.isis_base.specs.declared.prefix.Prefix.{Prefix}
 use Rattle.isis_base.specs.declared.texts.TheConstants.{SYSTEM_TEXT}
 use Rattle.isis_base.proofs.AreaLemmas.{SpellsArea-written, area_of-spelled}
 use Rattle.isis_base.proofs.LevelLemmas.{levels_of-written}
-use Rattle.isis_base.proofs.PrefixLemmas.{prefix_parts-spelled}
-use Rattle.isis_base.proofs.PrefixValues.{prefix_from-prefix}
 use Rattle.isis_base.proofs.SpellingLemmas.{Spells-spelled, text_octets-spelled}
 use Rattle.network_model.specs.declared.word.PduWord.{PduWord}
 use Rattle.network_model.specs.declared.word.PduWord.TheVariants.{Hello, Lsp, Csnp, Psnp}
@@ -33,63 +24,43 @@ use Rattle.lab_script.specs.declared.named.NamedLine.TheVariants.{Router, Link, 
 use Rattle.lab_script.specs.declared.named.NamedScope.{NamedScope}
 use Rattle.lab_script.specs.declared.named.NamedScope.TheVariants as scope
 use Rattle.lab_script.specs.Fields.{name_of, are_names}
-use Rattle.lab_script.specs.Forms.{field, flag, last, done}
+use Rattle.line_cuts.specs.Forms.{field, flag, last, done}
 use Rattle.lab_script.proofs.MemberLemmas.{members-of}
-use Rattle.lab_script.specs.HexTexts.{is_hex, hex_of, key_octets_of, octets_in}
-use Rattle.lab_script.specs.LabFields.{number_to, metric_of, prefix_metric_of, seconds_of, system_of, prefix_of, pdus_of, scope_of}
+use Rattle.line_cuts.specs.HexTexts.{AreOctets, is_hex, hex_of, hex_text, octets_in}
+use Rattle.line_cuts.specs.Numerals.{number_to}
+use Rattle.lab_script.specs.LabFields.{metric_of, prefix_metric_of, seconds_of, system_of, pdus_of, scope_of, key_octets_of}
 use Rattle.lab_script.specs.LabLines.{lab_line_of, priority_form, members_form, HasMembers}
 use Rattle.lab_script.specs.Printed.{IsName}
-use Rattle.lab_script.specs.LabPrinted.{AreOctets, IsSomeOctets, IsRouterLine, IsScopeLine, IsDeedLine, IsLabLine, hex_text, flag_words, pdus_text, scope_text, prefix_metric_text, deed_words, lab_words}
-use Rattle.line_cuts.proofs.NumeralLemmas.{own}
-use Rattle.lab_script.proofs.NumberTexts.{numeral_of-decimal, copy-read}
+use Rattle.lab_script.specs.LabPrinted.{IsSomeOctets, IsRouterLine, IsScopeLine, IsDeedLine, IsLabLine, flag_words, pdus_text, scope_text, prefix_metric_text, deed_words, lab_words}
+use Rattle.line_cuts.proofs.HexLemmas.{hex_text-digits, hex_text-length, octets_in-hex_text}
+use Rattle.line_cuts.proofs.NumberTexts.{number_to-decimal, decimal-none}
+use Rattle.line_cuts.proofs.PrefixTexts.{prefix_of-written}
+use Rattle.lab_script.proofs.NumberTexts.{copy-read}
 
 -- ---- numbers
 
-number-read : (greatest n : ℕ) → n ≤ greatest → n < 2 ^ 128 → number_to greatest (decimal n) ≡ Some n
-number-read greatest n h wide =
-    ap (λ (o : Option ℕ). option_and_then (λ m. cond (nat_le m greatest) (Some m) None) o) (numeral_of-decimal n wide)
-    ∙ ap (λ (t : Bool). cond {A = Option ℕ} t (Some n) None) (le-leb n greatest h)
-
 metric-read : (n : ℕ) → n ≤ 16777215 → metric_of (decimal n) ≡ Some n
-metric-read n h = number-read 16777215 n h (omega (arith, h))
+metric-read n h = number_to-decimal 16777215 n h (omega (arith, h))
 
 seconds-read : (n : ℕ) → 1 ≤ n → n ≤ 86400 → seconds_of (decimal n) ≡ Some n
 seconds-read n some h =
     let positive : (n == 0) ≡ false = grind (arith, nat_tests) in
-    ap (λ (o : Option ℕ). option_and_then (λ m. cond (m == 0) None (Some m)) o) (number-read 86400 n h (omega (arith, h)))
+    ap (λ (o : Option ℕ). option_and_then (λ m. cond (m == 0) None (Some m)) o) (number_to-decimal 86400 n h (omega (arith, h)))
     ∙ ap (λ (t : Bool). cond {A = Option ℕ} t None (Some n)) positive
 
 -- ---- hex
-
-digit-read : (d : ℕ) → d < 16 → (is_ascii_hexdigit (digit_char d) ≡ true) × (digit_value (digit_char d) ≡ d)
-digit-read d h = grind (arith, nat_tests)
-
-hex-digits : (octets : List ℕ) → AreOctets octets → list_all is_ascii_hexdigit (hex_text octets) ≡ true
-hex-digits [] h = refl
-hex-digits (octet ∷ octets) h = rw ((digit-read (octet / 16) (omega (arith, h.0))).0, (digit-read (octet % 16) (omega arith)).0, hex-digits octets h.1)
-
-hex-length : (octets : List ℕ) → length (hex_text octets) ≡ 2 * length octets
-hex-length [] = refl
-hex-length (octet ∷ octets) = omega (arith, hex-length octets)
-
-hex-octets : (octets : List ℕ) → AreOctets octets → octets_in (hex_text octets) ≡ octets
-unfolding octets_in
-hex-octets [] h = refl
-hex-octets (octet ∷ octets) h =
-    let value : 16 * digit_value (digit_char (octet / 16)) + digit_value (digit_char (octet % 16)) ≡ octet = omega (arith, (digit-read (octet / 16) (omega (arith, h.0))).1, (digit-read (octet % 16) (omega arith)).1) in
-    ap (λ (n : ℕ). n ∷ octets_in (hex_text octets)) value ∙ ap (λ (xs : List ℕ). octet ∷ xs) (hex-octets octets h.1)
 
 even : (n m : ℕ) → n ≡ 2 * m → 1 ≤ m → (nat_lt 0 n && n % 2 == 0) ≡ true
 even n m e h = grind (arith, nat_tests)
 
 hex-read : (octets : List ℕ) → IsSomeOctets octets → hex_of (hex_text octets) ≡ Some octets
 hex-read octets h =
-    let test : is_hex (hex_text octets) ≡ true = rw (even (length (hex_text octets)) (length octets) (hex-length octets) h.0, hex-digits octets h.1) in
-    ap (λ (t : Bool). cond t (Some (octets_in (hex_text octets))) None) test ∙ ap Some (hex-octets octets h.1)
+    let test : is_hex (hex_text octets) ≡ true = rw (even (length (hex_text octets)) (length octets) (hex_text-length octets) h.0, hex_text-digits octets h.1) in
+    ap (λ (t : Bool). cond t (Some (octets_in (hex_text octets))) None) test ∙ ap Some (octets_in-hex_text octets h.1)
 
 key-read : (octets : List ℕ) → IsSomeOctets octets → length octets ≤ 128 → key_octets_of (hex_text octets) ≡ Some octets
 key-read octets h few =
-    ap (λ (t : Bool). cond t (hex_of (hex_text octets)) None) (le-leb (length (hex_text octets)) 256 (omega (arith, hex-length octets, few))) ∙ hex-read octets h
+    ap (λ (t : Bool). cond t (hex_of (hex_text octets)) None) (le-leb (length (hex_text octets)) 256 (omega (arith, hex_text-length octets, few))) ∙ hex-read octets h
 
 -- ---- words of few kinds
 
@@ -112,11 +83,6 @@ system-read system small six = ap (option_map system_from) (text_octets-spelled 
 area-read : (area : List ℕ) → AreOctets area → 1 ≤ length area → length area ≤ 13 → area_of (area_text area) ≡ Some area
 area-read area small some fits = area_of-spelled (area_text area) area (SpellsArea-written area some fits small)
 
-prefix-read : (prefix : Prefix) → prefix.address < 2 ^ 32 → prefix_of (prefix_text prefix.address prefix.length) ≡ Some prefix
-prefix-read prefix small =
-    ap (λ (o : Option (ℕ × ℕ)). option_and_then (λ parts. prefix_from parts.0 parts.1) o) (prefix_parts-spelled (prefix_text prefix.address prefix.length) prefix.address prefix.length (record { small = small; fits = prefix.fits; clear = prefix.clear; same = refl }))
-    ∙ prefix_from-prefix prefix prefix.address prefix.length refl refl
-
 -- ---- event lines
 
 deliver-words : (k : ℕ) (router : List ℕ) → IsDeedLine (deed.Deliver k router) → lab_line_of (deed_words (deed.Deliver k router)) ≡ Some (Event (deed.Deliver k router))
@@ -135,26 +101,15 @@ overload-words : (router : List ℕ) (on : Bool) → IsDeedLine (deed.Overload r
 overload-words router true h = rw h
 overload-words router false h = rw h
 
--- a number isn't the word `none`
-metric-none : (n : ℕ) → n < 10 ^ 64 → bytes_eq (decimal n) (codes "none") ≡ false
-metric-none n h =
-    let digits : list_all is_ascii_digit (decimal n) ≡ true = own.from (decimal n) (decimal_is_IsNumeral_wide n h).0.1 in
-    elim (cases_Bool (bytes_eq (decimal n) (codes "none"))) [
-      | inl same ↦
-          (let bad : false ≡ true = subst (λ (word : List ℕ). list_all is_ascii_digit word ≡ true) ((bytes_eq-Decides (decimal n) (codes "none")).0 same) digits in
-          absurd (false≢true bad))
-      | inr apart ↦ apart
-    ]
-
 prefix_metric-read : (metric : Option ℕ) → IfSome metric (λ m. m ≤ 4261412864) → prefix_metric_of (prefix_metric_text metric) ≡ Some metric
 prefix_metric-read None h = refl
 prefix_metric-read (Some m) h =
-    ap (λ (t : Bool). cond t (Some None) (option_map (λ metric. Some metric) (number_to 4261412864 (decimal m)))) (metric-none m (omega (arith, h)))
-    ∙ ap (option_map (λ metric. Some metric)) (number-read 4261412864 m h (omega (arith, h)))
+    ap (λ (t : Bool). cond t (Some None) (option_map (λ metric. Some metric) (number_to 4261412864 (decimal m)))) (decimal-none m (omega (arith, h)))
+    ∙ ap (option_map (λ metric. Some metric)) (number_to-decimal 4261412864 m h (omega (arith, h)))
 
 prefix-words : (router : List ℕ) (prefix : Prefix) (metric : Option ℕ) → IsDeedLine (deed.Prefix router prefix metric) → lab_line_of (deed_words (deed.Prefix router prefix metric)) ≡ Some (Event (deed.Prefix router prefix metric))
 prefix-words router prefix metric h = rw h.0 (
-    ap (λ (o : Option Prefix). option_and_then (λ p. field prefix_metric_of (λ m. done (Event (deed.Prefix router p m))) (prefix_metric_text metric ∷ [])) o) (prefix-read prefix h.1)
+    ap (λ (o : Option Prefix). option_and_then (λ p. field prefix_metric_of (λ m. done (Event (deed.Prefix router p m))) (prefix_metric_text metric ∷ [])) o) (prefix_of-written prefix h.1)
     ∙ ap (λ (o : Option (Option ℕ)). option_and_then (λ m. done (Event (deed.Prefix router prefix m)) []) o) (prefix_metric-read metric h.2))
 
 run-options : (seconds : ℕ) (without : Option PduWord) (except : Option (List ℕ)) → IfSome except (λ router. IsName router) → lab_line_of (deed_words (deed.Run seconds without except)) ≡ option_and_then (λ seconds. Some (Event (deed.Run seconds without except))) (seconds_of (decimal seconds))
@@ -199,7 +154,7 @@ key-words router s key h = rw h.0 (
     ∙ ap (λ (o : Option (List ℕ)). option_and_then (λ key. done (Key router s key) []) o) (key-read key h.2 h.3))
 
 priority-words : (n : ℕ) → n ≤ 127 → priority_form (codes "priority" ∷ decimal n ∷ []) ≡ Some n
-priority-words n h = ap (λ (o : Option ℕ). option_and_then (λ p. done p []) o) (number-read 127 n h (omega (arith, h)))
+priority-words n h = ap (λ (o : Option ℕ). option_and_then (λ p. done p []) o) (number_to-decimal 127 n h (omega (arith, h)))
 
 -- the words behind a router's levels
 leak-words : (leak : Bool) (n : ℕ) (made : Bool → ℕ → NamedLine) → n ≤ 127 → flag (codes "leak") (λ l. last priority_form (made l)) (flag_words (codes "leak") leak ++ codes "priority" ∷ decimal n ∷ []) ≡ Some (made leak n)

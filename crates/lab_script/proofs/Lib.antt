@@ -1,5 +1,4 @@
 -- The lemmas, a module for each topic.
-pub mod HexLemmas
 pub mod IdLemmas
 pub mod KeyLemmas
 pub mod LabIndexLemmas

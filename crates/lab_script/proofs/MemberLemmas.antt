@@ -5,7 +5,7 @@ use Rattle.std.specs.Prelude.{option_and_then, ◌&&◌, nat_le, MatchOption}
 use Rattle.std.specs.Option.{option_map}
 use Rattle.std.proofs.lemmas.Bool.{and_parts}
 use Rattle.lab_script.specs.Fields.{is_name, name_of, are_names}
-use Rattle.lab_script.specs.Forms.{each}
+use Rattle.line_cuts.specs.Forms.{each}
 use Rattle.lab_script.specs.LabLines.{members_form}
 
 -- these words are names, 2 to 64

@@ -1,45 +1,10 @@
--- Numbers are read from what is written of them.
-use Rattle.std.proofs.Common.{◌≡◌, ◌∙◌, ℕ, zero, suc, ◌%◌, ◌+◌, ◌<◌, ◌^◌, Bool, true, cond, ltb, List, [], ◌∷◌, ◌++◌, length, get_or, Some, None, refl, ap, arith}
+-- The number of a copy is read from what is written of it.
+use Rattle.std.proofs.Common.{◌≡◌, ◌∙◌, ℕ, ◌<◌, ◌^◌, Bool, cond, ltb, Some, ap, arith}
 use Rattle.std.specs.Prelude.{decimal}
 use Rattle.std.specs.Option.{option_map}
-use Rattle.std.proofs.lemmas.Fmt.{decimal_is_IsNumeral_wide, decimal_by_steps_wide}
-use Rattle.std.proofs.lemmas.List.{length-append}
 use Rattle.std.proofs.lemmas.Bool.{lt-ltb}
-use Rattle.std.proofs.lemmas.Bool.Decides.{nat_tests}
-use Rattle.line_cuts.specs.Numerals.{has_plain_lead, numeral_of}
+use Rattle.line_cuts.proofs.NumberTexts.{numeral_of-decimal}
 use Rattle.lab_script.specs.Fields.{copy_of}
-use Rattle.line_cuts.proofs.NumeralLemmas.{own, numbered}
-
-first-of_append : (ds : List ℕ) (d : ℕ) → 0 < length ds → get_or (ds ++ d ∷ []) 0 0 ≡ get_or ds 0 0
-first-of_append [] d h = absurd (omega arith)
-first-of_append (c ∷ ds) d h = refl
-
-led : (n : ℕ) → n < 10 ^ 64 → (0 < length (decimal n)) × (0 < n → 48 < get_or (decimal n) 0 0) × (n < 10 → length (decimal n) ≡ 1)
-led = decimal_by_steps_wide (λ m ds. (0 < length ds) × (0 < m → 48 < get_or ds 0 0) × (m < 10 → length ds ≡ 1)) (λ m l. (omega arith, λ a. omega arith, λ a. omega arith))
-    (λ m ds l h. (omega (arith, length-append ds ((48 + m % 10) ∷ [])), λ a. omega (arith, first-of_append ds (48 + m % 10) h.0, h.1 (omega arith)), λ a. omega arith))
-
-plain : (ds : List ℕ) → 0 < length ds → 48 < get_or ds 0 0 → has_plain_lead ds ≡ true
-plain [] s f = absurd (omega arith)
-plain (c ∷ []) s f = refl
-plain (c ∷ d ∷ ds) s f = grind (arith, nat_tests)
-
-plain-one : (ds : List ℕ) → length ds ≡ 1 → has_plain_lead ds ≡ true
-plain-one [] s = absurd (omega arith)
-plain-one (c ∷ []) s = refl
-plain-one (c ∷ d ∷ ds) s = absurd (omega arith)
-
-lead : (n : ℕ) → n < 10 ^ 64 → has_plain_lead (decimal n) ≡ true
-lead zero h = plain-one (decimal 0) ((led 0 h).2 (omega arith))
-lead (suc n) h = plain (decimal (suc n)) (led (suc n) h).0 ((led (suc n) h).1 (omega arith))
-
--- a number is read from what is written of it
-pub numeral_of-decimal : (n : ℕ) → n < 2 ^ 128 → numeral_of (decimal n) ≡ Some n
-numeral_of-decimal n h =
-    let wide : n < 10 ^ 64 = omega arith in
-    let d = decimal_is_IsNumeral_wide n wide in
-    numbered (decimal n) (lead n wide) (own.from (decimal n) d.0.1)
-    ∙ ap (λ (v : ℕ). cond (ltb v (2 ^ 128)) (Some v) None) d.1
-    ∙ ap (λ (t : Bool). cond t (Some n) None) (lt-ltb n (2 ^ 128) h)
 
 pub copy-read : (copy : ℕ) → copy < 2 ^ 64 → copy_of (decimal copy) ≡ Some copy
 copy-read copy h =

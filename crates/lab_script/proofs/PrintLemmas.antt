@@ -13,10 +13,11 @@ use Rattle.isis_base.proofs.SpellingLemmas.{Spells-spelled, text_octets-spelled}
 use Rattle.lab_script.specs.declared.line.KeysLine.{KeysLine}
 use Rattle.lab_script.specs.declared.line.KeysLine.TheVariants.{Router, Link, Issue, Pass}
 use Rattle.lab_script.specs.Fields.{name_of, id_of, mark_of, key_from, key_of}
-use Rattle.lab_script.specs.Forms.{field, field_of_two, done}
+use Rattle.line_cuts.specs.Forms.{field, field_of_two, done}
 use Rattle.lab_script.specs.KeysLines.{line_of}
 use Rattle.lab_script.specs.Printed.{IsLine, mark_text, words_in}
-use Rattle.lab_script.proofs.NumberTexts.{numeral_of-decimal, copy-read}
+use Rattle.line_cuts.proofs.NumberTexts.{numeral_of-decimal}
+use Rattle.lab_script.proofs.NumberTexts.{copy-read}
 use Rattle.lab_script.proofs.KeyLemmas.{key_from-known}
 
 id-read : (id : LspId) → IsId id → id_of (lsp_text id) ≡ Some id

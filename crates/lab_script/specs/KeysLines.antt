@@ -3,7 +3,7 @@ use Rattle.std.specs.Prelude.{ℕ, List, [], ◌∷◌, codes}
 use Rattle.lab_script.specs.declared.line.KeysLine.{KeysLine}
 use Rattle.lab_script.specs.declared.line.KeysLine.TheVariants.{Router, Link, Issue, Pass}
 use Rattle.lab_script.specs.Fields.{name_of, id_of, key_of, copy_of}
-use Rattle.lab_script.specs.Forms.{Form, field, field_of_two, done, of_forms}
+use Rattle.line_cuts.specs.Forms.{Form, field, field_of_two, done, of_forms}
 
 -- `router NAME` (own)
 abbrev pub router_form : Form KeysLine

@@ -1,26 +1,19 @@
 -- The fields of a lab script's lines: a reader for each kind, from a word to the value that it
 -- writes (own).
-use Rattle.std.specs.Prelude.{ℕ, ◌==◌, nat_le, Bool, true, false, List, Option, Some, None, codes, option_and_then, if◌then◌else◌}
+use Rattle.std.specs.Prelude.{ℕ, ◌==◌, nat_le, List, length, Option, Some, None, codes, option_and_then, if◌then◌else◌}
 use Rattle.std.specs.Option.{option_map}
 use Rattle.std.specs.Str.{bytes_eq}
 use Rattle.isis_base.specs.declared.identifiers.SystemId.{SystemId}
-use Rattle.isis_base.specs.declared.prefix.Prefix.{Prefix}
 use Rattle.isis_base.specs.declared.texts.TheConstants.{SYSTEM_TEXT}
 use Rattle.isis_base.specs.Identifiers.{system_from}
 use Rattle.isis_base.specs.Misfit.{text_octets}
-use Rattle.isis_base.specs.PrefixFronts.{prefix_parts}
-use Rattle.isis_base.specs.Prefixes.{prefix_from}
 use Rattle.network_model.specs.declared.word.PduWord.{PduWord}
 use Rattle.network_model.specs.declared.word.PduWord.TheVariants.{Hello, Lsp, Csnp, Psnp}
 use Rattle.lab_script.specs.declared.named.NamedScope.{NamedScope}
 use Rattle.lab_script.specs.declared.named.NamedScope.TheVariants as scope
-use Rattle.line_cuts.specs.Numerals.{numeral_of}
+use Rattle.line_cuts.specs.HexTexts.{hex_of}
+use Rattle.line_cuts.specs.Numerals.{number_to}
 use Rattle.lab_script.specs.Fields.{name_of}
-
--- a number up to the greatest
-abbrev pub number_to : ℕ → List ℕ → Option ℕ
-number_to greatest word =
-    option_and_then (λ n. if nat_le n greatest then Some n else None) (numeral_of word)
 
 -- the metric of a circuit (RFC 5305 3)
 abbrev pub metric_of : List ℕ → Option ℕ
@@ -44,15 +37,9 @@ seconds_of word = option_and_then (λ n. if n == 0 then None else Some n) (numbe
 abbrev pub system_of : List ℕ → Option SystemId
 system_of word = option_map system_from (text_octets SYSTEM_TEXT word)
 
--- the prefix of a text
-abbrev pub prefix_of : List ℕ → Option Prefix
-prefix_of word = option_and_then (λ parts. prefix_from parts.0 parts.1) (prefix_parts word)
-
-abbrev pub on_of : List ℕ → Option Bool
-on_of word =
-    if bytes_eq word (codes "on") then Some true
-    else if bytes_eq word (codes "off") then Some false
-    else None
+-- a key's octets, 1 to 128 (own)
+abbrev pub key_octets_of : List ℕ → Option (List ℕ)
+key_octets_of word = if nat_le (length word) 256 then hex_of word else None
 
 -- the kind of PDUs that a word names (own)
 abbrev pub pdus_of : List ℕ → Option PduWord

@@ -7,9 +7,10 @@ use Rattle.lab_script.specs.declared.named.NamedDeed.TheVariants as deed
 use Rattle.lab_script.specs.declared.named.NamedLine.{NamedLine}
 use Rattle.lab_script.specs.declared.named.NamedLine.TheVariants.{Router, Link, Lan, Key, Event}
 use Rattle.lab_script.specs.Fields.{name_of, copy_of}
-use Rattle.lab_script.specs.Forms.{Form, field, flag, option, given, last, several, done, of_forms}
-use Rattle.lab_script.specs.HexTexts.{hex_of, key_octets_of}
-use Rattle.lab_script.specs.LabFields.{metric_of, prefix_metric_of, priority_of, seconds_of, system_of, prefix_of, on_of, pdus_of, scope_of}
+use Rattle.line_cuts.specs.Forms.{Form, field, flag, option, given, last, several, done, of_forms}
+use Rattle.line_cuts.specs.Fields.{prefix_of, on_of}
+use Rattle.line_cuts.specs.HexTexts.{hex_of}
+use Rattle.lab_script.specs.LabFields.{metric_of, prefix_metric_of, priority_of, seconds_of, system_of, pdus_of, scope_of, key_octets_of}
 
 -- `[priority N]`, 64 by default (own)
 abbrev pub priority_form : Form ℕ

@@ -1,11 +1,12 @@
 -- Lines of lab scripts as words, of fields in their ranges (own).
 use Rattle.std.specs.Prelude.{◌≡◌, ℕ, ◌<◌, ◌≤◌, ◌^◌, Bool, true, false, List, [], ◌∷◌, ◌++◌, length, codes, decimal, Option, Some, None, IfSome}
-use Rattle.std.specs.List.{AllByRecursion}
 use Rattle.std.specs.Str.{bytes_eq}
 use Rattle.isis_base.specs.AreaTexts.{area_text}
 use Rattle.isis_base.specs.Levels.{levels_text}
 use Rattle.isis_base.specs.PrefixTexts.{prefix_text}
-use Rattle.isis_base.specs.Texts.{hex_pair, system_text}
+use Rattle.isis_base.specs.Texts.{system_text}
+use Rattle.line_cuts.specs.Fields.{on_text}
+use Rattle.line_cuts.specs.HexTexts.{AreOctets, hex_text}
 use Rattle.network_model.specs.declared.word.PduWord.{PduWord}
 use Rattle.network_model.specs.declared.word.PduWord.TheVariants.{Hello, Lsp, Csnp, Psnp}
 use Rattle.lab_script.specs.declared.named.NamedDeed.{NamedDeed}
@@ -20,9 +21,6 @@ use Rattle.lab_script.specs.LabLines.{HasMembers}
 use Rattle.lab_script.specs.Printed.{IsName}
 
 -- ---- fields in their ranges
-
-abbrev pub AreOctets : List ℕ → Type 0
-AreOctets octets = AllByRecursion (λ octet. octet < 256) octets
 
 -- a router's system ID has six octets, its area address 1 to 13
 pub record IsRouterLine (router : LabRouter) : Type 0 where
@@ -70,14 +68,6 @@ IsLabLine (Key router scope key) =
 IsLabLine (Event deed) = IsDeedLine deed
 
 -- ---- words
-
-abbrev pub hex_text : List ℕ → List ℕ
-hex_text [] = []
-hex_text (octet ∷ octets) = hex_pair octet ++ hex_text octets
-
-abbrev pub on_text : Bool → List ℕ
-on_text true = codes "on"
-on_text false = codes "off"
 
 abbrev pub pdus_text : PduWord → List ℕ
 pdus_text Hello = codes "hello"

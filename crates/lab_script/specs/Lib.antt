@@ -1,12 +1,10 @@
--- The definitions: counts, fault texts, fields, forms, gives, hex texts, index, keys judged, keys
--- lines, keys scripts, keys sound, lab fields, lab judged, lab lines, lab link index, lab printed,
--- lab scripts, lab sound, links, link index, names, printed, reasons, router index, scripts.
+-- The definitions: counts, fault texts, fields, gives, index, keys judged, keys lines, keys scripts,
+-- keys sound, lab fields, lab judged, lab lines, lab link index, lab printed, lab scripts, lab sound,
+-- links, link index, names, printed, reasons, router index, scripts.
 pub mod Counts
 pub mod FaultTexts
 pub mod Fields
-pub mod Forms
 pub mod Gives
-pub mod HexTexts
 pub mod Index
 pub mod KeysJudged
 pub mod KeysLines

@@ -1,6 +1,6 @@
 //! What the event lines of a lab script say.
-use crate::hexes::Hex;
 use isis_base::Prefix;
+use line_cuts::Hex;
 use network_model::PduWord;
 
 /// What an event line of a lab script says. Routers and links are named by their numbers from 0, a router's circuit by

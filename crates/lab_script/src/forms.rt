@@ -5,7 +5,7 @@ ghost use Rattle.line_cuts.specs.Words.{words_of};
 
 use crate::fields::{read_copy, read_id, read_key, read_name};
 use crate::line::KeysLine;
-use crate::words::Words;
+use line_cuts::Words;
 
 /// What a line of a keys script says; none where it has none of the forms.
 pub(crate) fn read_line(line: &[u8]) -> Option<KeysLine<'_>>

@@ -1,30 +1,15 @@
 //! What a word of a lab script's line says.
 ghost use Rattle.std.specs.Prelude.{◌≡◌, ◌≤◌, ◌*◌, length, IfSome};
-ghost use Rattle.std.specs.Char.{is_ascii_hexdigit};
-ghost use Rattle.std.specs.List.{list_all};
 ghost use Rattle.isis_base.specs.AreaTexts.{area_of};
 ghost use Rattle.isis_base.specs.Levels.{levels_of};
-ghost use Rattle.lab_script.specs.HexTexts.{is_hex, hex_of, key_octets_of};
+ghost use Rattle.line_cuts.specs.HexTexts.{is_hex, hex_of};
 ghost use Rattle.lab_script.specs.LabFields as field;
 
 use crate::fields::read_name;
-use crate::hexes::Hex;
 use crate::named::NamedScope;
-use isis_base::{AreaAddress, LevelSet, Prefix, SystemId, read_area, read_prefix, read_system};
-use line_cuts::read_number;
+use isis_base::{AreaAddress, LevelSet, SystemId, read_area, read_system};
+use line_cuts::{Hex, all_hex, read_up_to};
 use network_model::PduWord;
-
-/// The number of a word, up to the greatest.
-fn read_up_to(word: &[u8], greatest: u32) -> Option<u32>
-    ensures value { result ≡ field.number_to greatest word.now }
-    ensures within { IfSome result (λ number. number ≤ greatest) }
-{
-    let number = read_number(word)?;
-    match u32::try_from(number) {
-        Ok(number) if number <= greatest => Some(number),
-        _ => None,
-    }
-}
 
 /// The metric of a circuit, up to 16777215.
 pub(crate) fn read_metric(word: &[u8]) -> Option<u32>
@@ -87,16 +72,6 @@ pub(crate) fn read_area_address(word: &[u8]) -> Option<AreaAddress>
     }
 }
 
-/// The prefix of a word.
-pub(crate) fn read_own_prefix(word: &[u8]) -> Option<Prefix>
-    ensures { result ≡ field.prefix_of word.now }
-{
-    match std::str::from_utf8(word) {
-        Ok(text) => read_prefix(text).ok(),
-        Err(_) => None,
-    }
-}
-
 /// The levels of a word.
 pub(crate) fn read_level_set(word: &[u8]) -> Option<LevelSet>
     ensures { result ≡ levels_of word.now }
@@ -105,17 +80,6 @@ pub(crate) fn read_level_set(word: &[u8]) -> Option<LevelSet>
         b"L1" => Some(LevelSet::One),
         b"L2" => Some(LevelSet::Two),
         b"L1L2" => Some(LevelSet::Both),
-        _ => None,
-    }
-}
-
-/// `on` or `off`.
-pub(crate) fn read_on(word: &[u8]) -> Option<bool>
-    ensures { result ≡ field.on_of word.now }
-{
-    match word {
-        b"on" => Some(true),
-        b"off" => Some(false),
         _ => None,
     }
 }
@@ -147,12 +111,6 @@ pub(crate) fn read_scope(word: &[u8]) -> Option<NamedScope<'_>>
     Some(NamedScope::Link { link })
 }
 
-fn all_hex(word: &[u8]) -> bool
-    ensures { result ≡ list_all is_ascii_hexdigit word.now }
-{
-    word.iter().all(|byte| byte.is_ascii_hexdigit())
-}
-
 fn reads_hex(word: &[u8]) -> bool
     ensures { result ≡ is_hex word.now }
 {
@@ -173,7 +131,7 @@ pub(crate) fn read_hex(word: &[u8]) -> Option<Hex<'_>>
 
 /// A key: 1 to 128 octets in hex.
 pub(crate) fn read_key_octets(word: &[u8]) -> Option<Hex<'_>>
-    ensures value { result ≡ key_octets_of word.now }
+    ensures value { result ≡ field.key_octets_of word.now }
     ensures within { IfSome result (λ octets. (1 ≤ length octets) × (length octets ≤ 128)) }
 {
     if word.len() > 256 {

@@ -6,14 +6,13 @@ ghost use Rattle.line_cuts.specs.Words.{words_of};
 
 use crate::fields::{read_copy, read_name};
 use crate::lab_fields::{
-    read_area_address, read_hex, read_key_octets, read_level_set, read_metric, read_on,
-    read_own_prefix, read_pdus, read_prefix_metric, read_priority, read_scope, read_seconds,
-    read_system_id,
+    read_area_address, read_hex, read_key_octets, read_level_set, read_metric, read_pdus,
+    read_prefix_metric, read_priority, read_scope, read_seconds, read_system_id,
 };
 use crate::members::Members;
 use crate::named::{NamedDeed, NamedLine};
 use crate::setup::LabRouter;
-use crate::words::Words;
+use line_cuts::{Words, read_on, read_prefix_word};
 
 /// What a line of a lab script says; none where it has none of the forms.
 pub(crate) fn read_lab_line(line: &[u8]) -> Option<NamedLine<'_>>
@@ -190,7 +189,7 @@ fn prefix<'a>(mut words: Words<'a>) -> Option<NamedLine<'a>>
     ensures within { IfSome result (λ line. IsInRange line) }
 {
     let router = read_name(words.next()?)?;
-    let prefix = read_own_prefix(words.next()?)?;
+    let prefix = read_prefix_word(words.next()?)?;
     let metric = read_prefix_metric(words.next()?)?;
     words.end()?;
     let deed = NamedDeed::Prefix {

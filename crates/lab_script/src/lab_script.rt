@@ -12,7 +12,6 @@ ghost use Rattle.lab_script.specs.declared.named.NamedLine.TheVariants as line;
 
 use crate::circuit::Circuit;
 use crate::deeds::{LabDeed, LabLine};
-use crate::hexes::Hex;
 use crate::lab_forms::read_lab_line;
 use crate::lab_links::{LabLinks, has_twice};
 use crate::members::Members;
@@ -23,7 +22,8 @@ use crate::routers::Routers;
 use crate::script_list::ScriptList;
 use crate::setup::{CIRCUIT_LIMIT, KeyScope, LabKey, LabLink, LabRouter};
 use isis_base::CircuitKind;
-use network_lab::{LINK_LIMIT, LimitName, ROUTER_LIMIT};
+use key_net::{LINK_LIMIT, LimitName, ROUTER_LIMIT};
+use line_cuts::Hex;
 use std::alloc::Global;
 use std::marker::Model;
 

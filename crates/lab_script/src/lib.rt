@@ -5,8 +5,7 @@
 //! are taken one after another, and a script borrows the text that it was read from. Names, system IDs and a router's
 //! circuits are found by look-ups, so a line costs what it says, not what came before.
 //!
-//! - `words.rt`: the words of a line
-//! - `name.rt`, `hexes.rt`: names, and octets in hex; `fields.rt`, `lab_fields.rt`: what a word says
+//! - `name.rt`: names; `fields.rt`, `lab_fields.rt`: what a word says
 //! - `line.rt`, `forms.rt`: a line of a keys script, and the line of some words; `named.rt`, `lab_forms.rt`: those of lab
 //!   scripts
 //! - `names.rt`, `links.rt`: names and links so far, and their look-ups; `events.rt`: what waits to be played
@@ -23,7 +22,6 @@ mod deeds;
 mod events;
 mod fields;
 mod forms;
-mod hexes;
 mod keys_script;
 mod lab_fields;
 mod lab_forms;
@@ -41,13 +39,12 @@ mod routers;
 mod script;
 mod script_list;
 mod setup;
-mod words;
 
 pub use deeds::{LabDeed, LabLine};
 pub use events::{EventLine, KeyEvent};
-pub use hexes::Hex;
 pub use keys_script::KeysScript;
 pub use lab_script::LabScript;
+pub use line_cuts::Hex;
 pub use name::Name;
 pub use reason::{Reason, ScriptFault};
 pub use script::{Script, read_script};

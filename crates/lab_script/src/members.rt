@@ -5,7 +5,7 @@ ghost use Rattle.lab_script.specs.LabLines.{members_form, HasMembers};
 
 use crate::fields::{read_name, reads_name};
 use crate::name::Name;
-use crate::words::Words;
+use line_cuts::Words;
 use std::marker::Model;
 
 /// The fewest members of a LAN.

@@ -1,9 +1,9 @@
 //! A line of a lab script, whose routers and links are named.
-use crate::hexes::Hex;
 use crate::members::Members;
 use crate::name::Name;
 use crate::setup::LabRouter;
 use isis_base::Prefix;
+use line_cuts::Hex;
 use network_model::PduWord;
 
 /// What a key is for, with the circuit by its link's name.

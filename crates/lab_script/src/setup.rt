@@ -1,8 +1,8 @@
 //! What the setup lines of a lab script say: its routers, its links and the keys that they are given.
-use crate::hexes::Hex;
 use crate::name::Name;
 use crate::script_list::ScriptList;
 use isis_base::{AreaAddress, CircuitKind, LevelSet, SystemId};
+use line_cuts::Hex;
 
 /// How many circuits a router may have.
 pub const CIRCUIT_LIMIT: usize = 64;

@@ -43,9 +43,9 @@ size_left-of_behind None n h = omega arith
 size_left-of_behind (Some rest) n h = omega (arith, h)
 
 -- a text has a part, if only an empty one
-pub never-empty : (text : List ℕ) → slice_split (λ byte. byte == 32) text ≡ [] → ⊥
-never-empty [] h = cc
-never-empty (byte ∷ text) h = by (byte == 32) (slice_split (λ other. other == 32) text) h
+pub never-empty : (mark : ℕ) (text : List ℕ) → slice_split (λ byte. byte == mark) text ≡ [] → ⊥
+never-empty mark [] h = cc
+never-empty mark (byte ∷ text) h = by (byte == mark) (slice_split (λ other. other == mark) text) h
   where
     by : (t : Bool) (parts : List (List ℕ)) → cond t ([] ∷ parts) (onto_first byte parts) ≡ [] → ⊥
     by true parts e = cc

@@ -1,5 +1,5 @@
 -- Decimal numbers without sign or leading zero (own).
-use Rattle.std.specs.Prelude.{ℕ, ◌^◌, ◌==◌, ◌&&◌, not, nat_lt, Bool, true, false, List, [], ◌∷◌, Option, Some, None, if◌then◌else◌}
+use Rattle.std.specs.Prelude.{ℕ, ◌^◌, ◌==◌, ◌&&◌, not, nat_lt, nat_le, Bool, true, false, List, [], ◌∷◌, Option, Some, None, option_and_then, if◌then◌else◌}
 use Rattle.std.specs.List.{list_all}
 use Rattle.std.specs.Char.{is_ascii_digit}
 use Rattle.std.specs.Str.Parse.{digits_value}
@@ -20,3 +20,8 @@ numeral_of word =
     if is_numeral word
     then (if nat_lt (digits_value 10 word) (2 ^ 128) then Some (digits_value 10 word) else None)
     else None
+
+-- a number up to the greatest
+abbrev pub number_to : ℕ → List ℕ → Option ℕ
+number_to greatest word =
+    option_and_then (λ n. if nat_le n greatest then Some n else None) (numeral_of word)

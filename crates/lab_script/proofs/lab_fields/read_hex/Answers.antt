@@ -1,5 +1,5 @@
 use Rattle.std.proofs.Common.{◌∙◌, ◌≤◌, ◌*◌, ℕ, List, length, sym, subst}
-use Rattle.lab_script.proofs.HexLemmas.{octets_in-most, octets_in-some}
+use Rattle.line_cuts.proofs.HexLemmas.{octets_in-most, octets_in-some}
 use Rattle.lab_script.proofs.lab_fields.read_hex.Goals as goal
 
 pub returns-clause-some : goal.returns-clause-some
