@@ -15,7 +15,7 @@ fn all_alphanumeric(word: &[u8]) -> bool
 }
 
 /// The name of a word: a letter, then up to 15 letters or digits.
-pub(crate) fn read_name(word: &[u8]) -> Option<Name<'_>>
+pub fn read_name(word: &[u8]) -> Option<Name<'_>>
     ensures { result ≡ name_of word.now }
 {
     if !reads_name(word) {

@@ -42,6 +42,7 @@ mod setup;
 
 pub use deeds::{LabDeed, LabLine};
 pub use events::{EventLine, KeyEvent};
+pub use fields::read_name;
 pub use keys_script::KeysScript;
 pub use lab_script::LabScript;
 pub use line_cuts::Hex;

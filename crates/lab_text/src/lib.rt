@@ -18,7 +18,7 @@ mod run;
 pub use fault::RunFault;
 pub use lab_script::{
     CIRCUIT_LIMIT, End, Hex, KeyScope, LabDeed, LabKey, LabLine, LabLink, LabRouter, LabScript,
-    Name, Reason, Script, ScriptFault, read_script,
+    Name, Reason, Script, ScriptFault, read_name, read_script,
 };
 pub use playing::play_script;
 pub use run::run_script;
