@@ -3,4 +3,6 @@
 #![tactic(auto)]
 
 #[cfg(test)]
+mod forwarded;
+#[cfg(test)]
 mod played;
