@@ -27,6 +27,14 @@ run)
     echo "isis: line 1 head" && exit 3 ;;
 esac
 """
+# A name is a letter and up to 15 letters or digits; behind a prefix's length no bit is set.
+NO_WALKS = [["walk", *words] for words in (
+    [], ["A"], ["A", "10.0.0.0/8", "B"], ["", "10.0.0.0/8"], ["1A", "10.0.0.0/8"], ["A-B", "10.0.0.0/8"], ["\u00e9", "10.0.0.0/8"],
+    ["A\n", "10.0.0.0/8"], ["abcdefghijklmnopq", "10.0.0.0/8"], ["A", ""], ["A", "10.0.0.0"], ["A", "10.0.0.0/"], ["A", "10.0.0/8"],
+    ["A", "10.0.0.0/33"], ["A", "10.0.0.0/08"], ["A", "010.0.0.0/8"], ["A", "10.0.0.256/32"], ["A", "10.0.0.0/6"], ["A", "10.0.0.0/8 "],
+    ["10.0.0.0/8", "A"],
+)]
+WALKS = [["a", "0.0.0.0/0"], ["Z9", "10.0.0.0/7"], ["abcdefghijklmnop", "255.255.255.255/32"], ["lab", "128.0.0.0/1"]]
 BEGUN = "isis: proving and building the program; the first time this takes about 40 minutes on four processors\n"
 
 
@@ -55,9 +63,13 @@ def answered(run, clone):
     start = lambda words, text="": run(words, text, program=clone.program, env=clone.environment)
     for words in (["foo"], ["grid"], ["grid", "9"], ["lab", "lab"], [""], [b"\xff"], ["--version", "lab"], ["--unproved"], ["--unproved", "foo"]):
         yield f"unbuilt: {words}", told(start(words), 2, "usage", "")
+    for words in NO_WALKS:
+        for before in ([], ["--unproved"]):
+            yield f"unbuilt: {before + words}", told(start(before + words), 2, "usage", "")
     yield "unbuilt: --version", told(start(["--version"]), 0, "", "isis unknown, rattle-kit-0 logic 0\n")
     line = "nothing is proved of this run; it is built for itself and checked as it goes, which is slow"
     yield "unbuilt: --unproved", told(start(["--unproved", "lab"], "a script\n"), 0, line, "try -- lab\na script\n")
+    yield "unbuilt: --unproved walk", told(start(["--unproved", "walk", "A", "10.0.0.0/8"], "a script\n"), 0, line, "try -- walk A 10.0.0.0/8\na script\n")
     yield "unbuilt: --unproved grid", told(start(["--unproved", "grid", "8"], "a script\n"), 0, line, "try -- grid 8\n")
     folder = os.open(clone.folder, os.O_RDONLY)
     ended = run(["--unproved", "show"], "", program=clone.program, env=clone.environment, stdin=folder)
@@ -85,6 +97,13 @@ def built(run, clone):
     ended = start()
     yield "a build", None if (ended.code, ended.line, ended.output) == (0, BEGUN + "isis: built\n", "grid 2\ntext\n") else f"wrote {ended.line!r}"
     yield "a program that is built", told(start(), 0, "", "grid 2\ntext\n")
+
+
+def walked(run, clone):
+    """The words of `walk` that are handed on."""
+    for words in WALKS:
+        ended = run(["walk", *words], "text\n", program=clone.program, env=clone.environment)
+        yield f"walk: {words}", told(ended, 0, "", f"walk {' '.join(words)}\ntext\n")
 
 
 def numbered(run, clone):
@@ -144,4 +163,5 @@ def faults(run):
         clone = Clone(folder)
         yield from answered(run, clone)
         yield from built(run, clone)
+        yield from walked(run, clone)
         yield from numbered(run, clone)

@@ -41,6 +41,20 @@ def prefixes(count):
     return "isis-lab 1\nrouter A 0000.0000.0001 49.0001 L1\n" + "".join(lines)
 
 
+def lab_grid(size):
+    """The grid that `isis grid` plays."""
+    ends = [(row, column) for row in range(1, size + 1) for column in range(1, size + 1)]
+    lines = [f"router g{r}x{c} 0000.{r:04x}.{c:04x} 49.0001 L1" for r, c in ends]
+    lines += [f"link h{r}x{c} g{r}x{c} g{r}x{c + 1} 10" for r, c in ends if c < size]
+    lines += [f"link v{r}x{c} g{r}x{c} g{r + 1}x{c} 10" for r, c in ends if r < size]
+    lines += [f"prefix g{r}x{c} 10.{r}.{c}.0/24 10" for r, c in ends]
+    return "\n".join(["isis-lab 1", *lines, "run 60"])
+
+
+def walk_text(start, prefix, cost, names):
+    return f"isis-walk 1\nwalk {start} {prefix} cost {cost}\n{' '.join(['via', *names])}\n"
+
+
 def datagrams(count):
     """B acknowledges a purge that it doesn't hold, datagram 15, again and again, so that so many datagrams are sent."""
     purge = "inject A X 4953553200000000000200000001831b010012010000001b0001000000000009000000000005ae4201\n"
@@ -128,6 +142,28 @@ def grids(run):
         yield f"grid {size}", told(run(["grid", str(size)], ""), 0, "", summary(size))
 
 
+def walks(run):
+    """Walks from corner to corner of grids, over many prefixes, and where a script meets a limit."""
+    for size in range(1, 9):
+        last = f"g{size}x{size}"
+        there = [f"g1x{c}" for c in range(2, size + 1)] + [f"g{r}x{size}" for r in range(2, size + 1)]
+        back = [f"g{r}x{size}" for r in range(size - 1, 0, -1)] + [f"g1x{c}" for c in range(size - 1, 0, -1)]
+        for start, prefix, names in (("g1x1", f"10.{size}.{size}.0/24", there), (last, "10.1.1.0/24", back)):
+            text = walk_text(start, prefix, 20 * size - 10, names)
+            yield f"a walk from {start} in a grid of {size}", told(run(["walk", start, prefix], lab_grid(size)), 0, "", text)
+    walk = lambda text, name="A": run(["walk", name, "10.15.255.0/24"], text)
+    yield "a walk to the last of 4,096 prefixes", told(walk(prefixes(4096) + "tick A\n"), 0, "", walk_text("A", "10.15.255.0/24", 10, []))
+    yield "a walk to one of 4,096 prefixes that no LSP tells", told(walk(prefixes(4096)), 12, "no walk unsettled", "")
+    yield "a walk behind 4,097 prefixes", told(walk(prefixes(4097)), 10, "limit prefixes", "")
+    yield "a walk from nobody behind 4,097 prefixes", told(walk(prefixes(4097), "B"), 12, "no walk name", "")
+    yield "a walk behind 262,145 datagrams", told(walk(datagrams(262145)), 10, "limit datagrams", "")
+    yield "a walk over 1,024 routers that hold nothing", told(walk(lab_routers(1024), "r1000"), 12, "no walk owners", "")
+    yield "a walk from nobody among 1,025 routers", told(walk(lab_routers(1025)), 10, "limit routers", "")
+    yield "a walk over 1,025 routers of keys", told(walk(keys(1025, 0)), 10, "limit routers", "")
+    yield "a walk over 16 MiB", told(walk("\n" * INPUT_LIMIT), 3, "line 1 head", "")
+    yield "a walk over an octet more", told(walk("\n" * (INPUT_LIMIT + 1)), 6, "input too long", "")
+
+
 def cut_datagrams(run):
     """What a run sends, each datagram cut to each length, at the other end: dropped for its frame or its PDU, and nothing else changes."""
     text = TWO + "link X A B 10\nrun 7\n"
@@ -185,5 +221,5 @@ def restarted_ends(run):
 
 def faults(run):
     """Each of these inputs by name, and what comes out otherwise than it should, if anything does."""
-    for cases in (script_limits, fragments, long_inputs, grids, cut_datagrams, late_datagrams, restarted_ends):
+    for cases in (script_limits, fragments, long_inputs, grids, walks, cut_datagrams, late_datagrams, restarted_ends):
         yield from cases(run)

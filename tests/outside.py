@@ -16,6 +16,7 @@ from limits import INPUT_LIMIT, TWO, told
 
 LAUNCHER = Path(__file__).resolve().parent.parent / "isis"
 NO_WORDS = [[], [""], ["Lab"], ["lab", "lab"], ["lab "], ["--help"], ["grid"], ["grid", "0"], ["grid", "9"], ["grid", "01"], [b"\xff"]]
+NO_WORDS += [["walk", name, prefix] for name, prefix in (("", "10.0.0.0/8"), ("A ", "10.0.0.0/8"), (b"\xff", "10.0.0.0/8"), ("A", ""), ("A", "10.0.0.0/8\n"))]
 SCRIPT = "isis-keys 1\nrouter A\nissue A 0000.0000.0001.00-00 2 live\n"
 REPORT = "isis-report 1\nkey A 0000.0000.0001.00-00 2 live\n"
 # Lines of which much more is shown than a pipe holds, and what is shown.
@@ -153,11 +154,36 @@ def memory(run):
     yield "no memory", told(ended, 7, "out of memory", "")
 
 
+WALK = ["walk", "A", "10.0.2.0/24"]
+WALKED = TWO + "link X A B 10\nprefix B 10.0.2.0/24 10\nrun 60\n"
+WALK_TEXT = "isis-walk 1\nwalk A 10.0.2.0/24 cost 20\nvia B\n"
+
+
+def walks(run):
+    """A walk is written, or a prefix of it; where there is none, no output is touched."""
+    closed = {"preexec_fn": lambda: os.closerange(1, 2)}
+    yield "a walk", told(run(WALK, WALKED), 0, "", WALK_TEXT)
+    yield "a walk, and no output", told(run(WALK, WALKED, **closed), 5, "write fault")
+    yield "no walk, and no output", told(run(WALK, TWO, **closed), 12, "no walk owners")
+    for size in (0, 1, len(WALK_TEXT) - 1):
+        with tempfile.TemporaryFile() as file:
+            ended = run(WALK, WALKED, stdout=file, preexec_fn=limited(size, signal.SIG_IGN))
+            file.seek(0)
+            written = file.read().decode()
+        fault = told(ended, 5, "write fault") or (None if written == WALK_TEXT[:size] else f"wrote {written!r}")
+        yield f"a walk: a file of at most {size} octets", fault
+    folder = os.open(tempfile.gettempdir(), os.O_RDONLY)
+    yield "a walk, and a folder as input", told(run(WALK, "", stdin=folder), 4, "read fault", "")
+    os.close(folder)
+
+
 def launcher(run):
     """The launcher hands on words, input and output, exit code and line; alone it prints help."""
     start = lambda these, text, **how: run(these, text, program=LAUNCHER, **how)
     many = "isis-keys 1\n" + "".join(f"router r{n}\n" for n in range(1025))
     yield "launcher: a script", told(start(["lab"], SCRIPT), 0, "", REPORT)
+    yield "launcher: a walk", told(start(WALK, WALKED), 0, "", WALK_TEXT)
+    yield "launcher: no walk", told(start(WALK, TWO), 12, "no walk owners", "")
     yield "launcher: other words", told(start(["grid", "9"], ""), 2, "usage", "")
     yield "launcher: a refused script", told(start(["lab"], "isis-lab 2\n"), 3, "line 1 head", "")
     yield "launcher: an input too long", told(start(["lab"], "\n" * (INPUT_LIMIT + 1)), 6, "input too long", "")
@@ -171,5 +197,5 @@ def launcher(run):
 
 def faults(run):
     """Each of these runs by name, and what comes out otherwise than it should, if anything does."""
-    for cases in (words, inputs, reads, outputs, writes, killed, readers, memory, launcher):
+    for cases in (words, inputs, reads, outputs, writes, killed, readers, memory, walks, launcher):
         yield from cases(run)
