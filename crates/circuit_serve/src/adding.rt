@@ -39,12 +39,14 @@ pub(crate) fn add_jobs<'a, J: Journal + Drop, P: Port + Drop, T: Pacer, G: Gate>
     Pass<Behind<J>>,
     Vec<Job<'a, Behind<J>, SharedRouter<J>, P, T, G>>,
 )
-    requires lock { IsPassOf shared.now pass × (label pass ≡ 0) × (splits pass ≡ 0) × (own pass ≡ []) }
+    requires lock { IsPassOf shared.now pass × (label pass ≡ 0) × (splits pass ≡ 0)
+        × (own pass ≡ []) }
     requires calm { IsCalm (first_router shared.now) (seen pass) }
     requires turns { turns ≤ 864000 }
     requires left { length ports.items * (turns + turns) ≤ turns_left pass }
     requires room { (jobs.items ≡ []) × (vec_len ports ≤ vec_capacity jobs) }
-    requires there { (length ports.items ≤ length (first_router shared.now).circuits) × (length ports.items ≤ 255) }
+    requires there { (length ports.items ≤ length (first_router shared.now).circuits)
+        × (length ports.items ≤ 255) }
     requires fresh { (i : ℕ) → IfSome (slice_get ports.items i)
         (λ p. IsFresh (P.given p) (P.offered p) (P.asked p)) }
     ensures lock { IsPassOf shared.now result.0 × (label result.0 ≡ 0) × (own result.0 ≡ []) }

@@ -26,9 +26,11 @@ fn gather_one<'a, J: Journal + Drop, P: Port + Drop, T: Pacer + Drop, G: Gate>(
 ) -> (Pass<Behind<J>>, Vec<P>, ServeEnd)
     requires lock { IsPassOf shared.now pass }
     requires room { vec_len ports < vec_capacity ports }
-    requires job { IsRun P.given P.offered P.asked shared.now turns (length ports.items + 1) (started ≡ Started.All)
+    requires job { IsRun P.given P.offered P.asked shared.now turns (length ports.items + 1)
+        (started ≡ Started.All)
         job.task job.pass job.end }
-    requires gathers { Gathers P.given P.offered P.asked turns ports.items pass (end ≡ ServeEnd.Done) }
+    requires gathers { Gathers P.given P.offered P.asked turns ports.items pass
+        (end ≡ ServeEnd.Done) }
     requires end { IsEnd (first_router shared.now) (seen pass) end }
     requires all { end ≡ ServeEnd.Done → started ≡ Started.All }
     ensures lock { IsPassOf shared.now result.0 × (label result.0 ≡ label pass) }
@@ -37,7 +39,8 @@ fn gather_one<'a, J: Journal + Drop, P: Port + Drop, T: Pacer + Drop, G: Gate>(
     ensures ticker { by_label 0 (own result.0) (seen result.0) ≡ by_label 0 (own pass) (seen pass) }
     ensures count { length result.1.items ≡ length ports.items + 1 }
     ensures room { vec_capacity ports ≤ vec_capacity result.1 }
-    ensures gathers { Gathers P.given P.offered P.asked turns result.1.items result.0 (result.2 ≡ ServeEnd.Done) }
+    ensures gathers { Gathers P.given P.offered P.asked turns result.1.items result.0
+        (result.2 ≡ ServeEnd.Done) }
     ensures opened { (o : Opening) → IsOpened P.opening o job.entry.task → (port : P)
         × (result.1.items ≡ ports.items ++ port ∷ []) × (P.opening port ≡ o) }
     ensures whole { HasAll shared.now result.0
@@ -78,7 +81,8 @@ pub fn gather<'a, J: Journal + Drop, P: Port + Drop, T: Pacer + Drop, G: Gate>(
 ) -> (Pass<Behind<J>>, Vec<P>, ServeEnd)
     requires lock { IsPassOf shared.now pass }
     requires room { (ports.items ≡ []) × (vec_len jobs ≤ vec_capacity ports) }
-    requires jobs { (i : ℕ) → IfSome (slice_get jobs.items i) (λ v. IsRun P.given P.offered P.asked shared.now turns
+    requires jobs { (i : ℕ)
+        → IfSome (slice_get jobs.items i) (λ v. IsRun P.given P.offered P.asked shared.now turns
         (i + 1) (started ≡ Started.All) v.task v.pass v.end) }
     requires only { (d : ℕ) → 0 < d → by_label d (own pass) (seen pass) ≡ [] }
     requires end { IsEnd (first_router shared.now) (seen pass) end }
@@ -88,9 +92,11 @@ pub fn gather<'a, J: Journal + Drop, P: Port + Drop, T: Pacer + Drop, G: Gate>(
         ≡ (turns_left pass + length (own pass)) + length jobs.entry.items * (turns + turns) }
     ensures ticker { by_label 0 (own result.0) (seen result.0) ≡ by_label 0 (own pass) (seen pass) }
     ensures count { length result.1.items ≡ length jobs.entry.items }
-    ensures gathers { Gathers P.given P.offered P.asked turns result.1.items result.0 (result.2 ≡ ServeEnd.Done) }
+    ensures gathers { Gathers P.given P.offered P.asked turns result.1.items result.0
+        (result.2 ≡ ServeEnd.Done) }
     ensures opened { (opens : ℕ → Opening)
-        → ((i : ℕ) → IfSome (slice_get jobs.entry.items i) (λ v. IsOpened P.opening (opens i) v.task))
+        → ((i : ℕ)
+        → IfSome (slice_get jobs.entry.items i) (λ v. IsOpened P.opening (opens i) v.task))
         → (i : ℕ) → IfSome (slice_get result.1.items i) (λ p. P.opening p ≡ opens i) }
     ensures whole { 0 < length jobs.entry.items → HasAll shared.now result.0
         → (c : ℕ) → of_label c (seen result.0) ≡ by_label c (own result.0) (seen result.0) }

@@ -37,11 +37,13 @@ pub struct Job<'a, V: Noted, Q, P, T, G> {
 impl<'a, J: Journal + Drop, P: Port, T: Pacer, G: Gate> Worker
     for Job<'a, Behind<J>, SharedRouter<J>, P, T, G> {
     ghost ready = { λ w. ForSome w.pass (λ p. IsPassOf w.shared.now p × (own p ≡ [])
-        × IsReady P.given P.offered P.asked T.given T.ended (first_router w.shared.now) w.task w.turns p
+        × IsReady P.given P.offered P.asked T.given T.ended
+        (first_router w.shared.now) w.task w.turns p
         × IsCalm (first_router w.shared.now) (seen p)) };
 
     ghost works = { λ w v. KeepsOpening P.opening w.task v.task × ForSome w.pass (λ p.
-        JobRan P.given P.offered P.asked T.given T.ended w.shared.now w.turns w.task p v.task v.pass v.end) };
+        JobRan P.given P.offered P.asked T.given T.ended w.shared.now w.turns w.task p
+        v.task v.pass v.end) };
 
     fn work<R: Wait + Clock>(&mut self, rt: &R) {
         let Some(pass) = self.pass.take() else {

@@ -28,7 +28,8 @@ pub fn join_labels<J: Journal + Drop>(
     ensures whole { HasAll shared.now result
         → (c : ℕ) → of_label c (seen result) ≡ by_label c (own result) (seen result) }
     ensures calm { IsCalm (first_router shared.now) (seen first)
-        → IsCalm (first_router shared.now) (seen second) → IsCalm (first_router shared.now) (seen result) }
+        → IsCalm (first_router shared.now) (seen second)
+        → IsCalm (first_router shared.now) (seen result) }
     ensures stops { KeepsStop (first_router shared.now) (seen first) (seen result)
         × KeepsStop (first_router shared.now) (seen second) (seen result) }
 {

@@ -53,10 +53,11 @@ pub fn serve<
     requires left { turns + length ports.items * (20 * turns) ≤ turns_left pass }
     requires fresh { (i : ℕ) → IfSome (slice_get ports.items i)
         (λ p. IsFresh (P.given p) (P.offered p) (P.asked p)) }
-    ensures served { Served P.opening P.given P.offered P.asked shared.now turns ports.items result.1.items
-        (T.given pacer) (T.given result.2) (T.ended result.2) pass result.0 result.3 }
+    ensures served { Served P.opening P.given P.offered P.asked shared.now turns ports.items
+        result.1.items (T.given pacer) (T.given result.2) (T.ended result.2) pass result.0 result.3 }
     ensures later { S.faults spawner.old ≤ S.faults spawner.new }
-    ensures not_started { result.3 ≡ ServeEnd.NotStarted → Rose (S.faults spawner.old) (S.faults spawner.new) }
+    ensures not_started { result.3 ≡ ServeEnd.NotStarted
+        → Rose (S.faults spawner.old) (S.faults spawner.new) }
 {
     let count = ports.len();
     let Ok(jobs) = Vec::with_capacity(alloc, count + 1) else {
@@ -103,9 +104,11 @@ fn start<
     requires room { (jobs.items ≡ []) × (length ports.items + 1 ≤ vec_capacity jobs) }
     ensures count { length result.0.items ≡ length ports.items + 1 }
     ensures jobs { (i : ℕ) → IfSome (slice_get result.0.items i) (λ v. i + 1 < length result.0.items
-        → IsRun P.given P.offered P.asked shared.now (circuit_turns turns) (i + 1) (result.1 ≡ Started.All)
+        → IsRun P.given P.offered P.asked shared.now (circuit_turns turns) (i + 1)
+        (result.1 ≡ Started.All)
         v.task v.pass v.end) }
-    ensures ticker { (i : ℕ) → IfSome (slice_get result.0.items i) (λ v. i + 1 ≡ length result.0.items
+    ensures ticker { (i : ℕ)
+        → IfSome (slice_get result.0.items i) (λ v. i + 1 ≡ length result.0.items
         → TickerRan T.given T.ended shared.now
         (turns_left pass - length ports.items * (circuit_turns turns + circuit_turns turns))
         (T.given pacer) turns (result.1 ≡ Started.All) v.task v.pass v.end) }
@@ -114,7 +117,8 @@ fn start<
         → (i : ℕ) → IfSome (slice_get result.0.items i) (λ v. i + 1 < length result.0.items
         → IsOpened P.opening (opens i) v.task) }
     ensures later { S.faults spawner.old ≤ S.faults spawner.new }
-    ensures refused { result.1 ≡ Started.Refused → Rose (S.faults spawner.old) (S.faults spawner.new) }
+    ensures refused { result.1 ≡ Started.Refused
+        → Rose (S.faults spawner.old) (S.faults spawner.new) }
 {
     let takes = 10 * turns;
     let (rest, jobs) = add_jobs(alloc, shared, gate, pass, ports, jobs, takes);
@@ -143,24 +147,29 @@ fn finish<'a, J: Journal + Drop, P: Port + Drop, T: Pacer + Drop, G: Gate>(
     requires room { (back.items ≡ []) × (length jobs.items ≤ vec_capacity back + 1) }
     requires some { 2 ≤ length jobs.items }
     requires jobs { (i : ℕ) → IfSome (slice_get jobs.items i) (λ v. i + 1 < length jobs.items
-        → IsRun P.given P.offered P.asked shared.now (circuit_turns turns) (i + 1) (started ≡ Started.All)
+        → IsRun P.given P.offered P.asked shared.now (circuit_turns turns) (i + 1)
+        (started ≡ Started.All)
         v.task v.pass v.end) }
-    requires ticker { (share before : ℕ) × ((i : ℕ) → IfSome (slice_get jobs.items i) (λ v. i + 1 ≡ length jobs.items
+    requires ticker { (share before : ℕ)
+        × ((i : ℕ) → IfSome (slice_get jobs.items i) (λ v. i + 1 ≡ length jobs.items
         → TickerRan T.given T.ended shared.now share before turns (started ≡ Started.All)
         v.task v.pass v.end)) }
     ensures lock { IsPassOf shared.now result.0 × (label result.0 ≡ 0) }
     ensures done { (result.3 ≡ ServeEnd.Done → started ≡ Started.All)
         × (result.3 ≡ ServeEnd.NotStarted → started ≡ Started.Refused) }
     ensures end { IsEnd (first_router shared.now) (seen result.0) result.3 }
-    ensures ran { (share before : ℕ) → ((i : ℕ) → IfSome (slice_get jobs.entry.items i) (λ v. i + 1 ≡ length jobs.entry.items
+    ensures ran { (share before : ℕ)
+        → ((i : ℕ) → IfSome (slice_get jobs.entry.items i) (λ v. i + 1 ≡ length jobs.entry.items
         → TickerRan T.given T.ended shared.now share before turns (started ≡ Started.All)
         v.task v.pass v.end))
         → (turns_left result.0 + length (own result.0) + (circuit_turns turns + circuit_turns turns)
         ≡ share + length jobs.entry.items * (circuit_turns turns + circuit_turns turns))
-        × TickerIs (by_label 0 (own result.0) (seen result.0)) before (T.given result.2) (T.ended result.2) turns
+        × TickerIs (by_label 0 (own result.0) (seen result.0)) before (T.given result.2)
+        (T.ended result.2) turns
         (result.3 ≡ ServeEnd.Done) }
     ensures count { length result.1.items + 1 ≡ length jobs.entry.items }
-    ensures gathers { Gathers P.given P.offered P.asked (circuit_turns turns) result.1.items result.0
+    ensures gathers { Gathers P.given P.offered P.asked
+        (circuit_turns turns) result.1.items result.0
         (result.3 ≡ ServeEnd.Done) }
     ensures opened { (opens : ℕ → Opening)
         → ((i : ℕ) → IfSome (slice_get jobs.entry.items i) (λ v. i + 1 < length jobs.entry.items

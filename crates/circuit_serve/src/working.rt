@@ -57,13 +57,15 @@ fn take<J: Journal + Drop, P: Port, R: Wait>(
     port: &mut P,
     opened: Opened,
 ) -> (Pass<Behind<J>>, Option<SubmitFault>)
-    requires lock { IsPassOf shared.now pass × (label pass ≡ opened.circuit) × (0 < turns_left pass) }
+    requires lock { IsPassOf shared.now pass × (label pass ≡ opened.circuit)
+        × (0 < turns_left pass) }
     requires there { Fits (first_router shared.now) (NodeEvent.Take opened) }
     ensures lock { IsPassOf shared.now result.0 × (label result.0 ≡ opened.circuit) }
     ensures left { (turns_left pass ≤ turns_left result.0 + 1)
         × (turns_left result.0 + length (own result.0) ≡ turns_left pass + length (own pass)) }
     ensures ran { (es : List JournalEntry) (n : ℕ) → Only opened.circuit (own pass) (seen pass) es
-        → Runs opened.circuit es (P.given port.old) (P.offered port.old) n false (opened.octets ∷ [])
+        → Runs opened.circuit es (P.given port.old) (P.offered port.old) n false
+        (opened.octets ∷ [])
         → (es' : List JournalEntry) × Only opened.circuit (own result.0) (seen result.0) es'
         × TookIn opened.circuit es' (P.given port.new) (P.offered port.new) n result.1 }
     ensures opening { P.opening port.new ≡ P.opening port.old }
@@ -119,7 +121,8 @@ fn pull<J: Journal + Drop, P: Port, R: Wait>(
     ensures lock { IsPassOf shared.now result.0 × (label result.0 ≡ circuit) }
     ensures left { (turns_left pass ≤ turns_left result.0 + 1)
         × (turns_left result.0 + length (own result.0) ≡ turns_left pass + length (own pass)) }
-    ensures ran { (es : List JournalEntry) (n : ℕ) (waits : Bool) → Only circuit (own pass) (seen pass) es
+    ensures ran { (es : List JournalEntry) (n : ℕ) (waits : Bool)
+        → Only circuit (own pass) (seen pass) es
         → Runs circuit es (P.given port.old) (P.offered port.old) n waits []
         → (es' : List JournalEntry) × Only circuit (own result.0) (seen result.0) es'
         × Pulled circuit es' (P.given port.new) (P.offered port.new) (n + 1) result.1 }
@@ -147,9 +150,11 @@ fn turn<J: Journal + Drop, P: Port, R: Wait + Clock>(
     ensures left { (turns_left pass ≤ turns_left result.0 + 2)
         × (turns_left result.0 + length (own result.0) ≡ turns_left pass + length (own pass)) }
     ensures ran { (es : List JournalEntry) (n : ℕ) → Only circuit (own pass) (seen pass) es
-        → Ran circuit es (P.given port.old) (P.offered port.old) (P.asked port.old) n None → n + 1 < 2 ^ 64
+        → Ran circuit es (P.given port.old) (P.offered port.old) (P.asked port.old) n None
+        → n + 1 < 2 ^ 64
         → (es' : List JournalEntry) × Only circuit (own result.0) (seen result.0) es'
-        × Ran circuit es' (P.given port.new) (P.offered port.new) (P.asked port.new) (n + 1) result.1 }
+        × Ran circuit es' (P.given port.new) (P.offered port.new) (P.asked port.new)
+        (n + 1) result.1 }
     ensures opening { P.opening port.new ≡ P.opening port.old }
     ensures marked { IsMarked (first_router shared.now) (seen result.0) result.1 }
 {
@@ -171,7 +176,8 @@ pub fn work<J: Journal + Drop, P: Port, G: Gate, R: Wait + Clock>(
     circuit: u8,
     turns: u64,
 ) -> (Pass<Behind<J>>, Option<SubmitFault>)
-    requires lock { IsPassOf shared.now pass × (label pass ≡ circuit) × (turns + turns ≤ turns_left pass) }
+    requires lock { IsPassOf shared.now pass × (label pass ≡ circuit)
+        × (turns + turns ≤ turns_left pass) }
     requires calm { IsCalm (first_router shared.now) (seen pass) }
     requires there { IsThere (first_router shared.now) circuit }
     requires fresh { own pass ≡ [] }

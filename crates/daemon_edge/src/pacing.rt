@@ -22,7 +22,8 @@ pub trait Pacer {
 
     /// The next second. It may wait.
     fn next<R: Clock>(&mut self, rt: &R) -> Pace
-        ensures { Paces (given self.old) (ended self.old) (given self.new) (ended self.new) result };
+        ensures { Paces (given self.old) (ended self.old) (given self.new)
+            (ended self.new) result };
 }
 
 /// What each turn of a circuit passes before it begins and after it. It changes no answer (own).

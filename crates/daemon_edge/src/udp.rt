@@ -164,7 +164,8 @@ impl Ports for UdpPorts {
 
     ghost opened = { λ p. p.opened };
 
-    ghost closed = { λ p. Some (map (λ (c : declared.ClosedUdp). closing (opened_at c.circuit c.place) None None c.asked)
+    ghost closed = { λ p. Some
+        (map (λ (c : declared.ClosedUdp). closing (opened_at c.circuit c.place) None None c.asked)
         p.closed.items) };
 
     ghost faults = { λ p. p.faults };

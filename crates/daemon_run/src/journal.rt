@@ -41,11 +41,15 @@ pub(crate) fn serve_with_journal<
         × (length ports.items ≤ 64) }
     requires fresh { (i : ℕ) → IfSome (slice_get ports.items i)
         (λ p. IsFresh (Q.given p) (Q.offered p) (Q.asked p)) }
-    ensures ran { JournalRan Q.opening Q.given Q.offered Q.asked router turns ports.items result.0.items
-        (T.given pacer) (T.given result.2) (T.ended result.2) (O.held output) (O.held result.1) result.3 }
-    ensures later { (O.faults output ≤ O.faults result.1) × (S.faults spawner.old ≤ S.faults spawner.new) }
-    ensures write_fault { result.3 ≡ DaemonEnd.WriteFault → Rose (O.faults output) (O.faults result.1) }
-    ensures not_started { result.3 ≡ DaemonEnd.NotStarted → Rose (S.faults spawner.old) (S.faults spawner.new) }
+    ensures ran { JournalRan Q.opening Q.given Q.offered Q.asked router turns ports.items
+        result.0.items (T.given pacer) (T.given result.2) (T.ended result.2)
+        (O.held output) (O.held result.1) result.3 }
+    ensures later { (O.faults output ≤ O.faults result.1)
+        × (S.faults spawner.old ≤ S.faults spawner.new) }
+    ensures write_fault { result.3 ≡ DaemonEnd.WriteFault
+        → Rose (O.faults output) (O.faults result.1) }
+    ensures not_started { result.3 ≡ DaemonEnd.NotStarted
+        → Rose (S.faults spawner.old) (S.faults spawner.new) }
 {
     let journal = match TextJournal::open(output) {
         Ok(journal) => journal,
@@ -86,7 +90,8 @@ fn serve_journal<
     ensures ran { (held : Option (List ℕ)) → Wrote held (O.held journal.sink) head_text
         → JournalRan Q.opening Q.given Q.offered Q.asked router turns ports.items result.0.items
         (T.given pacer) (T.given result.2) (T.ended result.2) held (O.held result.1) result.3 }
-    ensures later { (O.faults journal.sink ≤ O.faults result.1) × (S.faults spawner.old ≤ S.faults spawner.new) }
+    ensures later { (O.faults journal.sink ≤ O.faults result.1)
+        × (S.faults spawner.old ≤ S.faults spawner.new) }
     ensures write_fault { result.3 ≡ DaemonEnd.WriteFault
         → Rose (O.faults journal.sink) (O.faults result.1) }
     ensures not_started { result.3 ≡ DaemonEnd.NotStarted

@@ -42,7 +42,8 @@ pub(crate) fn close_ports<P: Ports>(ports: &mut P, opened: Vec<P::Port>)
     requires few { length opened.items ≤ 255 }
     ensures count { P.opened ports.new ≡ P.opened ports.old }
     ensures closed { Adds (P.closed ports.old) (P.closed ports.new)
-        (map (λ p. closing (P.Port.opening p) (P.Port.given p) (P.Port.offered p) (P.Port.asked p)) opened.items) }
+        (map (λ p. closing (P.Port.opening p) (P.Port.given p) (P.Port.offered p)
+        (P.Port.asked p)) opened.items) }
     ensures faults { P.faults ports.new ≡ P.faults ports.old }
 {
     let mut circuit: u8 = 0;

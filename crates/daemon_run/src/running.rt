@@ -44,14 +44,18 @@ pub fn run_daemon<
     requires circuits { (length places ≡ length config.circuits) × (1 ≤ length places) }
     requires boot { (1 ≤ boot) × (boot ≤ 16777215) }
     requires turns { (1 ≤ turns) × (turns ≤ 86400) }
-    ensures ran { DaemonRan config places boot turns (T.given pacer) (T.given result.1) (T.ended result.1)
+    ensures ran { DaemonRan config places boot turns (T.given pacer) (T.given result.1)
+        (T.ended result.1)
         (O.held output) (O.held result.0) (P.opened ports.old) (P.opened ports.new)
         (P.closed ports.old) (P.closed ports.new) result.2 }
-    ensures later { (O.faults output ≤ O.faults result.0) × (P.faults ports.old ≤ P.faults ports.new)
+    ensures later { (O.faults output ≤ O.faults result.0)
+        × (P.faults ports.old ≤ P.faults ports.new)
         × (S.faults spawner.old ≤ S.faults spawner.new) }
-    ensures write_fault { result.2 ≡ DaemonEnd.WriteFault → Rose (O.faults output) (O.faults result.0) }
+    ensures write_fault { result.2 ≡ DaemonEnd.WriteFault
+        → Rose (O.faults output) (O.faults result.0) }
     ensures not_started { result.2 ≡ DaemonEnd.NotStarted
-        → Rose (S.faults spawner.old) (S.faults spawner.new) ⊎ Rose (P.faults ports.old) (P.faults ports.new) }
+        → Rose (S.faults spawner.old) (S.faults spawner.new)
+        ⊎ Rose (P.faults ports.old) (P.faults ports.new) }
 {
     let Some(router) = first_router(alloc, config, boot) else {
         drop(places);

@@ -165,10 +165,12 @@ fn entry_of(head: &Head, octets: Octets) -> Entry
 fn keep(alloc: Global, store: &mut Store, head: &Head, octets: &[u8]) -> Result<(), StoreFault>
     requires number { 0 < head.now.number }
     requires short { length octets.now ≤ 65535 }
-    ensures short { AllByRecursion IsShort store.old.entries → AllByRecursion IsShort store.new.entries }
+    ensures short { AllByRecursion IsShort store.old.entries
+        → AllByRecursion IsShort store.new.entries }
     ensures ok { OnOk result ((entry : Entry) × IsEntryOf entry head.now octets.now
         × (store.new.entries ≡ put store.old.entries head.now.id entry)) }
-    ensures full { (result ≡ Err fault.Full) ↔ ((find store.old.entries (lsp_number head.now.id) ≡ None)
+    ensures full { (result ≡ Err fault.Full)
+        ↔ ((find store.old.entries (lsp_number head.now.id) ≡ None)
         × (65536 ≤ length store.old.entries)) }
     ensures err { OnErr result (store.new ≡ store.old) }
 {
@@ -217,7 +219,8 @@ impl Capture {
         ensures kept { result ≡ Ok Kept → (entry : Entry) × IsEntryOf entry head.now octets.now
             × (self.new ≡ record self.old { entries = put self.old.entries head.now.id entry }) }
         ensures other { IfOk result (λ took. (took ≡ Kept → ⊥) → self.new ≡ self.old) }
-        ensures full { result ≡ Err fault.Full → (took_lsp self.old octets.now (Some head.now) ≡ Kept)
+        ensures full { result ≡ Err fault.Full
+            → (took_lsp self.old octets.now (Some head.now) ≡ Kept)
             × IsFullFor self.old head.now }
         ensures room { result ≡ Ok Kept → IsFullFor self.old head.now → ⊥ }
         ensures err { OnErr result (self.new ≡ self.old) }
@@ -244,7 +247,8 @@ impl Capture {
     /// would be kept, its ID isn't held, and 65,536 are.
     pub fn take(&mut self, octets: &[u8]) -> Result<Took, StoreFault>
         ensures took { IfOk result (λ took. took ≡ took_of self.old octets.now) }
-        ensures kept { result ≡ Ok Kept → KeepsBy self.old self.new octets.now (decoded octets.now) }
+        ensures kept { result ≡ Ok Kept
+            → KeepsBy self.old self.new octets.now (decoded octets.now) }
         ensures other { IfOk result (λ took. (took ≡ Kept → ⊥) → self.new ≡ self.old) }
         ensures full { result ≡ Err fault.Full → (took_of self.old octets.now ≡ Kept)
             × IsFullBy self.old (decoded octets.now) }

@@ -45,7 +45,8 @@ pub(crate) fn daemon<
     ensures write_fault { result.2 ≡ Status.WriteFault
         → Rose (O.faults output) (O.faults result.0) }
     ensures not_started { result.2 ≡ Status.NotStarted
-        → Rose (S.faults spawner.old) (S.faults spawner.new) ⊎ Rose (P.faults ports.old) (P.faults ports.new) }
+        → Rose (S.faults spawner.old) (S.faults spawner.new)
+        ⊎ Rose (P.faults ports.old) (P.faults ports.new) }
     ensures later { (I.faults input.old ≤ I.faults input.new)
         × (O.faults output ≤ O.faults result.0) × (P.faults ports.old ≤ P.faults ports.new)
         × (S.faults spawner.old ≤ S.faults spawner.new) }
@@ -63,8 +64,10 @@ pub(crate) fn daemon<
       closed' = P.closed ports.new;
     }) result.2 }
     ensures complete { IsSomeAnd (I.left input.old) IsConfiguration
-        → ¬ Rose (I.faults input.old) (I.faults input.new) → ¬ Rose (O.faults output) (O.faults result.0)
-        → ¬ Rose (P.faults ports.old) (P.faults ports.new) → ¬ Rose (S.faults spawner.old) (S.faults spawner.new)
+        → ¬ Rose (I.faults input.old) (I.faults input.new)
+        → ¬ Rose (O.faults output) (O.faults result.0)
+        → ¬ Rose (P.faults ports.old) (P.faults ports.new)
+        → ¬ Rose (S.faults spawner.old) (S.faults spawner.new)
         → IsDoneUnlessMemory result.2 }
 {
     let octets = match read_whole(alloc, input, INPUT_LIMIT) {

@@ -57,22 +57,27 @@ pub fn run<
 ) -> (O, T, Status)
     ensures usage { (result.2 ≡ Status.Usage) ↔ AreNone (map string_bytes words.now) }
     ensures untouched { result.2 ≡ Status.Usage
-        → (I.left input.new ≡ I.left input.old) × (I.faults input.new ≡ I.faults input.old) × (result.0 ≡ output) }
+        → (I.left input.new ≡ I.left input.old) × (I.faults input.new ≡ I.faults input.old)
+        × (result.0 ≡ output) }
     ensures ends { IfSome (command_of (map string_bytes words.now))
-        (λ command. Ends command (I.left input.old) (I.left input.new) (O.held output) (O.held result.0) result.2) }
+        (λ command. Ends command (I.left input.old) (I.left input.new) (O.held output)
+        (O.held result.0) result.2) }
     ensures taken { IsTakenWithin (I.left input.old) (I.left input.new) }
     ensures headline { result.2 ≡ Status.Done
         → command_of (map string_bytes words.now) ≡ Some command.Lab
-        → IfSome (I.left input.old) (λ octets. IsHeadline octets (O.held output) (O.held result.0)) }
+        → IfSome (I.left input.old)
+        (λ octets. IsHeadline octets (O.held output) (O.held result.0)) }
     ensures read_fault { result.2 ≡ Status.ReadFault
         → Rose (I.faults input.old) (I.faults input.new) }
     ensures write_fault { result.2 ≡ Status.WriteFault
         → Rose (O.faults output) (O.faults result.0) }
     ensures not_started { result.2 ≡ Status.NotStarted
-        → Rose (S.faults spawner.old) (S.faults spawner.new) ⊎ Rose (P.faults ports.old) (P.faults ports.new) }
+        → Rose (S.faults spawner.old) (S.faults spawner.new)
+        ⊎ Rose (P.faults ports.old) (P.faults ports.new) }
     ensures complete { IfSome (command_of (map string_bytes words.now))
         (λ command. IsSomeAnd (I.left input.old) (IsTaken command)
-        → ¬ Rose (I.faults input.old) (I.faults input.new) → ¬ Rose (O.faults output) (O.faults result.0)
+        → ¬ Rose (I.faults input.old) (I.faults input.new)
+        → ¬ Rose (O.faults output) (O.faults result.0)
         → IsDoneUnlessMemory result.2) }
     ensures later { (I.faults input.old ≤ I.faults input.new)
         × (O.faults output ≤ O.faults result.0) × (P.faults ports.old ≤ P.faults ports.new)
@@ -103,8 +108,10 @@ pub fn run<
         }) result.2) }
     ensures daemon_complete { IfSome (daemon_of (map string_bytes words.now)) (λ asked.
         IsSomeAnd (I.left input.old) IsConfiguration
-        → ¬ Rose (I.faults input.old) (I.faults input.new) → ¬ Rose (O.faults output) (O.faults result.0)
-        → ¬ Rose (P.faults ports.old) (P.faults ports.new) → ¬ Rose (S.faults spawner.old) (S.faults spawner.new)
+        → ¬ Rose (I.faults input.old) (I.faults input.new)
+        → ¬ Rose (O.faults output) (O.faults result.0)
+        → ¬ Rose (P.faults ports.old) (P.faults ports.new)
+        → ¬ Rose (S.faults spawner.old) (S.faults spawner.new)
         → IsDoneUnlessMemory result.2) }
     ensures aside { daemon_of (map string_bytes words.now) ≡ None
         → (ports.new ≡ ports.old) × (spawner.new ≡ spawner.old) × (result.1 ≡ pacer) }

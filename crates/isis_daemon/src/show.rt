@@ -27,7 +27,8 @@ pub fn show<I: Source, O: Sink>(alloc: Global, input: &mut I, output: &mut O) ->
     ensures write_fault { result ≡ Status.WriteFault
         → Rose (O.faults output.old) (O.faults output.new) }
     ensures complete { IsSomeAnd (I.left input.old) (IsTaken Command.Show)
-        → ¬ Rose (I.faults input.old) (I.faults input.new) → ¬ Rose (O.faults output.old) (O.faults output.new)
+        → ¬ Rose (I.faults input.old) (I.faults input.new)
+        → ¬ Rose (O.faults output.old) (O.faults output.new)
         → IsDoneUnlessMemory result }
     ensures later { (I.faults input.old ≤ I.faults input.new)
         × (O.faults output.old ≤ O.faults output.new) }

@@ -28,20 +28,24 @@ pub(crate) fn run_text<I: Source, O: Sink>(
 ) -> (O, Status)
     ensures usage { (result.1 ≡ Status.Usage) ↔ AreNoText (map string_bytes words.now) }
     ensures untouched { result.1 ≡ Status.Usage
-        → (I.left input.new ≡ I.left input.old) × (I.faults input.new ≡ I.faults input.old) × (result.0 ≡ output) }
+        → (I.left input.new ≡ I.left input.old) × (I.faults input.new ≡ I.faults input.old)
+        × (result.0 ≡ output) }
     ensures ends { IfSome (command_of (map string_bytes words.now))
-        (λ command. Ends command (I.left input.old) (I.left input.new) (O.held output) (O.held result.0) result.1) }
+        (λ command. Ends command (I.left input.old) (I.left input.new) (O.held output)
+        (O.held result.0) result.1) }
     ensures taken { IsTakenWithin (I.left input.old) (I.left input.new) }
     ensures headline { result.1 ≡ Status.Done
         → command_of (map string_bytes words.now) ≡ Some Command.Lab
-        → IfSome (I.left input.old) (λ octets. IsHeadline octets (O.held output) (O.held result.0)) }
+        → IfSome (I.left input.old)
+        (λ octets. IsHeadline octets (O.held output) (O.held result.0)) }
     ensures read_fault { result.1 ≡ Status.ReadFault
         → Rose (I.faults input.old) (I.faults input.new) }
     ensures write_fault { result.1 ≡ Status.WriteFault
         → Rose (O.faults output) (O.faults result.0) }
     ensures complete { IfSome (command_of (map string_bytes words.now))
         (λ command. IsSomeAnd (I.left input.old) (IsTaken command)
-        → ¬ Rose (I.faults input.old) (I.faults input.new) → ¬ Rose (O.faults output) (O.faults result.0)
+        → ¬ Rose (I.faults input.old) (I.faults input.new)
+        → ¬ Rose (O.faults output) (O.faults result.0)
         → IsDoneUnlessMemory result.1) }
     ensures later { (I.faults input.old ≤ I.faults input.new)
         × (O.faults output ≤ O.faults result.0) }
@@ -86,7 +90,8 @@ pub(crate) fn execute<I: Source, O: Sink>(
     ensures write_fault { result ≡ Status.WriteFault
         → Rose (O.faults output.old) (O.faults output.new) }
     ensures complete { IsSomeAnd (I.left input.old) (IsTaken command)
-        → ¬ Rose (I.faults input.old) (I.faults input.new) → ¬ Rose (O.faults output.old) (O.faults output.new)
+        → ¬ Rose (I.faults input.old) (I.faults input.new)
+        → ¬ Rose (O.faults output.old) (O.faults output.new)
         → IsDoneUnlessMemory result }
     ensures later { (I.faults input.old ≤ I.faults input.new)
         × (O.faults output.old ≤ O.faults output.new) }

@@ -116,7 +116,8 @@ fn add_block(
 
 /// The routes of each router.
 fn routes_of<'n>(alloc: Global, net: &'n Network) -> Result<Vec<&'n Routes>, OutOfMemory>
-    ensures all { IfOk result (λ routes. AreAllRoutes net.now.seen.routers (routes_of routes.items)) }
+    ensures all { IfOk result
+        (λ routes. AreAllRoutes net.now.seen.routers (routes_of routes.items)) }
     ensures count { IfOk result (λ routes. length routes.items ≡ length net.now.seen.routers) }
 {
     let mut routes = Vec::new(alloc);

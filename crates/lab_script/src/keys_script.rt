@@ -89,7 +89,8 @@ impl<'a> KeysScript<'a> {
 
     /// Takes a line.
     pub(crate) fn hear(&mut self, number: usize, text: &'a [u8]) -> Result<(), ScriptFault>
-        ensures { Gives result self.new (script.hear_line self.old number (line_of (words_of text.now))) }
+        ensures { Gives result self.new
+            (script.hear_line self.old number (line_of (words_of text.now))) }
     {
         let Some(line) = read_line(text) else {
             return refused(number, Reason::Form);

@@ -207,7 +207,8 @@ fn count_all(counts: &mut Vec<usize>, routers: &[usize])
     requires many { length routers.now ≤ 64 }
     requires few { (router : ℕ) → slice_index_or counts.old.items router 0 ≤ 64 }
     ensures { (router : ℕ) → slice_index_or counts.new.items router 0
-        ≡ slice_index_or counts.old.items router 0 + count_by (λ other. other == router) routers.now }
+        ≡ slice_index_or counts.old.items router 0
+        + count_by (λ other. other == router) routers.now }
 {
     for router in routers {
         count_one(counts, *router);

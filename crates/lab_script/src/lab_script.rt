@@ -185,7 +185,8 @@ impl<'a> LabScript<'a> {
     ) -> Result<(), ScriptFault>
         requires { metric ≤ 16777215 }
         ensures { Gives result self.new
-            (judged.with_line self.old number (line.Link name.entry first.entry second.entry metric)) }
+            (judged.with_line self.old number
+            (line.Link name.entry first.entry second.entry metric)) }
     {
         if self.has_begun() {
             return refused(number, Reason::Late);
@@ -362,7 +363,8 @@ impl<'a> LabScript<'a> {
     /// The circuit of a router on a link, by their names.
     fn circuit_at(&self, router: &Name<'a>, link: &Name<'a>) -> Result<Circuit, Reason>
         ensures value { result ≡ judged.circuit_at self.now router.now link.now }
-        ensures there { IfOk result (λ at. IsEnd (length self.now.routers) self.now.links at.router at.link
+        ensures there { IfOk result
+            (λ at. IsEnd (length self.now.routers) self.now.links at.router at.link
             × IsCircuit (length self.now.routers) self.now.links at.router at.place) }
     {
         let router = self.router_at(router)?;
@@ -383,7 +385,8 @@ impl<'a> LabScript<'a> {
     /// What a router's key is for.
     fn scope(&self, router: &Name<'a>, scope: &NamedScope<'a>) -> Result<(usize, KeyScope), Reason>
         ensures value { result ≡ judged.scope_at self.now router.now scope.now }
-        ensures there { IfOk result (λ at. IsKeyScope (length self.now.routers) self.now.links at.0 at.1) }
+        ensures there { IfOk result
+            (λ at. IsKeyScope (length self.now.routers) self.now.links at.0 at.1) }
     {
         match scope {
             NamedScope::Area => {
@@ -404,7 +407,8 @@ impl<'a> LabScript<'a> {
     /// The router that a run leaves out.
     fn except(&self, except: &Option<Name<'a>>) -> Result<Option<usize>, Reason>
         ensures value { result ≡ judged.except_at self.now except.now }
-        ensures there { IfOk result (λ except. IfSome except (λ router. router < length self.now.routers)) }
+        ensures there { IfOk result
+            (λ except. IfSome except (λ router. router < length self.now.routers)) }
     {
         match except {
             Some(router) => {

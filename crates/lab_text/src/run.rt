@@ -48,7 +48,8 @@ pub fn run_script<O: Sink>(alloc: Global, script: &Script<'_>, out: &mut O) -> R
 
 /// Runs a keys script and writes its whole report.
 fn run_keys<O: Sink>(alloc: Global, script: &KeysScript<'_>, out: &mut O) -> Result<(), RunFault>
-    ensures ends { ReportEnds (IsReport (Keys script.now)) (keys_outcome script.now) (O.held out.old)
+    ensures ends { ReportEnds (IsReport (Keys script.now)) (keys_outcome script.now)
+        (O.held out.old)
         (O.held out.new) result }
     ensures cause { result ≡ Err RunFault.Write → Rose (O.faults out.old) (O.faults out.new) }
     ensures later { O.faults out.old ≤ O.faults out.new }

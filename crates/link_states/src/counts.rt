@@ -35,7 +35,8 @@ pub(crate) fn count_end(
     requires { place < 64 }
     ensures flags { result.flags ≡ count_where (is_flagged place) (book_of own.now).cells }
     ensures ahead { result.ahead
-        ≡ count_where (is_ahead gone.now other_gone.now (book_of other.now)) (book_of own.now).cells }
+        ≡ count_where (is_ahead gone.now other_gone.now (book_of other.now))
+        (book_of own.now).cells }
 {
     let (mut flags, mut ahead) = (0usize, 0usize);
     let mut cells = Cells::new(own);
@@ -72,7 +73,8 @@ fn has_srm(row: &FlagRow, place: u8) -> bool
 
 /// Whether an end that has this key of an LSP ID is ahead of the other, which neither let go.
 fn leads(id: LspId, key: Option<Key>, other: &Book, gone: &LetGo, other_gone: &LetGo) -> bool
-    ensures { result ≡ (not (lets_go gone.now (lsp_number id) || lets_go other_gone.now (lsp_number id))
+    ensures { result
+        ≡ (not (lets_go gone.now (lsp_number id) || lets_go other_gone.now (lsp_number id))
         && nat_lt (rank_at (book_of other.now) (lsp_number id)) (rank key)) }
 {
     match newer(key, other.key(id)) {

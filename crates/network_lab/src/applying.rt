@@ -239,7 +239,8 @@ impl Network {
         requires happens { IfSome (nth self.old.seen.routers router) (λ r. Happen self.old.seen
             (moved_in self.old.seen router (Some link) (taking r (circuit - 1) octets) r None)) }
         ensures { IfSome (nth self.old.seen.routers router) (λ r. Taken self.old self.new
-            (moved_in self.old.seen router (Some link) (taking r (circuit - 1) octets) r None) result) }
+            (moved_in self.old.seen router (Some link)
+            (taking r (circuit - 1) octets) r None) result) }
     {
         let event = taking_at(&self.routers, router, circuit, octets);
         self.take(router, Some(link), event, None)

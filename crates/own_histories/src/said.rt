@@ -21,7 +21,8 @@ pub(crate) struct Said {
 impl Said {
     /// A copy of contents.
     pub(crate) fn new(alloc: Global, flags: u8, tlvs: &[u8]) -> Result<Said, OutOfMemory>
-        ensures { IfOk result (λ said. contents_of said ≡ record { flags = flags; tlvs = tlvs.now }) }
+        ensures { IfOk result
+            (λ said. contents_of said ≡ record { flags = flags; tlvs = tlvs.now }) }
     {
         let mut octets = Octets::new(alloc);
         octets.extend(tlvs)?;
@@ -63,7 +64,8 @@ pub(crate) fn live_number(key: Option<Key>) -> Option<u32>
 
 /// The number of a key that isn't purged.
 fn number_unless(key: Key) -> Option<u32>
-    ensures { result ≡ (if is_live (rank (Some key)) then Some (number_of (rank (Some key))) else None) }
+    ensures { result
+        ≡ (if is_live (rank (Some key)) then Some (number_of (rank (Some key))) else None) }
 {
     if key.purged {
         return None;

@@ -28,7 +28,8 @@ pub(crate) fn idle_at(circuits: &mut Vec<Circuit>, system: SystemId, circuit: u8
         → IfSome (nth circuits.old.items (circuit - 1)) (λ c. circuits.new.items
         ≡ with_nth circuits.old.items (circuit - 1) (idle config (circuit - 1) c)) }
     ensures same { map desk_circuit circuits.new.items ≡ map desk_circuit circuits.old.items }
-    ensures fit { AllByRecursion IsFit circuits.old.items → AllByRecursion IsFit circuits.new.items }
+    ensures fit { AllByRecursion IsFit circuits.old.items
+        → AllByRecursion IsFit circuits.new.items }
 {
     circuits[usize::from(circuit) - 1].idle(system, circuit);
 }
@@ -39,7 +40,8 @@ pub(crate) fn second_at(circuits: &mut Vec<Circuit>, circuit: u8)
     ensures state { IfSome (nth circuits.old.items (circuit - 1)) (λ c. circuits.new.items
         ≡ with_nth circuits.old.items (circuit - 1) (later c)) }
     ensures same { map desk_circuit circuits.new.items ≡ map desk_circuit circuits.old.items }
-    ensures fit { AllByRecursion IsFit circuits.old.items → AllByRecursion IsFit circuits.new.items }
+    ensures fit { AllByRecursion IsFit circuits.old.items
+        → AllByRecursion IsFit circuits.new.items }
 {
     circuits[usize::from(circuit) - 1].second();
 }
@@ -50,7 +52,8 @@ pub(crate) fn hello_sent_at(circuits: &mut Vec<Circuit>, circuit: u8)
     ensures state { IfSome (nth circuits.old.items (circuit - 1)) (λ c. circuits.new.items
         ≡ with_nth circuits.old.items (circuit - 1) (record c { hello = 10 })) }
     ensures same { map desk_circuit circuits.new.items ≡ map desk_circuit circuits.old.items }
-    ensures fit { AllByRecursion IsFit circuits.old.items → AllByRecursion IsFit circuits.new.items }
+    ensures fit { AllByRecursion IsFit circuits.old.items
+        → AllByRecursion IsFit circuits.new.items }
 {
     circuits[usize::from(circuit) - 1].hello_sent();
 }
@@ -62,7 +65,8 @@ pub(crate) fn csnp_sent_at(circuits: &mut Vec<Circuit>, circuit: u8, level: Leve
         ≡ with_nth circuits.old.items (circuit - 1)
         (pulls.with_part c level (pulls.csnp_sent c.lan (at c.levels level)))) }
     ensures same { map desk_circuit circuits.new.items ≡ map desk_circuit circuits.old.items }
-    ensures fit { AllByRecursion IsFit circuits.old.items → AllByRecursion IsFit circuits.new.items }
+    ensures fit { AllByRecursion IsFit circuits.old.items
+        → AllByRecursion IsFit circuits.new.items }
 {
     circuits[usize::from(circuit) - 1].csnp_sent(level);
 }
@@ -74,7 +78,8 @@ pub(crate) fn answer_sent_at(circuits: &mut Vec<Circuit>, circuit: u8, level: Le
         ≡ with_nth circuits.old.items (circuit - 1)
         (pulls.with_part c level (record (at c.levels level) { psnp = 2 }))) }
     ensures same { map desk_circuit circuits.new.items ≡ map desk_circuit circuits.old.items }
-    ensures fit { AllByRecursion IsFit circuits.old.items → AllByRecursion IsFit circuits.new.items }
+    ensures fit { AllByRecursion IsFit circuits.old.items
+        → AllByRecursion IsFit circuits.new.items }
 {
     circuits[usize::from(circuit) - 1].answer_sent(level);
 }
@@ -86,7 +91,8 @@ pub(crate) fn set_metric_at(circuits: &mut Vec<Circuit>, circuit: u8, metric: u3
     ensures state { IfSome (nth circuits.old.items (circuit - 1)) (λ c. circuits.new.items
         ≡ with_nth circuits.old.items (circuit - 1) (record c { metric = metric })) }
     ensures same { map desk_circuit circuits.new.items ≡ map desk_circuit circuits.old.items }
-    ensures fit { AllByRecursion IsFit circuits.old.items → AllByRecursion IsFit circuits.new.items }
+    ensures fit { AllByRecursion IsFit circuits.old.items
+        → AllByRecursion IsFit circuits.new.items }
 {
     circuits[usize::from(circuit) - 1].set_metric(metric);
 }
@@ -116,7 +122,8 @@ pub(crate) fn hear_point_at(
         (model.common_of config (hello_of hello.now)) (hello_of hello.now) shake.extended)))))) }
     ensures err { OnErr result (circuits.new.items ≡ circuits.old.items) }
     ensures same { map desk_circuit circuits.new.items ≡ map desk_circuit circuits.old.items }
-    ensures fit { AllByRecursion IsFit circuits.old.items → AllByRecursion IsFit circuits.new.items }
+    ensures fit { AllByRecursion IsFit circuits.old.items
+        → AllByRecursion IsFit circuits.new.items }
 {
     circuits[usize::from(circuit) - 1].hear_point(alloc, own, hello)
 }
@@ -144,7 +151,8 @@ pub(crate) fn hear_lan_at(
         (alone level (model.common_of config (hello_of hello.now))) (hello_of hello.now))))) }
     ensures err { OnErr result (circuits.new.items ≡ circuits.old.items) }
     ensures same { map desk_circuit circuits.new.items ≡ map desk_circuit circuits.old.items }
-    ensures fit { AllByRecursion IsFit circuits.old.items → AllByRecursion IsFit circuits.new.items }
+    ensures fit { AllByRecursion IsFit circuits.old.items
+        → AllByRecursion IsFit circuits.new.items }
 {
     circuits[usize::from(circuit) - 1].hear_lan(alloc, own, level, hello)
 }

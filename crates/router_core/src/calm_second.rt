@@ -82,7 +82,8 @@ impl Machine {
         requires following { IsFollowing (outlook_of self.now) following.now }
         requires marked { marked ≡ true
             → IsSettledAt self.now level × (faces circuits.now ≡ faces self.now.circuits) }
-        ensures calm { (r : Router) → r.config ≡ self.now.config → faces r.circuits ≡ faces circuits.now
+        ensures calm { (r : Router) → r.config ≡ self.now.config
+            → faces r.circuits ≡ faces circuits.now
             → IfOk result (λ o. IfSome o (λ settled.
             level_later (level_of self.now level) level circuits.now ≡ own.renew given r
             level (level_later (level_of self.now level) level circuits.now)

@@ -73,7 +73,8 @@ impl Machine {
         requires room { no_room (level_of self.old level) self.old.config.system (heard_of lsp.now)
             ≡ false }
         requires answer { table.met (level_of self.old level).book
-            (whose_of self.old.config.system (level_of self.old level) (lsp_number lsp.now.entry.id))
+            (whose_of self.old.config.system (level_of self.old level)
+            (lsp_number lsp.now.entry.id))
             (heard_of lsp.now) ≡ case.Outbid → IsSome answer }
         requires draft { IfSome answer (λ draft. draft.id ≡ lsp.now.entry.id) }
         requires said { IfSome answer (IsAnswer (at self.old.config.keys level)
@@ -82,10 +83,12 @@ impl Machine {
             (λ draft. is_some (at self.old.config.keys level) ≡ draft.keyed) }
         ensures state { OnOk result (self.new ≡ with_level self.old level
             (takes.take_lsp (scene_of given self.old level) (level_of self.old level) (circuit - 1)
-            (whose_of self.old.config.system (level_of self.old level) (lsp_number lsp.now.entry.id))
+            (whose_of self.old.config.system (level_of self.old level)
+            (lsp_number lsp.now.entry.id))
             (heard_of lsp.now))) }
         ensures met { IfOk result (λ row. row ≡ answer_of (table.met (level_of self.old level).book
-            (whose_of self.old.config.system (level_of self.old level) (lsp_number lsp.now.entry.id))
+            (whose_of self.old.config.system (level_of self.old level)
+            (lsp_number lsp.now.entry.id))
             (heard_of lsp.now)) lsp.now) }
         ensures err { OnErr result (self.new ≡ self.old) }
     {

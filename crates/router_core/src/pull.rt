@@ -130,7 +130,8 @@ fn put_level(
     requires few { sender.now.circuit ≤ 64 }
     requires good { IsGoodBook (book_of book.now) }
     requires may { MaySend (sender.now.circuit - 1) book.now.store.entries book.now.rows }
-    ensures { (config : Config) (boot : ℕ) → Sends sender.now config boot (sender.now.circuit - 1) on.now
+    ensures { (config : Config) (boot : ℕ)
+        → Sends sender.now config boot (sender.now.circuit - 1) on.now
         → OnOk result (out.new ≡ out.old ++ all_octets sender.now
         (open_due config (sender.now.circuit - 1) on.now level (book_of book.now))) }
 {
@@ -153,7 +154,8 @@ fn put_due_csnps(
 ) -> Result<(), OutOfMemory>
     requires here { 1 ≤ sender.now.circuit }
     requires good { IsGoodBook (book_of book.now) }
-    ensures { (config : Config) (boot : ℕ) → Sends sender.now config boot (sender.now.circuit - 1) on.now
+    ensures { (config : Config) (boot : ℕ)
+        → Sends sender.now config boot (sender.now.circuit - 1) on.now
         → OnOk result (out.new ≡ out.old ++ all_octets sender.now
         (csnps_due config (sender.now.circuit - 1) on.now level (book_of book.now))) }
 {

@@ -40,7 +40,8 @@ impl Machine {
         requires few { length circuits.now ≤ 64 }
         requires fit { AllByRecursion IsFit circuits.now }
         ensures wanted { (before r : Router) → IsFollowing (outlook_of before) following.now
-            → r.config ≡ self.now.config → faces r.circuits ≡ faces circuits.now → IfOk result (λ list. map wanted_of list.items
+            → r.config ≡ self.now.config → faces r.circuits ≡ faces circuits.now
+            → IfOk result (λ list. map wanted_of list.items
             ≡ model.wanted given before r level) }
         ensures issuable { IfOk result (λ list. AllByRecursion
             (λ w. IsIssuable (at self.now.config.keys level) (contents_of w)) list.items) }

@@ -196,7 +196,8 @@ fn put_lists(
     lists: &[Vec<LspEntry>],
 ) -> Result<(), OutOfMemory>
     requires here { 1 ≤ sender.now.circuit }
-    requires few { AllByRecursion (λ (list : Vec LspEntry Global). length list.items ≤ 75) lists.now }
+    requires few { AllByRecursion
+        (λ (list : Vec LspEntry Global). length list.items ≤ 75) lists.now }
     ensures { OnOk result (out.new ≡ out.old
         ++ all_octets sender.now (model.psnps level (pieces.lists_of lists.now))) }
 {

@@ -58,12 +58,14 @@ impl Machine {
             ≡ false }
         ensures state { OnOk result (self.new ≡ with_level self.old level
             (takes.take_lsp (scene_of given self.old level) (level_of self.old level) (circuit - 1)
-            (whose_of self.old.config.system (level_of self.old level) (lsp_number lsp.now.entry.id))
+            (whose_of self.old.config.system (level_of self.old level)
+            (lsp_number lsp.now.entry.id))
             (heard_of lsp.now))) }
         ensures reply { IfOk result (λ reply. IfSome (nth self.old.circuits (circuit - 1)) (λ c.
             Answers self.old (circuit - 1) (acks c level (heard_of lsp.now)
             (table.met (level_of self.old level).book
-            (whose_of self.old.config.system (level_of self.old level) (lsp_number lsp.now.entry.id))
+            (whose_of self.old.config.system (level_of self.old level)
+            (lsp_number lsp.now.entry.id))
             (heard_of lsp.now))) reply)) }
         ensures err { OnErr result (self.new ≡ self.old) }
     {
@@ -88,12 +90,14 @@ impl Machine {
     ) -> Result<Reply, OutOfMemory>
         requires there { IsThere self.now circuit }
         requires row { row ≡ answer_of (table.met (level_of self.now level).book
-            (whose_of self.now.config.system (level_of self.now level) (lsp_number lsp.now.entry.id))
+            (whose_of self.now.config.system (level_of self.now level)
+            (lsp_number lsp.now.entry.id))
             (heard_of lsp.now)) lsp.now }
         ensures { IfOk result (λ reply. IfSome (nth self.now.circuits (circuit - 1)) (λ c.
             Answers self.now (circuit - 1) (acks c level (heard_of lsp.now)
             (table.met (level_of self.now level).book
-            (whose_of self.now.config.system (level_of self.now level) (lsp_number lsp.now.entry.id))
+            (whose_of self.now.config.system (level_of self.now level)
+            (lsp_number lsp.now.entry.id))
             (heard_of lsp.now))) reply)) }
     {
         match row {
