@@ -27,6 +27,21 @@ COMP_CWORD=$((${#COMP_WORDS[@]} - 1))
 _isis "${COMP_WORDS[0]}"
 echo "${COMPREPLY[@]}"
 """
+# zsh's functions, which print what is offered; it is zsh that leaves out what doesn't begin with the last word.
+COMPLETE_ZSH = """_describe() { local -a list=("${(@P)@[-1]}"); print -rl -- "${(@)list%%:*}" }
+compadd() { [[ $1 == -- ]] && shift; print -rl -- "$@" }
+_files() { : }
+words=("${(@s: :)2}") CURRENT=${#words}
+source "$1"
+"""
+
+
+def completed_by_zsh(prefix, line):
+    """What zsh offers for a line's last word."""
+    words = ["zsh", "-f", "-c", COMPLETE_ZSH, "zsh", prefix / FILES[3], line]
+    environment = {"PATH": f"{prefix}/bin:/usr/bin:/bin"}
+    offered = subprocess.run(words, capture_output=True, text=True, env=environment, check=False).stdout.split()
+    return sorted(word for word in offered if word.startswith(line.split(" ")[-1]))
 
 
 def completed(prefix, line):
@@ -68,3 +83,6 @@ def faults(run):
         for line, wanted in COMPLETIONS.items():
             got = completed(prefix, line)
             yield f"completion of {line!r}", None if got == wanted else f"offers {got}, wanted {wanted}"
+            if shutil.which("zsh"):
+                got = completed_by_zsh(prefix, line)
+                yield f"completion of {line!r} by zsh", None if got == sorted(wanted) else f"offers {got}, wanted {wanted}"
