@@ -4,3 +4,4 @@ pub mod HeadlineLemmas
 pub mod ShowLemmas
 mod TakenLemmas
 mod OptionLemmas
+mod WalkLemmas

@@ -4,10 +4,13 @@ use Rattle.std.specs.Option.{option_map}
 use Rattle.isis_base.specs.declared.identifiers.SystemId.{SystemId}
 use Rattle.isis_base.specs.declared.level.Level.{Level}
 use Rattle.isis_base.specs.declared.level.Level.TheVariants.{One, Two}
+use Rattle.isis_base.specs.declared.prefix.Prefix.{Prefix}
 use Rattle.isis_base.specs.declared.texts.TheConstants.{SYSTEM_TEXT}
 use Rattle.isis_base.specs.Identifiers.{system_from}
 use Rattle.isis_base.specs.Misfit.{text_octets}
 use Rattle.std.specs.Str.{bytes_eq}
+use Rattle.line_cuts.specs.Fields.{prefix_of}
+use Rattle.lab_script.specs.Fields.{name_of}
 use Rattle.isis_daemon.specs.declared.command.Command.{Command}
 use Rattle.isis_daemon.specs.declared.command.Command.TheVariants.{Lab, Show, Routes6, Alternates}
 use Rattle.isis_daemon.specs.Options.{daemon_of}
@@ -54,10 +57,24 @@ grid_size_of (word ∷ number ∷ []) =
     if bytes_eq word (codes "grid") then size_of number else None
 grid_size_of (word ∷ number ∷ next ∷ words) = None
 
+-- a name and a prefix
+abbrev pub asked_of : List ℕ → List ℕ → Option (List ℕ × Prefix)
+asked_of name prefix =
+    option_and_then (λ n. option_map (λ p. (n, p)) (prefix_of prefix)) (name_of name)
+
+-- the name of a router and the prefix that the words ask to walk between: `walk` and these two
+abbrev pub walk_of : List (List ℕ) → Option (List ℕ × Prefix)
+walk_of [] = None
+walk_of (word ∷ []) = None
+walk_of (word ∷ name ∷ []) = None
+walk_of (word ∷ name ∷ prefix ∷ []) =
+    if bytes_eq word (codes "walk") then asked_of name prefix else None
+walk_of (word ∷ name ∷ prefix ∷ next ∷ words) = None
+
 -- words that ask for no text of an input, and for no grid
 abbrev pub AreNoText : List (List ℕ) → Type 0
 AreNoText words = (command_of words ≡ None) × (grid_size_of words ≡ None)
 
 -- words that ask for nothing
 abbrev pub AreNone : List (List ℕ) → Type 0
-AreNone words = AreNoText words × (daemon_of words ≡ None)
+AreNone words = AreNoText words × (daemon_of words ≡ None) × (walk_of words ≡ None)

@@ -1,5 +1,5 @@
 -- The definitions: commands, daemon ends, grid ends, headline, options, runs, show text, shown left,
--- statuses.
+-- statuses, walk ends.
 pub mod Commands
 pub mod DaemonEnds
 pub mod GridEnds
@@ -9,3 +9,4 @@ pub mod Runs
 pub mod ShowText
 pub mod ShownLeft
 pub mod Statuses
+pub mod WalkEnds

@@ -15,8 +15,11 @@ use Rattle.lab_script.specs.declared.reason.ScriptFault.TheVariants as script
 use Rattle.lab_text.specs.declared.fault.RunFault.{RunFault}
 use Rattle.lab_text.specs.declared.fault.RunFault.TheVariants as run
 use Rattle.isis_daemon.specs.declared.status.Status.{Status}
-use Rattle.isis_daemon.specs.declared.status.Status.TheVariants.{Done, Usage, ScriptRefused, ReadFault, WriteFault, TooLong, OutOfMemory, ConfigRefused, NotStarted, LabLimit}
+use Rattle.isis_daemon.specs.declared.status.Status.TheVariants.{Done, Usage, ScriptRefused, ReadFault, WriteFault, TooLong, OutOfMemory, ConfigRefused, NotStarted, LabLimit, NoWalk}
 use Rattle.lab_script.specs.Reasons.{reason_word}
+use Rattle.walk_text.specs.declared.fault.WalkFault.{WalkFault}
+use Rattle.walk_text.specs.declared.fault.WalkFault.TheVariants as walk
+use Rattle.walk_text.specs.Reasons as why
 
 -- what ends a run whose script can't be read (own)
 abbrev pub script_status : ScriptFault → Status
@@ -30,6 +33,14 @@ run_status (run.Refused line reason) = ScriptRefused line reason
 run_status (run.Limit which) = LabLimit which
 run_status run.Write = WriteFault
 run_status run.OutOfMemory = OutOfMemory
+
+-- what ends a run whose walk wasn't written to its end (own)
+abbrev pub walk_status : WalkFault → Status
+walk_status (walk.Refused line reason) = ScriptRefused line reason
+walk_status (walk.Limit which) = LabLimit which
+walk_status (walk.NoWalk reason) = NoWalk reason
+walk_status walk.Write = WriteFault
+walk_status walk.OutOfMemory = OutOfMemory
 
 -- what ends a run whose text wasn't written to its end (own)
 abbrev pub text_status : TextFailed → Status
@@ -66,6 +77,7 @@ status_code OutOfMemory = 7
 status_code (ConfigRefused what key) = 8
 status_code NotStarted = 9
 status_code (LabLimit which) = 10
+status_code (NoWalk reason) = 12
 
 -- what stands on standard error; at 0 nothing is printed (own)
 abbrev pub status_line : Status → List ℕ
@@ -81,3 +93,4 @@ status_line (ConfigRefused what key) =
     codes "isis: config " ++ kind_word what ++ codes " " ++ key_word key
 status_line NotStarted = codes "isis: not started"
 status_line (LabLimit which) = codes "isis: limit " ++ limit_word which
+status_line (NoWalk reason) = codes "isis: no walk " ++ why.reason_word reason

@@ -1,8 +1,12 @@
 //! What the words after the program's name ask for.
 ghost use Rattle.std.specs.Prelude.{◌≡◌, ◌≤◌, [], ◌∷◌, map, string_bytes, None, IfSome};
-ghost use Rattle.isis_daemon.specs.Commands.{command_of, captured_of, level_in, system_in, grid_size_of, size_of};
+ghost use Rattle.std.specs.Option.{option_map};
+ghost use Rattle.isis_daemon.specs.Commands.{command_of, captured_of, level_in, system_in, grid_size_of, size_of, walk_of, asked_of, AreNoText};
+ghost use Rattle.isis_daemon.specs.Options.{daemon_of};
 
-use isis_base::{Level, SystemId, read_system};
+use isis_base::{Level, Prefix, SystemId, read_system};
+use lab_text::read_name;
+use line_cuts::read_prefix_word;
 
 /// What the words after the program's name ask to be done with an input.
 #[derive(Clone, Copy, Debug, PartialEq, Eq)]
@@ -15,6 +19,13 @@ pub enum Command {
     Routes6 { level: Level, system: SystemId },
     /// `alternates`: the loop-free alternates of a system, by captured LSPs of a level (RFC 5286).
     Alternates { level: Level, system: SystemId },
+}
+
+/// What `walk` is asked for: a router by its name, and a prefix.
+#[derive(Drop)]
+pub struct WalkAsked<'a> {
+    pub name: &'a str,
+    pub prefix: Prefix,
 }
 
 /// The command that the words are, if they are one.
@@ -97,4 +108,41 @@ fn size_of(word: &[u8]) -> Option<u8>
         [digit] if b'1' <= *digit && *digit <= b'8' => Some(*digit - b'0'),
         _ => None,
     }
+}
+
+/// What the words ask for which are `walk`, a name and a prefix. Such words ask for nothing else.
+pub fn walk_of(words: &[String]) -> Option<WalkAsked<'_>>
+    ensures value { option_map (λ asked. (asked.name.now, asked.prefix)) result
+        ≡ walk_of (map string_bytes words.now) }
+    ensures alone { IfSome result (λ _. AreNoText (map string_bytes words.now)
+        × (daemon_of (map string_bytes words.now) ≡ None)) }
+{
+    asked_in(words)
+}
+
+/// What the words ask for.
+fn asked_in(words: &[String]) -> Option<WalkAsked<'_>>
+    ensures { option_map (λ asked. (asked.name.now, asked.prefix)) result
+        ≡ walk_of (map string_bytes words.now) }
+{
+    let [word, name, prefix] = words else {
+        return None;
+    };
+    if word.as_str() != "walk" {
+        return None;
+    }
+    asked_of(name.as_bytes(), prefix.as_bytes())
+}
+
+/// A name and a prefix.
+fn asked_of<'a>(name: &'a [u8], prefix: &[u8]) -> Option<WalkAsked<'a>>
+    ensures { option_map (λ asked. (asked.name.now, asked.prefix)) result
+        ≡ asked_of name.now prefix.now }
+{
+    let name = read_name(name)?;
+    let prefix = read_prefix_word(prefix)?;
+    Some(WalkAsked {
+        name: name.letters(),
+        prefix,
+    })
 }

@@ -1,6 +1,6 @@
 //! How a run of the program ended.
 ghost use Rattle.std.specs.Prelude.{◌≡◌, Some};
-ghost use Rattle.isis_daemon.specs.Statuses.{script_status, run_status, whole_status, text_status, config_status, daemon_status, status_code, status_line};
+ghost use Rattle.isis_daemon.specs.Statuses.{script_status, run_status, whole_status, text_status, walk_status, config_status, daemon_status, status_code, status_line};
 
 use daemon_config::{ConfigFault, ConfigKey, ConfigKind};
 use daemon_run::DaemonEnd;
@@ -8,6 +8,7 @@ use isis_edge::{TextFailed, WholeFault};
 use lab_text::{Reason, RunFault, ScriptFault};
 use network_lab::LimitName;
 use std::fmt;
+use walk_text::{WalkFault, WalkReason};
 
 /// How many octets an input may have. With more the run ends as `TooLong`.
 pub const INPUT_LIMIT: usize = 16_777_216;
@@ -35,6 +36,8 @@ pub enum Status {
     NotStarted,
     /// The script asks for more than this limit allows. Nothing was written.
     LabLimit { which: LimitName },
+    /// There is no walk, and why. Nothing was written.
+    NoWalk { reason: WalkReason },
 }
 
 impl Status {
@@ -53,6 +56,7 @@ impl Status {
             Status::ConfigRefused { .. } => 8,
             Status::NotStarted => 9,
             Status::LabLimit { .. } => 10,
+            Status::NoWalk { .. } => 12,
         }
     }
 }
@@ -72,6 +76,7 @@ impl fmt::Display for Status {
             Status::ConfigRefused { kind, key } => write!(f, "isis: config {kind} {key}"),
             Status::NotStarted => write!(f, "isis: not started"),
             Status::LabLimit { which } => write!(f, "isis: limit {which}"),
+            Status::NoWalk { reason } => write!(f, "isis: no walk {reason}"),
         }
     }
 }
@@ -120,6 +125,20 @@ impl From<TextFailed> for Status {
         match fault {
             TextFailed::Write => Status::WriteFault,
             TextFailed::OutOfMemory => Status::OutOfMemory,
+        }
+    }
+}
+
+impl From<WalkFault> for Status {
+    ghost from_gives = { λ fault status. status ≡ walk_status fault };
+
+    fn from(fault: WalkFault) -> Status {
+        match fault {
+            WalkFault::Refused { line, reason } => Status::ScriptRefused { line, reason },
+            WalkFault::Limit(which) => Status::LabLimit { which },
+            WalkFault::NoWalk(reason) => Status::NoWalk { reason },
+            WalkFault::Write => Status::WriteFault,
+            WalkFault::OutOfMemory => Status::OutOfMemory,
         }
     }
 }

@@ -1,0 +1,36 @@
+-- Words that ask for a walk ask for nothing else.
+use Rattle.std.proofs.Common.{◌≡◌, ℕ, Bool, true, false, if◌then◌else◌, List, [], ◌∷◌, Option, Some, None, IfSome, option_and_then, codes, refl, sym, subst}
+use Rattle.std.specs.Option.{option_map}
+use Rattle.std.specs.Str.{bytes_eq}
+use Rattle.std.proofs.lemmas.Slice.Eq.{bytes_eq-Decides}
+use Rattle.isis_base.specs.declared.identifiers.SystemId.{SystemId}
+use Rattle.isis_base.specs.declared.level.Level.{Level}
+use Rattle.isis_base.specs.declared.prefix.Prefix.{Prefix}
+use Rattle.isis_daemon.specs.declared.command.Command.TheVariants.{Routes6, Alternates}
+use Rattle.isis_daemon.specs.Commands.{AreNoText, level_in, system_in, walk_of, asked_of}
+use Rattle.isis_daemon.specs.Options.{daemon_of}
+
+abbrev pub AreOfWalk : List (List ℕ) → Type 0
+AreOfWalk words = AreNoText words × (daemon_of words ≡ None)
+
+captured_none : (l : Option Level) (s : Option SystemId) → option_and_then (λ level. option_and_then (λ system. if bytes_eq (codes "walk") (codes "routes6") then Some (Routes6 level system) else if bytes_eq (codes "walk") (codes "alternates") then Some (Alternates level system) else None) s) l ≡ None
+captured_none None s = refl
+captured_none (Some level) None = refl
+captured_none (Some level) (Some system) = refl
+
+walk-alone : (words : List (List ℕ)) (x : List ℕ × Prefix) → Some x ≡ walk_of words → AreOfWalk words
+walk-alone [] x is = absurd (cc is)
+walk-alone (word ∷ []) x is = absurd (cc is)
+walk-alone (word ∷ name ∷ []) x is = absurd (cc is)
+walk-alone (word ∷ name ∷ prefix ∷ []) x is =
+    subst (λ (w : List ℕ). AreOfWalk (w ∷ name ∷ prefix ∷ [])) (sym ((bytes_eq-Decides word (codes "walk")).0 (hit (bytes_eq word (codes "walk")) is)))
+    ((captured_none (level_in name) (system_in prefix), refl), refl)
+  where
+    hit : (b : Bool) → Some x ≡ (if b then asked_of name prefix else None) → b ≡ true
+    hit true e = refl
+    hit false e = absurd (cc e)
+walk-alone (word ∷ name ∷ prefix ∷ next ∷ words) x is = absurd (cc is)
+
+pub alone-if : {A : Type 0} (f : A → List ℕ × Prefix) (asked : Option A) (words : List (List ℕ)) → option_map f asked ≡ walk_of words → IfSome asked (λ _. AreOfWalk words)
+alone-if f None words is = tt
+alone-if f (Some a) words is = walk-alone words (f a) is

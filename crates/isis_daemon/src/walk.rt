@@ -1,0 +1,68 @@
+//! The command `walk`: the walk of a packet after a script.
+ghost use Rattle.std.specs.Prelude.{◌≡◌, ◌≤◌, [], length, Some, IsSomeAnd};
+ghost use Rattle.isis_edge.specs.Faults.{Rose};
+ghost use Rattle.isis_daemon.specs.Runs.{input_limit, IsTakenWithin, IsDoneUnlessMemory};
+ghost use Rattle.isis_daemon.specs.WalkEnds.{WalkEnds, IsWalkable};
+
+use crate::status::{INPUT_LIMIT, Status};
+use isis_base::Prefix;
+use isis_edge::{Sink, Source, read_whole};
+use lab_text::read_script;
+use std::alloc::Global;
+use walk_text::write_walk;
+
+/// Reads a script, plays it, and writes the walk from the router of this name to a prefix.
+pub(crate) fn walk<I: Source, O: Sink>(
+    alloc: Global,
+    name: &str,
+    prefix: Prefix,
+    input: &mut I,
+    output: &mut O,
+) -> Status
+    ensures usage { ¬ (result ≡ Status.Usage) }
+    ensures ends { WalkEnds name.now prefix (I.left input.old) (I.left input.new)
+        (O.held output.old) (O.held output.new) result }
+    ensures taken { IsTakenWithin (I.left input.old) (I.left input.new) }
+    ensures read_fault { result ≡ Status.ReadFault
+        → Rose (I.faults input.old) (I.faults input.new) }
+    ensures write_fault { result ≡ Status.WriteFault
+        → Rose (O.faults output.old) (O.faults output.new) }
+    ensures complete { IsSomeAnd (I.left input.old) (IsWalkable name.now prefix)
+        → ¬ Rose (I.faults input.old) (I.faults input.new)
+        → ¬ Rose (O.faults output.old) (O.faults output.new)
+        → IsDoneUnlessMemory result }
+    ensures later { (I.faults input.old ≤ I.faults input.new)
+        × (O.faults output.old ≤ O.faults output.new) }
+{
+    let octets = match read_whole(alloc, input, INPUT_LIMIT) {
+        Ok(octets) => octets,
+        Err(fault) => return Status::from(fault),
+    };
+    walk_after(alloc, octets.as_slice(), name, prefix, output)
+}
+
+/// The walk after the script that a text is read as.
+fn walk_after<O: Sink>(
+    alloc: Global,
+    text: &[u8],
+    name: &str,
+    prefix: Prefix,
+    output: &mut O,
+) -> Status
+    requires { length text.now ≤ input_limit }
+    ensures ends { WalkEnds name.now prefix (Some text.now) (Some []) (O.held output.old)
+        (O.held output.new) result }
+    ensures read { ¬ (result ≡ Status.ReadFault) }
+    ensures write_fault { result ≡ Status.WriteFault
+        → Rose (O.faults output.old) (O.faults output.new) }
+    ensures later { O.faults output.old ≤ O.faults output.new }
+{
+    let script = match read_script(alloc, text) {
+        Ok(script) => script,
+        Err(fault) => return Status::from(fault),
+    };
+    match write_walk(alloc, &script, name, prefix, output) {
+        Ok(()) => Status::Done,
+        Err(fault) => Status::from(fault),
+    }
+}

@@ -1,0 +1,18 @@
+//! The walk of a packet after a lab script, as a text.
+//!
+//! A script is played, and over the routers at its end a packet is walked from one of them to a prefix (RFC 1195 3.10),
+//! where they pass the tests of `forwarding`. The order of the answers and the form of the text are this project's own.
+//!
+//! - `write.rt`: the call that writes a walk; `find.rt`: the walk, or why there is none; `lines.rt`: its text
+//! - `reason.rt`: why there is no walk; `fault.rt`: why none was written
+#![tactic(auto)]
+
+mod fault;
+mod find;
+mod lines;
+mod reason;
+mod write;
+
+pub use fault::WalkFault;
+pub use reason::WalkReason;
+pub use write::write_walk;
