@@ -1,0 +1,33 @@
+//! What follows of what is told.
+ghost use Rattle.std.specs.Prelude.{◌≡◌, ◌≢◌, ℕ, ◌+◌, List, length, Some};
+ghost use Rattle.isis_model.specs.Places.{nth};
+ghost use Rattle.isis_model.specs.Routers.{Router};
+ghost use Rattle.router_core.specs.Givens.{given};
+ghost use Rattle.weave_model.specs.Entries.{Entry};
+ghost use Rattle.weave_model.specs.Faults.{AreGoodAll, opening};
+ghost use Rattle.weave_replay.specs.declared.fault.ReplayFault.{ReplayFault};
+ghost use Rattle.weave_replay.specs.declared.journal.WovenJournal.{WovenJournal};
+ghost use Rattle.weave_replay.specs.Replays.{journals_of, in_first_boot, no_memory, IsTold, AreReplayed};
+
+use isis_model::laws::adjacencies::step_bonds;
+
+/// One thing at most applies to journals, so where nothing wants memory what is told is what applies.
+pub fn told_laws()
+    ensures once { (routers : List Router) (journals : List WovenJournal) (one two : ReplayFault)
+        → IsTold routers journals one → IsTold routers journals two → one ≢ no_memory
+        → two ≢ no_memory → one ≡ two }
+    ensures none { (routers : List Router) (journals : List WovenJournal) (fault : ReplayFault)
+        → AreReplayed routers journals → IsTold routers journals fault → fault ≡ no_memory }
+{}
+
+/// The n-th journal of a router opens in boot n; and where nothing applies, all journals of each
+/// router are without a fault, one behind the other.
+pub fn replay_laws()
+    ensures boot { (first : Router) (before : List (List Entry))
+        → (opening given (in_first_boot first) before).boot ≡ length before + 1 }
+    ensures good { (routers : List Router) (journals : List WovenJournal) (router : ℕ)
+        (first : Router) → AreReplayed routers journals → nth routers router ≡ Some first
+        → AreGoodAll given (in_first_boot first) (journals_of router journals) }
+{
+    step_bonds();
+}
