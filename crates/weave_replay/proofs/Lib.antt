@@ -1,6 +1,6 @@
 -- The lemmas, a module for each topic.
-mod PlaceLemmas
-mod JournalLemmas
+pub mod PlaceLemmas
+pub mod JournalLemmas
 mod BehindLemmas
 mod TellLemmas
 mod EntryLemmas

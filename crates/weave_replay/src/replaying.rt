@@ -169,7 +169,7 @@ fn replay_in(
     let mut router = routers[place].restarted(boot)?;
     match replay_entries(&mut router, journal.entries.as_slice()) {
         Ok(replayed) => {
-            routers[place] = router;
+            put_at(routers, place, router);
             Ok(replayed)
         }
         Err(error) => {
@@ -177,4 +177,12 @@ fn replay_in(
             Err(error)
         }
     }
+}
+
+/// Another value at a place.
+fn put_at<T: Drop>(list: &mut [T], place: usize, value: T)
+    requires { place < length list.old }
+    ensures { list.new ≡ with_nth list.old place value }
+{
+    list[place] = value;
 }
