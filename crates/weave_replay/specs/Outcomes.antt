@@ -1,5 +1,5 @@
--- What became of an entry and of a journal that were replayed, and how routers stand behind journals
--- (own).
+-- What became of an entry and of a journal that were replayed, and how routers stand behind
+-- journals (own).
 use Rattle.std.specs.Prelude.{◌≡◌, ℕ, ◌+◌, ◌≤◌, List, [], ◌∷◌, ◌++◌, length, Some}
 use Rattle.isis_model.specs.Places.{nth, with_nth}
 use Rattle.isis_model.specs.Routers.{Router}

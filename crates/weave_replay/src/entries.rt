@@ -46,7 +46,8 @@ pub(crate) fn replay_entries(
 
 /// Replays an entry.
 fn replay_entry(router: &mut Router, entry: &WovenEntry) -> Result<Outcome, OutOfMemory>
-    ensures { IfOk result (λ outcome. IsOutcome router.old router.new (entry_of entry.now) outcome) }
+    ensures { IfOk result
+        (λ outcome. IsOutcome router.old router.new (entry_of entry.now) outcome) }
 {
     if !fits(router, &entry.event) {
         return Ok(Outcome::OfEvent);

@@ -11,7 +11,8 @@ ghost use Rattle.weave_replay.specs.Replays.{journals_of, in_first_boot, no_memo
 
 use isis_model::laws::adjacencies::step_bonds;
 
-/// One thing at most applies to journals, so where nothing wants memory what is told is what applies.
+/// One thing at most applies to journals, so where nothing wants memory what is told is what
+/// applies.
 pub fn told_laws()
     ensures once { (routers : List Router) (journals : List WovenJournal) (one two : ReplayFault)
         → IsTold routers journals one → IsTold routers journals two → one ≢ no_memory

@@ -1,11 +1,11 @@
 //! The journals of a network's routers, replayed by these routers.
 //!
-//! A router has a journal for each of its boots. Each is replayed from the router's opening state in
-//! that boot, with its configuration as the journals before left it, entry by entry, by the router's
-//! `step` (router_core). An entry has a fault where its circuit isn't there or its value is out of
-//! `step`'s condition, and where the router answers otherwise. The first fault is told, by journal
-//! and entry; then a limit that is passed. What is a fault, and a replay, weave_model says. The words
-//! are this project's own.
+//! A router has a journal for each of its boots. Each is replayed from the router's opening state
+//! in that boot, with its configuration as the journals before left it, entry by entry, by the
+//! router's `step` (router_core). An entry has a fault where its circuit isn't there or its value is
+//! out of `step`'s condition, and where the router answers otherwise. The first fault is told, by
+//! journal and entry; then a limit that is passed. What is a fault, and a replay, weave_model says.
+//! The words are this project's own.
 //!
 //! A router has 16,777,215 boots. A journal behind the last has none to be replayed in: of its
 //! entries nothing is said, and the limit is told.

@@ -1,0 +1,3 @@
+-- The definitions: journals as tracks of letters, and where weaving begins.
+pub mod Coded
+pub mod Begins
