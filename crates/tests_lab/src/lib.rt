@@ -3,6 +3,4 @@
 #![tactic(auto)]
 
 #[cfg(test)]
-mod forwarded;
-#[cfg(test)]
 mod played;
