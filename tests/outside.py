@@ -100,18 +100,22 @@ def limited(size, handler):
     return set_limit
 
 
+def limited_fault(run, words, text, whole, size):
+    """What is wrong where the output is a file of at most so many octets, which then holds that much of the whole text."""
+    with tempfile.TemporaryFile() as file:
+        ended = run(words, text, stdout=file, preexec_fn=limited(size, signal.SIG_IGN))
+        file.seek(0)
+        written = file.read().decode()
+    return told(ended, 5, "write fault") or (None if written == whole[:size] else f"{len(written)} octets stand there")
+
+
 def writes(run):
     """The first, the second, to the twentieth write fails, and each at its start or on its way; what was written is a prefix."""
     keys = "isis-keys 1\nrouter A\n" + "".join(f"issue A 0000.0000.{n:04x}.00-00 2 live\n" for n in range(5000))
     report = run(["lab"], keys).output
     for words, text, whole in ((["show"], LINES, SHOWN), (["lab"], keys, report)):
         for size in sorted([PAGE * count for count in range(20)] + [1, 100, PAGE - 1, PAGE + 1, 12_345]):
-            with tempfile.TemporaryFile() as file:
-                ended = run(words, text, stdout=file, preexec_fn=limited(size, signal.SIG_IGN))
-                file.seek(0)
-                written = file.read().decode()
-            fault = told(ended, 5, "write fault") or (None if written == whole[:size] else f"{len(written)} octets stand there")
-            yield f"{words[0]}: a file of at most {size} octets", fault
+            yield f"{words[0]}: a file of at most {size} octets", limited_fault(run, words, text, whole, size)
 
 
 def killed(run):
@@ -166,12 +170,7 @@ def walks(run):
     yield "a walk, and no output", told(run(WALK, WALKED, **closed), 5, "write fault")
     yield "no walk, and no output", told(run(WALK, TWO, **closed), 12, "no walk owners")
     for size in (0, 1, len(WALK_TEXT) - 1):
-        with tempfile.TemporaryFile() as file:
-            ended = run(WALK, WALKED, stdout=file, preexec_fn=limited(size, signal.SIG_IGN))
-            file.seek(0)
-            written = file.read().decode()
-        fault = told(ended, 5, "write fault") or (None if written == WALK_TEXT[:size] else f"wrote {written!r}")
-        yield f"a walk: a file of at most {size} octets", fault
+        yield f"a walk: a file of at most {size} octets", limited_fault(run, WALK, WALKED, WALK_TEXT, size)
     folder = os.open(tempfile.gettempdir(), os.O_RDONLY)
     yield "a walk, and a folder as input", told(run(WALK, "", stdin=folder), 4, "read fault", "")
     os.close(folder)
