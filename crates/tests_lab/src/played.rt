@@ -2,8 +2,7 @@
 ghost use Rattle.std.specs.Prelude.{◌<◌, length};
 
 use isis_base::Level;
-use lab_text::{Reason, RunFault, play_script, read_script};
-use network_lab::Network;
+use lab_text::{Network, Reason, RunFault, play_script, read_script};
 use std::alloc::Global;
 use std::test::Fail;
 
