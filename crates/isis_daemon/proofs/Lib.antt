@@ -5,4 +5,3 @@ pub mod ShowLemmas
 mod TakenLemmas
 mod OptionLemmas
 mod WalkLemmas
-mod WeaveLemmas

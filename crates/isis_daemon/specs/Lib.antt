@@ -10,4 +10,3 @@ pub mod ShowText
 pub mod ShownLeft
 pub mod Statuses
 pub mod WalkEnds
-pub mod WeaveEnds

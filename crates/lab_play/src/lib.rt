@@ -8,5 +8,4 @@ mod lay_out;
 mod playing;
 mod router_config;
 
-pub use network_lab::Network;
 pub use playing::play;

@@ -8,7 +8,7 @@ ghost use Rattle.line_cuts.specs.Words.{texts};
 use crate::left::KeysReport;
 use isis_base::{Key, LspId, Octets, OutOfMemory, add_lsp_id, add_number};
 use isis_edge::Text;
-use key_net::KeyNet;
+use network_lab::KeyNet;
 
 impl<'n, 't> KeysReport<'n, 't> {
     /// The report of a network whose routers have these names.

@@ -13,7 +13,6 @@ pub mod TakeLemmas
 pub mod LoopLemmas
 pub mod ConfigLemmas
 pub mod ReadLemmas
-pub mod PortLemmas
 pub mod SetupLemmas
 pub mod StateLemmas
 pub mod ReachedLemmas

@@ -1,6 +1,5 @@
 -- The definitions: lab nets, lab causes, lab configs, lab events, lab takings, hearing, agreements,
--- claims, LAN states, link states, reached, acknowledged, lab inside, joining, lab steps, lab runs;
--- and what is passed on.
+-- claims, LAN states, link states, reached, acknowledged, lab inside, joining, lab steps, lab runs.
 pub mod LabNets
 pub mod LabCauses
 pub mod LabConfigs
@@ -17,4 +16,3 @@ pub mod LabInside
 pub mod Joining
 pub mod LabSteps
 pub mod LabRuns
-pub mod Passed

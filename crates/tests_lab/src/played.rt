@@ -2,7 +2,8 @@
 ghost use Rattle.std.specs.Prelude.{◌<◌, length};
 
 use isis_base::Level;
-use lab_text::{Network, Reason, RunFault, play_script, read_script};
+use lab_text::{Reason, RunFault, play_script, read_script};
+use network_lab::Network;
 use std::alloc::Global;
 use std::test::Fail;
 

@@ -1,7 +1,7 @@
 -- The lemmas, a module for each topic.
 mod LetterLemmas
-pub mod RowLemmas
+mod RowLemmas
 mod EventLemmas
-pub mod TrackLemmas
+mod TrackLemmas
 mod PortLemmas
 mod BeginLemmas

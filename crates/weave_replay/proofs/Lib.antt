@@ -5,4 +5,3 @@ mod BehindLemmas
 mod TellLemmas
 mod EntryLemmas
 mod LimitLemmas
-mod HistoryLemmas

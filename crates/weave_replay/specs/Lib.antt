@@ -3,4 +3,3 @@
 pub mod Entries
 pub mod Outcomes
 pub mod Replays
-pub mod Passed
