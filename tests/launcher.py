@@ -132,7 +132,9 @@ def numbered(run, clone):
 
 
 def stopped(clone, number, code):
-    """What is other than it should be where a signal stops a build. SIGINT comes as from a terminal, to all of the group."""
+    """What is other than it should be where a signal stops a build. SIGINT comes as from a terminal, to all of the group; where these tests were
+    begun without a terminal it may have been ignored, which what they start would inherit."""
+    signal.signal(signal.SIGINT, signal.default_int_handler)
     how = {"stdin": subprocess.DEVNULL, "stderr": subprocess.PIPE, "env": clone.environment, "start_new_session": True}
     begun = clone.folder / "begun"
     begun.unlink()

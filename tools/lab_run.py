@@ -3,48 +3,31 @@
 The program says what is a script: each script is played before it is read here, so what is read here is well formed. Nothing of the
 protocol stands here but where the datagrams of a line `run` go, as docs/TEXTS.md tells it.
 """
-import subprocess
 import sys
 from bisect import bisect_left
 from pathlib import Path
 
-TOP = Path(__file__).resolve().parent.parent
-PROGRAM = TOP / "crates" / "isis_daemon" / "out" / "isis_daemon"
+from lab_program import Program, Told, UnprovedProgram
+
 SETUP = ("router", "link", "lan", "key")
 # What a datagram begins with, and the octets before its PDU: these four, the sender's SNPA, and its boot number.
 MAGIC, FRAME = b"ISU2", 14
 KINDS = {15: "hello", 16: "hello", 17: "hello", 18: "lsp", 20: "lsp", 24: "csnp", 25: "csnp", 26: "psnp", 27: "psnp"}
 SECOND_LEVEL = (16, 20, 25, 27)
-
-
-class Told(Exception):
-    """What a tool says on standard error, and the exit code that it ends with."""
-
-    def __init__(self, line, code=1):
-        super().__init__(line)
-        self.code = code
-
-
-def call(words, text):
-    """What the program writes of a text; where it refuses it, its own line and exit code."""
-    if not PROGRAM.is_file():
-        raise Told("the program isn't built: ./isis lab < examples/two_come_up.lab builds it")
-    ran = subprocess.run([PROGRAM, *words], input=text.encode("utf-8", "surrogateescape"), capture_output=True, check=False)
-    if ran.returncode:
-        raise Told(ran.stderr.decode("utf-8", "replace").rstrip("\n"), ran.returncode)
-    return ran.stdout.decode()
+# What plays scripts; `tool` sets it.
+program = Program()
 
 
 def play(text):
     """The program's report of a lab script."""
-    return call(["lab"], text)
+    return program.call(["lab"], text)
 
 
 def shown(pdus):
     """The lines that `isis show` writes of each of these PDUs; of one without octets it writes none."""
     lines = [[] for _ in pdus]
     place = 0
-    for line in call(["show"], "".join(pdu.hex() + "\n" for pdu in pdus)).splitlines():
+    for line in program.call(["show"], "".join(pdu.hex() + "\n" for pdu in pdus)).splitlines():
         if line.startswith("pdu "):
             place = int(line.split(" ")[1]) - 1
         lines[place].append(line)
@@ -205,9 +188,9 @@ class Datagram:
         return [(name, "later" if name in later else "lost") for name in others]
 
 
-def run_datagrams(script):
-    """All datagrams of a run, each with the step that sent it."""
-    counts = {0: 0}
+def run_datagrams(script, known=()):
+    """All datagrams of a run, each with the step that sent it; `known` has how many there were after some of the steps."""
+    counts = {0: 0, **dict(known)}
 
     def count_at(step):
         if step not in counts:
@@ -237,16 +220,26 @@ def open_script(names):
     return Script(text), report
 
 
+def title(names):
+    """What a script is called where it is shown."""
+    name = Path(names[0]).name if names else "standard input"
+    return f"{name}: {program.note}" if program.note else name
+
+
 def tool(name, usage, work):
     """Runs a tool: `work` gets the words, and what it gives is written to standard output."""
+    global program
     words = sys.argv[1:]
+    is_unproved = words[:1] == ["--unproved"]
+    names = words[1:] if is_unproved else words
     if words[:1] in (["-h"], ["--help"]):
         work = lambda _: (usage.strip() + "\n").encode()
-    elif len(words) > 1 or words[:1] and words[0].startswith("-"):
-        print(f"{name}: usage: tools/{name} [SCRIPT]", file=sys.stderr)
+    elif len(names) > 1 or names[:1] and names[0].startswith("-"):
+        print(f"{name}: usage: tools/{name} [--unproved] [SCRIPT]", file=sys.stderr)
         return 2
     try:
-        output = work(words)
+        with UnprovedProgram(name) if is_unproved else Program() as program:
+            output = work(names)
         sys.stdout.buffer.write(output)
         sys.stdout.buffer.flush()
     except Told as told:
@@ -256,4 +249,6 @@ def tool(name, usage, work):
     except OSError as problem:
         print(f"{name}: {problem}", file=sys.stderr)
         return 1
+    except KeyboardInterrupt:
+        return 130
     return 0
