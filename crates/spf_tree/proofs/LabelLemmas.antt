@@ -197,6 +197,9 @@ pub ends_among : (rows : List Row) (nodes : List ℕ) (root : ℕ) (row : Row) �
 ends_among rows nodes root row is h =
     subst (λ (ns : List ℕ). Contains ns (end row)) (sym is) (suc h.0, (let l = h.1 in simp length-map (omega arith)), (get_or-map end rows h.0 row (end row) h.1 ∙ ap end h.2))
 
+pub ends_in : (rows : List Row) (row : Row) → Contains rows row → Contains (map end rows) (end row)
+ends_in rows row h = (h.0, (let l = h.1 in simp length-map (omega arith)), (get_or-map end rows h.0 row (end row) h.1 ∙ ap end h.2))
+
 pub root_among : (rows : List Row) (nodes : List ℕ) (root : ℕ) → nodes ≡ root ∷ map end rows → Contains nodes root
 root_among rows nodes root is = subst (λ (ns : List ℕ). Contains ns root) (sym is) (0, omega arith, refl)
 

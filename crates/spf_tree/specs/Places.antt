@@ -37,6 +37,16 @@ pub record IsEdge (nodes : List ℕ) (row : Row) (edge : Edge) : Type 0 where
   pub node : node_at nodes edge.place ≡ end row
   pub metric : edge.metric ≡ row.metric
 
+-- a node's place
+pub record IsPlaceOf (nodes : List ℕ) (node place : ℕ) : Type 0 where
+  pub within : place < length nodes
+  pub node_is : node_at nodes place ≡ node
+
+-- the places of the first so many nodes among others
+pub record AreAmong (nodes old places : List ℕ) (many : ℕ) : Type 0 where
+  pub long : length places ≡ many
+  pub each : (k p : ℕ) → k < many → IsPlaceOf nodes (node_at old k) (slice_index_or places k p)
+
 -- the edges of the first so many rows
 pub record AreEdges (nodes : List ℕ) (rows : List Row) (edges : List Edge) (many : ℕ) : Type 0 where
   pub long : length edges ≡ many

@@ -7,7 +7,7 @@ ghost use Rattle.std.specs.List.Sorted.{IsStrictlyIncreasing};
 ghost use Rattle.spf_tree.specs.declared.row.Row.{Row};
 ghost use Rattle.spf_tree.specs.declared.edge.Edge.{Edge};
 ghost use Rattle.spf_tree.specs.Walks.{end};
-ghost use Rattle.spf_tree.specs.Places.{AreEdges, node_at};
+ghost use Rattle.spf_tree.specs.Places.{AreEdges, AreAmong, node_at};
 
 use crate::edge::Edge;
 use crate::node::number;
@@ -53,6 +53,75 @@ pub fn edges_of(
         }
     }
     Ok(edges)
+}
+
+/// The edges of rows by their places among other nodes, where all the old ones are.
+pub fn moved(
+    alloc: Global,
+    nodes: &[u64],
+    old_nodes: &[u64],
+    rows: &[Row],
+    known: &[Edge],
+) -> Result<Vec<Edge>, OutOfMemory>
+    requires rising { IsStrictlyIncreasing nodes.now }
+    requires all { (node : ℕ) → Contains old_nodes.now node → Contains nodes.now node }
+    requires known { AreEdges old_nodes.now rows.now known.now (length rows.now) }
+    ensures { IfOk result (λ edges. AreEdges nodes.now rows.now edges.items (length rows.now)) }
+{
+    let places = match places_among(alloc, nodes, old_nodes) {
+        Ok(places) => places,
+        Err(error) => return Err(error),
+    };
+    let mut edges = match Vec::with_capacity(alloc, known.len()) {
+        Ok(edges) => edges,
+        Err(_) => return Err(OutOfMemory),
+    };
+    for row in 0..rows.len() {
+        let edge = known[row];
+        match edges.push(Edge {
+            place: places[edge.place],
+            metric: edge.metric,
+        }) {
+            Ok(()) => {}
+            Err(_) => return Err(OutOfMemory),
+        }
+    }
+    Ok(edges)
+}
+
+/// The places of old nodes among nodes, where all of them are.
+fn places_among(alloc: Global, nodes: &[u64], old: &[u64]) -> Result<Vec<usize>, OutOfMemory>
+    requires rising { IsStrictlyIncreasing nodes.now }
+    requires all { (node : ℕ) → Contains old.now node → Contains nodes.now node }
+    ensures { IfOk result (λ places. AreAmong nodes.now old.now places.items (length old.now)) }
+{
+    let mut places = match Vec::with_capacity(alloc, old.len()) {
+        Ok(places) => places,
+        Err(_) => return Err(OutOfMemory),
+    };
+    let mut from = 0;
+    for node in 0..old.len() {
+        let place = near_place(nodes, old[node], from);
+        from = place.saturating_add(1);
+        match places.push(place) {
+            Ok(()) => {}
+            Err(_) => return Err(OutOfMemory),
+        }
+    }
+    Ok(places)
+}
+
+/// The place of a node that is among the nodes. Where it may stand is looked at first.
+fn near_place(nodes: &[u64], node: u64, from: usize) -> usize
+    requires rising { IsStrictlyIncreasing nodes.now }
+    requires there { Contains nodes.now node }
+    ensures within { result < length nodes.now }
+    ensures node { node_at nodes.now result ≡ node }
+{
+    if from < nodes.len() && nodes[from] == node {
+        return from;
+    }
+    place_of(nodes, node)
 }
 
 /// The place of a row's end, by the old row at a place or soon behind it where that ends at the same node.

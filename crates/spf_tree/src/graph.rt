@@ -95,8 +95,9 @@ pub fn graph_of(alloc: Global, rows: Vec<Row>, root: NodeId) -> Result<Graph, Ou
     }
 }
 
-/// The graph of rows in order each of which ends where a row of this graph does, or an added one. The nodes are put in
-/// order anew, and the ends searched, only where an added row ends at a new node.
+/// The graph of rows in order each of which ends where a row of this graph does, or an added one. Where an added row ends
+/// at a new node, the places of the other nodes move. All nodes are looked for anew only where at most of them no row ends
+/// any more.
 pub fn with_rows(
     alloc: Global,
     graph: &Graph,
@@ -112,10 +113,16 @@ pub fn with_rows(
 {
     let root = graph.root;
     graph.indexed.kept();
-    if !have_ends(graph.indexed.nodes(), added) {
+    if have_ends(graph.indexed.nodes(), added) {
+        return match graph.indexed.with_rows(alloc, rows) {
+            Ok(indexed) => Ok(Graph { indexed, root }),
+            Err(error) => Err(error),
+        };
+    }
+    if graph.indexed.nodes().len() / 2 > rows.len() {
         return graph_of(alloc, rows, root);
     }
-    match graph.indexed.with_rows(alloc, rows) {
+    match graph.indexed.with_ends(alloc, rows, added) {
         Ok(indexed) => Ok(Graph { indexed, root }),
         Err(error) => Err(error),
     }

@@ -9,8 +9,8 @@ ghost use Rattle.spf_tree.specs.Search.{IsBounded, IsSearchKept};
 ghost use Rattle.spf_tree.specs.Places.{AreEdges, IsEdge};
 
 use crate::edge::Edge;
-use crate::edges::edges_of;
-use crate::nodes::{ends, in_order};
+use crate::edges::{edges_of, moved};
+use crate::nodes::{ends, in_order, with_ends};
 use crate::row::Row;
 use isis_base::OutOfMemory;
 use std::alloc::Global;
@@ -63,6 +63,31 @@ impl IndexedRows {
             Err(_) => return Err(OutOfMemory),
         };
         index(alloc, rows, nodes, old, known)
+    }
+
+    /// Other rows, each of which ends at a node or where an added row does.
+    pub fn with_ends(
+        &self,
+        alloc: Global,
+        rows: Vec<Row>,
+        added: &[Row],
+    ) -> Result<IndexedRows, OutOfMemory>
+        requires sorted { IsNonDecreasingBy start rows.items }
+        requires bounded { IsBounded rows.items }
+        requires ends { (row : Row) → Contains rows.items row
+            → Contains self.now.nodes (end row)
+            ⊎ ((other : Row) × Contains added.now other × (end other ≡ end row)) }
+        ensures rows { IfOk result (λ indexed. indexed.rows ≡ rows.items) }
+    {
+        let nodes = match with_ends(alloc, &self.nodes, added) {
+            Ok(nodes) => nodes,
+            Err(error) => return Err(error),
+        };
+        let known = match moved(alloc, &nodes, &self.nodes, &self.rows, &self.edges) {
+            Ok(known) => known,
+            Err(error) => return Err(error),
+        };
+        index(alloc, rows, nodes, &self.rows, &known)
     }
 
     /// The same rows with a node more.

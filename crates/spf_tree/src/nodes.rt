@@ -1,6 +1,6 @@
 //! The nodes of rows, in order.
 
-ghost use Rattle.std.specs.Prelude.{◌≡◌, ℕ, ◌∷◌, ◌++◌, map, take, IfOk};
+ghost use Rattle.std.specs.Prelude.{◌≡◌, ℕ, ◌∷◌, ◌++◌, map, take, IfOk, OnOk};
 ghost use Rattle.std.specs.Bool.{OnTrue};
 ghost use Rattle.std.specs.List.{Contains};
 ghost use Rattle.spf_tree.specs.declared.row.Row.{Row};
@@ -23,13 +23,41 @@ pub fn ends(alloc: Global, rows: &[Row], root: u64) -> Result<Vec<u64>, OutOfMem
         Ok(()) => {}
         Err(_) => return Err(OutOfMemory),
     }
+    match add_ends(&mut nodes, rows) {
+        Ok(()) => Ok(nodes),
+        Err(error) => Err(error),
+    }
+}
+
+/// The nodes and the end of each row, in order.
+pub fn with_ends(alloc: Global, nodes: &[u64], rows: &[Row]) -> Result<Vec<u64>, OutOfMemory>
+    ensures rising { IfOk result (λ all. IsStrictlyIncreasing all.items) }
+    ensures nodes { IfOk result (λ all. (node : ℕ) → Contains nodes.now node
+        → Contains all.items node) }
+    ensures ends { IfOk result (λ all. (row : Row) → Contains rows.now row
+        → Contains all.items (end row)) }
+{
+    let mut all = match Vec::from_slice(alloc, nodes) {
+        Ok(all) => all,
+        Err(_) => return Err(OutOfMemory),
+    };
+    match add_ends(&mut all, rows) {
+        Ok(()) => Ok(in_order(all)),
+        Err(error) => Err(error),
+    }
+}
+
+/// Adds the end of each row.
+fn add_ends(nodes: &mut Vec<u64>, rows: &[Row]) -> Result<(), OutOfMemory>
+    ensures { OnOk result (nodes.new.items ≡ nodes.old.items ++ map end rows.now) }
+{
     for row in rows {
         match nodes.push(number(row.to)) {
             Ok(()) => {}
             Err(_) => return Err(OutOfMemory),
         }
     }
-    Ok(nodes)
+    Ok(())
 }
 
 /// The nodes in order, each once.

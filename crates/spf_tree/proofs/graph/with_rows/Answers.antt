@@ -12,6 +12,15 @@ with_rows-requires-clause-ends c = λ row h.
     let there : Contains c.graph.inside.indexed.nodes (end o.0) =
     elim o.1 [
       | inl was ↦ c.kept.ensures.ends o.0 (subst (λ (rs : List Row). Contains rs o.0) (sym rows) was)
-      | inr new ↦ subst (λ (ns : List ℕ). Contains ns (end o.0)) c.nodes.ensures (c.if-not-have_ends.ensures o.0 new)
+      | inr new ↦ subst (λ (ns : List ℕ). Contains ns (end o.0)) c.nodes.ensures (c.if-have_ends.ensures o.0 new)
     ] in
     subst (λ (n : ℕ). Contains c.graph.inside.indexed.nodes n) o.2 there
+
+pub with_ends-requires-clause-ends : goal.with_ends-requires-clause-ends
+with_ends-requires-clause-ends c = λ row h.
+    let o = c.requires.ends row h in
+    let rows = ap (λ (g : GraphOf). g.rows) c.graph.view_is in
+    elim o.1 [
+      | inl was ↦ inl (subst (λ (n : ℕ). Contains c.graph.inside.indexed.nodes n) o.2 (c.kept.ensures.ends o.0 (subst (λ (rs : List Row). Contains rs o.0) (sym rows) was)))
+      | inr new ↦ inr (o.0, new, o.2)
+    ]
