@@ -4,8 +4,7 @@ use Rattle.std.specs.List.{flat_map}
 use Rattle.isis_base.specs.declared.level.Level.TheVariants as level
 use Rattle.isis_model.specs.Routers.{Router}
 use Rattle.network_model.specs.Networks.{Network}
-use Rattle.network_lab.specs.LabNets.{Seen, seen_of}
-use Rattle.network_lab.specs.LinkStates.{groups_at}
+use Rattle.lab_play.specs.Passed.{Seen, groups_at, seen_of}
 use Rattle.route_table.specs.declared.route.Route.{Route}
 use Rattle.router_routes.specs.Outlooks.{outlook_of}
 use Rattle.router_routes.specs.Candidates.{AreRoutesOf}

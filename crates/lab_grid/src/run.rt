@@ -10,9 +10,8 @@ use crate::script::grid_script;
 use crate::summary::Summary;
 use crate::tally::Tally;
 use isis_base::{Level, OutOfMemory};
-use lab_play::play;
+use lab_play::{Network, play};
 use lab_script::{LabScript, Reason, Script, ScriptFault, read_script};
-use network_lab::Network;
 use std::alloc::Global;
 
 /// Runs the script of a grid of `size` rows and as many columns, 1 to 8, and sums up the network at its end. What is refused

@@ -6,8 +6,8 @@ use Rattle.isis_model.specs.Routers.{Router}
 use Rattle.isis_base.specs.declared.prefix.Prefix as base
 use Rattle.router_desk.specs.declared.config.Change.TheVariants as change
 use Rattle.router_desk.specs.Configs.{prefix_number}
-use Rattle.router_core.specs.Events.{FitsPrefix}
-use Rattle.router_core.specs.Givens.{given}
+use Rattle.network_lab.specs.Passed.{FitsPrefix}
+use Rattle.network_lab.specs.Passed.{given}
 use Rattle.network_model.specs.declared.end.End.{End}
 use Rattle.network_model.specs.Networks.{Datagram, octets_of, Network, place_in, place_at, numbered}
 use Rattle.network_model.specs.Ports.{Port}

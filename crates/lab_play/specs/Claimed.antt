@@ -2,7 +2,7 @@
 -- 3.2; the words: own).
 use Rattle.std.specs.Prelude.{◌≡◌, ◌+◌, List, [], ◌∷◌, ◌++◌, Ok}
 use Rattle.router_desk.specs.declared.config.Change.TheVariants as change
-use Rattle.router_core.specs.Givens.{given}
+use Rattle.network_lab.specs.Passed.{given}
 use Rattle.network_model.specs.Networks.{Network}
 use Rattle.network_model.specs.Runs.{Happening, run}
 use Rattle.network_model.specs.LineEvents.{line_events}

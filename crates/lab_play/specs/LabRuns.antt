@@ -1,7 +1,7 @@
 -- The run of a lab script: its event lines, one after another (own).
 use Rattle.std.specs.Prelude.{ℕ, ◌+◌, nat_lt, List, [], ◌∷◌, length, Option, Some, None, is_some, Result, Ok, Err, if◌then◌else◌}
 use Rattle.router_desk.specs.declared.config.Change.TheVariants as change
-use Rattle.router_core.specs.Givens.{given}
+use Rattle.network_lab.specs.Passed.{given}
 use Rattle.network_model.specs.Networks.{Network, numbered}
 use Rattle.network_model.specs.RunLines.{run_line}
 use Rattle.key_net.specs.declared.faults.LabFault.{LabFault}

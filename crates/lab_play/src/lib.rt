@@ -8,4 +8,5 @@ mod lay_out;
 mod playing;
 mod router_config;
 
+pub use network_lab::Network;
 pub use playing::play;

@@ -5,7 +5,7 @@ ghost use Rattle.network_lab.specs.LabNets.{StandsFor};
 ghost use Rattle.network_lab.specs.LabEvents.{IsEvent};
 ghost use Rattle.network_lab.specs.declared.event.LabEvent.TheVariants as event;
 ghost use Rattle.network_model.specs.RunLines.{run_line};
-ghost use Rattle.router_core.specs.Givens.{given};
+ghost use Rattle.network_lab.specs.Passed.{given};
 ghost use Rattle.lab_script.specs.declared.deeds.LabDeed.TheVariants as deed;
 ghost use Rattle.isis_model.specs.Places.{nth};
 ghost use Rattle.router_desk.specs.declared.config.Change.TheVariants as change;

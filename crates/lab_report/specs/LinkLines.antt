@@ -6,7 +6,7 @@ use Rattle.isis_base.specs.Levels.{level_text}
 use Rattle.isis_model.specs.Places.{nth}
 use Rattle.isis_model.specs.Routers.{Router}
 use Rattle.network_model.specs.declared.end.End.{End}
-use Rattle.link_states.specs.declared.state.LinkState.{LinkState}
+use Rattle.network_lab.specs.Passed.{LinkState}
 use Rattle.network_lab.specs.LabNets.{Seen}
 use Rattle.network_lab.specs.LinkStates.{state_at, pair_of, are_points}
 use Rattle.network_model.specs.RunLines.{ends_of}

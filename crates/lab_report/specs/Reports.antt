@@ -10,7 +10,7 @@ use Rattle.isis_model.specs.Places.{nth}
 use Rattle.isis_model.specs.Routers.{Router}
 use Rattle.isis_model.specs.Numbers.{lsp_id}
 use Rattle.network_model.specs.Networks.{numbered}
-use Rattle.own_histories.specs.Sightings.{doubled_in}
+use Rattle.network_lab.specs.Passed.{doubled_in}
 use Rattle.route_table.specs.declared.route.Route.{Route}
 use Rattle.router_routes.specs.Outlooks.{outlook_of}
 use Rattle.router_routes.specs.Candidates.{AreRoutesOf}

@@ -2,15 +2,14 @@
 ghost use Rattle.std.specs.Prelude.{◌≡◌, ◌+◌, Some, IfSome};
 ghost use Rattle.isis_model.specs.Places.{nth};
 ghost use Rattle.router_desk.specs.Desks as desk;
-ghost use Rattle.router_core.specs.Events.{IsThere};
+ghost use Rattle.network_lab.specs.Passed.{IsThere};
 ghost use Rattle.network_lab.specs.Claims.{IsEndIn};
 ghost use Rattle.network_lab.specs.LinkStates.{is_point_in};
 ghost use Rattle.lab_report.specs.LanLines.{is_lan_in};
 
 use isis_base::{CircuitKind, Level};
-use network_lab::Network;
+use network_lab::{Network, Router};
 use network_model::End;
-use router_core::Router;
 
 /// Whether an end's circuit is point-to-point and its router runs the level.
 pub(crate) fn is_point(net: &Network, end: End, level: Level) -> bool

@@ -15,9 +15,9 @@ use isis_base::{
     Key, Level, LspId, Octets, OutOfMemory, SystemId, add_lsp_id, add_number, add_system_id,
 };
 use lsp_octets::laws::id_law;
+use network_lab::Router;
 use purge_ageing::LetGo;
 use route_table::Route;
-use router_core::Router;
 use router_desk::DropName;
 
 /// Adds a router's block: its system and boot, the LSPs that it holds, those that it let go, its

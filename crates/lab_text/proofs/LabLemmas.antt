@@ -4,7 +4,7 @@ use Rattle.std.proofs.lemmas.List.{length-map}
 use Rattle.std.specs.Borrow.{Bor}
 use Rattle.route_table.specs.declared.route.Route.{Route}
 use Rattle.network_model.specs.Networks.{Network}
-use Rattle.network_lab.specs.LabNets.{Seen, LabNet}
+use Rattle.lab_play.specs.Passed.{Seen, LabNet}
 use Rattle.lab_script.specs.declared.reason.ScriptFault.{ScriptFault}
 use Rattle.lab_script.specs.declared.script.Script.{Script}
 use Rattle.lab_script.specs.declared.script.Script.TheVariants.{Lab}

@@ -2,7 +2,7 @@
 use Rattle.std.specs.Prelude.{◌≡◌, ℕ, List, Result, Ok, Err}
 use Rattle.route_table.specs.declared.route.Route.{Route}
 use Rattle.network_model.specs.Networks.{Network}
-use Rattle.network_lab.specs.LabNets.{Seen, LabNet, seen_of}
+use Rattle.lab_play.specs.Passed.{Seen, LabNet, seen_of}
 use Rattle.lab_script.specs.declared.reason.ScriptFault.{ScriptFault}
 use Rattle.lab_script.specs.declared.reason.ScriptFault.TheVariants.{Refused, Limit}
 use Rattle.lab_script.specs.LabScripts.{LabScript, router_names, link_names}

@@ -1,5 +1,5 @@
 -- The definitions: fault texts, keys in net, keys report, keys runs, report left, run faults,
--- runs, lab reports, playing, claimed.
+-- runs, lab reports, playing, claimed; and what is passed on.
 pub mod FaultTexts
 pub mod KeysInNet
 pub mod KeysReport
@@ -10,3 +10,4 @@ pub mod Runs
 pub mod LabReports
 pub mod Playing
 pub mod Claimed
+pub mod Passed

@@ -1,7 +1,7 @@
 -- The network at the end of a lab script, or why there is none (own).
 use Rattle.std.specs.Prelude.{◌≡◌, length, Result, Ok, Err, None}
 use Rattle.network_model.specs.Networks.{Network}
-use Rattle.network_lab.specs.LabNets.{LabNet, Seen, StandsFor}
+use Rattle.lab_play.specs.Passed.{LabNet, Seen, StandsFor}
 use Rattle.lab_script.specs.declared.reason.ScriptFault.{ScriptFault}
 use Rattle.lab_script.specs.declared.reason.ScriptFault.TheVariants.{Refused, Limit}
 use Rattle.lab_script.specs.declared.script.Script.{Script}

@@ -1,8 +1,8 @@
 //! Why a script's run didn't end with its whole report.
 ghost use Rattle.std.specs.Prelude.{Some};
 
+use key_net::LimitName;
 use lab_script::{Reason, ScriptFault};
-use network_lab::LimitName;
 use std::error::Error;
 use std::fmt;
 

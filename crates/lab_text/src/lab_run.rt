@@ -16,9 +16,9 @@ use crate::fault::RunFault;
 use crate::playing::play_script;
 use isis_base::OutOfMemory;
 use isis_edge::{Sink, TextFailed, write_text};
+use lab_play::Network;
 use lab_report::LabReport;
 use lab_script::{LabDeed, LabLine, LabScript, Script};
-use network_lab::Network;
 use std::alloc::Global;
 
 /// Plays a lab script and writes its whole report.

@@ -16,6 +16,8 @@ mod report;
 mod run;
 
 pub use fault::RunFault;
+pub use key_net::LimitName;
+pub use lab_play::Network;
 pub use lab_script::{
     CIRCUIT_LIMIT, End, Hex, KeyScope, LabDeed, LabKey, LabLine, LabLink, LabRouter, LabScript,
     Name, Reason, Script, ScriptFault, read_name, read_script,

@@ -8,7 +8,7 @@ ghost use Rattle.line_cuts.specs.Words.{texts};
 use crate::left::KeysReport;
 use isis_base::{Key, LspId, Octets, OutOfMemory, add_lsp_id, add_number};
 use isis_edge::Text;
-use network_lab::KeyNet;
+use key_net::KeyNet;
 
 impl<'n, 't> KeysReport<'n, 't> {
     /// The report of a network whose routers have these names.

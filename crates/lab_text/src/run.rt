@@ -15,8 +15,8 @@ use crate::lab_run::run_lab;
 use crate::left::KeysReport;
 use isis_base::OutOfMemory;
 use isis_edge::{Sink, TextFailed, write_text};
+use key_net::{KeyNet, LabFault};
 use lab_script::{EventLine, KeyEvent, KeysScript, Reason, Script, ScriptFault};
-use network_lab::{KeyNet, LabFault};
 use std::alloc::Global;
 
 /// Runs a script and writes its whole report. Nothing is written before the run has come to its end.

@@ -13,6 +13,7 @@ pub mod TakeLemmas
 pub mod LoopLemmas
 pub mod ConfigLemmas
 pub mod ReadLemmas
+pub mod PortLemmas
 pub mod SetupLemmas
 pub mod StateLemmas
 pub mod ReachedLemmas

@@ -7,6 +7,7 @@ use Rattle.isis_model.specs.Places.{nth}
 use Rattle.isis_model.specs.Routers.{Router}
 use Rattle.isis_model.specs.AdjacencyLaws.{is_point}
 use Rattle.network_model.specs.declared.end.End.{End}
+use Rattle.network_model.specs.Networks.{place_in}
 use Rattle.network_model.specs.Ports.{Port}
 use Rattle.network_model.specs.Links.{IsUp}
 use Rattle.network_model.specs.Kept.{IsClaimedOf}
@@ -51,3 +52,14 @@ pub record IsEndIn (routers : List Router) (e : End) : Type 0 where
 abbrev pub AreEnds : Seen → Type 0
 AreEnds s = (link : ℕ) (ends : List End) → nth s.links link ≡ Some ends
     → AllByRecursion (IsEndIn s.routers) ends
+
+-- these are the links of a router's circuits, in order (own)
+abbrev pub AreLinksOf : List (List End) → ℕ → List ℕ → Type 0
+AreLinksOf links router ports =
+    (place link : ℕ) → nth ports place ≡ Some link → place_in (nth links link) router ≡ Some place
+
+-- a router's place belongs to one link (own)
+abbrev pub HaveOneLink : List (List End) → Type 0
+HaveOneLink links =
+    (link other router place : ℕ) → place_in (nth links link) router ≡ Some place
+    → place_in (nth links other) router ≡ Some place → link ≡ other

@@ -1,5 +1,6 @@
 -- The definitions: lab nets, lab causes, lab configs, lab events, lab takings, hearing, agreements,
--- claims, LAN states, link states, reached, acknowledged, lab inside, joining, lab steps, lab runs.
+-- claims, LAN states, link states, reached, acknowledged, lab inside, joining, lab steps, lab runs;
+-- and what is passed on.
 pub mod LabNets
 pub mod LabCauses
 pub mod LabConfigs
@@ -16,3 +17,4 @@ pub mod LabInside
 pub mod Joining
 pub mod LabSteps
 pub mod LabRuns
+pub mod Passed

@@ -39,4 +39,5 @@ pub use lan_state::LanState;
 pub use link_states::{Groups, LinkState};
 pub use network::Network;
 pub use network_model::PduWord;
+pub use router_core::Router;
 pub use sent::{Changes, SentDatagram};

@@ -3,11 +3,11 @@ ghost use Rattle.std.specs.Prelude.{◌≡◌, ◌<◌, ◌≤◌, ◌-◌, fals
 ghost use Rattle.std.specs.Option.{option_map};
 ghost use Rattle.isis_model.specs.Places.{nth};
 ghost use Rattle.network_model.specs.Networks.{numbered};
-ghost use Rattle.network_model.specs.RunLines.{link_of as link_at};
+ghost use Rattle.network_model.specs.RunLines.{link_of as link_at, circuit_count};
 ghost use Rattle.flag_sync.specs.Walks.{numbers_of};
 ghost use Rattle.own_histories.specs.Sightings.{doubled_in};
 ghost use Rattle.network_lab.specs.LabNets.{empty_lab, systems_of, AreDistinct};
-ghost use Rattle.network_lab.specs.Claims.{AreEnds, IsClaimed};
+ghost use Rattle.network_lab.specs.Claims.{AreEnds, AreLinksOf, HaveOneLink, IsClaimed};
 ghost use Rattle.network_lab.specs.LinkStates.{AreWithin};
 ghost use Rattle.network_lab.specs.Reached.{AreSmall, HasRun, HoldNothing};
 
@@ -79,8 +79,8 @@ impl Network {
         }
     }
 
-    /// What always holds of a network: at most 262,144 datagrams were sent, all of octets, and the
-    /// ends of links are there. Before an event no router holds anything. In a run that wasn't
+    /// What always holds of a network: at most 262,144 datagrams were sent, all of octets, the ends of
+    /// links are there, and a router's place belongs to one link. Before an event no router holds anything. In a run that wasn't
     /// stopped, where nothing was injected, it is seen as a network whose routers can be reached; the
     /// claims of links, groups, sweeps and contents hold; and no end of a link is ahead in more LSP
     /// IDs than its SRM flags. No two routers have one system. It does nothing.
@@ -88,6 +88,7 @@ impl Network {
         ensures few { length self.now.seen.sent ≤ 262144 }
         ensures small { AreSmall self.now.seen.sent }
         ensures ends { AreEnds self.now.seen }
+        ensures wired { HaveOneLink self.now.seen.links }
         ensures systems { AreDistinct (systems_of self.now.seen.routers) }
         ensures run { self.now.stopped ≡ None → self.now.seen.injected ≡ 0
             → HasRun self.now.seen }
@@ -144,6 +145,15 @@ impl Network {
         ensures { result ≡ link_at router (circuit - 1) 0 self.now.seen.links }
     {
         self.port(router, usize::from(circuit) - 1)
+    }
+
+    /// The links of a router's circuits, in order.
+    pub fn ports(&self, router: usize) -> &[usize]
+        requires { router < length self.now.seen.routers }
+        ensures size { length result.now ≡ circuit_count (nth self.now.seen.routers router) }
+        ensures on { AreLinksOf self.now.seen.links router result.now }
+    {
+        self.ports[router].as_slice()
     }
 
     /// The octets of a datagram, counted from 1; `None` exactly at 0 and past the last one.

@@ -2,8 +2,7 @@
 ghost use Rattle.std.specs.Prelude.{◌<◌, length};
 
 use isis_base::Level;
-use lab_text::{Reason, RunFault, play_script, read_script};
-use network_lab::Network;
+use lab_text::{Network, Reason, RunFault, play_script, read_script};
 use std::alloc::Global;
 use std::test::Fail;
 
@@ -57,6 +56,8 @@ fn is_joined(net: &Network) -> bool {
         && net.link_of(0, 1) == Some(0)
         && net.link_of(1, 1) == Some(0)
         && net.link_of(0, 2).is_none()
+        && net.ports(0).len() == 1
+        && net.ports(1).len() == 1
 }
 
 /// Whether each router's distances of level 1 were repaired once: the rows between the two become usable in one event, and

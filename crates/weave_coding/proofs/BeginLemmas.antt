@@ -4,7 +4,7 @@ use Rattle.isis_model.specs.Givens.{Given}
 use Rattle.isis_model.specs.Places.{nth}
 use Rattle.isis_model.specs.Routers.{Router}
 use Rattle.network_model.specs.Networks.{Datagram, Network}
-use Rattle.router_core.specs.Givens.{given}
+use Rattle.weave_replay.specs.Passed.{given}
 use Rattle.weave_core.specs.declared.moves.Move.{Move as CoreMove}
 use Rattle.weave_core.specs.Codes.{code_of}
 use Rattle.weave_core.specs.Scenes.{start as start_of}

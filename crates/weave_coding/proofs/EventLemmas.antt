@@ -2,8 +2,8 @@
 use Rattle.std.proofs.Common.{◌≡◌, ℕ, ◌-◌, List, map, length, get_or, Some, IfSome, sym, ap, ◌∙◌, subst, arith}
 use Rattle.isis_model.specs.Places.{nth}
 use Rattle.network_model.specs.declared.end.End.{End}
-use Rattle.journal_text.specs.declared.entry.WovenEvent.{WovenEvent}
-use Rattle.journal_text.specs.declared.entry.WovenEvent.TheVariants as event
+use Rattle.weave_replay.specs.Passed.WovenEvent.{WovenEvent}
+use Rattle.weave_replay.specs.Passed.WovenEvent.TheVariants as event
 use Rattle.weave_core.specs.declared.moves.Move.{Move as CoreMove}
 use Rattle.weave_core.specs.Codes.{code_of, with_wire}
 use Rattle.weave_model.specs.Entries.{Take, Answer}

@@ -1,7 +1,7 @@
 -- The lemmas, a module for each topic.
 mod LetterLemmas
-mod RowLemmas
+pub mod RowLemmas
 mod EventLemmas
-mod TrackLemmas
+pub mod TrackLemmas
 mod PortLemmas
 mod BeginLemmas

@@ -7,7 +7,7 @@ use Rattle.isis_model.specs.Places.{nth}
 use Rattle.isis_model.specs.Routers.{Router}
 use Rattle.isis_model.specs.Starts.{started}
 use Rattle.network_model.specs.Networks.{restarted}
-use Rattle.router_core.specs.Givens.{given}
+use Rattle.weave_replay.specs.Passed.{given}
 use Rattle.weave_model.specs.Entries.{Deed, Second, Take, Pull, Metric, Overload, Prefix, Entry, event_of, next, replay}
 use Rattle.weave_model.specs.Faults.{is_there, fits, AreGood, AreGoodAll}
 use Rattle.weave_replay.specs.declared.journal.WovenJournal.{WovenJournal}

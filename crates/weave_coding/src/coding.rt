@@ -9,10 +9,9 @@ ghost use Rattle.weave_replay.specs.Replays.{journals_of};
 use crate::moves::{move_of, quiet};
 use crate::takes::add_all;
 use isis_base::OutOfMemory;
-use journal_text::WovenEntry;
 use std::alloc::Global;
 use weave_core::{LetterBook, Move, Track};
-use weave_replay::WovenJournal;
+use weave_replay::{WovenEntry, WovenJournal};
 
 /// The tracks of routers by letters, one for each router, by the links of its circuits.
 pub fn code_journals(

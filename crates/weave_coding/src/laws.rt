@@ -2,7 +2,7 @@
 ghost use Rattle.std.specs.Prelude.{◌≡◌, ℕ, List, length};
 ghost use Rattle.isis_model.specs.Routers.{Router};
 ghost use Rattle.network_model.specs.Networks.{Network};
-ghost use Rattle.router_core.specs.Givens.{given};
+ghost use Rattle.weave_replay.specs.Passed.{given};
 ghost use Rattle.weave_core.specs.declared.moves.Move.{Move as CoreMove};
 ghost use Rattle.weave_core.specs.Codes.{code_of};
 ghost use Rattle.weave_core.specs.Scenes.{start as start_of};

@@ -8,10 +8,9 @@ ghost use Rattle.weave_coding.specs.Coded.{ArePorts, HasPort, IsLettered};
 ghost use Rattle.weave_replay.specs.Entries.{entry_of, answer_of};
 
 use isis_base::OutOfMemory;
-use journal_text::{WovenEntry, WovenEvent, WovenReply};
-use router_core::Datagrams;
 use std::alloc::Global;
 use weave_core::{LetterBook, Letters, Move};
+use weave_replay::{Datagrams, WovenEntry, WovenEvent, WovenReply};
 
 /// A move that needs and sends nothing.
 pub(crate) fn quiet(alloc: Global) -> Move

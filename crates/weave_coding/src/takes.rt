@@ -6,9 +6,8 @@ ghost use Rattle.weave_coding.specs.Coded.{HasPort, HavePorts, IsLettered, AreLe
 ghost use Rattle.weave_replay.specs.Entries.{entry_of, entries_of};
 
 use isis_base::OutOfMemory;
-use journal_text::{WovenEntry, WovenEvent};
 use weave_core::LetterBook;
-use weave_replay::WovenJournal;
+use weave_replay::{WovenEntry, WovenEvent, WovenJournal};
 
 /// Gives all that journals take a letter.
 pub(crate) fn add_all<'a>(

@@ -18,7 +18,7 @@ use Rattle.std.proofs.Common.{Option, Some, None}
 use Rattle.weave_model.specs.Entries.{octets_on}
 use Rattle.router_core.specs.Replies.{datagrams_on}
 
-same-datagrams : (r : Router) (place : ℕ) (c : Option Circuit) (out : List Sent) → octets_on r place c out ≡ datagrams_on r place c out
+pub same-datagrams : (r : Router) (place : ℕ) (c : Option Circuit) (out : List Sent) → octets_on r place c out ≡ datagrams_on r place c out
 same-datagrams r place None out = refl
 same-datagrams r place (Some c) out = refl
 

@@ -5,3 +5,4 @@ mod BehindLemmas
 mod TellLemmas
 mod EntryLemmas
 mod LimitLemmas
+mod HistoryLemmas

@@ -3,3 +3,4 @@
 pub mod Entries
 pub mod Outcomes
 pub mod Replays
+pub mod Passed

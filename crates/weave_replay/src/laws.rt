@@ -1,15 +1,23 @@
 //! What follows of what is told.
-ghost use Rattle.std.specs.Prelude.{◌≡◌, ◌≢◌, ℕ, ◌+◌, List, length, Some};
+ghost use Rattle.std.specs.Prelude.{◌≡◌, ◌≢◌, ℕ, ◌+◌, List, length, map, Option, Some};
+ghost use Rattle.std.specs.List.{AllByRecursion};
+ghost use Rattle.circuit_threads.specs.declared.entry.Note.{Note};
+ghost use Rattle.circuit_threads.specs.History.{IsHistory, entries};
+ghost use Rattle.circuit_threads.specs.Shared.{KeepsPrefixes};
 ghost use Rattle.isis_model.specs.Places.{nth};
 ghost use Rattle.isis_model.specs.Routers.{Router};
+ghost use Rattle.journal_text.specs.Written.{entry_read};
+ghost use Rattle.router_core.specs.Events.{Fits};
 ghost use Rattle.router_core.specs.Givens.{given};
 ghost use Rattle.weave_model.specs.Entries.{Entry};
-ghost use Rattle.weave_model.specs.Faults.{AreGoodAll, opening};
+ghost use Rattle.weave_model.specs.Faults.{AreGood, AreGoodAll, opening};
+ghost use Rattle.weave_replay.specs.Entries.{entry_of};
 ghost use Rattle.weave_replay.specs.declared.fault.ReplayFault.{ReplayFault};
 ghost use Rattle.weave_replay.specs.declared.journal.WovenJournal.{WovenJournal};
 ghost use Rattle.weave_replay.specs.Replays.{journals_of, in_first_boot, no_memory, IsTold, AreReplayed};
 
 use isis_model::laws::adjacencies::step_bonds;
+use router_desk::laws::reading_law;
 
 /// One thing at most applies to journals, so where nothing wants memory what is told is what
 /// applies.
@@ -31,4 +39,15 @@ pub fn replay_laws()
         → AreGoodAll given (in_first_boot first) (journals_of router journals) }
 {
     step_bonds();
+}
+
+/// The history of a router that threads share, whose events fitted it when it was shared, is a
+/// journal without a fault: so what a daemon writes replays.
+pub fn history_law()
+    ensures { (start now : Router) (notes : List Note) (stop : Option ℕ)
+        → IsHistory start now notes stop
+        → AllByRecursion (λ e. Fits start e.event × KeepsPrefixes e.event) (entries notes)
+        → AreGood given start (map (λ e. entry_of (entry_read e)) (entries notes)) }
+{
+    reading_law();
 }

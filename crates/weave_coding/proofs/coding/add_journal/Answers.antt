@@ -1,6 +1,6 @@
 use Rattle.std.proofs.Common.{◌≡◌, ℕ, List, Vec, Global, map, sym, ap, subst, ◌∙◌}
 use Rattle.std.proofs.lemmas.Result.{on_ok_weaker}
-use Rattle.journal_text.specs.declared.entry.WovenEntry.{WovenEntry}
+use Rattle.weave_replay.specs.Passed.WovenEntry.{WovenEntry}
 use Rattle.weave_core.specs.declared.moves.Move.{Move as CoreMove}
 use Rattle.weave_model.specs.Entries.{Entry}
 use Rattle.weave_replay.specs.Entries.{entry_of, entries_of}

@@ -1,7 +1,7 @@
 use Rattle.std.proofs.Common.{◌≡◌, false, None, subst}
 use Rattle.network_lab.specs.LabNets.{LabNet, AreDistinct, systems_of}
 use Rattle.network_lab.specs.LabInside.{lab_of}
-use Rattle.network_lab.specs.Claims.{AreEnds, IsClaimed}
+use Rattle.network_lab.specs.Claims.{AreEnds, HaveOneLink, IsClaimed}
 use Rattle.network_lab.specs.LinkStates.{AreWithin}
 use Rattle.network_lab.specs.Reached.{HasRun, HoldNothing}
 use Rattle.network_lab.proofs.StateLemmas.{ends-are}
@@ -13,6 +13,9 @@ pub returns-clause-ends : goal.returns-clause-ends
 returns-clause-ends c =
     subst (λ (a : LabNet). AreEnds a.seen) c.self.view_is
     (ends-are c.self.inside.ports.items c.self.inside.ordered.items (lab_of c.self.inside) c.self.invariant)
+
+pub returns-clause-wired : goal.returns-clause-wired
+returns-clause-wired c = subst (λ (a : LabNet). HaveOneLink a.seen.links) c.self.view_is c.self.invariant.wired.once
 
 pub returns-clause-systems : goal.returns-clause-systems
 returns-clause-systems c = subst (λ (a : LabNet). AreDistinct (systems_of a.seen.routers)) c.self.view_is c.self.invariant.systems
