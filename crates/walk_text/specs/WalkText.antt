@@ -2,8 +2,7 @@
 use Rattle.std.specs.Prelude.{ℕ, List, ◌++◌, codes, decimal}
 use Rattle.std.specs.List.{flat_map}
 use Rattle.isis_base.specs.declared.prefix.Prefix.{Prefix}
-use Rattle.lab_report.specs.Names.{name_at}
-use Rattle.lab_report.specs.RouteLines.{prefix_words}
+use Rattle.lab_text.specs.Passed.{name_at, prefix_words}
 use Rattle.forwarding.specs.declared.walked.Walked.{Walked}
 
 -- `walk NAME PREFIX cost C`

@@ -10,7 +10,7 @@ use Rattle.lab_script.specs.declared.script.Script.{Script}
 use Rattle.lab_script.specs.declared.script.Script.TheVariants.{Keys, Lab}
 use Rattle.lab_script.specs.Names.{number_of_name}
 use Rattle.lab_script.specs.Scripts.{is_lab_script, names_in}
-use Rattle.lab_play.specs.LabRuns.{end_of}
+use Rattle.lab_text.specs.Passed.{end_of}
 use Rattle.lab_text.specs.Runs.{outcome_of, WrotePart}
 use Rattle.forward_views.specs.Looks.{Look}
 use Rattle.forwarding.specs.declared.fault.ForwardFault.{ForwardFault}

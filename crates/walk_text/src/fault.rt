@@ -1,8 +1,7 @@
 //! Why no walk was written, or not all of it.
 
 use crate::reason::WalkReason;
-use lab_text::{Reason, RunFault};
-use network_lab::LimitName;
+use lab_text::{LimitName, Reason, RunFault};
 
 /// Why no walk was written, or not all of it. Lines are counted from 1.
 #[derive(Clone, Copy, Debug, PartialEq, Eq)]

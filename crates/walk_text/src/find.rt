@@ -8,8 +8,7 @@ use crate::fault::WalkFault;
 use crate::reason::{WalkReason, reason_of};
 use forwarding::{Walked, forward};
 use isis_base::Prefix;
-use lab_text::{Script, play_script};
-use network_lab::Network;
+use lab_text::{Network, Script, play_script};
 use std::alloc::Global;
 
 /// The walk to a prefix from the router of this name, over the routers at a script's end.

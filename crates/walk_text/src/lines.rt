@@ -1,9 +1,8 @@
 //! The text of a walk.
 ghost use Rattle.std.specs.Prelude.{◌≡◌, ◌++◌, OnOk, IfOk};
 ghost use Rattle.std.specs.List.{flat_map};
-ghost use Rattle.lab_report.specs.Names.{name_at};
-ghost use Rattle.lab_report.specs.RouteLines.{prefix_words};
 ghost use Rattle.lab_script.specs.Scripts.{names_in};
+ghost use Rattle.lab_text.specs.Passed.{name_at, prefix_words};
 ghost use Rattle.walk_text.specs.WalkText as lines;
 
 use forwarding::Walked;
@@ -95,7 +94,7 @@ fn add_hop(text: &mut Octets, script: &Script<'_>, router: usize) -> Result<(), 
 }
 
 /// The name of a router; nothing where there is none of this number.
-#[tactic(auto, unfolding(lab_report::specs::Names::name_at))]
+#[tactic(auto, unfolding(lab_text::specs::Passed::name_at))]
 fn name_of<'s>(script: &'s Script<'_>, router: usize) -> &'s str
     ensures { result.now ≡ name_at (names_in script.now) router }
 {

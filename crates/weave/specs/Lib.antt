@@ -1,0 +1,8 @@
+-- The definitions: what is woven, the first entry that is never reached, and what is told; then how
+-- routers' moves are left, made and played.
+pub mod Woven
+pub mod Unreached
+pub mod Faults
+pub mod Moves
+pub mod Counts
+pub mod Plays

@@ -1,0 +1,36 @@
+//! What follows for journals that are woven, and for those that aren't.
+ghost use Rattle.std.specs.Prelude.{◌≡◌, ◌≢◌, ℕ, List};
+ghost use Rattle.router_core.specs.Givens.{given};
+ghost use Rattle.network_model.specs.Networks.{Network};
+ghost use Rattle.network_model.specs.Runs.{Happening, run};
+ghost use Rattle.network_lab.specs.declared.event.LabEvent.{LabEvent};
+ghost use Rattle.network_lab.specs.LabNets.{LabNet, StandsFor};
+ghost use Rattle.weave_model.specs.Weavings.{Scene, IsWeaving};
+ghost use Rattle.weave_replay.specs.declared.journal.WovenJournal.{WovenJournal};
+ghost use Rattle.weave_coding.specs.Begins.{begin};
+ghost use Rattle.weave.specs.declared.fault.WeaveFault.{WeaveFault};
+ghost use Rattle.weave.specs.declared.fault.WeaveFault.TheVariants.{Stuck};
+ghost use Rattle.weave.specs.Faults.{no_memory, IsToldOf};
+ghost use Rattle.weave.specs.Woven.{happenings_of, IsWoven};
+
+use weave_replay::laws::told_laws;
+
+/// Where `Stuck` is told, no schedule is a weaving. Of journals at most one thing is told, where
+/// nothing wants memory: two faults of them are one, and where a schedule is woven there is none. The
+/// network behind a schedule is the one in which its events were run.
+pub fn weave_laws()
+    ensures stuck { (net : Network) (journals : List WovenJournal) (journal entry : ℕ)
+        (hs : List Happening) (s : Scene) → IsToldOf net journals (Stuck journal entry)
+        → IsWeaving given hs (begin net journals) s → ⊥ }
+    ensures once { (net : Network) (journals : List WovenJournal) (one two : WeaveFault)
+        → IsToldOf net journals one → IsToldOf net journals two → one ≢ no_memory
+        → two ≢ no_memory → one ≡ two }
+    ensures none { (net : Network) (journals : List WovenJournal) (schedule : List LabEvent)
+        (after : LabNet) (fault : WeaveFault) → IsWoven net journals schedule after
+        → IsToldOf net journals fault → fault ≡ no_memory }
+    ensures run { (net : Network) (journals : List WovenJournal) (schedule : List LabEvent)
+        (after : LabNet) → IsWoven net journals schedule after
+        → StandsFor (run given net (happenings_of schedule)) after }
+{
+    told_laws();
+}
