@@ -104,8 +104,8 @@ pub fn hello_rows()
     ensures other_system { tested config 2 2 level_two [] (shake (Some (3, 257)))
         ≡ Some OtherNeighbour }
     ensures old_boot { point_drop config 257 ((2, 3) ∷ []) (hello_from 2 Down None) ≡ Some OldBoot }
-    ensures old_first { point_drop config 257 ((2, 3) ∷ []) (record (hello_from 2 Down None) { runs = level_one })
-        ≡ Some OldBoot }
+    ensures old_first { point_drop config 257 ((2, 3) ∷ [])
+        (record (hello_from 2 Down None) { runs = level_one }) ≡ Some OldBoot }
     ensures same_boot { point_drop config 257 ((2, 2) ∷ []) (hello_from 2 Down None) ≡ None }
     ensures other_boot { tested config 2 2 level_two [] (shake (Some (1, 513)))
         ≡ Some OtherNeighbour }
@@ -148,8 +148,10 @@ pub fn lan_steps()
         (lan_hello ∷ [])).reply ≡ Dropped NoAdjacency }
     ensures old_point { (answer_to (Take 0 (LspHeard Two (record (from_snpa 2) { boot = 1 }) (lsp 6 9)))
         events_up).reply ≡ Dropped NoAdjacency }
-    ensures lsp { (answer_to (Take 1 (LspHeard Two (from_snpa 2) (lsp 6 9))) (lan_hello ∷ [])).reply ≡ Done }
-    ensures purge { (answer_to (Take 1 (LspHeard Two (from_snpa 2) (lsp 5 0))) (lan_hello ∷ [])).reply ≡ Done }
+    ensures lsp { (answer_to (Take 1 (LspHeard Two (from_snpa 2) (lsp 6 9))) (lan_hello ∷ [])).reply
+        ≡ Done }
+    ensures purge { (answer_to (Take 1 (LspHeard Two (from_snpa 2) (lsp 5 0))) (lan_hello ∷ [])).reply
+        ≡ Done }
     ensures acknowledged { (answer_to (Take 0 (LspHeard Two (from_snpa 2) (lsp 5 0))) events_up).reply
         ≡ Send (Psnp Two (purge_entry ∷ []) ∷ []) }
     ensures let_go { (level_of (run (Take 0 (LspHeard Two (from_snpa 2) (lsp 5 0)) ∷ events_up)) Two).gone
