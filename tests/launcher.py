@@ -61,7 +61,7 @@ class Clone:
 def answered(run, clone):
     """What is answered without a build."""
     start = lambda words, text="": run(words, text, program=clone.program, env=clone.environment)
-    for words in (["foo"], ["grid"], ["grid", "9"], ["lab", "lab"], [""], [b"\xff"], ["--version", "lab"], ["--unproved"], ["--unproved", "foo"]):
+    for words in (["foo"], ["grid"], ["grid", "9"], ["lab", "lab"], ["weave", "weave"], [""], [b"\xff"], ["--version", "lab"], ["--unproved"], ["--unproved", "foo"]):
         yield f"unbuilt: {words}", told(start(words), 2, "usage", "")
     for words in NO_WALKS:
         for before in ([], ["--unproved"]):
@@ -70,6 +70,7 @@ def answered(run, clone):
     line = "nothing is proved of this run; it is built for itself and checked as it goes, which is slow"
     yield "unbuilt: --unproved", told(start(["--unproved", "lab"], "a script\n"), 0, line, "try -- lab\na script\n")
     yield "unbuilt: --unproved walk", told(start(["--unproved", "walk", "A", "10.0.0.0/8"], "a script\n"), 0, line, "try -- walk A 10.0.0.0/8\na script\n")
+    yield "unbuilt: --unproved weave", told(start(["--unproved", "weave"], "a text\n"), 0, line, "try -- weave\na text\n")
     yield "unbuilt: --unproved grid", told(start(["--unproved", "grid", "8"], "a script\n"), 0, line, "try -- grid 8\n")
     folder = os.open(clone.folder, os.O_RDONLY)
     ended = run(["--unproved", "show"], "", program=clone.program, env=clone.environment, stdin=folder)

@@ -164,6 +164,30 @@ def walks(run):
     yield "a walk over an octet more", told(walk("\n" * (INPUT_LIMIT + 1)), 6, "input too long", "")
 
 
+def weaves(run):
+    """Journals behind prefixes, and many of one router."""
+    weave = lambda text: run(["weave"], text)
+    many = lambda count: prefixes(count).replace("isis-lab", "isis-weave")
+    block = "journal A\nisis-journal 1\n{}end\n"
+    for lines in ("1 0 change prefix 10.15.255.0/24 none -> done\n2 0 change prefix 10.16.0.0/24 10 -> done\n", "1 0 change prefix 10.0.0.0/24 9 -> done\n"):
+        written = "".join(f"prefix A {line.split()[4]} {line.split()[5]}\n" for line in lines.splitlines())
+        yield f"a change at 4,096 prefixes: {lines[:36]}", told(weave(many(4096) + block.format(lines)), 0, "", prefixes(4096) + written)
+    one_more = block.format("1 0 change prefix 10.16.0.0/24 10 -> done\n")
+    yield "a prefix more in a journal", told(weave(many(4096) + one_more), 11, "journal 1 entry 1 event", "")
+    yield "4,097 prefixes", told(weave(many(4097)), 10, "limit prefixes", "")
+    for line in ("prefix A", "router B", "tick A", "journal B"):
+        yield f"4,097 prefixes and a line {line}", told(weave(many(4097) + line + "\n"), 10, "limit prefixes", "")
+        yield f"4,096 prefixes and a line {line}", told(weave(many(4096) + line + "\n"), 3, f"line 4099 {'name' if line == 'journal B' else 'form'}", "")
+    yield "1,025 routers", told(weave(lab_routers(1025).replace("isis-lab", "isis-weave")), 10, "limit routers", "")
+    setup = "router A 0000.0000.0001 49.0001 L1\n"
+    yield "1,000 journals of a router", told(
+        weave("isis-weave 1\n" + setup + block.format("1 0 second -> done\n") * 1000), 0, "",
+        "isis-lab 1\n" + setup + "restart A\n".join(["tick A\n"] * 1000))
+    yield "a weaving of 16 MiB", told(weave("\n" * INPUT_LIMIT), 3, "line 1 head", "")
+    yield "a weaving of comments", told(weave("isis-weave 1\n" + "#" * (INPUT_LIMIT - 13)), 0, "", "isis-lab 1\n")
+    yield "a weaving of an octet more", told(weave("\n" * (INPUT_LIMIT + 1)), 6, "input too long", "")
+
+
 def cut_datagrams(run):
     """What a run sends, each datagram cut to each length, at the other end: dropped for its frame or its PDU, and nothing else changes."""
     text = TWO + "link X A B 10\nrun 7\n"
@@ -221,5 +245,5 @@ def restarted_ends(run):
 
 def faults(run):
     """Each of these inputs by name, and what comes out otherwise than it should, if anything does."""
-    for cases in (script_limits, fragments, long_inputs, grids, walks, cut_datagrams, late_datagrams, restarted_ends):
+    for cases in (script_limits, fragments, long_inputs, grids, walks, weaves, cut_datagrams, late_datagrams, restarted_ends):
         yield from cases(run)

@@ -16,6 +16,7 @@ from limits import INPUT_LIMIT, TWO, told
 
 LAUNCHER = Path(__file__).resolve().parent.parent / "isis"
 NO_WORDS = [[], [""], ["Lab"], ["lab", "lab"], ["lab "], ["--help"], ["grid"], ["grid", "0"], ["grid", "9"], ["grid", "01"], [b"\xff"]]
+NO_WORDS += [["weave", ""], ["weave "]]
 NO_WORDS += [["walk", name, prefix] for name, prefix in (("", "10.0.0.0/8"), ("A ", "10.0.0.0/8"), (b"\xff", "10.0.0.0/8"), ("A", ""), ("A", "10.0.0.0/8\n"))]
 SCRIPT = "isis-keys 1\nrouter A\nissue A 0000.0000.0001.00-00 2 live\n"
 REPORT = "isis-report 1\nkey A 0000.0000.0001.00-00 2 live\n"
@@ -176,6 +177,27 @@ def walks(run):
     os.close(folder)
 
 
+WOVEN = TWO + "link X A B 10\n"
+HELLO = "4953553200000000000100000001831401001101000001000000000001001e0024010104034900018101ccf0050200000101"
+TAKEN = f"journal B\nisis-journal 1\n1 1 take 1 {HELLO} -> done\nend\n"
+JOURNALS = WOVEN.replace("isis-lab", "isis-weave") + TAKEN
+WEAVE_TEXT = WOVEN + "pull A X\ndeliver 1 B\n"
+
+
+def weaves(run):
+    """A weaving is written, or a prefix of it; where there is none, no output is touched."""
+    closed = {"preexec_fn": lambda: os.closerange(1, 2)}
+    both = JOURNALS + f"journal A\nisis-journal 1\n1 1 pull 1 -> send {HELLO}\nend\n"
+    yield "a weaving", told(run(["weave"], both), 0, "", WEAVE_TEXT)
+    yield "a weaving, and no output", told(run(["weave"], both, **closed), 5, "write fault")
+    yield "no weaving, and no output", told(run(["weave"], JOURNALS, **closed), 11, "journal 1 entry 1 stuck")
+    for size in (0, 1, len(WEAVE_TEXT) - 1):
+        yield f"a weaving: a file of at most {size} octets", limited_fault(run, ["weave"], both, WEAVE_TEXT, size)
+    folder = os.open(tempfile.gettempdir(), os.O_RDONLY)
+    yield "a weaving, and a folder as input", told(run(["weave"], "", stdin=folder), 4, "read fault", "")
+    os.close(folder)
+
+
 def launcher(run):
     """The launcher hands on words, input and output, exit code and line; alone it prints help."""
     start = lambda these, text, **how: run(these, text, program=LAUNCHER, **how)
@@ -183,6 +205,7 @@ def launcher(run):
     yield "launcher: a script", told(start(["lab"], SCRIPT), 0, "", REPORT)
     yield "launcher: a walk", told(start(WALK, WALKED), 0, "", WALK_TEXT)
     yield "launcher: no walk", told(start(WALK, TWO), 12, "no walk owners", "")
+    yield "launcher: no weaving", told(start(["weave"], JOURNALS), 11, "journal 1 entry 1 stuck", "")
     yield "launcher: other words", told(start(["grid", "9"], ""), 2, "usage", "")
     yield "launcher: a refused script", told(start(["lab"], "isis-lab 2\n"), 3, "line 1 head", "")
     yield "launcher: an input too long", told(start(["lab"], "\n" * (INPUT_LIMIT + 1)), 6, "input too long", "")
@@ -196,5 +219,5 @@ def launcher(run):
 
 def faults(run):
     """Each of these runs by name, and what comes out otherwise than it should, if anything does."""
-    for cases in (words, inputs, reads, outputs, writes, killed, readers, memory, walks, launcher):
+    for cases in (words, inputs, reads, outputs, writes, killed, readers, memory, walks, weaves, launcher):
         yield from cases(run)

@@ -105,6 +105,20 @@ def neighbours(run):
         taken = re.findall(r"(?m)^\d+ 1 take 1 ([0-9a-f]+) -> ", ends[place].output)
         unsent = [octets for octets in taken if octets not in ends[1 - place].output]
         yield f"{name} hears the other", None if taken and not unsent else f"{len(taken)} datagrams taken, {len(unsent)} of them never sent"
+    yield from woven(run, [end.output for end in ends])
+
+
+def woven(run, journals):
+    """The journals of two neighbours weave, each behind those of the boots before it, and the lab plays the schedule."""
+    setup = "router A 0000.0000.0001 49.0001 L1\nrouter B 0000.0000.0002 49.0001 L1\nlink X A B 10\n"
+    before = int(WORDS[2]) - 1
+    blocks = "".join(f"journal {name}\n{text}end\n" for name, journal in zip("AB", journals) for text in [HEAD] * before + [journal])
+    ended = run(["weave"], f"isis-weave 1\n{setup}{blocks}")
+    yield "two journals weave", told(ended, 0)
+    lines = ended.output.removeprefix(f"isis-lab 1\n{setup}").splitlines()
+    entries = sum(journal.count("\n") - 1 for journal in journals)
+    yield "a line for each entry and restart", None if len(lines) == entries + 2 * before else f"{len(lines)} lines, {entries} entries"
+    yield "the lab plays what two daemons did", told(run(["lab"], ended.output), 0)
 
 
 def memory(run):

@@ -1,6 +1,6 @@
 // What the looks of a quiet daemon cost at least: threads that wait 100 ms at a UDP socket each, again and again.
 //
-// waits THREADS SECONDS JOURNAL: a look sets the socket's timeout, waits for a datagram that never comes, and writes a line to JOURNAL under a lock.
+// waits THREADS SECONDS JOURNAL: a look waits for a datagram that never comes, and writes a line to JOURNAL under a lock.
 // With `-` for JOURNAL it only waits. Prints the milliseconds of a processor a second, and the looks a second.
 #include <arpa/inet.h>
 #include <fcntl.h>
@@ -32,7 +32,6 @@ static void *look(void *unused) {
     for (;;) {
         struct sockaddr_in from;
         socklen_t size = sizeof from;
-        if (journal >= 0) setsockopt(port, SOL_SOCKET, SO_RCVTIMEO, &WAIT, sizeof WAIT);
         recvfrom(port, room, sizeof room, 0, (struct sockaddr *)&from, &size);
         looks++;
         if (journal >= 0) {

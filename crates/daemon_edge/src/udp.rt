@@ -24,28 +24,47 @@ impl Address {
     }
 }
 
-/// A port over a UDP socket. A take waits 100 ms at most, and passes over what doesn't come from one of the circuit's
-/// peers; an offer goes to each peer.
+/// A socket, and how long a look at it waits as it is set; nothing was set before the first look.
 #[derive(Drop)]
-pub struct UdpPort {
+struct Listener {
     socket: UdpSocket,
-    circuit: u8,
-    place: CircuitPlace,
-    asked: u64,
-    faults: u64,
+    waits: Option<Duration>,
 }
 
-impl UdpPort {
+impl Listener {
+    /// The next datagram of a peer, within the time that a take has.
+    fn take_within<R: Clock>(&mut self, rt: &R, peers: &[Address], buffer: &mut [u8]) -> Taken
+        ensures { Gives None None result buffer.new }
+    {
+        let Ok(start) = rt.monotonic() else {
+            return Taken::Failed;
+        };
+        let mut left = Duration::from_millis(WAIT);
+        for _ in 0..STRANGERS {
+            if let Some(taken) = self.receive(peers, left, buffer) {
+                return taken;
+            }
+            let Ok(now) = rt.monotonic() else {
+                return Taken::Failed;
+            };
+            left = Duration::from_millis(WAIT).saturating_sub(now.saturating_sub(start));
+            if left.is_zero() {
+                return Taken::NotYet;
+            }
+        }
+        Taken::NotYet
+    }
+
     /// What comes within a time; `None` where it is a stranger's.
-    fn receive(&self, wait: Duration, buffer: &mut [u8]) -> Option<Taken>
+    fn receive(&mut self, peers: &[Address], wait: Duration, buffer: &mut [u8]) -> Option<Taken>
         ensures { IfSome result (λ taken. Gives None None taken buffer.new) }
     {
-        if self.socket.set_read_timeout(Some(wait)).is_err() {
+        if !self.sets(wait) {
             return Some(Taken::Failed);
         }
         match self.socket.recv_from(buffer) {
             Ok((count, from)) => {
-                if self.is_peer(from) {
+                if is_one_of(from, peers) {
                     Some(Taken::Got(count))
                 } else {
                     None
@@ -60,36 +79,38 @@ impl UdpPort {
         }
     }
 
-    fn is_peer(&self, from: SocketAddr) -> bool {
-        for peer in self.place.peers.as_slice() {
-            if peer.socket() == from {
-                return true;
-            }
+    /// Has a look wait so long at most, and tells whether it does. The system is asked only where it isn't set so.
+    fn sets(&mut self, wait: Duration) -> bool {
+        if self.waits == Some(wait) {
+            return true;
         }
-        false
+        if self.socket.set_read_timeout(Some(wait)).is_err() {
+            self.waits = None;
+            return false;
+        }
+        self.waits = Some(wait);
+        true
     }
+}
 
-    /// The next datagram of a peer, within the time that a take has.
-    fn take_within<R: Clock>(&self, rt: &R, buffer: &mut [u8]) -> Taken
-        ensures { Gives None None result buffer.new }
-    {
-        let Ok(start) = rt.monotonic() else {
-            return Taken::Failed;
-        };
-        for _ in 0..STRANGERS {
-            let Ok(now) = rt.monotonic() else {
-                return Taken::Failed;
-            };
-            let left = Duration::from_millis(WAIT).saturating_sub(now.saturating_sub(start));
-            if left.is_zero() {
-                return Taken::NotYet;
-            }
-            if let Some(taken) = self.receive(left, buffer) {
-                return taken;
-            }
+fn is_one_of(from: SocketAddr, peers: &[Address]) -> bool {
+    for peer in peers {
+        if peer.socket() == from {
+            return true;
         }
-        Taken::NotYet
     }
+    false
+}
+
+/// A port over a UDP socket. A take waits 100 ms at most, and passes over what doesn't come from one of the circuit's
+/// peers; an offer goes to each peer.
+#[derive(Drop)]
+pub struct UdpPort {
+    listener: Listener,
+    circuit: u8,
+    place: CircuitPlace,
+    asked: u64,
+    faults: u64,
 }
 
 impl Port for UdpPort {
@@ -107,7 +128,9 @@ impl Port for UdpPort {
 
     fn take<R: Clock>(&mut self, rt: &R, buffer: &mut [u8]) -> Taken {
         self.asked = self.asked.saturating_add(1);
-        let taken = self.take_within(rt, buffer);
+        let taken = self
+            .listener
+            .take_within(rt, self.place.peers.as_slice(), buffer);
         if taken == Taken::Failed {
             self.faults = self.faults.saturating_add(1);
         }
@@ -117,7 +140,12 @@ impl Port for UdpPort {
     fn offer(&mut self, datagram: &[u8]) -> Offered {
         let mut answer = Offered::Sent;
         for peer in self.place.peers.as_slice() {
-            if self.socket.send_to(datagram, peer.socket()).is_err() {
+            if self
+                .listener
+                .socket
+                .send_to(datagram, peer.socket())
+                .is_err()
+            {
                 answer = Offered::Failed;
             }
         }
@@ -180,7 +208,10 @@ impl Ports for UdpPorts {
             Ok(socket) => {
                 self.opened = self.opened.saturating_add(1);
                 Ok(UdpPort {
-                    socket,
+                    listener: Listener {
+                        socket,
+                        waits: None,
+                    },
                     circuit,
                     place,
                     asked: 0,
@@ -196,13 +227,13 @@ impl Ports for UdpPorts {
 
     fn close(&mut self, _circuit: u8, port: UdpPort) {
         let UdpPort {
-            socket,
+            listener,
             circuit,
             place,
             asked,
             faults: _,
         } = port;
-        drop(socket);
+        drop(listener);
         self.closed.push(&ClosedUdp {
             circuit,
             place,

@@ -5,3 +5,4 @@ pub mod ShowLemmas
 mod TakenLemmas
 mod OptionLemmas
 mod WalkLemmas
+mod WeaveLemmas

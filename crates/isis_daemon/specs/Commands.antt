@@ -71,10 +71,17 @@ walk_of (word ∷ name ∷ prefix ∷ []) =
     if bytes_eq word (codes "walk") then asked_of name prefix else None
 walk_of (word ∷ name ∷ prefix ∷ next ∷ words) = None
 
+-- whether the words ask for a weaving: `weave` alone
+abbrev pub weave_of : List (List ℕ) → Option (Unit {0})
+weave_of [] = None
+weave_of (word ∷ []) = if bytes_eq word (codes "weave") then Some tt else None
+weave_of (word ∷ next ∷ words) = None
+
 -- words that ask for no text of an input, and for no grid
 abbrev pub AreNoText : List (List ℕ) → Type 0
 AreNoText words = (command_of words ≡ None) × (grid_size_of words ≡ None)
 
 -- words that ask for nothing
 abbrev pub AreNone : List (List ℕ) → Type 0
-AreNone words = AreNoText words × (daemon_of words ≡ None) × (walk_of words ≡ None)
+AreNone words =
+    AreNoText words × (daemon_of words ≡ None) × (walk_of words ≡ None) × (weave_of words ≡ None)

@@ -63,6 +63,7 @@ DaemonEnds input left o (status.ConfigRefused what key) =
 DaemonEnds input left o status.NotStarted =
     IfSome input (λ octets. IsReadWhole octets left × Ran octets o daemon.NotStarted)
 DaemonEnds input left o (status.LabLimit which) = ⊥
+DaemonEnds input left o (status.WeaveRefused journal entry reason) = ⊥
 DaemonEnds input left o (status.NoWalk reason) = ⊥
 
 -- an input that a daemon takes to its end (own)

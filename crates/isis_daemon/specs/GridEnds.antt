@@ -33,4 +33,5 @@ GridEnds size before now (status.ConfigRefused what key) = ⊥
 GridEnds size before now status.NotStarted = ⊥
 GridEnds size before now (status.LabLimit which) =
     (grid_end size ≡ Err (Limit which)) × TellsSame before now
+GridEnds size before now (status.WeaveRefused journal entry reason) = ⊥
 GridEnds size before now (status.NoWalk reason) = ⊥

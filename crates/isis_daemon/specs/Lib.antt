@@ -10,3 +10,4 @@ pub mod ShowText
 pub mod ShownLeft
 pub mod Statuses
 pub mod WalkEnds
+pub mod WeaveEnds

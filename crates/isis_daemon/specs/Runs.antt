@@ -66,6 +66,7 @@ Ends command input left before now (status.LabLimit which) =
     (command ≡ Lab)
     × IfSome input (λ octets. IsReadWhole octets left
     × (outcome command octets ≡ Err (Limit which))) × TellsSame before now
+Ends command input left before now (status.WeaveRefused journal entry reason) = ⊥
 Ends command input left before now (status.NoWalk reason) = ⊥
 
 -- an input that a command takes to its end

@@ -15,11 +15,14 @@ use Rattle.lab_script.specs.declared.reason.ScriptFault.TheVariants as script
 use Rattle.lab_text.specs.declared.fault.RunFault.{RunFault}
 use Rattle.lab_text.specs.declared.fault.RunFault.TheVariants as run
 use Rattle.isis_daemon.specs.declared.status.Status.{Status}
-use Rattle.isis_daemon.specs.declared.status.Status.TheVariants.{Done, Usage, ScriptRefused, ReadFault, WriteFault, TooLong, OutOfMemory, ConfigRefused, NotStarted, LabLimit, NoWalk}
+use Rattle.isis_daemon.specs.declared.status.Status.TheVariants.{Done, Usage, ScriptRefused, ReadFault, WriteFault, TooLong, OutOfMemory, ConfigRefused, NotStarted, LabLimit, WeaveRefused, NoWalk}
 use Rattle.lab_script.specs.Reasons.{reason_word}
 use Rattle.walk_text.specs.declared.fault.WalkFault.{WalkFault}
 use Rattle.walk_text.specs.declared.fault.WalkFault.TheVariants as walk
 use Rattle.walk_text.specs.Reasons as why
+use Rattle.weave_text.specs.declared.fault.WeaveTextFault.{WeaveTextFault}
+use Rattle.weave_text.specs.declared.fault.WeaveTextFault.TheVariants as weave
+use Rattle.weave_text.specs.Reasons as unwoven
 
 -- what ends a run whose script can't be read (own)
 abbrev pub script_status : ScriptFault → Status
@@ -41,6 +44,14 @@ walk_status (walk.Limit which) = LabLimit which
 walk_status (walk.NoWalk reason) = NoWalk reason
 walk_status walk.Write = WriteFault
 walk_status walk.OutOfMemory = OutOfMemory
+
+-- what ends a run whose weaving wasn't written to its end (own)
+abbrev pub weave_status : WeaveTextFault → Status
+weave_status (weave.Refused line reason) = ScriptRefused line reason
+weave_status (weave.Limit which) = LabLimit which
+weave_status (weave.NotWoven journal entry reason) = WeaveRefused journal entry reason
+weave_status weave.Write = WriteFault
+weave_status weave.OutOfMemory = OutOfMemory
 
 -- what ends a run whose text wasn't written to its end (own)
 abbrev pub text_status : TextFailed → Status
@@ -77,6 +88,7 @@ status_code OutOfMemory = 7
 status_code (ConfigRefused what key) = 8
 status_code NotStarted = 9
 status_code (LabLimit which) = 10
+status_code (WeaveRefused journal entry reason) = 11
 status_code (NoWalk reason) = 12
 
 -- what stands on standard error; at 0 nothing is printed (own)
@@ -93,4 +105,7 @@ status_line (ConfigRefused what key) =
     codes "isis: config " ++ kind_word what ++ codes " " ++ key_word key
 status_line NotStarted = codes "isis: not started"
 status_line (LabLimit which) = codes "isis: limit " ++ limit_word which
+status_line (WeaveRefused journal entry reason) =
+    codes "isis: journal " ++ decimal journal ++ codes " entry " ++ decimal entry ++ codes " "
+    ++ unwoven.reason_word reason
 status_line (NoWalk reason) = codes "isis: no walk " ++ why.reason_word reason

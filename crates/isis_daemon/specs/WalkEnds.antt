@@ -51,6 +51,7 @@ WalkEnds name prefix input left before now status.NotStarted = ⊥
 WalkEnds name prefix input left before now (status.LabLimit which) =
     IfSome input (λ octets. IsReadWhole octets left
     × IsRefusedScript name octets (Limit which)) × TellsSame before now
+WalkEnds name prefix input left before now (status.WeaveRefused journal entry reason) = ⊥
 WalkEnds name prefix input left before now (status.NoWalk reason) =
     IfSome input (λ octets. IsReadWhole octets left × HasNoWalk name prefix octets reason)
     × TellsSame before now

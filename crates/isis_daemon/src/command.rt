@@ -1,7 +1,7 @@
 //! What the words after the program's name ask for.
 ghost use Rattle.std.specs.Prelude.{◌≡◌, ◌≤◌, [], ◌∷◌, map, string_bytes, None, IfSome};
 ghost use Rattle.std.specs.Option.{option_map};
-ghost use Rattle.isis_daemon.specs.Commands.{command_of, captured_of, level_in, system_in, grid_size_of, size_of, walk_of, asked_of, AreNoText};
+ghost use Rattle.isis_daemon.specs.Commands.{command_of, captured_of, level_in, system_in, grid_size_of, size_of, walk_of, weave_of, asked_of, AreNoText};
 ghost use Rattle.isis_daemon.specs.Options.{daemon_of};
 
 use isis_base::{Level, Prefix, SystemId, read_system};
@@ -118,6 +118,29 @@ pub fn walk_of(words: &[String]) -> Option<WalkAsked<'_>>
         × (daemon_of (map string_bytes words.now) ≡ None)) }
 {
     asked_in(words)
+}
+
+/// Whether the words are `weave` alone. Such words ask for nothing else.
+pub fn weave_of(words: &[String]) -> Option<()>
+    ensures value { result ≡ weave_of (map string_bytes words.now) }
+    ensures alone { IfSome result (λ _. AreNoText (map string_bytes words.now)
+        × (daemon_of (map string_bytes words.now) ≡ None)
+        × (walk_of (map string_bytes words.now) ≡ None)) }
+{
+    weave_in(words)
+}
+
+/// Whether the words are `weave` alone.
+fn weave_in(words: &[String]) -> Option<()>
+    ensures { result ≡ weave_of (map string_bytes words.now) }
+{
+    let [word] = words else {
+        return None;
+    };
+    if word.as_str() != "weave" {
+        return None;
+    }
+    Some(())
 }
 
 /// What the words ask for.

@@ -3,20 +3,22 @@ ghost use Rattle.std.specs.Prelude.{◌≡◌, ◌≤◌, ◌↔◌, ◌⊎◌, 
 ghost use Rattle.isis_edge.specs.Faults.{Rose};
 ghost use Rattle.lab_grid.specs.GridRuns.{grid_end};
 ghost use Rattle.isis_daemon.specs.declared.command.Command.TheVariants as command;
-ghost use Rattle.isis_daemon.specs.Commands.{command_of, grid_size_of, walk_of, AreNone};
+ghost use Rattle.isis_daemon.specs.Commands.{command_of, grid_size_of, walk_of, weave_of, AreNone};
 ghost use Rattle.isis_daemon.specs.DaemonEnds.{DaemonEnds, IsConfiguration};
 ghost use Rattle.isis_daemon.specs.GridEnds.{GridEnds};
 ghost use Rattle.isis_daemon.specs.Headline.{IsHeadline, IsGridHeadline};
 ghost use Rattle.isis_daemon.specs.Options.{daemon_of};
 ghost use Rattle.isis_daemon.specs.Runs.{Ends, IsTaken, IsTakenWithin, IsDoneUnlessMemory};
 ghost use Rattle.isis_daemon.specs.WalkEnds.{WalkEnds, IsWalkable};
+ghost use Rattle.isis_daemon.specs.WeaveEnds.{WeaveEnds, CanBeWoven};
 
-use crate::command::walk_of;
+use crate::command::{walk_of, weave_of};
 use crate::daemon::daemon;
 use crate::options::daemon_of;
 use crate::status::Status;
 use crate::texts::run_text;
 use crate::walk::walk;
+use crate::weaving::weave;
 use daemon_edge::{Gate, Pacer, Ports, Spawner};
 use isis_edge::{Sink, Source};
 use std::alloc::Global;
@@ -29,7 +31,8 @@ use std::time::Clock;
 /// daemon needs. The words are tested first, then the input is read, of which at most 16,777,217 octets are taken. Of `lab`
 /// it is a script, which is read and played, and at last the report is written; of `show` it is shown line by line. At
 /// `grid N` no input is read: the script of a grid is run, and its summary is written. Of `walk` it is a script, after which
-/// a packet is walked from a router to a prefix. Of `daemon` it is a configuration: a port is opened at each circuit's
+/// a packet is walked from a router to a prefix. Of `weave` it has setup and change lines of a script, and journals, which are
+/// woven into a schedule. Of `daemon` it is a configuration: a port is opened at each circuit's
 /// place, and the router runs until its seconds and turns are made.
 ///
 /// At `lab` and status 0 the headline holds (ISO 10589 7.3.15 to 7.3.17, RFC 5302 3.2). After each event of the script,
@@ -39,7 +42,9 @@ use std::time::Clock;
 /// that sweeps it, whatever they let go; and what is held under one number has the same contents, unless the LSP ID is
 /// doubled. Each `route` line is the best route over that router's own databases. At `grid N` and status 0 the same
 /// holds of the grid's script. At `walk` and status 0 the text tells a walk that arrives, whichever next hops a packet
-/// takes, at the one router whose own the prefix is, at the cost that it tells (RFC 1195 3.10). At `daemon` and status 0
+/// takes, at the one router whose own the prefix is, at the cost that it tells (RFC 1195 3.10). At `weave` and status 0 the
+/// text is a lab script whose schedule is a weaving of the journals: each router's events are those of its journals, which its
+/// machine answers as they say, and each take is a delivery of an earlier datagram with those octets. At `daemon` and status 0
 /// the octets written are the journal of one history of the router, from its start on, and each circuit's port gave and was
 /// offered what that history took and sent there.
 pub fn run<
@@ -127,12 +132,25 @@ pub fn run<
         → ¬ Rose (I.faults input.old) (I.faults input.new)
         → ¬ Rose (O.faults output) (O.faults result.0)
         → IsDoneUnlessMemory result.2) }
+    ensures weave { IfSome (weave_of (map string_bytes words.now)) (λ _.
+        WeaveEnds (I.left input.old) (I.left input.new) (O.held output) (O.held result.0)
+        result.2) }
+    ensures weave_complete { IfSome (weave_of (map string_bytes words.now)) (λ _.
+        IsSomeAnd (I.left input.old) CanBeWoven
+        → ¬ Rose (I.faults input.old) (I.faults input.new)
+        → ¬ Rose (O.faults output) (O.faults result.0)
+        → IsDoneUnlessMemory result.2) }
     ensures aside { daemon_of (map string_bytes words.now) ≡ None
         → (ports.new ≡ ports.old) × (spawner.new ≡ spawner.old) × (result.1 ≡ pacer) }
 {
     if let Some(asked) = walk_of(words) {
         let mut output = output;
         let status = walk(alloc, asked.name, asked.prefix, input, &mut output);
+        return (output, pacer, status);
+    }
+    if let Some(()) = weave_of(words) {
+        let mut output = output;
+        let status = weave(alloc, input, &mut output);
         return (output, pacer, status);
     }
     if let Some(options) = daemon_of(words) {

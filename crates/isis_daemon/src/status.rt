@@ -1,6 +1,6 @@
 //! How a run of the program ended.
 ghost use Rattle.std.specs.Prelude.{◌≡◌, Some};
-ghost use Rattle.isis_daemon.specs.Statuses.{script_status, run_status, whole_status, text_status, walk_status, config_status, daemon_status, status_code, status_line};
+ghost use Rattle.isis_daemon.specs.Statuses.{script_status, run_status, whole_status, text_status, walk_status, weave_status, config_status, daemon_status, status_code, status_line};
 
 use daemon_config::{ConfigFault, ConfigKey, ConfigKind};
 use daemon_run::DaemonEnd;
@@ -9,6 +9,7 @@ use lab_text::{Reason, RunFault, ScriptFault};
 use network_lab::LimitName;
 use std::fmt;
 use walk_text::{WalkFault, WalkReason};
+use weave_text::{WeaveReason, WeaveTextFault};
 
 /// How many octets an input may have. With more the run ends as `TooLong`.
 pub const INPUT_LIMIT: usize = 16_777_216;
@@ -21,7 +22,10 @@ pub enum Status {
     /// The words are none of the program's commands. Nothing was written.
     Usage,
     /// This line of the script, counted from 1, is refused. Nothing was written.
-    ScriptRefused { line: usize, reason: Reason },
+    ScriptRefused {
+        line: usize,
+        reason: Reason,
+    },
     /// A read of the input failed. Nothing was written.
     ReadFault,
     /// A write of the output failed. A prefix of it was written.
@@ -31,13 +35,27 @@ pub enum Status {
     /// There is no memory for the run. A prefix of the output was written.
     OutOfMemory,
     /// The configuration is refused for this, at this key. Nothing was written.
-    ConfigRefused { kind: ConfigKind, key: ConfigKey },
+    ConfigRefused {
+        kind: ConfigKind,
+        key: ConfigKey,
+    },
     /// A circuit's port couldn't be opened, or a thread wasn't started. A prefix of the journal was written.
     NotStarted,
     /// The script asks for more than this limit allows. Nothing was written.
-    LabLimit { which: LimitName },
+    LabLimit {
+        which: LimitName,
+    },
+    /// The journals can't be woven: the first entry against it, by journal and entry, counted from 1, and why. Nothing was
+    /// written.
+    WeaveRefused {
+        journal: usize,
+        entry: u64,
+        reason: WeaveReason,
+    },
     /// There is no walk, and why. Nothing was written.
-    NoWalk { reason: WalkReason },
+    NoWalk {
+        reason: WalkReason,
+    },
 }
 
 impl Status {
@@ -56,6 +74,7 @@ impl Status {
             Status::ConfigRefused { .. } => 8,
             Status::NotStarted => 9,
             Status::LabLimit { .. } => 10,
+            Status::WeaveRefused { .. } => 11,
             Status::NoWalk { .. } => 12,
         }
     }
@@ -76,6 +95,11 @@ impl fmt::Display for Status {
             Status::ConfigRefused { kind, key } => write!(f, "isis: config {kind} {key}"),
             Status::NotStarted => write!(f, "isis: not started"),
             Status::LabLimit { which } => write!(f, "isis: limit {which}"),
+            Status::WeaveRefused {
+                journal,
+                entry,
+                reason,
+            } => write!(f, "isis: journal {journal} entry {entry} {reason}"),
             Status::NoWalk { reason } => write!(f, "isis: no walk {reason}"),
         }
     }
@@ -139,6 +163,28 @@ impl From<WalkFault> for Status {
             WalkFault::NoWalk(reason) => Status::NoWalk { reason },
             WalkFault::Write => Status::WriteFault,
             WalkFault::OutOfMemory => Status::OutOfMemory,
+        }
+    }
+}
+
+impl From<WeaveTextFault> for Status {
+    ghost from_gives = { λ fault status. status ≡ weave_status fault };
+
+    fn from(fault: WeaveTextFault) -> Status {
+        match fault {
+            WeaveTextFault::Refused { line, reason } => Status::ScriptRefused { line, reason },
+            WeaveTextFault::Limit(which) => Status::LabLimit { which },
+            WeaveTextFault::NotWoven {
+                journal,
+                entry,
+                reason,
+            } => Status::WeaveRefused {
+                journal,
+                entry,
+                reason,
+            },
+            WeaveTextFault::Write => Status::WriteFault,
+            WeaveTextFault::OutOfMemory => Status::OutOfMemory,
         }
     }
 }

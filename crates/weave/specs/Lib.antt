@@ -6,3 +6,4 @@ pub mod Faults
 pub mod Moves
 pub mod Counts
 pub mod Plays
+pub mod Passed
