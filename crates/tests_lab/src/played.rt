@@ -2,7 +2,7 @@
 ghost use Rattle.std.specs.Prelude.{◌<◌, length};
 
 use isis_base::Level;
-use lab_text::{Network, Reason, RunFault, play_script, read_script};
+use lab_text::{Network, Reason, RunFault, Script, play_script, read_script};
 use std::alloc::Global;
 use std::test::Fail;
 
@@ -29,20 +29,31 @@ fn fault_of(alloc: Global, text: &str) -> Option<RunFault> {
     let Ok(script) = read_script(alloc, text.as_bytes()) else {
         return Some(RunFault::OutOfMemory);
     };
+    let fault = fault_of_script(alloc, &script);
+    drop(script);
+    fault
+}
+
+/// The same of a script that was read.
+fn fault_of_script(alloc: Global, script: &Script<'_>) -> Option<RunFault> {
     if !script.is_lab() {
         return Some(RunFault::OutOfMemory);
     }
-    match play_script(alloc, &script) {
+    match play_script(alloc, script) {
         Ok(net) => {
-            let is_well = is_joined(&net) && are_repaired(&net);
+            let fault = fault_of_net(&net);
             drop(net);
-            if is_well {
-                None
-            } else {
-                Some(RunFault::OutOfMemory)
-            }
+            fault
         }
         Err(fault) => Some(fault),
+    }
+}
+
+fn fault_of_net(net: &Network) -> Option<RunFault> {
+    if is_joined(net) & are_repaired(net) {
+        None
+    } else {
+        Some(RunFault::OutOfMemory)
     }
 }
 
