@@ -1,5 +1,5 @@
 -- Events that change no key.
-use Rattle.std.proofs.Common.{◌≡◌, ◌∙◌, ℕ, ◌==◌, nat_lt, Bool, true, false, not, ◌&&◌, ◌||◌, List, [], ◌∷◌, length, Option, Some, None, refl, sym, ap, subst, if◌then◌else◌, eqb, ◌⊎◌, inl, inr, IfSome, is_some}
+use Rattle.std.proofs.Common.{◌≡◌, ◌∙◌, ℕ, ◌==◌, nat_lt, Bool, true, false, not, ◌&&◌, ◌||◌, List, [], ◌∷◌, length, Option, Some, None, refl, sym, ap, subst, if◌then◌else◌, eqb, inl, inr}
 use Rattle.std.proofs.lemmas.Bool.{cases_eq, eq-eqb, ne_eqb, eqb-true, and_parts}
 use Rattle.isis_base.specs.declared.level.Level.{Level}
 use Rattle.isis_base.specs.declared.level.Level.TheVariants as level
@@ -323,12 +323,11 @@ taken-counts given r place c (LspHeard l from h) calm =
 taken-counts given r place c (SnpHeard l from source range entries) calm =
     level-counts r l (take_snp (scene_of given r l) (level_of r l) r.config.system place range entries) (snp-changes (scene_of given r l) (level_of r l) r.config.system place range entries calm)
 
-drop-counts : (given : Given) (r : Router) (place : ℕ) (c : Circuit) (m : Message) (o : Option DropName) → (is_some o ≡ true) ⊎ IsCalmMessage r m → Counts r (take_or_drop given r place c m o).router
+drop-counts : (given : Given) (r : Router) (place : ℕ) (c : Circuit) (m : Message) (o : Option DropName) → IsCalmMessage r m → Counts r (take_or_drop given r place c m o).router
 drop-counts given r place c m (Some cause) calm = record { one = refl; two = refl }
-drop-counts given r place c m None (inl dropped) = cc
-drop-counts given r place c m None (inr calm) = let t = taken-counts given r place c m calm in record { one = t.one; two = t.two }
+drop-counts given r place c m None calm = let t = taken-counts given r place c m calm in record { one = t.one; two = t.two }
 
-take-counts : (given : Given) (r : Router) (place : ℕ) (m : Message) (o : Option Circuit) → IfSome o (λ (c : Circuit). is_some (drop_of r place c m) ≡ true) ⊎ IsCalmMessage r m → Counts r (take given r place m o).router
+take-counts : (given : Given) (r : Router) (place : ℕ) (m : Message) (o : Option Circuit) → IsCalmMessage r m → Counts r (take given r place m o).router
 take-counts given r place m None calm = counts-refl r
 take-counts given r place m (Some c) calm = drop-counts given r place c m (drop_of r place c m) calm
 

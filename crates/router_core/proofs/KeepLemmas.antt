@@ -1,5 +1,5 @@
 -- What leaves all that own LSPs are made from.
-use Rattle.std.proofs.Common.{◌≡◌, ℕ, zero, suc, ◌+◌, ◌==◌, ◌≤◌, nat_lt, Bool, true, false, not, ◌&&◌, List, [], ◌∷◌, length, drop, get_or, ◌<◌, Option, Some, None, if◌then◌else◌, option_map, is_some, IfSome, ◌⊎◌, inl, inr, refl, sym, ap, ◌∙◌, subst, arith}
+use Rattle.std.proofs.Common.{◌≡◌, ℕ, zero, suc, ◌+◌, ◌==◌, ◌≤◌, nat_lt, Bool, true, false, not, ◌&&◌, List, [], ◌∷◌, length, drop, get_or, ◌<◌, Option, Some, None, if◌then◌else◌, option_map, is_some, refl, sym, ap, ◌∙◌, subst, arith}
 use Rattle.isis_tlv.specs.declared.three_way.Adj.TheVariants.{Down}
 use Rattle.isis_base.specs.declared.level.Level.{Level}
 use Rattle.isis_base.specs.declared.level.Level.TheVariants as level
@@ -297,12 +297,11 @@ taken-keeps given r place c (LspHeard l from h) calm aside =
 taken-keeps given r place c (SnpHeard l from source range entries) calm aside =
     keeps-level r l (take_snp (scene_of given r l) (level_of r l) r.config.system place range entries) (snp-own (scene_of given r l) (level_of r l) r.config.system place range entries calm)
 
-drop-keeps : (given : Given) (r : Router) (place : ℕ) (c : Circuit) (m : Message) (o : Option DropName) → (is_some o ≡ true) ⊎ IsCalmMessage r m → IsNoHello m → Keeps r (take_or_drop given r place c m o).router
+drop-keeps : (given : Given) (r : Router) (place : ℕ) (c : Circuit) (m : Message) (o : Option DropName) → IsCalmMessage r m → IsNoHello m → Keeps r (take_or_drop given r place c m o).router
 drop-keeps given r place c m (Some cause) calm aside = record { config = refl; circuits = refl; one = refl; two = refl }
-drop-keeps given r place c m None (inl dropped) aside = cc
-drop-keeps given r place c m None (inr calm) aside = keeps-trans r (taken given r place c m).router _ (taken-keeps given r place c m calm aside) (settled-keeps (taken given r place c m))
+drop-keeps given r place c m None calm aside = keeps-trans r (taken given r place c m).router _ (taken-keeps given r place c m calm aside) (settled-keeps (taken given r place c m))
 
-take-keeps : (given : Given) (r : Router) (place : ℕ) (m : Message) (o : Option Circuit) → IfSome o (λ (c : Circuit). is_some (drop_of r place c m) ≡ true) ⊎ IsCalmMessage r m → IsNoHello m → Keeps r (take given r place m o).router
+take-keeps : (given : Given) (r : Router) (place : ℕ) (m : Message) (o : Option Circuit) → IsCalmMessage r m → IsNoHello m → Keeps r (take given r place m o).router
 take-keeps given r place m None calm aside = keeps-refl r
 take-keeps given r place m (Some c) calm aside = drop-keeps given r place c m (drop_of r place c m) calm aside
 

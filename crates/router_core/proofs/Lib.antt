@@ -28,3 +28,4 @@ mod MovedLemmas
 mod FaceLemmas
 mod KeepLemmas
 mod SettledLemmas
+mod PlanLemmas

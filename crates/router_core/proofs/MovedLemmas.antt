@@ -1,5 +1,5 @@
 -- What a node tells once an LSP of it is stored, and that nothing else changes of what routes look at.
-use Rattle.std.proofs.Common.{◌≡◌, ◌∙◌, ℕ, zero, suc, ◌+◌, ◌%◌, ◌<◌, ◌≤◌, ◌⊎◌, ◌==◌, ◌&&◌, nat_le, nat_lt, Bool, true, false, List, [], ◌∷◌, ◌++◌, length, MatchOption, Option, Some, None, is_some, refl, sym, ap, subst, arith, if◌then◌else◌, inl, inr, append-nil}
+use Rattle.std.proofs.Common.{◌≡◌, ◌∙◌, ℕ, ◌+◌, ◌%◌, ◌<◌, ◌≤◌, ◌⊎◌, ◌==◌, ◌&&◌, nat_le, nat_lt, Bool, true, false, List, [], ◌∷◌, ◌++◌, length, MatchOption, Option, Some, None, refl, sym, ap, subst, arith, if◌then◌else◌, inl, inr, append-nil}
 use Rattle.std.specs.List.{AllByRecursion}
 use Rattle.std.specs.Int.{from_be_bytes, w64}
 use Rattle.std.proofs.lemmas.Bool.{cases_eq, cases_lt, eq-eqb, ne_eqb, eqb-true}
@@ -394,11 +394,6 @@ module _ (r : Router) (place : ℕ) (l : Level) (from : Envelope) (lsp_in : hear
   pub stored-moves-in : (db : Database) → db ≡ v.store → IsMovedAt (outlook_of r) (outlook_of (step given r event-of).router) l lsp_in.entry.id.node (told_in (put (between (number_of lsp_in.entry.id.node 0) (number_of lsp_in.entry.id.node 255) db.entries) lsp_in.entry.id e))
   stored-moves-in db same = subst (λ (d : Database). IsMovedAt (outlook_of r) (outlook_of (step given r event-of).router) l lsp_in.entry.id.node (told_in (put (between (number_of lsp_in.entry.id.node 0) (number_of lsp_in.entry.id.node 255) d.entries) lsp_in.entry.id e))) (sym same) stored-moves
 
-pub some-there : {A : Type 0} (xs : List A) (i : ℕ) → i < length xs → (x : A) × (nth xs i ≡ Some x)
-some-there [] i h = absurd (omega (arith, h))
-some-there (x ∷ xs) zero h = (x, refl)
-some-there (x ∷ xs) (suc i) h = some-there xs i (omega (arith, h))
-
 pub stored-row : (row : LspCase) (l : heard.LspHeard) → answer_of row l ≡ answer.Stored → row ≡ lsp.Stored
 stored-row lsp.Outbid l e = absurd (cc)
 stored-row lsp.PurgedOwn l e = absurd (cc)
@@ -407,10 +402,6 @@ stored-row lsp.Confused l e = absurd (cc)
 stored-row lsp.Stored l e = refl
 stored-row lsp.Same l e = absurd (cc)
 stored-row lsp.Older l e = absurd (cc)
-
-pub none-of : {A : Type 0} (o : Option A) → is_some o ≡ false → o ≡ None
-none-of None e = refl
-none-of (Some x) e = absurd (cc)
 
 -- ---- what follows then
 

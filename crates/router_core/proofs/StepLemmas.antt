@@ -1,23 +1,29 @@
 -- An event is the model's step.
-use Rattle.std.proofs.Common.{◌≡◌, ℕ, ◌<◌, ◌-◌, List, Option, Some, Result, Ok, Err, IfOk, OnOk, length, refl, sym, ap, subst, arith}
+use Rattle.std.proofs.Common.{◌≡◌, ℕ, ◌<◌, ◌-◌, List, Option, Some, Result, Ok, Err, IfOk, OnOk, length, refl, sym, ap, ◌∙◌, subst, arith}
 use Rattle.isis_base.specs.declared.memory.OutOfMemory.{OutOfMemory}
 use Rattle.isis_model.specs.Events as model
 use Rattle.isis_model.specs.Places.{nth}
 use Rattle.isis_model.specs.Pulls as pulls
 use Rattle.isis_model.specs.Routers.{Circuit, Router}
-use Rattle.isis_model.specs.Receiving.{take}
+use Rattle.isis_model.specs.Receiving.{drop_of, take, take_or_drop}
+use Rattle.isis_model.specs.Drops.{count_drop}
+use Rattle.isis_model.specs.declared.drop_name.DropName.{DropName}
 use Rattle.isis_model.specs.Steps.{sent_all, step}
 use Rattle.isis_model.specs.Seconds.{second}
 use Rattle.isis_model.specs.AdjacencyLaws.{place_of}
-use Rattle.router_desk.specs.Opening.{OpenedView, message_of}
-use Rattle.router_core.specs.declared.event.NodeEvent.{NodeEvent}
-use Rattle.router_core.specs.declared.event.NodeEvent.TheVariants as event
+use Rattle.router_desk.specs.declared.cause.DropCause.{DropCause}
+use Rattle.router_desk.specs.Causes.{name_of}
+use Rattle.router_reading.specs.Heard.{message_of}
+use Rattle.router_reading.specs.declared.heard.Heard.{Heard}
+use Rattle.router_core.specs.declared.read.Read.{Read}
+use Rattle.router_core.specs.declared.read.Read.TheVariants as read
 use Rattle.router_desk.specs.declared.config.Change.{Change}
 use Rattle.router_desk.specs.declared.config.Change.TheVariants as change
 use Rattle.router_core.specs.declared.reply.Reply.{Reply}
 use Rattle.router_core.specs.declared.reply.Reply.TheVariants as reply
-use Rattle.router_core.specs.Events.{change_of, event_of, Fits}
+use Rattle.router_core.specs.Events.{change_of, IsThere}
 use Rattle.router_core.specs.Givens.{given}
+use Rattle.router_core.specs.Reads.{event_in, FitsRead}
 use Rattle.router_core.specs.Replies.{Answers, IsTaken, datagrams_of, outcome}
 use Rattle.router_core.proofs.IdleLemmas.{from-some}
 use Rattle.router_core.proofs.OpenLemmas.{there}
@@ -51,31 +57,55 @@ change-reply r t place (change.Metric circuit metric) = refl
 change-reply r t place (change.Prefix prefix metric) = refl
 change-reply r t place (change.Overload on) = refl
 
--- ---- the same of whatever event it is
+-- a datagram that is dropped is counted
+abbrev pub counted : Router → DropCause → Router
+counted r cause = record r { drops = count_drop r.drops (name_of cause) }
 
-pub on-second : (r t : Router) (e : NodeEvent) → e ≡ event.Second → t ≡ (model.settled (record { router = second given r; reply = model.Done })).router → t ≡ (step given r (event_of r e)).router
+pub dropped-step : (r : Router) (cause : DropCause) (place : ℕ) (c : Circuit) (m : model.Message) → nth r.circuits place ≡ Some c → drop_of r place c m ≡ Some (name_of cause) → step given r (model.Take place m) ≡ record { router = counted r cause; reply = model.Dropped (name_of cause) }
 unfolding step
-on-second r t e is h = subst (λ (ev : NodeEvent). t ≡ (step given r (event_of r ev)).router) (sym is) h
+dropped-step r cause place c m is why = ap (λ (o : Option Circuit). take given r place m o) is ∙ ap (λ (d : Option DropName). take_or_drop given r place c m d) why
 
-pub second-reply : (r t : Router) (e : NodeEvent) → e ≡ event.Second → Answers t (place_of (event_of r e)) (step given r (event_of r e)).reply reply.Done
+-- ---- the same of whatever was read
+
+pub on-second : (r t : Router) (e : Read) → e ≡ read.Second → t ≡ (model.settled (record { router = second given r; reply = model.Done })).router → t ≡ (step given r (event_in e)).router
 unfolding step
-second-reply r t e is = subst (λ (ev : NodeEvent). Answers t (place_of (event_of r ev)) (step given r (event_of r ev)).reply reply.Done) (sym is) refl
+on-second r t e is h = subst (λ (ev : Read). t ≡ (step given r (event_in ev)).router) (sym is) h
 
-here : (r : Router) (o : OpenedView) (e : NodeEvent) → e ≡ event.Take o → Fits r e → o.circuit - 1 < length r.circuits
-here r o e is f = omega (arith, (subst (Fits r) is f).0)
-
-pub on-take : (r t : Router) (o : OpenedView) (e : NodeEvent) (q : Result Reply OutOfMemory) → e ≡ event.Take o → Fits r e → IfOk q (λ a. IsTaken r (o.circuit - 1) (message_of r.config.system o.seen) t a) → OnOk q (t ≡ (step given r (event_of r e)).router)
-on-take r t o e q is f h = subst (λ (ev : NodeEvent). OnOk q (t ≡ (step given r (event_of r ev)).router)) (sym is) (take-state r t (o.circuit - 1) (message_of r.config.system o.seen) q (here r o e is f) h)
-
-pub on-take-reply : (r t : Router) (o : OpenedView) (e : NodeEvent) (q : Result Reply OutOfMemory) → e ≡ event.Take o → Fits r e → IfOk q (λ a. IsTaken r (o.circuit - 1) (message_of r.config.system o.seen) t a) → IfOk q (λ a. Answers t (place_of (event_of r e)) (step given r (event_of r e)).reply a)
-on-take-reply r t o e q is f h = subst (λ (ev : NodeEvent). IfOk q (λ (a : Reply). Answers t (place_of (event_of r ev)) (step given r (event_of r ev)).reply a)) (sym is) (take-reply r t (o.circuit - 1) (message_of r.config.system o.seen) q (here r o e is f) h)
-
-pub on-pull : (r t : Router) (circuit : ℕ) (e : NodeEvent) → e ≡ event.Pull circuit → t ≡ (model.settled (sent_all (pulls.pull r (circuit - 1)))).router → t ≡ (step given r (event_of r e)).router
+pub second-reply : (r t : Router) (e : Read) → e ≡ read.Second → Answers t (place_of (event_in e)) (step given r (event_in e)).reply reply.Done
 unfolding step
-on-pull r t circuit e is h = subst (λ (ev : NodeEvent). t ≡ (step given r (event_of r ev)).router) (sym is) h
+second-reply r t e is = subst (λ (ev : Read). Answers t (place_of (event_in ev)) (step given r (event_in ev)).reply reply.Done) (sym is) refl
 
-pub on-pull-reply : (r t : Router) (circuit : ℕ) (e : NodeEvent) (out : List (List ℕ)) → e ≡ event.Pull circuit → out ≡ datagrams_of t (circuit - 1) (pulls.pull r (circuit - 1)).out → Answers t (place_of (event_of r e)) (step given r (event_of r e)).reply (reply.Send out)
-on-pull-reply r t circuit e out is h = subst (λ (ev : NodeEvent). Answers t (place_of (event_of r ev)) (step given r (event_of r ev)).reply (reply.Send out)) (sym is) (pull-reply r t (circuit - 1) out h)
+here : (r : Router) (circuit : ℕ) → IsThere r circuit → circuit - 1 < length r.circuits
+here r circuit h = omega (arith, h)
 
-pub on-change-reply : (r t : Router) (c : Change) (e : NodeEvent) → e ≡ event.Change c → Answers t (place_of (event_of r e)) (step given r (event_of r e)).reply reply.Done
-on-change-reply r t c e is = subst (λ (ev : NodeEvent). Answers t (place_of (event_of r ev)) (step given r (event_of r ev)).reply reply.Done) (sym is) (change-reply r t (place_of (change_of c)) c)
+refused : (r : Router) (circuit : ℕ) (cause : DropCause) → IsThere r circuit → step given r (event_in (read.Refused circuit cause)) ≡ record { router = counted r cause; reply = model.Dropped (name_of cause) }
+refused r circuit cause h =
+    let is = there r.circuits (circuit - 1) (here r circuit h) in
+    dropped-step r cause (circuit - 1) is.0 (model.Refused (name_of cause)) is.1 refl
+
+pub on-refused : (r t : Router) (circuit : ℕ) (cause : DropCause) (e : Read) → e ≡ read.Refused circuit cause → FitsRead r e → t ≡ counted r cause → t ≡ (step given r (event_in e)).router
+on-refused r t circuit cause e is f h = subst (λ (ev : Read). t ≡ (step given r (event_in ev)).router) (sym is) (h ∙ sym (ap (λ (o : model.Outcome). o.router) (refused r circuit cause (subst (FitsRead r) is f))))
+
+pub on-refused-reply : (r t : Router) (circuit : ℕ) (cause : DropCause) (e : Read) (a : Reply) → e ≡ read.Refused circuit cause → FitsRead r e → a ≡ reply.Dropped cause → Answers t (place_of (event_in e)) (step given r (event_in e)).reply a
+on-refused-reply r t circuit cause e a is f h = subst (λ (ev : Read). Answers t (place_of (event_in ev)) (step given r (event_in ev)).reply a) (sym is)
+    (subst (λ (o : model.Outcome). Answers t (circuit - 1) o.reply a) (sym (refused r circuit cause (subst (FitsRead r) is f))) (cause, h, refl))
+
+pub on-heard : (r t : Router) (circuit : ℕ) (heard : Heard) (e : Read) (q : Result Reply OutOfMemory) → e ≡ read.Heard circuit heard → FitsRead r e → IfOk q (λ a. IsTaken r (circuit - 1) (message_of heard) t a) → OnOk q (t ≡ (step given r (event_in e)).router)
+on-heard r t circuit heard e q is f h =
+    let fits = subst (FitsRead r) is f in
+    subst (λ (ev : Read). OnOk q (t ≡ (step given r (event_in ev)).router)) (sym is) (take-state r t (circuit - 1) (message_of heard) q (here r circuit fits.there) h)
+
+pub on-heard-reply : (r t : Router) (circuit : ℕ) (heard : Heard) (e : Read) (q : Result Reply OutOfMemory) → e ≡ read.Heard circuit heard → FitsRead r e → IfOk q (λ a. IsTaken r (circuit - 1) (message_of heard) t a) → IfOk q (λ a. Answers t (place_of (event_in e)) (step given r (event_in e)).reply a)
+on-heard-reply r t circuit heard e q is f h =
+    let fits = subst (FitsRead r) is f in
+    subst (λ (ev : Read). IfOk q (λ (a : Reply). Answers t (place_of (event_in ev)) (step given r (event_in ev)).reply a)) (sym is) (take-reply r t (circuit - 1) (message_of heard) q (here r circuit fits.there) h)
+
+pub on-pull : (r t : Router) (circuit : ℕ) (e : Read) → e ≡ read.Pull circuit → t ≡ (model.settled (sent_all (pulls.pull r (circuit - 1)))).router → t ≡ (step given r (event_in e)).router
+unfolding step
+on-pull r t circuit e is h = subst (λ (ev : Read). t ≡ (step given r (event_in ev)).router) (sym is) h
+
+pub on-pull-reply : (r t : Router) (circuit : ℕ) (e : Read) (out : List (List ℕ)) → e ≡ read.Pull circuit → out ≡ datagrams_of t (circuit - 1) (pulls.pull r (circuit - 1)).out → Answers t (place_of (event_in e)) (step given r (event_in e)).reply (reply.Send out)
+on-pull-reply r t circuit e out is h = subst (λ (ev : Read). Answers t (place_of (event_in ev)) (step given r (event_in ev)).reply (reply.Send out)) (sym is) (pull-reply r t (circuit - 1) out h)
+
+pub on-change-reply : (r t : Router) (c : Change) (e : Read) → e ≡ read.Change c → Answers t (place_of (event_in e)) (step given r (event_in e)).reply reply.Done
+on-change-reply r t c e is = subst (λ (ev : Read). Answers t (place_of (event_in ev)) (step given r (event_in ev)).reply reply.Done) (sym is) (change-reply r t (place_of (change_of c)) c)

@@ -1,5 +1,5 @@
 -- Events of which is known beforehand that no key changes, so that routes stay (own).
-use Rattle.std.specs.Prelude.{◌≡◌, ℕ, ◌-◌, ◌^◌, ◌<◌, ◌≤◌, ◌⊎◌, nat_le, Bool, true, false, ◌&&◌, List, [], ◌∷◌, IfSome, is_some}
+use Rattle.std.specs.Prelude.{◌≡◌, ℕ, ◌-◌, ◌^◌, ◌<◌, ◌≤◌, nat_le, Bool, true, false, ◌&&◌, List, [], ◌∷◌}
 use Rattle.std.specs.List.{AllByRecursion}
 use Rattle.isis_base.specs.declared.level.Level.{Level}
 use Rattle.isis_model.specs.declared.lsp_case.LspCase.{LspCase}
@@ -16,8 +16,6 @@ use Rattle.isis_model.specs.Sorted.{RisesFrom}
 use Rattle.isis_model.specs.Books.{Book, cell_at}
 use Rattle.isis_model.specs.LspTable.{met}
 use Rattle.isis_model.specs.SnpTable.{SnpEntry, snp_case}
-use Rattle.isis_model.specs.Places.{nth}
-use Rattle.isis_model.specs.Receiving.{drop_of}
 use Rattle.isis_model.specs.Takes.{whose_of}
 use Rattle.isis_model.specs.Routers.{Router, level_of, book_of}
 use Rattle.router_core.specs.declared.calm.Known.{Known}
@@ -59,17 +57,9 @@ IsCalmMessage r (LspHeard l from h) =
     is_calm_row (met (book_of r l) (whose_of r.config.system (level_of r l) h.id) h) ≡ true
 IsCalmMessage r (SnpHeard l from source range entries) = AreClear (book_of r l) entries
 
--- a message on the circuit at a place is dropped
-abbrev pub IsDropped : Router → ℕ → Message → Type 0
-IsDropped r place m = IfSome (nth r.circuits place) (λ c. is_some (drop_of r place c m) ≡ true)
-
--- it is dropped, or changes no key
-abbrev pub IsCalmOn : Router → ℕ → Message → Type 0
-IsCalmOn r place m = IsDropped r place m ⊎ IsCalmMessage r m
-
 abbrev pub IsCalm : Router → Event → Type 0
 IsCalm r Second = ⊥
-IsCalm r (Take place m) = IsCalmOn r place m
+IsCalm r (Take place m) = IsCalmMessage r m
 IsCalm r (Pull place) = Unit {0}
 IsCalm r (Metric place metric) = Unit {0}
 IsCalm r (Overload on) = Unit {0}

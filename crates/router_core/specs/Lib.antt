@@ -15,4 +15,6 @@ pub mod Designated
 pub mod NamedBoots
 pub mod LeakedUp
 pub mod Settled
-pub mod Moved
+pub mod Tells
+pub mod Reads
+pub mod Plans

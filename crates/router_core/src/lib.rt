@@ -6,18 +6,20 @@
 //! was (own).
 //!
 //! - `router.rt`: the router; `event.rt`, `reply.rt`, `datagrams.rt`: events and answers
-//! - `machine.rt`: its parts, and what they have in common; `stepping.rt`: one event of them
+//! - `machine.rt`: its parts, and what they have in common
+//! - `read.rt`: an event as what it says; `plan.rt`, `plan_lsp.rt`, `told.rt`, `aside.rt`: what will be done, and what nodes
+//!   tell then; `commit.rt`: that is done
+//! - `stepping.rt`, `calm.rt`, `calm_second.rt`, `routes.rt`: events without a plan, in place where they are known to leave
+//!   what routes look at, and the routes after others
 //! - `making.rt`, `changes.rt`, `asked.rt`: how it starts, changes of its configuration, and what is
 //!   asked of it; `prefixes.rt`, `prefix_list.rt`: its own prefixes, in order
-//! - `opening.rt`, `taking.rt`: an opened datagram is taken, or dropped; `hellos.rt`, `own.rt`:
-//!   hellos; `levels.rt`, `take.rt`: LSPs; `snps.rt`: sequence number PDUs
+//! - `taking.rt`: what is heard is taken, or dropped; `hellos.rt`, `own.rt`: hellos; `levels.rt`, `take.rt`: LSPs;
+//!   `snps.rt`: sequence number PDUs
 //! - `wanted.rt`: drafts of own LSPs that are wanted
 //! - `second.rt`, `renewal.rt`, `quiet.rt`: a second; `marks.rt`, `faces.rt`: levels of which it is known that a
 //!   second issues nothing but for age
 //! - `pull.rt`, `pull_parts.rt`, `hello_sending.rt`, `sending.rt`: what is due is sent
 //! - `at.rt`: one circuit of a list changes
-//! - `calm.rt`, `calm_second.rt`, `routes.rt`: which events leave what routes look at, and the routes
-//!   after an event; `moving.rt`, `aside.rt`: an LSP that is stored, and what its node tells then
 //! - `reached.rt`: what always holds, as laws; `laws.rt`: what follows for all routers
 #![tactic(auto)]
 
@@ -27,6 +29,7 @@ mod at;
 mod calm;
 mod calm_second;
 mod changes;
+mod commit;
 mod datagrams;
 mod event;
 mod faces;
@@ -37,15 +40,16 @@ mod levels;
 mod machine;
 mod making;
 mod marks;
-mod moving;
-mod opening;
 mod own;
+mod plan;
+mod plan_lsp;
 mod prefix_list;
 mod prefixes;
 mod pull;
 mod pull_parts;
 mod quiet;
 mod reached;
+mod read;
 mod renewal;
 mod reply;
 mod router;
@@ -56,6 +60,7 @@ mod snps;
 mod stepping;
 mod take;
 mod taking;
+mod told;
 mod wanted;
 
 pub use datagrams::Datagrams;

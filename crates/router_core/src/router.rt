@@ -20,18 +20,18 @@ ghost use Rattle.router_desk.specs.Limits.{IsValid};
 ghost use Rattle.router_routes.specs.Outlooks.{outlook_of};
 ghost use Rattle.router_routes.specs.Candidates.{attached_of, AreRoutesOf};
 ghost use Rattle.router_routes.specs.Following.{IsFollowing, IsLevel};
-ghost use Rattle.router_core.specs.Heard.{HasOctets};
 ghost use Rattle.router_core.specs.Givens.{given};
 ghost use Rattle.router_core.specs.Events.{event_of, Fits, IsThere};
-ghost use Rattle.router_core.specs.Moved.{Moves};
 ghost use Rattle.router_core.specs.Replies.{Answers};
 ghost use Rattle.router_core.specs.Reached.{IsReached};
+ghost use Rattle.router_core.specs.Reads.{event_in, FitsRead};
 
 use crate::event::NodeEvent;
 use crate::machine::Machine;
 use crate::marks::Marks;
-use crate::moving::Moving;
+use crate::plan::Plan;
 use crate::reached::{event_octets, reached_laws, start_reached};
+use crate::read::Read;
 use crate::reply::Reply;
 use flag_sync::Book;
 use isis_base::{Level, OutOfMemory, Prefix, SystemId};
@@ -135,58 +135,57 @@ impl Router {
     {
         reached_laws();
         event_octets(&event);
+        let read = self.machine.read(&event)?;
+        let plan = match self.machine.plan(&read, self.marks)? {
+            Some(plan) => plan,
+            None => return self.step_unplanned(&read),
+        };
+        let next = self.machine.following_told(&self.following, &plan.told)?;
+        let Plan {
+            deed,
+            reply,
+            told: _told,
+            marks,
+        } = plan;
+        self.machine.commit(deed)?;
+        put_next(&mut self.following, next);
+        self.marks = marks;
+        Ok(reply)
+    }
+
+    /// An event that has no plan: in place where it is known to leave what routes look at, and else on a copy.
+    fn step_unplanned(&mut self, read: &Read<'_>) -> Result<Reply, OutOfMemory>
+        requires fits { FitsRead self.old read.now }
+        requires reached { IsReached (step given self.old (event_in read.now)).router }
+        ensures state { OnOk result (self.new ≡ (step given self.old (event_in read.now)).router) }
+        ensures reply { IfOk result (λ reply. Answers self.new (place_of (event_in read.now))
+            (step given self.old (event_in read.now)).reply reply) }
+        ensures reached { OnOk result (IsReached self.new) }
+        ensures err { OnErr result (self.new ≡ self.old) }
+    {
         match self
             .machine
-            .step_calmly(&event, &self.following, &mut self.marks)
+            .step_calmly(read, &self.following, &mut self.marks)
         {
             Ok(Some(reply)) => Ok(reply),
-            Ok(None) => match self.machine.moving(&event) {
-                Ok(Some(moving)) => self.step_moving(&event, &moving),
-                Ok(None) => self.step_aside(&event),
-                Err(error) => Err(error),
-            },
+            Ok(None) => self.step_aside(read),
             Err(error) => Err(error),
         }
     }
 
-    /// An event that has one node tell other LSPs. What follows the router then is made first, of the router as it is,
-    /// so that nothing is lost where it wants memory.
-    fn step_moving(&mut self, event: &NodeEvent, moving: &Moving) -> Result<Reply, OutOfMemory>
-        requires fits { Fits self.old event.now }
-        requires octets { HasOctets event.now }
-        requires moves { Moves self.old (event_of self.old event.now) moving.now }
-        ensures state { OnOk result (self.new
-            ≡ (step given self.old (event_of self.old event.now)).router) }
-        ensures reply { IfOk result (λ reply. Answers self.new
-            (place_of (event_of self.old event.now))
-            (step given self.old (event_of self.old event.now)).reply reply) }
-        ensures reached { OnOk result (IsReached self.new) }
-        ensures err { OnErr result (self.new ≡ self.old) }
-    {
-        reached_laws();
-        let next = self.machine.following_then(&self.following, moving)?;
-        let reply = self.machine.step(event, &self.following)?;
-        put_next(&mut self.following, next);
-        self.marks = Marks::none();
-        Ok(reply)
-    }
-
     /// An event that may change what routes look at. A copy has it, so that nothing is lost where the
     /// routes want memory.
-    fn step_aside(&mut self, event: &NodeEvent) -> Result<Reply, OutOfMemory>
-        requires fits { Fits self.old event.now }
-        requires octets { HasOctets event.now }
-        ensures state { OnOk result (self.new
-            ≡ (step given self.old (event_of self.old event.now)).router) }
-        ensures reply { IfOk result (λ reply. Answers self.new
-            (place_of (event_of self.old event.now))
-            (step given self.old (event_of self.old event.now)).reply reply) }
+    fn step_aside(&mut self, read: &Read<'_>) -> Result<Reply, OutOfMemory>
+        requires fits { FitsRead self.old read.now }
+        requires reached { IsReached (step given self.old (event_in read.now)).router }
+        ensures state { OnOk result (self.new ≡ (step given self.old (event_in read.now)).router) }
+        ensures reply { IfOk result (λ reply. Answers self.new (place_of (event_in read.now))
+            (step given self.old (event_in read.now)).reply reply) }
         ensures reached { OnOk result (IsReached self.new) }
         ensures err { OnErr result (self.new ≡ self.old) }
     {
-        reached_laws();
-        let (machine, reply) = self.machine.copy_after(event, &self.following)?;
-        match machine.follow_routes(&mut self.following, &self.machine, event) {
+        let (machine, reply) = self.machine.copy_after(read, &self.following)?;
+        match machine.follow_routes(&mut self.following, &self.machine, read) {
             Ok(()) => {
                 put_machine(&mut self.machine, machine);
                 self.marks = Marks::none();

@@ -1,22 +1,18 @@
 //! What routes look at of a router, and that routes follow it.
-ghost use Rattle.std.specs.Prelude.{◌≡◌, ◌<◌, true, false, length, IfOk, MatchOption, OnOk, OnErr};
+ghost use Rattle.std.specs.Prelude.{◌≡◌, ◌<◌, true, false, length, IfOk, OnOk, OnErr};
 ghost use Rattle.std.specs.List.{AllByRecursion};
 ghost use Rattle.isis_model.specs.Numbers.{system_id, system_number};
-ghost use Rattle.isis_model.specs.Routers.{Router};
 ghost use Rattle.isis_model.specs.Steps.{step};
-ghost use Rattle.router_routes.specs.Outlooks.{Outlook, outlook_in, outlook_of};
-ghost use Rattle.router_routes.specs.Moved.{IsMovedAt};
-ghost use Rattle.router_routes.specs.Told.{told_in};
+ghost use Rattle.router_routes.specs.Outlooks.{outlook_in, outlook_of};
 ghost use Rattle.router_routes.specs.Following.{IsFollowing};
 ghost use Rattle.router_core.specs.Calm.{AreBelow, KeepsPrefixes, SameCounts, Stands};
-ghost use Rattle.router_core.specs.Events.{event_of};
 ghost use Rattle.router_core.specs.Givens.{given};
 ghost use Rattle.router_core.specs.Reached.{IsReached};
+ghost use Rattle.router_core.specs.Reads.{event_in};
 
-use crate::event::NodeEvent;
 use crate::machine::Machine;
-use crate::moving::Moving;
 use crate::reached::outlook_laws;
+use crate::read::Read;
 use flag_sync::Book;
 use isis_base::{Level, OutOfMemory, SystemId};
 use router_desk::Change;
@@ -70,37 +66,21 @@ impl Machine {
         &self,
         following: &mut Following,
         old: &Machine,
-        event: &NodeEvent,
+        read: &Read<'_>,
     ) -> Result<(), OutOfMemory>
         requires reached { IsReached old.now }
-        requires step { self.now ≡ (step given old.now (event_of old.now event.now)).router }
+        requires step { self.now ≡ (step given old.now (event_in read.now)).router }
         requires follows { IsFollowing (outlook_of old.now) following.old }
         ensures follows { OnOk result (IsFollowing (outlook_of self.now) following.new) }
         ensures err { OnErr result (following.new ≡ following.old) }
     {
         outlook_laws();
-        if keeps_prefixes(event) && old.counts_below() && self.has_counts_of(old) {
+        if keeps_prefixes(read) && old.counts_below() && self.has_counts_of(old) {
             return Ok(());
         }
         let (one, two) = (self.stands(old, Level::One), self.stands(old, Level::Two));
         let lent = self.lent()?;
         following.follow(&lent, !one, !two)
-    }
-
-    /// What follows this router once a node tells other LSPs; `None` where that is what follows it now.
-    pub(crate) fn following_then(
-        &self,
-        following: &Following,
-        moving: &Moving,
-    ) -> Result<Option<Following>, OutOfMemory>
-        requires follows { IsFollowing (outlook_of self.now) following.now }
-        ensures { IfOk result (λ next. (o : Outlook)
-            → IsMovedAt (outlook_of self.now) o moving.now.level moving.now.node
-            (told_in moving.now.aside.entries)
-            → MatchOption next (IsFollowing o following.now) (λ f. IsFollowing o f)) }
-    {
-        let lent = self.lent()?;
-        following.ahead(&lent, moving.level, moving.node, &moving.aside)
     }
 
     /// Whether no key of a level changed since a router was as that one is.
@@ -113,11 +93,11 @@ impl Machine {
 }
 
 /// Whether an event leaves one's own prefixes.
-fn keeps_prefixes(event: &NodeEvent) -> bool
-    ensures { (r : Router) → result ≡ true → KeepsPrefixes (event_of r event.now) }
+fn keeps_prefixes(read: &Read<'_>) -> bool
+    ensures { result ≡ true → KeepsPrefixes (event_in read.now) }
 {
-    match event {
-        NodeEvent::Change(
+    match read {
+        Read::Change(
             Change::Prefix {
                 prefix: _,
                 metric: _,

@@ -1,16 +1,15 @@
 //! Datagrams that are taken.
-ghost use Rattle.std.specs.Prelude.{◌≡◌, ◌<◌, ◌≤◌, ◌-◌, ◌∷◌, [], false, not, length, IfSome, IfOk, OnOk, OnErr};
+ghost use Rattle.std.specs.Prelude.{◌≡◌, ◌<◌, ◌-◌, ◌∷◌, [], not, IfSome, IfOk, OnOk, OnErr};
 ghost use Rattle.isis_base.specs.Identifiers.{lsp_number};
 ghost use Rattle.isis_base.specs.Keys.{entry_rank};
 ghost use Rattle.isis_model.specs.Datagrams as sent;
 ghost use Rattle.isis_model.specs.Drops.{count_drop};
 ghost use Rattle.isis_model.specs.LspTable as table;
-ghost use Rattle.isis_model.specs.declared.lsp_case.LspCase.TheVariants as case;
 ghost use Rattle.isis_model.specs.Places.{nth};
 ghost use Rattle.isis_model.specs.Routers.{level_of, with_level};
 ghost use Rattle.isis_model.specs.Takes as takes;
 ghost use Rattle.isis_model.specs.Takes.{whose_of};
-ghost use Rattle.isis_model.specs.Receiving.{acks, no_room, scene_of};
+ghost use Rattle.isis_model.specs.Receiving.{acks, scene_of};
 ghost use Rattle.flag_sync.specs.Heard.{answer_of, entries_of, heard_of};
 ghost use Rattle.pdu_sender.specs.Sends.{Sends};
 ghost use Rattle.router_desk.specs.Causes.{name_of};
@@ -42,46 +41,9 @@ impl Machine {
         Reply::Dropped(cause)
     }
 
-    /// An LSP that isn't dropped is taken (ISO 10589 7.3.15.1).
-    pub(crate) fn take_lsp(
-        &mut self,
-        circuit: u8,
-        level: Level,
-        lsp: &LspHeard<'_>,
-        following: &Following,
-    ) -> Result<Reply, OutOfMemory>
-        requires there { IsThere self.old circuit }
-        requires following { IsFollowing (outlook_of self.old) following.now }
-        requires number { 0 < lsp.now.entry.number }
-        requires octets { 27 ≤ length lsp.now.octets.now }
-        requires room { no_room (level_of self.old level) self.old.config.system (heard_of lsp.now)
-            ≡ false }
-        ensures state { OnOk result (self.new ≡ with_level self.old level
-            (takes.take_lsp (scene_of given self.old level) (level_of self.old level) (circuit - 1)
-            (whose_of self.old.config.system (level_of self.old level)
-            (lsp_number lsp.now.entry.id))
-            (heard_of lsp.now))) }
-        ensures reply { IfOk result (λ reply. IfSome (nth self.old.circuits (circuit - 1)) (λ c.
-            Answers self.old (circuit - 1) (acks c level (heard_of lsp.now)
-            (table.met (level_of self.old level).book
-            (whose_of self.old.config.system (level_of self.old level)
-            (lsp_number lsp.now.entry.id))
-            (heard_of lsp.now))) reply)) }
-        ensures err { OnErr result (self.new ≡ self.old) }
-    {
-        let row = self.level(level).lsp_case(self.desk.system(), lsp);
-        let answer = match row {
-            LspAnswer::Outbid { .. } => Some(self.draft(level, lsp.entry.id, following)?),
-            _ => None,
-        };
-        let reply = self.acknowledged(circuit, level, lsp, row)?;
-        self.hear_lsp(circuit, level, lsp, answer)?;
-        Ok(reply)
-    }
-
     /// What is answered to an LSP that meets a row: a purge that isn't held is acknowledged at once on a
     /// point-to-point circuit (ISO 10589 7.3.16.4).
-    fn acknowledged(
+    pub(crate) fn acknowledged(
         &self,
         circuit: u8,
         level: Level,

@@ -1,33 +1,71 @@
-//! What an opened datagram says is taken, or dropped.
-ghost use Rattle.std.specs.Prelude.{◌≡◌, ◌<◌, ◌≤◌, ◌^◌, ◌-◌, true, false, length, IfSome, IfOk, OnOk, OnErr};
+//! What is heard is taken, or dropped.
+ghost use Rattle.std.specs.Prelude.{◌≡◌, ◌<◌, ◌≤◌, ◌^◌, ◌-◌, true, false, length, IfSome, IfOk, OnErr};
 ghost use Rattle.isis_model.specs.AdjacencyLaws.{AreIdle};
 ghost use Rattle.isis_model.specs.Events as event;
+ghost use Rattle.isis_model.specs.Good.{IsGoodMessage};
 ghost use Rattle.isis_model.specs.Places.{nth};
 ghost use Rattle.isis_model.specs.Numbers.{system_number};
 ghost use Rattle.flag_sync.specs.Heard.{entries_of, heard_of};
 ghost use Rattle.router_desk.specs.Opening.{envelope_of};
-ghost use Rattle.router_reading.specs.Heard.{hello_heard, range_of};
+ghost use Rattle.router_reading.specs.Heard.{hello_heard, IsNumbered, message_of, range_of};
 ghost use Rattle.router_routes.specs.Outlooks.{outlook_of};
 ghost use Rattle.router_routes.specs.Following.{IsFollowing};
 ghost use Rattle.router_core.specs.Events.{IsThere};
+ghost use Rattle.router_core.specs.Machines.{FitsKind};
 ghost use Rattle.router_core.specs.Replies.{IsTaken};
 
 use crate::machine::Machine;
 use crate::reply::Reply;
-use flag_sync::LspHeard;
+use flag_sync::{LspAnswer, LspHeard};
 use isis_base::{Level, LspEntry, LspId, OutOfMemory, SystemId};
 use router_circuits::hello_sizes;
 use router_desk::{DropCause, Envelope};
-use router_reading::HelloHeard;
+use router_reading::{Heard, HelloHeard};
 use router_routes::Following;
 
 impl Machine {
-    /// A point-to-point hello came.
-    pub(crate) fn point_hello(
+    /// What is heard is taken, or dropped.
+    pub(crate) fn take_heard(
         &mut self,
         circuit: u8,
-        hello: &HelloHeard,
+        heard: &Heard<'_>,
+        following: &Following,
     ) -> Result<Reply, OutOfMemory>
+        requires following { IsFollowing (outlook_of self.old) following.now }
+        requires there { IsThere self.old circuit }
+        requires kind { IfSome (nth self.old.circuits (circuit - 1))
+            (λ c. FitsKind c (message_of heard.now)) }
+        requires good { IsGoodMessage (message_of heard.now) }
+        requires numbered { IsNumbered heard.now }
+        requires boot { self.old.boot < 2 ^ 24 }
+        requires idle { AreIdle self.old }
+        ensures taken { IfOk result (λ reply. IsTaken self.old (circuit - 1)
+            (message_of heard.now) self.new reply) }
+        ensures err { OnErr result (self.new ≡ self.old) }
+    {
+        match heard {
+            Heard::PointHello(hello) => self.point_hello(circuit, hello),
+            Heard::LanHello(level, hello) => self.lan_hello(circuit, *level, hello),
+            Heard::Lsp { level, from, lsp } => self.lsp(circuit, *level, *from, lsp, following),
+            Heard::Snp {
+                level,
+                from,
+                source,
+                range,
+                entries,
+            } => self.snp(
+                circuit,
+                *level,
+                (*from, *source),
+                *range,
+                entries,
+                following,
+            ),
+        }
+    }
+
+    /// A point-to-point hello came.
+    fn point_hello(&mut self, circuit: u8, hello: &HelloHeard) -> Result<Reply, OutOfMemory>
         requires there { IsThere self.old circuit }
         requires kind { IfSome (nth self.old.circuits (circuit - 1)) (λ c. c.lan ≡ false) }
         requires boot { self.old.boot < 2 ^ 24 }
@@ -45,7 +83,7 @@ impl Machine {
     }
 
     /// A hello of a level came on a LAN.
-    pub(crate) fn lan_hello(
+    fn lan_hello(
         &mut self,
         circuit: u8,
         level: Level,
@@ -67,8 +105,8 @@ impl Machine {
         }
     }
 
-    /// An LSP came.
-    pub(crate) fn lsp(
+    /// An LSP came of which there is no plan (ISO 10589 7.3.15.1).
+    fn lsp(
         &mut self,
         circuit: u8,
         level: Level,
@@ -86,13 +124,21 @@ impl Machine {
         ensures err { OnErr result (self.new ≡ self.old) }
     {
         match self.lsp_cause(circuit, level, from, lsp) {
-            Some(cause) => Ok(self.refuse(cause)),
-            None => self.take_lsp(circuit, level, lsp, following),
+            Some(cause) => return Ok(self.refuse(cause)),
+            None => {}
         }
+        let row = self.level(level).lsp_case(self.desk.system(), lsp);
+        let answer = match row {
+            LspAnswer::Outbid { .. } => Some(self.draft(level, lsp.entry.id, following)?),
+            _ => None,
+        };
+        let reply = self.acknowledged(circuit, level, lsp, row)?;
+        self.hear_lsp(circuit, level, lsp, answer)?;
+        Ok(reply)
     }
 
     /// A sequence number PDU came.
-    pub(crate) fn snp(
+    fn snp(
         &mut self,
         circuit: u8,
         level: Level,

@@ -1,6 +1,6 @@
-use Rattle.std.proofs.Common.{◌≡◌, ℕ, ◌-◌, map, Option, IfSome, sym, ap, subst}
+use Rattle.std.proofs.Common.{◌≡◌, ℕ, ◌-◌, map, Option, IfSome, sym, subst}
 use Rattle.isis_model.specs.Places.{nth}
-use Rattle.isis_model.specs.Routers.{Circuit, Router}
+use Rattle.isis_model.specs.Routers.{Circuit}
 use Rattle.isis_model.specs.Datagrams.{Sent}
 use Rattle.isis_datagram.specs.Datagrams.{datagram}
 use Rattle.flag_sync.specs.BookStates.{book_of}

@@ -1,7 +1,7 @@
 use Rattle.std.proofs.Common.{◌≡◌, true, false, sym, subst}
-use Rattle.router_core.specs.declared.event.NodeEvent.{NodeEvent}
+use Rattle.router_core.specs.declared.read.Read.{Read}
 use Rattle.router_core.specs.Calm.{IsCalm}
-use Rattle.router_core.specs.Events.{event_of}
+use Rattle.router_core.specs.Reads.{event_in}
 use Rattle.router_core.proofs.machine.Machine.known_of.Goals as goal
 
 no : false ≡ true → ⊥
@@ -10,7 +10,7 @@ no e = cc
 -- src/calm.rt
 pub returns-in-Change : goal.returns-in-Change
 returns-in-Change c = record {
-  no_key = λ e. subst (λ (event : NodeEvent). IsCalm c.args.self.now (event_of c.args.self.now event)) (sym c.in-Change.is) (c.is_calm_change.ensures c.args.self.now e);
+  no_key = λ e. subst (λ (read : Read). IsCalm c.args.self.now (event_in read)) (sym c.in-Change.is) (c.is_calm_change.ensures c.args.self.now e);
   no_own = λ e. absurd (no e);
   greeting = λ e. absurd (no e);
 }

@@ -11,7 +11,7 @@ use Rattle.router_core.proofs.IdleLemmas.{each-some}
 use Rattle.router_core.proofs.OpenLemmas.{seen-kind, there}
 use Rattle.router_core.proofs.machine.Machine.opened_facts.Goals as goal
 
--- src/opening.rt
+-- src/read.rt
 pub returns-clause-good : goal.returns-clause-good
 returns-clause-good c =
     let r = c.args.self.now in
@@ -25,7 +25,7 @@ returns-clause-good c =
     (subst (λ (m : Message). IsGoodMessage m) (sym (c.reading_law.ensures r.config r.circuits place is.0 o.octets is.1))
     (c.good_law.ensures r.config is.0 o.octets small)))
 
--- src/opening.rt
+-- src/read.rt
 pub returns-clause-kind : goal.returns-clause-kind
 returns-clause-kind c =
     let r = c.args.self.now in

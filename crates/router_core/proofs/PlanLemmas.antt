@@ -1,0 +1,88 @@
+-- Plans that are the machine's step.
+use Rattle.std.proofs.Common.{◌≡◌, ℕ, Bool, true, false, not, Some, None, IfSome, ◌-◌, if◌then◌else◌, refl, sym, ap, subst, ◌∙◌, ◌⊎◌, inl, inr, arith}
+use Rattle.std.specs.Prelude.{◌&&◌, is_some}
+use Rattle.isis_base.specs.declared.level.Level.{Level}
+use Rattle.isis_model.specs.declared.drop_name.DropName.TheVariants.{NoAdjacency, StoreFull}
+use Rattle.isis_model.specs.declared.lsp_case.LspCase.{LspCase}
+use Rattle.isis_model.specs.declared.lsp_case.LspCase.TheVariants as case
+use Rattle.isis_model.specs.Cells.{Heard}
+use Rattle.isis_model.specs.Events as model
+use Rattle.isis_model.specs.Places.{nth}
+use Rattle.isis_model.specs.Receiving.{drop_of, lsp_drop, no_room, sender_of}
+use Rattle.isis_model.specs.Routers.{Circuit, Router, level_of, book_of}
+use Rattle.isis_model.specs.Sets.{has}
+use Rattle.isis_model.specs.Steps.{step}
+use Rattle.flag_sync.specs.declared.heard.LspAnswer.{LspAnswer}
+use Rattle.flag_sync.specs.declared.heard.LspAnswer.TheVariants as answer
+use Rattle.flag_sync.specs.declared.heard.LspHeard.{LspHeard}
+use Rattle.flag_sync.specs.Heard.{answer_of}
+use Rattle.router_desk.specs.declared.cause.DropCause.{DropCause}
+use Rattle.router_desk.specs.Causes.{name_of}
+use Rattle.router_routes.specs.Outlooks.{outlook_of}
+use Rattle.router_core.specs.declared.marks.Marks.{Marks}
+use Rattle.router_core.specs.declared.plan.Plan.{Plan}
+use Rattle.router_core.specs.declared.plan.Deed.TheVariants as deed
+use Rattle.router_core.specs.declared.reply.Reply.TheVariants as reply
+use Rattle.router_core.specs.declared.told.Told.TheVariants as told
+use Rattle.router_core.specs.Calm.{is_calm_answer}
+use Rattle.router_core.specs.Events.{IsThere}
+use Rattle.router_core.specs.Givens.{given}
+use Rattle.router_core.specs.Plans.{committed, IsPlan}
+use Rattle.router_core.specs.Replies.{Answers}
+use Rattle.router_core.specs.Settled.{AreTrue}
+use Rattle.router_core.specs.Tells.{AreTold}
+use Rattle.router_core.proofs.IdleLemmas.{from-some}
+use Rattle.router_core.proofs.OpenLemmas.{there}
+use Rattle.router_core.proofs.SettledLemmas.{marks-keep}
+use Rattle.router_core.proofs.StepLemmas.{counted, dropped-step}
+
+-- the parts of a plan, by the outcome
+record Parts (r : Router) (place : ℕ) (plan : Plan) (o : model.Outcome) : Type 0 where
+  pub state : committed r plan.deed ≡ o.router
+  pub reply : Answers o.router place o.reply plan.reply
+  pub told : AreTold (outlook_of r) (outlook_of o.router) plan.told
+  pub marks : AreTrue plan.marks o.router
+
+outlook-stays : (r : Router) (cause : DropCause) → outlook_of (counted r cause) ≡ outlook_of r
+unfolding outlook_of
+outlook-stays r cause = refl
+
+abbrev pub dropped : DropCause → Marks → Plan
+dropped cause marks = record { deed = deed.Dropped cause; reply = reply.Dropped cause; told = told.Nothing; marks = marks }
+
+pub drop-plan : (r : Router) (cause : DropCause) (marks : Marks) → AreTrue marks r → (place : ℕ) (c : Circuit) (m : model.Message) → nth r.circuits place ≡ Some c → drop_of r place c m ≡ Some (name_of cause) → IsPlan r (model.Take place m) (dropped cause marks)
+drop-plan r cause marks true_of place c m there is = record { ready = tt; state = parts.state; reply = parts.reply; told = parts.told; marks = parts.marks }
+  where
+    parts : Parts r place (dropped cause marks) (step given r (model.Take place m))
+    parts = subst (Parts r place (dropped cause marks)) (sym (dropped-step r cause place c m there is)) (record {
+      state = refl;
+      reply = (cause, refl, refl);
+      told = outlook-stays r cause;
+      marks = marks-keep marks r (counted r cause) (record { config = refl; circuits = refl; one = refl; two = refl }) (outlook-stays r cause) true_of;
+    })
+
+-- ---- an LSP
+
+no-room : (a b : Bool) → None ≡ (if not a then Some NoAdjacency else (if b then Some StoreFull else None)) → b ≡ false
+no-room true true e = absurd (cc)
+no-room true false e = refl
+no-room false b e = absurd (cc)
+
+pub kept-room : (r : Router) (circuit : ℕ) (l : Level) (from : model.Envelope) (h : Heard) → IsThere r circuit → IfSome (nth r.circuits (circuit - 1)) (λ c. None ≡ lsp_drop r (circuit - 1) c l from h) → no_room (level_of r l) r.config.system h ≡ false
+kept-room r circuit l from h here kept =
+    let low = here.0 in
+    let high = here.1 in
+    let is = there r.circuits (circuit - 1) (omega (arith, low, high)) in
+    no-room (has (book_of r l).opened (circuit - 1) && is_some (sender_of is.0 l from)) (no_room (level_of r l) r.config.system h)
+    (from-some (λ c. None ≡ lsp_drop r (circuit - 1) c l from h) (nth r.circuits (circuit - 1)) is.0 is.1 kept)
+
+no : false ≡ true → ⊥
+no e = cc
+
+clash : (above : ℕ) → answer.Stored ≡ answer.Outbid above → ⊥
+clash above e = cc
+
+-- what is planned outbids nothing
+pub no-bid : (row : LspAnswer) (met : LspCase) (lsp : LspHeard) → row ≡ answer_of met lsp → (is_calm_answer row ≡ true) ⊎ (row ≡ answer.Stored) → met ≡ case.Outbid → ⊥
+no-bid row met lsp is (inl calm) e = no (sym (ap is_calm_answer (is ∙ ap (λ (m : LspCase). answer_of m lsp) e)) ∙ calm)
+no-bid row met lsp is (inr stored) e = clash _ (sym stored ∙ (is ∙ ap (λ (m : LspCase). answer_of m lsp) e))

@@ -1,0 +1,68 @@
+-- What committing a plan makes of a router, and when a plan is an event's (own).
+use Rattle.std.specs.Prelude.{◌≡◌, ℕ, ◌-◌, ◌<◌, ◌≤◌, false, length}
+use Rattle.isis_base.specs.declared.level.Level.{Level}
+use Rattle.isis_base.specs.Identifiers.{lsp_number}
+use Rattle.isis_model.specs.declared.lsp_case.LspCase.{LspCase}
+use Rattle.isis_model.specs.declared.lsp_case.LspCase.TheVariants as case
+use Rattle.isis_model.specs.AdjacencyLaws.{place_of}
+use Rattle.isis_model.specs.Drops.{count_drop}
+use Rattle.isis_model.specs.Events as model
+use Rattle.isis_model.specs.LspTable.{met}
+use Rattle.isis_model.specs.Receiving.{no_room, scene_of}
+use Rattle.isis_model.specs.Routers.{Router, level_of, with_level}
+use Rattle.isis_model.specs.Steps.{step}
+use Rattle.isis_model.specs.Takes.{whose_of, take_lsp}
+use Rattle.flag_sync.specs.Heard.{heard_of}
+use Rattle.flag_sync.specs.declared.heard.LspHeard.{LspHeard}
+use Rattle.router_desk.specs.declared.envelope.Envelope.{Envelope}
+use Rattle.router_desk.specs.Causes.{name_of}
+use Rattle.router_desk.specs.Opening.{envelope_of}
+use Rattle.router_routes.specs.Outlooks.{outlook_of}
+use Rattle.router_core.specs.declared.plan.Deed.{Deed}
+use Rattle.router_core.specs.declared.plan.Deed.TheVariants as deed
+use Rattle.router_core.specs.declared.plan.Plan.{Plan}
+use Rattle.router_core.specs.Events.{IsThere}
+use Rattle.router_core.specs.Givens.{given}
+use Rattle.router_core.specs.Replies.{Answers}
+use Rattle.router_core.specs.Settled.{AreTrue}
+use Rattle.router_core.specs.Tells.{AreTold}
+
+-- the row that an LSP meets (ISO 10589 7.3.15.1)
+abbrev pub row_met : Router → Level → LspHeard → LspCase
+row_met r level lsp =
+    met (level_of r level).book (whose_of r.config.system (level_of r level) (lsp_number lsp.entry.id))
+    (heard_of lsp)
+
+-- an LSP comes on a circuit (own)
+abbrev pub lsp_event : ℕ → Level → Envelope → LspHeard → model.Event
+lsp_event circuit level from lsp =
+    model.Take (circuit - 1) (model.LspHeard level (envelope_of from) (heard_of lsp))
+
+-- what a deed makes of a router (own)
+abbrev pub committed : Router → Deed → Router
+committed r (deed.Dropped cause) = record r { drops = count_drop r.drops (name_of cause) }
+committed r (deed.Lsp circuit level lsp) =
+    with_level r level (take_lsp (scene_of given r level) (level_of r level) (circuit - 1)
+    (whose_of r.config.system (level_of r level) (lsp_number lsp.entry.id)) (heard_of lsp))
+
+-- an LSP has room, and outbids none of one's own (own)
+pub record IsLspReady (r : Router) (circuit : ℕ) (level : Level) (lsp : LspHeard) : Type 0 where
+  pub there : IsThere r circuit
+  pub number : 0 < lsp.entry.number
+  pub octets : 27 ≤ length lsp.octets.now
+  pub room : no_room (level_of r level) r.config.system (heard_of lsp) ≡ false
+  pub other : row_met r level lsp ≡ case.Outbid → ⊥
+
+-- what a deed has is what it needs (own)
+abbrev pub IsReady : Router → Deed → Type 0
+IsReady r (deed.Dropped cause) = Unit {0}
+IsReady r (deed.Lsp circuit level lsp) = IsLspReady r circuit level lsp
+
+-- what a plan says is the machine's step (own)
+pub record IsPlan (r : Router) (event : model.Event) (plan : Plan) : Type 0 where
+  pub ready : IsReady r plan.deed
+  pub state : committed r plan.deed ≡ (step given r event).router
+  pub reply : Answers (step given r event).router (place_of event) (step given r event).reply
+      plan.reply
+  pub told : AreTold (outlook_of r) (outlook_of (step given r event).router) plan.told
+  pub marks : AreTrue plan.marks (step given r event).router

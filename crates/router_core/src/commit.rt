@@ -1,0 +1,31 @@
+//! What was planned is done.
+ghost use Rattle.std.specs.Prelude.{◌≡◌, OnOk, OnErr};
+ghost use Rattle.router_core.specs.Plans.{committed, IsReady};
+
+use crate::machine::Machine;
+use crate::plan::Deed;
+use isis_base::OutOfMemory;
+
+impl Machine {
+    /// Does what was planned. It may want memory for room; then the router is as it was.
+    pub(crate) fn commit(&mut self, deed: Deed<'_>) -> Result<(), OutOfMemory>
+        requires { IsReady self.old deed }
+        ensures state { OnOk result (self.new ≡ committed self.old deed.entry) }
+        ensures err { OnErr result (self.new ≡ self.old) }
+    {
+        match deed {
+            Deed::Dropped(cause) => {
+                self.count_drop(cause.name());
+                Ok(())
+            }
+            Deed::Lsp {
+                circuit,
+                level,
+                lsp,
+            } => match self.hear_lsp(circuit, level, &lsp, None) {
+                Ok(_) => Ok(()),
+                Err(error) => Err(error),
+            },
+        }
+    }
+}

@@ -1,0 +1,46 @@
+//! What nodes will tell once an event is done.
+ghost use Rattle.std.specs.Prelude.{IfOk, MatchOption};
+ghost use Rattle.router_routes.specs.Outlooks.{Outlook, outlook_of};
+ghost use Rattle.router_routes.specs.Following.{IsFollowing};
+ghost use Rattle.router_core.specs.Tells.{AreTold};
+
+use crate::machine::Machine;
+use isis_base::{Level, NodeId, OutOfMemory};
+use lsp_store::Store;
+use router_routes::Following;
+
+/// What an event changes of what routes look at: nothing, or what one node tells.
+#[derive(Drop)]
+pub(crate) enum Told {
+    Nothing,
+    Node(Moving),
+}
+
+/// A node that will tell other LSPs in a level: these, and no others.
+#[derive(Drop)]
+pub(crate) struct Moving {
+    pub(crate) level: Level,
+    pub(crate) node: NodeId,
+    pub(crate) aside: Store,
+}
+
+impl Machine {
+    /// What follows the router once it tells this; `None` where that is what follows it now.
+    pub(crate) fn following_told(
+        &self,
+        following: &Following,
+        told: &Told,
+    ) -> Result<Option<Following>, OutOfMemory>
+        requires { IsFollowing (outlook_of self.now) following.now }
+        ensures { IfOk result (λ next. (o : Outlook) → AreTold (outlook_of self.now) o told.now
+            → MatchOption next (IsFollowing o following.now) (λ f. IsFollowing o f)) }
+    {
+        match told {
+            Told::Nothing => Ok(None),
+            Told::Node(moving) => {
+                let lent = self.lent()?;
+                following.ahead(&lent, moving.level, moving.node, &moving.aside)
+            }
+        }
+    }
+}
