@@ -101,8 +101,9 @@ impl Machine {
             }
             return Ok(Some((Told::Nothing, marks.after(true))));
         }
-        if !is_stored(row) {
-            return Ok(None);
+        match row {
+            LspAnswer::Stored => {}
+            _ => return Ok(None),
         }
         match self.moving_by(circuit, from, lsp) {
             Ok(Some(moving)) => Ok(Some((Told::Node(moving), Marks::none()))),
@@ -154,16 +155,6 @@ fn is_calm_row(row: LspAnswer) -> bool
 {
     match row {
         LspAnswer::AckPurge | LspAnswer::Same | LspAnswer::Older => true,
-        _ => false,
-    }
-}
-
-/// Whether an LSP meets the row by which it is stored.
-fn is_stored(row: LspAnswer) -> bool
-    ensures { result ≡ true → row ≡ answer.Stored }
-{
-    match row {
-        LspAnswer::Stored => true,
         _ => false,
     }
 }

@@ -153,7 +153,8 @@ impl Router {
         Ok(reply)
     }
 
-    /// An event that has no plan: in place where it is known to leave what routes look at, and else on a copy.
+    /// An event that has no plan: in place where it is known to leave what routes look at. Else a copy has it, so that
+    /// nothing is lost where the routes want memory.
     fn step_unplanned(&mut self, read: &Read<'_>) -> Result<Reply, OutOfMemory>
         requires fits { FitsRead self.old read.now }
         requires reached { IsReached (step given self.old (event_in read.now)).router }
@@ -167,23 +168,10 @@ impl Router {
             .machine
             .step_calmly(read, &self.following, &mut self.marks)
         {
-            Ok(Some(reply)) => Ok(reply),
-            Ok(None) => self.step_aside(read),
-            Err(error) => Err(error),
+            Ok(Some(reply)) => return Ok(reply),
+            Ok(None) => {}
+            Err(error) => return Err(error),
         }
-    }
-
-    /// An event that may change what routes look at. A copy has it, so that nothing is lost where the
-    /// routes want memory.
-    fn step_aside(&mut self, read: &Read<'_>) -> Result<Reply, OutOfMemory>
-        requires fits { FitsRead self.old read.now }
-        requires reached { IsReached (step given self.old (event_in read.now)).router }
-        ensures state { OnOk result (self.new ≡ (step given self.old (event_in read.now)).router) }
-        ensures reply { IfOk result (λ reply. Answers self.new (place_of (event_in read.now))
-            (step given self.old (event_in read.now)).reply reply) }
-        ensures reached { OnOk result (IsReached self.new) }
-        ensures err { OnErr result (self.new ≡ self.old) }
-    {
         let (machine, reply) = self.machine.copy_after(read, &self.following)?;
         match machine.follow_routes(&mut self.following, &self.machine, read) {
             Ok(()) => {
