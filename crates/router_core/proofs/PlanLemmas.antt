@@ -1,7 +1,9 @@
 -- Plans that are the machine's step.
-use Rattle.std.proofs.Common.{◌≡◌, ℕ, Bool, true, false, not, Some, None, IfSome, ◌-◌, if◌then◌else◌, refl, sym, ap, subst, ◌∙◌, ◌⊎◌, inl, inr, arith}
+use Rattle.std.proofs.Common.{◌≡◌, ℕ, Bool, true, false, not, Option, Some, None, IfSome, ◌-◌, if◌then◌else◌, refl, sym, ap, subst, ◌∙◌, ◌⊎◌, inl, inr, arith}
 use Rattle.std.specs.Prelude.{◌&&◌, is_some}
 use Rattle.isis_base.specs.declared.level.Level.{Level}
+use Rattle.std.specs.Option.{option_map}
+use Rattle.isis_model.specs.declared.drop_name.DropName.{DropName}
 use Rattle.isis_model.specs.declared.drop_name.DropName.TheVariants.{NoAdjacency, StoreFull}
 use Rattle.isis_model.specs.declared.lsp_case.LspCase.{LspCase}
 use Rattle.isis_model.specs.declared.lsp_case.LspCase.TheVariants as case
@@ -27,10 +29,9 @@ use Rattle.router_core.specs.declared.told.Told.TheVariants as told
 use Rattle.router_core.specs.Calm.{is_calm_answer}
 use Rattle.router_core.specs.Events.{IsThere}
 use Rattle.router_core.specs.Givens.{given}
-use Rattle.router_core.specs.Plans.{committed, IsPlan}
+use Rattle.router_core.specs.Plans.{AreTold, committed, IsPlan}
 use Rattle.router_core.specs.Replies.{Answers}
 use Rattle.router_core.specs.Settled.{AreTrue}
-use Rattle.router_core.specs.Tells.{AreTold}
 use Rattle.router_core.proofs.IdleLemmas.{from-some}
 use Rattle.router_core.proofs.OpenLemmas.{there}
 use Rattle.router_core.proofs.SettledLemmas.{marks-keep}
@@ -50,16 +51,24 @@ outlook-stays r cause = refl
 abbrev pub dropped : DropCause → Marks → Plan
 dropped cause marks = record { deed = deed.Dropped cause; reply = reply.Dropped cause; told = told.Nothing; marks = marks }
 
-pub drop-plan : (r : Router) (cause : DropCause) (marks : Marks) → AreTrue marks r → (place : ℕ) (c : Circuit) (m : model.Message) → nth r.circuits place ≡ Some c → drop_of r place c m ≡ Some (name_of cause) → IsPlan r (model.Take place m) (dropped cause marks)
-drop-plan r cause marks true_of place c m there is = record { ready = tt; state = parts.state; reply = parts.reply; told = parts.told; marks = parts.marks }
+pub drop-plan : (r : Router) (cause : DropCause) (marks : Marks) → AreTrue marks r → (circuit : ℕ) (m : model.Message) → IsThere r circuit → IfSome (nth r.circuits (circuit - 1)) (λ c. drop_of r (circuit - 1) c m ≡ Some (name_of cause)) → IsPlan r (model.Take (circuit - 1) m) (dropped cause marks)
+drop-plan r cause marks true_of circuit m here why = record { ready = tt; state = parts.state; reply = parts.reply; told = parts.told; marks = parts.marks }
   where
-    parts : Parts r place (dropped cause marks) (step given r (model.Take place m))
-    parts = subst (Parts r place (dropped cause marks)) (sym (dropped-step r cause place c m there is)) (record {
+    is : (x : Circuit) × (nth r.circuits (circuit - 1) ≡ Some x)
+    is = there r.circuits (circuit - 1) (omega (arith, here))
+
+    parts : Parts r (circuit - 1) (dropped cause marks) (step given r (model.Take (circuit - 1) m))
+    parts = subst (Parts r (circuit - 1) (dropped cause marks)) (sym (dropped-step r cause (circuit - 1) is.0 m is.1 (from-some (λ c. drop_of r (circuit - 1) c m ≡ Some (name_of cause)) (nth r.circuits (circuit - 1)) is.0 is.1 why))) (record {
       state = refl;
       reply = (cause, refl, refl);
       told = outlook-stays r cause;
       marks = marks-keep marks r (counted r cause) (record { config = refl; circuits = refl; one = refl; two = refl }) (outlook-stays r cause) true_of;
     })
+
+-- a cause that was found
+pub caused : (o : Option Circuit) (f : Circuit → Option DropName) (found : Option DropCause) (cause : DropCause) → found ≡ Some cause → IfSome o (λ c. option_map name_of found ≡ f c) → IfSome o (λ c. f c ≡ Some (name_of cause))
+caused None f found cause is h = h
+caused (Some c) f found cause is h = sym h ∙ ap (option_map name_of) is
 
 -- ---- an LSP
 

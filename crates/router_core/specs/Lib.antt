@@ -15,6 +15,5 @@ pub mod Designated
 pub mod NamedBoots
 pub mod LeakedUp
 pub mod Settled
-pub mod Tells
 pub mod Reads
 pub mod Plans

@@ -1,4 +1,4 @@
--- What committing a plan makes of a router, and when a plan is an event's (own).
+-- What committing a plan makes of a router, what nodes tell then, and when a plan is an event's (own).
 use Rattle.std.specs.Prelude.{◌≡◌, ℕ, ◌-◌, ◌<◌, ◌≤◌, false, length}
 use Rattle.isis_base.specs.declared.level.Level.{Level}
 use Rattle.isis_base.specs.Identifiers.{lsp_number}
@@ -17,15 +17,18 @@ use Rattle.flag_sync.specs.declared.heard.LspHeard.{LspHeard}
 use Rattle.router_desk.specs.declared.envelope.Envelope.{Envelope}
 use Rattle.router_desk.specs.Causes.{name_of}
 use Rattle.router_desk.specs.Opening.{envelope_of}
-use Rattle.router_routes.specs.Outlooks.{outlook_of}
+use Rattle.router_routes.specs.Moved.{IsMovedAt}
+use Rattle.router_routes.specs.Outlooks.{Outlook, outlook_of}
+use Rattle.router_routes.specs.Told.{told_in}
 use Rattle.router_core.specs.declared.plan.Deed.{Deed}
 use Rattle.router_core.specs.declared.plan.Deed.TheVariants as deed
 use Rattle.router_core.specs.declared.plan.Plan.{Plan}
+use Rattle.router_core.specs.declared.told.Told.{Told}
+use Rattle.router_core.specs.declared.told.Told.TheVariants as told
 use Rattle.router_core.specs.Events.{IsThere}
 use Rattle.router_core.specs.Givens.{given}
 use Rattle.router_core.specs.Replies.{Answers}
 use Rattle.router_core.specs.Settled.{AreTrue}
-use Rattle.router_core.specs.Tells.{AreTold}
 
 -- the row that an LSP meets (ISO 10589 7.3.15.1)
 abbrev pub row_met : Router → Level → LspHeard → LspCase
@@ -57,6 +60,11 @@ pub record IsLspReady (r : Router) (circuit : ℕ) (level : Level) (lsp : LspHea
 abbrev pub IsReady : Router → Deed → Type 0
 IsReady r (deed.Dropped cause) = Unit {0}
 IsReady r (deed.Lsp circuit level lsp) = IsLspReady r circuit level lsp
+
+-- nothing changes; or one node of one level tells these LSPs, and all else stays (own)
+abbrev pub AreTold : Outlook → Outlook → Told → Type 0
+AreTold old new told.Nothing = new ≡ old
+AreTold old new (told.Node m) = IsMovedAt old new m.level m.node (told_in m.aside.entries)
 
 -- what a plan says is the machine's step (own)
 pub record IsPlan (r : Router) (event : model.Event) (plan : Plan) : Type 0 where

@@ -22,10 +22,7 @@ impl Machine {
                 circuit,
                 level,
                 lsp,
-            } => match self.hear_lsp(circuit, level, &lsp, None) {
-                Ok(_) => Ok(()),
-                Err(error) => Err(error),
-            },
+            } => self.hear_lsp(circuit, level, &lsp, None),
         }
     }
 }

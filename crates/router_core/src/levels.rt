@@ -1,5 +1,5 @@
 //! A router's levels: what is asked of one, and what one takes.
-ghost use Rattle.std.specs.Prelude.{◌≡◌, ◌<◌, ◌≤◌, ◌-◌, ◌&&◌, false, length, is_some, option_copied, option_map, Some, IfSome, IfOk, OnOk, OnErr, IsSome};
+ghost use Rattle.std.specs.Prelude.{◌≡◌, ◌<◌, ◌≤◌, ◌-◌, false, length, is_some, option_map, Some, IfSome, OnOk, OnErr, IsSome};
 ghost use Rattle.isis_base.specs.Identifiers.{lsp_number};
 ghost use Rattle.isis_model.specs.Both.{at};
 ghost use Rattle.isis_model.specs.Places.{nth};
@@ -9,7 +9,7 @@ ghost use Rattle.isis_model.specs.declared.lsp_case.LspCase.TheVariants as case;
 ghost use Rattle.isis_model.specs.Takes as takes;
 ghost use Rattle.isis_model.specs.Takes.{whose_of};
 ghost use Rattle.isis_model.specs.Receiving.{lsp_drop, no_room, scene_of};
-ghost use Rattle.flag_sync.specs.Heard.{answer_of, heard_of};
+ghost use Rattle.flag_sync.specs.Heard.{heard_of};
 ghost use Rattle.router_levels.specs.Views.{state_of};
 ghost use Rattle.router_levels.specs.Drafts.{IsAnswer};
 ghost use Rattle.router_desk.specs.Causes.{name_of};
@@ -18,7 +18,7 @@ ghost use Rattle.router_core.specs.Givens.{given};
 ghost use Rattle.router_core.specs.Events.{IsThere};
 
 use crate::machine::Machine;
-use flag_sync::{LspAnswer, LspHeard};
+use flag_sync::LspHeard;
 use isis_base::{Level, OutOfMemory};
 use lsp_octets::{Draft, lent_key};
 use router_desk::{DropCause, Envelope};
@@ -66,7 +66,7 @@ impl Machine {
         level: Level,
         lsp: &LspHeard<'_>,
         answer: Option<Draft>,
-    ) -> Result<LspAnswer, OutOfMemory>
+    ) -> Result<(), OutOfMemory>
         requires there { IsThere self.old circuit }
         requires number { 0 < lsp.now.entry.number }
         requires octets { 27 ≤ length lsp.now.octets.now }
@@ -86,17 +86,14 @@ impl Machine {
             (whose_of self.old.config.system (level_of self.old level)
             (lsp_number lsp.now.entry.id))
             (heard_of lsp.now))) }
-        ensures met { IfOk result (λ row. row ≡ answer_of (table.met (level_of self.old level).book
-            (whose_of self.old.config.system (level_of self.old level)
-            (lsp_number lsp.now.entry.id))
-            (heard_of lsp.now)) lsp.now) }
         ensures err { OnErr result (self.new ≡ self.old) }
     {
         let system = self.desk.system();
         let key = lent_key(self.desk.key(level));
         match level {
-            Level::One => self.one.take_lsp(circuit, system, lsp, key, answer),
-            Level::Two => self.two.take_lsp(circuit, system, lsp, key, answer),
-        }
+            Level::One => self.one.take_lsp(circuit, system, lsp, key, answer)?,
+            Level::Two => self.two.take_lsp(circuit, system, lsp, key, answer)?,
+        };
+        Ok(())
     }
 }

@@ -4,7 +4,6 @@ ghost use Rattle.isis_model.specs.Events as model;
 ghost use Rattle.isis_model.specs.Numbers.{system_number};
 ghost use Rattle.isis_model.specs.Places.{nth};
 ghost use Rattle.isis_model.specs.Receiving.{drop_of};
-ghost use Rattle.isis_model.specs.Routers.{Circuit};
 ghost use Rattle.isis_model.specs.SnpTable.{SnpEntry};
 ghost use Rattle.router_desk.specs.Causes.{name_of};
 ghost use Rattle.router_desk.specs.Opening.{envelope_of};
@@ -105,9 +104,10 @@ impl Machine {
     /// The plan of a datagram that is dropped.
     pub(crate) fn plan_drop<'a>(&self, cause: DropCause, marks: Marks) -> Plan<'a>
         requires { AreTrue marks self.now }
-        ensures { (place : ℕ) (c : Circuit) (m : model.Message) → nth self.now.circuits place ≡ Some c
-            → drop_of self.now place c m ≡ Some (name_of cause)
-            → IsPlan self.now (model.Take place m) result }
+        ensures { (circuit : ℕ) (m : model.Message) → IsThere self.now circuit
+            → IfSome (nth self.now.circuits (circuit - 1)) (λ c.
+            drop_of self.now (circuit - 1) c m ≡ Some (name_of cause))
+            → IsPlan self.now (model.Take (circuit - 1) m) result }
     {
         Plan {
             deed: Deed::Dropped(cause),

@@ -11,10 +11,9 @@ ghost use Rattle.router_routes.specs.Outlooks.{outlook_of};
 ghost use Rattle.router_core.specs.Calm.{is_calm_answer};
 ghost use Rattle.router_core.specs.Events.{IsThere};
 ghost use Rattle.router_core.specs.Givens.{given};
-ghost use Rattle.router_core.specs.Plans.{IsPlan, lsp_event, row_met};
+ghost use Rattle.router_core.specs.Plans.{AreTold, IsPlan, lsp_event, row_met};
 ghost use Rattle.router_core.specs.Reached.{IsReached};
 ghost use Rattle.router_core.specs.Settled.{AreTrue};
-ghost use Rattle.router_core.specs.Tells.{AreTold};
 ghost use Rattle.router_core.specs.declared.told.Told.TheVariants as told;
 
 use crate::aside::{entry_heard, node_with};

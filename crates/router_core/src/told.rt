@@ -2,7 +2,7 @@
 ghost use Rattle.std.specs.Prelude.{IfOk, MatchOption};
 ghost use Rattle.router_routes.specs.Outlooks.{Outlook, outlook_of};
 ghost use Rattle.router_routes.specs.Following.{IsFollowing};
-ghost use Rattle.router_core.specs.Tells.{AreTold};
+ghost use Rattle.router_core.specs.Plans.{AreTold};
 
 use crate::machine::Machine;
 use isis_base::{Level, NodeId, OutOfMemory};

@@ -1,5 +1,4 @@
-use Rattle.std.proofs.Common.{◌≡◌, ◌⊎◌, true, ◌∙◌, ◌-◌, None, IfSome, Ok, refl, sym, ap, subst, arith}
-use Rattle.std.specs.Option.{option_map}
+use Rattle.std.proofs.Common.{◌≡◌, ◌⊎◌, true, ◌∙◌, ◌-◌, None, IfSome, Ok, refl, ap, subst, arith}
 use Rattle.isis_base.specs.Identifiers.{lsp_number}
 use Rattle.isis_model.specs.Events as model
 use Rattle.isis_model.specs.Numbers.{system_number}
@@ -7,10 +6,9 @@ use Rattle.isis_model.specs.LspTable.{met}
 use Rattle.isis_model.specs.Takes.{whose_of}
 use Rattle.isis_model.specs.Places.{nth}
 use Rattle.isis_model.specs.Receiving.{lsp_drop}
-use Rattle.isis_model.specs.Routers.{Circuit, Router, level_of}
+use Rattle.isis_model.specs.Routers.{Router, level_of}
 use Rattle.isis_model.specs.Steps.{step}
 use Rattle.flag_sync.specs.Heard.{heard_of, answer_of}
-use Rattle.router_desk.specs.Causes.{name_of}
 use Rattle.router_desk.specs.Opening.{envelope_of}
 use Rattle.router_levels.specs.Views.{state_of}
 use Rattle.router_routes.specs.Outlooks.{outlook_of}
@@ -20,13 +18,11 @@ use Rattle.router_core.specs.declared.told.Told.{Told}
 use Rattle.router_core.specs.declared.plan.Deed.TheVariants as deed
 use Rattle.router_core.specs.Calm.{is_calm_answer}
 use Rattle.router_core.specs.Givens.{given}
-use Rattle.router_core.specs.Plans.{committed, lsp_event, row_met}
+use Rattle.router_core.specs.Plans.{AreTold, committed, lsp_event, row_met}
 use Rattle.router_core.specs.Replies.{Answers}
 use Rattle.router_core.specs.Settled.{AreTrue}
-use Rattle.router_core.specs.Tells.{AreTold}
 use Rattle.router_core.proofs.IdleLemmas.{from-some}
-use Rattle.router_core.proofs.OpenLemmas.{there}
-use Rattle.router_core.proofs.PlanLemmas.{kept-room, no-bid}
+use Rattle.router_core.proofs.PlanLemmas.{caused, kept-room, no-bid}
 use Rattle.router_core.proofs.StepLemmas.{taken-step}
 use Rattle.router_core.proofs.TakenLemmas.{lsp-taken}
 use Rattle.router_core.proofs.machine.Machine.plan_lsp.Goals as goal
@@ -39,12 +35,8 @@ returns-in-Some c =
     let l = c.args.from.0 in
     let from = envelope_of c.args.from.1 in
     let h = heard_of c.args.lsp.now in
-    let low = c.requires.there.0 in
-    let high = c.requires.there.1 in
-    let is = there r.circuits place (omega (arith, low, high)) in
-    let dropped : option_map name_of c.lsp_cause.result ≡ lsp_drop r place is.0 l from h =
-    from-some (λ (x : Circuit). option_map name_of c.lsp_cause.result ≡ lsp_drop r place x l from h) (nth r.circuits place) is.0 is.1 c.lsp_cause.ensures in
-    c.plan_drop.ensures place is.0 (model.LspHeard l from h) is.1 (sym dropped ∙ ap (option_map name_of) c.in-Some.is)
+    c.plan_drop.ensures c.args.circuit (model.LspHeard l from h) c.requires.there
+    (caused (nth r.circuits place) (λ x. lsp_drop r place x l from h) c.lsp_cause.result c.in-Some.cause c.in-Some.is c.lsp_cause.ensures)
 
 -- src/plan_lsp.rt
 pub returns : goal.returns
