@@ -39,7 +39,7 @@ pub fn show<I: Source, O: Sink>(alloc: Global, input: &mut I, output: &mut O) ->
 impl<'t> Shown<'t> {
     /// All lines of an input.
     pub(crate) fn new(alloc: Global, input: &'t [u8]) -> Shown<'t>
-        requires { length input.now ≤ 16777216 }
+        requires { length input.now ≤ input_limit }
         ensures { shown_left result ≡ shown_text input.now }
     {
         Shown {

@@ -1,6 +1,7 @@
 //! What is still to come of what an input is shown as.
 ghost use Rattle.std.specs.Prelude.{◌≤◌, ◌+◌, length};
 ghost use Rattle.line_cuts.specs.Cuts.{parts_behind};
+ghost use Rattle.isis_daemon.specs.Runs.{input_limit};
 
 use std::alloc::Global;
 
@@ -12,5 +13,5 @@ pub(crate) struct Shown<'t> {
     pub left: Option<&'t [u8]>,
     /// The number of the first of them, from 1.
     pub number: usize,
-    pub ghost few: { number + length (parts_behind 10 left) ≤ 16777218 },
+    pub ghost few: { number + length (parts_behind 10 left) ≤ input_limit + 2 },
 }

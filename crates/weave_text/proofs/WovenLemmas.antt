@@ -1,5 +1,7 @@
 -- What a text says, as it is read, played and woven.
-use Rattle.std.proofs.Common.{◌≡◌, ◌∙◌, ◌⊎◌, inl, inr, ℕ, zero, suc, ◌<◌, ◌≤◌, List, [], ◌∷◌, map, take, None, Result, Ok, Err, refl, sym, ap, subst, arith}
+use Rattle.std.proofs.Common.{◌≡◌, ◌∙◌, ◌⊎◌, inl, inr, ℕ, zero, suc, ◌<◌, ◌≤◌, List, [], ◌∷◌, map, take, min, None, Result, Ok, Err, true, false, ⊎_elim, refl, sym, ap, subst, arith}
+use Rattle.std.specs.Prelude.{leb}
+use Rattle.std.proofs.lemmas.Bool.Decides.{leb_tells}
 use Rattle.std.specs.List.{AllByRecursion}
 use Rattle.std.proofs.lemmas.List.{take-take}
 use Rattle.isis_model.proofs.ListLemmas.{all-take}
@@ -181,6 +183,10 @@ past zero (suc count) lines h = absurd (omega (arith, h))
 past (suc n) (suc count) [] h = refl
 past (suc n) (suc count) (line ∷ lines) h = ap (λ (ls : List (List ℕ)). line ∷ ls) (past n count lines (omega (arith, h)))
 
-pub taken : (count n least : ℕ) (lines : List (List ℕ)) → (least ≤ count) × (least ≤ n) → (least ≡ count) ⊎ (least ≡ n) → take least lines ≡ take n (take count lines)
-taken count n least lines within (inl e) = ap (λ (m : ℕ). take m lines) e ∙ sym (past n count lines (omega (arith, e, within.1)))
-taken count n least lines within (inr e) = ap (λ (m : ℕ). take m lines) e ∙ sym (take-take n count lines (omega (arith, e, within.0)))
+pub taken : (count n least : ℕ) (lines : List (List ℕ)) → least ≡ min count n → take least lines ≡ take n (take count lines)
+taken count n least lines is = ⊎_elim
+    (λ (t : (leb count n ≡ true) × (count ≤ n)). let e : least ≡ count = omega (arith, is, t.1) in
+    ap (λ (m : ℕ). take m lines) e ∙ sym (past n count lines t.1))
+    (λ (t : (leb count n ≡ false) × (n < count)). let e : least ≡ n = omega (arith, is, t.1) in
+    ap (λ (m : ℕ). take m lines) e ∙ sym (take-take n count lines (omega (arith, t.1))))
+    (leb_tells count n)

@@ -1,5 +1,5 @@
 //! The part of a text ahead of its journals, played.
-ghost use Rattle.std.specs.Prelude.{◌≡◌, ◌≤◌, ◌⊎◌, take, length, Ok, Err, IfOk};
+ghost use Rattle.std.specs.Prelude.{◌≡◌, take, length, Ok, Err, IfOk};
 ghost use Rattle.lab_script.specs.Scripts.{names_in};
 ghost use Rattle.weave_text.specs.Weavings as said;
 ghost use Rattle.weave_text.specs.Weavings.{end_in, script_in, said_by};
@@ -77,20 +77,12 @@ fn limit_before(
 ) -> Result<Option<LimitName>, OutOfMemory>
     ensures { IfOk result (λ which. which ≡ said.limit_before line (take count lines.now.lines)) }
 {
-    let earlier = lesser(count, line.saturating_sub(2));
+    let earlier = count.min(line.saturating_sub(2));
     let text = script_text(alloc, lines, earlier)?;
     match read_script(alloc, text.as_slice()) {
         Ok(script) => limit_of(alloc, &script),
         Err(fault) => limit_told(fault),
     }
-}
-
-/// The lesser of two numbers.
-fn lesser(a: usize, b: usize) -> usize
-    ensures within { (result ≤ a) × (result ≤ b) }
-    ensures one { (result ≡ a) ⊎ (result ≡ b) }
-{
-    if a < b { a } else { b }
 }
 
 /// The limit that a script's lines pass.
