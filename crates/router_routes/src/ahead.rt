@@ -57,7 +57,7 @@ impl Following {
 
     /// The value that follows what is seen, where these are the levels' new costs; `None` where nothing
     /// of it changes.
-    fn next(
+    pub(crate) fn next(
         &self,
         view: &View<'_>,
         one: Option<Repaired>,

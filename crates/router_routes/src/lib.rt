@@ -12,7 +12,8 @@
 //! - `differences.rt`: the rows that two graphs don't share
 //! - `view.rt`: the same where one node's LSPs are read aside; `near.rt`: the rows that start or end at a node
 //! - `following.rt`: the value that follows a router's databases; `leaks.rt`: what it leaks
-//! - `ahead.rt`: the value that will follow once one node tells other LSPs; `same.rt`: candidates compared
+//! - `ahead.rt`: the value that will follow once one node tells other LSPs; `own_prefixes.rt`: the same once own prefixes
+//!   are others; `same.rt`: candidates compared
 //! - `laws.rt`: the plain programs of the definitions are what the routes say
 #![tactic(auto)]
 
@@ -25,6 +26,7 @@ mod leaks;
 mod lent;
 mod level_graph;
 mod near;
+mod own_prefixes;
 mod same;
 mod systems;
 mod view;
