@@ -15,17 +15,17 @@ use Rattle.isis_base.specs.Prefixes.{prefix_from}
 use Rattle.isis_base.proofs.PrefixValues.{prefix_from-prefix}
 use Rattle.isis_model.specs.Both.{Both, at}
 use Rattle.isis_model.specs.Configs.{Config}
-use Rattle.isis_model.specs.Maps.{find}
+use Rattle.isis_model.specs.Maps.{find, set_at}
 use Rattle.isis_model.specs.Sorted.{RisesFrom, IsSorted}
 use Rattle.isis_model.specs.Ranks.{is_live}
 use Rattle.isis_model.specs.Cells.{Cell}
 use Rattle.isis_model.specs.Books.{Book, cell_at}
 use Rattle.isis_model.specs.Places.{nth}
-use Rattle.isis_model.specs.Routers.{Router, book_of}
+use Rattle.isis_model.specs.Routers.{Circuit, Router, book_of}
 use Rattle.isis_model.specs.Deeds.{Content, content_of}
 use Rattle.isis_model.specs.ContentLaws.{SameKey, TellsBoth}
-use Rattle.isis_model.specs.Events.{Event, Second, Take, Pull, Metric, Overload, Prefix as ChangePrefix}
-use Rattle.isis_model.specs.Steps.{step, with_prefix}
+use Rattle.isis_model.specs.Events.{Event, Second, Take, Pull, Metric, Overload, Prefix as ChangePrefix, Done, settled}
+use Rattle.isis_model.specs.Steps.{step, with_prefix, with_metric as set_metric}
 use Rattle.isis_model.specs.Givens.{Given}
 use Rattle.isis_model.specs.Numbers.{lsp_id, system_id, system_number}
 use Rattle.isis_datagram.specs.Reading.{runs_of}
@@ -101,6 +101,28 @@ lent-outlook r lent system again areas runs own one two =
     sym (outlook-same _ _ _ _ _ _ _ _ _ _ _ _ (ap own_node (ap system_id system ∙ again)) areas runs (ap prefixes_by own ∙ prefixes-again lent.prefixes.now)
     (ap (λ (b : Both Bool). where_run b.one (told_by (book_of r level.One).cells)) runs ∙ ap (where_run (runs_of lent.levels).one) one)
     (ap (λ (b : Both Bool). where_run b.two (told_by (book_of r level.Two).cells)) runs ∙ ap (where_run (runs_of lent.levels).two) two))
+
+-- ---- the configuration changes
+
+pub metric-outlook : (given : Given) (r : Router) (place metric : ℕ) → outlook_of (step given r (Metric place metric)).router ≡ outlook_of r
+unfolding outlook_of step
+metric-outlook given r place metric = by (nth r.circuits place) where
+  by : (o : Option Circuit) → outlook_of (settled (record { router = set_metric r place metric o; reply = Done })).router ≡ outlook_of r
+  by None = refl
+  by (Some c) = refl
+
+pub overload-outlook : (given : Given) (r : Router) (on : Bool) → outlook_of (step given r (Overload on)).router ≡ outlook_of r
+unfolding outlook_of step
+overload-outlook given r on = refl
+
+pub prefix-outlook : (given : Given) (r : Router) (prefix : ℕ) (metric : Option ℕ) → outlook_of (step given r (ChangePrefix prefix metric)).router ≡ record (outlook_of r) { prefixes = prefixes_by (set_at r.config.prefixes prefix metric) }
+unfolding outlook_of step
+prefix-outlook given r prefix metric = refl
+
+pub lent-with : (o seen : Outlook) (own : List (ℕ × ℕ)) (list : List (Prefix × ℕ)) → seen ≡ o → map prefix_pair list ≡ own → record o { prefixes = prefixes_by own } ≡ record seen { prefixes = list }
+lent-with o seen own list same pairs =
+    ap (λ (x : Outlook). record x { prefixes = prefixes_by own }) (sym same)
+    ∙ ap (λ (l : List (Prefix × ℕ)). record seen { prefixes = l }) (ap prefixes_by (sym pairs) ∙ prefixes-again list)
 
 -- ---- what is told stays where keys and contents stay
 

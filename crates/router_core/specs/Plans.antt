@@ -18,15 +18,16 @@ use Rattle.router_desk.specs.declared.envelope.Envelope.{Envelope}
 use Rattle.router_desk.specs.Causes.{name_of}
 use Rattle.router_desk.specs.Opening.{envelope_of}
 use Rattle.router_routes.specs.Moved.{IsMovedAt}
-use Rattle.router_routes.specs.Outlooks.{Outlook, outlook_of}
+use Rattle.router_routes.specs.Outlooks.{Outlook, outlook_of, prefixes_by}
 use Rattle.router_routes.specs.Told.{told_in}
 use Rattle.router_core.specs.declared.plan.Deed.{Deed}
 use Rattle.router_core.specs.declared.plan.Deed.TheVariants as deed
 use Rattle.router_core.specs.declared.plan.Plan.{Plan}
 use Rattle.router_core.specs.declared.told.Told.{Told}
 use Rattle.router_core.specs.declared.told.Told.TheVariants as told
-use Rattle.router_core.specs.Events.{IsThere}
+use Rattle.router_core.specs.Events.{change_of, FitsChange, IsThere}
 use Rattle.router_core.specs.Givens.{given}
+use Rattle.router_core.specs.Reached.{IsReached}
 use Rattle.router_core.specs.Replies.{Answers}
 use Rattle.router_core.specs.Settled.{AreTrue}
 
@@ -44,6 +45,7 @@ lsp_event circuit level from lsp =
 -- what a deed makes of a router (own)
 abbrev pub committed : Router → Deed → Router
 committed r (deed.Dropped cause) = record r { drops = count_drop r.drops (name_of cause) }
+committed r (deed.Change change) = (step given r (change_of change)).router
 committed r (deed.Lsp circuit level lsp) =
     with_level r level (take_lsp (scene_of given r level) (level_of r level) (circuit - 1)
     (whose_of r.config.system (level_of r level) (lsp_number lsp.entry.id)) (heard_of lsp))
@@ -59,12 +61,14 @@ pub record IsLspReady (r : Router) (circuit : ℕ) (level : Level) (lsp : LspHea
 -- what a deed has is what it needs (own)
 abbrev pub IsReady : Router → Deed → Type 0
 IsReady r (deed.Dropped cause) = Unit {0}
+IsReady r (deed.Change change) = FitsChange r change × IsReached r
 IsReady r (deed.Lsp circuit level lsp) = IsLspReady r circuit level lsp
 
--- nothing changes; or one node of one level tells these LSPs, and all else stays (own)
+-- nothing changes; or one node of one level tells these LSPs, or own prefixes are these, and all else stays (own)
 abbrev pub AreTold : Outlook → Outlook → Told → Type 0
 AreTold old new told.Nothing = new ≡ old
 AreTold old new (told.Node m) = IsMovedAt old new m.level m.node (told_in m.aside.entries)
+AreTold old new (told.Prefixes own) = new ≡ record old { prefixes = prefixes_by own }
 
 -- what a plan says is the machine's step (own)
 pub record IsPlan (r : Router) (event : model.Event) (plan : Plan) : Type 0 where

@@ -10,14 +10,12 @@ ghost use Rattle.flag_sync.specs.BookStates.{book_of as state_of};
 ghost use Rattle.flag_sync.specs.Heard.{entries_of, entry_of};
 ghost use Rattle.router_core.specs.Calm.{AreClear, is_calm_entry, IsCalm, IsCalmMessage, IsKnown};
 ghost use Rattle.router_core.specs.Settled.{IsAside, IsGreeting, IsNoHello, IsPointHello};
-ghost use Rattle.router_core.specs.Events.{change_of};
 ghost use Rattle.router_core.specs.Reads.{event_in};
 
 use crate::machine::Machine;
 use crate::read::Read;
 use flag_sync::Book;
 use isis_base::{Level, LspEntry, Order3, newer};
-use router_desk::Change;
 use router_reading::Heard;
 
 /// What is known of an event before it.
@@ -32,20 +30,15 @@ pub(crate) struct Known {
 }
 
 impl Machine {
-    /// What is known of an event. What is sent, hellos, sequence number PDUs that outbid and purge nothing, metrics and
-    /// overload change no key. Of an LSP all that is known is in its plan.
+    /// What is known of an event. What is sent, hellos, and sequence number PDUs that outbid and purge nothing change no
+    /// key. Of an LSP and a change all that is known is in its plan.
     pub(crate) fn known_of(&self, read: &Read<'_>) -> Known
         ensures { IsKnown result (IsCalm self.now (event_in read.now)) (IsAside (event_in read.now))
             (IsGreeting (event_in read.now)) }
     {
         match read {
-            Read::Second => NOTHING,
+            Read::Second | Read::Change(_) => NOTHING,
             Read::Pull { circuit: _ } => ASIDE,
-            Read::Change(change) => Known {
-                calm: is_calm_change(*change),
-                aside: false,
-                greets: false,
-            },
             Read::Refused {
                 circuit: _,
                 cause: _,
@@ -136,18 +129,5 @@ fn is_calm_entry(book: &Book, entry: &LspEntry) -> bool
         Order3::Same => false,
         Order3::Older => true,
         Order3::Newer => true,
-    }
-}
-
-/// Whether a change of the configuration leaves one's own prefixes.
-fn is_calm_change(change: Change) -> bool
-    ensures { (r : Router) → result ≡ true → IsCalm r (change_of change) }
-{
-    match change {
-        Change::Prefix {
-            prefix: _,
-            metric: _,
-        } => false,
-        _ => true,
     }
 }

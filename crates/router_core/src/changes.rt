@@ -51,13 +51,7 @@ impl Machine {
             ≡ with_prefix self.old (prefix_number prefix) metric) }
         ensures err { OnErr result (self.new ≡ self.old) }
     {
-        match metric {
-            Some(metric) => self.prefixes.set(prefix, metric),
-            None => {
-                self.prefixes.remove(prefix);
-                Ok(())
-            }
-        }
+        self.prefixes.change(prefix, metric)
     }
 
     /// Whether overload is set (ISO 10589 7.3.19).

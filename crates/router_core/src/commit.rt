@@ -18,6 +18,7 @@ impl Machine {
                 self.count_drop(cause.name());
                 Ok(())
             }
+            Deed::Change(change) => self.change(change),
             Deed::Lsp {
                 circuit,
                 level,

@@ -7,12 +7,12 @@
 //!
 //! - `router.rt`: the router; `event.rt`, `reply.rt`, `datagrams.rt`: events and answers
 //! - `machine.rt`: its parts, and what they have in common
-//! - `read.rt`: an event as what it says; `plan.rt`, `plan_lsp.rt`, `told.rt`, `aside.rt`: what will be done, and what nodes
-//!   tell then; `commit.rt`: that is done
+//! - `read.rt`: an event as what it says; `plan.rt`, `plan_lsp.rt`, `plan_change.rt`: what will be done; `told.rt`,
+//!   `aside.rt`: what routes look at then; `commit.rt`: that is done
 //! - `stepping.rt`, `calm.rt`, `calm_second.rt`, `routes.rt`: events without a plan, in place where they are known to leave
 //!   what routes look at, and the routes after others
 //! - `making.rt`, `changes.rt`, `asked.rt`: how it starts, changes of its configuration, and what is
-//!   asked of it; `prefixes.rt`, `prefix_list.rt`: its own prefixes, in order
+//!   asked of it; `together.rt`: parts made together; `prefixes.rt`, `prefix_list.rt`: its own prefixes, in order
 //! - `taking.rt`: what is heard is taken, or dropped; `hellos.rt`, `own.rt`: hellos; `levels.rt`, `take.rt`: LSPs;
 //!   `snps.rt`: sequence number PDUs
 //! - `wanted.rt`: drafts of own LSPs that are wanted
@@ -42,6 +42,7 @@ mod making;
 mod marks;
 mod own;
 mod plan;
+mod plan_change;
 mod plan_lsp;
 mod prefix_list;
 mod prefixes;
@@ -60,6 +61,7 @@ mod snps;
 mod stepping;
 mod take;
 mod taking;
+mod together;
 mod told;
 mod wanted;
 

@@ -8,6 +8,7 @@ ghost use Rattle.router_levels.specs.Views.{state_of};
 
 use crate::machine::Machine;
 use crate::prefixes::OwnPrefixes;
+use crate::together::both;
 use isis_base::{CircuitKind, Octets, OutOfMemory};
 use router_circuits::Circuit;
 use router_desk::{CircuitConfig, Config, Desk};
@@ -22,19 +23,31 @@ impl Machine {
             machine ≡ start (config_of config.now) boot (circuits_of config.now)) }
     {
         let circuits = circuits_of(alloc, config.circuits.as_slice())?;
-        Ok(Machine {
-            alloc,
-            desk: Desk::new(alloc, config)?,
-            areas: config.areas.copy()?,
-            leak: config.leak,
-            overload: config.overload,
-            prefixes: OwnPrefixes::of(alloc, config.prefixes.as_slice())?,
-            boot,
-            one: level_of(alloc, &circuits)?,
-            two: level_of(alloc, &circuits)?,
-            circuits,
-            drops: [0; 21],
-        })
+        let levels = both(level_of(alloc, &circuits), level_of(alloc, &circuits));
+        let prefixes = OwnPrefixes::of(alloc, config.prefixes.as_slice());
+        let own = both(
+            both(Desk::new(alloc, config), config.areas.copy()),
+            prefixes,
+        );
+        match both(own, levels) {
+            Ok((((desk, areas), prefixes), (one, two))) => Ok(Machine {
+                alloc,
+                desk,
+                areas,
+                leak: config.leak,
+                overload: config.overload,
+                prefixes,
+                boot,
+                circuits,
+                one,
+                two,
+                drops: [0; 21],
+            }),
+            Err(error) => {
+                drop(circuits);
+                Err(error)
+            }
+        }
     }
 
     /// The opening state of another boot, of the configuration as changed so far.
@@ -42,19 +55,29 @@ impl Machine {
         ensures { IfOk result (λ machine.
             machine ≡ start self.now.config boot self.now.circuits) }
     {
-        Ok(Machine {
-            alloc: self.alloc,
-            desk: self.desk.copy()?,
-            areas: self.areas.copy()?,
-            leak: self.leak,
-            overload: self.overload,
-            prefixes: self.prefixes.copy()?,
-            boot,
-            circuits: fresh_circuits(self.alloc, &self.circuits)?,
-            one: level_of(self.alloc, &self.circuits)?,
-            two: level_of(self.alloc, &self.circuits)?,
-            drops: [0; 21],
-        })
+        let (alloc, circuits) = (self.alloc, &self.circuits);
+        let levels = both(level_of(alloc, circuits), level_of(alloc, circuits));
+        let parts = both(fresh_circuits(alloc, circuits), levels);
+        let own = both(
+            both(self.desk.copy(), self.areas.copy()),
+            self.prefixes.copy(),
+        );
+        match both(own, parts) {
+            Ok((((desk, areas), prefixes), (circuits, (one, two)))) => Ok(Machine {
+                alloc,
+                desk,
+                areas,
+                leak: self.leak,
+                overload: self.overload,
+                prefixes,
+                boot,
+                circuits,
+                one,
+                two,
+                drops: [0; 21],
+            }),
+            Err(error) => Err(error),
+        }
     }
 }
 
@@ -63,19 +86,28 @@ impl Machine {
     pub(crate) fn copy(&self) -> Result<Machine, OutOfMemory>
         ensures { IfOk result (λ machine. machine ≡ self.now) }
     {
-        Ok(Machine {
-            alloc: self.alloc,
-            desk: self.desk.copy()?,
-            areas: self.areas.copy()?,
-            leak: self.leak,
-            overload: self.overload,
-            prefixes: self.prefixes.copy()?,
-            boot: self.boot,
-            circuits: copies_of(self.alloc, &self.circuits)?,
-            one: self.one.copy()?,
-            two: self.two.copy()?,
-            drops: self.drops,
-        })
+        let levels = both(self.one.copy(), self.two.copy());
+        let parts = both(copies_of(self.alloc, &self.circuits), levels);
+        let own = both(
+            both(self.desk.copy(), self.areas.copy()),
+            self.prefixes.copy(),
+        );
+        match both(own, parts) {
+            Ok((((desk, areas), prefixes), (circuits, (one, two)))) => Ok(Machine {
+                alloc: self.alloc,
+                desk,
+                areas,
+                leak: self.leak,
+                overload: self.overload,
+                prefixes,
+                boot: self.boot,
+                circuits,
+                one,
+                two,
+                drops: self.drops,
+            }),
+            Err(error) => Err(error),
+        }
     }
 }
 

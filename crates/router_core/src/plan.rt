@@ -21,13 +21,15 @@ use crate::reply::Reply;
 use crate::told::Told;
 use flag_sync::LspHeard;
 use isis_base::{Level, LspId, OutOfMemory, SystemId};
-use router_desk::{DropCause, Envelope};
+use router_desk::{Change, DropCause, Envelope};
 use router_reading::Heard;
 
-/// What is done: a datagram that is dropped is counted; or an LSP that outbids none of one's own is taken.
+/// What is done: a datagram that is dropped is counted; the configuration changes; or an LSP that outbids none of one's
+/// own is taken.
 #[derive(Drop)]
 pub(crate) enum Deed<'a> {
     Dropped(DropCause),
+    Change(Change),
     Lsp {
         circuit: u8,
         level: Level,
@@ -45,8 +47,8 @@ pub(crate) struct Plan<'a> {
 }
 
 impl Machine {
-    /// The plan of an event that was read; `None` where there is none. Planned are what is dropped, but for hellos, and
-    /// LSPs that meet a row of which it is known what it changes.
+    /// The plan of an event that was read; `None` where there is none. Planned are changes, what is dropped, but for
+    /// hellos, and LSPs that meet a row of which it is known what it changes.
     pub(crate) fn plan<'a>(
         &self,
         read: &Read<'a>,
@@ -60,6 +62,10 @@ impl Machine {
         let (circuit, heard) = match read {
             Read::Refused { circuit: _, cause } => {
                 return Ok(Some(self.plan_drop(*cause, marks)));
+            }
+            Read::Change(change) => {
+                let plan = self.plan_change(*change)?;
+                return Ok(Some(plan));
             }
             Read::Heard { circuit, heard } => (*circuit, heard),
             _ => return Ok(None),

@@ -1,6 +1,6 @@
 //! A router's own prefixes, in order.
 ghost use Rattle.std.specs.Prelude.{◌≡◌, is_some, length, [], IfOk, OnOk, OnErr, map};
-ghost use Rattle.isis_model.specs.Maps.{find, put, erase};
+ghost use Rattle.isis_model.specs.Maps.{find, put, erase, set_at};
 ghost use Rattle.isis_model.specs.Sorted.{RisesFrom};
 ghost use Rattle.lsp_wanted.specs.Views.{prefix_pair};
 ghost use Rattle.router_desk.specs.Configs.{prefix_number, prefixes_of};
@@ -76,6 +76,35 @@ impl OwnPrefixes {
         ensures { self.new ≡ erase self.old (prefix_number prefix) }
     {
         take_out(&mut self.list, prefix);
+    }
+
+    /// A prefix has this metric, or is there no more. At `OutOfMemory` all is as it was.
+    pub(crate) fn change(&mut self, prefix: Prefix, metric: Option<u32>) -> Result<(), OutOfMemory>
+        ensures ok { OnOk result (self.new ≡ set_at self.old (prefix_number prefix) metric) }
+        ensures err { OnErr result (self.new ≡ self.old) }
+    {
+        match metric {
+            Some(metric) => self.set(prefix, metric),
+            None => {
+                self.remove(prefix);
+                Ok(())
+            }
+        }
+    }
+
+    /// The prefixes after such a change.
+    pub(crate) fn changed(
+        &self,
+        prefix: Prefix,
+        metric: Option<u32>,
+    ) -> Result<OwnPrefixes, OutOfMemory>
+        ensures { IfOk result (λ own. own ≡ set_at self.now (prefix_number prefix) metric) }
+    {
+        let mut own = self.copy()?;
+        match own.change(prefix, metric) {
+            Ok(()) => Ok(own),
+            Err(error) => Err(error),
+        }
     }
 
     /// Whether a prefix is there.

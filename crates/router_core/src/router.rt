@@ -80,12 +80,11 @@ impl Router {
             Ok(machine) => machine,
             Err(error) => return Err((config, error)),
         };
-        match followed(alloc, &machine) {
-            Ok(following) => Ok(Router {
-                machine,
-                following,
-                marks: Marks::none(),
-            }),
+        match begun(machine) {
+            Ok(router) => {
+                drop(config);
+                Ok(router)
+            }
             Err(error) => Err((config, error)),
         }
     }
@@ -106,12 +105,7 @@ impl Router {
     {
         reached_laws();
         let machine = self.machine.restarted(boot)?;
-        let following = followed(self.machine.alloc, &machine)?;
-        Ok(Router {
-            machine,
-            following,
-            marks: Marks::none(),
-        })
+        begun(machine)
     }
 
     /// What never changes of its configuration.
@@ -319,6 +313,24 @@ fn put_next(following: &mut Following, next: Option<Following>)
     match next {
         Some(next) => *following = next,
         None => {}
+    }
+}
+
+/// The router of a machine at its start.
+fn begun(machine: Machine) -> Result<Router, OutOfMemory>
+    requires { IsReached machine }
+    ensures { IfOk result (λ router. router ≡ machine) }
+{
+    match followed(machine.alloc, &machine) {
+        Ok(following) => Ok(Router {
+            machine,
+            following,
+            marks: Marks::none(),
+        }),
+        Err(error) => {
+            drop(machine);
+            Err(error)
+        }
     }
 }
 

@@ -1,19 +1,21 @@
-//! What nodes will tell once an event is done.
-ghost use Rattle.std.specs.Prelude.{IfOk, MatchOption};
-ghost use Rattle.router_routes.specs.Outlooks.{Outlook, outlook_of};
+//! What routes will look at once an event is done.
+ghost use Rattle.std.specs.Prelude.{◌≡◌, IfOk, MatchOption};
+ghost use Rattle.router_routes.specs.Outlooks.{Outlook, outlook_of, prefixes_by};
 ghost use Rattle.router_routes.specs.Following.{IsFollowing};
 ghost use Rattle.router_core.specs.Plans.{AreTold};
 
 use crate::machine::Machine;
+use crate::prefixes::OwnPrefixes;
 use isis_base::{Level, NodeId, OutOfMemory};
 use lsp_store::Store;
 use router_routes::Following;
 
-/// What an event changes of what routes look at: nothing, or what one node tells.
+/// What an event changes of what routes look at: nothing, what one node tells, or one's own prefixes.
 #[derive(Drop)]
 pub(crate) enum Told {
     Nothing,
     Node(Moving),
+    Prefixes(OwnPrefixes),
 }
 
 /// A node that will tell other LSPs in a level: these, and no others.
@@ -41,6 +43,22 @@ impl Machine {
                 let lent = self.lent()?;
                 following.ahead(&lent, moving.level, moving.node, &moving.aside)
             }
+            Told::Prefixes(own) => self.following_with(following, own),
         }
+    }
+
+    /// What follows the router once its own prefixes are these; `None` where that is what follows it now.
+    fn following_with(
+        &self,
+        following: &Following,
+        own: &OwnPrefixes,
+    ) -> Result<Option<Following>, OutOfMemory>
+        requires { IsFollowing (outlook_of self.now) following.now }
+        ensures { IfOk result (λ next. (o : Outlook)
+            → o ≡ record (outlook_of self.now) { prefixes = prefixes_by own.now }
+            → MatchOption next (IsFollowing o following.now) (λ f. IsFollowing o f)) }
+    {
+        let lent = self.lent()?;
+        following.with_prefixes(&lent, own.as_slice())
     }
 }

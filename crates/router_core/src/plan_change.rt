@@ -1,0 +1,51 @@
+//! The plan of a change of the configuration.
+ghost use Rattle.std.specs.Prelude.{IfOk};
+ghost use Rattle.isis_model.specs.Steps.{step};
+ghost use Rattle.router_routes.specs.Outlooks.{outlook_of};
+ghost use Rattle.router_core.specs.Events.{change_of, FitsChange};
+ghost use Rattle.router_core.specs.Givens.{given};
+ghost use Rattle.router_core.specs.Plans.{AreTold, IsPlan};
+ghost use Rattle.router_core.specs.Reached.{IsReached};
+
+use crate::machine::Machine;
+use crate::marks::Marks;
+use crate::plan::{Deed, Plan};
+use crate::reply::Reply;
+use crate::told::Told;
+use isis_base::OutOfMemory;
+use router_desk::Change;
+
+impl Machine {
+    /// The plan of a change of the configuration (own).
+    pub(crate) fn plan_change<'a>(&self, change: Change) -> Result<Plan<'a>, OutOfMemory>
+        requires fits { FitsChange self.now change }
+        requires reached { IsReached self.now }
+        ensures { IfOk result (IsPlan self.now (change_of change)) }
+    {
+        let told = self.told_by_change(change)?;
+        Ok(Plan {
+            deed: Deed::Change(change),
+            reply: Reply::Done,
+            told,
+            marks: Marks::none(),
+        })
+    }
+
+    /// What a change alters of what routes look at: own prefixes alone.
+    fn told_by_change(&self, change: Change) -> Result<Told, OutOfMemory>
+        ensures { IfOk result (AreTold (outlook_of self.now)
+            (outlook_of (step given self.now (change_of change)).router)) }
+    {
+        match change {
+            Change::Prefix { prefix, metric } => match self.prefixes.changed(prefix, metric) {
+                Ok(own) => Ok(Told::Prefixes(own)),
+                Err(error) => Err(error),
+            },
+            Change::Metric {
+                circuit: _,
+                metric: _,
+            } => Ok(Told::Nothing),
+            Change::Overload { on: _ } => Ok(Told::Nothing),
+        }
+    }
+}
