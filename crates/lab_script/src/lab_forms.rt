@@ -1,7 +1,8 @@
 //! The line of a lab script that some words are, a reader for each form.
-ghost use Rattle.std.specs.Prelude.{◌≡◌, ◌≤◌, IfSome};
+ghost use Rattle.std.specs.Prelude.{◌≡◌, ◌≤◌, drop, IfSome};
 ghost use Rattle.lab_script.specs.LabLines as form;
 ghost use Rattle.lab_script.specs.LabLines.{IsInRange};
+ghost use Rattle.line_cuts.specs.Forms.{by_first};
 ghost use Rattle.line_cuts.specs.Words.{words_of};
 
 use crate::fields::{read_copy, read_name};
@@ -33,6 +34,14 @@ pub(crate) fn read_lab_line(line: &[u8]) -> Option<NamedLine<'_>>
     if first == b"key".as_slice() {
         return key(words);
     }
+    event(first, words)
+}
+
+/// An event's line, by its first word: the forms behind the four above.
+fn event<'a>(first: &[u8], words: Words<'a>) -> Option<NamedLine<'a>>
+    ensures value { result ≡ by_first (drop 4 form.lab_forms) first.now words.entry }
+    ensures within { IfSome result (λ line. IsInRange line) }
+{
     if first == b"tick".as_slice() {
         return tick(words);
     }
@@ -48,6 +57,14 @@ pub(crate) fn read_lab_line(line: &[u8]) -> Option<NamedLine<'_>>
     if first == b"prefix".as_slice() {
         return prefix(words);
     }
+    later_event(first, words)
+}
+
+/// The forms behind those of `event`.
+fn later_event<'a>(first: &[u8], words: Words<'a>) -> Option<NamedLine<'a>>
+    ensures value { result ≡ by_first (drop 9 form.lab_forms) first.now words.entry }
+    ensures within { IfSome result (λ line. IsInRange line) }
+{
     if first == b"metric".as_slice() {
         return metric(words);
     }
