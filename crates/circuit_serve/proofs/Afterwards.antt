@@ -1,5 +1,5 @@
 -- What a worker's and the ticker's jobs are after all ran, or not.
-use Rattle.std.proofs.Common.{◌≡◌, ℕ, ◌+◌, ◌≤◌, Bool, false, List, [], length, slice_get, Option, Some, None, IfSome, ⊎_elim, sym, refl, ap, ◌∙◌, subst, arith}
+use Rattle.std.proofs.Common.{◌≡◌, ◌≢◌, ℕ, ◌+◌, ◌<◌, ◌≤◌, Bool, false, List, [], length, slice_get, Option, Some, None, IfSome, ⊎_elim, sym, refl, ap, ◌∙◌, subst, arith}
 use Rattle.std.specs.Option.{ForSome}
 use Rattle.isis_model.specs.Routers.{Router}
 use Rattle.router_core.specs.Events.{IsThere}
@@ -19,13 +19,14 @@ use Rattle.daemon_edge.specs.Closings.{Opening}
 use Rattle.daemon_edge.specs.Ports.{IsFresh}
 use Rattle.daemon_edge.specs.declared.spawning.Started.{Started}
 use Rattle.daemon_edge.specs.declared.spawning.Started.TheVariants as started
-use Rattle.circuit_serve.specs.declared.end.ServeEnd.TheVariants.{Done, OutOfMemory}
+use Rattle.circuit_serve.specs.declared.end.ServeEnd.{ServeEnd}
+use Rattle.circuit_serve.specs.declared.end.ServeEnd.TheVariants.{Done, NotStarted, Journal, OutOfMemory}
 use Rattle.circuit_serve.specs.declared.job.Task.{Task}
 use Rattle.circuit_serve.specs.declared.job.Task.TheVariants.{Ticker, Circuit}
 use Rattle.circuit_serve.specs.Labels.{of_label, by_label, Only}
 use Rattle.circuit_serve.specs.Walks.{Ran, Ticked, IsMarked, IsCalm}
-use Rattle.circuit_serve.specs.Ends.{end_of, end_of_start, IsEnd, AtEnd, CircuitIs, IsNew, IsRun, TickerIs}
-use Rattle.circuit_serve.specs.Jobs.{IsReady, JobRan, KeepsOpening, IsOpened}
+use Rattle.circuit_serve.specs.Ends.{end_of, end_of_start, first_end, IsEnd, AtEnd, CircuitIs, IsNew, IsRun, TickerIs}
+use Rattle.circuit_serve.specs.Jobs.{IsReady, JobRan, KeepsOpening, IsOpened, IsTicker}
 use Rattle.circuit_serve.specs.Served.{Served, TickerRan, circuit_turns}
 use Rattle.circuit_serve.proofs.ByLabels.{only_none}
 use Rattle.circuit_serve.proofs.Running.{sets_out}
@@ -138,16 +139,23 @@ module _ {J P T : Type 0} {journal : Ghosts J} {tells : noted.Ghosts (Behind J j
         subst (λ z. TickerIs z (count t) (count t) (ended t) turns (All × (end_of None ≡ Done))) (sym only.mine) (refl, λ w. absurd (not w.0)),
       )
 
+  -- the ticker's job has a pass and is the ticker's
+  pub ticker_there : (share before : ℕ) (task : Task P T) (pass : Option (Pass (Behind J journal) Note (Start J) tells)) (end : Option SubmitFault) → TickerRan count ended s share before turns All task pass end → IsTicker task × (pass ≢ None)
+  ticker_there share before (Ticker t) pass end ran = (tt, λ none. cc (sym none ∙ ran.1))
+  ticker_there share before (Circuit d port) pass end ran = absurd ran
+
   -- the ticker's job taken apart
   pub ticker_taken : (share before : ℕ) (task : Task P T) (pass : Option (Pass (Behind J journal) Note (Start J) tells)) (end : Option SubmitFault) (t : T) (p : Pass (Behind J journal) Note (Start J) tells) → task ≡ Ticker t → pass ≡ Some p
       → TickerRan count ended s share before turns All task pass end
-      → (turns_left p + length (own p) ≡ share) × TickerIs (by_label 0 (own p) (seen p)) before (count t) (ended t) turns (All × (end_of end ≡ Done))
+      → (IsPassOf s p × (label p ≡ 0)) × (turns_left p + length (own p) ≡ share) × IsEnd (first_router s) (seen p) (end_of end)
+      × ((d : ℕ) → 0 < d → by_label d (own p) (seen p) ≡ []) × TickerIs (by_label 0 (own p) (seen p)) before (count t) (ended t) turns (All × (end_of end ≡ Done))
   ticker_taken share before task pass end t p is at ran =
       let r = subst (λ z. TickerRan count ended s share before turns All z pass end) is ran in
-      let same : r.0 ≡ p = some_same r.0 p (sym r.1 ∙ at) in (
-        subst (λ (z : Pass (Behind J journal) Note (Start J) tells). turns_left z + length (own z) ≡ share) same r.4,
-        subst (λ (z : Pass (Behind J journal) Note (Start J) tells). TickerIs (by_label 0 (own z) (seen z)) before (count t) (ended t) turns (All × (end_of end ≡ Done))) same r.7,
-      )
+      let same : r.0 ≡ p = some_same r.0 p (sym r.1 ∙ at) in
+      subst
+      (λ (z : Pass (Behind J journal) Note (Start J) tells). (IsPassOf s z × (label z ≡ 0)) × (turns_left z + length (own z) ≡ share) × IsEnd (first_router s) (seen z) (end_of end)
+      × ((d : ℕ) → 0 < d → by_label d (own z) (seen z) ≡ []) × TickerIs (by_label 0 (own z) (seen z)) before (count t) (ended t) turns (All × (end_of end ≡ Done)))
+      same ((r.2, r.3), r.4, r.5, r.6, r.7)
 
   -- a circuit's job before it runs has what its worker needs
   pub ready_new : (s' : SharedRouter J journal) (turns' c : ℕ) (task : Task P T) (pass : Option (Pass (Behind J journal) Note (Start J) tells)) (first : Option SubmitFault) → IsNew given offered asked s turns c task pass first → turns' ≡ turns → s' ≡ s
@@ -166,6 +174,20 @@ pub started_all : (st : Started) → end_of_start st ≡ Done → st ≡ started
 started_all started.All is = refl
 started_all started.Refused is = absurd (cc is)
 started_all started.OutOfMemory is = absurd (cc is)
+
+pub started_refused : (st : Started) → end_of_start st ≡ NotStarted → st ≡ started.Refused
+started_refused started.All is = absurd (cc is)
+started_refused started.Refused is = refl
+started_refused started.OutOfMemory is = absurd (cc is)
+
+-- the end of the starts, and that of the ticker
+pub end_started : (start : Router) (seen : List Note) (st : Started) (end : ServeEnd) → IsEnd start seen end → IsEnd start seen (first_end (end_of_start st) end)
+end_started start seen started.All end is = is
+end_started start seen started.Refused end is = tt
+end_started start seen started.OutOfMemory NotStarted is = tt
+end_started start seen started.OutOfMemory (Journal n) is = is
+end_started start seen started.OutOfMemory OutOfMemory is = tt
+end_started start seen started.OutOfMemory Done is = tt
 
 -- nothing was begun
 pub served_early : {J P : Type 0} {journal : Ghosts J} {tells : noted.Ghosts (Behind J journal) Note (Start J)} (opening : P → Opening) (given offered : P → Option (List (List ℕ))) (asked : P → ℕ) (s : SharedRouter J journal) (turns : ℕ) (ports : List P) (before : ℕ) (ended : Bool)

@@ -1,5 +1,5 @@
 -- Facts of a list's items by their places.
-use Rattle.std.proofs.Common.{◌⊎◌, ⊎_elim, ◌≡◌, ℕ, zero, suc, ◌<◌, ◌≤◌, List, [], ◌∷◌, ◌++◌, length, slice_get, slice_index_or, Option, Some, None, IfSome, inl, inr, sym, ap, ◌∙◌, subst, arith, length-append}
+use Rattle.std.proofs.Common.{◌⊎◌, ⊎_elim, ◌≡◌, ℕ, zero, suc, ◌+◌, ◌<◌, ◌≤◌, List, [], ◌∷◌, ◌++◌, length, slice_get, slice_index_or, Option, Some, None, IfSome, inl, inr, sym, ap, ◌∙◌, subst, arith, length-append}
 use Rattle.isis_edge.specs.Faults.{Rose}
 use Rattle.daemon_edge.specs.declared.spawning.Started.{Started}
 use Rattle.daemon_edge.specs.declared.spawning.Started.TheVariants as started
@@ -66,3 +66,16 @@ after_places {W} ws ws' works NotAll New Run each new ran left = or_places ws' R
 
 pub suc_longer : {A : Type 0} (xs zs : List A) (x : A) → zs ≡ xs ++ x ∷ [] → length zs ≡ suc (length xs)
 suc_longer xs zs x is = ap (λ z. length z) is ∙ omega (arith, length-append xs (x ∷ []))
+
+-- what is known of the last item alone, and of those before it, by its place
+pub item_last : {A : Type 0} (xs zs : List A) (x : A) (Q : A → Type 0) → zs ≡ xs ++ x ∷ [] → ((i : ℕ) → IfSome (slice_get zs i) (λ a. i + 1 ≡ length zs → Q a)) → Q x
+item_last xs zs x Q is all = place_last xs zs x (λ i a. i + 1 ≡ length zs → Q a) is all (let longer = suc_longer xs zs x is in omega (arith, longer))
+
+pub items_before : {A : Type 0} (xs zs : List A) (x : A) (Q : ℕ → A → Type 0) → zs ≡ xs ++ x ∷ [] → ((i : ℕ) → IfSome (slice_get zs i) (λ a. i + 1 < length zs → Q i a)) → (i : ℕ) → IfSome (slice_get xs i) (Q i)
+items_before xs zs x Q is all i =
+    let longer = suc_longer xs zs x is in
+    if_some_map (slice_get xs i) _ (Q i) (λ a h. h.1 (let l : i + 1 < length zs = omega (arith, h.0, longer) in l)) (places_front xs zs x (λ i a. i + 1 < length zs → Q i a) is all i)
+
+-- where nothing is left, all came
+pub all_taken : {A : Type 0} (all yielded rest : List A) → all ≡ yielded ++ rest → length rest ≡ 0 → length yielded ≡ length all
+all_taken all yielded rest is none = sym (ap (λ z. length z) is ∙ omega (arith, length-append yielded rest, none))

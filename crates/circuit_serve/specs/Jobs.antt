@@ -58,3 +58,9 @@ module _ {P T : Type 0} (opening : P → Opening) where
   abbrev pub IsOpened : Opening → Task P T → Type 0
   IsOpened o (Ticker t) = ⊥
   IsOpened o (Circuit c p) = opening p ≡ o
+
+module _ {P T : Type 0} where
+  -- the task is the ticker's (own)
+  abbrev pub IsTicker : Task P T → Type 0
+  IsTicker (Ticker t) = Unit {0}
+  IsTicker (Circuit c p) = ⊥

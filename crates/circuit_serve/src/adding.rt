@@ -26,6 +26,18 @@ pub(crate) fn put<X>(list: Vec<X>, item: X) -> Vec<X>
     }
 }
 
+/// The items before the last, and the last.
+pub(crate) fn split_last<X>(list: Vec<X>) -> (Vec<X>, X)
+    requires { 0 < vec_len list }
+    ensures { list.items ≡ result.0.items ++ result.1 ∷ [] }
+{
+    let mut list = list;
+    match list.pop() {
+        Some(last) => (list, last),
+        None => unreachable!(),
+    }
+}
+
 /// A job for each port, of the circuits 1, 2 and so on, with a pass of its own.
 pub(crate) fn add_jobs<'a, J: Journal + Drop, P: Port + Drop, T: Pacer, G: Gate>(
     alloc: Global,

@@ -1,20 +1,20 @@
 //! `serve`: a worker for each circuit and a ticker, in threads, over one shared router.
-ghost use Rattle.std.specs.Prelude.{◌≡◌, ◌+◌, ◌-◌, ◌*◌, ◌<◌, ◌≤◌, ℕ, [], length, vec_capacity, slice_get, IfSome};
+ghost use Rattle.std.specs.Prelude.{◌≡◌, ◌≢◌, ◌+◌, ◌-◌, ◌*◌, ◌<◌, ◌≤◌, ℕ, [], length, vec_capacity, slice_get, None, Some, IfSome};
 ghost use Rattle.isis_edge.specs.Faults.{Rose};
 ghost use Rattle.turn_lock.specs.Passes.{turns_left, label, splits, own, seen};
 ghost use Rattle.circuit_threads.specs.Sharing.{first_router, all_turns, IsPassOf, HasAll};
 ghost use Rattle.daemon_edge.specs.Closings.{Opening};
 ghost use Rattle.daemon_edge.specs.Ports.{IsFresh};
 ghost use Rattle.circuit_serve.specs.Ends.{IsEnd, IsRun, TickerIs, Gathers};
-ghost use Rattle.circuit_serve.specs.Jobs.{IsOpened};
+ghost use Rattle.circuit_serve.specs.Jobs.{IsOpened, IsTicker};
 ghost use Rattle.circuit_serve.specs.Labels.{of_label, by_label};
 ghost use Rattle.circuit_serve.specs.Served.{Served, TickerRan, circuit_turns};
 
-use crate::adding::{add_jobs, put};
+use crate::adding::{add_jobs, put, split_last};
 use crate::end::{ServeEnd, end_of, end_of_start, first_end};
 use crate::gathering::gather;
 use crate::job::{Job, Task};
-use circuit_threads::{Behind, Journal, Pass, SharedRouter};
+use circuit_threads::{Behind, Journal, Pass, SharedRouter, SubmitFault};
 use daemon_edge::{Gate, Pacer, Port, Spawner, Started, run_all};
 use std::alloc::Global;
 use std::sync::Wait;
@@ -178,10 +178,23 @@ fn finish<'a, J: Journal + Drop, P: Port + Drop, T: Pacer + Drop, G: Gate>(
     ensures whole { HasAll shared.now result.0
         → (c : ℕ) → of_label c (seen result.0) ≡ by_label c (own result.0) (seen result.0) }
 {
-    let mut jobs = jobs;
-    let Some(ticker) = jobs.pop() else {
-        unreachable!()
-    };
+    let (jobs, ticker) = split_last(jobs);
+    let (pass, pacer, fault) = open_ticker(ticker);
+    let end = first_end(end_of_start(started), end_of(fault));
+    let (pass, ports, end) = gather(shared, pass, jobs, back, end, 10 * turns, started);
+    (pass, ports, pacer, end)
+}
+
+/// The ticker's job taken apart: its pass, its pacer, and what it was refused for.
+fn open_ticker<'a, J: Journal + Drop, P: Drop, T: Drop, G>(
+    job: Job<'a, Behind<J>, SharedRouter<J>, P, T, G>,
+) -> (Pass<Behind<J>>, T, Option<SubmitFault>)
+    requires ticker { IsTicker job.task }
+    requires some { job.pass ≢ None }
+    ensures task { job.entry.task ≡ Task.Ticker result.1 }
+    ensures pass { job.entry.pass ≡ Some result.0 }
+    ensures end { job.entry.end ≡ result.2 }
+{
     let Job {
         alloc: _,
         shared: _,
@@ -189,13 +202,11 @@ fn finish<'a, J: Journal + Drop, P: Port + Drop, T: Pacer + Drop, G: Gate>(
         pass,
         task,
         turns: _,
-        end: fault,
-    } = ticker;
+        end,
+    } = job;
     let Some(pass) = pass else { unreachable!() };
     let Task::Ticker(pacer) = task else {
         unreachable!()
     };
-    let end = first_end(end_of_start(started), end_of(fault));
-    let (pass, ports, end) = gather(shared, pass, jobs, back, end, 10 * turns, started);
-    (pass, ports, pacer, end)
+    (pass, pacer, end)
 }
