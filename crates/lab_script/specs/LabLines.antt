@@ -2,6 +2,7 @@
 use Rattle.std.specs.Prelude.{ℕ, ◌≤◌, List, [], ◌∷◌, length, codes, IfSome}
 use Rattle.isis_base.specs.AreaTexts.{area_of}
 use Rattle.isis_base.specs.Levels.{levels_of}
+use Rattle.isis_base.specs.declared.identifiers.SystemId.{SystemId}
 use Rattle.lab_script.specs.declared.named.NamedDeed.{NamedDeed}
 use Rattle.lab_script.specs.declared.named.NamedDeed.TheVariants as deed
 use Rattle.lab_script.specs.declared.named.NamedLine.{NamedLine}
@@ -16,9 +17,9 @@ use Rattle.lab_script.specs.LabFields.{metric_of, prefix_metric_of, priority_of,
 abbrev pub priority_form : Form ℕ
 priority_form = option (codes "priority") priority_of λ priority. done (given 64 priority)
 
--- `router NAME SYSTEM AREA LEVELS [leak] [priority N]` (own)
-abbrev pub router_form : Form NamedLine
-router_form = field name_of λ name. field system_of λ system. field area_of λ area.
+-- `LEVELS [leak] [priority N]`, behind a router's name, system ID and area (own)
+abbrev pub standing_form : List ℕ → SystemId → List ℕ → Form NamedLine
+standing_form name system area =
     field levels_of λ levels. flag (codes "leak") λ leak. last priority_form λ priority.
     Router (record {
       name = name;
@@ -28,6 +29,11 @@ router_form = field name_of λ name. field system_of λ system. field area_of λ
       leak = leak;
       priority = priority;
     })
+
+-- `router NAME SYSTEM AREA LEVELS [leak] [priority N]` (own)
+abbrev pub router_form : Form NamedLine
+router_form = field name_of λ name. field system_of λ system. field area_of λ area.
+    standing_form name system area
 
 -- `link NAME A B METRIC` (own)
 abbrev pub link_form : Form NamedLine

@@ -11,8 +11,10 @@ use crate::lab_fields::{
     read_prefix_metric, read_priority, read_scope, read_seconds, read_system_id,
 };
 use crate::members::Members;
+use crate::name::Name;
 use crate::named::{NamedDeed, NamedLine};
 use crate::setup::LabRouter;
+use isis_base::{AreaAddress, SystemId};
 use line_cuts::{Words, read_on, read_prefix_word};
 
 /// What a line of a lab script says; none where it has none of the forms.
@@ -90,6 +92,19 @@ fn router<'a>(mut words: Words<'a>) -> Option<NamedLine<'a>>
     let name = read_name(words.next()?)?;
     let system = read_system_id(words.next()?)?;
     let area = read_area_address(words.next()?)?;
+    standing(words, name, system, area)
+}
+
+/// A router's line from its levels on.
+fn standing<'a>(
+    mut words: Words<'a>,
+    name: Name<'a>,
+    system: SystemId,
+    area: AreaAddress,
+) -> Option<NamedLine<'a>>
+    ensures value { result ≡ form.standing_form name.entry system area words.entry }
+    ensures within { IfSome result (λ line. IsInRange line) }
+{
     let levels = read_level_set(words.next()?)?;
     let leak = words.mark(b"leak");
     let priority = priority(words)?;

@@ -419,6 +419,58 @@ impl<'a> LabScript<'a> {
         }
     }
 
+    /// A pull, by the numbers of what it names.
+    fn pull_deed(&self, router: &Name<'a>, link: &Name<'a>) -> Result<LabDeed<'a>, Reason>
+        ensures value { result ≡ judged.deed_at self.now (NamedDeed.Pull router.now link.now) }
+        ensures there { IfOk result (λ deed. IsDeed (length self.now.routers) self.now.links deed) }
+    {
+        let at = self.circuit_at(router, link)?;
+        Ok(LabDeed::Pull {
+            router: at.router,
+            link: at.link,
+        })
+    }
+
+    /// A circuit's metric, by the numbers of what it names.
+    fn metric_deed(
+        &self,
+        router: &Name<'a>,
+        link: &Name<'a>,
+        metric: u32,
+    ) -> Result<LabDeed<'a>, Reason>
+        requires { metric ≤ 16777215 }
+        ensures value { result
+            ≡ judged.deed_at self.now (NamedDeed.Metric router.now link.now metric) }
+        ensures there { IfOk result (λ deed. IsDeed (length self.now.routers) self.now.links deed) }
+    {
+        let at = self.circuit_at(router, link)?;
+        Ok(LabDeed::Metric {
+            router: at.router,
+            place: at.place,
+            metric,
+        })
+    }
+
+    /// Octets that nobody sent, by the numbers of what they name.
+    fn inject_deed(
+        &self,
+        router: &Name<'a>,
+        link: &Name<'a>,
+        octets: Hex<'a>,
+    ) -> Result<LabDeed<'a>, Reason>
+        requires { 1 ≤ length octets }
+        ensures value { result
+            ≡ judged.deed_at self.now (NamedDeed.Inject router.now link.now octets.entry) }
+        ensures there { IfOk result (λ deed. IsDeed (length self.now.routers) self.now.links deed) }
+    {
+        let at = self.circuit_at(router, link)?;
+        Ok(LabDeed::Inject {
+            router: at.router,
+            link: at.link,
+            octets,
+        })
+    }
+
     /// What an event line says, with the numbers of what it names.
     fn deed(&self, deed: NamedDeed<'a>) -> Result<LabDeed<'a>, Reason>
         requires { IsDeedInRange deed }
@@ -430,10 +482,7 @@ impl<'a> LabScript<'a> {
                 let router = self.router_at(&router)?;
                 Ok(LabDeed::Tick { router })
             }
-            NamedDeed::Pull { router, link } => {
-                let Circuit { router, link, .. } = self.circuit_at(&router, &link)?;
-                Ok(LabDeed::Pull { router, link })
-            }
+            NamedDeed::Pull { router, link } => self.pull_deed(&router, &link),
             NamedDeed::Deliver { datagram, router } => {
                 let router = self.router_at(&router)?;
                 Ok(LabDeed::Deliver { datagram, router })
@@ -458,14 +507,7 @@ impl<'a> LabScript<'a> {
                 router,
                 link,
                 metric,
-            } => {
-                let Circuit { router, place, .. } = self.circuit_at(&router, &link)?;
-                Ok(LabDeed::Metric {
-                    router,
-                    place,
-                    metric,
-                })
-            }
+            } => self.metric_deed(&router, &link, metric),
             NamedDeed::Overload { router, on } => {
                 let router = self.router_at(&router)?;
                 Ok(LabDeed::Overload { router, on })
@@ -474,14 +516,7 @@ impl<'a> LabScript<'a> {
                 router,
                 link,
                 octets,
-            } => {
-                let Circuit { router, link, .. } = self.circuit_at(&router, &link)?;
-                Ok(LabDeed::Inject {
-                    router,
-                    link,
-                    octets,
-                })
-            }
+            } => self.inject_deed(&router, &link, octets),
             NamedDeed::Dump { datagram } => Ok(LabDeed::Dump { datagram }),
             NamedDeed::Run {
                 seconds,
