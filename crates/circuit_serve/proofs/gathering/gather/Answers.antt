@@ -3,8 +3,7 @@ use native.Mathlib.Nat.{zero-mul, suc-mul}
 use Rattle.daemon_edge.specs.declared.spawning.Started.TheVariants as started
 use Rattle.circuit_serve.specs.declared.end.ServeEnd.TheVariants.{Done}
 use Rattle.turn_lock.specs.Passes.{turns_left, label, own, seen}
-use Rattle.circuit_threads.specs.Sharing.{HasAll}
-use Rattle.circuit_serve.specs.Labels.{of_label, by_label}
+use Rattle.circuit_serve.specs.Labels.{by_label}
 use Rattle.circuit_serve.specs.Ends.{IsRun}
 use Rattle.circuit_serve.proofs.Gathered.{get_last, if_some_at, gathers_none, places_more}
 use Rattle.circuit_serve.proofs.Places.{all_taken}
