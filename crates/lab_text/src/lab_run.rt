@@ -1,5 +1,5 @@
 //! The run of a lab script.
-ghost use Rattle.std.specs.Prelude.{◌≡◌, ◌≤◌, ◌++◌, ℕ, List, length, map, Err, IfOk, OnOk};
+ghost use Rattle.std.specs.Prelude.{◌≡◌, ◌≤◌, ◌++◌, ℕ, List, length, map, Ok, Err, IfOk, OnOk};
 ghost use Rattle.isis_edge.specs.Faults.{Rose};
 ghost use Rattle.lab_script.specs.declared.script.Script.TheVariants.{Lab};
 ghost use Rattle.lab_script.specs.LabScripts.{router_names, link_names};
@@ -43,7 +43,27 @@ pub(crate) fn run_lab<O: Sink>(
         Ok(dumps) => dumps,
         Err(OutOfMemory) => return Err(RunFault::OutOfMemory),
     };
-    let mut report = match begin(alloc, &net, lab, &dumps) {
+    write_report(alloc, &net, lab, &dumps, out)
+}
+
+/// Writes the report of the network at the end of a lab script.
+fn write_report<O: Sink>(
+    alloc: Global,
+    net: &Network,
+    lab: &LabScript<'_>,
+    dumps: &[usize],
+    out: &mut O,
+) -> Result<(), RunFault>
+    requires tells { Tells lab.now (Ok net.now) }
+    requires routers { length net.now.seen.routers ≡ length lab.now.routers }
+    requires links { net.now.seen.links ≡ map ends_of lab.now.links }
+    requires dumps { dumps.now ≡ run.dumps_of lab.now.lines }
+    ensures ends { ReportEnds (IsLabReport lab.now) (lab_outcome lab.now) (O.held out.old)
+        (O.held out.new) result }
+    ensures cause { result ≡ Err RunFault.Write → Rose (O.faults out.old) (O.faults out.new) }
+    ensures later { O.faults out.old ≤ O.faults out.new }
+{
+    let mut report = match begin(alloc, net, lab, dumps) {
         Ok(report) => report,
         Err(OutOfMemory) => return Err(RunFault::OutOfMemory),
     };
