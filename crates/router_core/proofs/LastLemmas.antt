@@ -1,4 +1,4 @@
--- A second in which no entry's time ends changes no key.
+-- A second in which no entry's time ends changes no key, and no content of what is live.
 use Rattle.std.proofs.Common.{◌≡◌, ◌∙◌, ℕ, zero, suc, ◌+◌, ◌<◌, ◌≤◌, nat_le, nat_lt, Bool, true, false, List, [], ◌∷◌, length, Option, Some, None, refl, sym, ap, subst, if◌then◌else◌, arith}
 use Rattle.std.specs.List.{AllByRecursion}
 use Rattle.std.proofs.lemmas.Bool.{ne_eqb, and_parts}
@@ -11,7 +11,8 @@ use Rattle.isis_model.specs.Sets.{has}
 use Rattle.isis_model.specs.Places.{nth}
 use Rattle.isis_model.specs.Sorted.{RisesFrom}
 use Rattle.isis_model.specs.Cells.{Cell}
-use Rattle.isis_model.specs.Books.{Book, cell_at, rank_of, set_cell}
+use Rattle.isis_model.specs.Books.{Book, cell_at, set_cell}
+use Rattle.isis_model.specs.ContentLaws.{SameKey}
 use Rattle.isis_model.specs.Openings.{close, marked, open_up, set_open}
 use Rattle.isis_model.specs.Ageing.{wait_less, less, aged, age_cell, age_one, age_all, age}
 use Rattle.isis_model.specs.Seconds.{waited}
@@ -23,7 +24,7 @@ use Rattle.lsp_store.specs.Databases.{Database}
 use Rattle.flag_sync.specs.BookStates.{BookState, book_of, cells_of}
 use Rattle.router_core.specs.Calm.{all_last, AreLasting}
 use Rattle.router_core.specs.Seconds.{follow_one, follow_first, level_later}
-use Rattle.router_core.proofs.CalmLemmas.{set-changes}
+use Rattle.router_core.proofs.CalmLemmas.{AreKept, alike-key, each-kept, key-refl, kept-trans, set-kept, set_open-kept}
 
 abbrev Last : ℕ × Cell → Type 0
 Last p = 2 ≤ p.1.left
@@ -59,58 +60,50 @@ pick-left : (t : Bool) (a b : Cell) (n : ℕ) → a.left ≡ n → b.left ≡ n 
 pick-left true a b n e f = e
 pick-left false a b n e f = f
 
--- a book of lasting entries, after as many changes
-record Still (a b : Book) : Type 0 where
-  pub lasting : AreLasting b
-  pub changes : b.changes ≡ a.changes
-
-still-trans : (a b c : Book) → Still a b → Still b c → Still a c
-still-trans a b c p q = record { lasting = q.lasting; changes = q.changes ∙ p.changes }
-
-wait-still : (b : Book) → AreLasting b → Still b (wait_less b)
+wait-lasting : (b : Book) → AreLasting b → AreLasting (wait_less b)
 unfolding wait_less
-wait-still b l = record {
-  lasting = record { rises = each-rises _ b.cells 0 l.rises; last = each-last _ (λ id c. refl) b.cells l.last };
-  changes = refl;
-}
+wait-lasting b l = record { rises = each-rises _ b.cells 0 l.rises; last = each-last _ (λ id c. refl) b.cells l.last }
 
-close-still : (b : Book) (place : ℕ) → AreLasting b → Still b (close b place)
+wait-kept : (b : Book) → AreKept b (wait_less b)
+unfolding wait_less
+wait-kept b = each-kept _ (λ id c. record { rank = refl; content = refl }) b.cells
+
+close-lasting : (b : Book) (place : ℕ) → AreLasting b → AreLasting (close b place)
 unfolding close
-close-still b place l = record {
-  lasting = record { rises = each-rises _ b.cells 0 l.rises; last = each-last _ (λ id c. refl) b.cells l.last };
-  changes = refl;
-}
+close-lasting b place l = record { rises = each-rises _ b.cells 0 l.rises; last = each-last _ (λ id c. refl) b.cells l.last }
 
 marked-left : (place : ℕ) (c : Cell) → (marked c place).left ≡ c.left
 marked-left place c = pick-left (nat_lt 0 c.rank) _ c c.left refl refl
 
-open-still : (b : Book) (place : ℕ) → AreLasting b → Still b (open_up b place)
+open-lasting : (b : Book) (place : ℕ) → AreLasting b → AreLasting (open_up b place)
 unfolding open_up
-open-still b place l = record {
-  lasting = record {
-    rises = each-rises _ b.cells 0 l.rises;
-    last = each-last _ (λ id c. pick-left (has b.p2p place) (marked c place) c c.left (marked-left place c) refl) b.cells l.last;
-  };
-  changes = refl;
+open-lasting b place l = record {
+  rises = each-rises _ b.cells 0 l.rises;
+  last = each-last _ (λ id c. pick-left (has b.p2p place) (marked c place) c c.left (marked-left place c) refl) b.cells l.last;
 }
 
-pick-still : (a b c : Book) (t : Bool) → Still a b → Still a c → Still a (if t then b else c)
-pick-still a b c true p q = p
-pick-still a b c false p q = q
+pick-lasting : (b c : Book) (t : Bool) → AreLasting b → AreLasting c → AreLasting (if t then b else c)
+pick-lasting b c true p q = p
+pick-lasting b c false p q = q
 
-same-still : (b : Book) → AreLasting b → Still b b
-same-still b l = record { lasting = l; changes = refl }
+set-lasting : (b : Book) (place : ℕ) (up : Bool) → AreLasting b → AreLasting (set_open b place up)
+set-lasting b place true l = pick-lasting b (open_up b place) (has b.opened place) l (open-lasting b place l)
+set-lasting b place false l = pick-lasting (close b place) b (has b.opened place) (close-lasting b place l) l
 
-set-still : (b : Book) (place : ℕ) (up : Bool) → AreLasting b → Still b (set_open b place up)
-set-still b place true l = pick-still b b (open_up b place) (has b.opened place) (same-still b l) (open-still b place l)
-set-still b place false l = pick-still b (close b place) b (has b.opened place) (close-still b place l) (same-still b l)
+-- a book of lasting entries that are kept
+record Still (a b : Book) : Type 0 where
+  pub lasting : AreLasting b
+  pub kept : AreKept a b
+
+still-trans : (a b c : Book) → Still a b → Still b c → Still a c
+still-trans a b c p q = record { lasting = q.lasting; kept = kept-trans a b c p.kept q.kept }
 
 one-still : (s : LevelState) (level : Level) (place : ℕ) (o : Option Circuit) → AreLasting s.book → Still s.book (follow_one s level place o).book
-one-still s level place None l = same-still s.book l
-one-still s level place (Some c) l = set-still s.book place (is_open c level) l
+one-still s level place None l = record { lasting = l; kept = λ id. key-refl (cell_at s.book id) }
+one-still s level place (Some c) l = record { lasting = set-lasting s.book place (is_open c level) l; kept = set_open-kept s.book place (is_open c level) }
 
 follow-still : (s : LevelState) (level : Level) (cs : List Circuit) (n : ℕ) → AreLasting s.book → Still s.book (follow_first s level cs n).book
-follow-still s level cs zero l = same-still s.book l
+follow-still s level cs zero l = record { lasting = l; kept = λ id. key-refl (cell_at s.book id) }
 follow-still s level cs (suc n) l =
     let first = follow_first s level cs n in
     let still = follow-still s level cs n l in
@@ -127,10 +120,10 @@ one-is s id c h e =
     ap (λ (o : Option Cell). (age_cell s id o).book) e
     ∙ ap (λ (o : Option Cell). set_cell s.book id o) (last-aged s.book.opened c h)
 
-one-changes : (s : LevelState) (id : ℕ) (c : Cell) → 2 ≤ c.left → cell_at s.book id ≡ Some c → (age_one s id).book.changes ≡ s.book.changes
-one-changes s id c h e =
-    ap (λ (b : Book). b.changes) (one-is s id c h e)
-    ∙ set-changes s.book id (Some (less c)) (sym (ap rank_of e))
+one-kept : (s : LevelState) (id : ℕ) (c : Cell) → 2 ≤ c.left → cell_at s.book id ≡ Some c → AreKept s.book (age_one s id).book
+one-kept s id c h e =
+    subst (AreKept s.book) (sym (one-is s id c h e))
+    (set-kept s.book id (Some (less c)) (subst (λ (o : Option Cell). SameKey o (Some (less c))) (sym e) (alike-key c (less c) (record { rank = refl; content = refl }))))
 
 cell-other : (b : Book) (id : ℕ) (new : Option Cell) (q : ℕ) → (id ≡ q → ⊥) → cell_at (set_cell b id new) q ≡ cell_at b q
 unfolding set_cell
@@ -143,24 +136,25 @@ found-after (p ∷ cells) least id b new r h f =
     let first = r.0 in
     (cell-other b id new p.0 (λ e. absurd (omega (arith, h, first, e))) ∙ f.0, found-after cells (p.0 + 1) id b new r.1 (omega (arith, h, first)) f.1)
 
-all-changes : (cells : List (ℕ × Cell)) (least : ℕ) (s : LevelState) → RisesFrom least cells → AllByRecursion Last cells → AllByRecursion (λ (p : ℕ × Cell). cell_at s.book p.0 ≡ Some p.1) cells → (age_all s cells).book.changes ≡ s.book.changes
-all-changes [] least s r l f = refl
-all-changes (p ∷ cells) least s r l f =
-    all-changes cells (p.0 + 1) (age_one s p.0) r.1 l.1
+all-kept : (cells : List (ℕ × Cell)) (least : ℕ) (s : LevelState) → RisesFrom least cells → AllByRecursion Last cells → AllByRecursion (λ (p : ℕ × Cell). cell_at s.book p.0 ≡ Some p.1) cells → AreKept s.book (age_all s cells).book
+all-kept [] least s r l f = λ id. key-refl (cell_at s.book id)
+all-kept (p ∷ cells) least s r l f =
+    let next = age_one s p.0 in
+    kept-trans s.book next.book (age_all next cells).book (one-kept s p.0 p.1 l.0 f.0)
+    (all-kept cells (p.0 + 1) next r.1 l.1
     (subst (λ (b : Book). AllByRecursion (λ (q : ℕ × Cell). cell_at b q.0 ≡ Some q.1) cells) (sym (one-is s p.0 p.1 l.0 f.0))
-    (found-after cells (p.0 + 1) p.0 s.book (Some (less p.1)) r.1 (omega arith) f.1))
-    ∙ one-changes s p.0 p.1 l.0 f.0
+    (found-after cells (p.0 + 1) p.0 s.book (Some (less p.1)) r.1 (omega arith) f.1)))
 
-age-changes : (s : LevelState) → AreLasting s.book → (age s).book.changes ≡ s.book.changes
+age-kept : (s : LevelState) → AreLasting s.book → AreKept s.book (age s).book
 unfolding age
-age-changes s l = all-changes s.book.cells 0 s l.rises l.last (all-found s.book.cells 0 l.rises)
+age-kept s l = all-kept s.book.cells 0 s l.rises l.last (all-found s.book.cells 0 l.rises)
 
-pub later-changes : (s : LevelState) (level : Level) (cs : List Circuit) → AreLasting s.book → (level_later s level cs).book.changes ≡ s.book.changes
-later-changes s level cs l =
-    let wait : Still s.book (waited s).book = wait-still s.book l in
+pub later-kept : (s : LevelState) (level : Level) (cs : List Circuit) → AreLasting s.book → AreKept s.book (level_later s level cs).book
+later-kept s level cs l =
     let first = follow_first (waited s) level cs (length cs) in
-    let still : Still (waited s).book first.book = follow-still (waited s) level cs (length cs) wait.lasting in
-    age-changes first still.lasting ∙ (still.changes ∙ wait.changes)
+    let still : Still (waited s).book first.book = follow-still (waited s) level cs (length cs) (wait-lasting s.book l) in
+    kept-trans s.book (waited s).book (age first).book (wait-kept s.book)
+    (kept-trans (waited s).book first.book (age first).book still.kept (age-kept first still.lasting))
 
 pub lasting-of : (b : BookState) (store : Database) (entries : List (LspId × Entry)) (t : Bool) → RisesFrom 0 (book_of b).cells → t ≡ all_last entries → entries ≡ store.entries → store ≡ b.store → t ≡ true → AreLasting (book_of b)
 lasting-of b store entries t rises is same lent e = record {

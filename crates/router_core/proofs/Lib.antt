@@ -29,3 +29,4 @@ mod FaceLemmas
 mod KeepLemmas
 mod SettledLemmas
 mod PlanLemmas
+mod CalmSecondLemmas

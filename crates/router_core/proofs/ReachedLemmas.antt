@@ -16,7 +16,8 @@ use Rattle.isis_model.specs.Events.{Message, Event, Second, Take, Pull, Metric, 
 use Rattle.isis_model.specs.Good.{IsGoodEvent}
 use Rattle.isis_model.specs.Maps.{find, put}
 use Rattle.isis_model.specs.Places.{nth}
-use Rattle.isis_model.specs.Routers.{Circuit, Router, level_of}
+use Rattle.isis_model.specs.Books.{cell_at}
+use Rattle.isis_model.specs.Routers.{Circuit, Router, book_of, level_of}
 use Rattle.isis_model.specs.Sorted.{RisesFrom, IsSorted}
 use Rattle.isis_model.specs.Starts.{start, started}
 use Rattle.isis_model.specs.Steps.{step}
@@ -46,12 +47,12 @@ use Rattle.router_core.specs.declared.event.NodeEvent.{NodeEvent}
 use Rattle.router_core.specs.declared.event.NodeEvent.TheVariants as event
 use Rattle.router_core.specs.Events.{event_of, Fits, IsThere}
 use Rattle.isis_model.specs.Hearings.{hearing}
-use Rattle.isis_model.specs.ContentLaws.{TellsBoth}
+use Rattle.isis_model.specs.ContentLaws.{SameKey, TellsBoth}
 use Rattle.isis_model.proofs.TellLemmas.{course-tells}
 use Rattle.router_routes.specs.Outlooks.{outlook_of}
 use Rattle.router_routes.specs.Following.{IsLevel}
 use Rattle.router_core.specs.Calm.{AreBelow, SameCounts, Stands, KeepsPrefixes}
-use Rattle.router_core.proofs.RouteLemmas.{step-outlook, step-level}
+use Rattle.router_core.proofs.RouteLemmas.{step-told, step-outlook, step-level}
 use Rattle.router_core.specs.Givens.{given, leaks_of, is_attached}
 use Rattle.router_core.specs.Heard.{HasOctets}
 use Rattle.router_core.specs.Reached.{IsReached}
@@ -228,6 +229,12 @@ pub outlook-stays : (r : Router) (event : Event) → IsReached r → AreBelow r 
 outlook-stays r event h below counts keeps =
     let s = h.speaking in
     step-outlook given r event s.sorted (sorted-after r event s.sorted) (tells r event) below counts keeps
+
+-- and where all that is held keeps its key and content
+pub outlook-kept : (r : Router) (event : Event) → IsReached r → ((l : Level) (id : ℕ) → SameKey (cell_at (book_of r l) id) (cell_at (book_of (step given r event).router l) id)) → KeepsPrefixes event → outlook_of (step given r event).router ≡ outlook_of r
+outlook-kept r event h kept keeps =
+    let s = h.speaking in
+    step-told given r event s.sorted (sorted-after r event s.sorted) kept keeps
 
 -- so do a level's distances where none of its keys changes
 pub level-stays : (r : Router) (event : Event) (l : Level) (d : RepairedOf) → IsReached r → Stands r (step given r event).router l → IsLevel (outlook_of r) l d → IsLevel (outlook_of (step given r event).router) l d

@@ -242,14 +242,17 @@ outlook-steady r t same one two =
     (ap (λ (b : Both Bool). where_run b.one (told_by (book_of t level.One).cells)) same.runs ∙ ap (where_run r.config.runs.one) one)
     (ap (λ (b : Both Bool). where_run b.two (told_by (book_of t level.Two).cells)) same.runs ∙ ap (where_run r.config.runs.two) two)
 
-pub step-outlook : (given : Given) (r : Router) (event : Event) → IsSorted r → IsSorted (step given r event).router → TellsBoth given event r (step given r event).router → AreBelow r → SameCounts r (step given r event).router → KeepsPrefixes event → outlook_of (step given r event).router ≡ outlook_of r
-step-outlook given r event sorted sorted-then tells below counts keeps =
+pub step-told : (given : Given) (r : Router) (event : Event) → IsSorted r → IsSorted (step given r event).router → ((l : Level) (id : ℕ) → SameKey (cell_at (book_of r l) id) (cell_at (book_of (step given r event).router l) id)) → KeepsPrefixes event → outlook_of (step given r event).router ≡ outlook_of r
+step-told given r event sorted sorted-then kept keeps =
     let t = (step given r event).router in
     let on : (l : Level) → told_by (book_of t l).cells ≡ told_by (book_of r l).cells =
-    λ l.
-    let less : (book_of t l).changes < 2 ^ 64 - 1 = subst (λ (n : ℕ). n < 2 ^ 64 - 1) (sym (counts.on l)) (below.on l) in
-    told-same (book_of r l) (book_of t l) (sorted.on l) (sorted-then.on l) ((tells.on l).same (counts.on l) less) in
+    λ l. told-same (book_of r l) (book_of t l) (sorted.on l) (sorted-then.on l) (kept l) in
     outlook-steady r t (step-config given r event keeps) (on level.One) (on level.Two)
+
+pub step-outlook : (given : Given) (r : Router) (event : Event) → IsSorted r → IsSorted (step given r event).router → TellsBoth given event r (step given r event).router → AreBelow r → SameCounts r (step given r event).router → KeepsPrefixes event → outlook_of (step given r event).router ≡ outlook_of r
+step-outlook given r event sorted sorted-then tells below counts keeps =
+    step-told given r event sorted sorted-then
+    (λ l. (tells.on l).same (counts.on l) (subst (λ (n : ℕ). n < 2 ^ 64 - 1) (sym (counts.on l)) (below.on l))) keeps
 
 -- ---- roots
 

@@ -13,9 +13,10 @@ use Rattle.isis_model.specs.Routers.{CircuitLevel, Circuit, Router, book_of, wit
 use Rattle.isis_model.specs.Datagrams.{Sent, PointHello, LanHello, Lsp, Csnp, Psnp}
 use Rattle.isis_model.specs.Elections.{idle}
 use Rattle.isis_model.specs.AdjacencyLaws.{AreIdle}
-use Rattle.isis_model.specs.Events.{Send, settled}
-use Rattle.isis_model.specs.Steps.{sent_all}
+use Rattle.isis_model.specs.Events.{Pull, Send, settled}
+use Rattle.isis_model.specs.Steps.{sent_all, step}
 use Rattle.isis_datagram.specs.Datagrams.{datagram, pdu_octets}
+use Rattle.router_core.specs.Givens.{given}
 use Rattle.router_core.specs.Replies.{datagrams_on, datagrams_of}
 use Rattle.isis_model.specs.SnpTable.{SnpEntry}
 use Rattle.isis_model.specs.SnpLists.{csnp_set, entries_where, snp_entry, owed, pieces, psnps}
@@ -416,3 +417,25 @@ pulled-sent r s t place c out n e f d = of (all-sent r place c n).pulled
 
         last : nth t.circuits place ≡ Some y
         last = ap (λ (q : Router). nth q.circuits place) t-is ∙ nth-with a.circuits place x y here
+
+-- ---- the same as the model's step
+
+pub pulled-step : (r s t : Router) (place : ℕ) (c : Circuit) → AreIdle r → nth r.circuits place ≡ Some c → s ≡ after_all r place → IfSome (nth s.circuits place) (λ y. t ≡ with_circuit s place (idle s.config place y)) → t ≡ (step given r (Pull place)).router
+unfolding step
+pulled-step r s t place c idles n e f = pulled-state r s t place c idles n e f
+
+after-idle : Router → Router → ℕ → Option Circuit → Router
+after-idle r s place None = r
+after-idle r s place (Some c) = with_circuit s place (idle s.config place c)
+
+idle-is : (r s : Router) (place : ℕ) (o : Option Circuit) → IfSome o (λ y. after-idle r s place o ≡ with_circuit s place (idle s.config place y))
+idle-is r s place None = tt
+idle-is r s place (Some c) = refl
+
+-- what is due is what the step sends
+pub due-sent : (r : Router) (place : ℕ) (c : Circuit) (out : List (List ℕ)) → AreIdle r → nth r.circuits place ≡ Some c → out ≡ map (λ (says : Sent). datagram r.config r.boot place c says) (all_due r place c) → out ≡ datagrams_of (step given r (Pull place)).router place (pull r place).out
+due-sent r place c out idles n d =
+    let s = after_all r place in
+    let t = after-idle r s place (nth s.circuits place) in
+    let f = idle-is r s place (nth s.circuits place) in
+    subst (λ (q : Router). out ≡ datagrams_of q place (pull r place).out) (pulled-step r s t place c idles n refl f) (pulled-sent r s t place c out n refl f d)

@@ -47,6 +47,14 @@ take-reply r t place m (Ok a) h k = (taken-step r t place m a h k).1
 take-reply r t place m (Err b) h k = k
 
 -- a pull and a second, which settle
+pub second-done : (r t : Router) → Answers t (place_of model.Second) (step given r model.Second).reply reply.Done
+unfolding step
+second-done r t = refl
+
+pub second-step : (r t : Router) → t ≡ (model.settled (record { router = second given r; reply = model.Done })).router → t ≡ (step given r model.Second).router
+unfolding step
+second-step r t e = e
+
 pub pull-reply : (r t : Router) (place : ℕ) (out : List (List ℕ)) → out ≡ datagrams_of t place (pulls.pull r place).out → Answers t place (step given r (model.Pull place)).reply (reply.Send out)
 unfolding step
 pull-reply r t place out e = ap reply.Send e
@@ -100,9 +108,8 @@ on-heard-reply r t circuit heard e q is f h =
     let fits = subst (FitsRead r) is f in
     subst (λ (ev : Read). IfOk q (λ (a : Reply). Answers t (place_of (event_in ev)) (step given r (event_in ev)).reply a)) (sym is) (take-reply r t (circuit - 1) (message_of heard) q (here r circuit fits.there) h)
 
-pub on-pull : (r t : Router) (circuit : ℕ) (e : Read) → e ≡ read.Pull circuit → t ≡ (model.settled (sent_all (pulls.pull r (circuit - 1)))).router → t ≡ (step given r (event_in e)).router
-unfolding step
-on-pull r t circuit e is h = subst (λ (ev : Read). t ≡ (step given r (event_in ev)).router) (sym is) h
+pub on-read : (r t : Router) (says e : Read) → e ≡ says → t ≡ (step given r (event_in says)).router → t ≡ (step given r (event_in e)).router
+on-read r t says e is h = subst (λ (ev : Read). t ≡ (step given r (event_in ev)).router) (sym is) h
 
 pub on-pull-reply : (r t : Router) (circuit : ℕ) (e : Read) (out : List (List ℕ)) → e ≡ read.Pull circuit → out ≡ datagrams_of t (circuit - 1) (pulls.pull r (circuit - 1)).out → Answers t (place_of (event_in e)) (step given r (event_in e)).reply (reply.Send out)
 on-pull-reply r t circuit e out is h = subst (λ (ev : Read). Answers t (place_of (event_in ev)) (step given r (event_in ev)).reply (reply.Send out)) (sym is) (pull-reply r t (circuit - 1) out h)

@@ -18,7 +18,6 @@ use Rattle.isis_model.specs.LspTable.{met}
 use Rattle.isis_model.specs.SnpTable.{SnpEntry, snp_case}
 use Rattle.isis_model.specs.Takes.{whose_of}
 use Rattle.isis_model.specs.Routers.{Router, level_of, book_of}
-use Rattle.router_core.specs.declared.calm.Known.{Known}
 use Rattle.isis_model.specs.Events.{Message, Refused, PointHelloHeard, LanHelloHeard, LspHeard, SnpHeard, Event, Second, Take, Pull, Metric, Overload, Prefix}
 
 -- the rows of an LSP that isn't newer than what is held (ISO 10589 7.3.15.1)
@@ -64,12 +63,6 @@ IsCalm r (Pull place) = Unit {0}
 IsCalm r (Metric place metric) = Unit {0}
 IsCalm r (Overload on) = Unit {0}
 IsCalm r (Prefix prefix metric) = ⊥
-
--- what is known of an event holds
-pub record IsKnown (known : Known) (calm aside greets : Type 0) : Type 0 where
-  pub no_key : known.calm ≡ true → calm
-  pub no_own : known.aside ≡ true → aside
-  pub greeting : known.greets ≡ true → greets
 
 -- the counts of changes of both levels are below their end
 pub record AreBelow (r : Router) : Type 0 where

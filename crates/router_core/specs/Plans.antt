@@ -1,19 +1,26 @@
 -- What committing a plan makes of a router, what nodes tell then, and when a plan is an event's (own).
-use Rattle.std.specs.Prelude.{◌≡◌, ℕ, ◌-◌, ◌<◌, ◌≤◌, false, length}
+use Rattle.std.specs.Prelude.{◌≡◌, ℕ, ◌-◌, ◌<◌, ◌≤◌, false, List, length, map, Option, is_some}
+use Rattle.isis_base.specs.declared.entry.LspEntry.{LspEntry}
 use Rattle.isis_base.specs.declared.level.Level.{Level}
+use Rattle.isis_base.specs.declared.level.Level.TheVariants as level
 use Rattle.isis_base.specs.Identifiers.{lsp_number}
 use Rattle.isis_model.specs.declared.lsp_case.LspCase.{LspCase}
 use Rattle.isis_model.specs.declared.lsp_case.LspCase.TheVariants as case
 use Rattle.isis_model.specs.AdjacencyLaws.{place_of}
+use Rattle.isis_model.specs.Both.{at}
 use Rattle.isis_model.specs.Drops.{count_drop}
 use Rattle.isis_model.specs.Events as model
 use Rattle.isis_model.specs.LspTable.{met}
+use Rattle.isis_model.specs.OwnLsps.{renew}
 use Rattle.isis_model.specs.Receiving.{no_room, scene_of}
-use Rattle.isis_model.specs.Routers.{Router, level_of, with_level}
+use Rattle.isis_model.specs.Routers.{Circuit, Router, level_of, with_level}
 use Rattle.isis_model.specs.Steps.{step}
-use Rattle.isis_model.specs.Takes.{whose_of, take_lsp}
-use Rattle.flag_sync.specs.Heard.{heard_of}
+use Rattle.isis_model.specs.Takes.{whose_of, take_lsp, take_snp}
+use Rattle.isis_model.specs.Wanted.{wanted}
+use Rattle.flag_sync.specs.Heard.{entries_of, heard_of}
 use Rattle.flag_sync.specs.declared.heard.LspHeard.{LspHeard}
+use Rattle.lsp_octets.specs.Drafts.{DraftView}
+use Rattle.router_levels.specs.Drafts.{AreAnswers, AreReady, range_of}
 use Rattle.router_desk.specs.declared.envelope.Envelope.{Envelope}
 use Rattle.router_desk.specs.Causes.{name_of}
 use Rattle.router_desk.specs.Opening.{envelope_of}
@@ -29,7 +36,8 @@ use Rattle.router_core.specs.Events.{change_of, FitsChange, IsThere}
 use Rattle.router_core.specs.Givens.{given}
 use Rattle.router_core.specs.Reached.{IsReached}
 use Rattle.router_core.specs.Replies.{Answers}
-use Rattle.router_core.specs.Settled.{AreTrue}
+use Rattle.router_core.specs.Seconds.{bare_later, level_later}
+use Rattle.router_core.specs.Settled.{AreTrue, faces}
 
 -- the row that an LSP meets (ISO 10589 7.3.15.1)
 abbrev pub row_met : Router → Level → LspHeard → LspCase
@@ -49,6 +57,11 @@ committed r (deed.Change change) = (step given r (change_of change)).router
 committed r (deed.Lsp circuit level lsp) =
     with_level r level (take_lsp (scene_of given r level) (level_of r level) (circuit - 1)
     (whose_of r.config.system (level_of r level) (lsp_number lsp.entry.id)) (heard_of lsp))
+committed r (deed.Snp circuit level range entries drafts) =
+    with_level r level (take_snp (scene_of given r level) (level_of r level) r.config.system
+    (circuit - 1) (range_of range) (entries_of entries.now))
+committed r (deed.Pull circuit) = (step given r (model.Pull (circuit - 1))).router
+committed r (deed.Second circuits) = (step given r model.Second).router
 
 -- an LSP has room, and outbids none of one's own (own)
 pub record IsLspReady (r : Router) (circuit : ℕ) (level : Level) (lsp : LspHeard) : Type 0 where
@@ -58,11 +71,36 @@ pub record IsLspReady (r : Router) (circuit : ℕ) (level : Level) (lsp : LspHea
   pub room : no_room (level_of r level) r.config.system (heard_of lsp) ≡ false
   pub other : row_met r level lsp ≡ case.Outbid → ⊥
 
+-- drafts of own LSPs are there for the entries of a sequence number PDU (own)
+pub record IsSnpReady (r : Router) (circuit : ℕ) (level : Level) (entries : List LspEntry)
+    (drafts : List (Option DraftView)) : Type 0 where
+  pub there : IsThere r circuit
+  pub ready : AreReady (is_some (at r.config.keys level)) (level_of r level).own entries drafts
+  pub said : AreAnswers (at r.config.keys level) (scene_of given r level) entries drafts
+
+-- a second of a level issues and purges none of its own LSPs, where these are copies of the circuits as they then are (own)
+abbrev pub IsCalmAt : Router → Level → List Circuit → Type 0
+IsCalmAt r level circuits =
+    (q : Router) → q.config ≡ r.config → faces q.circuits ≡ faces circuits
+    → level_later (level_of r level) level circuits
+    ≡ renew given q level (level_later (level_of r level) level circuits) (wanted given r q level)
+
+-- these are copies of the circuits a second later, and neither level issues or purges an own LSP then (own)
+pub record IsSecondReady (r : Router) (circuits : List Circuit) : Type 0 where
+  pub later : circuits ≡ map bare_later r.circuits
+  pub count : length circuits ≡ length r.circuits
+  pub one : IsCalmAt r level.One circuits
+  pub two : IsCalmAt r level.Two circuits
+
 -- what a deed has is what it needs (own)
 abbrev pub IsReady : Router → Deed → Type 0
 IsReady r (deed.Dropped cause) = Unit {0}
 IsReady r (deed.Change change) = FitsChange r change × IsReached r
 IsReady r (deed.Lsp circuit level lsp) = IsLspReady r circuit level lsp
+IsReady r (deed.Snp circuit level range entries drafts) =
+    IsSnpReady r circuit level entries.now drafts.items
+IsReady r (deed.Pull circuit) = IsThere r circuit × IsReached r
+IsReady r (deed.Second circuits) = IsSecondReady r circuits.items
 
 -- nothing changes; or one node of one level tells these LSPs, or own prefixes are these, and all else stays (own)
 abbrev pub AreTold : Outlook → Outlook → Told → Type 0

@@ -24,6 +24,21 @@ impl Machine {
                 level,
                 lsp,
             } => self.hear_lsp(circuit, level, &lsp, None),
+            Deed::Snp {
+                circuit,
+                level,
+                range,
+                entries,
+                drafts,
+            } => self.hear_snp(circuit, level, range, entries, drafts),
+            Deed::Pull { circuit } => {
+                self.pulled(circuit);
+                Ok(())
+            }
+            Deed::Second { circuits } => {
+                self.second_passed(&circuits);
+                Ok(())
+            }
         }
     }
 }

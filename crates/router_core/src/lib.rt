@@ -7,10 +7,9 @@
 //!
 //! - `router.rt`: the router; `event.rt`, `reply.rt`, `datagrams.rt`: events and answers
 //! - `machine.rt`: its parts, and what they have in common
-//! - `read.rt`: an event as what it says; `plan.rt`, `plan_lsp.rt`, `plan_change.rt`: what will be done; `told.rt`,
-//!   `aside.rt`: what routes look at then; `commit.rt`: that is done
-//! - `stepping.rt`, `calm.rt`, `calm_second.rt`, `routes.rt`: events without a plan, in place where they are known to leave
-//!   what routes look at, and the routes after others
+//! - `read.rt`: an event as what it says; `plan.rt`, `plan_lsp.rt`, `plan_snp.rt`, `plan_change.rt`, `plan_second.rt`: what
+//!   will be done; `told.rt`, `aside.rt`: what routes look at then; `commit.rt`: that is done
+//! - `stepping.rt`, `routes.rt`: events without a plan, hellos in place, and the routes after others
 //! - `making.rt`, `changes.rt`, `asked.rt`: how it starts, changes of its configuration, and what is
 //!   asked of it; `together.rt`: parts made together; `prefixes.rt`, `prefix_list.rt`: its own prefixes, in order
 //! - `taking.rt`: what is heard is taken, or dropped; `hellos.rt`, `own.rt`: hellos; `levels.rt`, `take.rt`: LSPs;
@@ -18,7 +17,7 @@
 //! - `wanted.rt`: drafts of own LSPs that are wanted
 //! - `second.rt`, `renewal.rt`, `quiet.rt`: a second; `marks.rt`, `faces.rt`: levels of which it is known that a
 //!   second issues nothing but for age
-//! - `pull.rt`, `pull_parts.rt`, `hello_sending.rt`, `sending.rt`: what is due is sent
+//! - `pull.rt`, `pull_parts.rt`, `hello_sending.rt`, `sending.rt`: what is due is sent, planned too
 //! - `at.rt`: one circuit of a list changes
 //! - `reached.rt`: what always holds, as laws; `laws.rt`: what follows for all routers
 #![tactic(auto)]
@@ -26,8 +25,6 @@
 mod aside;
 mod asked;
 mod at;
-mod calm;
-mod calm_second;
 mod changes;
 mod commit;
 mod datagrams;
@@ -44,6 +41,8 @@ mod own;
 mod plan;
 mod plan_change;
 mod plan_lsp;
+mod plan_second;
+mod plan_snp;
 mod prefix_list;
 mod prefixes;
 mod pull;

@@ -28,18 +28,13 @@ impl Marks {
         }
     }
 
-    /// What is known after an event that changes no key: all that was, where it leaves what own LSPs
-    /// are made from, and else nothing.
-    pub(crate) fn after(self, aside: bool) -> Marks
-        ensures { (r : Router) (event : Event) → AreTrue self r → IsCalm r event
-            → (aside ≡ true → IsAside event)
+    /// What is known after an event that changes no key, and nothing that own LSPs are made from: all that was.
+    pub(crate) fn after(self) -> Marks
+        ensures { (r : Router) (event : Event) → AreTrue self r → IsAside event
             → outlook_of (step given r event).router ≡ outlook_of r
-            → AreTrue result r × AreTrue result (step given r event).router }
+            → IsCalm r event → AreTrue result (step given r event).router }
     {
-        if aside {
-            return self;
-        }
-        Marks::none()
+        self
     }
 
     /// These where the adjacency is alike, and else others.

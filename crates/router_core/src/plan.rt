@@ -1,17 +1,16 @@
 //! What a router will do at an event, made before anything changes.
-ghost use Rattle.std.specs.Prelude.{◌≡◌, ℕ, ◌-◌, List, Some, IfOk, IfSome};
+ghost use Rattle.std.specs.Prelude.{◌≡◌, ℕ, ◌-◌, Some, IfOk, IfSome};
 ghost use Rattle.isis_model.specs.Events as model;
-ghost use Rattle.isis_model.specs.Numbers.{system_number};
 ghost use Rattle.isis_model.specs.Places.{nth};
 ghost use Rattle.isis_model.specs.Receiving.{drop_of};
-ghost use Rattle.isis_model.specs.SnpTable.{SnpEntry};
 ghost use Rattle.router_desk.specs.Causes.{name_of};
-ghost use Rattle.router_desk.specs.Opening.{envelope_of};
-ghost use Rattle.router_reading.specs.Heard.{range_of};
+ghost use Rattle.router_reading.specs.Heard.{message_of};
+ghost use Rattle.router_routes.specs.Outlooks.{outlook_of};
+ghost use Rattle.router_routes.specs.Following.{IsFollowing};
 ghost use Rattle.router_core.specs.Events.{IsThere};
 ghost use Rattle.router_core.specs.Plans.{IsPlan};
 ghost use Rattle.router_core.specs.Reached.{IsReached};
-ghost use Rattle.router_core.specs.Reads.{event_in, FitsRead};
+ghost use Rattle.router_core.specs.Reads.{event_in, FitsHeard, FitsRead};
 ghost use Rattle.router_core.specs.Settled.{AreTrue};
 
 use crate::machine::Machine;
@@ -20,12 +19,16 @@ use crate::read::Read;
 use crate::reply::Reply;
 use crate::told::Told;
 use flag_sync::LspHeard;
-use isis_base::{Level, LspId, OutOfMemory, SystemId};
-use router_desk::{Change, DropCause, Envelope};
+use isis_base::{Level, LspEntry, LspId, OutOfMemory};
+use lsp_octets::Draft;
+use router_circuits::Circuit;
+use router_desk::{Change, DropCause};
 use router_reading::Heard;
+use router_routes::Following;
 
-/// What is done: a datagram that is dropped is counted; the configuration changes; or an LSP that outbids none of one's
-/// own is taken.
+/// What is done: a datagram that is dropped is counted; the configuration changes; an LSP that outbids none of one's own is
+/// taken; a sequence number PDU is taken that changes no key, with drafts of the own LSPs that it names; what was due on a
+/// circuit was sent; or a second passes in which no key changes, by copies of the circuits as they are then.
 #[derive(Drop)]
 pub(crate) enum Deed<'a> {
     Dropped(DropCause),
@@ -34,6 +37,19 @@ pub(crate) enum Deed<'a> {
         circuit: u8,
         level: Level,
         lsp: LspHeard<'a>,
+    },
+    Snp {
+        circuit: u8,
+        level: Level,
+        range: Option<(LspId, LspId)>,
+        entries: &'a [LspEntry],
+        drafts: Vec<Option<Draft>>,
+    },
+    Pull {
+        circuit: u8,
+    },
+    Second {
+        circuits: Vec<Circuit>,
     },
 }
 
@@ -47,30 +63,53 @@ pub(crate) struct Plan<'a> {
 }
 
 impl Machine {
-    /// The plan of an event that was read; `None` where there is none. Planned are changes, what is dropped, but for
-    /// hellos, and LSPs that meet a row of which it is known what it changes.
+    /// The plan of an event that was read; `None` where there is none. Planned are changes, pulls, what is dropped, but for
+    /// hellos, LSPs that meet a row of which it is known what it changes, and sequence number PDUs and seconds in which no
+    /// key changes.
     pub(crate) fn plan<'a>(
         &self,
-        read: &Read<'a>,
+        read: &'a Read<'a>,
+        following: &Following,
         marks: Marks,
     ) -> Result<Option<Plan<'a>>, OutOfMemory>
         requires fits { FitsRead self.now read.now }
         requires reached { IsReached self.now }
+        requires following { IsFollowing (outlook_of self.now) following.now }
         requires marks { AreTrue marks self.now }
         ensures { IfOk result (λ o. IfSome o (IsPlan self.now (event_in read.now))) }
     {
-        let (circuit, heard) = match read {
-            Read::Refused { circuit: _, cause } => {
-                return Ok(Some(self.plan_drop(*cause, marks)));
+        match read {
+            Read::Second => self.plan_second(following, marks),
+            Read::Pull { circuit } => {
+                let plan = self.plan_pull(*circuit, marks)?;
+                Ok(Some(plan))
             }
             Read::Change(change) => {
                 let plan = self.plan_change(*change)?;
-                return Ok(Some(plan));
+                Ok(Some(plan))
             }
-            Read::Heard { circuit, heard } => (*circuit, heard),
-            _ => return Ok(None),
-        };
+            Read::Refused { circuit: _, cause } => Ok(Some(self.plan_drop(*cause, marks))),
+            Read::Heard { circuit, heard } => self.plan_heard(*circuit, heard, following, marks),
+        }
+    }
+
+    /// The plan of what was heard.
+    fn plan_heard<'a>(
+        &self,
+        circuit: u8,
+        heard: &'a Heard<'a>,
+        following: &Following,
+        marks: Marks,
+    ) -> Result<Option<Plan<'a>>, OutOfMemory>
+        requires fits { FitsHeard self.now circuit heard.now }
+        requires reached { IsReached self.now }
+        requires following { IsFollowing (outlook_of self.now) following.now }
+        requires marks { AreTrue marks self.now }
+        ensures { IfOk result (λ o. IfSome o
+            (IsPlan self.now (model.Take (circuit - 1) (message_of heard.now)))) }
+    {
         match heard {
+            Heard::PointHello(_) | Heard::LanHello(_, _) => Ok(None),
             Heard::Lsp { level, from, lsp } => {
                 self.plan_lsp(circuit, (*level, *from), lsp, marks)
             }
@@ -79,31 +118,11 @@ impl Machine {
                 from,
                 source,
                 range,
-                entries: _,
-            } => Ok(self.plan_snp(circuit, *level, (*from, *source), *range, marks)),
-            _ => Ok(None),
-        }
-    }
-
-    /// The plan of a sequence number PDU that is dropped; `None` for one that is taken.
-    fn plan_snp<'a>(
-        &self,
-        circuit: u8,
-        level: Level,
-        from: (Envelope, SystemId),
-        range: Option<(LspId, LspId)>,
-        marks: Marks,
-    ) -> Option<Plan<'a>>
-        requires there { IsThere self.now circuit }
-        requires marks { AreTrue marks self.now }
-        ensures { (entries : List SnpEntry) → IfSome result (IsPlan self.now (model.Take (circuit - 1)
-            (model.SnpHeard level (envelope_of from.0) (system_number from.1) (range_of range)
-            entries))) }
-    {
-        let (envelope, source) = from;
-        match self.snp_cause(circuit, level, envelope, source, range.is_none()) {
-            Some(cause) => Some(self.plan_drop(cause, marks)),
-            None => None,
+                entries,
+            } => {
+                let from = (*from, *source);
+                self.plan_snp(circuit, *level, from, *range, entries, following, marks)
+            }
         }
     }
 

@@ -95,10 +95,7 @@ impl Machine {
     {
         outlook_laws();
         if is_calm_row(row) {
-            if !self.counts_below() {
-                return Ok(None);
-            }
-            return Ok(Some((Told::Nothing, marks.after(true))));
+            return Ok(Some((Told::Nothing, marks.after())));
         }
         match row {
             LspAnswer::Stored => {}

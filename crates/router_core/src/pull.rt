@@ -1,25 +1,31 @@
 //! What is due on a circuit is sent.
-ghost use Rattle.std.specs.Prelude.{◌≡◌, ◌≤◌, ◌<◌, ◌-◌, ◌^◌, ◌++◌, ℕ, map, Some, OnOk, OnErr, IfOk, IfSome};
+ghost use Rattle.std.specs.Prelude.{◌≡◌, ◌≤◌, ◌<◌, ◌-◌, ◌^◌, ◌++◌, ℕ, map, Some, OnOk, IfOk, IfSome};
 ghost use Rattle.isis_model.specs.Configs.{Config};
-ghost use Rattle.isis_model.specs.Events.{settled};
+ghost use Rattle.isis_model.specs.Events as event;
 ghost use Rattle.isis_model.specs.Good.{IsGoodBook};
 ghost use Rattle.isis_model.specs.Places.{nth};
-ghost use Rattle.isis_model.specs.Pulls as model;
 ghost use Rattle.isis_model.specs.Routers.{Router};
-ghost use Rattle.isis_model.specs.Steps.{sent_all};
+ghost use Rattle.isis_model.specs.Steps.{step};
 ghost use Rattle.isis_datagram.specs.Datagrams.{datagram};
 ghost use Rattle.flag_sync.specs.BookStates.{book_of, IsCircuit};
 ghost use Rattle.pdu_sender.specs.Sends.{Sends, FitAreas};
 ghost use Rattle.router_core.specs.Events.{IsThere};
+ghost use Rattle.router_core.specs.Givens.{given};
+ghost use Rattle.router_core.specs.Plans.{IsPlan};
 ghost use Rattle.router_core.specs.Pulled as pulled;
 ghost use Rattle.router_core.specs.Reached.{IsReached};
-ghost use Rattle.router_core.specs.Replies.{datagrams_of};
 ghost use Rattle.router_core.specs.Sending.{all_octets, csnps_due, psnps_due, open_due, all_due, hellos_due, MaySend};
+ghost use Rattle.router_core.specs.Settled.{AreTrue};
 
 use crate::datagrams::Datagrams;
 use crate::hello_sending::put_hellos;
 use crate::machine::Machine;
+use crate::marks::Marks;
+use crate::plan::{Deed, Plan};
+use crate::reached::outlook_laws;
+use crate::reply::Reply;
 use crate::sending::{put_csnps, put_lsps, put_psnps};
+use crate::told::Told;
 use flag_sync::Book;
 use isis_base::{Level, OutOfMemory};
 use lsp_octets::laws::sendable_law;
@@ -28,24 +34,35 @@ use router_circuits::Circuit;
 use std::alloc::Global;
 
 impl Machine {
-    /// What is due on a circuit is sent (ISO 10589 7.3.15.3 to 7.3.15.5, 7.3.17, 8.2.3, 8.4.1): the
+    /// The plan of a pull: what is due on the circuit is sent (ISO 10589 7.3.15.3 to 7.3.15.5, 7.3.17, 8.2.3, 8.4.1): the
     /// hello, and for each level that is open there the CSNP set, LSPs and PSNPs.
-    pub(crate) fn pull(&mut self, circuit: u8) -> Result<Datagrams, OutOfMemory>
-        requires there { IsThere self.old circuit }
-        requires reached { IsReached self.old }
-        ensures state { OnOk result (self.new
-            ≡ (settled (sent_all (model.pull self.old (circuit - 1)))).router) }
-        ensures sent { IfOk result (λ out. out
-            ≡ datagrams_of self.new (circuit - 1) (model.pull self.old (circuit - 1)).out) }
-        ensures err { OnErr result (self.new ≡ self.old) }
+    pub(crate) fn plan_pull<'a>(&self, circuit: u8, marks: Marks) -> Result<Plan<'a>, OutOfMemory>
+        requires there { IsThere self.now circuit }
+        requires reached { IsReached self.now }
+        requires marks { AreTrue marks self.now }
+        ensures { IfOk result (IsPlan self.now (event.Pull (circuit - 1))) }
     {
+        outlook_laws();
         let out = self.due(circuit)?;
-        self.all_gone(circuit);
-        self.settle(circuit);
-        Ok(out)
+        Ok(Plan {
+            deed: Deed::Pull { circuit },
+            reply: Reply::Send(out),
+            told: Told::Nothing,
+            marks: marks.after(),
+        })
     }
 
-    /// What is due on a circuit was sent.
+    /// What was due on a circuit was sent.
+    pub(crate) fn pulled(&mut self, circuit: u8)
+        requires there { IsThere self.old circuit }
+        requires reached { IsReached self.old }
+        ensures { self.new ≡ (step given self.old (event.Pull (circuit - 1))).router }
+    {
+        self.all_gone(circuit);
+        self.settle(circuit);
+    }
+
+    /// Its parts were sent.
     fn all_gone(&mut self, circuit: u8)
         requires { IsThere self.old circuit }
         ensures { self.new ≡ pulled.after_all self.old (circuit - 1) }
@@ -64,7 +81,7 @@ impl Machine {
     }
 
     /// What is due on a circuit, as datagrams.
-    fn due(&self, circuit: u8) -> Result<Datagrams, OutOfMemory>
+    pub(crate) fn due(&self, circuit: u8) -> Result<Datagrams, OutOfMemory>
         requires there { IsThere self.now circuit }
         requires reached { IsReached self.now }
         ensures { IfOk result (λ out. IfSome (nth self.now.circuits (circuit - 1)) (λ c. out

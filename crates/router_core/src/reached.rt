@@ -49,8 +49,8 @@ pub(crate) fn outlook_laws()
     ensures stays { (r : model.Router) (event : Event) → IsReached r → AreBelow r
         → SameCounts r (step given r event).router → KeepsPrefixes event
         → outlook_of (step given r event).router ≡ outlook_of r }
-    ensures calm { (r : model.Router) (event : Event) → IsReached r → AreBelow r
-        → IsCalm r event → outlook_of (step given r event).router ≡ outlook_of r }
+    ensures calm { (r : model.Router) (event : Event) → IsReached r → IsCalm r event
+        → outlook_of (step given r event).router ≡ outlook_of r }
     ensures level { (r : model.Router) (event : Event) (l : level.Level) (d : RepairedOf)
         → IsReached r → Stands r (step given r event).router l → IsLevel (outlook_of r) l d
         → IsLevel (outlook_of (step given r event).router) l d }

@@ -130,7 +130,7 @@ impl Router {
         reached_laws();
         event_octets(&event);
         let read = self.machine.read(&event)?;
-        let plan = match self.machine.plan(&read, self.marks)? {
+        let plan = match self.machine.plan(&read, &self.following, self.marks)? {
             Some(plan) => plan,
             None => return self.step_unplanned(&read),
         };
@@ -147,8 +147,8 @@ impl Router {
         Ok(reply)
     }
 
-    /// An event that has no plan: in place where it is known to leave what routes look at. Else a copy has it, so that
-    /// nothing is lost where the routes want memory.
+    /// An event that has no plan: a hello is taken in place. Else a copy has it, so that nothing is lost where the routes want
+    /// memory.
     fn step_unplanned(&mut self, read: &Read<'_>) -> Result<Reply, OutOfMemory>
         requires fits { FitsRead self.old read.now }
         requires reached { IsReached (step given self.old (event_in read.now)).router }
@@ -160,7 +160,7 @@ impl Router {
     {
         match self
             .machine
-            .step_calmly(read, &self.following, &mut self.marks)
+            .step_hello(read, &self.following, &mut self.marks)
         {
             Ok(Some(reply)) => return Ok(reply),
             Ok(None) => {}

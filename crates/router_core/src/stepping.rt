@@ -1,16 +1,17 @@
-//! One event of a router.
-ghost use Rattle.std.specs.Prelude.{◌≡◌, None, Some, IfOk, IfSome, OnOk, OnErr};
+//! Events that have no plan: hellos, in place, and others that a copy of the router has.
+ghost use Rattle.std.specs.Prelude.{◌≡◌, true, None, Some, IfOk, IfSome, OnOk, OnErr};
 ghost use Rattle.isis_model.specs.AdjacencyLaws.{place_of};
+ghost use Rattle.isis_model.specs.Routers as model;
 ghost use Rattle.isis_model.specs.Steps.{step};
 ghost use Rattle.adjacency.specs.Views.{point_of};
-ghost use Rattle.router_core.specs.Calm.{AreBelow};
+ghost use Rattle.router_core.specs.Calm.{IsCalm};
 ghost use Rattle.router_core.specs.Reads.{event_in, FitsRead};
 ghost use Rattle.router_routes.specs.Outlooks.{outlook_of};
 ghost use Rattle.router_routes.specs.Following.{IsFollowing};
 ghost use Rattle.router_core.specs.Givens.{given};
 ghost use Rattle.router_core.specs.Reached.{IsReached};
 ghost use Rattle.router_core.specs.Replies.{Answers};
-ghost use Rattle.router_core.specs.Settled.{AreTrue, point_at, point_face};
+ghost use Rattle.router_core.specs.Settled.{AreTrue, IsGreeting, point_at, point_face};
 
 use crate::faces::are_alike;
 use crate::machine::Machine;
@@ -20,12 +21,13 @@ use crate::read::Read;
 use crate::reply::Reply;
 use adjacency::P2pAdj;
 use isis_base::OutOfMemory;
+use router_reading::Heard;
 use router_routes::Following;
 
 impl Machine {
-    /// An event that is known to leave what routes look at. `None` where that isn't known; then, and at
+    /// A hello is taken in place: none changes what routes look at. `None` for each other event; then, and at
     /// `OutOfMemory`, the router is as it was. Marks stay true.
-    pub(crate) fn step_calmly(
+    pub(crate) fn step_hello(
         &mut self,
         read: &Read<'_>,
         following: &Following,
@@ -47,54 +49,14 @@ impl Machine {
         ensures marks { AreTrue marks.new self.new }
     {
         outlook_laws();
-        if !self.counts_below() {
-            return Ok(None);
-        }
-        match read {
-            Read::Second => match self.calm_second(following, marks) {
-                Ok(true) => Ok(Some(Reply::Done)),
-                Ok(false) => Ok(None),
-                Err(error) => Err(error),
-            },
-            _ => self.step_if_calm(read, following, marks),
-        }
-    }
-
-    /// The same of an event other than a second.
-    fn step_if_calm(
-        &mut self,
-        read: &Read<'_>,
-        following: &Following,
-        marks: &mut Marks,
-    ) -> Result<Option<Reply>, OutOfMemory>
-        requires following { IsFollowing (outlook_of self.old) following.now }
-        requires fits { FitsRead self.old read.now }
-        requires reached { IsReached self.old }
-        requires below { AreBelow self.old }
-        requires marks { AreTrue marks.old self.old }
-        ensures state { IfOk result (λ o. IfSome o (λ reply. self.new
-            ≡ (step given self.old (event_in read.now)).router)) }
-        ensures reply { IfOk result (λ o. IfSome o (λ reply. Answers self.new
-            (place_of (event_in read.now))
-            (step given self.old (event_in read.now)).reply reply)) }
-        ensures outlook { IfOk result (λ o. IfSome o (λ reply.
-            outlook_of self.new ≡ outlook_of self.old)) }
-        ensures other { IfOk result (λ o. o ≡ None → self.new ≡ self.old) }
-        ensures err { OnErr result (self.new ≡ self.old) }
-        ensures marks { AreTrue marks.new self.new }
-    {
-        outlook_laws();
-        let known = self.known_of(read);
-        if !known.calm {
+        if !is_hello(read) {
             return Ok(None);
         }
         let before = self.point_on(read);
-        let kept = *marks;
-        *marks = marks.after(known.aside);
         match self.step(read, following) {
             Ok(reply) => {
                 let alike = are_alike(before, self.point_on(read));
-                *marks = kept.or(known.greets & alike, *marks);
+                *marks = marks.or(is_point_hello(read) & alike, Marks::none());
                 Ok(Some(reply))
             }
             Err(error) => Err(error),
@@ -164,7 +126,8 @@ impl Machine {
                 Ok(Reply::Done)
             }
             Read::Pull { circuit } => {
-                let out = self.pull(*circuit)?;
+                let out = self.due(*circuit)?;
+                self.pulled(*circuit);
                 Ok(Reply::Send(out))
             }
             Read::Change(change) => {
@@ -174,5 +137,31 @@ impl Machine {
             Read::Refused { circuit: _, cause } => Ok(self.refuse(*cause)),
             Read::Heard { circuit, heard } => self.take_heard(*circuit, heard, following),
         }
+    }
+}
+
+/// Whether a hello was read.
+fn is_hello(read: &Read<'_>) -> bool
+    ensures { result ≡ true → (r : model.Router) → IsCalm r (event_in read.now) }
+{
+    match read {
+        Read::Heard { circuit: _, heard } => match heard {
+            Heard::PointHello(_) | Heard::LanHello(_, _) => true,
+            _ => false,
+        },
+        _ => false,
+    }
+}
+
+/// Whether a point-to-point hello was read.
+fn is_point_hello(read: &Read<'_>) -> bool
+    ensures { result ≡ true → IsGreeting (event_in read.now) }
+{
+    match read {
+        Read::Heard { circuit: _, heard } => match heard {
+            Heard::PointHello(_) => true,
+            _ => false,
+        },
+        _ => false,
     }
 }

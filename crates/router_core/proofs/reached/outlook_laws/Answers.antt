@@ -3,8 +3,8 @@ use Rattle.isis_model.specs.Routers.{Router}
 use Rattle.isis_model.proofs.BondLemmas.{step-stays}
 use Rattle.router_core.specs.Givens.{given}
 use Rattle.router_core.specs.Calm.{IsCalm, KeepsPrefixes}
-use Rattle.router_core.proofs.CalmLemmas.{calm-counts}
-use Rattle.router_core.proofs.ReachedLemmas.{outlook-stays, level-stays}
+use Rattle.router_core.proofs.CalmLemmas.{calm-kept}
+use Rattle.router_core.proofs.ReachedLemmas.{outlook-kept, outlook-stays, level-stays}
 use Rattle.router_core.proofs.reached.outlook_laws.Goals as goal
 
 keeps : (r : Router) (event : Event) → IsCalm r event → KeepsPrefixes event
@@ -19,7 +19,7 @@ pub returns-clause-stays : goal.returns-clause-stays
 returns-clause-stays c = outlook-stays
 
 pub returns-clause-calm : goal.returns-clause-calm
-returns-clause-calm c = λ r event reached below calm. outlook-stays r event reached below (calm-counts given r event calm) (keeps r event calm)
+returns-clause-calm c = λ r event reached calm. outlook-kept r event reached (calm-kept given r event calm) (keeps r event calm)
 
 pub returns-clause-level : goal.returns-clause-level
 returns-clause-level c = level-stays

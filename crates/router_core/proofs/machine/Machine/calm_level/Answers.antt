@@ -6,12 +6,12 @@ use Rattle.lsp_wanted.specs.declared.wanted.Wanted.{Wanted}
 use Rattle.lsp_wanted.specs.Views.{wanted_of}
 use Rattle.router_core.specs.Givens.{given}
 use Rattle.router_core.specs.Settled.{IsSettled, faces}
-use Rattle.router_core.proofs.LastLemmas.{later-changes}
+use Rattle.router_core.proofs.LastLemmas.{later-kept}
 use Rattle.router_core.proofs.QuietLemmas.{later-same}
 use Rattle.router_core.proofs.SettledLemmas.{own-is, lasting-is, settled-later, marked-wants, told-wants, aged}
 use Rattle.router_core.proofs.machine.Machine.calm_level.Goals as goal
 
--- src/calm_second.rt
+-- src/plan_second.rt
 pub returns-then-rests-clause-calm : goal.returns-then-rests-clause-calm
 returns-then-rests-clause-calm c = λ r e f.
     let q = c.args.self.now in
@@ -20,17 +20,17 @@ returns-then-rests-clause-calm c = λ r e f.
     (ap all_rest (sym own) ∙ (sym c.rests.ensures ∙ c.if-rests.true))
     (marked-wants q r c.args.level c.args.circuits.now (c.requires.marked c.if-marked.true) e f)
 
--- src/calm_second.rt
-pub returns-then-rests-clause-counts : goal.returns-then-rests-clause-counts
-returns-then-rests-clause-counts c = λ list.
-    later-changes (level_of c.args.self.now c.args.level) c.args.level list
+-- src/plan_second.rt
+pub returns-then-rests-clause-keys : goal.returns-then-rests-clause-keys
+returns-then-rests-clause-keys c = λ list.
+    later-kept (level_of c.args.self.now c.args.level) c.args.level list
     (lasting-is c.level-on.result.now c.book.result.now (level_of c.args.self.now c.args.level) c.book.ensures c.level-on.ensures.state (c.lasts.ensures c.if-not-lasts.false))
 
--- src/calm_second.rt
+-- src/plan_second.rt
 pub returns-then-rests-clause-settled : goal.returns-then-rests-clause-settled
 returns-then-rests-clause-settled c = λ r e f _. marked-wants c.args.self.now r c.args.level c.args.circuits.now (c.requires.marked c.if-marked.true) e f
 
--- src/calm_second.rt
+-- src/plan_second.rt
 pub returns-then-rests-2-clause-settled : goal.returns-then-rests-2-clause-settled
 returns-then-rests-2-clause-settled c = λ r e f _.
     let q = c.args.self.now in
@@ -39,7 +39,7 @@ returns-then-rests-2-clause-settled c = λ r e f _.
     (λ x a b. ap (λ (list : List Wanted). map wanted_of list) c.deref.ensures.value ∙ c.in_ok-wanted.ensures.wanted q x c.requires.following a (ap faces b))
     (subst (λ (xs : List _). IsSettled xs (map wanted_of c.deref.result.now)) own (c.is_settled.ensures c.if-is_settled.true)) e f
 
--- src/calm_second.rt
+-- src/plan_second.rt
 pub returns-then-rests-2-clause-calm : goal.returns-then-rests-2-clause-calm
 returns-then-rests-2-clause-calm c = λ r e f.
     let q = c.args.self.now in
@@ -50,13 +50,13 @@ returns-then-rests-2-clause-calm c = λ r e f.
     (λ x a b. ap (λ (list : List Wanted). map wanted_of list) c.deref.ensures.value ∙ c.in_ok-wanted.ensures.wanted q x c.requires.following a (ap faces b))
     (subst (λ (xs : List _). IsSettled xs (map wanted_of c.deref.result.now)) own (c.is_settled.ensures c.if-is_settled.true)) e f)
 
--- src/calm_second.rt
-pub returns-then-rests-2-clause-counts : goal.returns-then-rests-2-clause-counts
-returns-then-rests-2-clause-counts c = λ list.
-    later-changes (level_of c.args.self.now c.args.level) c.args.level list
+-- src/plan_second.rt
+pub returns-then-rests-2-clause-keys : goal.returns-then-rests-2-clause-keys
+returns-then-rests-2-clause-keys c = λ list.
+    later-kept (level_of c.args.self.now c.args.level) c.args.level list
     (lasting-is c.level-on.result.now c.book.result.now (level_of c.args.self.now c.args.level) c.book.ensures c.level-on.ensures.state (c.lasts.ensures c.if-not-lasts.false))
 
--- src/calm_second.rt
+-- src/plan_second.rt
 pub returns-then-is_quiet-clause-calm : goal.returns-then-is_quiet-clause-calm
 returns-then-is_quiet-clause-calm c = λ r e f.
     let q = c.args.self.now in
@@ -66,8 +66,8 @@ returns-then-is_quiet-clause-calm c = λ r e f.
     (ap (λ (list : List Wanted). map wanted_of list) c.deref-2.ensures.value ∙ c.in_ok-wanted.ensures.wanted q r c.requires.following e f)
     (c.is_quiet.ensures c.if-is_quiet.true)
 
--- src/calm_second.rt
-pub returns-then-is_quiet-clause-counts : goal.returns-then-is_quiet-clause-counts
-returns-then-is_quiet-clause-counts c = λ list.
-    later-changes (level_of c.args.self.now c.args.level) c.args.level list
+-- src/plan_second.rt
+pub returns-then-is_quiet-clause-keys : goal.returns-then-is_quiet-clause-keys
+returns-then-is_quiet-clause-keys c = λ list.
+    later-kept (level_of c.args.self.now c.args.level) c.args.level list
     (lasting-is c.level-on.result.now c.book.result.now (level_of c.args.self.now c.args.level) c.book.ensures c.level-on.ensures.state (c.lasts.ensures c.if-not-lasts.false))

@@ -1,4 +1,18 @@
-use Rattle.router_core.proofs.StepLemmas.{on-second, second-reply, on-refused, on-refused-reply, on-heard, on-heard-reply, on-pull, on-pull-reply, on-change-reply}
+use Rattle.std.proofs.Common.{◌≡◌, ◌-◌, map, sym, subst, arith}
+use Rattle.isis_model.specs.Datagrams.{Sent}
+use Rattle.isis_model.specs.Places.{nth}
+use Rattle.isis_model.specs.Pulls.{pull}
+use Rattle.isis_model.specs.Routers.{Router}
+use Rattle.isis_datagram.specs.Datagrams.{datagram}
+use Rattle.router_core.specs.declared.read.Read.TheVariants as read
+use Rattle.router_core.specs.Events.{IsThere}
+use Rattle.router_core.specs.Reads.{FitsRead}
+use Rattle.router_core.specs.Replies.{datagrams_of}
+use Rattle.router_core.specs.Sending.{all_due}
+use Rattle.router_core.proofs.IdleLemmas.{from-some}
+use Rattle.router_core.proofs.OpenLemmas.{there}
+use Rattle.router_core.proofs.SentLemmas.{due-sent}
+use Rattle.router_core.proofs.StepLemmas.{on-second, second-reply, on-refused, on-refused-reply, on-heard, on-heard-reply, on-read, on-pull-reply, on-change-reply}
 use Rattle.router_core.proofs.machine.Machine.step.Goals as goal
 
 -- src/stepping.rt
@@ -27,11 +41,23 @@ returns-in-Heard-clause-reply c = on-heard-reply c.args.self.now c.take_heard.ne
 
 -- src/stepping.rt
 pub returns-in_ok-out-in-Pull-clause-state : goal.returns-in_ok-out-in-Pull-clause-state
-returns-in_ok-out-in-Pull-clause-state c = on-pull c.args.self.now c.pull.new.self c.in-Pull.circuit c.args.read.now c.in-Pull.is c.in_ok-out-in-Pull.ensures.state
+returns-in_ok-out-in-Pull-clause-state c = on-read c.args.self.now c.pulled.new.self (read.Pull c.in-Pull.circuit) c.args.read.now c.in-Pull.is c.pulled.ensures
 
 -- src/stepping.rt
 pub returns-in_ok-out-in-Pull-clause-reply : goal.returns-in_ok-out-in-Pull-clause-reply
-returns-in_ok-out-in-Pull-clause-reply c = on-pull-reply c.args.self.now c.pull.new.self c.in-Pull.circuit c.args.read.now c.in_ok-out-in-Pull.out c.in-Pull.is c.in_ok-out-in-Pull.ensures.sent
+returns-in_ok-out-in-Pull-clause-reply c =
+    let r = c.args.self.now in
+    let circuit = c.in-Pull.circuit in
+    let place = circuit - 1 in
+    let out = c.in_ok-out-in-Pull.out in
+    let here : IsThere r circuit = subst (FitsRead r) c.in-Pull.is c.requires.fits in
+    let low = here.0 in
+    let high = here.1 in
+    let is = there r.circuits place (omega (arith, low, high)) in
+    on-pull-reply r c.pulled.new.self circuit c.args.read.now out c.in-Pull.is
+    (subst (λ (q : Router). out ≡ datagrams_of q place (pull r place).out) (sym c.pulled.ensures)
+    (due-sent r place is.0 out c.requires.reached.idle is.1
+    (from-some (λ y. out ≡ map (λ (says : Sent). datagram r.config r.boot place y says) (all_due r place y)) (nth r.circuits place) is.0 is.1 c.in_ok-out-in-Pull.ensures)))
 
 -- src/stepping.rt
 pub returns-in_ok-change-in-Change-clause-reply : goal.returns-in_ok-change-in-Change-clause-reply

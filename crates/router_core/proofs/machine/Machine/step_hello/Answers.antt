@@ -1,15 +1,24 @@
-use Rattle.std.proofs.Common.{◌≡◌, Some, IfSome, sym, subst}
+use Rattle.std.proofs.Common.{◌≡◌, Some, IfSome, ap, sym, subst, ◌∙◌}
 use Rattle.std.proofs.lemmas.Bool.{and_parts}
 use Rattle.adjacency.specs.Views.{point_of}
 use Rattle.isis_model.specs.AdjacencyLaws.{place_of}
 use Rattle.isis_model.specs.Routers.{Router}
 use Rattle.isis_model.specs.Steps.{step}
+use Rattle.router_routes.specs.Outlooks.{outlook_of}
 use Rattle.router_core.specs.Reads.{event_in}
 use Rattle.router_core.specs.Givens.{given}
 use Rattle.router_core.specs.Settled.{AreTrue, point_at, point_face}
 use Rattle.router_core.proofs.KeepLemmas.{hello-keeps-own}
 use Rattle.router_core.proofs.SettledLemmas.{marks-keep, not-false}
-use Rattle.router_core.proofs.machine.Machine.step_if_calm.Goals as goal
+use Rattle.router_core.proofs.machine.Machine.step_hello.Goals as goal
+
+-- src/stepping.rt
+pub returns-in-Ok-clause-outlook : goal.returns-in-Ok-clause-outlook
+returns-in-Ok-clause-outlook c =
+    let q = c.args.self.now in
+    let event = event_in c.args.read.now in
+    ap outlook_of c.in-Ok.ensures.state
+    ∙ c.outlook_laws.ensures.calm q event c.requires.reached (c.is_hello.ensures (not-false c.is_hello.result c.if-not-is_hello.false) q)
 
 -- src/stepping.rt
 pub returns-in-Ok-clause-marks : goal.returns-in-Ok-clause-marks
@@ -18,13 +27,11 @@ returns-in-Ok-clause-marks c =
     let event = event_in c.args.read.now in
     let t = (step given q event).router in
     let state : c.step.new.self ≡ t = c.in-Ok.ensures.state in
-    let calm = c.known_of-known.ensures.no_key (not-false c.known_of-known.result.calm c.if-not-known.false) in
-    let stays = c.outlook_laws.ensures.calm q event c.requires.reached c.requires.below calm in
-    let after = c.after.ensures q event c.requires.marks calm c.known_of-known.ensures.no_own stays in
+    let stays = c.outlook_laws.ensures.calm q event c.requires.reached (c.is_hello.ensures (not-false c.is_hello.result c.if-not-is_hello.false) q) in
     subst (λ (x : Router). AreTrue c.or.result x) (sym state) (c.or.ensures t
-    (λ e. let both = and_parts c.known_of-known.result.greets c.are_alike-alike.result e in
-    marks-keep c.args.marks.now q t (hello-keeps-own given q event (c.known_of-known.ensures.greeting both.0)
+    (λ e. let both = and_parts c.is_point_hello.result c.are_alike-alike.result e in
+    marks-keep c.args.marks.now q t (hello-keeps-own given q event (c.is_point_hello.ensures both.0)
     (c.are_alike-alike.ensures q t (place_of event) c.point_on-before.ensures
     (subst (λ (x : Router). IfSome c.point_on.result (λ point. point_at x (place_of event) ≡ Some (point_face (point_of point)))) state c.point_on.ensures) both.1))
     stays c.requires.marks)
-    after.1)
+    (c.none.ensures t))

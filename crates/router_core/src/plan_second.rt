@@ -1,17 +1,20 @@
-//! Seconds in which no key changes (own).
-ghost use Rattle.std.specs.Prelude.{◌≡◌, ◌≤◌, true, false, List, Some, length, IfOk, IfSome, OnErr};
+//! The plan of a second in which no key changes (own).
+ghost use Rattle.std.specs.Prelude.{◌≡◌, ◌≤◌, ℕ, true, List, Some, length, IfOk, IfSome};
 ghost use Rattle.std.specs.List.{AllByRecursion};
-ghost use Rattle.isis_model.specs.Events.{Done, settled};
+ghost use Rattle.isis_model.specs.Books.{cell_at};
+ghost use Rattle.isis_model.specs.ContentLaws.{SameKey};
+ghost use Rattle.isis_model.specs.Events as model;
 ghost use Rattle.isis_model.specs.OwnLsps as own;
 ghost use Rattle.isis_model.specs.Routers.{Circuit, Router, book_of, level_of};
-ghost use Rattle.isis_model.specs.Seconds.{second};
-ghost use Rattle.isis_model.specs.Wanted as model;
+ghost use Rattle.isis_model.specs.Steps.{step};
+ghost use Rattle.isis_model.specs.Wanted as wants;
 ghost use Rattle.flag_sync.specs.BookStates as books;
 ghost use Rattle.router_routes.specs.Outlooks.{outlook_of};
 ghost use Rattle.router_routes.specs.Following.{IsFollowing};
-ghost use Rattle.router_core.specs.Calm.{all_last, AreLasting, SameCounts};
+ghost use Rattle.router_core.specs.Calm.{all_last, AreLasting};
 ghost use Rattle.router_core.specs.Givens.{given};
 ghost use Rattle.router_core.specs.Machines.{IsFit};
+ghost use Rattle.router_core.specs.Plans.{IsPlan, IsSecondReady};
 ghost use Rattle.router_core.specs.Reached.{IsReached};
 ghost use Rattle.router_core.specs.Seconds.{level_later};
 ghost use Rattle.router_core.specs.Settled.{AreTrue, IsSettled, IsSettledAt, faces};
@@ -19,9 +22,12 @@ ghost use Rattle.router_core.specs.Settled.{AreTrue, IsSettled, IsSettledAt, fac
 use crate::faces::keep_faces;
 use crate::machine::Machine;
 use crate::marks::Marks;
+use crate::plan::{Deed, Plan};
 use crate::quiet::{is_quiet, is_settled};
 use crate::renewal::pass_in_place;
+use crate::reply::Reply;
 use crate::second::{circuits_later, idle_all, pass_circuits};
+use crate::told::Told;
 use flag_sync::Book;
 use isis_base::{Level, OutOfMemory};
 use lsp_store::{Entry, Pairs};
@@ -29,42 +35,47 @@ use router_circuits::Circuit;
 use router_routes::Following;
 
 impl Machine {
-    /// A second, where it is known that no key changes in it: none of a level's own LSPs is to be issued
-    /// or purged, and no entry's time ends. Whether that is so; else, and at `OutOfMemory`, the router is
-    /// as it was. What is wanted is made only for levels that aren't marked (own).
-    pub(crate) fn calm_second(
-        &mut self,
+    /// The plan of a second; `None` where an own LSP is to be issued or purged in it, or an entry's time ends. What is wanted
+    /// is made only for levels that aren't marked (own).
+    pub(crate) fn plan_second<'a>(
+        &self,
         following: &Following,
-        marks: &mut Marks,
-    ) -> Result<bool, OutOfMemory>
-        requires reached { IsReached self.old }
-        requires following { IsFollowing (outlook_of self.old) following.now }
-        requires marks { AreTrue marks.old self.old }
-        ensures state { IfOk result (λ calm. calm ≡ true → self.new ≡ (settled
-            (record { router = second given self.old; reply = Done })).router) }
-        ensures counts { IfOk result (λ calm. calm ≡ true → SameCounts self.old self.new) }
-        ensures other { IfOk result (λ calm. calm ≡ false → self.new ≡ self.old) }
-        ensures err { OnErr result (self.new ≡ self.old) }
-        ensures marks { outlook_of self.new ≡ outlook_of self.old → AreTrue marks.new self.new }
+        marks: Marks,
+    ) -> Result<Option<Plan<'a>>, OutOfMemory>
+        requires reached { IsReached self.now }
+        requires following { IsFollowing (outlook_of self.now) following.now }
+        requires marks { AreTrue marks self.now }
+        ensures { IfOk result (λ o. IfSome o (IsPlan self.now model.Second)) }
     {
         let circuits = circuits_later(self.alloc, &self.circuits)?;
         let keeps = keep_faces(&self.circuits, &circuits);
         let one = match self.calm_level(&circuits, Level::One, following, keeps && marks.one) {
             Ok(Some(one)) => one,
-            Ok(None) => return Ok(false),
+            Ok(None) => return Ok(None),
             Err(error) => return Err(error),
         };
         let two = match self.calm_level(&circuits, Level::Two, following, keeps && marks.two) {
             Ok(Some(two)) => two,
-            Ok(None) => return Ok(false),
+            Ok(None) => return Ok(None),
             Err(error) => return Err(error),
         };
-        pass_in_place(&mut self.one, &circuits, Level::One);
-        pass_in_place(&mut self.two, &circuits, Level::Two);
+        Ok(Some(Plan {
+            deed: Deed::Second { circuits },
+            reply: Reply::Done,
+            told: Told::Nothing,
+            marks: Marks { one, two },
+        }))
+    }
+
+    /// A second passes, as it was planned by these copies of the circuits.
+    pub(crate) fn second_passed(&mut self, circuits: &[Circuit])
+        requires { IsSecondReady self.old circuits.now }
+        ensures { self.new ≡ (step given self.old model.Second).router }
+    {
+        pass_in_place(&mut self.one, circuits, Level::One);
+        pass_in_place(&mut self.two, circuits, Level::Two);
         pass_circuits(&mut self.circuits);
         idle_all(&mut self.circuits, self.desk.system());
-        *marks = Marks { one, two };
-        Ok(true)
     }
 
     /// Whether none of a level's own LSPs is to be issued or purged within a second, and no entry's time
@@ -87,13 +98,13 @@ impl Machine {
             → IfOk result (λ o. IfSome o (λ settled.
             level_later (level_of self.now level) level circuits.now ≡ own.renew given r
             level (level_later (level_of self.now level) level circuits.now)
-            (model.wanted given self.now r level))) }
-        ensures counts { IfOk result (λ o. IfSome o (λ settled. (list : List Circuit)
-            → (level_later (level_of self.now level) level list).book.changes
-            ≡ (book_of self.now level).changes)) }
+            (wants.wanted given self.now r level))) }
+        ensures keys { IfOk result (λ o. IfSome o (λ settled. (list : List Circuit) (id : ℕ)
+            → SameKey (cell_at (book_of self.now level) id)
+            (cell_at (level_later (level_of self.now level) level list).book id))) }
         ensures settled { (r : Router) → r.config ≡ self.now.config
             → faces r.circuits ≡ faces circuits.now → IfOk result (λ o. o ≡ Some true
-            → IsSettled (level_of self.now level).own (model.wanted given self.now r level)) }
+            → IsSettled (level_of self.now level).own (wants.wanted given self.now r level)) }
     {
         let on = self.level(level);
         if !lasts(on.book()) {

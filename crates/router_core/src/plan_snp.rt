@@ -1,0 +1,105 @@
+//! The plan of a sequence number PDU: whether it is dropped, and else whether none of its entries changes a key.
+ghost use Rattle.std.specs.Prelude.{◌≡◌, ◌-◌, true, IfOk, IfSome};
+ghost use Rattle.isis_base.specs.Identifiers.{lsp_number};
+ghost use Rattle.isis_model.specs.declared.whose.Whose.{Whose};
+ghost use Rattle.isis_model.specs.Books.{cell_at};
+ghost use Rattle.isis_model.specs.Events as model;
+ghost use Rattle.isis_model.specs.Numbers.{system_number};
+ghost use Rattle.isis_model.specs.Routers.{book_of};
+ghost use Rattle.isis_model.specs.SnpTable.{snp_case};
+ghost use Rattle.flag_sync.specs.BookStates.{book_of as state_of};
+ghost use Rattle.flag_sync.specs.Heard.{entries_of, entry_of};
+ghost use Rattle.router_desk.specs.Opening.{envelope_of};
+ghost use Rattle.router_reading.specs.Heard.{range_of};
+ghost use Rattle.router_routes.specs.Outlooks.{outlook_of};
+ghost use Rattle.router_routes.specs.Following.{IsFollowing};
+ghost use Rattle.router_core.specs.Calm.{AreClear, is_calm_entry};
+ghost use Rattle.router_core.specs.Events.{IsThere};
+ghost use Rattle.router_core.specs.Plans.{IsPlan};
+ghost use Rattle.router_core.specs.Reached.{IsReached};
+ghost use Rattle.router_core.specs.Settled.{AreTrue};
+
+use crate::machine::Machine;
+use crate::marks::Marks;
+use crate::plan::{Deed, Plan};
+use crate::reached::outlook_laws;
+use crate::reply::Reply;
+use crate::told::Told;
+use flag_sync::Book;
+use isis_base::{Level, LspEntry, LspId, Order3, OutOfMemory, SystemId, newer};
+use router_desk::Envelope;
+use router_routes::Following;
+
+impl Machine {
+    /// The plan of a sequence number PDU that came (ISO 10589 7.3.15.2); `None` where one of its entries may change a key.
+    pub(crate) fn plan_snp<'a>(
+        &self,
+        circuit: u8,
+        level: Level,
+        from: (Envelope, SystemId),
+        range: Option<(LspId, LspId)>,
+        entries: &'a [LspEntry],
+        following: &Following,
+        marks: Marks,
+    ) -> Result<Option<Plan<'a>>, OutOfMemory>
+        requires there { IsThere self.now circuit }
+        requires reached { IsReached self.now }
+        requires following { IsFollowing (outlook_of self.now) following.now }
+        requires marks { AreTrue marks self.now }
+        ensures { IfOk result (λ o. IfSome o (IsPlan self.now (model.Take (circuit - 1)
+            (model.SnpHeard level (envelope_of from.0) (system_number from.1) (range_of range)
+            (entries_of entries.now))))) }
+    {
+        outlook_laws();
+        let (envelope, source) = from;
+        match self.snp_cause(circuit, level, envelope, source, range.is_none()) {
+            Some(cause) => return Ok(Some(self.plan_drop(cause, marks))),
+            None => {}
+        }
+        if !self.are_clear(level, entries) {
+            return Ok(None);
+        }
+        let drafts = self.answers(level, entries, following)?;
+        Ok(Some(Plan {
+            deed: Deed::Snp {
+                circuit,
+                level,
+                range,
+                entries,
+                drafts,
+            },
+            reply: Reply::Done,
+            told: Told::Nothing,
+            marks: marks.after(),
+        }))
+    }
+
+    /// Whether no entry of a sequence number PDU changes a key.
+    fn are_clear(&self, level: Level, entries: &[LspEntry]) -> bool
+        ensures { result ≡ true → AreClear (book_of self.now level) (entries_of entries.now) }
+    {
+        let mut left = entries;
+        while let [entry, more @ ..] = left {
+            if !is_calm_entry(self.level(level).book(), entry) {
+                return false;
+            }
+            left = more;
+        }
+        true
+    }
+}
+
+/// Whether an entry changes no key, whosever the LSP is: it sets no flag, or is of another key than what is held.
+fn is_calm_entry(book: &Book, entry: &LspEntry) -> bool
+    ensures { (whose : Whose) → result ≡ true → is_calm_entry (snp_case whose
+        (cell_at (state_of book.now) (lsp_number entry.now.id)) (entry_of entry.now)) ≡ true }
+{
+    if !book.would_flag(entry) {
+        return true;
+    }
+    match newer(book.key(entry.id), entry.key()) {
+        Order3::Same => false,
+        Order3::Older => true,
+        Order3::Newer => true,
+    }
+}
