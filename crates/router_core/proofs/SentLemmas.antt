@@ -424,7 +424,7 @@ pub pulled-step : (r s t : Router) (place : ℕ) (c : Circuit) → AreIdle r →
 unfolding step
 pulled-step r s t place c idles n e f = pulled-state r s t place c idles n e f
 
-after-idle : Router → Router → ℕ → Option Circuit → Router
+abbrev after-idle : Router → Router → ℕ → Option Circuit → Router
 after-idle r s place None = r
 after-idle r s place (Some c) = with_circuit s place (idle s.config place c)
 

@@ -5,5 +5,5 @@ use Rattle.router_core.proofs.SettledLemmas.{marks-keep}
 use Rattle.router_core.proofs.marks.Marks.after.Goals as goal
 
 -- src/marks.rt
-pub returns-then-aside : goal.returns-then-aside
-returns-then-aside c = λ r event true calm aside stays. (true, marks-keep c.args.self r (step given r event).router (step-keeps given r event calm (aside c.if-aside.true)) stays true)
+pub returns : goal.returns
+returns c = λ r event true aside stays calm. marks-keep c.args.self r (step given r event).router (step-keeps given r event calm aside) stays true
