@@ -7,6 +7,7 @@ use Rattle.isis_model.specs.declared.drop_name.DropName.{DropName}
 use Rattle.isis_model.specs.declared.drop_name.DropName.TheVariants.{NoAdjacency, StoreFull}
 use Rattle.isis_model.specs.declared.lsp_case.LspCase.{LspCase}
 use Rattle.isis_model.specs.declared.lsp_case.LspCase.TheVariants as case
+use Rattle.isis_model.specs.AdjacencyLaws.{place_of}
 use Rattle.isis_model.specs.Cells.{Heard}
 use Rattle.isis_model.specs.Events as model
 use Rattle.isis_model.specs.Places.{nth}
@@ -24,12 +25,14 @@ use Rattle.router_routes.specs.Outlooks.{outlook_of}
 use Rattle.router_core.specs.declared.marks.Marks.{Marks}
 use Rattle.router_core.specs.declared.plan.Plan.{Plan}
 use Rattle.router_core.specs.declared.plan.Deed.TheVariants as deed
+use Rattle.router_core.specs.declared.reply.Reply.{Reply}
 use Rattle.router_core.specs.declared.reply.Reply.TheVariants as reply
 use Rattle.router_core.specs.declared.told.Told.TheVariants as told
 use Rattle.router_core.specs.Calm.{is_calm_answer}
 use Rattle.router_core.specs.Events.{IsThere}
 use Rattle.router_core.specs.Givens.{given}
-use Rattle.router_core.specs.Plans.{AreTold, committed, IsPlan}
+use Rattle.router_core.specs.Plans.{AreTold, committed, IsPlan, IsSound}
+use Rattle.router_core.specs.Reached.{IsReached}
 use Rattle.router_core.specs.Replies.{Answers}
 use Rattle.router_core.specs.Settled.{AreTrue}
 use Rattle.router_core.proofs.IdleLemmas.{from-some}
@@ -95,3 +98,20 @@ clash above e = cc
 pub no-bid : (row : LspAnswer) (met : LspCase) (lsp : LspHeard) → row ≡ answer_of met lsp → (is_calm_answer row ≡ true) ⊎ (row ≡ answer.Stored) → met ≡ case.Outbid → ⊥
 no-bid row met lsp is (inl calm) e = no (sym (ap is_calm_answer (is ∙ ap (λ (m : LspCase). answer_of m lsp) e)) ∙ calm)
 no-bid row met lsp is (inr stored) e = clash _ (sym stored ∙ (is ∙ ap (λ (m : LspCase). answer_of m lsp) e))
+
+-- ---- the plan of an event is sound, and what comes of it is the event's
+
+pub sound-of : (r : Router) (event : model.Event) (plan : Plan) → IsPlan r event plan → IsReached (step given r event).router → IsSound r plan
+sound-of r event plan is reached =
+    let same = sym is.state in
+    record {
+      ready = is.ready;
+      told = subst (λ (q : Router). AreTold (outlook_of r) (outlook_of q) plan.told) same is.told;
+      marks = subst (AreTrue plan.marks) same is.marks;
+      reached = subst IsReached same reached;
+    }
+
+pub planned-reply : (r t : Router) (event : model.Event) (plan : Plan) (a : Reply) → IsPlan r event plan → t ≡ committed r plan.deed → a ≡ plan.reply → Answers t (place_of event) (step given r event).reply a
+planned-reply r t event plan a is state same =
+    subst (λ (q : Router). Answers q (place_of event) (step given r event).reply a) (sym (state ∙ is.state))
+    (subst (λ (x : Reply). Answers (step given r event).router (place_of event) (step given r event).reply x) (sym same) is.reply)

@@ -116,3 +116,10 @@ pub record IsPlan (r : Router) (event : model.Event) (plan : Plan) : Type 0 wher
       plan.reply
   pub told : AreTold (outlook_of r) (outlook_of (step given r event).router) plan.told
   pub marks : AreTrue plan.marks (step given r event).router
+
+-- a deed is ready, and the plan tells and marks what it makes of the router, which can be reached (own)
+pub record IsSound (r : Router) (plan : Plan) : Type 0 where
+  pub ready : IsReady r plan.deed
+  pub told : AreTold (outlook_of r) (outlook_of (committed r plan.deed)) plan.told
+  pub marks : AreTrue plan.marks (committed r plan.deed)
+  pub reached : IsReached (committed r plan.deed)

@@ -22,6 +22,7 @@ ghost use Rattle.router_routes.specs.Candidates.{attached_of, AreRoutesOf};
 ghost use Rattle.router_routes.specs.Following.{IsFollowing, IsLevel};
 ghost use Rattle.router_core.specs.Givens.{given};
 ghost use Rattle.router_core.specs.Events.{event_of, Fits, IsThere};
+ghost use Rattle.router_core.specs.Plans.{committed, IsSound};
 ghost use Rattle.router_core.specs.Replies.{Answers};
 ghost use Rattle.router_core.specs.Reached.{IsReached};
 ghost use Rattle.router_core.specs.Reads.{event_in, FitsRead};
@@ -130,10 +131,19 @@ impl Router {
         reached_laws();
         event_octets(&event);
         let read = self.machine.read(&event)?;
-        let plan = match self.machine.plan(&read, &self.following, self.marks)? {
-            Some(plan) => plan,
-            None => return self.step_unplanned(&read),
-        };
+        match self.machine.plan(&read, &self.following, self.marks)? {
+            Some(plan) => self.step_planned(plan),
+            None => self.step_unplanned(&read),
+        }
+    }
+
+    /// What was planned is done, and the answer is the plan's. At `OutOfMemory` the router is as it was.
+    fn step_planned(&mut self, plan: Plan<'_>) -> Result<Reply, OutOfMemory>
+        requires { IsSound self.old plan }
+        ensures state { OnOk result (self.new ≡ committed self.old plan.entry.deed) }
+        ensures reply { IfOk result (λ reply. reply ≡ plan.entry.reply) }
+        ensures err { OnErr result (self.new ≡ self.old) }
+    {
         let next = self.machine.following_told(&self.following, &plan.told)?;
         let Plan {
             deed,
