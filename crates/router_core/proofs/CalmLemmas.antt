@@ -13,13 +13,13 @@ use Rattle.isis_model.specs.Maps.{find, each}
 use Rattle.isis_model.specs.Sets.{has}
 use Rattle.isis_model.specs.Places.{nth}
 use Rattle.isis_model.specs.Ranks.{is_purge, is_live}
-use Rattle.isis_model.specs.Cells.{Cell, Heard, empty_cell}
+use Rattle.isis_model.specs.Cells.{Cell, Heard}
 use Rattle.isis_model.specs.Books.{Book, cell_at, rank_of, checksum_of, set_cell, is_full}
 use Rattle.isis_model.specs.Deeds.{content_of}
 use Rattle.isis_model.specs.ContentLaws.{SameKey}
 use Rattle.isis_model.specs.LspTable.{is_issued, is_unissued, differs, is_newer, lsp_case, lsp_row, met, hear_lsp}
 use Rattle.isis_model.specs.SnpTable.{SnpEntry, snp_case, snp_row, is_missed, hear_entry, hear_range}
-use Rattle.isis_model.specs.Openings.{close, marked, open_up, set_open, silenced}
+use Rattle.isis_model.specs.Openings.{close, marked, open_up, set_open}
 use Rattle.isis_model.specs.Takes.{Scene, whose_of, lsp_taken, take_lsp, entry_taken, take_entry, take_entries, take_range, take_snp}
 use Rattle.isis_model.specs.Routers.{Circuit, LevelState, Router, level_of, book_of, with_level, with_circuit, is_open}
 use Rattle.isis_model.specs.Adjacencies.{Hello, Handshake, common_of, is_same}
@@ -27,7 +27,7 @@ use Rattle.isis_model.specs.Hellos.{follow_circuit, follow, point_circuit, lan_c
 use Rattle.isis_model.specs.Givens.{Given}
 use Rattle.isis_model.specs.Both.{at, alone}
 use Rattle.isis_model.specs.SnpLists.{owed}
-use Rattle.isis_model.specs.Pulls.{Sending, on_circuit, at_circuit, pull_hello, is_csnp_due, pull_csnp, srm_due, sent_cell, sent, pull_lsps, answered, pull_psnp, pull_level, pull}
+use Rattle.isis_model.specs.Pulls.{Sending, on_circuit, at_circuit, pull_hello, is_csnp_due, pull_csnp, srm_due, sent, pull_lsps, answered, pull_psnp, pull_level, pull}
 use Rattle.isis_model.specs.Receiving.{scene_of, greeted, taken, take_or_drop, take, drop_of}
 use Rattle.isis_model.specs.Events.{Message, Refused, PointHelloHeard, LanHelloHeard, LspHeard, SnpHeard, Event, Second, Take, Pull, Metric, Overload, Prefix}
 use Rattle.isis_model.specs.Steps.{step, with_metric}

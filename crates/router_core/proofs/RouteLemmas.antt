@@ -31,7 +31,7 @@ use Rattle.isis_model.specs.Numbers.{lsp_id, system_id, system_number}
 use Rattle.isis_datagram.specs.Reading.{runs_of}
 use Rattle.lsp_store.specs.declared.entry.Entry.{Entry}
 use Rattle.lsp_store.specs.Databases as store
-use Rattle.lsp_store.specs.Databases.{Database, live_of}
+use Rattle.lsp_store.specs.Databases.{Database}
 use Rattle.flag_sync.specs.declared.flag_row.FlagRow.{FlagRow}
 use Rattle.flag_sync.specs.BookStates as sync
 use Rattle.flag_sync.specs.BookStates.{BookState, cells_of}

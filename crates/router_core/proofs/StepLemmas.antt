@@ -8,7 +8,7 @@ use Rattle.isis_model.specs.Routers.{Circuit, Router}
 use Rattle.isis_model.specs.Receiving.{drop_of, take, take_or_drop}
 use Rattle.isis_model.specs.Drops.{count_drop}
 use Rattle.isis_model.specs.declared.drop_name.DropName.{DropName}
-use Rattle.isis_model.specs.Steps.{sent_all, step}
+use Rattle.isis_model.specs.Steps.{step}
 use Rattle.isis_model.specs.Seconds.{second}
 use Rattle.isis_model.specs.AdjacencyLaws.{place_of}
 use Rattle.router_desk.specs.declared.cause.DropCause.{DropCause}

@@ -1,7 +1,7 @@
 //! The parts of a router, and what they have in common.
-ghost use Rattle.std.specs.Prelude.{◌≡◌, ◌-◌, ◌<◌, length, Some, None, IfSome};
-ghost use Rattle.isis_model.specs.Places.{nth, with_nth};
-ghost use Rattle.isis_model.specs.Drops.{count_drop, drops_of};
+ghost use Rattle.std.specs.Prelude.{◌≡◌, ◌-◌, ◌<◌, IfSome};
+ghost use Rattle.isis_model.specs.Places.{nth};
+ghost use Rattle.isis_model.specs.Drops.{count_drop};
 ghost use Rattle.isis_model.specs.Hellos.{follow};
 ghost use Rattle.isis_model.specs.Elections.{idle};
 ghost use Rattle.isis_model.specs.Routers.{with_circuit};
@@ -9,7 +9,7 @@ ghost use Rattle.router_core.specs.Events.{IsThere};
 
 use crate::at::idle_at;
 use crate::prefixes::OwnPrefixes;
-use isis_base::{Level, OutOfMemory};
+use isis_base::Level;
 use isis_model::DropName;
 use isis_model::laws::states::count_laws;
 use router_circuits::Circuit;

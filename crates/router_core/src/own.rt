@@ -1,5 +1,5 @@
 //! What hellos look at of a router.
-ghost use Rattle.std.specs.Prelude.{◌≡◌, ◌<◌, ◌^◌, ◌*◌, ◌+◌, ◌≤◌};
+ghost use Rattle.std.specs.Prelude.{◌≡◌, ◌<◌, ◌^◌, ◌*◌, ◌+◌};
 ghost use Rattle.isis_model.specs.Configs as configs;
 ghost use Rattle.router_circuits.specs.Hellos.{IsOwn};
 

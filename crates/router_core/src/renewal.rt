@@ -7,7 +7,6 @@ ghost use Rattle.isis_model.specs.OwnLsps as own;
 ghost use Rattle.isis_model.specs.Routers.{Router, level_of};
 ghost use Rattle.isis_model.specs.Sorted.{RisesFrom};
 ghost use Rattle.isis_model.specs.Wanted as model;
-ghost use Rattle.lsp_octets.specs.Drafts.{DraftView};
 ghost use Rattle.lsp_wanted.specs.Views.{contents_of, wanted_of};
 ghost use Rattle.router_levels.specs.Drafts.{wants_of};
 ghost use Rattle.router_levels.specs.Views.{state_of};

@@ -1,7 +1,6 @@
 //! A router.
 ghost use Rattle.std.specs.Prelude.{◌≡◌, ◌≤◌, ◌-◌, true, length, OnOk, OnErr, IfOk, IfErr, IfSome, MatchOption, false, is_some};
 ghost use Rattle.std.specs.Option.{option_map};
-ghost use Rattle.std.specs.Result.{result_err};
 ghost use Rattle.isis_model.specs.Both.{at};
 ghost use Rattle.isis_model.specs.Places.{nth};
 ghost use Rattle.isis_model.specs.Drops.{drops_of};

@@ -1,5 +1,5 @@
 //! Sequence number PDUs that are taken.
-ghost use Rattle.std.specs.Prelude.{◌≡◌, ◌≤◌, ◌-◌, ◌||◌, not, is_some, option_copied, option_map, Option, IfSome, OnOk, OnErr, IsSome};
+ghost use Rattle.std.specs.Prelude.{◌≡◌, ◌-◌, ◌||◌, not, is_some, option_map, Option, IfSome, OnOk, OnErr};
 ghost use Rattle.isis_model.specs.Both.{at};
 ghost use Rattle.isis_model.specs.Places.{nth};
 ghost use Rattle.isis_model.specs.Elections.{is_designated};
@@ -9,9 +9,7 @@ ghost use Rattle.isis_model.specs.Takes as takes;
 ghost use Rattle.isis_model.specs.Receiving.{is_from, scene_of, sender_of, snp_drop};
 ghost use Rattle.isis_model.specs.Numbers.{system_number};
 ghost use Rattle.flag_sync.specs.Heard.{entries_of};
-ghost use Rattle.flag_sync.specs.BookStates.{IsCircuit};
-ghost use Rattle.router_levels.specs.Views.{state_of};
-ghost use Rattle.router_levels.specs.Drafts.{AreAnswers, AreReady, range_of, scene_with};
+ghost use Rattle.router_levels.specs.Drafts.{AreAnswers, AreReady, range_of};
 ghost use Rattle.router_desk.specs.Causes.{name_of};
 ghost use Rattle.router_desk.specs.Opening.{envelope_of};
 ghost use Rattle.router_core.specs.Givens.{given};

@@ -1,5 +1,5 @@
 //! The own LSPs that are wanted of the router as it is, and drafts of them.
-ghost use Rattle.std.specs.Prelude.{◌≡◌, ◌≤◌, ◌+◌, ◌*◌, ℕ, List, Option, map, length, is_some, IfOk, IfSome, option_copied, option_map};
+ghost use Rattle.std.specs.Prelude.{◌≡◌, ℕ, List, Option, map, is_some, IfOk, IfSome, option_copied, option_map};
 ghost use Rattle.std.specs.List.{AllByRecursion};
 ghost use Rattle.isis_base.specs.Identifiers.{lsp_number};
 ghost use Rattle.isis_model.specs.Both.{at};

@@ -16,7 +16,6 @@ use Rattle.router_core.specs.Replies.{Answers, outcome}
 use Rattle.router_core.specs.declared.reply.Reply.TheVariants as reply
 use Rattle.router_core.proofs.IdleLemmas.{each-some, from-some}
 use Rattle.router_core.proofs.PlanLemmas.{caused}
-use Rattle.router_core.proofs.SettledLemmas.{not-false}
 use Rattle.router_core.proofs.StepLemmas.{taken-step}
 use Rattle.router_core.proofs.TakenLemmas.{level-taken, none-same, range-same}
 use Rattle.router_core.proofs.machine.Machine.plan_snp.Goals as goal
@@ -54,7 +53,7 @@ returns c =
     (sym (from-some (λ y. None ≡ snp_drop r place y l from source c.is_none.result) (nth r.circuits place) x e c.in-None.ensures))) refl
     (ap (λ (range : Option (ℕ × ℕ)). with_level r l (heard range)) (range-same c.args.range)) refl)) in
     let u = step given r (model.Take place m) in
-    let calm = c.are_clear.ensures (not-false c.are_clear.result c.if-not-are_clear.false) in
+    let calm = c.are_clear.ensures c.if-not-are_clear.false in
     let stays = c.outlook_laws.ensures.calm r (model.Take place m) c.requires.reached calm in
     record {
       ready = record { there = c.requires.there; ready = c.in_ok-drafts.ensures.ready; said = c.in_ok-drafts.ensures.said };

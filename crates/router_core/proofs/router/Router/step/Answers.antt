@@ -1,10 +1,8 @@
-use Rattle.std.proofs.Common.{◌≡◌, ◌∙◌, sym, subst}
+use Rattle.std.proofs.Common.{sym, subst}
 use Rattle.isis_model.specs.Events.{Event}
 use Rattle.isis_model.specs.Routers.{Router}
-use Rattle.isis_model.specs.Steps.{step}
 use Rattle.router_core.specs.Events.{event_of, Fits}
-use Rattle.router_core.specs.Givens.{given}
-use Rattle.router_core.specs.Plans.{IsPlan}
+use Rattle.router_core.specs.Plans.{IsPlan, IsSound}
 use Rattle.router_core.specs.Reads.{event_in}
 use Rattle.router_core.proofs.IdleLemmas.{from-some}
 use Rattle.router_core.proofs.PlanLemmas.{sound-of}
@@ -17,4 +15,5 @@ step_planned-requires c =
     let event = event_of m c.args.event in
     let plan = subst (λ (e : Event). IsPlan m e c.in-Some.plan) c.in_ok-read.ensures.says (from-some (IsPlan m (event_in c.in_ok-read.read)) c.in_ok-plan.field-0 c.in-Some.plan c.in-Some.is c.in_ok-plan.ensures) in
     let fits = subst (λ (r : Router). Fits r c.args.event) (sym c.self.view_is) c.requires in
-    sound-of m event c.in-Some.plan plan (c.reached_laws.ensures.step m c.args.event c.self.invariant.reached fits c.event_octets.ensures)
+    subst (λ (r : Router). IsSound r c.in-Some.plan) c.self.view_is
+    (sound-of m event c.in-Some.plan plan (c.reached_laws.ensures.step m c.args.event c.self.invariant.reached fits c.event_octets.ensures))
