@@ -1,5 +1,7 @@
--- What a node tells once an LSP of it is stored, and that nothing else changes of what routes look at.
+-- What a node tells once an LSP of it met a row, and that nothing else changes of what routes look at.
 use Rattle.std.proofs.Common.{◌≡◌, ◌∙◌, ℕ, ◌+◌, ◌%◌, ◌<◌, ◌≤◌, ◌⊎◌, ◌==◌, ◌&&◌, nat_le, nat_lt, Bool, true, false, List, [], ◌∷◌, ◌++◌, length, MatchOption, Option, Some, None, refl, sym, ap, subst, arith, if◌then◌else◌, inl, inr, append-nil}
+use Rattle.std.specs.Prelude.{◌||◌}
+use Rattle.std.specs.Option.{option_map}
 use Rattle.std.specs.List.{AllByRecursion}
 use Rattle.std.specs.Int.{from_be_bytes, w64}
 use Rattle.std.proofs.lemmas.Bool.{cases_eq, cases_lt, eq-eqb, ne_eqb, eqb-true}
@@ -8,8 +10,8 @@ use Rattle.isis_base.specs.declared.identifiers.NodeId.{NodeId}
 use Rattle.isis_base.specs.declared.identifiers.LspId.{LspId}
 use Rattle.isis_base.specs.Identifiers.{IsId, lsp_number}
 use Rattle.isis_base.proofs.ArrayLemmas.{lsp_number-one}
-use Rattle.isis_base.specs.Keys.{rank, entry_rank}
-use Rattle.isis_model.specs.Ranks.{is_live, is_purge}
+use Rattle.isis_base.specs.Keys.{rank}
+use Rattle.isis_model.specs.Ranks.{is_live, is_purge, number_of as rank_number, purge_rank}
 use Rattle.isis_base.specs.declared.level.Level.{Level}
 use Rattle.isis_base.specs.declared.level.Level.TheVariants as level
 use Rattle.isis_model.specs.declared.whose.Whose.{Whose}
@@ -18,9 +20,9 @@ use Rattle.isis_model.specs.declared.lsp_case.LspCase.TheVariants as lsp
 use Rattle.isis_model.specs.Both.{Both, at}
 use Rattle.isis_model.specs.Sets.{without}
 use Rattle.isis_model.specs.Places.{nth}
-use Rattle.isis_model.specs.Cells.{Cell, Heard, kept, flagged}
+use Rattle.isis_model.specs.Cells.{Cell, Heard, flagged, kept, purge_of, purged}
 use Rattle.isis_model.specs.Books.{Book, cell_at, set_cell}
-use Rattle.isis_model.specs.LspTable.{ssn_stored, lsp_row, met, hear_lsp}
+use Rattle.isis_model.specs.LspTable.{differs, hear_lsp, is_issued, is_newer, is_unissued, lsp_case, lsp_row, met, ssn_stored}
 use Rattle.isis_model.specs.Takes.{Scene, whose_of, lsp_taken, take_lsp}
 use Rattle.isis_model.specs.Routers.{Circuit, LevelState, Router, book_of, level_of, with_level}
 use Rattle.isis_model.specs.Givens.{Given}
@@ -38,7 +40,6 @@ use Rattle.lsp_store.proofs.MapLemmas.{rises-less, rises-above, put-below, put-a
 use Rattle.flag_sync.specs.declared.flag_row.FlagRow.{FlagRow}
 use Rattle.flag_sync.specs.FlagRows.{cell_of}
 use Rattle.flag_sync.specs.declared.heard.LspHeard as heard
-use Rattle.flag_sync.specs.declared.heard.LspAnswer.TheVariants as answer
 use Rattle.flag_sync.specs.Heard.{heard_of, answer_of}
 use Rattle.flag_sync.specs.BookStates as sync
 use Rattle.flag_sync.specs.BookStates.{BookState, cells_of}
@@ -51,6 +52,7 @@ use Rattle.router_routes.specs.Outlooks.{Outlook, outlook_of, prefixes_by, where
 use Rattle.router_routes.specs.Moved.{told_at, told_beside, beside, IsMovedAt}
 use Rattle.router_core.proofs.RouteLemmas.{live-is, told-cells, SameConfig, step-config}
 use Rattle.router_core.specs.Givens.{given}
+use Rattle.router_core.specs.Plans.{IsTeller, is_moving}
 
 abbrev pub Entries : Type 0
 Entries = List (LspId × Entry)
@@ -275,44 +277,49 @@ told-rises least (x ∷ xs) rises = by-test (store.is_live x.1) refl (told-rises
 
 -- ---- through a step
 
--- the cell of an LSP that is stored
-abbrev pub stored : Book → ℕ → Heard → Cell
-stored book place h = flagged (kept h) (without book.opened place) (ssn_stored book.p2p place (cell_at book h.id))
-
-stored-heard : (book : Book) (place : ℕ) (w : Whose) (h : Heard) → met book w h ≡ lsp.Stored → hear_lsp book place w h ≡ set_cell book h.id (Some (stored book place h))
+-- the row's cell is put where it was
+put-heard : (book : Book) (place : ℕ) (w : Whose) (h : Heard) (cell : Cell) → lsp_row (met book w h) book.opened book.p2p place (cell_at book h.id) h ≡ Some cell → hear_lsp book place w h ≡ set_cell book h.id (Some cell)
 unfolding hear_lsp
-stored-heard book place w h e = ap (λ (row : LspCase). set_cell book h.id (lsp_row row book.opened book.p2p place (cell_at book h.id) h)) e
+put-heard book place w h cell e = ap (λ (o : Option Cell). set_cell book h.id o) e
 
-stored-book : (scene : Scene) (state : LevelState) (place : ℕ) (w : Whose) (h : Heard) → met state.book w h ≡ lsp.Stored → (take_lsp scene state place w h).book ≡ set_cell state.book h.id (Some (stored state.book place h))
+taken-heard : (scene : Scene) (state : LevelState) (place : ℕ) (w : Whose) (h : Heard) (row : LspCase) → (row ≡ lsp.Outbid → ⊥) → (lsp_taken scene state place w h row).book ≡ hear_lsp state.book place w h
+taken-heard scene state place w h lsp.Outbid apart = absurd (apart refl)
+taken-heard scene state place w h lsp.PurgedOwn apart = refl
+taken-heard scene state place w h lsp.AckPurge apart = refl
+taken-heard scene state place w h lsp.Confused apart = refl
+taken-heard scene state place w h lsp.Stored apart = refl
+taken-heard scene state place w h lsp.Same apart = refl
+taken-heard scene state place w h lsp.Older apart = refl
+
+put-book : (scene : Scene) (state : LevelState) (place : ℕ) (w : Whose) (h : Heard) (cell : Cell) → (met state.book w h ≡ lsp.Outbid → ⊥) → lsp_row (met state.book w h) state.book.opened state.book.p2p place (cell_at state.book h.id) h ≡ Some cell → (take_lsp scene state place w h).book ≡ set_cell state.book h.id (Some cell)
 unfolding take_lsp
-stored-book scene state place w h e =
-    let row : (lsp_taken scene state place w h (met state.book w h)).book ≡ hear_lsp state.book place w h = ap (λ (row : LspCase). (lsp_taken scene state place w h row).book) e in
-    row ∙ stored-heard state.book place w h e
+put-book scene state place w h cell apart e = taken-heard scene state place w h (met state.book w h) apart ∙ put-heard state.book place w h cell e
 
 set-cells : (book : Book) (id : ℕ) (cell : Cell) → (set_cell book id (Some cell)).cells ≡ model.put book.cells id cell
 unfolding set_cell
 set-cells book id cell = refl
 
-pub record IsStored (r t : Router) (l : Level) (place : ℕ) (h : Heard) : Type 0 where
-  pub cells : (book_of t l).cells ≡ model.put (book_of r l).cells h.id (stored (book_of r l) place h)
+pub record IsPut (r t : Router) (l : Level) (id : ℕ) (cell : Cell) : Type 0 where
+  pub cells : (book_of t l).cells ≡ model.put (book_of r l).cells id cell
   pub other : book_of t (beside l) ≡ book_of r (beside l)
 
-stored-level : (r : Router) (l : Level) (place : ℕ) (h : Heard) (s : LevelState) → s.book ≡ set_cell (book_of r l) h.id (Some (stored (book_of r l) place h)) → IsStored r (with_level r l s) l place h
-stored-level r level.One place h s e = record { cells = ap (λ (b : Book). b.cells) e ∙ set-cells (book_of r level.One) h.id (stored (book_of r level.One) place h); other = refl }
-stored-level r level.Two place h s e = record { cells = ap (λ (b : Book). b.cells) e ∙ set-cells (book_of r level.Two) h.id (stored (book_of r level.Two) place h); other = refl }
+put-level : (r : Router) (l : Level) (id : ℕ) (cell : Cell) (s : LevelState) → s.book ≡ set_cell (book_of r l) id (Some cell) → IsPut r (with_level r l s) l id cell
+put-level r level.One id cell s e = record { cells = ap (λ (b : Book). b.cells) e ∙ set-cells (book_of r level.One) id cell; other = refl }
+put-level r level.Two id cell s e = record { cells = ap (λ (b : Book). b.cells) e ∙ set-cells (book_of r level.Two) id cell; other = refl }
 
-settled-stored : (r : Router) (o : Outcome) (l : Level) (place : ℕ) (h : Heard) → IsStored r o.router l place h → IsStored r (settled o).router l place h
-settled-stored r o level.One place h s = record { cells = s.cells; other = s.other }
-settled-stored r o level.Two place h s = record { cells = s.cells; other = s.other }
+settled-put : (r : Router) (o : Outcome) (l : Level) (id : ℕ) (cell : Cell) → IsPut r o.router l id cell → IsPut r (settled o).router l id cell
+settled-put r o level.One id cell s = record { cells = s.cells; other = s.other }
+settled-put r o level.Two id cell s = record { cells = s.cells; other = s.other }
 
-pub step-stored : (given : Given) (r : Router) (place : ℕ) (l : Level) (from : Envelope) (h : Heard) (c : Circuit) → nth r.circuits place ≡ Some c → lsp_drop r place c l from h ≡ None → met (book_of r l) (whose_of r.config.system (level_of r l) h.id) h ≡ lsp.Stored → IsStored r (step given r (Take place (LspHeard l from h))).router l place h
+pub step-put : (given : Given) (r : Router) (place : ℕ) (l : Level) (from : Envelope) (h : Heard) (c : Circuit) (cell : Cell) → nth r.circuits place ≡ Some c → lsp_drop r place c l from h ≡ None → (met (book_of r l) (whose_of r.config.system (level_of r l) h.id) h ≡ lsp.Outbid → ⊥)
+    → lsp_row (met (book_of r l) (whose_of r.config.system (level_of r l) h.id) h) (book_of r l).opened (book_of r l).p2p place (cell_at (book_of r l) h.id) h ≡ Some cell → IsPut r (step given r (Take place (LspHeard l from h))).router l h.id cell
 unfolding step
-step-stored given r place l from h c there kept met =
+step-put given r place l from h c cell there kept apart row =
     let state = level_of r l in
     let w = whose_of r.config.system state h.id in
-    let book = stored-book (scene_of given r l) state place w h met in
-    let after = stored-level r l place h (take_lsp (scene_of given r l) state place w h) book in
-    rw (there, kept) (settled-stored r (taken given r place c (LspHeard l from h)) l place h after)
+    let book = put-book (scene_of given r l) state place w h cell apart row in
+    let after = put-level r l h.id cell (take_lsp (scene_of given r l) state place w h) book in
+    rw (there, kept) (settled-put r (taken given r place c (LspHeard l from h)) l h.id cell after)
 
 -- ---- what routes look at
 
@@ -346,14 +353,14 @@ moved-at r t same level.Two runs node here other others at_node rises =
       rises = rw still rises;
     }
 
--- ---- an LSP that is stored
+-- ---- the cell of a row, and what tells what it does
 
 live-whole : (rank : ℕ) → is_live rank ≡ true → is_purge rank ≡ false
 live-whole rank live = grind (arith, nat_tests, live)
 
 -- what an LSP that is stored tells is what an entry of it tells
-stored-tells : (book : Book) (place : ℕ) (h : Heard) (e : Entry) → rank e.key ≡ h.rank → e.flags ≡ h.flags → e.octets ≡ h.octets → Tells (stored book place h) e
-stored-tells book place h e key flags octets = record {
+stored-tells : (h : Heard) (e : Entry) (srm ssn : ℕ) → rank e.key ≡ h.rank → e.flags ≡ h.flags → e.octets ≡ h.octets → Tells (flagged (kept h) srm ssn) e
+stored-tells h e srm ssn key flags octets = record {
   live = live;
   says = λ is. let whole : is_purge h.rank ≡ false = live-whole h.rank (live ∙ is) in rw whole (λ i. told (sym flags i) (sym octets i));
 }
@@ -361,47 +368,108 @@ stored-tells book place h e key flags octets = record {
     live : is_live h.rank ≡ store.is_live e
     live = ap is_live (sym key) ∙ live-is e.key
 
+not-live : (n : ℕ) → is_live (purge_rank n) ≡ false
+not-live n = grind (arith, nat_tests)
+
+-- a purge tells nothing, nor does an empty entry
+purge-tells : (number flags : ℕ) (octets : List ℕ) (srm ssn : ℕ) (e : Entry) → e.key ≡ None → Tells (flagged (purge_of number flags octets) srm ssn) e
+purge-tells number flags octets srm ssn e key = record {
+  live = not-live number ∙ sym empty;
+  says = λ is. absurd (clash (sym empty ∙ is));
+}
+  where
+    empty : store.is_live e ≡ false
+    empty = ap store.is_live_key key
+
+    clash : false ≡ true → ⊥
+    clash e = cc
+
+fourth-of : (a b c d e f : Bool) → (if a then lsp.Outbid else (if b then lsp.PurgedOwn else (if c then lsp.AckPurge else (if d then lsp.Confused else (if e then lsp.Stored else (if f then lsp.Same else lsp.Older)))))) ≡ lsp.Confused → d ≡ true
+fourth-of true b c d e f h = cc
+fourth-of false true c d e f h = cc
+fourth-of false false true d e f h = cc
+fourth-of false false false true e f h = refl
+fourth-of false false false false true f h = cc
+fourth-of false false false false false true h = cc
+fourth-of false false false false false false h = cc
+
+none-differs : (rank checksum : ℕ) → differs None rank checksum ≡ true → ⊥
+none-differs rank checksum h = grind (arith, nat_tests, h)
+
+-- what is confused is held
+confused-held : (w : Whose) (held : Option Cell) (h : Heard) → lsp_case w held h ≡ lsp.Confused → (c : Cell) × (held ≡ Some c)
+unfolding lsp_case
+confused-held w None h e = absurd (none-differs h.rank h.checksum (fourth-of (is_issued w && (is_newer None h.rank || differs None h.rank h.checksum)) (is_unissued w && is_newer None h.rank && is_live h.rank) (is_purge h.rank && 0 == 0) (differs None h.rank h.checksum) (is_newer None h.rank) (0 == h.rank) e))
+confused-held w (Some c) h e = (c, refl)
+
+-- the cell that a row puts
+pub record Puts (row : LspCase) (opened p2p place : ℕ) (held : Option Cell) (h : Heard) (e : Entry) : Type 0 where
+  pub cell : Cell
+  pub is : lsp_row row opened p2p place held h ≡ Some cell
+  pub tells : Tells cell e
+  pub apart : row ≡ lsp.Outbid → ⊥
+
+row-puts : (row : LspCase) (l : heard.LspHeard) (w : Whose) (opened p2p place : ℕ) (held : Option Cell) (e : Entry) → is_moving (answer_of row l) ≡ true → IsTeller (answer_of row l) l e → lsp_case w held (heard_of l) ≡ row → Puts row opened p2p place held (heard_of l) e
+row-puts lsp.Outbid l w opened p2p place held e moving tells is = absurd (cc)
+row-puts lsp.PurgedOwn l w opened p2p place held e moving tells is = record {
+  cell = flagged (purge_of (rank_number (heard_of l).rank) l.flags l.octets.now) opened 0;
+  is = refl;
+  tells = purge-tells (rank_number (heard_of l).rank) l.flags l.octets.now opened 0 e tells;
+  apart = λ f. absurd (cc);
+}
+row-puts lsp.AckPurge l w opened p2p place held e moving tells is = absurd (cc)
+row-puts lsp.Confused l w opened p2p place held e moving tells is =
+    let c = confused-held w held (heard_of l) is in
+    record {
+      cell = flagged (purged c.0) opened 0;
+      is = ap (option_map (λ (x : Cell). flagged (purged x) opened 0)) c.1;
+      tells = purge-tells (rank_number c.0.rank) c.0.flags c.0.octets opened 0 e tells;
+      apart = λ f. absurd (cc);
+    }
+row-puts lsp.Stored l w opened p2p place held e moving tells is = record {
+  cell = flagged (kept (heard_of l)) (without opened place) (ssn_stored p2p place held);
+  is = refl;
+  tells = stored-tells (heard_of l) e (without opened place) (ssn_stored p2p place held) tells.0 tells.1 tells.2;
+  apart = λ f. absurd (cc);
+}
+row-puts lsp.Same l w opened p2p place held e moving tells is = absurd (cc)
+row-puts lsp.Older l w opened p2p place held e moving tells is = absurd (cc)
+
+-- ---- an LSP that met a row
+
 module _ (r : Router) (place : ℕ) (l : Level) (from : Envelope) (lsp_in : heard.LspHeard) (c : Circuit) (v : BookState) (e : Entry)
     (there : nth r.circuits place ≡ Some c) (kept : lsp_drop r place c l from (heard_of lsp_in) ≡ None)
-    (row : met (book_of r l) (whose_of r.config.system (level_of r l) (lsp_number lsp_in.entry.id)) (heard_of lsp_in) ≡ lsp.Stored)
+    (moving : is_moving (answer_of (met (book_of r l) (whose_of r.config.system (level_of r l) (lsp_number lsp_in.entry.id)) (heard_of lsp_in)) lsp_in) ≡ true)
+    (teller : IsTeller (answer_of (met (book_of r l) (whose_of r.config.system (level_of r l) (lsp_number lsp_in.entry.id)) (heard_of lsp_in)) lsp_in) lsp_in e)
     (runs : at r.config.runs l ≡ true) (of_book : sync.book_of v ≡ book_of r l) (long : length v.rows ≡ length v.store.entries)
-    (is : IsId lsp_in.entry.id) (ids : AllByRecursion (λ (p : LspId × Entry). IsId p.0) v.store.entries) (rises : RisesFrom 0 v.store.entries)
-    (key : rank e.key ≡ entry_rank lsp_in.entry) (flags : e.flags ≡ lsp_in.flags) (octets : e.octets ≡ lsp_in.octets.now) where
+    (is : IsId lsp_in.entry.id) (ids : AllByRecursion (λ (p : LspId × Entry). IsId p.0) v.store.entries) (rises : RisesFrom 0 v.store.entries) where
   abbrev pub event-of : Event
   event-of = Take place (LspHeard l from (heard_of lsp_in))
 
   abbrev id : LspId
   id = lsp_in.entry.id
 
-  pub stored-moves : IsMovedAt (outlook_of r) (outlook_of (step given r event-of).router) l lsp_in.entry.id.node (told_in (put (between (number_of lsp_in.entry.id.node 0) (number_of lsp_in.entry.id.node 255) v.store.entries) lsp_in.entry.id e))
-  stored-moves =
+  pub heard-moves : IsMovedAt (outlook_of r) (outlook_of (step given r event-of).router) l lsp_in.entry.id.node (told_in (put (between (number_of lsp_in.entry.id.node 0) (number_of lsp_in.entry.id.node 255) v.store.entries) lsp_in.entry.id e))
+  heard-moves =
       let t = (step given r event-of).router in
       let h = heard_of lsp_in in
       let entries = v.store.entries in
-      let cell = stored (book_of r l) place h in
-      let tells = stored-tells (book_of r l) place h e key flags octets in
-      let s = step-stored given r place l from h c there kept row in
-      let cells : (book_of r l).cells ≡ cells_of entries v.rows = ap (λ (b : Book). b.cells) (sym of_book) in
+      let b = book_of r l in
+      let w = whose_of r.config.system (level_of r l) (lsp_number id) in
+      let puts = row-puts (met b w h) lsp_in w b.opened b.p2p place (cell_at b h.id) e moving teller refl in
+      let s = step-put given r place l from h c puts.cell there kept puts.apart puts.is in
+      let cells : b.cells ≡ cells_of entries v.rows = ap (λ (x : Book). x.cells) (sym of_book) in
       let later : told_by (book_of t l).cells ≡ told_in (put entries id e) =
-      ap told_by s.cells ∙ ap (λ (m : List (ℕ × Cell)). told_by (model.put m (lsp_number id) cell)) cells ∙ put-told id cell e entries v.rows is tells long ids in
-      let before : told_by (book_of r l).cells ≡ told_in entries = ap told_by cells ∙ told-cells entries v.rows long ids in
+      ap told_by s.cells ∙ ap (λ (m : List (ℕ × Cell)). told_by (model.put m (lsp_number id) puts.cell)) cells ∙ put-told id puts.cell e entries v.rows is puts.tells long ids in
+      let before : told_by b.cells ≡ told_in entries = ap told_by cells ∙ told-cells entries v.rows long ids in
       moved-at r t (step-config given r event-of tt) l runs id.node (told_in (put (between (number_of id.node 0) (number_of id.node 255) entries) id e))
-      (ap (λ (b : Book). told_by b.cells) s.other)
+      (ap (λ (x : Book). told_by x.cells) s.other)
       (ap (told_beside id.node) later ∙ beside-put id e entries is ids ∙ sym (ap (told_beside id.node) before))
       (ap (told_at id.node) later ∙ here-put id e entries is (put-ids id e entries is ids) rises)
       (subst (RisesFrom 0) (sym later) (told-rises 0 (put entries id e) (put-rises entries 0 id e (omega arith) rises)))
 
-  pub stored-moves-in : (db : Database) → db ≡ v.store → IsMovedAt (outlook_of r) (outlook_of (step given r event-of).router) l lsp_in.entry.id.node (told_in (put (between (number_of lsp_in.entry.id.node 0) (number_of lsp_in.entry.id.node 255) db.entries) lsp_in.entry.id e))
-  stored-moves-in db same = subst (λ (d : Database). IsMovedAt (outlook_of r) (outlook_of (step given r event-of).router) l lsp_in.entry.id.node (told_in (put (between (number_of lsp_in.entry.id.node 0) (number_of lsp_in.entry.id.node 255) d.entries) lsp_in.entry.id e))) (sym same) stored-moves
-
-pub stored-row : (row : LspCase) (l : heard.LspHeard) → answer_of row l ≡ answer.Stored → row ≡ lsp.Stored
-stored-row lsp.Outbid l e = absurd (cc)
-stored-row lsp.PurgedOwn l e = absurd (cc)
-stored-row lsp.AckPurge l e = absurd (cc)
-stored-row lsp.Confused l e = absurd (cc)
-stored-row lsp.Stored l e = refl
-stored-row lsp.Same l e = absurd (cc)
-stored-row lsp.Older l e = absurd (cc)
+  pub heard-moves-in : (db : Database) → db ≡ v.store → IsMovedAt (outlook_of r) (outlook_of (step given r event-of).router) l lsp_in.entry.id.node (told_in (put (between (number_of lsp_in.entry.id.node 0) (number_of lsp_in.entry.id.node 255) db.entries) lsp_in.entry.id e))
+  heard-moves-in db same = subst (λ (d : Database). IsMovedAt (outlook_of r) (outlook_of (step given r event-of).router) l lsp_in.entry.id.node (told_in (put (between (number_of lsp_in.entry.id.node 0) (number_of lsp_in.entry.id.node 255) d.entries) lsp_in.entry.id e))) (sym same) heard-moves
 
 -- ---- what follows then
 

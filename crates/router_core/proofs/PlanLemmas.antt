@@ -16,7 +16,6 @@ use Rattle.isis_model.specs.Routers.{Circuit, Router, level_of, book_of}
 use Rattle.isis_model.specs.Sets.{has}
 use Rattle.isis_model.specs.Steps.{step}
 use Rattle.flag_sync.specs.declared.heard.LspAnswer.{LspAnswer}
-use Rattle.flag_sync.specs.declared.heard.LspAnswer.TheVariants as answer
 use Rattle.flag_sync.specs.declared.heard.LspHeard.{LspHeard}
 use Rattle.flag_sync.specs.Heard.{answer_of}
 use Rattle.router_desk.specs.declared.cause.DropCause.{DropCause}
@@ -31,7 +30,7 @@ use Rattle.router_core.specs.declared.told.Told.TheVariants as told
 use Rattle.router_core.specs.Calm.{is_calm_answer}
 use Rattle.router_core.specs.Events.{IsThere}
 use Rattle.router_core.specs.Givens.{given}
-use Rattle.router_core.specs.Plans.{AreTold, committed, IsPlan, IsSound}
+use Rattle.router_core.specs.Plans.{AreTold, committed, IsPlan, IsSound, is_moving}
 use Rattle.router_core.specs.Reached.{IsReached}
 use Rattle.router_core.specs.Replies.{Answers}
 use Rattle.router_core.specs.Settled.{AreTrue}
@@ -91,13 +90,10 @@ kept-room r circuit l from h here kept =
 no : false ≡ true → ⊥
 no e = cc
 
-clash : (above : ℕ) → answer.Stored ≡ answer.Outbid above → ⊥
-clash above e = cc
-
 -- what is planned outbids nothing
-pub no-bid : (row : LspAnswer) (met : LspCase) (lsp : LspHeard) → row ≡ answer_of met lsp → (is_calm_answer row ≡ true) ⊎ (row ≡ answer.Stored) → met ≡ case.Outbid → ⊥
+pub no-bid : (row : LspAnswer) (met : LspCase) (lsp : LspHeard) → row ≡ answer_of met lsp → (is_calm_answer row ≡ true) ⊎ (is_moving row ≡ true) → met ≡ case.Outbid → ⊥
 no-bid row met lsp is (inl calm) e = no (sym (ap is_calm_answer (is ∙ ap (λ (m : LspCase). answer_of m lsp) e)) ∙ calm)
-no-bid row met lsp is (inr stored) e = clash _ (sym stored ∙ (is ∙ ap (λ (m : LspCase). answer_of m lsp) e))
+no-bid row met lsp is (inr moving) e = no (sym (ap is_moving (is ∙ ap (λ (m : LspCase). answer_of m lsp) e)) ∙ moving)
 
 -- ---- the plan of an event is sound, and what comes of it is the event's
 

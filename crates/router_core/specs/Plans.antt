@@ -1,9 +1,11 @@
 -- What committing a plan makes of a router, what nodes tell then, and when a plan is an event's (own).
-use Rattle.std.specs.Prelude.{◌≡◌, ℕ, ◌-◌, ◌<◌, ◌≤◌, false, List, length, map, Option, is_some}
+use Rattle.std.specs.Prelude.{◌≡◌, ℕ, ◌-◌, ◌<◌, ◌≤◌, Bool, true, false, List, length, map, Option, None, is_some}
 use Rattle.isis_base.specs.declared.entry.LspEntry.{LspEntry}
 use Rattle.isis_base.specs.declared.level.Level.{Level}
 use Rattle.isis_base.specs.declared.level.Level.TheVariants as level
 use Rattle.isis_base.specs.Identifiers.{lsp_number}
+use Rattle.isis_base.specs.Keys.{entry_rank, rank}
+use Rattle.lsp_store.specs.declared.entry.Entry.{Entry}
 use Rattle.isis_model.specs.declared.lsp_case.LspCase.{LspCase}
 use Rattle.isis_model.specs.declared.lsp_case.LspCase.TheVariants as case
 use Rattle.isis_model.specs.AdjacencyLaws.{place_of}
@@ -18,6 +20,8 @@ use Rattle.isis_model.specs.Steps.{step}
 use Rattle.isis_model.specs.Takes.{whose_of, take_lsp, take_snp}
 use Rattle.isis_model.specs.Wanted.{wanted}
 use Rattle.flag_sync.specs.Heard.{entries_of, heard_of}
+use Rattle.flag_sync.specs.declared.heard.LspAnswer.{LspAnswer}
+use Rattle.flag_sync.specs.declared.heard.LspAnswer.TheVariants as answer
 use Rattle.flag_sync.specs.declared.heard.LspHeard.{LspHeard}
 use Rattle.lsp_octets.specs.Drafts.{DraftView}
 use Rattle.router_levels.specs.Drafts.{AreAnswers, AreReady, range_of}
@@ -49,6 +53,28 @@ row_met r level lsp =
 abbrev pub lsp_event : ℕ → Level → Envelope → LspHeard → model.Event
 lsp_event circuit level from lsp =
     model.Take (circuit - 1) (model.LspHeard level (envelope_of from) (heard_of lsp))
+
+-- the rows by which other LSPs are held live, and no own one is issued (ISO 10589 7.3.15.1, 7.3.16)
+abbrev pub is_moving : LspAnswer → Bool
+is_moving answer.Stored = true
+is_moving answer.Same = false
+is_moving answer.Older = false
+is_moving answer.Confused = true
+is_moving (answer.Outbid above) = false
+is_moving answer.PurgedOwn = true
+is_moving answer.AckPurge = false
+
+-- an entry tells routes what an LSP does that met a row: itself where it is stored, and nothing where what is kept is
+-- purged (own)
+abbrev pub IsTeller : LspAnswer → LspHeard → Entry → Type 0
+IsTeller answer.Stored lsp e =
+    (rank e.key ≡ entry_rank lsp.entry) × (e.flags ≡ lsp.flags) × (e.octets ≡ lsp.octets.now)
+IsTeller answer.Same lsp e = e.key ≡ None
+IsTeller answer.Older lsp e = e.key ≡ None
+IsTeller answer.Confused lsp e = e.key ≡ None
+IsTeller (answer.Outbid above) lsp e = e.key ≡ None
+IsTeller answer.PurgedOwn lsp e = e.key ≡ None
+IsTeller answer.AckPurge lsp e = e.key ≡ None
 
 -- what a deed makes of a router (own)
 abbrev pub committed : Router → Deed → Router

@@ -5,8 +5,9 @@ ghost use Rattle.isis_base.specs.Keys.{entry_rank, rank};
 ghost use Rattle.lsp_store.specs.Maps.{between, put};
 ghost use Rattle.lsp_store.specs.Places.{AllBelow};
 ghost use Rattle.lsp_view.specs.Views.{number_of};
+ghost use Rattle.router_core.specs.Plans.{IsTeller};
 
-use flag_sync::LspHeard;
+use flag_sync::{LspAnswer, LspHeard};
 use isis_base::{LspId, Octets, OutOfMemory};
 use lsp_store::{Entry, Store, TryCopy};
 use std::alloc::Global;
@@ -66,8 +67,29 @@ fn put_in(store: &mut Store, id: LspId, entry: Entry) -> Result<(), OutOfMemory>
     }
 }
 
+/// The entry that tells routes what an LSP does that met a row: as it was heard where it is stored, and else an empty one,
+/// since what is kept is purged.
+pub(crate) fn teller(
+    alloc: Global,
+    lsp: &LspHeard<'_>,
+    row: LspAnswer,
+) -> Result<Entry, OutOfMemory>
+    ensures { IfOk result (IsTeller row lsp.now) }
+{
+    match row {
+        LspAnswer::Stored => entry_heard(alloc, lsp),
+        _ => Ok(Entry {
+            key: None,
+            checksum: 0,
+            flags: 0,
+            left: 0,
+            octets: Octets::new(alloc),
+        }),
+    }
+}
+
 /// The entry of an LSP that is heard, as it was heard.
-pub(crate) fn entry_heard(alloc: Global, lsp: &LspHeard<'_>) -> Result<Entry, OutOfMemory>
+fn entry_heard(alloc: Global, lsp: &LspHeard<'_>) -> Result<Entry, OutOfMemory>
     ensures key { IfOk result (λ entry. rank entry.key ≡ entry_rank lsp.now.entry) }
     ensures flags { IfOk result (λ entry. entry.flags ≡ lsp.now.flags) }
     ensures octets { IfOk result (λ entry. entry.octets ≡ lsp.now.octets.now) }

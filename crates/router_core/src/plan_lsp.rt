@@ -4,19 +4,18 @@ ghost use Rattle.std.specs.Prelude.{◌≡◌, ◌-◌, ◌<◌, ◌≤◌, ◌�
 ghost use Rattle.isis_model.specs.Places.{nth};
 ghost use Rattle.isis_model.specs.Receiving.{lsp_drop};
 ghost use Rattle.isis_model.specs.Steps.{step};
-ghost use Rattle.flag_sync.specs.declared.heard.LspAnswer.TheVariants as answer;
 ghost use Rattle.flag_sync.specs.Heard.{answer_of, heard_of};
 ghost use Rattle.router_desk.specs.Opening.{envelope_of};
 ghost use Rattle.router_routes.specs.Outlooks.{outlook_of};
 ghost use Rattle.router_core.specs.Calm.{is_calm_answer};
 ghost use Rattle.router_core.specs.Events.{IsThere};
 ghost use Rattle.router_core.specs.Givens.{given};
-ghost use Rattle.router_core.specs.Plans.{AreTold, IsPlan, lsp_event, row_met};
+ghost use Rattle.router_core.specs.Plans.{AreTold, IsPlan, is_moving, lsp_event, row_met};
 ghost use Rattle.router_core.specs.Reached.{IsReached};
 ghost use Rattle.router_core.specs.Settled.{AreTrue};
 ghost use Rattle.router_core.specs.declared.told.Told.TheVariants as told;
 
-use crate::aside::{entry_heard, node_with};
+use crate::aside::{node_with, teller};
 use crate::machine::Machine;
 use crate::marks::Marks;
 use crate::plan::{Deed, Plan};
@@ -86,7 +85,7 @@ impl Machine {
         requires row { row ≡ answer_of (row_met self.now from.0 lsp.now) lsp.now }
         requires marks { AreTrue marks self.now }
         ensures rows { IfOk result (λ o. IfSome o (λ both. (is_calm_answer row ≡ true)
-            ⊎ (row ≡ answer.Stored))) }
+            ⊎ (is_moving row ≡ true))) }
         ensures told { IfOk result (λ o. IfSome o (λ both. AreTold (outlook_of self.now)
             (outlook_of (step given self.now (lsp_event circuit from.0 from.1 lsp.now)).router)
             both.0)) }
@@ -97,28 +96,29 @@ impl Machine {
         if is_calm_row(row) {
             return Ok(Some((Told::Nothing, marks.after())));
         }
-        match row {
-            LspAnswer::Stored => {}
-            _ => return Ok(None),
+        if !is_moving_row(row) {
+            return Ok(None);
         }
-        match self.moving_by(circuit, from, lsp) {
+        match self.moving_by(circuit, from, lsp, row) {
             Ok(Some(moving)) => Ok(Some((Told::Node(moving), Marks::none()))),
             Ok(None) => Ok(None),
             Err(error) => Err(error),
         }
     }
 
-    /// What the node of an LSP tells that is stored; `None` where that isn't known beforehand.
+    /// What the node of an LSP tells once it met a row; `None` where that isn't known beforehand.
     fn moving_by(
         &self,
         circuit: u8,
         from: (Level, Envelope),
         lsp: &LspHeard<'_>,
+        row: LspAnswer,
     ) -> Result<Option<Moving>, OutOfMemory>
         requires there { IsThere self.now circuit }
         requires kept { IfSome (nth self.now.circuits (circuit - 1)) (λ c.
             lsp_drop self.now (circuit - 1) c from.0 (envelope_of from.1) (heard_of lsp.now) ≡ None) }
-        requires row { answer.Stored ≡ answer_of (row_met self.now from.0 lsp.now) lsp.now }
+        requires row { row ≡ answer_of (row_met self.now from.0 lsp.now) lsp.now }
+        requires moving { is_moving row ≡ true }
         ensures { IfOk result (λ o. IfSome o (λ moving. AreTold (outlook_of self.now)
             (outlook_of (step given self.now (lsp_event circuit from.0 from.1 lsp.now)).router)
             (told.Node moving))) }
@@ -135,7 +135,7 @@ impl Machine {
         let _entries = store.len();
         let id = lsp.entry.id;
         lsp_id_law(id);
-        let entry = entry_heard(self.alloc, lsp)?;
+        let entry = teller(self.alloc, lsp, row)?;
         let aside = node_with(self.alloc, store, id, entry)?;
         Ok(Some(Moving {
             level,
@@ -151,6 +151,16 @@ fn is_calm_row(row: LspAnswer) -> bool
 {
     match row {
         LspAnswer::AckPurge | LspAnswer::Same | LspAnswer::Older => true,
+        _ => false,
+    }
+}
+
+/// Whether an LSP meets a row by which other LSPs are held live, and no own one is issued.
+fn is_moving_row(row: LspAnswer) -> bool
+    ensures { result ≡ is_moving row }
+{
+    match row {
+        LspAnswer::Stored | LspAnswer::Confused | LspAnswer::PurgedOwn => true,
         _ => false,
     }
 }

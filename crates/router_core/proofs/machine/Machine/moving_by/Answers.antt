@@ -8,6 +8,7 @@ use Rattle.isis_model.specs.Receiving.{lsp_drop}
 use Rattle.isis_model.specs.Routers.{Circuit, LevelState, book_of, level_of}
 use Rattle.router_desk.specs.Opening.{envelope_of}
 use Rattle.flag_sync.specs.BookStates as sync
+use Rattle.flag_sync.specs.declared.heard.LspAnswer.{LspAnswer}
 use Rattle.flag_sync.specs.Heard.{heard_of}
 use Rattle.router_levels.specs.Views.{state_of}
 use Rattle.router_routes.specs.Outlooks.{outlook_of}
@@ -18,9 +19,9 @@ use Rattle.lsp_store.specs.declared.entry.Entry.{Entry}
 use Rattle.isis_base.specs.declared.identifiers.LspId.{LspId}
 use Rattle.isis_model.specs.Steps.{step}
 use Rattle.router_core.specs.Givens.{given}
-use Rattle.router_core.specs.Plans.{lsp_event, row_met}
+use Rattle.router_core.specs.Plans.{IsTeller, is_moving, lsp_event}
 use Rattle.router_core.proofs.IdleLemmas.{from-some}
-use Rattle.router_core.proofs.MovedLemmas.{stored-moves-in, stored-row}
+use Rattle.router_core.proofs.MovedLemmas.{heard-moves-in}
 use Rattle.router_core.proofs.OpenLemmas.{there}
 use Rattle.router_core.proofs.machine.Machine.moving_by.Goals as goal
 
@@ -38,12 +39,12 @@ returns c =
     let kept : lsp_drop r place is.0 l from (heard_of heard) ≡ None =
     from-some (λ (x : Circuit). lsp_drop r place x l from (heard_of heard) ≡ None) (nth r.circuits place) is.0 is.1 c.requires.kept in
     let state : state_of c.level.result.now ≡ level_of r l = c.level.ensures.state in
-    let row = stored-row (row_met r l heard) heard (sym c.requires.row) in
+    let moving = subst (λ (a : LspAnswer). is_moving a ≡ true) c.requires.row c.requires.moving in
+    let teller = subst (λ (a : LspAnswer). IsTeller a heard c.in_ok-entry.entry) c.requires.row c.in_ok-entry.ensures in
     let v = c.book-book.result.now in
     let of_book : sync.book_of v ≡ book_of r l = ap sync.book_of c.book-book.ensures ∙ ap (λ (s : LevelState). s.book) state in
     let runs : at r.config.runs l ≡ true = sym c.runs.ensures ∙ c.if-not-runs.false in
     let ids = subst (λ (d : Database). AllByRecursion (λ (p : LspId × Entry). IsId p.0) d.entries) c.store-store.ensures c.len-entries.ensures.ids in
     let rises = subst (λ (d : Database). RisesFrom 0 d.entries) c.store-store.ensures c.len-entries.ensures.rises in
-    let e = c.in_ok-entry.ensures in
     subst (λ (es : List (LspId × Entry)). IsMovedAt (outlook_of r) (outlook_of (step given r (lsp_event c.args.circuit l c.args.from.1 heard)).router) l heard.entry.id.node (told_in es)) (sym c.in_ok-aside.ensures)
-    (stored-moves-in r place l from heard is.0 v c.in_ok-entry.entry is.1 kept row runs of_book (c.has_rows.ensures c.if-not-has_rows.false) c.lsp_id_law.ensures ids rises e.key e.flags e.octets c.store-store.result.now c.store-store.ensures)
+    (heard-moves-in r place l from heard is.0 v c.in_ok-entry.entry is.1 kept moving teller runs of_book (c.has_rows.ensures c.if-not-has_rows.false) c.lsp_id_law.ensures ids rises c.store-store.result.now c.store-store.ensures)

@@ -12,13 +12,12 @@ use Rattle.flag_sync.specs.Heard.{heard_of, answer_of}
 use Rattle.router_desk.specs.Opening.{envelope_of}
 use Rattle.router_levels.specs.Views.{state_of}
 use Rattle.router_routes.specs.Outlooks.{outlook_of}
-use Rattle.flag_sync.specs.declared.heard.LspAnswer.TheVariants as answer
 use Rattle.router_core.specs.declared.marks.Marks.{Marks}
 use Rattle.router_core.specs.declared.told.Told.{Told}
 use Rattle.router_core.specs.declared.plan.Deed.TheVariants as deed
 use Rattle.router_core.specs.Calm.{is_calm_answer}
 use Rattle.router_core.specs.Givens.{given}
-use Rattle.router_core.specs.Plans.{AreTold, committed, lsp_event, row_met}
+use Rattle.router_core.specs.Plans.{AreTold, committed, is_moving, lsp_event, row_met}
 use Rattle.router_core.specs.Replies.{Answers}
 use Rattle.router_core.specs.Settled.{AreTrue}
 use Rattle.router_core.proofs.IdleLemmas.{from-some}
@@ -67,7 +66,7 @@ returns c =
         number = c.requires.number;
         octets = c.requires.octets;
         room = kept-room r c.args.circuit l from h c.requires.there kept;
-        other = no-bid c.lsp_case-row.result (row_met r l lsp) lsp row (known (λ both. (is_calm_answer c.lsp_case-row.result ≡ true) ⊎ (c.lsp_case-row.result ≡ answer.Stored)) c.in_ok-both.ensures.rows);
+        other = no-bid c.lsp_case-row.result (row_met r l lsp) lsp row (known (λ both. (is_calm_answer c.lsp_case-row.result ≡ true) ⊎ (is_moving c.lsp_case-row.result ≡ true)) c.in_ok-both.ensures.rows);
       };
       state = both.0;
       reply = subst (λ (x : Router). Answers x place (step given r (lsp_event c.args.circuit l c.args.from.1 lsp)).reply c.in_ok-reply.reply) both.0 both.1;
