@@ -1,5 +1,5 @@
 -- The name and the value of an option.
-use Rattle.std.proofs.Common.{◌≡◌, ◌∙◌, ℕ, zero, suc, ◌+◌, ◌<◌, ◌==◌, Bool, true, false, if◌then◌else◌, List, [], ◌∷◌, length, get_or, take, drop, Option, Some, None, option_and_then, codes, refl, sym, ap, subst, arith}
+use Rattle.std.proofs.Common.{◌≡◌, ◌∙◌, ℕ, zero, suc, ◌+◌, ◌<◌, ◌==◌, Bool, true, false, if◌then◌else◌, List, [], ◌∷◌, length, get_or, take, drop, Option, Some, None, IfSome, option_and_then, codes, refl, sym, ap, subst, arith}
 use Rattle.std.specs.Str.{bytes_eq}
 use Rattle.std.proofs.lemmas.Slice.Eq.{bytes_eq-Decides}
 use Rattle.isis_base.specs.declared.identifiers.SystemId.{SystemId}
@@ -24,6 +24,11 @@ module _ (x : ℕ) (word : List ℕ) where
 
   value_later : (x == 61) ≡ false → value_in (x ∷ word) ≡ value_in word
   value_later miss = ap (λ (b : Bool). if b then Some word else value_in word) miss
+
+-- nothing is asked of what isn't there
+pub unless : {A : Type 0} (o : Option A) (P : A → Type 0) → o ≡ None → IfSome o P
+unless None P e = tt
+unless (Some x) P e = absurd (cc)
 
 -- what stands before the first mark is the name
 pub name_at : (word : List ℕ) (place : ℕ) → place < length word → ((k : ℕ) → k < place → ¬ ((get_or word k 0 == 61) ≡ true)) → (get_or word place 0 == 61) ≡ true → take place word ≡ name_in word
