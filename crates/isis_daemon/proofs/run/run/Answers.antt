@@ -1,5 +1,4 @@
-use Rattle.std.proofs.Common.{◌≡◌, ℕ, List, None, map, string_bytes, sym}
-use Rattle.isis_daemon.specs.Commands.{command_of}
+use Rattle.std.proofs.Common.{ℕ, List, map, string_bytes, sym}
 use Rattle.isis_daemon.proofs.OptionLemmas.{alone, unless}
 use Rattle.isis_daemon.proofs.run.run.Goals as goal
 
