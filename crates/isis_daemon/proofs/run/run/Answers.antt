@@ -69,4 +69,3 @@ returns-in-Some-weave_of-clause-read_fault g c = c.weave-status.ensures.read_fau
 
 pub returns-in-Some-weave_of-clause-write_fault : goal.returns-in-Some-weave_of-clause-write_fault
 returns-in-Some-weave_of-clause-write_fault g c = c.weave-status.ensures.write_fault
-
