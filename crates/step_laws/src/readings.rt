@@ -1,4 +1,4 @@
-//! The law of the two readings.
+//! The law of the two readings of a CSNP that is taken without a flag.
 ghost use Rattle.std.specs.Prelude.{◌≡◌, ◌↔◌, ℕ, true, false, List, Option, Some, None};
 ghost use Rattle.isis_base.specs.declared.level.Level.{Level};
 ghost use Rattle.isis_model.specs.Places.{nth};
