@@ -21,7 +21,8 @@ ghost use Rattle.router_routes.specs.Candidates.{attached_of, AreRoutesOf};
 ghost use Rattle.router_routes.specs.Following.{IsFollowing, IsLevel};
 ghost use Rattle.router_core.specs.Givens.{given};
 ghost use Rattle.router_core.specs.Events.{event_of, Fits, IsThere};
-ghost use Rattle.router_core.specs.Plans.{committed, IsSound};
+ghost use Rattle.router_core.specs.Plans.{AreTold, committed, IsReady, IsSound};
+ghost use Rattle.router_core.specs.Settled.{AreTrue};
 ghost use Rattle.router_core.specs.Replies.{Answers};
 ghost use Rattle.router_core.specs.Reached.{IsReached};
 ghost use Rattle.router_core.specs.Reads.{event_in, FitsRead};
@@ -29,10 +30,11 @@ ghost use Rattle.router_core.specs.Reads.{event_in, FitsRead};
 use crate::event::NodeEvent;
 use crate::machine::Machine;
 use crate::marks::Marks;
-use crate::plan::Plan;
+use crate::plan::{Deed, Plan};
 use crate::reached::{event_octets, reached_laws, start_reached};
 use crate::read::Read;
 use crate::reply::Reply;
+use crate::told::Told;
 use flag_sync::Book;
 use isis_base::{Level, OutOfMemory, Prefix, SystemId};
 use purge_ageing::LetGo;
@@ -143,17 +145,49 @@ impl Router {
         ensures reply { IfOk result (λ reply. reply ≡ plan.entry.reply) }
         ensures err { OnErr result (self.new ≡ self.old) }
     {
-        let next = self.machine.following_told(&self.following, &plan.told)?;
         let Plan {
             deed,
             reply,
-            told: _told,
+            told,
             marks,
         } = plan;
-        self.machine.commit(deed)?;
+        match self.follow(deed, told, marks) {
+            Ok(()) => Ok(reply),
+            Err(error) => {
+                drop(reply);
+                Err(error)
+            }
+        }
+    }
+
+    /// A deed is done that tells routes this; then these marks hold.
+    fn follow(&mut self, deed: Deed<'_>, told: Told, marks: Marks) -> Result<(), OutOfMemory>
+        requires ready { IsReady self.old deed }
+        requires told { AreTold (outlook_of self.old) (outlook_of (committed self.old deed)) told }
+        requires marks { AreTrue marks (committed self.old deed) }
+        requires reached { IsReached (committed self.old deed) }
+        ensures state { OnOk result (self.new ≡ committed self.old deed.entry) }
+        ensures err { OnErr result (self.new ≡ self.old) }
+    {
+        let next = match self.machine.following_told(&self.following, &told) {
+            Ok(next) => next,
+            Err(error) => {
+                drop(told);
+                drop(deed);
+                return Err(error);
+            }
+        };
+        drop(told);
+        match self.machine.commit(deed) {
+            Ok(()) => {}
+            Err(error) => {
+                drop(next);
+                return Err(error);
+            }
+        }
         put_next(&mut self.following, next);
         self.marks = marks;
-        Ok(reply)
+        Ok(())
     }
 
     /// An event that has no plan: a hello is taken in place. Else a copy has it, so that nothing is lost where the routes want
