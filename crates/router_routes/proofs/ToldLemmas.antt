@@ -1,26 +1,75 @@
 -- Routes look only at what live LSPs tell.
 use Rattle.std.proofs.Common.{◌≡◌, ◌∙◌, ℕ, ◌+◌, ◌<◌, Bool, true, false, List, [], ◌∷◌, ◌++◌, map, filter, Option, Some, None, refl, sym, ap, subst, arith, inl, inr, if◌then◌else◌, nat_le, ◌&&◌, append_assoc}
-use Rattle.std.specs.Prelude.{is_some}
+use Rattle.std.specs.Prelude.{is_none, is_some, length, drop, replicate, nat_lt, Result}
 use Rattle.std.specs.Option.{option_map}
 use Rattle.std.specs.List.{flat_map}
-use Rattle.std.proofs.lemmas.Bool.{cases_eq, eq-eqb, ne_eqb}
+use Rattle.std.proofs.lemmas.Bool.{cases_eq, eq-eqb, ltb-true, ne_eqb}
+use Rattle.std.proofs.lemmas.List.{drop_all}
+use Rattle.std.proofs.Math.Seq.{drop-append_seam}
 use Rattle.isis_base.specs.declared.identifiers.SystemId.{SystemId}
 use Rattle.isis_base.specs.declared.identifiers.NodeId.{NodeId}
 use Rattle.isis_base.specs.declared.identifiers.LspId.{LspId}
+use Rattle.isis_tlv.specs.declared.fault.ValueFault.{ValueFault}
+use Rattle.isis_tlv.specs.Walks.{fault_of}
+use Rattle.isis_tlv.specs.Tlvs.{tlvs_of, tlv_list}
+use Rattle.isis_tlv.specs.Items.{areas_of, neighbours_of, prefixes_of}
 use Rattle.lsp_store.specs.declared.entry.Entry.{Entry}
 use Rattle.lsp_store.specs.Maps.{pair_number, find, between, RisesFrom}
 use Rattle.lsp_store.specs.Databases.{is_live, live_of}
 use Rattle.spf_tree.specs.declared.row.Row.{Row}
 use Rattle.spf_tree.specs.Graphs.{GraphOf, AreUsable}
-use Rattle.lsp_view.specs.Views.{number_of, own_node, where_live, lead_of, led_rows, rows_of, rows_in, is_overloaded, overloaded_in, where_led, reach_of, reach_in, areas_at, attached_at}
+use Rattle.lsp_view.specs.Bodies.{body_of, items_if, items_in, neighbours_in}
+use Rattle.lsp_view.specs.Views.{row_from, is_reachable, number_of, own_node, where_live, lead_of, led_rows, rows_of, rows_in, is_overloaded, overloaded_in, where_led, reach_of, reach_in, areas_at, attached_at}
 use Rattle.router_routes.specs.Outlooks.{where_run}
-use Rattle.router_routes.specs.Told.{told, told_pair, told_in}
+use Rattle.router_routes.specs.Told.{shown, told, told_pair, told_in}
 
 abbrev Pair : Type 0
 Pair = LspId × Entry
 
 abbrev told_entry : Entry → Entry
 told_entry e = told e.flags e.octets
+
+-- ---- octets that are the same behind the header
+
+abbrev tlvs_if : List ℕ → List ℕ
+tlvs_if tlvs = if is_none (fault_of (tlvs_of 0 tlvs)) then tlvs else []
+
+body-is : (octets : List ℕ) → body_of octets ≡ tlvs_if (drop 27 octets)
+unfolding body_of
+body-is octets = go (nat_lt (length octets) 27) refl
+  where
+    both : (t : Bool) → ◌≡◌ {A = List ℕ} [] (if t then [] else [])
+    both true = refl
+    both false = refl
+
+    go : (t : Bool) → nat_lt (length octets) 27 ≡ t → (if t then [] else tlvs_if (drop 27 octets)) ≡ tlvs_if (drop 27 octets)
+    go true is =
+        let short = ltb-true (length octets) 27 is in
+        let none : drop 27 octets ≡ [] = drop_all 27 octets (omega (arith, short)) in
+        both (is_none (fault_of (tlvs_of 0 []))) ∙ sym (ap tlvs_if none)
+    go false is = refl
+
+pub items-same : {X : Type 0} (code : ℕ) (reader : List ℕ → List (Result X ValueFault)) (a b : List ℕ) → drop 27 a ≡ drop 27 b → items_in code reader a ≡ items_in code reader b
+unfolding items_in
+items-same code reader a b same = ap (λ (body : List ℕ). flat_map (items_if code reader) (tlv_list 0 body)) (body-is a ∙ ap tlvs_if same ∙ sym (body-is b))
+
+-- ---- what is shown of octets
+
+pub drop-shown : (octets : List ℕ) → drop 27 (shown octets) ≡ drop 27 octets
+unfolding shown
+drop-shown octets = drop-append_seam (replicate 27 0) (drop 27 octets)
+
+items-shown : {X : Type 0} (code : ℕ) (reader : List ℕ → List (Result X ValueFault)) (octets : List ℕ) → items_in code reader (shown octets) ≡ items_in code reader octets
+items-shown code reader octets = items-same code reader (shown octets) octets (drop-shown octets)
+
+pub neighbours-shown : (octets : List ℕ) → neighbours_in (shown octets) ≡ neighbours_in octets
+neighbours-shown octets = items-shown 22 neighbours_of octets
+
+pub rows-shown : (pair : Pair) → rows_of (told_pair pair) ≡ rows_of pair
+rows-shown pair = ap (map (row_from pair.0.node)) (neighbours-shown pair.1.octets)
+
+pub reach-shown : (pair : Pair) → reach_of (told_pair pair) ≡ reach_of pair
+reach-shown pair = ap (filter is_reachable) (items-shown 135 prefixes_of pair.1.octets)
 
 -- ---- lists
 
@@ -109,7 +158,9 @@ module _ (entries : List Pair) (rises : RisesFrom 0 entries) where
   -- ---- rows and overloaded nodes
 
   led-told : (pair : Pair) → led_rows (told_in entries) (told_pair pair) ≡ led_rows entries pair
-  led-told pair = ap (λ (t : Bool). if t then rows_of pair else []) (ap (λ (o : Option Entry). is_some o) (lead-told pair.0.node) ∙ some-told (lead_of entries pair.0.node))
+  led-told pair =
+      ap (λ (t : Bool). if t then rows_of (told_pair pair) else []) (ap (λ (o : Option Entry). is_some o) (lead-told pair.0.node) ∙ some-told (lead_of entries pair.0.node))
+      ∙ ap (λ (l : List Row). if is_some (lead_of entries pair.0.node) then l else []) (rows-shown pair)
 
   pub rows-told : rows_in (told_in entries) ≡ rows_in entries
   unfolding rows_in
@@ -161,11 +212,11 @@ module _ (entries : List Pair) (rises : RisesFrom 0 entries) where
       let b = number_of node 255 in
       ap (λ (o : Option Entry). where_led o (flat_map reach_of (live_of (between a b (told_in entries))))) (lead-told node)
       ∙ led-same (lead_of entries node) (flat_map reach_of (live_of (between a b (told_in entries))))
-      ∙ ap (where_led (lead_of entries node)) (ap (flat_map reach_of) (between-told a b) ∙ flat_map-map reach_of reach_of told_pair (live_of (between a b entries)) (λ pair. refl))
+      ∙ ap (where_led (lead_of entries node)) (ap (flat_map reach_of) (between-told a b) ∙ flat_map-map reach_of reach_of told_pair (live_of (between a b entries)) reach-shown)
 
   areas-same : (o : Option Entry) → areas_at (option_map told_entry o) ≡ areas_at o
   areas-same None = refl
-  areas-same (Some e) = refl
+  areas-same (Some e) = items-shown 1 areas_of e.octets
 
   attached-same : (o : Option Entry) → attached_at (option_map told_entry o) ≡ attached_at o
   attached-same None = refl

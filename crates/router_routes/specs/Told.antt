@@ -1,6 +1,6 @@
--- What the live LSPs of a level tell routes: their flags and octets, by LSP ID (ISO 10589 7.2.5; the
--- form: own).
-use Rattle.std.specs.Prelude.{ℕ, false, List, [], ◌∷◌, map, Some, if◌then◌else◌}
+-- What the live LSPs of a level tell routes: their flags and what stands behind their headers, by LSP
+-- ID (ISO 10589 7.2.5; the form: own).
+use Rattle.std.specs.Prelude.{ℕ, false, List, [], ◌∷◌, ◌++◌, drop, map, replicate, Some, if◌then◌else◌}
 use Rattle.std.proofs.Common.{arith}
 use Rattle.isis_base.specs.declared.identifiers.LspId.{LspId}
 use Rattle.isis_base.specs.declared.key.Key.{Key}
@@ -14,10 +14,15 @@ use Rattle.lsp_store.specs.Databases.{live_of}
 abbrev pub live_key : Key
 live_key = record { number = 1; purged = false; numbered = omega arith }
 
+-- what routes look at of an LSP's octets: those behind its header, a blank one before them (ISO 10589
+-- 9.8; the form: own)
+unfoldable pub shown : List ℕ → List ℕ
+shown octets = replicate 27 0 ++ drop 27 octets
+
 -- a live LSP with nothing but what routes look at (own)
 abbrev pub told : ℕ → List ℕ → Entry
 told flags octets =
-    record { key = Some live_key; checksum = 0; flags = flags; left = 0; octets = octets }
+    record { key = Some live_key; checksum = 0; flags = flags; left = 0; octets = shown octets }
 
 -- what a database tells (own)
 abbrev pub told_pair : LspId × Entry → LspId × Entry
