@@ -1,6 +1,5 @@
 -- What follows a router before one node tells something else, and once it does.
-use Rattle.std.proofs.Common.{◌≡◌, ◌∙◌, Bool, true, false, not, List, Option, Some, None, refl, sym, ap, subst}
-use Rattle.std.specs.Prelude.{is_some}
+use Rattle.std.proofs.Common.{◌≡◌, ◌∙◌, Bool, true, false, List, Option, refl, sym, ap, subst}
 use Rattle.isis_base.specs.declared.identifiers.NodeId.{NodeId}
 use Rattle.isis_base.specs.declared.identifiers.LspId.{LspId}
 use Rattle.isis_base.specs.declared.level.Level.{Level}
@@ -18,12 +17,8 @@ use Rattle.router_routes.specs.Told.{told_in}
 use Rattle.router_routes.specs.Outlooks.{Outlook, where_run, outlook_in}
 use Rattle.router_routes.specs.Candidates.{candidates_of, attached_of}
 use Rattle.router_routes.specs.Following.{FollowingOf, IsFollowing, IsLevel}
-use Rattle.router_routes.specs.Moved.{AreCosts, entries_at, or_old}
+use Rattle.router_routes.specs.Moved.{AreCosts, beside, entries_at, told_with, or_old}
 use Rattle.router_routes.proofs.GraphLemmas.{routes-of}
-
-pub kept-old : (new : Option RepairedOf) (old : RepairedOf) (none : Bool) → is_some new ≡ not none → none ≡ true → or_old new old ≡ old
-kept-old None old none is yes' = refl
-kept-old (Some new) old none is yes' = absurd (let e : true ≡ false = is ∙ ap not yes' in cc)
 
 pub run-at : (lent : Lent) (level : Level) → at (outlook_in lent).runs level ≡ at (runs_of lent.levels) level
 unfolding outlook_in
@@ -50,3 +45,16 @@ lent-costs lent f level.Two is run = run-costs (runs_of lent.levels).two (told_i
 pub stays-following : (o : Outlook) (f : FollowingOf) (candidates : List Candidate) → IsLevel o level.One f.levels.one → IsLevel o level.Two f.levels.two → AreRoutes (IsHopTo f.levels.one.graph f.levels.two.graph) candidates f.routes → candidates ≡ candidates_of o → f.attached ≡ attached_of o → IsFollowing o f
 stays-following o f candidates one two are same attached =
     record { one = one; two = two; routes = routes-of o f.levels.one f.levels.two f.levels.one.graph f.levels.two.graph candidates f.routes one two refl refl same are; attached = attached }
+
+-- a level's costs once a node tells what is aside, as they are of what is lent
+pub moved-costs : (lent : Lent) (f : FollowingOf) (level : Level) (node : NodeId) (aside entries : List (LspId × Entry)) (old : RepairedOf) (answer new : Option RepairedOf) → IsFollowing (outlook_in lent) f → old ≡ at f.levels level → entries ≡ entries_at lent level → answer ≡ new
+    → AreCosts (told_with node (told_in entries) aside) old.root (or_old answer old) → AreCosts (told_with node (told_in (entries_at lent level)) aside) (own_node lent.system) (or_old new old)
+moved-costs lent f level node aside entries old answer new is from same answered are =
+    subst (λ (r : NodeId). AreCosts (told_with node (told_in (entries_at lent level)) aside) r (or_old new old)) (ap (λ (r : RepairedOf). r.root) from ∙ root-of lent f level is)
+    (subst (λ (l : List (LspId × Entry)). AreCosts (told_with node (told_in l) aside) old.root (or_old new old)) same
+    (subst (λ (m : Option RepairedOf). AreCosts (told_with node (told_in entries) aside) old.root (or_old m old)) answered are))
+
+-- both levels are right where each is
+pub both-levels : (o : Outlook) (f : FollowingOf) (l : Level) → IsLevel o l (at f.levels l) → IsLevel o (beside l) (at f.levels (beside l)) → IsLevel o level.One f.levels.one × IsLevel o level.Two f.levels.two
+both-levels o f level.One is other = (is, other)
+both-levels o f level.Two is other = (other, is)

@@ -1,23 +1,28 @@
 //! The value that will follow a router once one node tells other LSPs (own).
-ghost use Rattle.std.specs.Prelude.{◌≡◌, ◌+◌, ◌^◌, ◌<◌, ◌≤◌, true, false, IfOk, MatchOption};
+ghost use Rattle.std.specs.Prelude.{◌≡◌, ◌+◌, ◌^◌, ◌<◌, ◌≤◌, List, true, false, IfOk, MatchOption};
+ghost use Rattle.isis_base.specs.declared.identifiers.LspId as lsp_id;
 ghost use Rattle.isis_base.specs.declared.level.Level.TheVariants as level;
 ghost use Rattle.isis_datagram.specs.Reading.{runs_of};
 ghost use Rattle.isis_model.specs.Both.{at};
+ghost use Rattle.lsp_store.specs.declared.entry.Entry as entry;
 ghost use Rattle.spf_tree.specs.declared.row.Row as row;
 ghost use Rattle.spf_tree.specs.Graphs.{times};
 ghost use Rattle.router_routes.specs.Told.{told_in};
 ghost use Rattle.router_routes.specs.Outlooks.{Outlook, outlook_in};
+ghost use Rattle.router_routes.specs.Candidates.{attached_of, candidates_of};
 ghost use Rattle.router_routes.specs.Following.{IsFollowing, IsLevel};
-ghost use Rattle.router_routes.specs.Moved.{IsMovedAt, HaveIds, AreFit, AreCosts, entries_at, told_with, outlook_at, or_old};
+ghost use Rattle.router_routes.specs.Moved.{IsMovedAt, HaveIds, AreFit, AreCosts, beside, entries_at, told_with, outlook_at, or_old};
+ghost use Rattle.router_routes.specs.Silent.{is_silent};
 
 use crate::candidates::{runs_one, runs_two};
 use crate::differences::rows_apart;
-use crate::following::{Following, Reached, all_reached, change, made};
+use crate::following::{Following, Reached, all_reached, assembled, change, made};
 use crate::lent::Lent;
 use crate::near::{graph_near, touching};
 use crate::same::same_candidates;
 use crate::view::{View, as_moved};
-use isis_base::{Level, NodeId, OutOfMemory};
+use isis_base::laws::lsp_id_law;
+use isis_base::{Level, LspId, NodeId, OutOfMemory};
 use lsp_store::Store;
 use route_table::Candidate;
 use spf_repair::Repaired;
@@ -46,41 +51,145 @@ impl Following {
             return Ok(None);
         }
         let store = store_at(lent, level);
+        let old = self.repaired(level);
         let (_ids, _aside_ids) = (store.len(), aside.len());
-        let moved = level_moved(self.alloc, self.repaired(level), store, node, aside)?;
+        lsp_id_law(LspId { node, number: 0 });
         let view = as_moved(lent, level, node, aside);
-        match level {
-            Level::One => self.next(&view, moved, None),
-            Level::Two => self.next(&view, None, moved),
+        match level_moved(self.alloc, old, store, node, aside) {
+            Ok(Some(new)) => self.with_level(&view, level, new),
+            Ok(None) => {
+                if is_silent(old, node) {
+                    return Ok(None);
+                }
+                self.next(&view)
+            }
+            Err(error) => Err(error),
         }
     }
 
-    /// The value that follows what is seen, where these are the levels' new costs; `None` where nothing
-    /// of it changes.
-    pub(crate) fn next(
-        &self,
-        view: &View<'_>,
-        one: Option<Repaired>,
-        two: Option<Repaired>,
-    ) -> Result<Option<Following>, OutOfMemory>
+    /// The value that follows what is seen, where no distances change; `None` where nothing of it
+    /// changes.
+    pub(crate) fn next(&self, view: &View<'_>) -> Result<Option<Following>, OutOfMemory>
         requires fit { AreFit view.now }
-        requires one { IsLevel (outlook_at view.now) level.One (or_old one self.now.levels.one) }
-        requires two { IsLevel (outlook_at view.now) level.Two (or_old two self.now.levels.two) }
+        requires one { IsLevel (outlook_at view.now) level.One self.now.levels.one }
+        requires two { IsLevel (outlook_at view.now) level.Two self.now.levels.two }
         ensures { IfOk result (λ next. MatchOption next
             (IsFollowing (outlook_at view.now) self.now)
             (λ f. IsFollowing (outlook_at view.now) f)) }
     {
-        let (new_one, new_two) = (or_old(&one, &self.one), or_old(&two, &self.two));
-        let reached = all_reached(self.alloc, view, new_one, new_two)?;
-        let stays = is_reached(self.attached, self.candidates.as_slice(), &reached);
-        if one.is_none() && two.is_none() && stays {
+        let reached = all_reached(self.alloc, view, &self.one, &self.two)?;
+        if is_reached(self.attached, self.candidates.as_slice(), &reached) {
             return Ok(None);
         }
-        let one = owned(one, &self.one)?;
-        let two = owned(two, &self.two)?;
-        match made(self.alloc, view, reached, one, two) {
+        match made_of(self.alloc, view, reached, &self.one, &self.two) {
             Ok(next) => Ok(Some(next)),
             Err(error) => Err(error),
+        }
+    }
+
+    /// The value that follows what is seen, where these are a level's new distances and the other level's
+    /// stay.
+    fn with_level(
+        &self,
+        view: &View<'_>,
+        level: Level,
+        new: Repaired,
+    ) -> Result<Option<Following>, OutOfMemory>
+        requires fit { AreFit view.now }
+        requires level { IsLevel (outlook_at view.now) level new }
+        requires other { IsLevel (outlook_at view.now) (beside level)
+            (at self.now.levels (beside level)) }
+        ensures { IfOk result (λ next. MatchOption next
+            (IsFollowing (outlook_at view.now) self.now)
+            (λ f. IsFollowing (outlook_at view.now) f)) }
+    {
+        let next = match level {
+            Level::One => with_one(self.alloc, view, new, &self.two),
+            Level::Two => with_two(self.alloc, view, &self.one, new),
+        };
+        match next {
+            Ok(next) => Ok(Some(next)),
+            Err(error) => Err(error),
+        }
+    }
+}
+
+/// The value of new distances of level 1, and of a copy of those of level 2.
+fn with_one(
+    alloc: Global,
+    view: &View<'_>,
+    one: Repaired,
+    two: &Repaired,
+) -> Result<Following, OutOfMemory>
+    requires fit { AreFit view.now }
+    requires one { IsLevel (outlook_at view.now) level.One one }
+    requires two { IsLevel (outlook_at view.now) level.Two two.now }
+    ensures { IfOk result (λ f. IsFollowing (outlook_at view.now) f) }
+{
+    match two.copy() {
+        Ok(two) => assembled(alloc, view, one, two),
+        Err(error) => {
+            drop(one);
+            Err(error)
+        }
+    }
+}
+
+/// The value of a copy of the distances of level 1, and of new ones of level 2.
+fn with_two(
+    alloc: Global,
+    view: &View<'_>,
+    one: &Repaired,
+    two: Repaired,
+) -> Result<Following, OutOfMemory>
+    requires fit { AreFit view.now }
+    requires one { IsLevel (outlook_at view.now) level.One one.now }
+    requires two { IsLevel (outlook_at view.now) level.Two two }
+    ensures { IfOk result (λ f. IsFollowing (outlook_at view.now) f) }
+{
+    match one.copy() {
+        Ok(one) => assembled(alloc, view, one, two),
+        Err(error) => {
+            drop(two);
+            Err(error)
+        }
+    }
+}
+
+/// The value of what is reached, and of copies of both levels' distances.
+fn made_of(
+    alloc: Global,
+    view: &View<'_>,
+    reached: Reached,
+    one: &Repaired,
+    two: &Repaired,
+) -> Result<Following, OutOfMemory>
+    requires one { IsLevel (outlook_at view.now) level.One one.now }
+    requires two { IsLevel (outlook_at view.now) level.Two two.now }
+    requires candidates { reached.candidates.items ≡ candidates_of (outlook_at view.now) }
+    requires attached { reached.attached ≡ attached_of (outlook_at view.now) }
+    ensures { IfOk result (λ f. IsFollowing (outlook_at view.now) f) }
+{
+    match copies(one, two) {
+        Ok((one, two)) => made(alloc, view, reached, one, two),
+        Err(error) => {
+            drop(reached);
+            Err(error)
+        }
+    }
+}
+
+/// Copies of both levels' distances.
+fn copies(one: &Repaired, two: &Repaired) -> Result<(Repaired, Repaired), OutOfMemory>
+    ensures one { IfOk result (λ both. both.0 ≡ one.now) }
+    ensures two { IfOk result (λ both. both.1 ≡ two.now) }
+{
+    let one = one.copy()?;
+    match two.copy() {
+        Ok(two) => Ok((one, two)),
+        Err(error) => {
+            drop(one);
+            Err(error)
         }
     }
 }
@@ -113,24 +222,19 @@ fn store_at<'a>(lent: &Lent<'a>, level: Level) -> &'a Store
     }
 }
 
-/// The new costs, or else the old ones.
-fn or_old<'a>(new: &'a Option<Repaired>, old: &'a Repaired) -> &'a Repaired
-    ensures { result.now ≡ or_old new.now old.now }
+/// Whether a node is no system that the level of these costs reaches beside its root.
+#[tactic(auto, unfolding(crate::specs::Silent::is_silent))]
+fn is_silent(costs: &Repaired, node: NodeId) -> bool
+    ensures { (told : List (lsp_id.LspId × entry.Entry)) → AreCosts told costs.now.root costs.now
+        → result ≡ is_silent told costs.now.root node }
 {
-    match new {
-        Some(new) => new,
-        None => old,
+    if node.pseudonode != 0 {
+        return true;
     }
-}
-
-/// The new costs, or else a copy of the old ones.
-fn owned(new: Option<Repaired>, old: &Repaired) -> Result<Repaired, OutOfMemory>
-    ensures { IfOk result (λ costs. costs ≡ or_old new old.now) }
-{
-    match new {
-        Some(new) => Ok(new),
-        None => old.copy(),
+    if number(node) == number(costs.graph().root()) {
+        return true;
     }
+    costs.distances().get(node).is_none()
 }
 
 /// A level's costs once a node tells what is aside; `None` where its rows stay.

@@ -200,7 +200,7 @@ pub(crate) fn change<L: Ledger>(
 }
 
 /// The value of these distances.
-fn assembled(
+pub(crate) fn assembled(
     alloc: Global,
     view: &View<'_>,
     one: Repaired,

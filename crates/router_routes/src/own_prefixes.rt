@@ -22,7 +22,7 @@ impl Following {
             → MatchOption next (IsFollowing o self.now) (λ f. IsFollowing o f)) }
     {
         let view = as_lent_with(lent, prefixes);
-        self.next(&view, None, None)
+        self.next(&view)
     }
 }
 
