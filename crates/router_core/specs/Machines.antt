@@ -1,7 +1,9 @@
 -- How a router's parts lie in memory, as the router's model has them (own).
-use Rattle.std.specs.Prelude.{◌≡◌, ◌≤◌, true, false, length, map, is_some}
+use Rattle.std.specs.Prelude.{◌≡◌, ◌≤◌, ℕ, true, false, List, length, map, is_some}
 use Rattle.std.specs.List.{AllByRecursion}
-use Rattle.isis_model.specs.Routers.{Circuit, Router}
+use Rattle.isis_model.specs.Maps.{find}
+use Rattle.isis_model.specs.Routers.{Circuit, Contents, Router, level_of}
+use Rattle.isis_model.specs.Wanted.{wanted}
 use Rattle.isis_base.specs.declared.level.Level.{Level}
 use Rattle.isis_base.specs.declared.identifiers.LspId.{LspId}
 use Rattle.isis_base.specs.Identifiers.{lsp_number}
@@ -56,6 +58,11 @@ draft_at r level id = record {
   contents = answer_of (scene_of given r level) (lsp_number id);
   keyed = is_some (at r.config.keys level);
 }
+
+-- where an own LSP ID is issued, these are all that a level wants (own)
+abbrev pub AreWantedFor : Router → Level → ℕ → List (ℕ × Contents) → Type 0
+AreWantedFor r level n wants =
+    is_some (find (level_of r level).own n) ≡ true → wants ≡ wanted given r r level
 
 -- a hello came on a circuit of its kind (ISO 10589 6.3)
 abbrev pub FitsKind : Circuit → Message → Type 0

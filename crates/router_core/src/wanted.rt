@@ -15,7 +15,7 @@ ghost use Rattle.router_levels.specs.Drafts.{AreAnswers, AreReady, IsAnswer, IsR
 ghost use Rattle.router_routes.specs.Outlooks.{outlook_of};
 ghost use Rattle.router_routes.specs.Following.{IsFollowing};
 ghost use Rattle.router_core.specs.Givens.{given};
-ghost use Rattle.router_core.specs.Machines.{draft_at};
+ghost use Rattle.router_core.specs.Machines.{AreWantedFor, draft_at};
 
 use crate::machine::Machine;
 use isis_base::{Level, LevelSet, LspEntry, LspId, Octets, OutOfMemory};
@@ -93,7 +93,7 @@ impl Machine {
         ensures said { IfOk result (λ drafts. AreAnswers (at self.now.config.keys level)
             (scene_of given self.now level) entries.now drafts.items) }
     {
-        let wanted = self.wanted(level, following)?;
+        let wanted = self.wanted_of(level, entries, following)?;
         let mut drafts = Vec::new(self.alloc);
         let mut left = entries;
         while let [entry, more @ ..] = left {
@@ -107,6 +107,27 @@ impl Machine {
         Ok(drafts)
     }
 
+    /// The own LSPs that a level wants, where one of these entries is of an issued one; else none, since nothing is asked
+    /// of them.
+    fn wanted_of(
+        &self,
+        level: Level,
+        entries: &[LspEntry],
+        following: &Following,
+    ) -> Result<Vec<Wanted>, OutOfMemory>
+        requires { IsFollowing (outlook_of self.now) following.now }
+        ensures wanted { IfOk result (λ list. AllByRecursion
+            (λ e. AreWantedFor self.now level (lsp_number e.id) (map wanted_of list.items)) entries.now) }
+        ensures issuable { IfOk result (λ list. AllByRecursion
+            (λ w. IsIssuable (at self.now.config.keys level) (contents_of w)) list.items) }
+    {
+        let own = self.level(level).own();
+        if entries.iter().any(|entry| own.is_issued(entry.id)) {
+            return self.wanted(level, following);
+        }
+        Ok(Vec::new(self.alloc))
+    }
+
     /// The draft for an entry whose LSP ID is issued.
     fn answer_in(
         &self,
@@ -114,7 +135,8 @@ impl Machine {
         level: Level,
         entry: &LspEntry,
     ) -> Result<Option<Draft>, OutOfMemory>
-        requires wanted { map wanted_of wanted.now ≡ model.wanted given self.now self.now level }
+        requires wanted { AreWantedFor self.now level (lsp_number entry.now.id)
+            (map wanted_of wanted.now) }
         requires issuable { AllByRecursion
             (λ w. IsIssuable (at self.now.config.keys level) (contents_of w)) wanted.now }
         ensures ready { IfOk result (λ draft. IsReady (is_some (at self.now.config.keys level))
