@@ -126,7 +126,7 @@ module _ (told : Told) (root : NodeId) (graph : GraphOf) (is : IsGraphOf told ro
   out : Into (usable_rows told root) graph.rows
   out = alike-in (usable_rows told root) graph.rows (λ row. sym (graph-times told root graph is row))
 
-  costs-are : (distances : List (ℕ × ℕ)) → AreDistances graph.rows (node_number root) distances → cost_at distances ≡ cost_of (usable_rows told root) (node_number root)
+  pub costs-are : (distances : List (ℕ × ℕ)) → AreDistances graph.rows (node_number root) distances → cost_at distances ≡ cost_of (usable_rows told root) (node_number root)
   costs-are distances are =
       let same = least_same (usable_rows told root) (node_number root) (cost_at distances) (cost_of (usable_rows told root) (node_number root)) (least-to graph.rows (usable_rows told root) (node_number root) (cost_at distances) into out are.least) (costs-least (usable_rows told root) (node_number root)) in
       λ i node. same node i
@@ -140,6 +140,15 @@ module _ (told : Told) (root : NodeId) (graph : GraphOf) (is : IsGraphOf told ro
   hops-are target hop =
       subst (λ (n : NodeId). IsNextHop graph.rows (node_number n) target hop ↔ IsNextHop (usable_rows told root) (node_number root) target hop) (sym is.from)
       (hop-to graph.rows (usable_rows told root) (node_number root) into out target hop, hop-to (usable_rows told root) graph.rows (node_number root) out into target hop)
+
+-- two lists that have one graph have the same costs
+pub costs-same : (told later : Told) (root : NodeId) (graph : GraphOf) → IsGraphOf told root graph → IsGraphOf later root graph → cost_of (usable_rows told root) (node_number root) ≡ cost_of (usable_rows later root) (node_number root)
+costs-same told later root graph is then-is =
+    let times-same = λ (row : Row). sym (graph-times told root graph is row) ∙ graph-times later root graph then-is row in
+    let into-later = alike-in (usable_rows told root) (usable_rows later root) times-same in
+    let out-of = alike-in (usable_rows later root) (usable_rows told root) (λ row. sym (times-same row)) in
+    let same = least_same (usable_rows later root) (node_number root) (cost_of (usable_rows told root) (node_number root)) (cost_of (usable_rows later root) (node_number root)) (least-to (usable_rows told root) (usable_rows later root) (node_number root) (cost_of (usable_rows told root) (node_number root)) into-later out-of (costs-least (usable_rows told root) (node_number root))) (costs-least (usable_rows later root) (node_number root)) in
+    λ i node. same node i
 
 -- ---- routes over graphs are those over the levels' graphs
 

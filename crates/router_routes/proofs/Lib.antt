@@ -11,3 +11,4 @@ pub mod MovedLemmas
 pub mod NearLemmas
 pub mod NearGraphLemmas
 pub mod AheadLemmas
+pub mod StaysLemmas

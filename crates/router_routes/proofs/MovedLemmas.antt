@@ -72,7 +72,7 @@ joined-ids-step : (c : ℕ → Bool) (pair : Pair) (list : List Pair) → (HaveI
 joined-ids-step c pair list rest true is a b = (a.0, rest a.1 b)
 joined-ids-step c pair list rest false is a b = (b.0, rest a b.1)
 
-joined-ids : (c : ℕ → Bool) (list : List Pair) → HaveIds (told_by_nodes c list) → HaveIds (told_by_nodes (λ m. not (c m)) list) → HaveIds list
+pub joined-ids : (c : ℕ → Bool) (list : List Pair) → HaveIds (told_by_nodes c list) → HaveIds (told_by_nodes (λ m. not (c m)) list) → HaveIds list
 joined-ids c [] a b = a
 joined-ids c (pair ∷ list) a b = joined-ids-step c pair list (joined-ids c list) (c (node_number pair.0.node)) refl a b
 

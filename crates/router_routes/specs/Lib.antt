@@ -1,5 +1,5 @@
 -- The definitions: what routes look at, least costs, candidates, what is leaked, and what follows
--- them, and one node that tells other LSPs.
+-- them, one node that tells other LSPs, and nodes that no route reads.
 pub mod Told
 pub mod Costs
 pub mod Outlooks
@@ -9,3 +9,4 @@ pub mod Differences
 pub mod Following
 pub mod Moved
 pub mod Near
+pub mod Silent
