@@ -1,52 +1,24 @@
 -- Databases that say the same list the same rows, overloaded nodes and prefixes.
-use Rattle.std.proofs.Common.{◌≡◌, ◌∙◌, ℕ, Bool, true, false, List, [], ◌∷◌, ◌++◌, length, map, filter, drop, Option, Some, None, is_some, refl, sym, ap, arith, inl, inr, if◌then◌else◌, nat_lt, nat_le, ◌&&◌}
-use Rattle.std.specs.Prelude.{is_none, Result}
+use Rattle.std.proofs.Common.{◌≡◌, ◌∙◌, ℕ, Bool, true, false, List, [], ◌∷◌, ◌++◌, map, filter, drop, Option, Some, None, is_some, refl, sym, ap, inl, inr, if◌then◌else◌, nat_le, ◌&&◌}
 use Rattle.std.specs.List.{flat_map, AllZip, AllByRecursion}
-use Rattle.std.proofs.lemmas.Bool.{cases_eq, eq-eqb, ne_eqb, ltb-true}
-use Rattle.std.proofs.lemmas.List.{drop_all}
+use Rattle.std.proofs.lemmas.Bool.{cases_eq, eq-eqb, ne_eqb}
 use Rattle.isis_base.specs.declared.identifiers.SystemId.{SystemId}
 use Rattle.isis_base.specs.declared.identifiers.NodeId.{NodeId}
 use Rattle.isis_base.specs.declared.identifiers.LspId.{LspId}
 use Rattle.isis_base.specs.Identifiers.{IsId, lsp_number}
 use Rattle.isis_base.proofs.ArrayLemmas.{lsp_number-one}
-use Rattle.isis_tlv.specs.declared.fault.ValueFault.{ValueFault}
-use Rattle.isis_tlv.specs.Walks.{fault_of}
-use Rattle.isis_tlv.specs.Tlvs.{tlvs_of, tlv_list}
 use Rattle.isis_tlv.specs.Items.{neighbours_of, prefixes_of}
 use Rattle.lsp_store.specs.declared.entry.Entry.{Entry}
 use Rattle.lsp_store.specs.Maps.{pair_number, find, between}
 use Rattle.lsp_store.specs.Databases.{is_live, live_of}
-use Rattle.lsp_view.specs.Bodies.{body_of, items_if, items_in, neighbours_in}
+use Rattle.lsp_view.specs.Bodies.{neighbours_in}
 use Rattle.lsp_view.specs.Views.{number_of, own_node, where_live, lead_of, row_from, rows_of, led_rows, rows_in, is_reachable, is_overloaded, overloaded_in, where_led, reach_of, reach_in, attached_at}
 use Rattle.spf_tree.specs.declared.row.Row.{Row}
+use Rattle.router_routes.proofs.ToldLemmas.{items-same}
 use Rattle.forward_views.specs.Looks.{said}
 
 abbrev pub Pair : Type 0
 Pair = LspId × Entry
-
--- ---- octets that are the same behind the header
-
-abbrev tlvs_if : List ℕ → List ℕ
-tlvs_if tlvs = if is_none (fault_of (tlvs_of 0 tlvs)) then tlvs else []
-
-body-is : (octets : List ℕ) → body_of octets ≡ tlvs_if (drop 27 octets)
-unfolding body_of
-body-is octets = go (nat_lt (length octets) 27) refl
-  where
-    both : (t : Bool) → ◌≡◌ {A = List ℕ} [] (if t then [] else [])
-    both true = refl
-    both false = refl
-
-    go : (t : Bool) → nat_lt (length octets) 27 ≡ t → (if t then [] else tlvs_if (drop 27 octets)) ≡ tlvs_if (drop 27 octets)
-    go true is =
-        let short = ltb-true (length octets) 27 is in
-        let none : drop 27 octets ≡ [] = drop_all 27 octets (omega (arith, short)) in
-        both (is_none (fault_of (tlvs_of 0 []))) ∙ sym (ap tlvs_if none)
-    go false is = refl
-
-items-same : {X : Type 0} (code : ℕ) (reader : List ℕ → List (Result X ValueFault)) (a b : List ℕ) → drop 27 a ≡ drop 27 b → items_in code reader a ≡ items_in code reader b
-unfolding items_in
-items-same code reader a b same = ap (λ (body : List ℕ). flat_map (items_if code reader) (tlv_list 0 body)) (body-is a ∙ ap tlvs_if same ∙ sym (body-is b))
 
 -- ---- LSPs that say the same
 

@@ -14,6 +14,7 @@ use Rattle.lsp_view.specs.Views.{own_node}
 use Rattle.spf_tree.specs.Nodes.{node_number}
 use Rattle.router_routes.specs.Told.{told_by}
 use Rattle.router_routes.specs.Outlooks.{outlook_of}
+use Rattle.router_routes.proofs.ToldLemmas.{drop-shown}
 use Rattle.router_core.specs.Reached.{IsReached}
 use Rattle.network_lab.specs.LabNets.{AreDistinct, systems_of}
 use Rattle.network_lab.proofs.PlaceLemmas.{some-same, nth-map}
@@ -63,7 +64,10 @@ told-said [] = refl
 told-said (pair ∷ cells) = by (told-said cells) (is_live pair.1.rank) refl
   where
     by : map said (told_by cells) ≡ map said_by (view_in cells) → (t : Bool) → is_live pair.1.rank ≡ t → map said (told_by (pair ∷ cells)) ≡ map said_by (view_in (pair ∷ cells))
-    by rest true t = rw (t) (ap (λ (l : List (ℕ × (ℕ × List ℕ))). (lsp_number (lsp_id pair.0), (pair.1.flags, drop 27 pair.1.octets)) ∷ l) rest)
+    by rest true t =
+        rw (t)
+        (ap (λ (d : List ℕ). (lsp_number (lsp_id pair.0), (pair.1.flags, d)) ∷ map said (told_by cells)) (drop-shown pair.1.octets)
+        ∙ ap (λ (l : List (ℕ × (ℕ × List ℕ))). (lsp_number (lsp_id pair.0), (pair.1.flags, drop 27 pair.1.octets)) ∷ l) rest)
     by rest false t = rw (t) rest
 
 -- ---- all together

@@ -12,6 +12,7 @@ use Rattle.lsp_view.specs.Bodies.{neighbours_in}
 use Rattle.spf_tree.specs.Nodes.{node_number}
 use Rattle.router_routes.specs.Told.{told_pair, told_in}
 use Rattle.router_routes.specs.Outlooks.{outlook_of}
+use Rattle.router_routes.proofs.ToldLemmas.{neighbours-shown}
 use Rattle.forward_views.specs.Looks.{Look, told_of}
 use Rattle.forward_views.proofs.ListLemmas.{in_map, of_map}
 use Rattle.forwarding.specs.Tests.{ListsNoZero}
@@ -20,7 +21,7 @@ use Rattle.forwarding.specs.Zeros.{has_zero, lists_zero}
 use Rattle.forwarding.proofs.ListLemmas.{any-contains, contains-any}
 use Rattle.forwarding.proofs.OwnerLemmas.{and-first, and-last}
 
--- an LSP that is told has the octets of the one that is stored
+-- an LSP that is told lists the neighbours of the one that is stored
 lists : (entries : List (LspId × Entry)) (node : ℕ) → list_any (lists_zero node) (live_of entries) ≡ true
     → (pair : LspId × Entry) × Contains (told_in entries) pair × (node_number pair.0.node ≡ node) × ((item : NeighbourItem) × Contains (neighbours_in pair.1.octets) item × (item.metric ≡ 0))
 lists entries node e =
@@ -28,14 +29,15 @@ lists entries node e =
     let p = and-first (node_number h.0.0.node == node) (has_zero (neighbours_in h.0.1.octets)) h.2 in
     let q = and-last (node_number h.0.0.node == node) (has_zero (neighbours_in h.0.1.octets)) h.2 in
     let item = any-contains (λ (item : NeighbourItem). item.metric == 0) (neighbours_in h.0.1.octets) q in
-    (told_pair h.0, in_map told_pair (live_of entries) h.0 h.1, (grind (arith, nat_tests, p)), (item.0, item.1, (let z = item.2 in grind (arith, nat_tests, z))))
+    (told_pair h.0, in_map told_pair (live_of entries) h.0 h.1, (grind (arith, nat_tests, p)), (item.0, subst (λ (l : List NeighbourItem). Contains l item.0) (sym (neighbours-shown h.0.1.octets)) item.1, (let z = item.2 in grind (arith, nat_tests, z))))
 
 listed : (entries : List (LspId × Entry)) (node : ℕ) (pair : LspId × Entry) → Contains (told_in entries) pair → node_number pair.0.node ≡ node → (item : NeighbourItem) → Contains (neighbours_in pair.1.octets) item → item.metric ≡ 0
     → list_any (lists_zero node) (live_of entries) ≡ true
 listed entries node pair there own item in_it zero =
     let o = of_map told_pair (live_of entries) pair there in
     let node_is : node_number o.0.0.node ≡ node = ap (λ (p : LspId × Entry). node_number p.0.node) o.2 ∙ own in
-    let has : Contains (neighbours_in o.0.1.octets) item = subst (λ (p : LspId × Entry). Contains (neighbours_in p.1.octets) item) (sym o.2) in_it in
+    let shows : Contains (neighbours_in (told_pair o.0).1.octets) item = subst (λ (p : LspId × Entry). Contains (neighbours_in p.1.octets) item) (sym o.2) in_it in
+    let has : Contains (neighbours_in o.0.1.octets) item = subst (λ (l : List NeighbourItem). Contains l item) (neighbours-shown o.0.1.octets) shows in
     let p : (node_number o.0.0.node == node) ≡ true = grind (arith, nat_tests, node_is) in
     let q : has_zero (neighbours_in o.0.1.octets) ≡ true = contains-any (λ (item : NeighbourItem). item.metric == 0) (neighbours_in o.0.1.octets) item has (grind (arith, nat_tests, zero)) in
     contains-any (lists_zero node) (live_of entries) o.0 o.1 (rw (p, q) refl)

@@ -25,6 +25,7 @@ mod LastLemmas
 pub mod RouteLemmas
 mod LeakedUpLemmas
 mod MovedLemmas
+mod RefreshLemmas
 mod FaceLemmas
 mod KeepLemmas
 mod SettledLemmas

@@ -355,7 +355,7 @@ moved-at r t same level.Two runs node here other others at_node rises =
 
 -- ---- the cell of a row, and what tells what it does
 
-live-whole : (rank : ℕ) → is_live rank ≡ true → is_purge rank ≡ false
+pub live-whole : (rank : ℕ) → is_live rank ≡ true → is_purge rank ≡ false
 live-whole rank live = grind (arith, nat_tests, live)
 
 -- what an LSP that is stored tells is what an entry of it tells

@@ -235,7 +235,7 @@ step-config given r (Metric place metric) keeps = by-rests r (step given r (Metr
 step-config given r (Overload on) keeps = record { system = refl; areas = refl; runs = refl; prefixes = refl }
 step-config given r (ChangePrefix prefix metric) keeps = absurd keeps
 
-outlook-steady : (r t : Router) → SameConfig r t → told_by (book_of t level.One).cells ≡ told_by (book_of r level.One).cells → told_by (book_of t level.Two).cells ≡ told_by (book_of r level.Two).cells → outlook_of t ≡ outlook_of r
+pub outlook-steady : (r t : Router) → SameConfig r t → told_by (book_of t level.One).cells ≡ told_by (book_of r level.One).cells → told_by (book_of t level.Two).cells ≡ told_by (book_of r level.Two).cells → outlook_of t ≡ outlook_of r
 unfolding outlook_of
 outlook-steady r t same one two =
     outlook-same _ _ _ _ _ _ _ _ _ _ _ _ (ap (λ (n : ℕ). own_node (system_id n)) same.system) same.areas same.runs (ap prefixes_by same.prefixes)

@@ -17,3 +17,4 @@ pub mod LeakedUp
 pub mod Settled
 pub mod Reads
 pub mod Plans
+pub mod Refreshes

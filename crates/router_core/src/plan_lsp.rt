@@ -99,6 +99,9 @@ impl Machine {
         if !is_moving_row(row) {
             return Ok(None);
         }
+        if self.is_refresh(circuit, from, lsp, row) {
+            return Ok(Some((Told::Nothing, Marks::none())));
+        }
         match self.moving_by(circuit, from, lsp, row) {
             Ok(Some(moving)) => Ok(Some((Told::Node(moving), Marks::none()))),
             Ok(None) => Ok(None),
