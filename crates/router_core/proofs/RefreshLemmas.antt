@@ -25,7 +25,6 @@ use Rattle.isis_model.specs.Sets.{without}
 use Rattle.isis_model.specs.Steps.{step}
 use Rattle.isis_model.specs.Takes.{whose_of}
 use Rattle.lsp_store.specs.declared.entry.Entry.{Entry}
-use Rattle.lsp_store.specs.Databases as store
 use Rattle.lsp_store.specs.Maps.{RisesFrom, find, pair_number, put}
 use Rattle.lsp_store.proofs.MapLemmas.{find-above, rises-above}
 use Rattle.flag_sync.specs.declared.heard.LspAnswer.{LspAnswer}

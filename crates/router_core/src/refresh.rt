@@ -1,5 +1,5 @@
 //! LSPs that tell routes what is held of their LSP IDs already (own).
-ghost use Rattle.std.specs.Prelude.{◌≡◌, ◌-◌, ◌<◌, true, drop, None, IfSome};
+ghost use Rattle.std.specs.Prelude.{◌≡◌, ◌-◌, true, drop, None, IfSome};
 ghost use Rattle.isis_base.specs.Identifiers.{lsp_number};
 ghost use Rattle.isis_model.specs.Places.{nth};
 ghost use Rattle.isis_model.specs.Receiving.{lsp_drop};
