@@ -1,12 +1,11 @@
 -- What is reached where some nodes moved, level by level, and the candidates that it gives.
-use Rattle.std.proofs.Common.{◌≡◌, ◌∙◌, ℕ, ◌==◌, Bool, true, false, ◌&&◌, ◌||◌, not, List, [], ◌∷◌, ◌++◌, ◌⊎◌, ◌↔◌, map, filter, Option, Some, None, refl, sym, ap, subst, inl, inr, if◌then◌else◌}
+use Rattle.std.proofs.Common.{◌≡◌, ◌∙◌, ℕ, ◌==◌, Bool, true, false, ◌||◌, not, List, [], ◌∷◌, ◌++◌, ◌⊎◌, filter, Some, None, refl, sym, ap, subst, inl, inr, if◌then◌else◌}
 use Rattle.std.specs.List.{Contains, flat_map, list_any}
-use Rattle.std.proofs.lemmas.Bool.{cases_Bool, cases_eq, eq-eqb, ne_eqb}
+use Rattle.std.proofs.lemmas.Bool.{cases_eq, eq-eqb, ne_eqb}
 use Rattle.std.proofs.lemmas.List.Elements.{Contains-append_left, Contains-append_right, Contains-append_cases}
 use Rattle.isis_base.specs.declared.identifiers.SystemId.{SystemId}
 use Rattle.isis_base.specs.declared.identifiers.NodeId.{NodeId}
 use Rattle.isis_base.specs.declared.identifiers.LspId.{LspId}
-use Rattle.isis_base.specs.declared.level.Level.{Level}
 use Rattle.isis_base.specs.declared.level.Level.TheVariants as level
 use Rattle.isis_datagram.specs.Reading.{runs_of}
 use Rattle.lsp_store.specs.declared.entry.Entry.{Entry}
@@ -14,18 +13,17 @@ use Rattle.lsp_store.specs.Maps.{RisesFrom}
 use Rattle.spf_tree.specs.Nodes.{node_number}
 use Rattle.spf_tree.specs.Distances.{cost_at}
 use Rattle.spf_tree.proofs.SearchLemmas.{contains_first, contains_rest, contains_cases, contains_none}
-use Rattle.lsp_view.specs.Views.{own_node}
 use Rattle.route_table.specs.declared.candidate.Candidate.{Candidate}
 use Rattle.router_routes.specs.declared.lent.Lent.{Lent}
 use Rattle.router_routes.specs.declared.view.Moved.{Moved}
 use Rattle.router_routes.specs.Told.{told_in}
-use Rattle.router_routes.specs.Outlooks.{Outlook, outlook_in, where_run}
-use Rattle.router_routes.specs.Moved.{HaveIds, told_by_nodes, told_beside, told_with, outlook_by}
-use Rattle.router_routes.specs.Candidates.{reached_in, reached_by, system_candidates, level_candidates, default_of, defaults, own_candidate, attached_of, is_for_all, firm_candidates, has_defaults, candidates_of}
-use Rattle.router_routes.specs.Kept.{AreSame, AreBeside, AreNodes, CostBeside, is_among, is_beside, stays, systems_among, told_candidates, IsTelling}
+use Rattle.router_routes.specs.Outlooks.{outlook_in, where_run}
+use Rattle.router_routes.specs.Moved.{HaveIds, told_by_nodes, told_with, outlook_by}
+use Rattle.router_routes.specs.Candidates.{reached_by, system_candidates}
+use Rattle.router_routes.specs.Kept.{AreSame, AreBeside, AreNodes, CostBeside, is_among, is_beside, stays, systems_among, IsTelling}
 use Rattle.router_routes.proofs.NodeLemmas.{by-tests}
 use Rattle.router_routes.proofs.MovedLemmas.{with-beside, told-ids, told-rises}
-use Rattle.router_routes.proofs.KeptLemmas.{flat-in, filter-in, in-filter, stays-told, moved-in, added-in, telling, telling-default}
+use Rattle.router_routes.proofs.KeptLemmas.{filter-in, in-filter, stays-told, moved-in, added-in, telling}
 
 abbrev Pair : Type 0
 Pair = LspId × Entry

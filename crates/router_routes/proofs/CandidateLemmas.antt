@@ -1,5 +1,5 @@
 -- Candidates as they are put together.
-use Rattle.std.proofs.Common.{◌≡◌, ◌∙◌, ℕ, Bool, true, false, List, [], ◌∷◌, ◌++◌, if◌then◌else◌, map, Option, Some, refl, sym, ap, subst, ◌&&◌, not, append_assoc, append-nil, ◌⊎◌, inl, inr}
+use Rattle.std.proofs.Common.{◌≡◌, ◌∙◌, ℕ, Bool, true, false, List, [], ◌∷◌, ◌++◌, if◌then◌else◌, map, Option, Some, refl, sym, ap, subst, ◌&&◌, append-nil, ◌⊎◌, inl, inr}
 use Rattle.std.specs.List.{flat_map}
 use Rattle.isis_base.specs.declared.identifiers.SystemId.{SystemId}
 use Rattle.isis_base.specs.declared.identifiers.NodeId.{NodeId}

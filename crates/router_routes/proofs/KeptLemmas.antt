@@ -1,19 +1,18 @@
 -- Candidates where some nodes moved: those by way of others stay, and those by way of these are what they tell.
-use Rattle.std.proofs.Common.{◌≡◌, ◌∙◌, ℕ, ◌<◌, ◌%◌, ◌==◌, Bool, true, false, ◌&&◌, ◌||◌, not, List, [], ◌∷◌, ◌++◌, ◌⊎◌, ◌↔◌, map, filter, Option, Some, None, refl, sym, ap, subst, arith, inl, inr, if◌then◌else◌}
-use Rattle.std.specs.List.{Contains, flat_map, list_any, AllByRecursion}
-use Rattle.std.proofs.lemmas.Bool.{cases_Bool, cases_eq, and_parts, eqb-true, eq-eqb}
+use Rattle.std.proofs.Common.{◌≡◌, ◌∙◌, ℕ, ◌<◌, ◌==◌, Bool, true, false, ◌&&◌, ◌||◌, not, List, [], ◌∷◌, ◌++◌, ◌⊎◌, map, filter, Option, Some, None, refl, sym, ap, subst, arith, inl, inr, if◌then◌else◌}
+use Rattle.std.specs.List.{Contains, flat_map, AllByRecursion}
+use Rattle.std.proofs.lemmas.Bool.{and_parts, eqb-true, eq-eqb}
 use Rattle.std.proofs.lemmas.List.Elements.{Contains-append_left, Contains-append_right, Contains-append_cases}
 use Rattle.isis_base.specs.declared.identifiers.SystemId.{SystemId}
 use Rattle.isis_base.specs.declared.identifiers.NodeId.{NodeId}
 use Rattle.isis_base.specs.declared.identifiers.LspId.{LspId}
 use Rattle.isis_base.specs.declared.level.Level.{Level}
-use Rattle.isis_base.specs.Identifiers.{IsId, lsp_number}
+use Rattle.isis_base.specs.Identifiers.{IsId}
 use Rattle.isis_base.specs.declared.prefix.Prefix.{Prefix}
 use Rattle.isis_base.specs.Prefixes.{prefix_from}
 use Rattle.isis_base.proofs.ArrayLemmas.{lsp_number-one}
 use Rattle.isis_tlv.specs.declared.prefix.PrefixItem.{PrefixItem}
 use Rattle.lsp_store.specs.declared.entry.Entry.{Entry}
-use Rattle.lsp_store.specs.Databases.{is_live}
 use Rattle.lsp_store.specs.Maps.{find, pair_number}
 use Rattle.spf_tree.specs.Nodes.{node_number}
 use Rattle.spf_tree.specs.Distances.{cost_at}

@@ -1,4 +1,4 @@
-use Rattle.std.proofs.Common.{◌≡◌, ◌∙◌, ◌++◌, List, [], true, false, map, ap, sym, subst, if◌then◌else◌, append-nil}
+use Rattle.std.proofs.Common.{◌≡◌, ◌∙◌, ◌++◌, List, [], map, ap, sym, subst, if◌then◌else◌, append-nil}
 use Rattle.route_table.specs.declared.candidate.Candidate.{Candidate}
 use Rattle.router_routes.specs.Candidates.{own_candidate, candidates_of}
 use Rattle.router_routes.specs.Kept.{AreSame}

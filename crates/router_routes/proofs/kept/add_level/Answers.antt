@@ -1,4 +1,3 @@
-use Rattle.std.proofs.Common.{◌∙◌, ap}
 use Rattle.router_routes.proofs.CandidateLemmas.{level-none-told}
 use Rattle.router_routes.proofs.kept.add_level.Goals as goal
 

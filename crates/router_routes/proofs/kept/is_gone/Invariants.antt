@@ -1,4 +1,4 @@
-use Rattle.std.proofs.Common.{◌≡◌, not, List, filter, length}
+use Rattle.std.proofs.Common.{◌≡◌, not, filter, length}
 use Rattle.route_table.specs.declared.candidate.Candidate.{Candidate}
 use Rattle.router_routes.specs.Kept.{stays}
 use Rattle.router_routes.proofs.kept.is_gone.Given as goal

@@ -1,5 +1,4 @@
 use Rattle.std.proofs.Common.{◌≡◌, ◌∙◌, ℕ, List, ap, sym}
-use Rattle.isis_base.specs.declared.identifiers.NodeId.{NodeId}
 use Rattle.spf_tree.specs.Nodes.{node_number}
 use Rattle.spf_tree.specs.Graphs.{GraphOf}
 use Rattle.spf_tree.specs.Distances.{cost_at}

@@ -1,13 +1,13 @@
-use Rattle.std.proofs.Common.{◌≡◌, ◌∙◌, true, false, List, Some, None, ap, sym, subst}
+use Rattle.std.proofs.Common.{◌≡◌, ◌∙◌, true, false, List, Some, None, sym, subst}
 use Rattle.isis_base.specs.declared.identifiers.LspId.{LspId}
 use Rattle.isis_model.specs.Both.{at}
 use Rattle.lsp_store.specs.declared.entry.Entry.{Entry}
 use Rattle.lsp_store.specs.Maps.{RisesFrom}
 use Rattle.spf_repair.specs.Changes.{RepairedOf}
 use Rattle.router_routes.specs.Told.{told_in}
-use Rattle.router_routes.specs.Outlooks.{Outlook, outlook_in}
+use Rattle.router_routes.specs.Outlooks.{outlook_in}
 use Rattle.router_routes.specs.Following.{IsLevel}
-use Rattle.router_routes.specs.Moved.{HaveIds, AreCosts, beside, entries_at, outlook_at}
+use Rattle.router_routes.specs.Moved.{AreCosts, beside, entries_at, outlook_at}
 use Rattle.router_routes.proofs.AheadLemmas.{run-at, level-of, lent-costs, moved-costs, both-levels}
 use Rattle.router_routes.proofs.following.Following.ahead.Goals as goal
 

@@ -1,4 +1,4 @@
-use Rattle.std.proofs.Common.{◌≡◌, ◌∙◌, ◌++◌, List, not, filter, ap, sym, subst}
+use Rattle.std.proofs.Common.{◌≡◌, ◌∙◌, not, filter, ap, sym, subst}
 use Rattle.route_table.specs.declared.candidate.Candidate.{Candidate}
 use Rattle.router_routes.specs.Following.{FollowingOf}
 use Rattle.router_routes.specs.Kept.{stays}
