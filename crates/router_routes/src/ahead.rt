@@ -12,7 +12,6 @@ ghost use Rattle.router_routes.specs.Following.{IsFollowing, IsLevel};
 ghost use Rattle.router_routes.specs.Kept.{AreBeside, AreReached};
 ghost use Rattle.router_routes.specs.Moved.{IsMovedAt, HaveIds, AreFit, AreCosts, beside, entries_at, told_with, outlook_at, or_old};
 
-use crate::candidates::{runs_one, runs_two};
 use crate::differences::rows_apart;
 use crate::following::{Following, Reached, change, made};
 use crate::kept::moved;
@@ -21,6 +20,7 @@ use crate::near::{graph_near, touching};
 use crate::view::{View, as_moved};
 use isis_base::laws::lsp_id_law;
 use isis_base::{Level, LspId, NodeId, OutOfMemory};
+use isis_datagram::runs;
 use lsp_store::Store;
 use spf_repair::Repaired;
 use spf_tree::Row;
@@ -272,10 +272,7 @@ fn copies(one: &Repaired, two: &Repaired) -> Result<(Repaired, Repaired), OutOfM
 fn is_run(lent: &Lent<'_>, level: Level) -> bool
     ensures { result ≡ at (runs_of lent.now.levels) level }
 {
-    match level {
-        Level::One => runs_one(lent.levels),
-        Level::Two => runs_two(lent.levels),
-    }
+    runs(lent.levels, level)
 }
 
 /// A level's database.

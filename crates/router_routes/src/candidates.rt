@@ -9,6 +9,7 @@ ghost use Rattle.router_routes.specs.Kept.{AreReached, AreSame, told_candidates}
 
 use crate::view::{LevelView, View, store_of};
 use isis_base::{Level, LevelSet, NodeId, OutOfMemory, Prefix, SystemId};
+use isis_datagram::runs;
 use isis_tlv::PrefixItem;
 use lsp_view::{is_attached, reach_into};
 use route_table::{Candidate, Rank};
@@ -116,20 +117,14 @@ fn has_defaults(levels: LevelSet, attached: bool, firm: &[Candidate]) -> bool
 pub(crate) fn runs_one(levels: LevelSet) -> bool
     ensures { result ≡ (runs_of levels).one }
 {
-    match levels {
-        LevelSet::One | LevelSet::Both => true,
-        LevelSet::Two => false,
-    }
+    runs(levels, Level::One)
 }
 
 /// Whether level 2 is run.
 pub(crate) fn runs_two(levels: LevelSet) -> bool
     ensures { result ≡ (runs_of levels).two }
 {
-    match levels {
-        LevelSet::Two | LevelSet::Both => true,
-        LevelSet::One => false,
-    }
+    runs(levels, Level::Two)
 }
 
 /// The node that a system is.
