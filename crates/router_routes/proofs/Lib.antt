@@ -11,6 +11,4 @@ pub mod MovedLemmas
 pub mod NearLemmas
 pub mod NearGraphLemmas
 pub mod AheadLemmas
-pub mod KeptLemmas
-pub mod BesideLemmas
-pub mod SameLemmas
+pub mod StaysLemmas

@@ -11,4 +11,3 @@ pub mod ReachLemmas
 pub mod HopLemmas
 pub mod TableLemmas
 pub mod DistanceLemmas
-pub mod ApartLemmas
