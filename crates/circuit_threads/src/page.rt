@@ -1,11 +1,11 @@
 //! Octets that wait to be written.
 ghost use Rattle.std.specs.Prelude.{◌≡◌, ◌+◌, ◌*◌, ◌<◌, ◌≤◌, [], ◌++◌, length, decimal};
-ghost use Rattle.std.specs.List.{AllByRecursion};
 ghost use Rattle.isis_base.specs.PrefixTexts.{prefix_text};
 ghost use Rattle.circuit_threads.specs.JournalText.{hex_text};
 
 use hex::encode_to_slice;
 use isis_base::Prefix;
+use isis_base::laws::octets_law;
 use itoa::Buffer;
 use std::marker::Model;
 
@@ -116,8 +116,3 @@ fn put_hex(octets: &[u8], into: &mut [u8])
     octets_law(octets);
     encode_to_slice(octets, into).unwrap();
 }
-
-/// Octets are below 256.
-fn octets_law(octets: &[u8])
-    ensures { AllByRecursion (λ octet. octet < 256) octets.now }
-{}

@@ -1,5 +1,5 @@
 //! What holds of all values: functions without a body, whose contracts are the laws.
-ghost use Rattle.std.specs.Prelude.{◌≡◌, ◌<◌, Some, List, [], ◌∷◌, ◌++◌, ℕ, Option};
+ghost use Rattle.std.specs.Prelude.{◌≡◌, ◌<◌, Some, List, length, [], ◌∷◌, ◌++◌, ℕ, Option};
 ghost use Rattle.std.specs.declared.cmp.Ordering.TheVariants.{Less, Equal, Greater};
 ghost use Rattle.std.specs.Cmp.Lexicographic.{slice_cmp};
 ghost use Rattle.std.specs.Ordering.{nat_cmp};
@@ -161,6 +161,14 @@ pub fn text_form_laws()
 {}
 
 /// Octets are below 256.
-fn octets_law(octets: &[u8])
+pub fn octets_law(octets: &[u8])
     ensures { AllByRecursion (λ octet. octet < 256) octets.now }
 {}
+
+/// Six octets are six, each below 256.
+pub fn are_six(octets: [u8; 6])
+    ensures six { length octets ≡ 6 }
+    ensures small { AllByRecursion (λ octet. octet < 256) octets }
+{
+    let [_a, _b, _c, _d, _e, _f] = octets;
+}

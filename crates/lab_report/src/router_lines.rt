@@ -1,10 +1,10 @@
 //! The lines of a router in a report.
-ghost use Rattle.std.specs.Prelude.{◌≡◌, ◌<◌, ◌++◌, length, Some, OnOk};
-ghost use Rattle.std.specs.List.{AllByRecursion, flat_map};
+ghost use Rattle.std.specs.Prelude.{◌≡◌, ◌++◌, Some, OnOk};
+ghost use Rattle.std.specs.List.{flat_map};
 ghost use Rattle.isis_base.specs.Identifiers.{lsp_number};
 ghost use Rattle.isis_base.specs.Keys.{rank};
 ghost use Rattle.isis_base.specs.Levels.{level_text};
-ghost use Rattle.isis_model.specs.Numbers.{system_id, system_number};
+ghost use Rattle.isis_model.specs.Numbers.{system_id};
 ghost use Rattle.flag_sync.specs.BookStates.{book_of};
 ghost use Rattle.flag_sync.specs.Walks.{numbers_of};
 ghost use Rattle.lab_report.specs.RouterLines as lines;
@@ -14,6 +14,7 @@ use flag_sync::Book;
 use isis_base::{
     Key, Level, LspId, Octets, OutOfMemory, SystemId, add_lsp_id, add_number, add_system_id,
 };
+use isis_model::laws::identifiers::system_law;
 use lsp_octets::laws::id_law;
 use network_lab::Router;
 use purge_ageing::LetGo;
@@ -288,19 +289,4 @@ pub(crate) fn system_of(router: &Router) -> SystemId
     let system = router.desk().system();
     system_law(system);
     system
-}
-
-/// Six octets.
-fn are_six(octets: [u8; 6])
-    ensures six { length octets ≡ 6 }
-    ensures small { AllByRecursion (λ octet. octet < 256) octets }
-{
-    let [_a, _b, _c, _d, _e, _f] = octets;
-}
-
-/// A system ID is that of its number. It does nothing.
-fn system_law(system: SystemId)
-    ensures { system_id (system_number system) ≡ system }
-{
-    are_six(system.0);
 }

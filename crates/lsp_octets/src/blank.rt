@@ -1,11 +1,11 @@
 //! The octets of an own LSP before its number is known.
 ghost use Rattle.std.specs.Prelude.{◌≡◌, ◌+◌, ◌≤◌, ◌++◌, length, IfOk};
-ghost use Rattle.isis_base.specs.Identifiers.{IsId};
 ghost use Rattle.lsp_octets.specs.Drafts.{lsp_octets_with};
 
 use crate::draft::MAX_AGE;
 use crate::places::{HEADER, LENGTH, write_at};
-use isis_base::{Level, LspId, NodeId, Octets, OutOfMemory};
+use isis_base::laws::lsp_id_law;
+use isis_base::{Level, LspId, Octets, OutOfMemory};
 use isis_pdu::{Pdu, encode};
 use std::alloc::Global;
 
@@ -27,7 +27,7 @@ pub(crate) fn blank(
         ≡ lsp_octets_with level id flags 0 0 (auth.now ++ tlvs.now)) }
     ensures six { length id.node.system.0 ≡ 6 }
 {
-    is_id(id);
+    lsp_id_law(id);
     let pdu = Pdu::Lsp {
         level,
         lifetime: MAX_AGE,
@@ -43,13 +43,4 @@ pub(crate) fn blank(
     octets.extend(auth)?;
     octets.extend(tlvs)?;
     Ok(octets)
-}
-
-/// The octets of an LSP ID are eight.
-pub(crate) fn is_id(id: LspId)
-    ensures { IsId id }
-{
-    let NodeId { system, pseudonode } = id.node;
-    let [_a, _b, _c, _d, _e, _f] = system.0;
-    let _octets = [pseudonode, id.number];
 }

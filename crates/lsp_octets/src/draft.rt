@@ -9,8 +9,9 @@ ghost use Rattle.isis_model.specs.Ranks.{live_rank};
 ghost use Rattle.isis_datagram.specs.Lsps.{issued_pdu, issued_checksum};
 ghost use Rattle.lsp_octets.specs.Drafts.{IsIssuedCell};
 
-use crate::blank::{BLANK_AUTH, blank, is_id};
+use crate::blank::{BLANK_AUTH, blank};
 use crate::places::{NUMBER, sign, sum, write_at};
+use isis_base::laws::lsp_id_law;
 use isis_base::{Key, Level, LspId, Octets, OutOfMemory};
 use lsp_store::Entry;
 use std::alloc::Global;
@@ -110,7 +111,7 @@ impl Draft {
             mut octets,
             ..
         } = self;
-        is_id(id);
+        lsp_id_law(id);
         write_at(&mut octets, NUMBER, &number.to_be_bytes());
         sign(&mut octets, key);
         let checksum = sum(&mut octets);

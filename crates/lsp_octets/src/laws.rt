@@ -10,8 +10,8 @@ ghost use Rattle.isis_base.specs.Identifiers.{IsId, lsp_number};
 ghost use Rattle.isis_model.specs.Numbers.{lsp_id};
 ghost use Rattle.lsp_octets.specs.Held.{IsPuttable};
 
-use crate::blank::is_id;
 use isis_base::LspId;
+use isis_base::laws::lsp_id_law;
 
 /// An entry with a key that may be sent by the definitions may be put.
 pub fn sendable_law()
@@ -24,5 +24,5 @@ pub fn id_law(id: LspId)
     ensures is { IsId id }
     ensures same { lsp_id (lsp_number id) ≡ id }
 {
-    is_id(id);
+    lsp_id_law(id);
 }

@@ -13,12 +13,13 @@ ghost use Rattle.lsp_wanted.specs.Lent.{IsLent, given_of, router_of};
 ghost use Rattle.lsp_wanted.specs.Views.{contents_of, prefix_pair, wanted_of};
 
 use crate::contents::{area_sizes, pseudonode_content, system_content};
-use crate::flags::{first_flags, is_type, runs};
+use crate::flags::{first_flags, is_type};
 use crate::fragments::{Parts, fragments};
 use crate::numbering;
 use crate::wanted::Wanted;
 use crate::wants::Wants;
 use isis_base::{Level, NodeId, OutOfMemory, Prefix, SystemId};
+use isis_datagram::runs;
 use router_circuits::Circuit;
 use std::alloc::Global;
 

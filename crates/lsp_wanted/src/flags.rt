@@ -2,14 +2,14 @@
 ghost use Rattle.std.specs.Prelude.{◌≡◌, ℕ, ◌≤◌, List};
 ghost use Rattle.isis_base.specs.declared.level.Level.TheVariants as one;
 ghost use Rattle.isis_base.specs.declared.prefix.Prefix.{Prefix};
-ghost use Rattle.isis_model.specs.Both.{at, is_level};
+ghost use Rattle.isis_model.specs.Both.{is_level};
 ghost use Rattle.isis_model.specs.Routers.{Circuit};
 ghost use Rattle.isis_model.specs.Wanted as model;
-ghost use Rattle.isis_datagram.specs.Reading.{runs_of};
 ghost use Rattle.lsp_wanted.specs.Lent.{config_of, given_of, router_of};
 
 use crate::wants::Wants;
-use isis_base::{Level, LevelSet};
+use isis_base::Level;
+use isis_datagram::runs;
 
 /// Overload (ISO 10589 9.8).
 const OVERLOAD: u8 = 4;
@@ -47,16 +47,5 @@ fn is_one(level: Level) -> bool
     match level {
         Level::One => true,
         Level::Two => false,
-    }
-}
-
-/// Whether a level is run.
-pub(crate) fn runs(levels: LevelSet, level: Level) -> bool
-    ensures { result ≡ at (runs_of levels) level }
-{
-    match (levels, level) {
-        (LevelSet::One, Level::Two) => false,
-        (LevelSet::Two, Level::One) => false,
-        _ => true,
     }
 }

@@ -1,6 +1,5 @@
 //! How the members of LANs stand.
 ghost use Rattle.std.specs.Prelude.{◌≡◌, ◌-◌, ◌==◌, ◌<◌, true, length, Some, IfSome, IsSome};
-ghost use Rattle.std.specs.List.{AllByRecursion};
 ghost use Rattle.std.specs.Option.{option_map};
 ghost use Rattle.isis_model.specs.Numbers.{system_id, system_number};
 ghost use Rattle.isis_model.specs.Places.{nth};
@@ -12,6 +11,7 @@ ghost use Rattle.network_lab.specs.LanStates.{lan_state_at, sees_at, sweeper_at,
 use crate::lan_state::LanState;
 use crate::network::Network;
 use isis_base::{Level, SystemId};
+use isis_model::laws::identifiers::system_law;
 use lan_sweeps::SweepKey;
 use network_model::End;
 use router_core::Router;
@@ -125,19 +125,4 @@ fn has_system(router: &Router, system: SystemId) -> bool
     system_law(own);
     system_law(system);
     own == system
-}
-
-/// Six octets.
-fn are_six(octets: [u8; 6])
-    ensures six { length octets ≡ 6 }
-    ensures small { AllByRecursion (λ octet. octet < 256) octets }
-{
-    let [_a, _b, _c, _d, _e, _f] = octets;
-}
-
-/// A system ID is that of its number. It does nothing.
-pub(crate) fn system_law(system: SystemId)
-    ensures { system_id (system_number system) ≡ system }
-{
-    are_six(system.0);
 }

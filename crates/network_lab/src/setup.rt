@@ -12,11 +12,11 @@ ghost use Rattle.network_lab.specs.LabSteps.{with_circuit_at};
 ghost use Rattle.network_lab.specs.LabCauses.{RouterCause, LinkCause, HasCircuit, has_full};
 
 use crate::joining::{ends_of, has_full, joined_all, ordered_of, put_all};
-use crate::lan_states::system_law;
 use crate::network::Network;
 use crate::places::put_at;
 use crate::row::Row;
 use isis_base::{CircuitKind, Octets, OutOfMemory};
+use isis_model::laws::identifiers::system_law;
 use key_net::{LINK_LIMIT, LabFault, LimitName, ROUTER_LIMIT};
 use network_model::End;
 use router_core::Router;

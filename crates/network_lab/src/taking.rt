@@ -1,6 +1,5 @@
 //! A router of a list takes an event, and what it sends joins what was sent.
 ghost use Rattle.std.specs.Prelude.{◌≡◌, ℕ, ◌+◌, ◌-◌, ◌<◌, ◌≤◌, ◌∷◌, ◌++◌, ◌==◌, ◌&&◌, not, map, length, Some, IfSome, IfOk, IfErr, OnOk, OnErr};
-ghost use Rattle.std.specs.List.{AllByRecursion};
 ghost use Rattle.isis_model.specs.Places.{nth, with_nth};
 ghost use Rattle.isis_model.specs.Routers as model;
 ghost use Rattle.isis_model.specs.Routers.{book_of};
@@ -22,6 +21,7 @@ use crate::heard_range::HeardRange;
 use crate::notes::Notes;
 use crate::places::{boot_at, changes_at, put_at};
 use crate::sent::{Changes, SentDatagram};
+use isis_base::laws::octets_law;
 use isis_base::{Level, Octets, OutOfMemory};
 use isis_model::laws::adjacencies::step_bonds;
 use key_net::{LabFault, LimitName};
@@ -268,11 +268,6 @@ fn post_all(
     }
     Ok(())
 }
-
-/// Octets are below 256. It does nothing.
-fn octets_law(octets: &[u8])
-    ensures { AllByRecursion (λ octet. octet < 256) octets.now }
-{}
 
 /// A router restarts in its next boot. At `OutOfMemory` it is as it was.
 pub(crate) fn restart_at(routers: &mut Vec<Router>, router: usize) -> Result<(), OutOfMemory>

@@ -8,12 +8,13 @@ ghost use Rattle.isis_datagram.specs.Datagrams.{datagram};
 ghost use Rattle.isis_datagram.specs.Tlvs.{hello_tlvs};
 ghost use Rattle.pdu_sender.specs.Sends.{Sends, FitAreas, names_of, snpas_of};
 
-use crate::ids::{names_law, node_law, snpas_law, system_law};
+use crate::ids::{names_law, node_law, snpas_law};
 use crate::pieces::put_heard;
 use crate::sender::Sender;
 use crate::writing::{begin, end};
 use adjacency::Neighbour;
 use isis_base::{Level, NodeId, Octets, OutOfMemory, PduKind, SystemId};
+use isis_model::laws::identifiers::system_law;
 use isis_pdu::Pdu;
 use isis_tlv::{Adj, ThreeWay, put_addresses, put_areas, put_protocols, put_three_way};
 use std::alloc::Global;

@@ -1,30 +1,16 @@
 //! Identifiers are those of their numbers: functions that do nothing, whose contracts are the laws.
-ghost use Rattle.std.specs.Prelude.{◌≡◌, ℕ, ◌<◌, length, map};
-ghost use Rattle.std.specs.List.{AllByRecursion};
+ghost use Rattle.std.specs.Prelude.{◌≡◌, ℕ, map};
 ghost use Rattle.std.specs.Option.{option_map};
 ghost use Rattle.flag_sync.specs.Heard.{entry_of, entries_of};
-ghost use Rattle.isis_model.specs.Numbers.{system_id, node_id, snpa_id, system_number, node_number, snpa_number};
+ghost use Rattle.isis_model.specs.Numbers.{system_id, node_id, snpa_id, node_number, snpa_number};
 ghost use Rattle.isis_datagram.specs.Tlvs.{lsp_entry};
 ghost use Rattle.pdu_sender.specs.Sends.{names_of, snpas_of};
 
 use adjacency::Neighbour;
+use isis_base::laws::are_six;
 use isis_base::{LspEntry, NodeId, Snpa, SystemId};
+use isis_model::laws::identifiers::system_law;
 use lsp_octets::laws::id_law;
-
-/// Six octets.
-fn are_six(octets: [u8; 6])
-    ensures six { length octets ≡ 6 }
-    ensures small { AllByRecursion (λ octet. octet < 256) octets }
-{
-    let [_a, _b, _c, _d, _e, _f] = octets;
-}
-
-/// A system ID.
-pub(crate) fn system_law(system: SystemId)
-    ensures { system_id (system_number system) ≡ system }
-{
-    are_six(system.0);
-}
 
 /// A node ID.
 pub(crate) fn node_law(node: NodeId)

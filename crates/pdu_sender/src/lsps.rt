@@ -9,10 +9,10 @@ ghost use Rattle.flag_sync.specs.FlagRows.{cell_of};
 ghost use Rattle.lsp_octets.specs.Held.{IsPuttable};
 ghost use Rattle.pdu_sender.specs.Sends.{Sends};
 
-use crate::ids::system_law;
 use crate::sender::Sender;
 use crate::writing::frame;
 use isis_base::{Level, Octets, OutOfMemory};
+use isis_model::laws::identifiers::system_law;
 use lsp_octets::put_lsp;
 use lsp_store::Entry;
 use std::alloc::Global;

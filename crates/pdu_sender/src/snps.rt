@@ -8,11 +8,12 @@ ghost use Rattle.isis_datagram.specs.Datagrams.{datagram};
 ghost use Rattle.flag_sync.specs.Heard.{entries_of};
 ghost use Rattle.pdu_sender.specs.Sends.{Sends};
 
-use crate::ids::{entries_law, system_law};
+use crate::ids::entries_law;
 use crate::pieces::put_all_entries;
 use crate::sender::Sender;
 use crate::writing::{begin, end};
 use isis_base::{Level, LspEntry, LspId, NodeId, Octets, OutOfMemory, PduKind};
+use isis_model::laws::identifiers::system_law;
 use isis_pdu::Pdu;
 use lsp_octets::laws::id_law;
 use std::alloc::Global;

@@ -15,7 +15,8 @@ ghost use Rattle.router_core.specs.Designated.{designated_system};
 ghost use Rattle.router_core.specs.NamedBoots.{named_boot};
 
 use crate::machine::Machine;
-use isis_base::{Level, LevelSet, Prefix, SystemId};
+use isis_base::{Level, Prefix, SystemId};
+use isis_datagram::runs;
 use isis_model::DropName;
 use isis_model::laws::states::count_laws;
 use router_desk::Desk;
@@ -101,9 +102,6 @@ impl Machine {
     pub(crate) fn runs(&self, level: Level) -> bool
         ensures { result ≡ at self.now.config.runs level }
     {
-        match level {
-            Level::One => matches!(self.desk.levels(), LevelSet::One | LevelSet::Both),
-            Level::Two => matches!(self.desk.levels(), LevelSet::Two | LevelSet::Both),
-        }
+        runs(self.desk.levels(), level)
     }
 }

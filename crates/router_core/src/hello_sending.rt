@@ -4,14 +4,14 @@ ghost use Rattle.isis_model.specs.Both.{at};
 ghost use Rattle.isis_model.specs.Datagrams as sent;
 ghost use Rattle.isis_model.specs.Pulls as pulls;
 ghost use Rattle.isis_model.specs.Routers.{Router, extended_of};
-ghost use Rattle.isis_datagram.specs.Reading.{runs_of};
 ghost use Rattle.adjacency.specs.Views.{point_of};
 ghost use Rattle.pdu_sender.specs.Sends.{Sends, FitAreas, names_of};
 ghost use Rattle.router_core.specs.Sending.{octets_of, all_octets};
 
 use crate::datagrams::Datagrams;
 use adjacency::P2pAdj;
-use isis_base::{Level, LevelSet, OutOfMemory, SystemId};
+use isis_base::{Level, OutOfMemory, SystemId};
+use isis_datagram::runs;
 use pdu_sender::{Sender, lan_hello, point_hello};
 use router_circuits::Circuit;
 use std::alloc::Global;
@@ -118,14 +118,4 @@ fn put_run(
     let lan = on.lan_id(sender.system, sender.circuit, level);
     let octets = lan_hello(alloc, sender, level, lan, heard)?;
     out.push(octets)
-}
-
-/// Whether a set of levels has a level.
-fn runs(levels: LevelSet, level: Level) -> bool
-    ensures { result ≡ at (runs_of levels) level }
-{
-    match level {
-        Level::One => matches!(levels, LevelSet::One | LevelSet::Both),
-        Level::Two => matches!(levels, LevelSet::Two | LevelSet::Both),
-    }
 }

@@ -21,7 +21,7 @@ ghost use Rattle.router_core.specs.Heard.{HasOctets};
 ghost use Rattle.router_core.specs.Reached.{IsReached};
 
 use crate::event::NodeEvent;
-use isis_base::laws::lsp_id_law;
+use isis_base::laws::{lsp_id_law, octets_law};
 use isis_base::{AreaAddress, LspId, NodeId, SystemId};
 use router_desk::Config;
 
@@ -67,11 +67,6 @@ pub(crate) fn event_octets(event: &NodeEvent)
         NodeEvent::Second | NodeEvent::Pull { circuit: _ } | NodeEvent::Change(_) => {}
     }
 }
-
-/// Octets are below 256.
-pub(crate) fn octets_law(octets: &[u8])
-    ensures { AllByRecursion (λ octet. octet < 256) octets.now }
-{}
 
 /// Area addresses have one to 13 octets (ISO 10589 7.1.5).
 fn areas_law(areas: &[AreaAddress])

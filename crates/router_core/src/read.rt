@@ -10,8 +10,8 @@ ghost use Rattle.router_core.specs.Reads.{event_in, FitsRead};
 
 use crate::event::NodeEvent;
 use crate::machine::Machine;
-use crate::reached::octets_law;
 use isis_base::OutOfMemory;
+use isis_base::laws::octets_law;
 use isis_datagram::laws::good_law;
 use router_desk::laws::{passed_law, reading_law};
 use router_desk::{Change, DropCause, Opened};

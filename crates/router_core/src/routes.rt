@@ -1,7 +1,5 @@
 //! What routes look at of a router, and that routes follow it.
-ghost use Rattle.std.specs.Prelude.{◌≡◌, ◌<◌, true, false, length, IfOk, OnOk, OnErr};
-ghost use Rattle.std.specs.List.{AllByRecursion};
-ghost use Rattle.isis_model.specs.Numbers.{system_id, system_number};
+ghost use Rattle.std.specs.Prelude.{◌≡◌, true, false, length, IfOk, OnOk, OnErr};
 ghost use Rattle.isis_model.specs.Steps.{step};
 ghost use Rattle.router_routes.specs.Outlooks.{outlook_in, outlook_of};
 ghost use Rattle.router_routes.specs.Following.{IsFollowing};
@@ -14,7 +12,8 @@ use crate::machine::Machine;
 use crate::reached::outlook_laws;
 use crate::read::Read;
 use flag_sync::Book;
-use isis_base::{Level, OutOfMemory, SystemId};
+use isis_base::{Level, OutOfMemory};
+use isis_model::laws::identifiers::system_law;
 use router_desk::Change;
 use router_routes::{Following, Lent};
 
@@ -112,19 +111,4 @@ pub(crate) fn has_rows(book: &Book) -> bool
     ensures { result ≡ true → length book.now.rows ≡ length book.now.store.entries }
 {
     book.store().len() == book.flag_pages().len()
-}
-
-/// Six octets.
-fn are_six(octets: [u8; 6])
-    ensures six { length octets ≡ 6 }
-    ensures small { AllByRecursion (λ octet. octet < 256) octets }
-{
-    let [_a, _b, _c, _d, _e, _f] = octets;
-}
-
-/// A system ID is that of its number. It does nothing.
-fn system_law(system: SystemId)
-    ensures { system_id (system_number system) ≡ system }
-{
-    are_six(system.0);
 }

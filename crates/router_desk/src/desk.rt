@@ -5,8 +5,6 @@ ghost use Rattle.isis_base.specs.PduKinds.{header_length};
 ghost use Rattle.isis_tlv.specs.Framed.{IsPdu};
 ghost use Rattle.isis_pdu.specs.Views.{pdu_view, tlvs_of_pdu};
 ghost use Rattle.isis_pdu.specs.Layout.{kind_of};
-ghost use Rattle.isis_model.specs.Both.{at};
-ghost use Rattle.isis_datagram.specs.Reading.{runs_of};
 ghost use Rattle.isis_datagram.specs.Tests.{has_number, is_summed};
 ghost use Rattle.router_desk.specs.Table as table;
 ghost use Rattle.router_desk.specs.Opening.{frame_cause, seen_at, seen_on, result_in, LiesIn};
@@ -19,6 +17,7 @@ use crate::opened::Opened;
 use crate::values::value_place;
 use hmac_auth::{AuthFault, check_pdu};
 use isis_base::{CircuitKind, Level, LevelSet, Octets, PduKind, SystemId};
+use isis_datagram::runs;
 use isis_edge::{FrameFault, unwrap};
 use isis_pdu::laws::framed_law;
 use isis_pdu::{Pdu, decode};
@@ -142,7 +141,7 @@ impl Desk {
             PduKind::LanHello(level)
             | PduKind::Lsp(level)
             | PduKind::Csnp(level)
-            | PduKind::Psnp(level) => is_level_of(self.levels, level),
+            | PduKind::Psnp(level) => runs(self.levels, level),
         }
     }
 
@@ -187,16 +186,6 @@ fn auth_fault(key: &Option<Octets>, kind: PduKind, octets: &[u8]) -> Option<Auth
             let header = usize::from(kind.header_length());
             check_pdu(key.as_slice(), octets, header).err()
         }
-    }
-}
-
-/// Whether a set of levels has a level.
-fn is_level_of(levels: LevelSet, level: Level) -> bool
-    ensures { result ≡ at (runs_of levels) level }
-{
-    match level {
-        Level::One => matches!(levels, LevelSet::One | LevelSet::Both),
-        Level::Two => matches!(levels, LevelSet::Two | LevelSet::Both),
     }
 }
 

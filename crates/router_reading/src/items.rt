@@ -1,12 +1,12 @@
 //! The items of the TLVs of a code, of all of them in order.
-ghost use Rattle.std.specs.Prelude.{◌≡◌, ◌<◌, ◌==◌, length, IfOk};
-ghost use Rattle.std.specs.List.{AllByRecursion};
+ghost use Rattle.std.specs.Prelude.{◌≡◌, ◌==◌, IfOk};
 ghost use Rattle.std.specs.Option.{option_map};
 ghost use Rattle.std.specs.Result.{ok_prefix};
 ghost use Rattle.isis_model.specs.Numbers.{system_number, snpa_number};
 ghost use Rattle.isis_datagram.specs.Values as values;
 ghost use Rattle.isis_datagram.specs.Values.{lists, handshake, first_handshake};
 
+use isis_base::laws::are_six;
 use isis_base::{AreaAddress, LspEntry, OutOfMemory, Snpa, SystemId};
 use isis_tlv::{ThreeWay, Tlvs, areas, entries, snpas, three_way_value};
 use std::alloc::Global;
@@ -102,14 +102,6 @@ fn is_own(own: SystemId, snpa: Snpa) -> bool
     are_six(snpa.0);
     are_six(own.0);
     snpa.0 == own.0
-}
-
-/// Six octets.
-fn are_six(octets: [u8; 6])
-    ensures six { length octets ≡ 6 }
-    ensures small { AllByRecursion (λ octet. octet < 256) octets }
-{
-    let [_a, _b, _c, _d, _e, _f] = octets;
 }
 
 /// The first three-way value, where it has no fault.

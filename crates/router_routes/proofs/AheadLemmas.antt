@@ -10,15 +10,11 @@ use Rattle.lsp_store.specs.declared.entry.Entry.{Entry}
 use Rattle.lsp_view.specs.Views.{own_node, rows_in, overloaded_in}
 use Rattle.spf_tree.specs.Graphs.{AreUsable}
 use Rattle.spf_repair.specs.Changes.{RepairedOf}
-use Rattle.route_table.specs.declared.candidate.Candidate.{Candidate}
-use Rattle.route_table.specs.Routes.{IsHopTo, AreRoutes}
 use Rattle.router_routes.specs.declared.lent.Lent.{Lent}
 use Rattle.router_routes.specs.Told.{told_in}
 use Rattle.router_routes.specs.Outlooks.{Outlook, where_run, outlook_in}
-use Rattle.router_routes.specs.Candidates.{candidates_of, attached_of}
 use Rattle.router_routes.specs.Following.{FollowingOf, IsFollowing, IsLevel}
 use Rattle.router_routes.specs.Moved.{AreCosts, beside, entries_at, told_with, or_old}
-use Rattle.router_routes.proofs.GraphLemmas.{routes-of}
 
 pub run-at : (lent : Lent) (level : Level) → at (outlook_in lent).runs level ≡ at (runs_of lent.levels) level
 unfolding outlook_in
@@ -41,10 +37,6 @@ pub lent-costs : (lent : Lent) (f : FollowingOf) (level : Level) → IsFollowing
 unfolding outlook_in
 lent-costs lent f level.One is run = run-costs (runs_of lent.levels).one (told_in lent.one.now.entries) (own_node lent.system) f.levels.one run is.one.root is.one.graph
 lent-costs lent f level.Two is run = run-costs (runs_of lent.levels).two (told_in lent.two.now.entries) (own_node lent.system) f.levels.two run is.two.root is.two.graph
-
-pub stays-following : (o : Outlook) (f : FollowingOf) (candidates : List Candidate) → IsLevel o level.One f.levels.one → IsLevel o level.Two f.levels.two → AreRoutes (IsHopTo f.levels.one.graph f.levels.two.graph) candidates f.routes → candidates ≡ candidates_of o → f.attached ≡ attached_of o → IsFollowing o f
-stays-following o f candidates one two are same attached =
-    record { one = one; two = two; routes = routes-of o f.levels.one f.levels.two f.levels.one.graph f.levels.two.graph candidates f.routes one two refl refl same are; attached = attached }
 
 -- a level's costs once a node tells what is aside, as they are of what is lent
 pub moved-costs : (lent : Lent) (f : FollowingOf) (level : Level) (node : NodeId) (aside entries : List (LspId × Entry)) (old : RepairedOf) (answer new : Option RepairedOf) → IsFollowing (outlook_in lent) f → old ≡ at f.levels level → entries ≡ entries_at lent level → answer ≡ new

@@ -1,6 +1,6 @@
 -- Candidates as they are put together.
-use Rattle.std.proofs.Common.{◌≡◌, ◌∙◌, ℕ, Bool, true, false, List, [], ◌++◌, map, Option, Some, refl, sym, ap, subst, ◌&&◌, not, append_assoc, append-nil, ◌⊎◌, inl, inr}
-use Rattle.std.specs.List.{flat_map, list_any}
+use Rattle.std.proofs.Common.{◌≡◌, ◌∙◌, ℕ, Bool, true, false, List, [], ◌∷◌, ◌++◌, if◌then◌else◌, map, Option, Some, refl, sym, ap, subst, ◌&&◌, append-nil, ◌⊎◌, inl, inr}
+use Rattle.std.specs.List.{flat_map}
 use Rattle.isis_base.specs.declared.identifiers.SystemId.{SystemId}
 use Rattle.isis_base.specs.declared.identifiers.NodeId.{NodeId}
 use Rattle.isis_base.specs.declared.identifiers.LspId.{LspId}
@@ -12,7 +12,7 @@ use Rattle.isis_base.specs.declared.prefix.Prefix.{Prefix}
 use Rattle.isis_base.proofs.PrefixValues.{prefix_from-prefix}
 use Rattle.isis_datagram.specs.Reading.{runs_of}
 use Rattle.lsp_store.specs.declared.entry.Entry.{Entry}
-use Rattle.lsp_view.specs.Views.{own_node, lead_of, areas_at}
+use Rattle.lsp_view.specs.Views.{own_node, lead_of, areas_at, reach_in}
 use Rattle.route_leaking.specs.Attachment.{is_attached}
 use Rattle.route_table.specs.declared.candidate.Candidate.{Candidate}
 use Rattle.router_routes.specs.declared.lent.Lent.{Lent}
@@ -23,7 +23,8 @@ use Rattle.router_routes.specs.Following.{FollowingOf, IsLevel, IsFollowing, IsR
 use Rattle.router_routes.proofs.GraphLemmas.{IsGraphOf}
 use Rattle.router_routes.specs.Told.{told_in}
 use Rattle.router_routes.specs.Outlooks.{where_run, outlook_in}
-use Rattle.router_routes.specs.Candidates.{reached_in, system_candidates, level_candidates, own_candidate, attached_of, has_bit, default_by, default_of, defaults, is_for_all, firm_candidates, has_defaults, candidates_of}
+use Rattle.router_routes.specs.Candidates.{reached_in, system_candidates, level_candidates, attached_of, has_bit, default_by, default_of, defaults}
+use Rattle.router_routes.specs.Kept.{told_candidates}
 
 abbrev Told : Type 0
 Told = List (LspId × Entry)
@@ -42,33 +43,43 @@ defaults-where-run false told root systems same = ap (flat_map (default_of told)
 
 -- ---- all of them
 
-three : {X : Type 0} (l m n k a b c : List X) → l ≡ [] → m ≡ l ++ a → n ≡ m ++ b → k ≡ n ++ c → k ≡ a ++ (b ++ c)
-three l m n k a b c e f g h = h ∙ ap (λ (x : List _). x ++ c) (g ∙ ap (λ (x : List _). x ++ b) (f ∙ ap (λ (x : List _). x ++ a) e)) ∙ append_assoc a b c
+two : {X : Type 0} (l m n a b : List X) → l ≡ [] → m ≡ l ++ a → n ≡ m ++ b → n ≡ a ++ b
+two l m n a b e f g = g ∙ ap (λ (x : List _). x ++ b) (f ∙ ap (λ (x : List _). x ++ a) e)
 
 module _ (view : View) (ones twos : List (SystemId × ℕ)) (is-one : ones ≡ reached_in (outlook_at view).told.one (outlook_at view).root) (is-two : twos ≡ reached_in (outlook_at view).told.two (outlook_at view).root) where
-  pub firm-are : (l m n k : List Candidate) → l ≡ [] → m ≡ l ++ map (own_candidate (own_node view.system)) view.prefixes.now → n ≡ m ++ flat_map (system_candidates level.One (told_of view.one)) ones → k ≡ n ++ flat_map (system_candidates level.Two (told_of view.two)) twos
-      → k ≡ firm_candidates (outlook_at view)
-  unfolding outlook_at firm_candidates
-  firm-are l m n k e f g h =
+  pub told-are : (l m n : List Candidate) → l ≡ [] → m ≡ l ++ flat_map (system_candidates level.One (told_of view.one)) ones → n ≡ m ++ flat_map (system_candidates level.Two (told_of view.two)) twos → n ≡ told_candidates (outlook_at view)
+  unfolding outlook_at told_candidates
+  told-are l m n e f g =
       let one = told-where-run level.One (runs_of view.levels).one (told_of view.one) (own_node view.system) ones is-one in
-      let two = told-where-run level.Two (runs_of view.levels).two (told_of view.two) (own_node view.system) twos is-two in
-      three l m n k (map (own_candidate (own_node view.system)) view.prefixes.now) _ _ e f (g ∙ ap (λ (x : List Candidate). m ++ x) one) (h ∙ ap (λ (x : List Candidate). n ++ x) two)
+      let other = told-where-run level.Two (runs_of view.levels).two (told_of view.two) (own_node view.system) twos is-two in
+      two l m n _ _ e (f ∙ ap (λ (x : List Candidate). l ++ x) one) (g ∙ ap (λ (x : List Candidate). m ++ x) other)
 
-  pub all-with : (firm list : List Candidate) → firm ≡ firm_candidates (outlook_at view) → has_defaults (outlook_at view) ≡ true → list ≡ firm ++ flat_map (default_of (told_of view.one)) ones → list ≡ candidates_of (outlook_at view)
-  unfolding outlook_at candidates_of
-  all-with firm list is has same =
-      let some = defaults-where-run (runs_of view.levels).one (told_of view.one) (own_node view.system) ones is-one in
-      rw has (same ∙ ap (λ (x : List Candidate). firm ++ x) some ∙ ap (λ (x : List Candidate). x ++ defaults (where_run (runs_of view.levels).one (told_of view.one)) (own_node view.system)) is)
-
-  pub all-without : (firm : List Candidate) → firm ≡ firm_candidates (outlook_at view) → has_defaults (outlook_at view) ≡ false → firm ≡ candidates_of (outlook_at view)
-  unfolding candidates_of
-  all-without firm is has = rw has (is ∙ sym (append-nil (firm_candidates (outlook_at view))))
-
--- whether the way by default counts
-pub defaults-count : (view : View) (attached : Bool) (firm : List Candidate) → attached ≡ attached_of (outlook_at view) → firm ≡ firm_candidates (outlook_at view)
-    → (((runs_of view.levels).one && not attached) && not (list_any is_for_all firm)) ≡ has_defaults (outlook_at view)
+pub ways-are : (view : View) (ones : List (SystemId × ℕ)) → ones ≡ reached_in (outlook_at view).told.one (outlook_at view).root → flat_map (default_of (told_of view.one)) ones ≡ defaults (outlook_at view).told.one (outlook_at view).root
 unfolding outlook_at
-defaults-count view attached firm e f = rw (e, f) refl
+ways-are view ones is = defaults-where-run (runs_of view.levels).one (told_of view.one) (own_node view.system) ones is
+
+-- nodes of a level that isn't run tell nothing
+no-told : (level : Level) (systems : List (SystemId × ℕ)) → flat_map (system_candidates level []) systems ≡ []
+unfolding reach_in
+no-told level [] = refl
+no-told level (s ∷ systems) = no-told level systems
+
+no-ways : (systems : List (SystemId × ℕ)) → flat_map (default_of []) systems ≡ []
+no-ways [] = refl
+no-ways (s ∷ systems) = no-ways systems
+
+pub level-none-told : (level : Level) (runs : Bool) (told : Told) (systems : List (SystemId × ℕ)) (list : List Candidate) → runs ≡ false → list ≡ list ++ flat_map (system_candidates level (where_run runs told)) systems
+level-none-told level true told systems list is = absurd (let e : true ≡ false = is in cc)
+level-none-told level false told systems list is = sym (append-nil list) ∙ ap (λ (x : List Candidate). list ++ x) (sym (no-told level systems))
+
+pub ways-none : (view : View) (systems : List (SystemId × ℕ)) → (runs_of view.levels).one ≡ false → [] ≡ flat_map (default_of (outlook_at view).told.one) systems
+unfolding outlook_at
+ways-none view systems is = subst (λ (r : Bool). [] ≡ flat_map (default_of (where_run r (told_of view.one))) systems) (sym is) (sym (no-ways systems))
+
+-- whether the way by default counts, told by its parts
+pub where-two : (list firm ways : List Candidate) (t : Bool) → (t ≡ true → list ≡ firm ++ ways) → (t ≡ false → list ≡ firm) → list ≡ firm ++ (if t then ways else [])
+where-two list firm ways true f g = f refl
+where-two list firm ways false f g = g refl ∙ sym (append-nil firm)
 
 -- ---- the way by default
 

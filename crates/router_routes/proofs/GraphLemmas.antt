@@ -28,7 +28,7 @@ use Rattle.isis_base.specs.declared.identifiers.SystemId.{SystemId}
 use Rattle.isis_base.specs.declared.level.Level.TheVariants as level
 use Rattle.spf_repair.specs.Changes.{RepairedOf}
 use Rattle.router_routes.specs.Outlooks.{Outlook, where_run, usable_rows, graph_in}
-use Rattle.router_routes.specs.Candidates.{reached_by, reached_in, candidates_of, AreRoutesOf}
+use Rattle.router_routes.specs.Candidates.{reached_by, reached_in}
 use Rattle.router_routes.specs.Following.{IsLevel}
 use Rattle.router_routes.proofs.CostLemmas.{costs-least}
 
@@ -180,10 +180,9 @@ pub level-none : (runs : Bool) (told : Told) (root : NodeId) (list : List (Syste
 level-none true told root list run none = absurd (let e : true ≡ false = run in cc)
 level-none false told root list run none = none ∙ sym (no-reached root)
 
-pub routes-of : (o : Outlook) (one two : RepairedOf) (g h : GraphOf) (candidates : List Candidate) (routes : List Route) → IsLevel o level.One one → IsLevel o level.Two two → g ≡ one.graph → h ≡ two.graph → candidates ≡ candidates_of o
-    → AreRoutes (IsHopTo g h) candidates routes → AreRoutesOf o routes
-routes-of o one two g h candidates routes is-one is-two e f same are =
-    let of-g : IsGraphOf o.told.one o.root g = subst (IsGraphOf o.told.one o.root) (sym e) is-one.graph in
-    let of-h : IsGraphOf o.told.two o.root h = subst (IsGraphOf o.told.two o.root) (sym f) is-two.graph in
-    subst (λ (cs : List Candidate). AreRoutes (IsHopTo (graph_in o.told.one o.root) (graph_in o.told.two o.root)) cs routes) same
-    (routes-are o.told.one o.told.two o.root g h of-g of-h candidates routes are)
+-- next hops are the same by the levels' graphs of two outlooks for which one pair of graphs is right
+pub hop-same : (o p : Outlook) (one two : RepairedOf) → IsLevel o level.One one → IsLevel o level.Two two → IsLevel p level.One one → IsLevel p level.Two two → (c : Candidate) (hop : ℕ) → IsHopTo (graph_in o.told.one o.root) (graph_in o.told.two o.root) c hop ↔ IsHopTo (graph_in p.told.one p.root) (graph_in p.told.two p.root) c hop
+hop-same o p one two a b d e c hop =
+    let old = hop-by o.told.one o.told.two o.root one.graph two.graph a.graph b.graph c.rank (node_number c.origin) hop in
+    let new = hop-by p.told.one p.told.two p.root one.graph two.graph d.graph e.graph c.rank (node_number c.origin) hop in
+    ((λ h. new.0 (old.1 h)), (λ h. old.0 (new.1 h)))

@@ -11,4 +11,6 @@ pub mod MovedLemmas
 pub mod NearLemmas
 pub mod NearGraphLemmas
 pub mod AheadLemmas
-pub mod StaysLemmas
+pub mod KeptLemmas
+pub mod BesideLemmas
+pub mod SameLemmas

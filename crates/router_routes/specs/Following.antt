@@ -9,13 +9,18 @@ use Rattle.spf_repair.specs.Changes.{RepairedOf}
 use Rattle.isis_model.specs.Both.{Both}
 use Rattle.route_table.specs.declared.route.Route.{Route}
 use Rattle.router_routes.specs.Outlooks.{Outlook, IsGraph}
-use Rattle.router_routes.specs.Candidates.{AreRoutesOf, attached_of}
+use Rattle.route_table.specs.declared.candidate.Candidate.{Candidate}
+use Rattle.router_routes.specs.Candidates.{AreRoutesOf, attached_of, defaults}
+use Rattle.router_routes.specs.Kept.{AreSame, told_candidates}
 
--- each level's repaired distances, the routes, and whether the router is attached
+-- each level's repaired distances, the routes, whether the router is attached, what both levels tell of prefixes, and the
+-- ways by default
 pub record FollowingOf : Type 0 where
   pub levels : Both RepairedOf
   pub routes : List Route
   pub attached : Bool
+  pub told : List Candidate
+  pub defaults : List Candidate
 
 -- a level's distances are from the router's own node over the rows that may be walked
 pub record IsLevel (o : Outlook) (level : Level) (repaired : RepairedOf) : Type 0 where
@@ -28,6 +33,8 @@ pub record IsFollowing (o : Outlook) (f : FollowingOf) : Type 0 where
   pub two : IsLevel o level.Two f.levels.two
   pub routes : AreRoutesOf o f.routes
   pub attached : f.attached ≡ attached_of o
+  pub told : AreSame f.told (told_candidates o)
+  pub defaults : AreSame f.defaults (defaults o.told.one o.root)
 
 -- distances and graphs of both levels are from this node
 pub record IsRooted (root : NodeId) (f : FollowingOf) : Type 0 where

@@ -9,4 +9,4 @@ pub mod Differences
 pub mod Following
 pub mod Moved
 pub mod Near
-pub mod Silent
+pub mod Kept

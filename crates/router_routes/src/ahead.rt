@@ -1,30 +1,27 @@
 //! The value that will follow a router once one node tells other LSPs (own).
-ghost use Rattle.std.specs.Prelude.{◌≡◌, ◌+◌, ◌^◌, ◌<◌, ◌≤◌, List, true, false, IfOk, MatchOption};
-ghost use Rattle.isis_base.specs.declared.identifiers.LspId as lsp_id;
+ghost use Rattle.std.specs.Prelude.{◌≡◌, ◌∷◌, [], ◌+◌, ◌^◌, ◌<◌, ◌≤◌, false, IfOk, MatchOption};
 ghost use Rattle.isis_base.specs.declared.level.Level.TheVariants as level;
+ghost use Rattle.isis_base.specs.Identifiers.{IsId};
 ghost use Rattle.isis_datagram.specs.Reading.{runs_of};
 ghost use Rattle.isis_model.specs.Both.{at};
-ghost use Rattle.lsp_store.specs.declared.entry.Entry as entry;
 ghost use Rattle.spf_tree.specs.declared.row.Row as row;
 ghost use Rattle.spf_tree.specs.Graphs.{times};
 ghost use Rattle.router_routes.specs.Told.{told_in};
 ghost use Rattle.router_routes.specs.Outlooks.{Outlook, outlook_in};
-ghost use Rattle.router_routes.specs.Candidates.{attached_of, candidates_of};
 ghost use Rattle.router_routes.specs.Following.{IsFollowing, IsLevel};
+ghost use Rattle.router_routes.specs.Kept.{AreBeside, AreReached};
 ghost use Rattle.router_routes.specs.Moved.{IsMovedAt, HaveIds, AreFit, AreCosts, beside, entries_at, told_with, outlook_at, or_old};
-ghost use Rattle.router_routes.specs.Silent.{is_silent};
 
-use crate::candidates::{runs_one, runs_two};
 use crate::differences::rows_apart;
-use crate::following::{Following, Reached, all_reached, assembled, change, made};
+use crate::following::{Following, Reached, change, made};
+use crate::kept::moved;
 use crate::lent::Lent;
 use crate::near::{graph_near, touching};
-use crate::same::same_candidates;
 use crate::view::{View, as_moved};
 use isis_base::laws::lsp_id_law;
 use isis_base::{Level, LspId, NodeId, OutOfMemory};
+use isis_datagram::runs;
 use lsp_store::Store;
-use route_table::Candidate;
 use spf_repair::Repaired;
 use spf_tree::Row;
 use spf_tree::parts::{number, rows_in_order};
@@ -56,20 +53,23 @@ impl Following {
         lsp_id_law(LspId { node, number: 0 });
         let view = as_moved(lent, level, node, aside);
         match level_moved(self.alloc, old, store, node, aside) {
-            Ok(Some(new)) => self.with_level(&view, level, new),
-            Ok(None) => {
-                if is_silent(old, node) {
-                    return Ok(None);
-                }
-                self.next(&view)
-            }
+            Ok(Some(new)) => self.with_level(lent, &view, node, level, new),
+            Ok(None) => self.next(lent, &view, node),
             Err(error) => Err(error),
         }
     }
 
-    /// The value that follows what is seen, where no distances change; `None` where nothing of it
-    /// changes.
-    pub(crate) fn next(&self, view: &View<'_>) -> Result<Option<Following>, OutOfMemory>
+    /// The value that follows what is seen, where a node tells other things and no distances change; `None` where nothing of
+    /// it changes.
+    fn next(
+        &self,
+        lent: &Lent<'_>,
+        view: &View<'_>,
+        node: NodeId,
+    ) -> Result<Option<Following>, OutOfMemory>
+        requires follows { IsFollowing (outlook_in lent.now) self.now }
+        requires beside { AreBeside (node ∷ []) (outlook_in lent.now) (outlook_at view.now) }
+        requires node { IsId (record { node = node; number = 0 }) }
         requires fit { AreFit view.now }
         requires one { IsLevel (outlook_at view.now) level.One self.now.levels.one }
         requires two { IsLevel (outlook_at view.now) level.Two self.now.levels.two }
@@ -77,24 +77,30 @@ impl Following {
             (IsFollowing (outlook_at view.now) self.now)
             (λ f. IsFollowing (outlook_at view.now) f)) }
     {
-        let reached = all_reached(self.alloc, view, &self.one, &self.two)?;
-        if is_reached(self.attached, self.candidates.as_slice(), &reached) {
-            return Ok(None);
-        }
+        let reached = match self.reached_after(lent, view, &[node], &self.one, &self.two) {
+            Ok(Some(reached)) => reached,
+            Ok(None) => return Ok(None),
+            Err(error) => return Err(error),
+        };
         match made_of(self.alloc, view, reached, &self.one, &self.two) {
             Ok(next) => Ok(Some(next)),
             Err(error) => Err(error),
         }
     }
 
-    /// The value that follows what is seen, where these are a level's new distances and the other level's
-    /// stay.
+    /// The value that follows what is seen, where a node tells other things, and these are a level's new distances and the other
+    /// level's stay.
     fn with_level(
         &self,
+        lent: &Lent<'_>,
         view: &View<'_>,
+        node: NodeId,
         level: Level,
         new: Repaired,
     ) -> Result<Option<Following>, OutOfMemory>
+        requires follows { IsFollowing (outlook_in lent.now) self.now }
+        requires beside { AreBeside (node ∷ []) (outlook_in lent.now) (outlook_at view.now) }
+        requires node { IsId (record { node = node; number = 0 }) }
         requires fit { AreFit view.now }
         requires level { IsLevel (outlook_at view.now) level new }
         requires other { IsLevel (outlook_at view.now) (beside level)
@@ -104,54 +110,122 @@ impl Following {
             (λ f. IsFollowing (outlook_at view.now) f)) }
     {
         let next = match level {
-            Level::One => with_one(self.alloc, view, new, &self.two),
-            Level::Two => with_two(self.alloc, view, &self.one, new),
+            Level::One => self.with_one(lent, view, node, new),
+            Level::Two => self.with_two(lent, view, node, new),
         };
         match next {
             Ok(next) => Ok(Some(next)),
             Err(error) => Err(error),
         }
     }
-}
 
-/// The value of new distances of level 1, and of a copy of those of level 2.
-fn with_one(
-    alloc: Global,
-    view: &View<'_>,
-    one: Repaired,
-    two: &Repaired,
-) -> Result<Following, OutOfMemory>
-    requires fit { AreFit view.now }
-    requires one { IsLevel (outlook_at view.now) level.One one }
-    requires two { IsLevel (outlook_at view.now) level.Two two.now }
-    ensures { IfOk result (λ f. IsFollowing (outlook_at view.now) f) }
-{
-    match two.copy() {
-        Ok(two) => assembled(alloc, view, one, two),
-        Err(error) => {
-            drop(one);
-            Err(error)
+    /// The value of new distances of level 1, and of a copy of those of level 2.
+    fn with_one(
+        &self,
+        lent: &Lent<'_>,
+        view: &View<'_>,
+        node: NodeId,
+        one: Repaired,
+    ) -> Result<Following, OutOfMemory>
+        requires follows { IsFollowing (outlook_in lent.now) self.now }
+        requires beside { AreBeside (node ∷ []) (outlook_in lent.now) (outlook_at view.now) }
+        requires node { IsId (record { node = node; number = 0 }) }
+        requires fit { AreFit view.now }
+        requires one { IsLevel (outlook_at view.now) level.One one }
+        requires two { IsLevel (outlook_at view.now) level.Two self.now.levels.two }
+        ensures { IfOk result (λ f. IsFollowing (outlook_at view.now) f) }
+    {
+        let (reached, two) = match self.beside_one(lent, view, node, &one) {
+            Ok(both) => both,
+            Err(error) => {
+                drop(one);
+                return Err(error);
+            }
+        };
+        made(self.alloc, view, reached, one, two)
+    }
+
+    /// What is reached at new distances of level 1, and a copy of those of level 2.
+    fn beside_one(
+        &self,
+        lent: &Lent<'_>,
+        view: &View<'_>,
+        node: NodeId,
+        one: &Repaired,
+    ) -> Result<(Reached, Repaired), OutOfMemory>
+        requires follows { IsFollowing (outlook_in lent.now) self.now }
+        requires beside { AreBeside (node ∷ []) (outlook_in lent.now) (outlook_at view.now) }
+        requires node { IsId (record { node = node; number = 0 }) }
+        requires fit { AreFit view.now }
+        requires one { IsLevel (outlook_at view.now) level.One one.now }
+        requires two { IsLevel (outlook_at view.now) level.Two self.now.levels.two }
+        ensures reached { IfOk result (λ both. AreReached (outlook_at view.now) both.0.told.items
+            both.0.defaults.items both.0.attached) }
+        ensures two { IfOk result (λ both. both.1 ≡ self.now.levels.two) }
+    {
+        let moved = moved(self.alloc, node, &self.one, one)?;
+        let two = self.two.copy()?;
+        match self.reached_with(lent, view, moved.as_slice(), one, &self.two) {
+            Ok(reached) => Ok((reached, two)),
+            Err(error) => {
+                drop(two);
+                Err(error)
+            }
         }
     }
-}
 
-/// The value of a copy of the distances of level 1, and of new ones of level 2.
-fn with_two(
-    alloc: Global,
-    view: &View<'_>,
-    one: &Repaired,
-    two: Repaired,
-) -> Result<Following, OutOfMemory>
-    requires fit { AreFit view.now }
-    requires one { IsLevel (outlook_at view.now) level.One one.now }
-    requires two { IsLevel (outlook_at view.now) level.Two two }
-    ensures { IfOk result (λ f. IsFollowing (outlook_at view.now) f) }
-{
-    match one.copy() {
-        Ok(one) => assembled(alloc, view, one, two),
-        Err(error) => {
-            drop(two);
-            Err(error)
+    /// The value of a copy of the distances of level 1, and of new ones of level 2.
+    fn with_two(
+        &self,
+        lent: &Lent<'_>,
+        view: &View<'_>,
+        node: NodeId,
+        two: Repaired,
+    ) -> Result<Following, OutOfMemory>
+        requires follows { IsFollowing (outlook_in lent.now) self.now }
+        requires beside { AreBeside (node ∷ []) (outlook_in lent.now) (outlook_at view.now) }
+        requires node { IsId (record { node = node; number = 0 }) }
+        requires fit { AreFit view.now }
+        requires one { IsLevel (outlook_at view.now) level.One self.now.levels.one }
+        requires two { IsLevel (outlook_at view.now) level.Two two }
+        ensures { IfOk result (λ f. IsFollowing (outlook_at view.now) f) }
+    {
+        let (reached, one) = match self.beside_two(lent, view, node, &two) {
+            Ok(both) => both,
+            Err(error) => {
+                drop(two);
+                return Err(error);
+            }
+        };
+        made(self.alloc, view, reached, one, two)
+    }
+
+    /// What is reached at new distances of level 2, and a copy of those of level 1.
+    fn beside_two(
+        &self,
+        lent: &Lent<'_>,
+        view: &View<'_>,
+        node: NodeId,
+        two: &Repaired,
+    ) -> Result<(Reached, Repaired), OutOfMemory>
+        requires follows { IsFollowing (outlook_in lent.now) self.now }
+        requires beside { AreBeside (node ∷ []) (outlook_in lent.now) (outlook_at view.now) }
+        requires node { IsId (record { node = node; number = 0 }) }
+        requires fit { AreFit view.now }
+        requires one { IsLevel (outlook_at view.now) level.One self.now.levels.one }
+        requires two { IsLevel (outlook_at view.now) level.Two two.now }
+        ensures reached { IfOk result (λ both. AreReached (outlook_at view.now) both.0.told.items
+            both.0.defaults.items both.0.attached) }
+        ensures one { IfOk result (λ both. both.1 ≡ self.now.levels.one) }
+    {
+        let moved = moved(self.alloc, node, &self.two, two)?;
+        let one = self.one.copy()?;
+        match self.reached_with(lent, view, moved.as_slice(), &self.one, two) {
+            Ok(reached) => Ok((reached, one)),
+            Err(error) => {
+                drop(one);
+                Err(error)
+            }
         }
     }
 }
@@ -166,8 +240,8 @@ fn made_of(
 ) -> Result<Following, OutOfMemory>
     requires one { IsLevel (outlook_at view.now) level.One one.now }
     requires two { IsLevel (outlook_at view.now) level.Two two.now }
-    requires candidates { reached.candidates.items ≡ candidates_of (outlook_at view.now) }
-    requires attached { reached.attached ≡ attached_of (outlook_at view.now) }
+    requires reached { AreReached (outlook_at view.now) reached.told.items reached.defaults.items
+        reached.attached }
     ensures { IfOk result (λ f. IsFollowing (outlook_at view.now) f) }
 {
     match copies(one, two) {
@@ -194,22 +268,11 @@ fn copies(one: &Repaired, two: &Repaired) -> Result<(Repaired, Repaired), OutOfM
     }
 }
 
-/// Whether what is kept is what is reached now.
-fn is_reached(attached: bool, candidates: &[Candidate], reached: &Reached) -> bool
-    ensures attached { result ≡ true → attached ≡ reached.now.attached }
-    ensures candidates { result ≡ true → candidates.now ≡ reached.now.candidates.items }
-{
-    attached == reached.attached && same_candidates(candidates, reached.candidates.as_slice())
-}
-
 /// Whether a level is run.
 fn is_run(lent: &Lent<'_>, level: Level) -> bool
     ensures { result ≡ at (runs_of lent.now.levels) level }
 {
-    match level {
-        Level::One => runs_one(lent.levels),
-        Level::Two => runs_two(lent.levels),
-    }
+    runs(lent.levels, level)
 }
 
 /// A level's database.
@@ -220,21 +283,6 @@ fn store_at<'a>(lent: &Lent<'a>, level: Level) -> &'a Store
         Level::One => lent.one,
         Level::Two => lent.two,
     }
-}
-
-/// Whether a node is no system that the level of these costs reaches beside its root.
-#[tactic(auto, unfolding(crate::specs::Silent::is_silent))]
-fn is_silent(costs: &Repaired, node: NodeId) -> bool
-    ensures { (told : List (lsp_id.LspId × entry.Entry)) → AreCosts told costs.now.root costs.now
-        → result ≡ is_silent told costs.now.root node }
-{
-    if node.pseudonode != 0 {
-        return true;
-    }
-    if number(node) == number(costs.graph().root()) {
-        return true;
-    }
-    costs.distances().get(node).is_none()
 }
 
 /// A level's costs once a node tells what is aside; `None` where its rows stay.

@@ -4,35 +4,31 @@ ghost use Rattle.std.specs.List.{flat_map, list_any};
 ghost use Rattle.isis_datagram.specs.Reading.{runs_of};
 ghost use Rattle.lsp_view.specs.Views.{own_node};
 ghost use Rattle.router_routes.specs.Moved.{IsFit, AreFit, told_of, outlook_at};
-ghost use Rattle.router_routes.specs.Candidates.{reached_in, rank_in, told_candidate, system_candidates, own_candidate, attached_of, default_of, is_for_all, firm_candidates, candidates_of};
+ghost use Rattle.router_routes.specs.Candidates.{reached_in, rank_in, told_candidate, system_candidates, own_candidate, defaults, default_of, is_for_all, candidates_of};
+ghost use Rattle.router_routes.specs.Kept.{AreReached, AreSame, told_candidates};
 
 use crate::view::{LevelView, View, store_of};
 use isis_base::{Level, LevelSet, NodeId, OutOfMemory, Prefix, SystemId};
+use isis_datagram::runs;
 use isis_tlv::PrefixItem;
 use lsp_view::{is_attached, reach_into};
 use route_table::{Candidate, Rank};
 use std::alloc::Global;
 
-/// All candidates of a router, where these are the systems that its levels reach, and whether it is
-/// attached.
+/// All candidates of a router: its own prefixes, what both levels tell, and the ways by default where they count.
 pub(crate) fn all_candidates(
     alloc: Global,
     view: &View<'_>,
-    ones: &[(SystemId, u64)],
-    twos: &[(SystemId, u64)],
+    told: &[Candidate],
+    ways: &[Candidate],
     attached: bool,
 ) -> Result<Vec<Candidate>, OutOfMemory>
-    requires fit { AreFit view.now }
-    requires ones { ones.now
-        ≡ reached_in (outlook_at view.now).told.one (outlook_at view.now).root }
-    requires twos { twos.now
-        ≡ reached_in (outlook_at view.now).told.two (outlook_at view.now).root }
-    requires attached { attached ≡ attached_of (outlook_at view.now) }
-    ensures { IfOk result (λ list. list.items ≡ candidates_of (outlook_at view.now)) }
+    requires { AreReached (outlook_at view.now) told.now ways.now attached }
+    ensures { IfOk result (λ list. AreSame list.items (candidates_of (outlook_at view.now))) }
 {
-    let mut list = firm_candidates(alloc, view, ones, twos)?;
+    let mut list = firm_candidates(alloc, view, told)?;
     if has_defaults(view.levels, attached, list.as_slice()) {
-        add_defaults(&mut list, &view.one, ones)?;
+        add_all(&mut list, ways)?;
     }
     Ok(list)
 }
@@ -41,6 +37,21 @@ pub(crate) fn all_candidates(
 fn firm_candidates(
     alloc: Global,
     view: &View<'_>,
+    told: &[Candidate],
+) -> Result<Vec<Candidate>, OutOfMemory>
+    ensures { IfOk result (λ list. list.items
+        ≡ map (own_candidate (outlook_at view.now).root) (outlook_at view.now).prefixes ++ told.now) }
+{
+    let mut list = with_room(alloc, told.len())?;
+    add_own(&mut list, own_node(view.system), view.prefixes)?;
+    add_all(&mut list, told)?;
+    Ok(list)
+}
+
+/// What the levels tell, where these are the systems that they reach.
+pub(crate) fn told_by(
+    alloc: Global,
+    view: &View<'_>,
     ones: &[(SystemId, u64)],
     twos: &[(SystemId, u64)],
 ) -> Result<Vec<Candidate>, OutOfMemory>
@@ -49,13 +60,39 @@ fn firm_candidates(
         ≡ reached_in (outlook_at view.now).told.one (outlook_at view.now).root }
     requires twos { twos.now
         ≡ reached_in (outlook_at view.now).told.two (outlook_at view.now).root }
-    ensures { IfOk result (λ list. list.items ≡ firm_candidates (outlook_at view.now)) }
+    ensures { IfOk result (λ list. list.items ≡ told_candidates (outlook_at view.now)) }
 {
     let mut list = with_room(alloc, ones.len())?;
-    add_own(&mut list, own_node(view.system), view.prefixes)?;
     add_told(alloc, &mut list, Level::One, &view.one, ones)?;
     add_told(alloc, &mut list, Level::Two, &view.two, twos)?;
     Ok(list)
+}
+
+/// The ways by default, where these are the systems that level 1 reaches.
+pub(crate) fn defaults_by(
+    alloc: Global,
+    view: &View<'_>,
+    ones: &[(SystemId, u64)],
+) -> Result<Vec<Candidate>, OutOfMemory>
+    requires fit { AreFit view.now }
+    requires ones { ones.now
+        ≡ reached_in (outlook_at view.now).told.one (outlook_at view.now).root }
+    ensures { IfOk result (λ list. list.items
+        ≡ defaults (outlook_at view.now).told.one (outlook_at view.now).root) }
+{
+    let mut list = Vec::new(alloc);
+    add_defaults(&mut list, &view.one, ones)?;
+    Ok(list)
+}
+
+/// Adds candidates.
+pub(crate) fn add_all(list: &mut Vec<Candidate>, more: &[Candidate]) -> Result<(), OutOfMemory>
+    ensures { OnOk result (list.new.items ≡ list.old.items ++ more.now) }
+{
+    match list.extend_from_slice(more) {
+        Ok(()) => Ok(()),
+        Err(_) => Err(OutOfMemory),
+    }
 }
 
 /// The empty list, with room for so many candidates, one for each system.
@@ -80,20 +117,14 @@ fn has_defaults(levels: LevelSet, attached: bool, firm: &[Candidate]) -> bool
 pub(crate) fn runs_one(levels: LevelSet) -> bool
     ensures { result ≡ (runs_of levels).one }
 {
-    match levels {
-        LevelSet::One | LevelSet::Both => true,
-        LevelSet::Two => false,
-    }
+    runs(levels, Level::One)
 }
 
 /// Whether level 2 is run.
 pub(crate) fn runs_two(levels: LevelSet) -> bool
     ensures { result ≡ (runs_of levels).two }
 {
-    match levels {
-        LevelSet::Two | LevelSet::Both => true,
-        LevelSet::One => false,
-    }
+    runs(levels, Level::Two)
 }
 
 /// The node that a system is.
@@ -137,7 +168,7 @@ fn own_candidate(root: NodeId, own: (Prefix, u32)) -> Candidate
 }
 
 /// Adds what the systems of a level tell.
-fn add_told(
+pub(crate) fn add_told(
     alloc: Global,
     list: &mut Vec<Candidate>,
     level: Level,
@@ -240,7 +271,7 @@ fn has_for_all(list: &[Candidate]) -> bool
 }
 
 /// Adds the way by default to each of these systems that is attached.
-fn add_defaults(
+pub(crate) fn add_defaults(
     list: &mut Vec<Candidate>,
     told: &LevelView<'_>,
     systems: &[(SystemId, u64)],

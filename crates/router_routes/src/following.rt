@@ -7,12 +7,12 @@ ghost use Rattle.spf_tree.specs.declared.row.Row as row;
 ghost use Rattle.spf_tree.specs.Graphs.{AreUsable, times};
 ghost use Rattle.router_routes.specs.Told.{told_in};
 ghost use Rattle.router_routes.specs.Outlooks.{outlook_in, where_run};
-ghost use Rattle.router_routes.specs.Candidates.{AreRoutesOf, attached_of, candidates_of, reached_in};
+ghost use Rattle.router_routes.specs.Candidates.{AreRoutesOf, attached_of, reached_in};
 ghost use Rattle.router_routes.specs.Following.{IsFollowing, IsRooted, IsLevel, Counts};
 ghost use Rattle.router_routes.specs.Moved.{AreFit, outlook_at};
-ghost use Rattle.route_table.specs.Routes.{IsHopTo, AreRoutes};
+ghost use Rattle.router_routes.specs.Kept.{AreReached};
 
-use crate::candidates::{all_candidates, own_node, runs_one, runs_two};
+use crate::candidates::{all_candidates, defaults_by, own_node, runs_one, runs_two, told_by};
 use crate::differences::rows_apart;
 use crate::lent::Lent;
 use crate::level_graph::graph_of;
@@ -29,8 +29,8 @@ use std::marker::{Brand, Model};
 use std::sync::ledger::{Blank, Ledger};
 
 /// What a router keeps of its graphs and routes: for each level the least costs from its own node,
-/// repaired when rows change; the routes, with the candidates that they are made from; and whether it is
-/// attached.
+/// repaired when rows change; the routes; whether it is attached; and, in no order, what its levels tell of prefixes, and the
+/// ways by default.
 #[derive(Drop)]
 pub struct Following {
     pub(crate) alloc: Global,
@@ -38,12 +38,12 @@ pub struct Following {
     pub(crate) two: Repaired,
     pub(crate) routes: Routes,
     pub(crate) attached: bool,
-    pub(crate) candidates: Vec<Candidate>,
+    pub(crate) told: Vec<Candidate>,
+    pub(crate) defaults: Vec<Candidate>,
 }
 
 impl Model for Following {
     ghost use Rattle.router_routes.specs.Following.{FollowingOf};
-    ghost use Rattle.route_table.specs.Routes.{IsHopTo, AreRoutes};
 
     ghost Value = { FollowingOf };
 
@@ -51,10 +51,9 @@ impl Model for Following {
       levels = record { one = f.one; two = f.two };
       routes = f.routes;
       attached = f.attached;
+      told = f.told.items;
+      defaults = f.defaults.items;
     } };
-
-    ghost invariant = { λ f.
-        AreRoutes (IsHopTo f.one.graph f.two.graph) f.candidates.items f.routes };
 }
 
 impl Following {
@@ -83,11 +82,32 @@ impl Following {
         ensures two { OnOk result (Counts self.old.levels.two self.new.levels.two) }
         ensures err { OnErr result (self.new ≡ self.old) }
     {
+        match self.later(lent, one, two) {
+            Ok(next) => {
+                *self = next;
+                Ok(())
+            }
+            Err(error) => Err(error),
+        }
+    }
+
+    /// The value that follows what is lent, where these levels' rows may have changed.
+    fn later(&self, lent: &Lent<'_>, one: bool, two: bool) -> Result<Following, OutOfMemory>
+        requires rooted { IsRooted (own_node lent.now.system) self.now }
+        requires one { one ≡ false → IsLevel (outlook_in lent.now) level.One self.now.levels.one }
+        requires two { two ≡ false → IsLevel (outlook_in lent.now) level.Two self.now.levels.two }
+        ensures follows { IfOk result (λ f. IsFollowing (outlook_in lent.now) f) }
+        ensures one { IfOk result (λ f. Counts self.now.levels.one f.levels.one) }
+        ensures two { IfOk result (λ f. Counts self.now.levels.two f.levels.two) }
+    {
         let one = if_moved(self.alloc, one, &self.one, runs_one(lent.levels), lent.one)?;
-        let two = if_moved(self.alloc, two, &self.two, runs_two(lent.levels), lent.two)?;
-        let next = assembled(self.alloc, &as_lent(lent), one, two)?;
-        *self = next;
-        Ok(())
+        match if_moved(self.alloc, two, &self.two, runs_two(lent.levels), lent.two) {
+            Ok(two) => assembled(self.alloc, &as_lent(lent), one, two),
+            Err(error) => {
+                drop(one);
+                Err(error)
+            }
+        }
     }
 
     /// The routes, in order of prefix.
@@ -227,27 +247,29 @@ pub(crate) fn made(
 ) -> Result<Following, OutOfMemory>
     requires one { IsLevel (outlook_at view.now) level.One one }
     requires two { IsLevel (outlook_at view.now) level.Two two }
-    requires candidates { reached.candidates.items ≡ candidates_of (outlook_at view.now) }
-    requires attached { reached.attached ≡ attached_of (outlook_at view.now) }
+    requires reached { AreReached (outlook_at view.now) reached.told.items reached.defaults.items
+        reached.attached }
     ensures follows { IfOk result (λ f. IsFollowing (outlook_at view.now) f) }
     ensures one { IfOk result (λ f. f.levels.one ≡ one) }
     ensures two { IfOk result (λ f. f.levels.two ≡ two) }
 {
-    let routes = table(alloc, view, reached.candidates.as_slice(), &one, &two)?;
+    let routes = table(alloc, view, &reached, &one, &two)?;
     Ok(Following {
         alloc,
         one,
         two,
         routes,
         attached: reached.attached,
-        candidates: reached.candidates,
+        told: reached.told,
+        defaults: reached.defaults,
     })
 }
 
-/// What routes are made from, and whether the router is attached.
+/// What both levels tell of prefixes, the ways by default, and whether the router is attached.
 #[derive(Drop)]
 pub(crate) struct Reached {
-    pub candidates: Vec<Candidate>,
+    pub told: Vec<Candidate>,
+    pub defaults: Vec<Candidate>,
     pub attached: bool,
 }
 
@@ -261,22 +283,27 @@ pub(crate) fn all_reached(
     requires fit { AreFit view.now }
     requires one { IsLevel (outlook_at view.now) level.One one.now }
     requires two { IsLevel (outlook_at view.now) level.Two two.now }
-    ensures candidates { IfOk result
-        (λ reached. reached.candidates.items ≡ candidates_of (outlook_at view.now)) }
-    ensures attached { IfOk result (λ reached. reached.attached ≡ attached_of (outlook_at view.now)) }
+    ensures { IfOk result (λ reached. AreReached (outlook_at view.now) reached.told.items
+        reached.defaults.items reached.attached) }
 {
     let ones = level_systems(alloc, runs_one(view.levels), &view.one, one)?;
     let twos = level_systems(alloc, runs_two(view.levels), &view.two, two)?;
     let attached = attached(alloc, view, &twos)?;
-    let candidates = all_candidates(alloc, view, &ones, &twos, attached)?;
+    let told = told_by(alloc, view, &ones, &twos)?;
+    let defaults = defaults_by(alloc, view, &ones)?;
     Ok(Reached {
-        candidates,
+        told,
+        defaults,
         attached,
     })
 }
 
 /// Whether the router is attached, where these are the systems that level 2 reaches.
-fn attached(alloc: Global, view: &View<'_>, twos: &[(SystemId, u64)]) -> Result<bool, OutOfMemory>
+pub(crate) fn attached(
+    alloc: Global,
+    view: &View<'_>,
+    twos: &[(SystemId, u64)],
+) -> Result<bool, OutOfMemory>
     requires fit { AreFit view.now }
     requires twos { twos.now
         ≡ reached_in (outlook_at view.now).told.two (outlook_at view.now).root }
@@ -288,25 +315,30 @@ fn attached(alloc: Global, view: &View<'_>, twos: &[(SystemId, u64)]) -> Result<
     }
 }
 
-/// The routes of these candidates.
+/// The routes of what is reached.
 fn table(
     alloc: Global,
     view: &View<'_>,
-    candidates: &[Candidate],
+    reached: &Reached,
     one: &Repaired,
     two: &Repaired,
 ) -> Result<Routes, OutOfMemory>
     requires one { IsLevel (outlook_at view.now) level.One one.now }
     requires two { IsLevel (outlook_at view.now) level.Two two.now }
-    requires candidates { candidates.now ≡ candidates_of (outlook_at view.now) }
-    ensures are { IfOk result (λ routes. AreRoutesOf (outlook_at view.now) routes) }
-    ensures made { IfOk result
-        (λ routes. AreRoutes (IsHopTo one.now.graph two.now.graph) candidates.now routes) }
+    requires reached { AreReached (outlook_at view.now) reached.now.told.items
+        reached.now.defaults.items reached.now.attached }
+    ensures { IfOk result (λ routes. AreRoutesOf (outlook_at view.now) routes) }
 {
-    let _view = view;
+    let candidates = all_candidates(
+        alloc,
+        view,
+        reached.told.as_slice(),
+        reached.defaults.as_slice(),
+        reached.attached,
+    )?;
     routes(
         alloc,
-        candidates,
+        candidates.as_slice(),
         one.graph(),
         one.distances(),
         two.graph(),

@@ -13,7 +13,7 @@
 //! - `view.rt`: the same where one node's LSPs are read aside; `near.rt`: the rows that start or end at a node
 //! - `following.rt`: the value that follows a router's databases; `leaks.rt`: what it leaks
 //! - `ahead.rt`: the value that will follow once one node tells other LSPs; `own_prefixes.rt`: the same once own prefixes
-//!   are others; `same.rt`: candidates compared
+//!   are others; `kept.rt`: what stays where some nodes moved; `same.rt`: candidates compared
 //! - `laws.rt`: the plain programs of the definitions are what the routes say
 #![tactic(auto)]
 
@@ -21,6 +21,7 @@ mod ahead;
 mod candidates;
 mod differences;
 mod following;
+mod kept;
 pub mod laws;
 mod leaks;
 mod lent;

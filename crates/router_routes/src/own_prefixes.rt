@@ -4,7 +4,7 @@ ghost use Rattle.router_routes.specs.Outlooks.{Outlook, outlook_in};
 ghost use Rattle.router_routes.specs.Following.{IsFollowing};
 ghost use Rattle.router_routes.specs.Moved.{AreFit, outlook_at};
 
-use crate::following::Following;
+use crate::following::{Following, made};
 use crate::lent::Lent;
 use crate::view::{LevelView, View};
 use isis_base::{OutOfMemory, Prefix};
@@ -22,7 +22,13 @@ impl Following {
             → MatchOption next (IsFollowing o self.now) (λ f. IsFollowing o f)) }
     {
         let view = as_lent_with(lent, prefixes);
-        self.next(&view)
+        let reached = self.reached()?;
+        let one = self.one.copy()?;
+        let two = self.two.copy()?;
+        match made(self.alloc, &view, reached, one, two) {
+            Ok(next) => Ok(Some(next)),
+            Err(error) => Err(error),
+        }
     }
 }
 

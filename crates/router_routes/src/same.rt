@@ -5,23 +5,8 @@ use isis_base::laws::lsp_number_law;
 use isis_base::{LspId, NodeId, Prefix};
 use route_table::{Candidate, Rank};
 
-/// Whether two lists have the same candidates in the same order.
-pub(crate) fn same_candidates(old: &[Candidate], new: &[Candidate]) -> bool
-    ensures { result ≡ true → old.now ≡ new.now }
-{
-    if old.len() != new.len() {
-        return false;
-    }
-    for place in 0..old.len() {
-        if !same_candidate(&old[place], &new[place]) {
-            return false;
-        }
-    }
-    true
-}
-
 /// Whether two candidates are one.
-fn same_candidate(old: &Candidate, new: &Candidate) -> bool
+pub(crate) fn same_candidate(old: &Candidate, new: &Candidate) -> bool
     ensures { result ≡ true → old.now ≡ new.now }
 {
     old.cost == new.cost

@@ -13,6 +13,7 @@ ghost use Rattle.router_routes.specs.Told.{told_in};
 ghost use Rattle.router_routes.specs.Moved.{HaveIds, IsFit, told_of, told_at, told_before, told_past};
 ghost use Rattle.router_routes.specs.Outlooks.{where_run};
 ghost use Rattle.router_routes.specs.Candidates.{leads_other, reached_by, reached_in};
+ghost use Rattle.router_routes.specs.Kept.{system_at, systems_among};
 
 use crate::view::{LevelView, store_of};
 use isis_base::laws::lsp_id_law;
@@ -194,6 +195,39 @@ fn add_span(
         }
     }
     Ok(())
+}
+
+/// The systems that these nodes are, beside the root, each with its cost; none of those that have no distance.
+pub(crate) fn systems_among(
+    alloc: Global,
+    distances: &Distances,
+    root: u64,
+    nodes: &[NodeId],
+) -> Result<Vec<(SystemId, u64)>, OutOfMemory>
+    ensures { IfOk result
+        (λ list. list.items ≡ systems_among (cost_at distances.now) root nodes.now) }
+{
+    let mut list = Vec::new(alloc);
+    for node in nodes {
+        match add_node(&mut list, *node, distances, root) {
+            Ok(()) => {}
+            Err(error) => return Err(error),
+        }
+    }
+    Ok(list)
+}
+
+/// Adds the system that a node is, where it is another than the root and has a distance.
+fn add_node(
+    list: &mut Vec<(SystemId, u64)>,
+    node: NodeId,
+    distances: &Distances,
+    root: u64,
+) -> Result<(), OutOfMemory>
+    ensures { OnOk result (list.new.items
+        ≡ list.old.items ++ system_at (cost_at distances.now) root node) }
+{
+    add_reached(list, LspId { node, number: 0 }, distances, root)
 }
 
 /// Adds the system whose number 0 this is, where it is another than the root and has a distance.

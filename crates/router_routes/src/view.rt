@@ -1,11 +1,13 @@
 //! What routes look at, where what one node tells in one level may be read elsewhere (own).
-ghost use Rattle.std.specs.Prelude.{◌≡◌, true};
+ghost use Rattle.std.specs.Prelude.{◌≡◌, ◌∷◌, [], true};
 ghost use Rattle.isis_base.specs.declared.level.Level.TheVariants as level;
 ghost use Rattle.isis_datagram.specs.Reading.{runs_of};
 ghost use Rattle.isis_model.specs.Both.{at};
 ghost use Rattle.spf_repair.specs.Changes.{RepairedOf};
 ghost use Rattle.router_routes.specs.Following.{IsLevel};
 ghost use Rattle.lsp_view.specs.Views.{own_node, lead_of, reach_in};
+ghost use Rattle.lsp_store.specs.Maps.{RisesFrom};
+ghost use Rattle.router_routes.specs.Kept.{AreBeside};
 ghost use Rattle.router_routes.specs.Told.{told_in};
 ghost use Rattle.router_routes.specs.Outlooks.{Outlook, outlook_in};
 ghost use Rattle.router_routes.specs.Moved.{IsMovedAt, HaveIds, FitMoved, IsFit, AreFit, AreCosts, beside, entries_at, told_of, told_with, outlook_by, outlook_at};
@@ -68,6 +70,8 @@ pub(crate) fn as_moved<'a>(
     ensures other { (costs : RepairedOf) → IsLevel (outlook_in lent.now) (beside level) costs
         → IsLevel (outlook_at result) (beside level) costs }
     ensures fit { AreFit result }
+    ensures beside { RisesFrom 0 (entries_at lent.now level)
+        → AreBeside (node ∷ []) (outlook_in lent.now) (outlook_at result) }
 {
     let moved = Moved { node, aside };
     match level {

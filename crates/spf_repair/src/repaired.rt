@@ -5,7 +5,7 @@ ghost use Rattle.spf_tree.specs.declared.row.Row.{Row};
 ghost use Rattle.spf_tree.specs.Nodes.{node_number};
 ghost use Rattle.spf_tree.specs.Graphs.{times};
 ghost use Rattle.spf_tree.specs.Distances.{cost_at, AreDistances};
-ghost use Rattle.spf_repair.specs.Change.{IsBound, OnlyFalls};
+ghost use Rattle.spf_repair.specs.Change.{AreChanged, IsBound, OnlyFalls};
 
 use crate::change::repair;
 use crate::replace::replaced;
@@ -89,15 +89,11 @@ impl Repaired {
             return Ok(());
         }
         let alloc = self.alloc;
-        let before = rows_in_order(&self.graph);
-        let rows = match replaced(alloc, before, removed, added) {
-            Ok(rows) => rows,
-            Err(error) => return Err(error),
-        };
-        let graph = match with_rows(alloc, &self.graph, rows, added) {
+        let graph = match exchanged(alloc, &self.graph, removed, added) {
             Ok(graph) => graph,
             Err(error) => return Err(error),
         };
+        let before = rows_in_order(&self.graph);
         let old = self.distances.labels();
         let root = number(self.root);
         let labels = match repair(alloc, before, &graph, root, old, removed, added, steps) {
@@ -146,5 +142,31 @@ impl Repaired {
             distances,
             changes: self.changes,
         })
+    }
+}
+
+/// A graph with rows taken out and rows put in.
+fn exchanged(
+    alloc: Global,
+    graph: &Graph,
+    removed: &[Row],
+    added: &[Row],
+) -> Result<Graph, OutOfMemory>
+    requires there { (x : Row) → times removed.now x ≤ times graph.now.rows x }
+    requires few { length graph.now.rows + length added.now < 2 ^ 32 + length removed.now }
+    ensures rows { IfOk result (λ new. (x : Row) → times new.rows x + times removed.now x
+        ≡ times graph.now.rows x + times added.now x) }
+    ensures root { IfOk result (λ new. new.root ≡ graph.now.root) }
+    ensures differ { IfOk result
+        (λ new. AreChanged graph.now.rows new.rows removed.now added.now) }
+{
+    let before = rows_in_order(graph);
+    let rows = match replaced(alloc, before, removed, added) {
+        Ok(rows) => rows,
+        Err(error) => return Err(error),
+    };
+    match with_rows(alloc, graph, rows, added) {
+        Ok(new) => Ok(new),
+        Err(error) => Err(error),
     }
 }

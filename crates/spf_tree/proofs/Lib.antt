@@ -11,3 +11,4 @@ pub mod ReachLemmas
 pub mod HopLemmas
 pub mod TableLemmas
 pub mod DistanceLemmas
+pub mod ApartLemmas

@@ -62,6 +62,23 @@ impl Distances {
         Distances { labels }
     }
 
+    /// The nodes whose distances aren't those that they have among others.
+    pub fn apart(&self, alloc: Global, other: &Distances) -> Result<Vec<u64>, OutOfMemory>
+        ensures { IfOk result (λ nodes. (node : ℕ) → (Contains nodes.items node → ⊥)
+            → cost_at self.now node ≡ cost_at other.now node) }
+    {
+        let (old, new) = (self.labels(), other.labels());
+        let mut nodes = Vec::new(alloc);
+        match old.add_apart(new, &mut nodes) {
+            Ok(()) => {}
+            Err(error) => return Err(error),
+        }
+        match new.add_apart(old, &mut nodes) {
+            Ok(()) => Ok(nodes),
+            Err(error) => Err(error),
+        }
+    }
+
     /// The costs of these nodes alone.
     pub fn of_nodes(&self, alloc: Global, nodes: &[u64]) -> Result<Labels, OutOfMemory>
         requires { IsStrictlyIncreasing nodes.now }

@@ -4,7 +4,7 @@ ghost use Rattle.std.specs.Prelude.{◌≡◌, ◌≤◌, ◌<◌, ◌==◌, ℕ
 ghost use Rattle.std.specs.List.{Contains};
 ghost use Rattle.spf_tree.specs.declared.label.Label.{Label};
 ghost use Rattle.spf_tree.specs.Labels.{at};
-ghost use Rattle.std.specs.Prelude.{None, IfOk, map};
+ghost use Rattle.std.specs.Prelude.{None, IfOk, OnOk, map};
 ghost use Rattle.std.specs.List.Sorted.{IsStrictlyIncreasing};
 ghost use Rattle.spf_tree.specs.Labels.{IsPlace, IsRising, carry, names};
 ghost use Rattle.spf_tree.specs.Places.{node_at};
@@ -79,6 +79,21 @@ fn next_place(labels: &[Label], from: usize, node: u64) -> usize
     place
 }
 
+/// Adds the node of a label, unless this is its cost.
+fn add_unless_same(nodes: &mut Vec<u64>, label: Label, cost: Option<u64>) -> Result<(), OutOfMemory>
+    ensures kept { OnOk result ((node : ℕ) → Contains nodes.old.items node
+        → Contains nodes.new.items node) }
+    ensures apart { OnOk result ((Contains nodes.new.items label.node → ⊥) → cost ≡ label.cost) }
+{
+    if cost == label.cost {
+        return Ok(());
+    }
+    match nodes.push(label.node) {
+        Ok(()) => Ok(()),
+        Err(_) => Err(OutOfMemory),
+    }
+}
+
 impl Labels {
     /// The old cost of each node, in order, unless it is marked.
     pub fn carried(
@@ -106,6 +121,27 @@ impl Labels {
             }
         }
         Ok(Labels { items })
+    }
+
+    /// Adds each node whose cost isn't the one that other labels have.
+    pub fn add_apart(&self, other: &Labels, nodes: &mut Vec<u64>) -> Result<(), OutOfMemory>
+        ensures kept { OnOk result ((node : ℕ) → Contains nodes.old.items node
+            → Contains nodes.new.items node) }
+        ensures apart { OnOk result ((node : ℕ) → Contains (names self.now) node
+            → (Contains nodes.new.items node → ⊥) → at other.now node ≡ at self.now node) }
+    {
+        other.rising();
+        let mut at = 0;
+        for place in 0..self.items.len() {
+            let label = self.items[place];
+            at = next_place(other.items.as_slice(), at, label.node);
+            let cost = other.get_at(at, label.node);
+            match add_unless_same(nodes, label, cost) {
+                Ok(()) => {}
+                Err(error) => return Err(error),
+            }
+        }
+        Ok(())
     }
 
     /// The same nodes without costs.

@@ -1,4 +1,7 @@
-use Rattle.std.proofs.Common.{◌≡◌, ◌∙◌, true, sym, subst}
+use Rattle.std.proofs.Common.{◌≡◌, ◌∙◌, ◌∷◌, [], true, sym, subst}
+use Rattle.lsp_store.specs.Maps.{RisesFrom}
+use Rattle.router_routes.specs.Kept.{AreBeside}
+use Rattle.router_routes.proofs.BesideLemmas.{beside-one, beside-two}
 use Rattle.isis_base.specs.declared.level.Level.{Level}
 use Rattle.isis_base.specs.declared.level.Level.TheVariants as level
 use Rattle.isis_datagram.specs.Reading.{runs_of}
@@ -75,3 +78,17 @@ pub returns-in-Two-clause-fit : goal.returns-in-Two-clause-fit
 returns-in-Two-clause-fit c =
     let ids = subst (λ (l : Level). HaveIds (entries_at c.args.lent.now l)) c.in-Two.is c.requires.store in
     c.view_of-in-Two.ensures.fit tt (ids, c.requires.aside)
+
+-- src/view.rt
+pub returns-in-One-clause-beside : goal.returns-in-One-clause-beside
+returns-in-One-clause-beside c = λ rises.
+    let moved : Moved = record { node = c.args.node; aside = c.args.aside } in
+    subst (λ (o : Outlook). AreBeside (c.args.node ∷ []) (outlook_in c.args.lent.now) o) (sym c.view_of.ensures.same)
+    (beside-one c.args.lent.now moved (subst (λ (l : Level). HaveIds (entries_at c.args.lent.now l)) c.in-One.is c.requires.store) (subst (λ (l : Level). RisesFrom 0 (entries_at c.args.lent.now l)) c.in-One.is rises))
+
+-- src/view.rt
+pub returns-in-Two-clause-beside : goal.returns-in-Two-clause-beside
+returns-in-Two-clause-beside c = λ rises.
+    let moved : Moved = record { node = c.args.node; aside = c.args.aside } in
+    subst (λ (o : Outlook). AreBeside (c.args.node ∷ []) (outlook_in c.args.lent.now) o) (sym c.view_of-in-Two.ensures.same)
+    (beside-two c.args.lent.now moved (subst (λ (l : Level). HaveIds (entries_at c.args.lent.now l)) c.in-Two.is c.requires.store) (subst (λ (l : Level). RisesFrom 0 (entries_at c.args.lent.now l)) c.in-Two.is rises))

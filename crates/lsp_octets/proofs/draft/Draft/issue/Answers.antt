@@ -75,11 +75,11 @@ returns-clause-checksum c =
     let sum =
     c.sum-checksum.ensures.sum
     ∙ ap (λ (octets : List ℕ). checksum_with (drop 12 octets) (length octets - 25)) signed
-    ∙ sum-is d.level d.id d.flags d.keyed d.tlvs d.octets c.self.invariant key same number c.is_id.ensures in
+    ∙ sum-is d.level d.id d.flags d.keyed d.tlvs d.octets c.self.invariant key same number c.lsp_id_law.ensures in
     let octets =
     c.sum-checksum.ensures.octets
     ∙ ap (with_checksum 24 c.sum-checksum.result) signed
-    ∙ octets-are d.level d.id d.flags d.keyed d.tlvs d.octets c.self.invariant key same number c.is_id.ensures c.sum-checksum.result sum in
+    ∙ octets-are d.level d.id d.flags d.keyed d.tlvs d.octets c.self.invariant key same number c.lsp_id_law.ensures c.sum-checksum.result sum in
     subst (λ (v : DraftView). c.sum-checksum.result ≡ issued_checksum key v.level (lsp_number v.id) number v.contents) c.self.view_is sum
 
 pub returns-clause-octets : goal.returns-clause-octets
@@ -96,11 +96,11 @@ returns-clause-octets c =
     let sum =
     c.sum-checksum.ensures.sum
     ∙ ap (λ (octets : List ℕ). checksum_with (drop 12 octets) (length octets - 25)) signed
-    ∙ sum-is d.level d.id d.flags d.keyed d.tlvs d.octets c.self.invariant key same number c.is_id.ensures in
+    ∙ sum-is d.level d.id d.flags d.keyed d.tlvs d.octets c.self.invariant key same number c.lsp_id_law.ensures in
     let octets =
     c.sum-checksum.ensures.octets
     ∙ ap (with_checksum 24 c.sum-checksum.result) signed
-    ∙ octets-are d.level d.id d.flags d.keyed d.tlvs d.octets c.self.invariant key same number c.is_id.ensures c.sum-checksum.result sum in
+    ∙ octets-are d.level d.id d.flags d.keyed d.tlvs d.octets c.self.invariant key same number c.lsp_id_law.ensures c.sum-checksum.result sum in
     subst (λ (v : DraftView). c.sum-checksum.new.octets ≡ octets_of_pdu (issued_pdu key v.level (lsp_number v.id) number v.contents)) c.self.view_is octets
 
 pub returns-clause-cell : goal.returns-clause-cell
@@ -117,11 +117,11 @@ returns-clause-cell c =
     let sum =
     c.sum-checksum.ensures.sum
     ∙ ap (λ (octets : List ℕ). checksum_with (drop 12 octets) (length octets - 25)) signed
-    ∙ sum-is d.level d.id d.flags d.keyed d.tlvs d.octets c.self.invariant key same number c.is_id.ensures in
+    ∙ sum-is d.level d.id d.flags d.keyed d.tlvs d.octets c.self.invariant key same number c.lsp_id_law.ensures in
     let octets =
     c.sum-checksum.ensures.octets
     ∙ ap (with_checksum 24 c.sum-checksum.result) signed
-    ∙ octets-are d.level d.id d.flags d.keyed d.tlvs d.octets c.self.invariant key same number c.is_id.ensures c.sum-checksum.result sum in
+    ∙ octets-are d.level d.id d.flags d.keyed d.tlvs d.octets c.self.invariant key same number c.lsp_id_law.ensures c.sum-checksum.result sum in
     let view : DraftView = record { level = d.level; id = d.id; contents = record { flags = d.flags; tlvs = d.tlvs }; keyed = d.keyed } in
     subst (λ (v : DraftView). IsCellIssued key number v (2 * number + 0) c.sum-checksum.result d.flags c.sum-checksum.new.octets) c.self.view_is
     (cell-issued key number view (2 * number + 0) c.sum-checksum.result c.sum-checksum.new.octets (omega arith) sum octets)
@@ -140,9 +140,9 @@ returns-clause-long c =
     let sum =
     c.sum-checksum.ensures.sum
     ∙ ap (λ (octets : List ℕ). checksum_with (drop 12 octets) (length octets - 25)) signed
-    ∙ sum-is d.level d.id d.flags d.keyed d.tlvs d.octets c.self.invariant key same number c.is_id.ensures in
+    ∙ sum-is d.level d.id d.flags d.keyed d.tlvs d.octets c.self.invariant key same number c.lsp_id_law.ensures in
     let octets =
     c.sum-checksum.ensures.octets
     ∙ ap (with_checksum 24 c.sum-checksum.result) signed
-    ∙ octets-are d.level d.id d.flags d.keyed d.tlvs d.octets c.self.invariant key same number c.is_id.ensures c.sum-checksum.result sum in
+    ∙ octets-are d.level d.id d.flags d.keyed d.tlvs d.octets c.self.invariant key same number c.lsp_id_law.ensures c.sum-checksum.result sum in
     let all = ap length octets in omega (arith, all)

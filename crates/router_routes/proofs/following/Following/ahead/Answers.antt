@@ -1,15 +1,14 @@
-use Rattle.std.proofs.Common.{◌≡◌, ◌∙◌, true, false, List, Some, None, ap, sym, subst}
+use Rattle.std.proofs.Common.{◌≡◌, ◌∙◌, true, false, List, Some, None, sym, subst}
 use Rattle.isis_base.specs.declared.identifiers.LspId.{LspId}
 use Rattle.isis_model.specs.Both.{at}
 use Rattle.lsp_store.specs.declared.entry.Entry.{Entry}
+use Rattle.lsp_store.specs.Maps.{RisesFrom}
 use Rattle.spf_repair.specs.Changes.{RepairedOf}
 use Rattle.router_routes.specs.Told.{told_in}
-use Rattle.router_routes.specs.Outlooks.{Outlook, outlook_in}
+use Rattle.router_routes.specs.Outlooks.{outlook_in}
 use Rattle.router_routes.specs.Following.{IsLevel}
-use Rattle.router_routes.specs.Moved.{HaveIds, AreCosts, beside, entries_at, outlook_at}
-use Rattle.router_routes.specs.Silent.{is_silent}
+use Rattle.router_routes.specs.Moved.{AreCosts, beside, entries_at, outlook_at}
 use Rattle.router_routes.proofs.AheadLemmas.{run-at, level-of, lent-costs, moved-costs, both-levels}
-use Rattle.router_routes.proofs.StaysLemmas.{lent-stays}
 use Rattle.router_routes.proofs.following.Following.ahead.Goals as goal
 
 -- src/ahead.rt
@@ -37,21 +36,6 @@ pub with_level-requires-clause-other : goal.with_level-requires-clause-other
 with_level-requires-clause-other c = c.as_moved-view.ensures.other (at c.args.self.now.levels (beside c.args.level)) (level-of (outlook_in c.args.lent.now) c.args.self.now (beside c.args.level) c.requires.follows)
 
 -- src/ahead.rt
-pub returns-then-is_silent : goal.returns-then-is_silent
-returns-then-is_silent c = λ o moved.
-    let lent = c.args.lent.now in
-    let run = sym c.is_run.ensures ∙ c.if-not-is_run.false in
-    let told = told_in (entries_at lent c.args.level) in
-    let costs = subst (λ (r : RepairedOf). AreCosts told r.root r) (sym c.repaired-old.ensures) (lent-costs lent c.args.self.now c.args.level c.requires.follows run) in
-    let silent = sym (ap (λ (r : RepairedOf). is_silent told r.root c.args.node) c.repaired-old.ensures) ∙ sym (c.is_silent.ensures told costs) ∙ c.if-is_silent.true in
-    let now =
-    c.as_moved-view.ensures.level c.repaired-old.result.now run
-    (moved-costs lent c.args.self.now c.args.level c.args.node (told_in c.args.aside.now.entries) c.store_at-store.result.now.entries c.repaired-old.result.now c.in-Ok-None.field-0 None c.requires.follows c.repaired-old.ensures c.store_at-store.ensures c.in-Ok-None.field-0-is c.in-Ok-None.ensures) in
-    lent-stays lent o c.args.self.now c.args.level c.args.node c.args.aside.now.entries c.requires.follows run (subst HaveIds c.store_at-store.ensures c.len-ids.ensures.ids) c.len-aside_ids.ensures.ids c.lsp_id_law.ensures silent moved
-    (subst (λ (p : Outlook). IsLevel p c.args.level (at c.args.self.now.levels c.args.level)) (sym (c.as_moved-view.ensures.same o moved))
-    (subst (λ (r : RepairedOf). IsLevel (outlook_at c.as_moved-view.result) c.args.level r) c.repaired-old.ensures now))
-
--- src/ahead.rt
 pub next-requires-clause-one : goal.next-requires-clause-one
 next-requires-clause-one c =
     let run = sym c.is_run.ensures ∙ c.if-not-is_run.false in
@@ -70,3 +54,11 @@ next-requires-clause-two c =
     (moved-costs c.args.lent.now c.args.self.now c.args.level c.args.node (told_in c.args.aside.now.entries) c.store_at-store.result.now.entries c.repaired-old.result.now c.in-Ok-None.field-0 None c.requires.follows c.repaired-old.ensures c.store_at-store.ensures c.in-Ok-None.field-0-is c.in-Ok-None.ensures) in
     let other = c.as_moved-view.ensures.other (at c.args.self.now.levels (beside c.args.level)) (level-of (outlook_in c.args.lent.now) c.args.self.now (beside c.args.level) c.requires.follows) in
     (both-levels (outlook_at c.as_moved-view.result) c.args.self.now c.args.level (subst (λ (r : RepairedOf). IsLevel (outlook_at c.as_moved-view.result) c.args.level r) c.repaired-old.ensures now) other).1
+
+-- src/ahead.rt
+pub next-requires-clause-beside : goal.next-requires-clause-beside
+next-requires-clause-beside c = c.as_moved-view.ensures.beside (subst (RisesFrom 0) c.store_at-store.ensures c.len-ids.ensures.rises)
+
+-- src/ahead.rt
+pub with_level-requires-clause-beside : goal.with_level-requires-clause-beside
+with_level-requires-clause-beside c = c.as_moved-view.ensures.beside (subst (RisesFrom 0) c.store_at-store.ensures c.len-ids.ensures.rises)

@@ -4,7 +4,7 @@ use Rattle.spf_repair.specs.Changes.{RepairedOf}
 use Rattle.router_routes.specs.Outlooks.{Outlook, outlook_in}
 use Rattle.router_routes.specs.Following.{FollowingOf, IsLevel}
 use Rattle.router_routes.proofs.CandidateLemmas.{lent-graph-one, lent-graph-two, level-one, level-two}
-use Rattle.router_routes.proofs.following.Following.follow.Goals as goal
+use Rattle.router_routes.proofs.following.Following.later.Goals as goal
 
 -- src/following.rt
 pub if_moved-requires-clause-stays : goal.if_moved-requires-clause-stays
@@ -29,5 +29,5 @@ assembled-requires-clause-one c =
 pub assembled-requires-clause-two : goal.assembled-requires-clause-two
 assembled-requires-clause-two c =
     let root = ap (λ (f : FollowingOf). f.levels.two.root) c.self.view_is ∙ c.requires.rooted.two in
-    subst (λ (o : Outlook). IsLevel o level.Two c.in_ok-two.two) (sym c.as_lent.ensures.same)
-    (level-two c.args.lent.now c.in_ok-two.two c.self.inside.two.root c.runs_two.result c.runs_two.ensures root c.in_ok-two.ensures.root c.in_ok-two.ensures.graph)
+    subst (λ (o : Outlook). IsLevel o level.Two c.in-Ok.two) (sym c.as_lent.ensures.same)
+    (level-two c.args.lent.now c.in-Ok.two c.self.inside.two.root c.runs_two.result c.runs_two.ensures root c.in-Ok.ensures.root c.in-Ok.ensures.graph)

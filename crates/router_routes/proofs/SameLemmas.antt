@@ -1,0 +1,340 @@
+-- Candidates of two outlooks that reach the same, and what follows a router then.
+use Rattle.std.proofs.Common.{◌≡◌, ◌∙◌, ℕ, ◌<◌, Bool, true, false, ◌&&◌, not, List, [], ◌∷◌, ◌++◌, map, filter, Option, Some, None, refl, sym, ap, subst, arith, inl, inr, if◌then◌else◌}
+use Rattle.std.specs.Prelude.{MatchOption}
+use Rattle.std.specs.List.{AllByRecursion, Contains, flat_map, list_any}
+use Rattle.std.proofs.lemmas.List.Elements.{Contains-append_left, Contains-push, Contains-push_cases}
+use Rattle.isis_base.specs.declared.identifiers.SystemId.{SystemId}
+use Rattle.isis_base.specs.declared.identifiers.NodeId.{NodeId}
+use Rattle.isis_base.specs.declared.identifiers.LspId.{LspId}
+use Rattle.isis_base.specs.declared.prefix.Prefix.{Prefix}
+use Rattle.isis_base.specs.declared.level.Level.TheVariants as level
+use Rattle.isis_base.specs.Identifiers.{IsId, lsp_number}
+use Rattle.isis_base.proofs.ArrayLemmas.{lsp_number-one}
+use Rattle.isis_datagram.specs.Reading.{runs_of}
+use Rattle.lsp_store.specs.declared.entry.Entry.{Entry}
+use Rattle.lsp_view.specs.Views.{own_node}
+use Rattle.spf_tree.specs.Nodes.{node_number}
+use Rattle.spf_tree.specs.Graphs.{GraphOf}
+use Rattle.spf_tree.specs.Distances.{cost_at, AreDistances}
+use Rattle.spf_repair.specs.Changes.{RepairedOf}
+use Rattle.route_table.specs.declared.candidate.Candidate.{Candidate}
+use Rattle.route_table.specs.declared.route.Route.{Route}
+use Rattle.route_table.specs.Routes.{IsHopTo, AreRoutes}
+use Rattle.route_table.proofs.OrderLemmas.{routes_by}
+use Rattle.router_routes.specs.declared.lent.Lent.{Lent}
+use Rattle.router_routes.specs.declared.view.Moved.{Moved}
+use Rattle.router_routes.specs.declared.view.View.{View}
+use Rattle.router_routes.specs.Told.{told_in}
+use Rattle.router_routes.specs.Outlooks.{Outlook, graph_in, outlook_in, where_run}
+use Rattle.router_routes.specs.Candidates.{reached_in, reached_by, system_candidates, level_candidates, default_of, defaults, own_candidate, attached_of, is_for_all, firm_candidates, has_defaults, candidates_of, AreRoutesOf}
+use Rattle.router_routes.specs.Following.{FollowingOf, IsFollowing, IsLevel}
+use Rattle.router_routes.specs.Kept.{AreSame, AreAmong, AreBeside, AreNodes, AreReached, CostBeside, HaveToldIds, is_among, is_beside, stays, systems_among, told_candidates}
+use Rattle.router_routes.specs.Moved.{AreFit, FitMoved, HaveIds, outlook_at, told_by_nodes, told_moved, told_of}
+use Rattle.router_routes.proofs.GraphLemmas.{IsGraphOf, reached-are, routes-are, hop-same}
+use Rattle.spf_tree.proofs.SearchLemmas.{contains_cases, contains_none}
+use Rattle.router_routes.proofs.IdLemmas.{number-0}
+use Rattle.router_routes.proofs.MovedLemmas.{told-ids, with-ids}
+use Rattle.router_routes.proofs.KeptLemmas.{among-in, in-among, telling-default}
+use Rattle.router_routes.proofs.BesideLemmas.{same-refl, same-both, same-back, same-append, same-parts, any-same, by-less, one-kept, both-kept}
+
+abbrev Pair : Type 0
+Pair = LspId × Entry
+
+abbrev pub AreCostsOf : RepairedOf → Type 0
+AreCostsOf r = AreDistances r.graph.rows (node_number r.root) r.distances
+
+-- ---- candidates
+
+where-same : (a b : Bool) (xs ys us vs : List Candidate) → a ≡ b → AreSame xs us → AreSame ys vs → AreSame (xs ++ (if a then ys else [])) (us ++ (if b then vs else []))
+where-same true true xs ys us vs e f g = same-append xs ys us vs f g
+where-same false false xs ys us vs e f g = same-append xs [] us [] f (same-refl [] [] refl)
+where-same true false xs ys us vs e f g = absurd (let h : true ≡ false = e in cc)
+where-same false true xs ys us vs e f g = absurd (let h : false ≡ true = e in cc)
+
+firm-told : (o : Outlook) → firm_candidates o ≡ map (own_candidate o.root) o.prefixes ++ told_candidates o
+unfolding firm_candidates told_candidates
+firm-told o = refl
+
+module _ (o : Outlook) (told ways : List Candidate) (same : AreSame told (told_candidates o)) (ways-same : AreSame ways (defaults o.told.one o.root)) where
+  abbrev Firm : List Candidate
+  Firm = map (own_candidate o.root) o.prefixes ++ told
+
+  pub firm-same : AreSame Firm (firm_candidates o)
+  firm-same = same-both Firm _ (firm_candidates o) (same-append (map (own_candidate o.root) o.prefixes) told (map (own_candidate o.root) o.prefixes) (told_candidates o) (same-refl _ _ refl) same) (same-refl _ _ (sym (firm-told o)))
+
+  pub has-same : (attached : Bool) → attached ≡ attached_of o → ((o.runs.one && not attached) && not (list_any is_for_all Firm)) ≡ has_defaults o
+  has-same attached e =
+      ap (λ (t : Bool). (o.runs.one && not t) && not (list_any is_for_all Firm)) e
+      ∙ ap (λ (t : Bool). (o.runs.one && not (attached_of o)) && not t) (any-same is_for_all Firm (firm_candidates o) firm-same)
+
+  pub all-same : (has : Bool) → has ≡ has_defaults o → AreSame (Firm ++ (if has then ways else [])) (candidates_of o)
+  unfolding candidates_of
+  all-same has e = where-same has (has_defaults o) Firm ways (firm_candidates o) (defaults o.told.one o.root) e firm-same ways-same
+
+-- two outlooks with the same members have the same candidates
+pub candidates-same : (o p : Outlook) (told ways : List Candidate) → p.root ≡ o.root → p.runs ≡ o.runs → p.prefixes ≡ o.prefixes → attached_of o ≡ attached_of p → AreSame told (told_candidates o) → AreSame ways (defaults o.told.one o.root) → AreSame told (told_candidates p) → AreSame ways (defaults p.told.one p.root) → AreSame (candidates_of o) (candidates_of p)
+candidates-same o p told ways root runs prefixes attached a b c d =
+    let firm : map (own_candidate o.root) o.prefixes ++ told ≡ map (own_candidate p.root) p.prefixes ++ told =
+    ap (λ (n : NodeId). map (own_candidate n) o.prefixes ++ told) (sym root) ∙ ap (λ (ps : List (Prefix × ℕ)). map (own_candidate p.root) ps ++ told) (sym prefixes) in
+    let has : has_defaults o ≡ has_defaults p =
+    sym (has-same o told ways a b (attached_of o) refl)
+    ∙ ap (λ (r : Bool). (r && not (attached_of o)) && not (list_any is_for_all (map (own_candidate o.root) o.prefixes ++ told))) (sym (ap (λ (r : _). r.one) runs))
+    ∙ ap (λ (cs : List Candidate). (p.runs.one && not (attached_of o)) && not (list_any is_for_all cs)) firm
+    ∙ has-same p told ways c d (attached_of o) attached in
+    let one = all-same o told ways a b (has_defaults o) refl in
+    let two = all-same p told ways c d (has_defaults o) has in
+    same-both (candidates_of o) _ (candidates_of p) (same-back _ (candidates_of o) one)
+    (subst (λ (cs : List Candidate). AreSame (cs ++ (if has_defaults o then ways else [])) (candidates_of p)) (sym firm) two)
+
+-- ---- routes
+
+-- routes of other candidates with the same members
+pub routes-same : (o : Outlook) (cs : List Candidate) (routes : List Route) → AreSame cs (candidates_of o) → AreRoutes (IsHopTo (graph_in o.told.one o.root) (graph_in o.told.two o.root)) cs routes → AreRoutesOf o routes
+routes-same o cs routes same are =
+    let hop = IsHopTo (graph_in o.told.one o.root) (graph_in o.told.two o.root) in
+    routes_by hop hop cs (candidates_of o) routes (λ c. (same c).1) (λ c. (same c).0) (λ c h. ((λ x. x), (λ x. x))) are
+
+pub routes-of : (o : Outlook) (one two : RepairedOf) (g h : GraphOf) (cs : List Candidate) (routes : List Route) → IsLevel o level.One one → IsLevel o level.Two two → g ≡ one.graph → h ≡ two.graph → AreSame cs (candidates_of o) → AreRoutes (IsHopTo g h) cs routes → AreRoutesOf o routes
+routes-of o one two g h cs routes is-one is-two e f same are =
+    let of-g : IsGraphOf o.told.one o.root g = subst (IsGraphOf o.told.one o.root) (sym e) is-one.graph in
+    let of-h : IsGraphOf o.told.two o.root h = subst (IsGraphOf o.told.two o.root) (sym f) is-two.graph in
+    routes-same o cs routes same (routes-are o.told.one o.told.two o.root g h of-g of-h cs routes are)
+
+-- what follows a router follows it where its costs are right still and it reaches the same
+pub stays-following : (o p : Outlook) (f : FollowingOf) → IsFollowing o f → p.root ≡ o.root → p.runs ≡ o.runs → p.prefixes ≡ o.prefixes → IsLevel p level.One f.levels.one → IsLevel p level.Two f.levels.two → AreSame f.told (told_candidates p) → AreSame f.defaults (defaults p.told.one p.root) → f.attached ≡ attached_of p → IsFollowing p f
+stays-following o p f is root runs prefixes one two told ways attached =
+    record {
+      one = one;
+      two = two;
+      routes =
+          let same = candidates-same o p f.told f.defaults root runs prefixes (sym is.attached ∙ attached) is.told is.defaults told ways in
+          routes_by (IsHopTo (graph_in o.told.one o.root) (graph_in o.told.two o.root)) (IsHopTo (graph_in p.told.one p.root) (graph_in p.told.two p.root)) (candidates_of o) (candidates_of p) f.routes (λ c. (same c).1) (λ c. (same c).0)
+          (λ c hop. hop-same o p f.levels.one f.levels.two is.one is.two one two c hop) is.routes;
+      attached = attached;
+      told = told;
+      defaults = ways;
+    }
+
+-- ---- what is reached once some nodes moved
+
+module _ (o p : Outlook) (nodes : List NodeId) (node-ids : AreNodes nodes) (beside : AreBeside nodes o p) (old-ids : HaveToldIds o) (new-ids : HaveToldIds p) (o1 o2 n1 n2 : RepairedOf) (lo1 : IsLevel o level.One o1) (lo2 : IsLevel o level.Two o2) (ln1 : IsLevel p level.One n1) (ln2 : IsLevel p level.Two n2) where
+  abbrev AreCosts : RepairedOf → Type 0
+  AreCosts r = AreDistances r.graph.rows (node_number r.root) r.distances
+
+  by-old : (r : RepairedOf) → r.root ≡ o.root → AreCosts r → AreDistances r.graph.rows (node_number o.root) r.distances
+  by-old r same are = subst (λ (n : NodeId). AreDistances r.graph.rows (node_number n) r.distances) same are
+
+  by-new : (r : RepairedOf) → r.root ≡ p.root → AreCosts r → AreDistances r.graph.rows (node_number o.root) r.distances
+  by-new r same are = subst (λ (n : NodeId). AreDistances r.graph.rows (node_number n) r.distances) (same ∙ beside.root) are
+
+  module _ (a1 : AreCosts o1) (b1 : AreCosts n1) (c1 : CostBeside nodes o1.distances n1.distances) where
+    root-one : node_number n1.graph.root ≡ node_number o.root
+    root-one = ap node_number (ln1.graph.from ∙ beside.root)
+
+    reach-old-1 : flat_map (reached_by (cost_at o1.distances) (node_number o.root)) o.told.one ≡ reached_in o.told.one o.root
+    reach-old-1 = reached-are o.told.one o.root o1.graph lo1.graph o1.distances (by-old o1 lo1.root a1)
+
+    reach-new-1 : flat_map (reached_by (cost_at n1.distances) (node_number o.root)) p.told.one ≡ reached_in p.told.one p.root
+    reach-new-1 =
+        ap (λ (n : NodeId). flat_map (reached_by (cost_at n1.distances) (node_number n)) p.told.one) (sym beside.root)
+        ∙ reached-are p.told.one p.root n1.graph ln1.graph n1.distances (subst (λ (n : NodeId). AreDistances n1.graph.rows (node_number n) n1.distances) ln1.root b1)
+
+    pub ways-after : (kept list : List Candidate) → AreSame kept (defaults o.told.one o.root) → list ≡ filter (stays nodes) kept ++ flat_map (default_of p.told.one) (systems_among (cost_at n1.distances) (node_number n1.graph.root) nodes) → AreSame list (defaults p.told.one p.root)
+    unfolding defaults
+    ways-after kept list are is =
+        subst (λ (s : List (SystemId × ℕ)). AreSame list (flat_map (default_of p.told.one) s)) reach-new-1
+        (one-kept nodes node-ids default_of telling-default o.told.one p.told.one old-ids.one new-ids.one beside.one (node_number o.root) o1.distances n1.distances c1 kept list
+        (subst (λ (s : List (SystemId × ℕ)). AreSame kept (flat_map (default_of o.told.one) s)) (sym reach-old-1) are)
+        (subst (λ (n : ℕ). list ≡ filter (stays nodes) kept ++ flat_map (default_of p.told.one) (systems_among (cost_at n1.distances) n nodes)) root-one is))
+
+    module _ (a2 : AreCosts o2) (b2 : AreCosts n2) (c2 : CostBeside nodes o2.distances n2.distances) where
+      root-two : node_number n2.graph.root ≡ node_number o.root
+      root-two = ap node_number (ln2.graph.from ∙ beside.root)
+
+      reach-old-2 : flat_map (reached_by (cost_at o2.distances) (node_number o.root)) o.told.two ≡ reached_in o.told.two o.root
+      reach-old-2 = reached-are o.told.two o.root o2.graph lo2.graph o2.distances (by-old o2 lo2.root a2)
+
+      reach-new-2 : flat_map (reached_by (cost_at n2.distances) (node_number o.root)) p.told.two ≡ reached_in p.told.two p.root
+      reach-new-2 =
+          ap (λ (n : NodeId). flat_map (reached_by (cost_at n2.distances) (node_number n)) p.told.two) (sym beside.root)
+          ∙ reached-are p.told.two p.root n2.graph ln2.graph n2.distances (subst (λ (n : NodeId). AreDistances n2.graph.rows (node_number n) n2.distances) ln2.root b2)
+
+      old-told : flat_map (system_candidates level.One o.told.one) (flat_map (reached_by (cost_at o1.distances) (node_number o.root)) o.told.one) ++ flat_map (system_candidates level.Two o.told.two) (flat_map (reached_by (cost_at o2.distances) (node_number o.root)) o.told.two) ≡ told_candidates o
+      unfolding told_candidates level_candidates
+      old-told =
+          ap (λ (s : List (SystemId × ℕ)). flat_map (system_candidates level.One o.told.one) s ++ flat_map (system_candidates level.Two o.told.two) (flat_map (reached_by (cost_at o2.distances) (node_number o.root)) o.told.two)) reach-old-1
+          ∙ ap (λ (s : List (SystemId × ℕ)). flat_map (system_candidates level.One o.told.one) (reached_in o.told.one o.root) ++ flat_map (system_candidates level.Two o.told.two) s) reach-old-2
+
+      new-told : flat_map (system_candidates level.One p.told.one) (flat_map (reached_by (cost_at n1.distances) (node_number o.root)) p.told.one) ++ flat_map (system_candidates level.Two p.told.two) (flat_map (reached_by (cost_at n2.distances) (node_number o.root)) p.told.two) ≡ told_candidates p
+      unfolding told_candidates level_candidates
+      new-told =
+          ap (λ (s : List (SystemId × ℕ)). flat_map (system_candidates level.One p.told.one) s ++ flat_map (system_candidates level.Two p.told.two) (flat_map (reached_by (cost_at n2.distances) (node_number o.root)) p.told.two)) reach-new-1
+          ∙ ap (λ (s : List (SystemId × ℕ)). flat_map (system_candidates level.One p.told.one) (reached_in p.told.one p.root) ++ flat_map (system_candidates level.Two p.told.two) s) reach-new-2
+
+      pub told-after : (kept list : List Candidate) → AreSame kept (told_candidates o)
+          → list ≡ filter (stays nodes) kept ++ (flat_map (system_candidates level.One p.told.one) (systems_among (cost_at n1.distances) (node_number n1.graph.root) nodes) ++ flat_map (system_candidates level.Two p.told.two) (systems_among (cost_at n2.distances) (node_number n2.graph.root) nodes))
+          → AreSame list (told_candidates p)
+      told-after kept list are is =
+          subst (λ (cs : List Candidate). AreSame list cs) new-told
+          (both-kept nodes node-ids o.told.one o.told.two p.told.one p.told.two old-ids.one old-ids.two new-ids.one new-ids.two beside.one beside.two (node_number o.root) o1.distances o2.distances n1.distances n2.distances c1 c2 kept list
+          (subst (λ (cs : List Candidate). AreSame kept cs) (sym old-told) are)
+          (subst (λ (n : ℕ). list ≡ filter (stays nodes) kept ++ (flat_map (system_candidates level.One p.told.one) (systems_among (cost_at n1.distances) (node_number o.root) nodes) ++ flat_map (system_candidates level.Two p.told.two) (systems_among (cost_at n2.distances) n nodes))) root-two
+          (subst (λ (n : ℕ). list ≡ filter (stays nodes) kept ++ (flat_map (system_candidates level.One p.told.one) (systems_among (cost_at n1.distances) n nodes) ++ flat_map (system_candidates level.Two p.told.two) (systems_among (cost_at n2.distances) (node_number n2.graph.root) nodes))) root-one is)))
+
+-- ---- as they are put together
+
+pub counted : (view : View) (told ways firm : List Candidate) (attached has : Bool) → AreSame told (told_candidates (outlook_at view)) → AreSame ways (defaults (outlook_at view).told.one (outlook_at view).root) → attached ≡ attached_of (outlook_at view)
+    → firm ≡ map (own_candidate (outlook_at view).root) (outlook_at view).prefixes ++ told → has ≡ (((runs_of view.levels).one && not attached) && not (list_any is_for_all firm)) → has ≡ has_defaults (outlook_at view)
+unfolding outlook_at
+counted view told ways firm attached has same ways-same is firm-is has-is =
+    has-is ∙ ap (λ (cs : List Candidate). ((runs_of view.levels).one && not attached) && not (list_any is_for_all cs)) firm-is ∙ has-same (outlook_at view) told ways same ways-same attached is
+
+pub firm-by : (view : View) (told l m n : List Candidate) → l ≡ [] → m ≡ l ++ map (own_candidate (own_node view.system)) view.prefixes.now → n ≡ m ++ told → n ≡ map (own_candidate (outlook_at view).root) (outlook_at view).prefixes ++ told
+unfolding outlook_at
+firm-by view told l m n e f g = g ∙ ap (λ (x : List Candidate). x ++ told) (f ∙ ap (λ (x : List Candidate). x ++ map (own_candidate (own_node view.system)) view.prefixes.now) e)
+
+-- ---- what is reached once some nodes moved, as it is kept
+
+module _ (o p : Outlook) (f : FollowingOf) (is : IsFollowing o f) (nodes : List NodeId) (node-ids : AreNodes nodes) (beside : AreBeside nodes o p) (old-ids : HaveToldIds o) (new-ids : HaveToldIds p) (n1 n2 : RepairedOf) (ln1 : IsLevel p level.One n1) (ln2 : IsLevel p level.Two n2) (a1 : AreCostsOf f.levels.one) (a2 : AreCostsOf f.levels.two) (b1 : AreCostsOf n1) (b2 : AreCostsOf n2) (c1 : CostBeside nodes f.levels.one.distances n1.distances) (c2 : CostBeside nodes f.levels.two.distances n2.distances) (come ways : List Candidate)
+    (come-is : come ≡ flat_map (system_candidates level.One p.told.one) (systems_among (cost_at n1.distances) (node_number n1.graph.root) nodes) ++ flat_map (system_candidates level.Two p.told.two) (systems_among (cost_at n2.distances) (node_number n2.graph.root) nodes))
+    (ways-is : ways ≡ flat_map (default_of p.told.one) (systems_among (cost_at n1.distances) (node_number n1.graph.root) nodes)) where
+  told-list : (list : List Candidate) → list ≡ filter (stays nodes) f.told ++ come → AreSame list (told_candidates p)
+  told-list list e = told-after o p nodes node-ids beside old-ids new-ids f.levels.one f.levels.two n1 n2 is.one is.two ln1 ln2 a1 b1 c1 a2 b2 c2 f.told list is.told (e ∙ ap (λ (cs : List Candidate). filter (stays nodes) f.told ++ cs) come-is)
+
+  ways-list : (list : List Candidate) → list ≡ filter (stays nodes) f.defaults ++ ways → AreSame list (defaults p.told.one p.root)
+  ways-list list e = ways-after o p nodes node-ids beside old-ids new-ids f.levels.one f.levels.two n1 n2 is.one is.two ln1 ln2 a1 b1 c1 f.defaults list is.defaults (e ∙ ap (λ (cs : List Candidate). filter (stays nodes) f.defaults ++ cs) ways-is)
+
+  -- others stand in the place of those that are gone
+  pub reached-now : (list others : List Candidate) (bit : Bool) → list ≡ filter (stays nodes) f.told ++ come → others ≡ filter (stays nodes) f.defaults ++ ways → bit ≡ attached_of p → AreReached p list others bit
+  reached-now list others bit e g h = record { told = told-list list e; ways = ways-list others g; attached = h }
+
+  -- those that are gone are those that come
+  pub reached-still : (bit : Bool) → filter (λ c. not (stays nodes c)) f.told ≡ come → filter (λ c. not (stays nodes c)) f.defaults ≡ ways → bit ≡ attached_of p → bit ≡ f.attached → AreReached p f.told f.defaults f.attached
+  reached-still bit gone barred h same =
+      let told = filter (stays nodes) f.told in
+      let others = filter (stays nodes) f.defaults in
+      record {
+        told = same-both f.told (told ++ come) (told_candidates p) (subst (λ (cs : List Candidate). AreSame f.told (told ++ cs)) gone (same-parts (stays nodes) f.told)) (told-list (told ++ come) refl);
+        ways = same-both f.defaults (others ++ ways) (defaults p.told.one p.root) (subst (λ (cs : List Candidate). AreSame f.defaults (others ++ cs)) barred (same-parts (stays nodes) f.defaults)) (ways-list (others ++ ways) refl);
+        attached = sym same ∙ h;
+      }
+
+-- other prefixes of one's own leave what is reached as it was
+pub reached-by-prefixes : (o p : Outlook) (f : FollowingOf) (ps : List (Prefix × ℕ)) (list others : List Candidate) (bit : Bool) → IsFollowing o f → p ≡ record o { prefixes = ps } → list ≡ f.told → others ≡ f.defaults → bit ≡ f.attached → AreReached p list others bit
+unfolding told_candidates attached_of
+reached-by-prefixes o p f ps list others bit is same e g h =
+    subst (λ (q : Outlook). AreReached q list others bit) (sym same)
+    (record { told = same-both list f.told _ (same-refl list f.told e) is.told; ways = same-both others f.defaults _ (same-refl others f.defaults g) is.defaults; attached = h ∙ is.attached })
+
+-- what follows a router reaches that
+pub following-reached : (o : Outlook) (f : FollowingOf) → IsFollowing o f → AreReached o f.told f.defaults f.attached
+following-reached o f is = record { told = is.told; ways = is.defaults; attached = is.attached }
+
+-- more nodes may have moved
+not-true : (t : Bool) → not t ≡ true → t ≡ false
+not-true true e = absurd (let f : false ≡ true = e in cc)
+not-true false e = refl
+
+among-step : (t u : Bool) → (t ≡ true → u ≡ true) → not u ≡ true → not t ≡ true
+among-step true u more beside = absurd (let e : true ≡ false = sym (more refl) ∙ not-true u beside in cc)
+among-step false u more beside = refl
+
+list-more : (some all : List NodeId) (told later : List Pair) → AreAmong some all → told_by_nodes (is_beside some) told ≡ told_by_nodes (is_beside some) later → told_by_nodes (is_beside all) told ≡ told_by_nodes (is_beside all) later
+list-more some all told later more same =
+    let less = λ (n : ℕ). among-step (is_among some n) (is_among all n) (more n) in
+    sym (by-less (is_beside all) (is_beside some) less told) ∙ ap (told_by_nodes (is_beside all)) same ∙ by-less (is_beside all) (is_beside some) less later
+
+pub beside-more : (some all : List NodeId) (o p : Outlook) → AreAmong some all → AreBeside some o p → AreBeside all o p
+beside-more some all o p more is = record { root = is.root; areas = is.areas; runs = is.runs; prefixes = is.prefixes; one = list-more some all o.told.one p.told.one more is.one; two = list-more some all o.told.two p.told.two more is.two }
+
+-- ---- LSP IDs and nodes
+
+-- what is told has LSP IDs of eight octets where the database has
+pub where-ids : (runs : Bool) (told : List Pair) → HaveIds told → HaveIds (where_run runs told)
+where-ids true told ids = ids
+where-ids false told ids = tt
+
+pub lent-have : (lent : Lent) → HaveIds lent.one.now.entries → HaveIds lent.two.now.entries → HaveToldIds (outlook_in lent)
+unfolding outlook_in
+lent-have lent a b = record { one = where-ids (runs_of lent.levels).one _ (told-ids lent.one.now.entries a); two = where-ids (runs_of lent.levels).two _ (told-ids lent.two.now.entries b) }
+
+moved-have : (entries : List Pair) (o : Option Moved) → HaveIds entries → FitMoved entries o → HaveIds (told_moved (told_in entries) o)
+moved-have entries None ids fit = told-ids entries ids
+moved-have entries (Some moved) ids fit = with-ids moved.node (told_in entries) (told_in moved.aside.now.entries) (told-ids entries ids) (told-ids moved.aside.now.entries fit.1)
+
+pub view-have : (view : View) → HaveIds view.one.store.now.entries → HaveIds view.two.store.now.entries → AreFit view → HaveToldIds (outlook_at view)
+unfolding outlook_at
+view-have view a b fit = record {
+  one = where-ids (runs_of view.levels).one _ (moved-have view.one.store.now.entries view.one.moved a fit.one);
+  two = where-ids (runs_of view.levels).two _ (moved-have view.two.store.now.entries view.two.moved b fit.two);
+}
+
+-- one node more
+pub one-node : (m : NodeId) → IsId (record { node = m; number = 0 }) → AreNodes (m ∷ [])
+one-node m id x there =
+    elim (contains_cases m x [] there) [
+      | inl same ↦ subst (λ (n : NodeId). IsId (record { node = n; number = 0 })) same id
+      | inr more ↦ absurd (contains_none x more)
+    ]
+
+pub node-more : (nodes more : List NodeId) (m : NodeId) → more ≡ nodes ++ m ∷ [] → AreNodes nodes → IsId (record { node = m; number = 0 }) → AreNodes more
+node-more nodes more m e all id x there =
+    elim (Contains-push_cases nodes m x (subst (λ (l : List NodeId). Contains l x) e there)) [
+      | inl before ↦ all x before
+      | inr same ↦ subst (λ (n : NodeId). IsId (record { node = n; number = 0 })) same id
+    ]
+
+pub among-push : (nodes more : List NodeId) (m : NodeId) → more ≡ nodes ++ m ∷ [] → AreAmong nodes more
+among-push nodes more m e n is =
+    let x = among-in nodes n is in
+    ap (is_among more) (sym x.2) ∙ in-among more x.0 (subst (λ (l : List NodeId). Contains l x.0) (sym e) (Contains-append_left nodes (m ∷ []) x.0 x.1))
+
+pub pushed-among : (nodes more : List NodeId) (m : NodeId) → more ≡ nodes ++ m ∷ [] → is_among more (node_number m) ≡ true
+pushed-among nodes more m e = in-among more m (subst (λ (l : List NodeId). Contains l m) (sym e) (Contains-push nodes m))
+
+-- the node of an LSP ID is of seven octets
+pub id-node : (id : LspId) → IsId id → IsId (record { node = id.node; number = 0 })
+id-node id is = record { six = is.six; small = last-zero (id.node.system.0 ++ id.node.pseudonode ∷ []) id.number is.small }
+  where
+    last-zero : (xs : List ℕ) (x : ℕ) → AllByRecursion (λ octet. octet < 256) (xs ++ x ∷ []) → AllByRecursion (λ octet. octet < 256) (xs ++ 0 ∷ [])
+    last-zero [] x all = (omega arith, tt)
+    last-zero (y ∷ xs) x all = (all.0, last-zero xs x all.1)
+
+-- it is the node of its number
+pub named-node : (id : LspId) (number : ℕ) (m : NodeId) → IsId id → lsp_number id ≡ number → IsId (record { node = m; number = 0 }) → number ≡ node_number m → id.node ≡ m
+named-node id number m is e m-is same = ap (λ (x : LspId). x.node) (lsp_number-one id (record { node = m; number = 0 }) is m-is (e ∙ same ∙ sym (number-0 m)))
+
+pub cost-refl : (nodes : List NodeId) (d : List (ℕ × ℕ)) → CostBeside nodes d d
+cost-refl nodes d m id none = refl
+
+-- costs that the numbers among some nodes tell apart
+pub cost-apart : (nodes : List NodeId) (old new : List (ℕ × ℕ)) (numbers : List ℕ) → ((n : ℕ) → (Contains numbers n → ⊥) → cost_at old n ≡ cost_at new n) → ((m : NodeId) → IsId (record { node = m; number = 0 }) → Contains numbers (node_number m) → is_among nodes (node_number m) ≡ true) → CostBeside nodes old new
+cost-apart nodes old new numbers apart named m id none =
+    apart (node_number m) (λ there. (let e : false ≡ true = sym none ∙ named m id there in cc))
+
+-- ---- as the code has them
+
+pub costs-of : (r : RepairedOf) (d : List (ℕ × ℕ)) → d ≡ r.distances → AreDistances r.graph.rows (node_number r.root) d → AreCostsOf r
+costs-of r d same are = subst (AreDistances r.graph.rows (node_number r.root)) same are
+
+pub kept-list : (nodes : List NodeId) (list slice old more come : List Candidate) → list ≡ filter (stays nodes) slice ++ more → slice ≡ old → more ≡ come → list ≡ filter (stays nodes) old ++ come
+kept-list nodes list slice old more come e f g = e ∙ ap (λ (l : List Candidate). filter (stays nodes) l ++ more) f ∙ ap (λ (l : List Candidate). filter (stays nodes) old ++ l) g
+
+pub from-none : {X : Type 0} (P : Type 0) (Q : X → Type 0) (o : Option X) → o ≡ None → MatchOption o P Q → P
+from-none P Q None is m = m
+from-none P Q (Some x) is m = absurd (let e : Some x ≡ None = is in cc)
+
+pub told-by-nodes : (view : View) (s t : List (SystemId × ℕ)) (l m n : List Candidate) (one two : Bool) → one ≡ (runs_of view.levels).one → two ≡ (runs_of view.levels).two → l ≡ []
+    → m ≡ l ++ flat_map (system_candidates level.One (where_run one (told_of view.one))) s → n ≡ m ++ flat_map (system_candidates level.Two (where_run two (told_of view.two))) t → n ≡ flat_map (system_candidates level.One (outlook_at view).told.one) s ++ flat_map (system_candidates level.Two (outlook_at view).told.two) t
+unfolding outlook_at
+told-by-nodes view s t l m n one two a b none e f =
+    f
+    ∙ ap (λ (x : List Candidate). x ++ flat_map (system_candidates level.Two (where_run two (told_of view.two))) t) (e ∙ ap (λ (x : List Candidate). x ++ flat_map (system_candidates level.One (where_run one (told_of view.one))) s) none)
+    ∙ ap (λ (r : Bool). flat_map (system_candidates level.One (where_run r (told_of view.one))) s ++ flat_map (system_candidates level.Two (where_run two (told_of view.two))) t) a
+    ∙ ap (λ (r : Bool). flat_map (system_candidates level.One (where_run (runs_of view.levels).one (told_of view.one))) s ++ flat_map (system_candidates level.Two (where_run r (told_of view.two))) t) b
+
+pub ways-by-nodes : (view : View) (s t : List (SystemId × ℕ)) (l n : List Candidate) → (runs_of view.levels).one ≡ true → l ≡ [] → n ≡ l ++ flat_map (default_of (told_of view.one)) s → s ≡ t → n ≡ flat_map (default_of (outlook_at view).told.one) t
+unfolding outlook_at
+ways-by-nodes view s t l n run none e same =
+    e ∙ ap (λ (x : List Candidate). x ++ flat_map (default_of (told_of view.one)) s) none ∙ ap (flat_map (default_of (told_of view.one))) same
+    ∙ ap (λ (r : Bool). flat_map (default_of (where_run r (told_of view.one))) t) (sym run)

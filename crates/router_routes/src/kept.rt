@@ -1,0 +1,378 @@
+//! What a router keeps where some nodes moved: candidates by way of others stay (own).
+ghost use Rattle.std.specs.Prelude.{◌≡◌, ◌∷◌, [], ◌++◌, true, not, filter, IfOk, OnOk, MatchOption};
+ghost use Rattle.std.specs.List.{Contains, flat_map};
+ghost use Rattle.isis_base.specs.declared.identifiers.NodeId.{NodeId};
+ghost use Rattle.isis_base.specs.declared.level.Level.TheVariants as level;
+ghost use Rattle.isis_base.specs.Identifiers.{IsId};
+ghost use Rattle.spf_tree.specs.Nodes.{node_number};
+ghost use Rattle.spf_tree.specs.Distances.{cost_at};
+ghost use Rattle.router_routes.specs.Candidates.{attached_of, default_of, system_candidates};
+ghost use Rattle.router_routes.specs.Following.{IsFollowing, IsLevel};
+ghost use Rattle.router_routes.specs.Kept.{AreAmong, AreBeside, AreNodes, AreReached, CostBeside, HaveToldIds, is_among, stays, systems_among};
+ghost use Rattle.router_routes.specs.Moved.{AreFit, IsFit, outlook_at, told_of};
+ghost use Rattle.router_routes.specs.Outlooks.{outlook_in, where_run};
+
+use crate::candidates::{add_all, add_defaults, add_told, runs_one, runs_two};
+use crate::following::{Following, Reached, all_reached, attached};
+use crate::lent::Lent;
+use crate::same::same_candidate;
+use crate::systems::{level_systems, systems_among};
+use crate::view::{LevelView, View};
+use isis_base::laws::lsp_id_law;
+use isis_base::{Level, LevelSet, LspId, NodeId, OutOfMemory};
+use route_table::Candidate;
+use spf_repair::Repaired;
+use spf_tree::parts::number;
+use std::alloc::Global;
+
+impl Following {
+    /// What is reached where these nodes moved, at these costs.
+    pub(crate) fn reached_with(
+        &self,
+        lent: &Lent<'_>,
+        view: &View<'_>,
+        nodes: &[NodeId],
+        one: &Repaired,
+        two: &Repaired,
+    ) -> Result<Reached, OutOfMemory>
+        requires follows { IsFollowing (outlook_in lent.now) self.now }
+        requires beside { AreBeside nodes.now (outlook_in lent.now) (outlook_at view.now) }
+        requires nodes { AreNodes nodes.now }
+        requires costs_one { CostBeside nodes.now self.now.levels.one.distances one.now.distances }
+        requires costs_two { CostBeside nodes.now self.now.levels.two.distances two.now.distances }
+        requires fit { AreFit view.now }
+        requires one { IsLevel (outlook_at view.now) level.One one.now }
+        requires two { IsLevel (outlook_at view.now) level.Two two.now }
+        ensures { IfOk result (λ reached. AreReached (outlook_at view.now) reached.told.items
+            reached.defaults.items reached.attached) }
+    {
+        if nodes.len() > MOST {
+            return all_reached(self.alloc, view, one, two);
+        }
+        match self.reached_after(lent, view, nodes, one, two) {
+            Ok(Some(reached)) => Ok(reached),
+            Ok(None) => self.reached(),
+            Err(error) => Err(error),
+        }
+    }
+
+    /// What is reached where these nodes moved, at these costs; `None` where it is what was reached before.
+    pub(crate) fn reached_after(
+        &self,
+        lent: &Lent<'_>,
+        view: &View<'_>,
+        nodes: &[NodeId],
+        one: &Repaired,
+        two: &Repaired,
+    ) -> Result<Option<Reached>, OutOfMemory>
+        requires follows { IsFollowing (outlook_in lent.now) self.now }
+        requires beside { AreBeside nodes.now (outlook_in lent.now) (outlook_at view.now) }
+        requires nodes { AreNodes nodes.now }
+        requires costs_one { CostBeside nodes.now self.now.levels.one.distances one.now.distances }
+        requires costs_two { CostBeside nodes.now self.now.levels.two.distances two.now.distances }
+        requires fit { AreFit view.now }
+        requires one { IsLevel (outlook_at view.now) level.One one.now }
+        requires two { IsLevel (outlook_at view.now) level.Two two.now }
+        ensures { IfOk result (λ o. MatchOption o
+            (AreReached (outlook_at view.now) self.now.told self.now.defaults self.now.attached)
+            (λ reached. AreReached (outlook_at view.now) reached.told.items reached.defaults.items
+            reached.attached)) }
+    {
+        lent_ids(lent);
+        view_ids(view);
+        let _old_one = self.one.distances();
+        let _old_two = self.two.distances();
+        let _new_one = one.distances();
+        let _new_two = two.distances();
+        let attached = attached_now(self.alloc, view, two)?;
+        let told = told_of_nodes(self.alloc, view, nodes, one, two)?;
+        let ways = ways_of_nodes(self.alloc, view, nodes, one)?;
+        let gone = is_gone(self.told.as_slice(), nodes, told.as_slice());
+        let barred = is_gone(self.defaults.as_slice(), nodes, ways.as_slice());
+        if gone && barred && are_same(attached, self.attached) {
+            return Ok(None);
+        }
+        let told = kept_with(self.alloc, self.told.as_slice(), nodes, told.as_slice())?;
+        let defaults = kept_with(self.alloc, self.defaults.as_slice(), nodes, ways.as_slice())?;
+        Ok(Some(Reached {
+            told,
+            defaults,
+            attached,
+        }))
+    }
+
+    /// A copy of what was reached.
+    pub(crate) fn reached(&self) -> Result<Reached, OutOfMemory>
+        ensures told { IfOk result (λ reached. reached.told.items ≡ self.now.told) }
+        ensures defaults { IfOk result (λ reached. reached.defaults.items ≡ self.now.defaults) }
+        ensures attached { IfOk result (λ reached. reached.attached ≡ self.now.attached) }
+    {
+        let mut told = Vec::new(self.alloc);
+        add_all(&mut told, self.told.as_slice())?;
+        let mut defaults = Vec::new(self.alloc);
+        add_all(&mut defaults, self.defaults.as_slice())?;
+        Ok(Reached {
+            told,
+            defaults,
+            attached: self.attached,
+        })
+    }
+}
+
+/// How many nodes may move before all that is reached is made anew.
+const MOST: usize = 16;
+
+/// A node, and those whose costs in a level aren't what they were; some may be there twice.
+pub(crate) fn moved(
+    alloc: Global,
+    node: NodeId,
+    old: &Repaired,
+    new: &Repaired,
+) -> Result<Vec<NodeId>, OutOfMemory>
+    requires { IsId (record { node = node; number = 0 }) }
+    ensures ids { IfOk result (λ moved. AreNodes moved.items) }
+    ensures kept { IfOk result (λ moved. AreAmong (node ∷ []) moved.items) }
+    ensures apart { IfOk result (λ moved. CostBeside moved.items old.now.distances new.now.distances) }
+{
+    let mut nodes = Vec::new(alloc);
+    match nodes.push(node) {
+        Ok(()) => {}
+        Err(_) => return Err(OutOfMemory),
+    }
+    let numbers = match old.distances().apart(alloc, new.distances()) {
+        Ok(numbers) => numbers,
+        Err(error) => return Err(error),
+    };
+    match add_nodes(&mut nodes, numbers.as_slice()) {
+        Ok(()) => Ok(nodes),
+        Err(error) => Err(error),
+    }
+}
+
+/// The LSP IDs of what a router tells have eight octets. It does nothing.
+fn lent_ids(lent: &Lent<'_>)
+    ensures { HaveToldIds (outlook_in lent.now) }
+{
+    let _one = lent.one.len();
+    let _two = lent.two.len();
+}
+
+/// The same of what is read.
+fn view_ids(view: &View<'_>)
+    requires { AreFit view.now }
+    ensures { HaveToldIds (outlook_at view.now) }
+{
+    let _one = view.one.store.len();
+    let _two = view.two.store.len();
+}
+
+/// Whether the router is attached, where these are the costs of level 2.
+fn attached_now(alloc: Global, view: &View<'_>, two: &Repaired) -> Result<bool, OutOfMemory>
+    requires fit { AreFit view.now }
+    requires two { IsLevel (outlook_at view.now) level.Two two.now }
+    ensures { IfOk result (λ attached. attached ≡ attached_of (outlook_at view.now)) }
+{
+    match view.levels {
+        LevelSet::Both => {
+            let twos = level_systems(alloc, runs_two(view.levels), &view.two, two)?;
+            attached(alloc, view, &twos)
+        }
+        LevelSet::One | LevelSet::Two => Ok(false),
+    }
+}
+
+/// Adds the nodes of the LSP IDs of these numbers.
+fn add_nodes(nodes: &mut Vec<NodeId>, numbers: &[u64]) -> Result<(), OutOfMemory>
+    requires { AreNodes nodes.old.items }
+    ensures ids { OnOk result (AreNodes nodes.new.items) }
+    ensures kept { OnOk result (AreAmong nodes.old.items nodes.new.items) }
+    ensures named { OnOk result ((m : NodeId) → IsId (record { node = m; number = 0 })
+        → Contains numbers.now (node_number m) → is_among nodes.new.items (node_number m) ≡ true) }
+{
+    let mut left = numbers;
+    while let [first, more @ ..] = left {
+        match add_node(nodes, *first) {
+            Ok(()) => {}
+            Err(error) => return Err(error),
+        }
+        left = more;
+    }
+    Ok(())
+}
+
+/// Adds the node of the LSP ID of a number.
+fn add_node(nodes: &mut Vec<NodeId>, number: u64) -> Result<(), OutOfMemory>
+    requires { AreNodes nodes.old.items }
+    ensures ids { OnOk result (AreNodes nodes.new.items) }
+    ensures kept { OnOk result (AreAmong nodes.old.items nodes.new.items) }
+    ensures named { OnOk result ((m : NodeId) → IsId (record { node = m; number = 0 })
+        → number ≡ node_number m → is_among nodes.new.items (node_number m) ≡ true) }
+{
+    let id = LspId::from_number(number);
+    lsp_id_law(id);
+    match nodes.push(id.node) {
+        Ok(()) => Ok(()),
+        Err(_) => Err(OutOfMemory),
+    }
+}
+
+/// What nodes tell of prefixes in both levels.
+fn told_of_nodes(
+    alloc: Global,
+    view: &View<'_>,
+    nodes: &[NodeId],
+    one: &Repaired,
+    two: &Repaired,
+) -> Result<Vec<Candidate>, OutOfMemory>
+    requires fit { AreFit view.now }
+    ensures { IfOk result (λ list. list.items
+        ≡ flat_map (system_candidates level.One (outlook_at view.now).told.one)
+        (systems_among (cost_at one.now.distances) (node_number one.now.graph.root) nodes.now)
+        ++ flat_map (system_candidates level.Two (outlook_at view.now).told.two)
+        (systems_among (cost_at two.now.distances) (node_number two.now.graph.root) nodes.now)) }
+{
+    let mut list = Vec::new(alloc);
+    add_level(
+        alloc,
+        &mut list,
+        runs_one(view.levels),
+        Level::One,
+        &view.one,
+        one,
+        nodes,
+    )?;
+    add_level(
+        alloc,
+        &mut list,
+        runs_two(view.levels),
+        Level::Two,
+        &view.two,
+        two,
+        nodes,
+    )?;
+    Ok(list)
+}
+
+/// Adds what nodes tell of prefixes in a level; nothing where it isn't run.
+fn add_level(
+    alloc: Global,
+    list: &mut Vec<Candidate>,
+    runs: bool,
+    level: Level,
+    told: &LevelView<'_>,
+    repaired: &Repaired,
+    nodes: &[NodeId],
+) -> Result<(), OutOfMemory>
+    requires { IsFit told.now }
+    ensures { OnOk result (list.new.items ≡ list.old.items
+        ++ flat_map (system_candidates level (where_run runs (told_of told.now)))
+        (systems_among (cost_at repaired.now.distances) (node_number repaired.now.graph.root)
+        nodes.now)) }
+{
+    if !runs {
+        return Ok(());
+    }
+    let root = number(repaired.graph().root());
+    let systems = match systems_among(alloc, repaired.distances(), root, nodes) {
+        Ok(systems) => systems,
+        Err(error) => return Err(error),
+    };
+    add_told(alloc, list, level, told, systems.as_slice())
+}
+
+/// The ways by default to nodes.
+fn ways_of_nodes(
+    alloc: Global,
+    view: &View<'_>,
+    nodes: &[NodeId],
+    one: &Repaired,
+) -> Result<Vec<Candidate>, OutOfMemory>
+    requires fit { AreFit view.now }
+    ensures { IfOk result (λ list. list.items
+        ≡ flat_map (default_of (outlook_at view.now).told.one)
+        (systems_among (cost_at one.now.distances) (node_number one.now.graph.root) nodes.now)) }
+{
+    let mut list = Vec::new(alloc);
+    if !runs_one(view.levels) {
+        return Ok(list);
+    }
+    let root = number(one.graph().root());
+    let systems = systems_among(alloc, one.distances(), root, nodes)?;
+    add_defaults(&mut list, &view.one, systems.as_slice())?;
+    Ok(list)
+}
+
+/// Whether two answers are one.
+fn are_same(a: bool, b: bool) -> bool
+    ensures { result ≡ true → a ≡ b }
+{
+    a == b
+}
+
+/// Whether the candidates by way of these nodes are these, in this order.
+fn is_gone(old: &[Candidate], nodes: &[NodeId], gone: &[Candidate]) -> bool
+    ensures { result ≡ true → filter (λ c. not (stays nodes.now c)) old.now ≡ gone.now }
+{
+    let (mut left, mut rest) = (old, gone);
+    while let [first, more @ ..] = left {
+        if !stays(nodes, first) {
+            let [next, others @ ..] = rest else {
+                return false;
+            };
+            if !same_candidate(first, next) {
+                return false;
+            }
+            rest = others;
+        }
+        left = more;
+    }
+    rest.is_empty()
+}
+
+/// Whether a candidate is by way of another node.
+fn stays(nodes: &[NodeId], candidate: &Candidate) -> bool
+    ensures { result ≡ stays nodes.now candidate.now }
+{
+    !is_among(nodes, number(candidate.origin))
+}
+
+/// Whether a node of this number is one of these.
+fn is_among(nodes: &[NodeId], node: u64) -> bool
+    ensures { result ≡ is_among nodes.now node }
+{
+    for one in nodes {
+        if number(*one) == node {
+            return true;
+        }
+    }
+    false
+}
+
+/// The candidates by way of other nodes, and these.
+fn kept_with(
+    alloc: Global,
+    old: &[Candidate],
+    nodes: &[NodeId],
+    come: &[Candidate],
+) -> Result<Vec<Candidate>, OutOfMemory>
+    ensures { IfOk result (λ list. list.items ≡ filter (stays nodes.now) old.now ++ come.now) }
+{
+    let mut list = match Vec::with_capacity(alloc, old.len()) {
+        Ok(list) => list,
+        Err(_) => return Err(OutOfMemory),
+    };
+    let mut left = old;
+    while let [first, more @ ..] = left {
+        if stays(nodes, first) {
+            match list.push(*first) {
+                Ok(()) => {}
+                Err(_) => return Err(OutOfMemory),
+            }
+        }
+        left = more;
+    }
+    match add_all(&mut list, come) {
+        Ok(()) => Ok(list),
+        Err(error) => Err(error),
+    }
+}
