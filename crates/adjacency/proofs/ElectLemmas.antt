@@ -5,19 +5,19 @@ use Rattle.std.specs.List.{AllByRecursion}
 use Rattle.std.proofs.lemmas.List.{length-map}
 use Rattle.std.proofs.lemmas.Bool.Decides.{nat_tests}
 use Rattle.isis_base.specs.declared.level.Level.{Level}
-use Rattle.isis_model.specs.Adjacencies as model
-use Rattle.isis_model.specs.Both.{at}
-use Rattle.isis_model.specs.Configs.{Config}
-use Rattle.isis_model.specs.Sorted.{RisesFrom}
-use Rattle.isis_model.specs.Routers.{LanNeighbour, Circuit, some_up}
-use Rattle.isis_model.specs.Elections as elections
+use Rattle.model_router.specs.Adjacencies as model
+use Rattle.model_router.specs.Both.{at}
+use Rattle.model_router.specs.Configs.{Config}
+use Rattle.model_router.specs.Sorted.{RisesFrom}
+use Rattle.model_router.specs.Routers.{LanNeighbour, Circuit, some_up}
+use Rattle.model_router.specs.Elections as elections
 use Rattle.designated_is.specs.Numbers.{candidate_of}
 use Rattle.designated_is.specs.Greatest.{plain, up_candidates}
 use Rattle.adjacency.specs.declared.neighbour.Neighbour.{Neighbour}
 use Rattle.adjacency.specs.Views.{neighbour_of}
 use Rattle.adjacency.specs.Lans.{AreHeard, ups, candidate_from, some_up_over, lan_less_change}
 use Rattle.adjacency.specs.declared.hello.AdjChange.TheVariants as change
-use Rattle.isis_model.specs.Seconds.{some_over}
+use Rattle.model_router.specs.Seconds.{some_over}
 
 -- ---- candidates
 

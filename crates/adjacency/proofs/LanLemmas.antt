@@ -4,11 +4,11 @@ use Rattle.std.specs.Result.{is_ok, is_err}
 use Rattle.std.proofs.Common.{Result, Ok, Err, MatchResult}
 use Rattle.std.specs.List.{AllByRecursion}
 use Rattle.std.proofs.lemmas.Bool.Decides.{nat_tests}
-use Rattle.isis_model.specs.Maps.{find, put, erase}
-use Rattle.isis_model.specs.Sorted.{RisesFrom}
-use Rattle.isis_model.specs.Adjacencies as model
-use Rattle.isis_model.specs.Seconds as seconds
-use Rattle.isis_model.specs.Numbers.{system_number}
+use Rattle.model_router.specs.Maps.{find, put, erase}
+use Rattle.model_router.specs.Sorted.{RisesFrom}
+use Rattle.model_router.specs.Adjacencies as model
+use Rattle.model_router.specs.Seconds as seconds
+use Rattle.model_router.specs.Numbers.{system_number}
 use Rattle.adjacency.specs.declared.neighbour.Neighbour.{Neighbour}
 use Rattle.adjacency.specs.Views.{neighbour_of}
 use Rattle.adjacency.specs.Lans.{AreHeard, neighbours, ups, was_up, has_boot, some_up_over}

@@ -2,8 +2,8 @@
 use Rattle.std.proofs.Common.{◌≡◌, ℕ, zero, suc, ◌+◌, ◌<◌, ◌≤◌, true, false, Bool, nat_le, ◌&&◌, List, [], ◌∷◌, length, get_or, set, Option, Some, None, is_none, is_some, if◌then◌else◌, refl, sym, ap, ◌∙◌, subst, arith}
 use Rattle.std.specs.List.{insert}
 use Rattle.std.proofs.lemmas.Bool.Decides.{nat_tests}
-use Rattle.isis_model.specs.Maps.{find, put}
-use Rattle.isis_model.specs.Sorted.{RisesFrom}
+use Rattle.model_router.specs.Maps.{find, put}
+use Rattle.model_router.specs.Sorted.{RisesFrom}
 use Rattle.adjacency.specs.Inside.{keyed, AllAbove, IsPlace, IsGap}
 use Rattle.adjacency.specs.Remembered.{number_of, AreBoots, is_full, greater}
 use Rattle.adjacency.proofs.MapLemmas.{put-rises, length-put}

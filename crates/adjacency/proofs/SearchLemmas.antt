@@ -5,7 +5,7 @@ use Rattle.std.specs.Ordering.{nat_cmp, ordering_index}
 use Rattle.std.specs.declared.cmp.Ordering.TheVariants.{Less, Equal, Greater}
 use Rattle.std.proofs.lemmas.Bool.Decides.{nat_tests}
 use Rattle.std.proofs.lemmas.List.{get_or-take, get_or-drop, length-take-le, length-drop}
-use Rattle.isis_model.specs.Sorted.{RisesFrom}
+use Rattle.model_router.specs.Sorted.{RisesFrom}
 use Rattle.adjacency.specs.Inside.{keyed, AllBelow, AllAbove, IsPlace, IsGap}
 
 cmp-equal : (a b : ℕ) → nat_cmp a b ≡ Equal → a ≡ b

@@ -1,8 +1,8 @@
 -- What is put into and aged in tagged neighbours, in all of them and in those that are Up.
 use Rattle.std.proofs.Common.{◌≡◌, ℕ, suc, ◌+◌, ◌≤◌, true, false, Bool, List, [], ◌∷◌, length, Option, Some, None, is_some, if◌then◌else◌, refl, ap, ◌∙◌, arith}
 use Rattle.std.proofs.lemmas.Bool.Decides.{nat_tests}
-use Rattle.isis_model.specs.Maps.{find, put, erase}
-use Rattle.isis_model.specs.Sorted.{RisesFrom}
+use Rattle.model_router.specs.Maps.{find, put, erase}
+use Rattle.model_router.specs.Sorted.{RisesFrom}
 use Rattle.adjacency.specs.Inside.{tagged, untagged, chosen}
 use Rattle.adjacency.proofs.MapLemmas.{choose, rises-less, find-above, put-above, erase-above}
 

@@ -2,10 +2,10 @@
 -- (ISO 10589 8.2.4, 8.4.2, RFC 5303 3; the form: own).
 use Rattle.std.specs.Prelude.{◌≡◌, ℕ, ◌/◌, Bool, ◌&&◌, not, if◌then◌else◌, Option, Some, None, Result, Ok, Err}
 use Rattle.std.specs.Option.{option_map}
-use Rattle.isis_model.specs.declared.drop_name.DropName.{DropName}
-use Rattle.isis_model.specs.declared.drop_name.DropName.TheVariants as name
-use Rattle.isis_model.specs.Adjacencies.{PointAdj, is_up}
-use Rattle.isis_model.specs.Hellos.{comes_up, is_moved}
+use Rattle.model_router.specs.declared.drop_name.DropName.{DropName}
+use Rattle.model_router.specs.declared.drop_name.DropName.TheVariants as name
+use Rattle.model_router.specs.Adjacencies.{PointAdj, is_up}
+use Rattle.model_router.specs.Hellos.{comes_up, is_moved}
 use Rattle.adjacency.specs.declared.hello.HelloDrop.{HelloDrop}
 use Rattle.adjacency.specs.declared.hello.HelloDrop.TheVariants as drop
 use Rattle.adjacency.specs.declared.hello.AdjChange.{AdjChange}

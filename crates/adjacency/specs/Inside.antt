@@ -2,10 +2,10 @@
 -- (own).
 use Rattle.std.specs.Prelude.{◌≡◌, ℕ, ◌-◌, ◌<◌, ◌≤◌, ◌==◌, nat_le, suc, Bool, ◌||◌, false, Option, Some, None, List, [], ◌∷◌, length, take, drop, slice_index_or, Result, MatchResult, is_some, if◌then◌else◌}
 use Rattle.std.specs.List.{AllByRecursion}
-use Rattle.isis_model.specs.Maps.{find}
-use Rattle.isis_model.specs.Sorted.{RisesFrom}
-use Rattle.isis_model.specs.Routers.{LanNeighbour}
-use Rattle.isis_model.specs.Numbers.{system_number, snpa_number}
+use Rattle.model_router.specs.Maps.{find}
+use Rattle.model_router.specs.Sorted.{RisesFrom}
+use Rattle.model_router.specs.Routers.{LanNeighbour}
+use Rattle.model_router.specs.Numbers.{system_number, snpa_number}
 use Rattle.adjacency.specs.declared.neighbour.Neighbour.{Neighbour}
 use Rattle.adjacency.specs.Views.{neighbour_of}
 

@@ -2,12 +2,12 @@
 -- them (ISO 10589 8.4.2).
 use Rattle.std.specs.Prelude.{◌≡◌, ℕ, ◌≤◌, ◌==◌, length, Bool, false, ◌&&◌, ◌||◌, not, List, [], ◌∷◌, Option, Some, None, if◌then◌else◌}
 use Rattle.std.specs.List.{AllByRecursion}
-use Rattle.isis_model.specs.Maps.{put}
-use Rattle.isis_model.specs.Sorted.{RisesFrom}
-use Rattle.isis_model.specs.Both.{Both}
-use Rattle.isis_model.specs.Adjacencies.{Neighbour, Hello, neighbour_of}
-use Rattle.isis_model.specs.Routers.{LanNeighbour}
-use Rattle.isis_model.specs.Seconds.{is_over, some_over}
+use Rattle.model_router.specs.Maps.{put}
+use Rattle.model_router.specs.Sorted.{RisesFrom}
+use Rattle.model_router.specs.Both.{Both}
+use Rattle.model_router.specs.Adjacencies.{Neighbour, Hello, neighbour_of}
+use Rattle.model_router.specs.Routers.{LanNeighbour}
+use Rattle.model_router.specs.Seconds.{is_over, some_over}
 use Rattle.designated_is.specs.declared.candidate.Candidate.{Candidate}
 use Rattle.adjacency.specs.declared.neighbour.Neighbour as code
 use Rattle.adjacency.specs.declared.hello.AdjChange.{AdjChange}

@@ -1,7 +1,7 @@
 -- The boots that are remembered of systems, as they lie in a list by system (own).
 use Rattle.std.specs.Prelude.{ℕ, ◌≤◌, nat_le, nat_lt, Bool, ◌&&◌, List, length, Option, Some, None, is_none, Result, MatchResult, if◌then◌else◌}
-use Rattle.isis_model.specs.Maps.{find}
-use Rattle.isis_model.specs.Sorted.{RisesFrom}
+use Rattle.model_router.specs.Maps.{find}
+use Rattle.model_router.specs.Sorted.{RisesFrom}
 use Rattle.adjacency.specs.Inside.{IsPlace, IsGap}
 
 -- own

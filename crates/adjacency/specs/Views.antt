@@ -5,10 +5,10 @@ use Rattle.isis_base.specs.declared.level.LevelSet.{LevelSet}
 use Rattle.isis_base.specs.declared.level.LevelSet.TheVariants as levels
 use Rattle.isis_tlv.specs.declared.three_way.ThreeWay.{ThreeWay}
 use Rattle.isis_tlv.specs.declared.three_way.Adj.TheVariants.{Up, Initializing, Down}
-use Rattle.isis_model.specs.Both.{Both}
-use Rattle.isis_model.specs.Configs.{Config}
-use Rattle.isis_model.specs.Adjacencies as model
-use Rattle.isis_model.specs.Numbers.{system_number, snpa_number, node_number}
+use Rattle.model_router.specs.Both.{Both}
+use Rattle.model_router.specs.Configs.{Config}
+use Rattle.model_router.specs.Adjacencies as model
+use Rattle.model_router.specs.Numbers.{system_number, snpa_number, node_number}
 use Rattle.adjacency.specs.declared.neighbour.Neighbour.{Neighbour}
 use Rattle.adjacency.specs.declared.hello.Own.{Own}
 use Rattle.adjacency.specs.declared.hello.HelloFields.{HelloFields}

@@ -1,9 +1,9 @@
 //! The greatest boot numbers that were heard on a circuit, by system (own).
 ghost use Rattle.std.specs.Prelude.{◌≡◌, ℕ, List, [], IfOk, OnErr, vec_capacity};
 ghost use Rattle.std.specs.Result.{is_err};
-ghost use Rattle.isis_model.specs.Maps.{find, put};
-ghost use Rattle.isis_model.specs.Numbers.{system_number};
-ghost use Rattle.isis_model.specs.Sorted.{RisesFrom};
+ghost use Rattle.model_router.specs.Maps.{find, put};
+ghost use Rattle.model_router.specs.Numbers.{system_number};
+ghost use Rattle.model_router.specs.Sorted.{RisesFrom};
 ghost use Rattle.adjacency.specs.Remembered.{AreBoots, IsAtPair, is_full, greater};
 
 use designated_is::system_to_number;

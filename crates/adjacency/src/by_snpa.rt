@@ -1,8 +1,8 @@
 //! Neighbours in a list by SNPA: where one is, and how one is put, taken out and aged.
 ghost use Rattle.std.specs.Prelude.{◌≡◌, ◌≤◌, ◌<◌, length, take, vec_capacity};
-ghost use Rattle.isis_model.specs.Maps.{put, erase};
-ghost use Rattle.isis_model.specs.Sorted.{RisesFrom};
-ghost use Rattle.isis_model.specs.Numbers.{snpa_number};
+ghost use Rattle.model_router.specs.Maps.{put, erase};
+ghost use Rattle.model_router.specs.Sorted.{RisesFrom};
+ghost use Rattle.model_router.specs.Numbers.{snpa_number};
 ghost use Rattle.adjacency.specs.Inside.{by_snpa, snpa_of, IsAt, all_less, some_ended, less_by_one};
 
 use crate::neighbour::Neighbour;

@@ -1,7 +1,7 @@
 //! The levels in common (ISO 10589 8.2.4.2).
 ghost use Rattle.std.specs.Prelude.{◌≡◌, ◌&&◌};
-ghost use Rattle.isis_model.specs.Adjacencies as model;
-ghost use Rattle.isis_model.specs.Both as both;
+ghost use Rattle.model_router.specs.Adjacencies as model;
+ghost use Rattle.model_router.specs.Both as both;
 ghost use Rattle.adjacency.specs.Views.{runs_of, common_runs, config_of, hello_of};
 
 use crate::hello::{HelloFields, Own};

@@ -1,6 +1,6 @@
 //! The three-way handshake.
 ghost use Rattle.std.specs.Prelude.{◌≡◌};
-ghost use Rattle.isis_model.specs.Adjacencies as model;
+ghost use Rattle.model_router.specs.Adjacencies as model;
 
 use isis_tlv::Adj;
 

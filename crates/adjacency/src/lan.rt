@@ -1,16 +1,16 @@
 //! The adjacencies of a LAN circuit and level.
 ghost use Rattle.std.specs.Result.{is_err};
 ghost use Rattle.std.specs.Prelude.{◌≡◌, ◌≤◌, nat_le, ◌&&◌, ℕ, [], length, map, List, IfOk, OnErr, vec_capacity};
-ghost use Rattle.isis_model.specs.Adjacencies as model;
-ghost use Rattle.isis_model.specs.Both as both;
-ghost use Rattle.isis_model.specs.Maps.{find};
-ghost use Rattle.isis_model.specs.HelloTests.{lan_drop};
-ghost use Rattle.isis_model.specs.Hellos.{minded};
-ghost use Rattle.isis_model.specs.Seconds.{heard_less};
+ghost use Rattle.model_router.specs.Adjacencies as model;
+ghost use Rattle.model_router.specs.Both as both;
+ghost use Rattle.model_router.specs.Maps.{find};
+ghost use Rattle.model_router.specs.HelloTests.{lan_drop};
+ghost use Rattle.model_router.specs.Hellos.{minded};
+ghost use Rattle.model_router.specs.Seconds.{heard_less};
 ghost use Rattle.adjacency.specs.Views.{config_of, hello_of, neighbour_of};
 ghost use Rattle.adjacency.specs.Changes.{IsTested};
 ghost use Rattle.adjacency.specs.Lans.{AreHeard, neighbours, ups, hear_lan, lan_change_of, lan_less_change};
-ghost use Rattle.isis_model.specs.Numbers.{snpa_number};
+ghost use Rattle.model_router.specs.Numbers.{snpa_number};
 
 use crate::boots::Boots;
 use crate::by_snpa::place_of;
@@ -36,7 +36,7 @@ pub struct LanAdj {
 
 impl Model for LanAdj {
     ghost use Rattle.std.specs.Prelude.{ℕ, List, vec_capacity};
-    ghost use Rattle.isis_model.specs.Routers.{LanNeighbour};
+    ghost use Rattle.model_router.specs.Routers.{LanNeighbour};
 
     ghost Value = { List (ℕ × LanNeighbour) };
 

@@ -1,9 +1,9 @@
 //! The two lists of a LAN, all neighbours and those in state Up, changed together.
 ghost use Rattle.std.specs.Prelude.{◌≡◌, ℕ, List, ◌<◌, ◌≤◌, true, ◌⊎◌, length, vec_capacity, Option, IsSome, if◌then◌else◌};
-ghost use Rattle.isis_model.specs.Maps.{find, put, erase};
-ghost use Rattle.isis_model.specs.Routers.{LanNeighbour};
-ghost use Rattle.isis_model.specs.Seconds as seconds;
-ghost use Rattle.isis_model.specs.Numbers.{system_number};
+ghost use Rattle.model_router.specs.Maps.{find, put, erase};
+ghost use Rattle.model_router.specs.Routers.{LanNeighbour};
+ghost use Rattle.model_router.specs.Seconds as seconds;
+ghost use Rattle.model_router.specs.Numbers.{system_number};
 ghost use Rattle.adjacency.specs.Inside.{by_snpa, snpa_of, lan_of, IsLan, IsAt, keeps_boot};
 ghost use Rattle.adjacency.specs.Views.{neighbour_of};
 ghost use Rattle.adjacency.specs.Lans as lan;

@@ -6,7 +6,7 @@
 //! its source's system ID; where another neighbour, or other levels in common, are heard than are
 //! kept, the adjacency goes Down first; point-to-point neighbours without the handshake are
 //! refused; at most 200 neighbours are heard on a LAN and level. What a call does is what the
-//! router's model (isis_model) says.
+//! router's model (model_router) says.
 //!
 //! A LAN keeps its neighbours in two lists by SNPA: all that are heard, and once more those in
 //! state Up, so that both are lent as they lie. A hello finds its place in each by a binary

@@ -2,10 +2,10 @@
 ghost use Rattle.std.specs.Prelude.{◌≡◌, ◌↔◌, Bool, true, Option, IsNone, OnErr, IfOk, IfSome};
 ghost use Rattle.std.specs.Option.{option_map};
 ghost use Rattle.isis_tlv.specs.declared.three_way.Adj.TheVariants as adj;
-ghost use Rattle.isis_model.specs.Adjacencies as model;
-ghost use Rattle.isis_model.specs.HelloTests.{point_drop};
-ghost use Rattle.isis_model.specs.Seconds.{point_less};
-ghost use Rattle.isis_model.specs.Hellos.{minded};
+ghost use Rattle.model_router.specs.Adjacencies as model;
+ghost use Rattle.model_router.specs.HelloTests.{point_drop};
+ghost use Rattle.model_router.specs.Seconds.{point_less};
+ghost use Rattle.model_router.specs.Hellos.{minded};
 ghost use Rattle.adjacency.specs.Views.{runs_of, config_of, hello_of, neighbour_of, point_of, point_down, shake_of};
 ghost use Rattle.adjacency.specs.Changes.{IsTested, change_of, boot_of};
 

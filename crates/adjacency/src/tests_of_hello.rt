@@ -1,12 +1,12 @@
 //! The tests of a hello, in their order (ISO 10589 8.2.4.2, RFC 5303 3.2; the order: own).
 ghost use Rattle.std.specs.Prelude.{◌≡◌, false, ℕ, List, length, nat_le, ◌&&◌, is_none, Bool, Some, IfOk};
 ghost use Rattle.isis_base.specs.declared.level.Level.TheVariants as one;
-ghost use Rattle.isis_model.specs.Adjacencies as model;
-ghost use Rattle.isis_model.specs.Both as both;
-ghost use Rattle.isis_model.specs.Maps.{find};
-ghost use Rattle.isis_model.specs.Routers.{LanNeighbour};
-ghost use Rattle.isis_model.specs.HelloTests.{is_below, hello_drop, known_point, known_lan};
-ghost use Rattle.isis_model.specs.Numbers.{system_number, snpa_number};
+ghost use Rattle.model_router.specs.Adjacencies as model;
+ghost use Rattle.model_router.specs.Both as both;
+ghost use Rattle.model_router.specs.Maps.{find};
+ghost use Rattle.model_router.specs.Routers.{LanNeighbour};
+ghost use Rattle.model_router.specs.HelloTests.{is_below, hello_drop, known_point, known_lan};
+ghost use Rattle.model_router.specs.Numbers.{system_number, snpa_number};
 ghost use Rattle.adjacency.specs.Views.{runs_of, common_runs, config_of, hello_of};
 ghost use Rattle.adjacency.specs.Changes.{IsTested};
 

@@ -1,7 +1,7 @@
 -- What a worker's and the ticker's jobs are after all ran, or not.
 use Rattle.std.proofs.Common.{◌≡◌, ◌≢◌, ℕ, ◌+◌, ◌<◌, ◌≤◌, Bool, false, List, [], length, slice_get, Option, Some, None, IfSome, ⊎_elim, sym, refl, ap, ◌∙◌, subst, arith}
 use Rattle.std.specs.Option.{ForSome}
-use Rattle.isis_model.specs.Routers.{Router}
+use Rattle.model_router.specs.Routers.{Router}
 use Rattle.router_core.specs.Events.{IsThere}
 use Rattle.turn_lock.specs.declared.noted.Noted as noted
 use Rattle.turn_lock.specs.declared.pass.Pass.{Pass}

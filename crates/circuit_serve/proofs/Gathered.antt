@@ -6,7 +6,7 @@ use Rattle.std.proofs.lemmas.Bool.Decides.{leb_tells}
 use Rattle.turn_lock.specs.declared.noted.Noted as noted
 use Rattle.turn_lock.specs.declared.pass.Pass.{Pass}
 use Rattle.turn_lock.specs.Passes.{own, seen}
-use Rattle.isis_model.specs.Routers.{Router}
+use Rattle.model_router.specs.Routers.{Router}
 use Rattle.circuit_threads.specs.declared.journal.Journal.{Ghosts}
 use Rattle.circuit_threads.specs.declared.behind.Behind.{Behind}
 use Rattle.circuit_threads.specs.declared.behind.Start.{Start}

@@ -5,7 +5,7 @@ use Rattle.circuit_threads.specs.declared.entry.Receipt.{Receipt}
 use Rattle.circuit_threads.specs.declared.entry.SubmitFault.{SubmitFault}
 use Rattle.circuit_threads.specs.declared.entry.SubmitFault.TheVariants as fault
 use Rattle.router_core.specs.declared.event.NodeEvent.TheVariants.{Take, Pull, Second}
-use Rattle.isis_model.specs.Routers.{Router}
+use Rattle.model_router.specs.Routers.{Router}
 use Rattle.circuit_threads.specs.declared.entry.Note.{Note}
 use Rattle.circuit_threads.specs.Answered.{entry_of, note_of, IsAnswered}
 use Rattle.circuit_threads.specs.History.{entries}

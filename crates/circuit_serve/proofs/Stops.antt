@@ -1,7 +1,7 @@
 -- A mark stays.
 use Rattle.std.proofs.Common.{◌≡◌, ◌⊎◌, inl, inr, ℕ, Bool, true, false, nat_lt, if◌then◌else◌, List, [], ◌∷◌, ◌++◌, length, Some, refl, ap, sym, ◌∙◌}
 use mathlib.Core.List.{IsPrefix}
-use Rattle.isis_model.specs.Routers.{Router}
+use Rattle.model_router.specs.Routers.{Router}
 use Rattle.circuit_threads.specs.declared.entry.Note.{Note}
 use Rattle.circuit_threads.specs.declared.entry.Note.TheVariants.{Nothing, Made, Marked}
 use Rattle.circuit_threads.specs.History.{Replay, opening, replay, next, made, unless_stopped}

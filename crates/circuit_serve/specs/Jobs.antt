@@ -1,6 +1,6 @@
 -- What the threads of `serve` work on (own).
 use Rattle.std.specs.Prelude.{◌≡◌, ℕ, ◌+◌, ◌≤◌, Bool, List, length, Option, Some}
-use Rattle.isis_model.specs.Routers.{Router}
+use Rattle.model_router.specs.Routers.{Router}
 use Rattle.router_core.specs.Events.{IsThere}
 use Rattle.turn_lock.specs.declared.noted.Noted as noted
 use Rattle.turn_lock.specs.declared.pass.Pass.{Pass}

@@ -1,6 +1,6 @@
 -- What the entries of a circuit's label come to, beside what its port tells (own).
 use Rattle.std.specs.Prelude.{◌≡◌, ℕ, ◌+◌, ◌==◌, ◌&&◌, ◌⊎◌, Bool, true, false, not, List, [], ◌∷◌, ◌++◌, length, Option, Some, None, Result, Ok, Err}
-use Rattle.isis_model.specs.Routers.{Router}
+use Rattle.model_router.specs.Routers.{Router}
 use Rattle.router_core.specs.declared.event.NodeEvent.{NodeEvent}
 use Rattle.router_core.specs.declared.event.NodeEvent.TheVariants.{Take, Pull, Second}
 use Rattle.router_core.specs.declared.event.NodeEvent.TheVariants as event

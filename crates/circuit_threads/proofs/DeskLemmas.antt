@@ -3,20 +3,20 @@ use Rattle.std.proofs.Common.{◌≡◌, ℕ, zero, suc, ◌+◌, Bool, true, fa
 use Rattle.std.proofs.lemmas.List.{length-map}
 use Rattle.isis_base.specs.declared.level.Level.{Level}
 use Rattle.isis_base.specs.declared.level.Level.TheVariants as level
-use Rattle.isis_model.specs.declared.drop_name.DropName.{DropName}
-use Rattle.isis_model.specs.Places.{nth, with_nth}
-use Rattle.isis_model.specs.Configs.{Config}
-use Rattle.isis_model.specs.Adjacencies.{Handshake, Hello}
-use Rattle.isis_model.specs.Routers.{Circuit, Router, with_circuit}
-use Rattle.isis_model.specs.Hellos.{take_point, take_lan}
-use Rattle.isis_model.specs.Givens.{Given}
-use Rattle.isis_model.specs.Seconds.{counted, count_down, hold, hold_one, hold_all, second}
-use Rattle.isis_model.specs.Pulls.{Sending, on_circuit, at_circuit, pull_hello, pull_csnp, pull_lsps, pull_psnp, pull_level, pull}
-use Rattle.isis_model.specs.Events.{Done, Message, Refused, PointHelloHeard, LanHelloHeard, LspHeard, SnpHeard, Event, Second, Take, Pull, Metric, Overload, Prefix, Outcome, settled}
-use Rattle.isis_model.specs.Elections.{idle_all}
-use Rattle.isis_model.specs.Receiving.{greeted, taken, take_or_drop, drop_of}
-use Rattle.isis_model.specs.Receiving as receiving
-use Rattle.isis_model.specs.Steps.{with_metric, with_prefix, sent_all, step}
+use Rattle.model_router.specs.declared.drop_name.DropName.{DropName}
+use Rattle.model_router.specs.Places.{nth, with_nth}
+use Rattle.model_router.specs.Configs.{Config}
+use Rattle.model_router.specs.Adjacencies.{Handshake, Hello}
+use Rattle.model_router.specs.Routers.{Circuit, Router, with_circuit}
+use Rattle.model_router.specs.Hellos.{take_point, take_lan}
+use Rattle.model_router.specs.Givens.{Given}
+use Rattle.model_router.specs.Seconds.{counted, count_down, hold, hold_one, hold_all, second}
+use Rattle.model_router.specs.Pulls.{Sending, on_circuit, at_circuit, pull_hello, pull_csnp, pull_lsps, pull_psnp, pull_level, pull}
+use Rattle.model_router.specs.Events.{Done, Message, Refused, PointHelloHeard, LanHelloHeard, LspHeard, SnpHeard, Event, Second, Take, Pull, Metric, Overload, Prefix, Outcome, settled}
+use Rattle.model_router.specs.Elections.{idle_all}
+use Rattle.model_router.specs.Receiving.{greeted, taken, take_or_drop, drop_of}
+use Rattle.model_router.specs.Receiving as receiving
+use Rattle.model_router.specs.Steps.{with_metric, with_prefix, sent_all, step}
 use Rattle.router_desk.specs.declared.desk_circuit.DeskCircuit.{DeskCircuit}
 use Rattle.router_desk.specs.Desks.{DeskView, desk_circuit, desk_of}
 

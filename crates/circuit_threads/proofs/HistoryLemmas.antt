@@ -2,11 +2,11 @@
 use Rattle.std.proofs.Common.{◌≡◌, ℕ, ◌+◌, ◌≤◌, List, [], ◌∷◌, ◌++◌, map, length, Option, Some, None, Ok, Err, refl, ap, sym, ◌∙◌, subst, arith, append-nil, length-append}
 use Rattle.std.specs.Option.{option_map}
 use Rattle.std.proofs.lemmas.List.{length-map, map-append}
-use Rattle.isis_model.specs.Routers.{Router}
-use Rattle.isis_model.specs.Events as model
-use Rattle.isis_model.specs.Events.{Outcome}
-use Rattle.isis_model.specs.AdjacencyLaws.{place_of}
-use Rattle.isis_model.specs.Steps.{step}
+use Rattle.model_router.specs.Routers.{Router}
+use Rattle.model_router.specs.Events as model
+use Rattle.model_router.specs.Events.{Outcome}
+use Rattle.model_router.specs.AdjacencyLaws.{place_of}
+use Rattle.model_router.specs.Steps.{step}
 use Rattle.isis_edge.specs.Faults.{Rose}
 use Rattle.router_desk.specs.declared.config.Change.TheVariants as change
 use Rattle.router_desk.specs.Desks.{DeskView, desk_of}

@@ -6,9 +6,9 @@ use Rattle.isis_base.specs.Texts.{hex_pair}
 use Rattle.circuit_threads.specs.declared.line.Stage.{Stage}
 use Rattle.circuit_threads.specs.declared.line.Stage.TheVariants.{Datagrams}
 use Rattle.circuit_threads.specs.declared.line.LineRest.{LineRest}
-use Rattle.isis_model.specs.declared.drop_name.DropName.{DropName}
-use Rattle.isis_model.specs.declared.drop_name.DropName.TheVariants as drop
-use Rattle.isis_model.specs.Drops.{drop_word}
+use Rattle.model_router.specs.declared.drop_name.DropName.{DropName}
+use Rattle.model_router.specs.declared.drop_name.DropName.TheVariants as drop
+use Rattle.model_router.specs.Drops.{drop_word}
 use Rattle.router_core.specs.declared.event.NodeEvent.{NodeEvent}
 use Rattle.router_core.specs.declared.event.NodeEvent.TheVariants as event
 use Rattle.router_core.specs.declared.reply.Reply.{Reply}

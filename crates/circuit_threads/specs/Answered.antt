@@ -1,6 +1,6 @@
 -- What a submit answers, the note that its turn leaves, and the history behind its answer (own).
 use Rattle.std.specs.Prelude.{◌≡◌, ℕ, List, map, length, Option, Some, None, Result, Ok, Err}
-use Rattle.isis_model.specs.Routers.{Router}
+use Rattle.model_router.specs.Routers.{Router}
 use Rattle.router_core.specs.declared.event.NodeEvent.{NodeEvent}
 use Rattle.circuit_threads.specs.declared.entry.JournalEntry.{JournalEntry}
 use Rattle.circuit_threads.specs.declared.entry.Note.{Note}

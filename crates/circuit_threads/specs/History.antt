@@ -1,12 +1,12 @@
 -- The history of a router that threads share: what each turn leaves, and the replay of its entries
 -- by the router's model (own).
 use Rattle.std.specs.Prelude.{◌≡◌, ℕ, ◌+◌, List, [], ◌∷◌, ◌++◌, map, length, Option, Some, None}
-use Rattle.isis_model.specs.declared.drop_name.DropName.{DropName}
-use Rattle.isis_model.specs.Routers.{Router}
-use Rattle.isis_model.specs.Events as model
-use Rattle.isis_model.specs.Events.{Outcome}
-use Rattle.isis_model.specs.AdjacencyLaws.{place_of}
-use Rattle.isis_model.specs.Steps.{step}
+use Rattle.model_router.specs.declared.drop_name.DropName.{DropName}
+use Rattle.model_router.specs.Routers.{Router}
+use Rattle.model_router.specs.Events as model
+use Rattle.model_router.specs.Events.{Outcome}
+use Rattle.model_router.specs.AdjacencyLaws.{place_of}
+use Rattle.model_router.specs.Steps.{step}
 use Rattle.router_desk.specs.Causes.{name_of}
 use Rattle.router_core.specs.declared.event.NodeEvent.{NodeEvent}
 use Rattle.router_core.specs.declared.reply.Reply.{Reply}

@@ -2,7 +2,7 @@
 use Rattle.std.specs.Prelude.{ℕ, Bool, true, false, List, ◌++◌, Option, Some, None, codes, decimal, flat_map}
 use Rattle.isis_base.specs.PrefixTexts.{prefix_text}
 use Rattle.isis_base.specs.Texts.{hex_pair}
-use Rattle.isis_model.specs.Drops.{drop_word}
+use Rattle.model_router.specs.Drops.{drop_word}
 use Rattle.router_desk.specs.declared.config.Change.{Change}
 use Rattle.router_desk.specs.declared.config.Change.TheVariants as change
 use Rattle.router_core.specs.declared.event.NodeEvent.{NodeEvent}

@@ -1,6 +1,6 @@
 -- A line of a journal while it is made: what of its text is still to come (own).
 use Rattle.std.specs.Prelude.{ℕ, List, [], ◌++◌, drop, codes, decimal, flat_map}
-use Rattle.isis_model.specs.Drops.{drop_word}
+use Rattle.model_router.specs.Drops.{drop_word}
 use Rattle.router_desk.specs.Causes.{name_of}
 use Rattle.router_core.specs.declared.event.NodeEvent.{NodeEvent}
 use Rattle.router_core.specs.declared.event.NodeEvent.TheVariants as event

@@ -2,7 +2,7 @@
 -- closed (own).
 use Rattle.std.specs.Prelude.{◌≡◌, ℕ, ◌≤◌, List, Some}
 use Rattle.std.specs.Option.{option_map}
-use Rattle.isis_model.specs.Routers.{Router}
+use Rattle.model_router.specs.Routers.{Router}
 use Rattle.isis_edge.specs.Faults.{Rose}
 use Rattle.router_desk.specs.Desks.{DeskView, desk_of}
 use Rattle.router_desk.specs.declared.config.Change.{Change}

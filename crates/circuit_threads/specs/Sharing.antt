@@ -1,7 +1,7 @@
 -- A shared router as contracts see it: what it was made of, and its passes (own).
 use Rattle.std.specs.Prelude.{◌≡◌, ℕ, ◌<◌, List, length, MatchResult, Result}
 use mathlib.Core.List.{IsPrefix}
-use Rattle.isis_model.specs.Routers.{Router}
+use Rattle.model_router.specs.Routers.{Router}
 use Rattle.turn_lock.specs.declared.noted.Noted as noted
 use Rattle.turn_lock.specs.declared.pass.Pass.{Pass}
 use Rattle.turn_lock.specs.declared.lock.TurnOut.{TurnOut}

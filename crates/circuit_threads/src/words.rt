@@ -1,6 +1,6 @@
 //! The words of a line of a journal, put on a page.
 ghost use Rattle.std.specs.Prelude.{◌≡◌, ◌+◌, ◌≤◌, ◌<◌, ◌++◌, length, codes};
-ghost use Rattle.isis_model.specs.Drops.{drop_word};
+ghost use Rattle.model_router.specs.Drops.{drop_word};
 ghost use Rattle.circuit_threads.specs.JournalText.{change_text, metric_text};
 ghost use Rattle.circuit_threads.specs.LineRests.{event_front, reply_front, front_text, taken_octets};
 

@@ -1,6 +1,6 @@
 -- A router that was served, and its journal.
 use Rattle.std.proofs.Common.{◌≡◌, ℕ, ◌+◌, Bool, false, List, [], slice_get, Option, IfSome, refl, arith}
-use Rattle.isis_model.specs.Routers.{Router}
+use Rattle.model_router.specs.Routers.{Router}
 use Rattle.isis_edge.specs.Told.{WrotePrefix}
 use Rattle.circuit_threads.specs.JournalText.{journal_text}
 use Rattle.daemon_edge.specs.Closings.{Opening}

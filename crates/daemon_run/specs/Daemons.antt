@@ -1,7 +1,7 @@
 -- What a daemon wrote and did, from its configuration to its end (own).
 use Rattle.std.specs.Prelude.{◌≡◌, ℕ, ◌+◌, ◌<◌, Bool, List, [], ◌++◌, map, length, slice_get, Some, Option}
-use Rattle.isis_model.specs.Routers.{Router}
-use Rattle.isis_model.specs.Starts.{start}
+use Rattle.model_router.specs.Routers.{Router}
+use Rattle.model_router.specs.Starts.{start}
 use Rattle.isis_edge.specs.Told.{Wrote, WrotePrefix}
 use Rattle.router_desk.specs.declared.config.Config.{Config}
 use Rattle.router_desk.specs.Configs.{config_of, circuits_of}

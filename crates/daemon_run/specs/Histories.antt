@@ -1,6 +1,6 @@
 -- What a router that was served wrote and did (own).
 use Rattle.std.specs.Prelude.{◌≡◌, ℕ, ◌+◌, ◌<◌, ◌==◌, Bool, List, [], ◌∷◌, map, length, slice_get, Some, Option, IfSome, if◌then◌else◌}
-use Rattle.isis_model.specs.Routers.{Router}
+use Rattle.model_router.specs.Routers.{Router}
 use Rattle.isis_edge.specs.Told.{Wrote, WrotePrefix}
 use Rattle.circuit_threads.specs.declared.entry.JournalEntry.{JournalEntry}
 use Rattle.circuit_threads.specs.declared.entry.Note.TheVariants.{Made}

@@ -3,9 +3,9 @@ use Rattle.std.proofs.Common.{◌≡◌, ℕ, map, ◌⊎◌, inl, inr, zero, su
 use Rattle.std.specs.Prelude.{Contains}
 use Rattle.std.proofs.lemmas.Bool.Decides.{nat_tests}
 use Rattle.isis_base.specs.declared.identifiers.SystemId.{SystemId}
-use Rattle.isis_model.specs.Routers.{LanNeighbour}
-use Rattle.isis_model.specs.Elections as model
-use Rattle.isis_model.specs.Numbers.{system_number}
+use Rattle.model_router.specs.Routers.{LanNeighbour}
+use Rattle.model_router.specs.Elections as model
+use Rattle.model_router.specs.Numbers.{system_number}
 use Rattle.designated_is.specs.declared.candidate.Candidate.{Candidate}
 use Rattle.designated_is.specs.Numbers.{candidate_of}
 use Rattle.designated_is.specs.Greatest.{beats, best_of, IsUnbeaten, IsElected, plain, up_candidates}

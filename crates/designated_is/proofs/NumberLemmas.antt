@@ -2,7 +2,7 @@
 use Rattle.std.proofs.Common.{◌≡◌, ◌/◌, ℕ, List, [], ◌∷◌, length, arith}
 use Rattle.isis_base.specs.declared.identifiers.SystemId.{SystemId}
 use Rattle.isis_base.specs.Identifiers.{lsp_number}
-use Rattle.isis_model.specs.Numbers.{system_number}
+use Rattle.model_router.specs.Numbers.{system_number}
 
 systems : (xs : List ℕ) → length xs ≡ 6 → lsp_number (record { node = record { system = record { 0 = xs }; pseudonode = 0 }; number = 0 }) / 65536 ≡ system_number (record { 0 = xs })
 unfolding lsp_number

@@ -3,8 +3,8 @@ use Rattle.std.specs.Prelude.{◌≡◌, ℕ, Bool, false, List, [], ◌∷◌, 
 use Rattle.std.specs.List.{AllByRecursion}
 use Rattle.std.specs.Prelude.{Contains}
 use Rattle.isis_base.specs.declared.identifiers.SystemId.{SystemId}
-use Rattle.isis_model.specs.Routers.{LanNeighbour}
-use Rattle.isis_model.specs.Elections as model
+use Rattle.model_router.specs.Routers.{LanNeighbour}
+use Rattle.model_router.specs.Elections as model
 use Rattle.designated_is.specs.declared.candidate.Candidate.{Candidate}
 use Rattle.designated_is.specs.Numbers.{candidate_of}
 

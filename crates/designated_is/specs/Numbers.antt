@@ -1,6 +1,6 @@
 -- A candidate as the model of the router has it.
-use Rattle.isis_model.specs.Elections as model
-use Rattle.isis_model.specs.Numbers.{system_number, snpa_number}
+use Rattle.model_router.specs.Elections as model
+use Rattle.model_router.specs.Numbers.{system_number, snpa_number}
 use Rattle.designated_is.specs.declared.candidate.Candidate.{Candidate}
 
 -- a candidate in numbers, which has no LAN ID of its own (own)

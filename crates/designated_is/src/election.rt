@@ -1,8 +1,8 @@
 //! The greatest candidate, and the pseudonode of a circuit.
 ghost use Rattle.std.specs.Prelude.{◌≡◌, ◌↔◌, ℕ, ◌+◌, ◌*◌, if◌then◌else◌, [], IsNone, IfSome};
-ghost use Rattle.isis_model.specs.Configs.{Config};
-ghost use Rattle.isis_model.specs.Routers.{Circuit};
-ghost use Rattle.isis_model.specs.Elections as model;
+ghost use Rattle.model_router.specs.Configs.{Config};
+ghost use Rattle.model_router.specs.Routers.{Circuit};
+ghost use Rattle.model_router.specs.Elections as model;
 ghost use Rattle.designated_is.specs.Greatest.{beats, best_of, IsElected};
 
 use crate::candidate::Candidate;

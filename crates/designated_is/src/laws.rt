@@ -1,9 +1,9 @@
 //! Laws of elections: one system alone is elected, and it is whom the router's model elects.
 ghost use Rattle.std.specs.Prelude.{◌≡◌, ℕ, List, ◌∷◌, map};
 ghost use Rattle.isis_base.specs.declared.identifiers.SystemId.{SystemId};
-ghost use Rattle.isis_model.specs.Routers.{LanNeighbour};
-ghost use Rattle.isis_model.specs.Elections as model;
-ghost use Rattle.isis_model.specs.Numbers.{system_number};
+ghost use Rattle.model_router.specs.Routers.{LanNeighbour};
+ghost use Rattle.model_router.specs.Elections as model;
+ghost use Rattle.model_router.specs.Numbers.{system_number};
 ghost use Rattle.designated_is.specs.declared.candidate.Candidate.{Candidate};
 ghost use Rattle.designated_is.specs.Numbers.{candidate_of};
 ghost use Rattle.designated_is.specs.Greatest.{IsElected, plain, up_candidates};

@@ -1,6 +1,6 @@
 //! System IDs and SNPAs as numbers.
 ghost use Rattle.std.specs.Prelude.{◌≡◌, ◌<◌, ◌^◌, ◌==◌};
-ghost use Rattle.isis_model.specs.Numbers.{system_number, snpa_number};
+ghost use Rattle.model_router.specs.Numbers.{system_number, snpa_number};
 
 use isis_base::{LspId, NodeId, Snpa, SystemId};
 

@@ -4,10 +4,10 @@ use Rattle.std.proofs.lemmas.Bool.Decides.{nat_tests}
 use Rattle.std.specs.Option.{option_map}
 use Rattle.isis_base.specs.declared.identifiers.LspId.{LspId}
 use Rattle.isis_base.specs.Identifiers.{lsp_number}
-use Rattle.isis_model.specs.Maps as cells
-use Rattle.isis_model.specs.Sorted as sorted
-use Rattle.isis_model.specs.Cells.{Cell}
-use Rattle.isis_model.specs.Ageing.{less}
+use Rattle.model_router.specs.Maps as cells
+use Rattle.model_router.specs.Sorted as sorted
+use Rattle.model_router.specs.Cells.{Cell}
+use Rattle.model_router.specs.Ageing.{less}
 use Rattle.lsp_store.specs.declared.entry.Entry.{Entry}
 use Rattle.lsp_store.specs.Maps.{pair_number, from, change_all, first_where, RisesFrom}
 use Rattle.lsp_store.specs.Databases.{one_less, is_over}

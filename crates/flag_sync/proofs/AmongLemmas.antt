@@ -6,9 +6,9 @@ use Rattle.std.proofs.lemmas.Nat.Bits.{bit_at_or, bit_at-lt}
 use Rattle.isis_base.specs.declared.identifiers.LspId.{LspId}
 use Rattle.isis_base.specs.declared.level.Level.{Level}
 use Rattle.isis_base.specs.Identifiers.{lsp_number}
-use Rattle.isis_model.specs.Sets.{has, with_one, without}
-use Rattle.isis_model.specs.Pulls.{due_lsps}
-use Rattle.isis_model.proofs.SetLemmas.{has-with_one, has-without}
+use Rattle.model_router.specs.Sets.{has, with_one, without}
+use Rattle.model_router.specs.Pulls.{due_lsps}
+use Rattle.model_router.proofs.SetLemmas.{has-with_one, has-without}
 use Rattle.lsp_store.specs.declared.entry.Entry.{Entry}
 use Rattle.lsp_store.specs.Maps.{pair_number, put, erase, change_at, change_all}
 use Rattle.flag_sync.specs.declared.deed.Deed.{Deed}

@@ -6,13 +6,13 @@ use Rattle.isis_base.specs.declared.identifiers.LspId.{LspId}
 use Rattle.isis_base.specs.declared.key.Key.{Key}
 use Rattle.isis_base.specs.Identifiers.{lsp_number}
 use Rattle.isis_base.specs.Keys.{rank}
-use Rattle.isis_model.specs.Maps as cells
-use Rattle.isis_model.specs.Sets.{has, only}
-use Rattle.isis_model.specs.Waits.{no_waits}
-use Rattle.isis_model.specs.Cells.{Cell, flagged, purged, header_of, ssn_on, empty_cell}
-use Rattle.isis_model.specs.Books.{Book, cell_at, rank_of, rank_at, checksum_of, srm_of, srm_at, ssn_of, ssn_at, is_full, risen, set_cell}
-use Rattle.isis_model.specs.LspTable.{ssn_stored}
-use Rattle.isis_model.specs.SnpTable.{asked}
+use Rattle.model_router.specs.Maps as cells
+use Rattle.model_router.specs.Sets.{has, only}
+use Rattle.model_router.specs.Waits.{no_waits}
+use Rattle.model_router.specs.Cells.{Cell, flagged, purged, header_of, ssn_on, empty_cell}
+use Rattle.model_router.specs.Books.{Book, cell_at, rank_of, rank_at, checksum_of, srm_of, srm_at, ssn_of, ssn_at, is_full, risen, set_cell}
+use Rattle.model_router.specs.LspTable.{ssn_stored}
+use Rattle.model_router.specs.SnpTable.{asked}
 use Rattle.lsp_store.specs.declared.entry.Entry.{Entry}
 use Rattle.lsp_store.specs.Maps.{find, put, erase, change_at, change_all, RisesFrom}
 use Rattle.lsp_store.specs.Databases.{Database, key_of, count_after, with_entry, without_entry, with_change}

@@ -5,9 +5,9 @@ use Rattle.isis_base.specs.declared.identifiers.LspId.{LspId}
 use Rattle.isis_base.specs.declared.key.Key.{Key}
 use Rattle.isis_base.specs.Identifiers.{lsp_number}
 use Rattle.isis_base.specs.Keys.{rank}
-use Rattle.isis_model.specs.Maps as cells
-use Rattle.isis_model.specs.Cells.{Cell, header_of}
-use Rattle.isis_model.specs.Books.{rank_of}
+use Rattle.model_router.specs.Maps as cells
+use Rattle.model_router.specs.Cells.{Cell, header_of}
+use Rattle.model_router.specs.Books.{rank_of}
 use Rattle.lsp_store.specs.declared.entry.Entry.{Entry}
 use Rattle.lsp_store.specs.Maps.{pair_number, find, put, erase, change_at, change_all, RisesFrom}
 use Rattle.lsp_store.specs.Databases.{key_of}

@@ -1,6 +1,6 @@
 -- A purge's header, as it is written.
 use Rattle.std.proofs.Common.{◌≡◌, ℕ, zero, suc, ◌≤◌, List, [], ◌∷◌, ◌++◌, length, take, drop, slice_set, refl, sym, ap, subst, arith}
-use Rattle.isis_model.specs.Cells.{header_of}
+use Rattle.model_router.specs.Cells.{header_of}
 
 -- a header of 27 octets, as it is written
 abbrev pub written : List ℕ → List ℕ

@@ -2,10 +2,10 @@
 use Rattle.std.proofs.Common.{◌≡◌, ◌≢◌, ◌&&◌, ◌||◌, Bool, true, false, if◌then◌else◌, nat_lt, ℕ, zero, suc, ◌+◌, ◌<◌, ◌≤◌, List, [], ◌∷◌, length, get_or, Some, None, refl, sym, ap, ◌∙◌, arith}
 use Rattle.std.proofs.lemmas.Bool.Decides.{nat_tests}
 use Rattle.isis_base.specs.declared.level.CircuitKind.{CircuitKind}
-use Rattle.isis_model.specs.Places.{nth}
-use Rattle.isis_model.specs.Sets.{has, with_one}
-use Rattle.isis_model.proofs.SetLemmas.{has-with_one, has-none}
-use Rattle.isis_model.proofs.BookLemmas.{same-or}
+use Rattle.model_router.specs.Places.{nth}
+use Rattle.model_router.specs.Sets.{has, with_one}
+use Rattle.model_router.proofs.SetLemmas.{has-with_one, has-none}
+use Rattle.model_router.proofs.BookLemmas.{same-or}
 use Rattle.flag_sync.specs.Circuits.{is_point}
 
 pub nth-some : (xs : List CircuitKind) (i : ℕ) (d : CircuitKind) → i < length xs → nth xs i ≡ Some (get_or xs i d)

@@ -3,18 +3,18 @@ use Rattle.std.proofs.Common.{◌≡◌, ◌==◌, ◌&&◌, Bool, true, false, 
 use Rattle.std.proofs.lemmas.Bool.Decides.{nat_tests}
 use Rattle.isis_base.specs.declared.entry.LspEntry.{LspEntry}
 use Rattle.isis_base.specs.Keys.{entry_rank}
-use Rattle.isis_model.specs.declared.whose.Whose.{Whose}
-use Rattle.isis_model.specs.declared.whose.Whose.TheVariants as whose
-use Rattle.isis_model.specs.declared.lsp_case.LspCase.{LspCase}
-use Rattle.isis_model.specs.declared.lsp_case.LspCase.TheVariants as lsp
-use Rattle.isis_model.specs.declared.snp_case.SnpCase.{SnpCase}
-use Rattle.isis_model.specs.declared.snp_case.SnpCase.TheVariants as snp
-use Rattle.isis_model.specs.Ranks.{is_live}
-use Rattle.isis_model.specs.Cells.{Cell, Heard}
-use Rattle.isis_model.specs.Books.{Book, cell_at, rank_of, is_full, set_cell}
-use Rattle.isis_model.specs.LspTable.{lsp_case, lsp_row, met, hear_lsp, differs, is_issued}
-use Rattle.isis_model.specs.SnpTable.{SnpEntry, snp_case, snp_row, sets_flag, hear_entry}
-use Rattle.isis_model.proofs.FloodLemmas.{each-row, each-snp}
+use Rattle.model_router.specs.declared.whose.Whose.{Whose}
+use Rattle.model_router.specs.declared.whose.Whose.TheVariants as whose
+use Rattle.model_router.specs.declared.lsp_case.LspCase.{LspCase}
+use Rattle.model_router.specs.declared.lsp_case.LspCase.TheVariants as lsp
+use Rattle.model_router.specs.declared.snp_case.SnpCase.{SnpCase}
+use Rattle.model_router.specs.declared.snp_case.SnpCase.TheVariants as snp
+use Rattle.model_router.specs.Ranks.{is_live}
+use Rattle.model_router.specs.Cells.{Cell, Heard}
+use Rattle.model_router.specs.Books.{Book, cell_at, rank_of, is_full, set_cell}
+use Rattle.model_router.specs.LspTable.{lsp_case, lsp_row, met, hear_lsp, differs, is_issued}
+use Rattle.model_router.specs.SnpTable.{SnpEntry, snp_case, snp_row, sets_flag, hear_entry}
+use Rattle.model_router.proofs.FloodLemmas.{each-row, each-snp}
 use Rattle.flag_sync.specs.declared.known.Known.{Known}
 use Rattle.flag_sync.specs.Known.{Knows, known_cell}
 

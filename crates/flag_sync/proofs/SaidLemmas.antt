@@ -6,15 +6,15 @@ use Rattle.isis_base.specs.declared.key.Key.{Key}
 use Rattle.isis_base.specs.declared.entry.LspEntry.{LspEntry}
 use Rattle.isis_base.specs.Identifiers.{lsp_number}
 use Rattle.isis_base.specs.Keys.{rank}
-use Rattle.isis_model.specs.Maps.{find}
-use Rattle.isis_model.specs.Sets.{has}
-use Rattle.isis_model.specs.Sorted as sorted
-use Rattle.isis_model.specs.Ranks.{is_live}
-use Rattle.isis_model.specs.Cells.{Cell}
-use Rattle.isis_model.specs.Books.{Book}
-use Rattle.isis_model.specs.Good.{IsGood, IsGoodCell, IsGoodBook}
-use Rattle.isis_model.specs.SnpTable.{SnpEntry}
-use Rattle.isis_model.specs.SnpLists.{snp_entry, entries_where}
+use Rattle.model_router.specs.Maps.{find}
+use Rattle.model_router.specs.Sets.{has}
+use Rattle.model_router.specs.Sorted as sorted
+use Rattle.model_router.specs.Ranks.{is_live}
+use Rattle.model_router.specs.Cells.{Cell}
+use Rattle.model_router.specs.Books.{Book}
+use Rattle.model_router.specs.Good.{IsGood, IsGoodCell, IsGoodBook}
+use Rattle.model_router.specs.SnpTable.{SnpEntry}
+use Rattle.model_router.specs.SnpLists.{snp_entry, entries_where}
 use Rattle.lsp_store.specs.declared.entry.Entry.{Entry}
 use Rattle.lsp_store.specs.Maps.{RisesFrom}
 use Rattle.flag_sync.specs.declared.flag_row.FlagRow.{FlagRow}

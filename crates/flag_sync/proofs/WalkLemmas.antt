@@ -5,9 +5,9 @@ use Rattle.std.specs.Int.{bit_at}
 use Rattle.std.proofs.lemmas.Nat.Bits.{bit_at-lt}
 use Rattle.isis_base.specs.declared.identifiers.LspId.{LspId}
 use Rattle.isis_base.specs.Identifiers.{lsp_number}
-use Rattle.isis_model.specs.Sets.{has}
-use Rattle.isis_model.specs.Cells.{Cell}
-use Rattle.isis_model.specs.Pulls.{srm_due}
+use Rattle.model_router.specs.Sets.{has}
+use Rattle.model_router.specs.Cells.{Cell}
+use Rattle.model_router.specs.Pulls.{srm_due}
 use Rattle.lsp_store.specs.declared.entry.Entry.{Entry}
 use Rattle.flag_sync.specs.declared.flag_row.FlagRow.{FlagRow}
 use Rattle.flag_sync.specs.FlagRows.{cell_of}

@@ -2,10 +2,10 @@
 -- the form: own).
 use Rattle.std.specs.Prelude.{ℕ, nat_le, ◌==◌, ◌&&◌, List, [], ◌∷◌, Option, Some, None, if◌then◌else◌}
 use Rattle.isis_base.specs.declared.identifiers.LspId.{LspId}
-use Rattle.isis_model.specs.Maps.{each}
-use Rattle.isis_model.specs.Cells.{Cell}
-use Rattle.isis_model.specs.Books.{Book}
-use Rattle.isis_model.specs.Ageing.{less}
+use Rattle.model_router.specs.Maps.{each}
+use Rattle.model_router.specs.Cells.{Cell}
+use Rattle.model_router.specs.Books.{Book}
+use Rattle.model_router.specs.Ageing.{less}
 use Rattle.lsp_store.specs.declared.entry.Entry.{Entry}
 
 -- a second less of what each cell has left, where that isn't 0 (7.3.16.3)

@@ -2,7 +2,7 @@
 use Rattle.std.specs.Prelude.{◌≡◌, ℕ, Bool, true, false, ◌||◌, List, [], ◌∷◌}
 use Rattle.std.specs.List.{AllByRecursion}
 use Rattle.isis_base.specs.declared.identifiers.LspId.{LspId}
-use Rattle.isis_model.specs.Sets.{has, with_one, without}
+use Rattle.model_router.specs.Sets.{has, with_one, without}
 use Rattle.flag_sync.specs.declared.deed.SrmDeed.{SrmDeed}
 use Rattle.flag_sync.specs.declared.deed.SrmDeed.TheVariants as srm
 use Rattle.flag_sync.specs.declared.deed.SsnDeed.{SsnDeed}

@@ -3,11 +3,11 @@
 use Rattle.std.specs.Prelude.{ℕ, Bool, true, false, Option, Some, None, if◌then◌else◌}
 use Rattle.isis_base.specs.declared.level.CircuitKind.{CircuitKind}
 use Rattle.isis_base.specs.declared.level.CircuitKind.TheVariants.{PointToPoint, Lan}
-use Rattle.isis_model.specs.Maps.{each}
-use Rattle.isis_model.specs.Sets.{has, with_one}
-use Rattle.isis_model.specs.Cells.{Cell, srm_off, srm_sent}
-use Rattle.isis_model.specs.Books.{Book}
-use Rattle.isis_model.specs.Openings.{silenced, close}
+use Rattle.model_router.specs.Maps.{each}
+use Rattle.model_router.specs.Sets.{has, with_one}
+use Rattle.model_router.specs.Cells.{Cell, srm_off, srm_sent}
+use Rattle.model_router.specs.Books.{Book}
+use Rattle.model_router.specs.Openings.{silenced, close}
 
 -- a circuit's flags are cleared
 abbrev pub cleared : Book → ℕ → Book

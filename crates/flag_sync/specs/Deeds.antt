@@ -1,6 +1,6 @@
 -- What is done to the flags of one circuit, on cells (ISO 10589 7.3.15; the form: own).
 use Rattle.std.specs.Prelude.{ℕ}
-use Rattle.isis_model.specs.Cells.{Cell, srm_on, srm_off, srm_sent, ssn_on, ssn_off}
+use Rattle.model_router.specs.Cells.{Cell, srm_on, srm_off, srm_sent, ssn_on, ssn_off}
 use Rattle.flag_sync.specs.declared.deed.Deed.{Deed}
 use Rattle.flag_sync.specs.declared.deed.SrmDeed.{SrmDeed}
 use Rattle.flag_sync.specs.declared.deed.SrmDeed.TheVariants as srm

@@ -2,7 +2,7 @@
 use Rattle.std.specs.Prelude.{ℕ, ◌≤◌, true, List, [], ◌∷◌, length, nat_lt, if◌then◌else◌, Option, Some, None}
 use Rattle.isis_base.specs.declared.identifiers.LspId.{LspId}
 use Rattle.isis_base.specs.declared.key.Key.{Key}
-use Rattle.isis_model.specs.Cells.{Cell, header_of}
+use Rattle.model_router.specs.Cells.{Cell, header_of}
 use Rattle.lsp_store.specs.declared.entry.Entry.{Entry}
 use Rattle.flag_sync.specs.declared.flag_row.FlagRow.{FlagRow}
 use Rattle.flag_sync.specs.FlagRows.{waits_of}

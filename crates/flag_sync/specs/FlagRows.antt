@@ -2,9 +2,9 @@
 -- the form: own).
 use Rattle.std.specs.Prelude.{ℕ, List, [], ◌∷◌, slice_index}
 use Rattle.isis_base.specs.Keys.{rank}
-use Rattle.isis_model.specs.Sets.{with_one, without}
-use Rattle.isis_model.specs.Waits.{Waits, fallen}
-use Rattle.isis_model.specs.Cells.{Cell}
+use Rattle.model_router.specs.Sets.{with_one, without}
+use Rattle.model_router.specs.Waits.{Waits, fallen}
+use Rattle.model_router.specs.Cells.{Cell}
 use Rattle.lsp_store.specs.declared.entry.Entry.{Entry}
 use Rattle.flag_sync.specs.declared.flag_row.FlagRow.{FlagRow}
 use Rattle.flag_sync.specs.declared.deed.Deed.{Deed}

@@ -3,12 +3,12 @@ use Rattle.std.specs.Prelude.{ℕ, List, [], ◌∷◌, Option, Some, None, Bool
 use Rattle.isis_base.specs.declared.entry.LspEntry.{LspEntry}
 use Rattle.isis_base.specs.Identifiers.{lsp_number}
 use Rattle.isis_base.specs.Keys.{entry_rank}
-use Rattle.isis_model.specs.declared.lsp_case.LspCase.{LspCase}
-use Rattle.isis_model.specs.declared.lsp_case.LspCase.TheVariants as lsp
-use Rattle.isis_model.specs.declared.snp_case.SnpCase.{SnpCase}
-use Rattle.isis_model.specs.declared.snp_case.SnpCase.TheVariants as snp
-use Rattle.isis_model.specs.Cells.{Heard}
-use Rattle.isis_model.specs.SnpTable.{SnpEntry, sets_flag}
+use Rattle.model_router.specs.declared.lsp_case.LspCase.{LspCase}
+use Rattle.model_router.specs.declared.lsp_case.LspCase.TheVariants as lsp
+use Rattle.model_router.specs.declared.snp_case.SnpCase.{SnpCase}
+use Rattle.model_router.specs.declared.snp_case.SnpCase.TheVariants as snp
+use Rattle.model_router.specs.Cells.{Heard}
+use Rattle.model_router.specs.SnpTable.{SnpEntry, sets_flag}
 use Rattle.flag_sync.specs.declared.heard.LspHeard.{LspHeard}
 use Rattle.flag_sync.specs.declared.heard.LspAnswer.{LspAnswer}
 use Rattle.flag_sync.specs.declared.heard.LspAnswer.TheVariants as answer

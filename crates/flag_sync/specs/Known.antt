@@ -1,9 +1,9 @@
 -- What the tables ask of what is held (own).
 use Rattle.std.specs.Prelude.{◌≡◌, [], Option}
 use Rattle.isis_base.specs.Keys.{rank}
-use Rattle.isis_model.specs.Waits.{no_waits}
-use Rattle.isis_model.specs.Cells.{Cell}
-use Rattle.isis_model.specs.Books.{rank_of, checksum_of}
+use Rattle.model_router.specs.Waits.{no_waits}
+use Rattle.model_router.specs.Cells.{Cell}
+use Rattle.model_router.specs.Books.{rank_of, checksum_of}
 use Rattle.flag_sync.specs.declared.known.Known.{Known}
 
 -- a cell of this key and this checksum

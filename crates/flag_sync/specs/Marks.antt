@@ -4,9 +4,9 @@ use Rattle.isis_base.specs.declared.identifiers.LspId.{LspId}
 use Rattle.isis_base.specs.declared.entry.LspEntry.{LspEntry}
 use Rattle.isis_base.specs.Identifiers.{lsp_number}
 use Rattle.isis_base.specs.Keys.{rank}
-use Rattle.isis_model.specs.Ranks.{is_live}
-use Rattle.isis_model.specs.Cells.{Cell}
-use Rattle.isis_model.specs.SnpTable.{lists}
+use Rattle.model_router.specs.Ranks.{is_live}
+use Rattle.model_router.specs.Cells.{Cell}
+use Rattle.model_router.specs.SnpTable.{lists}
 use Rattle.lsp_store.specs.declared.entry.Entry.{Entry}
 use Rattle.lsp_store.specs.Maps.{change_at}
 use Rattle.flag_sync.specs.declared.flag_row.FlagRow.{FlagRow}

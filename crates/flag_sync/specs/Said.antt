@@ -4,7 +4,7 @@ use Rattle.isis_base.specs.declared.identifiers.LspId.{LspId}
 use Rattle.isis_base.specs.declared.key.Key.{Key}
 use Rattle.isis_base.specs.declared.entry.LspEntry.{LspEntry}
 use Rattle.isis_base.specs.Identifiers.{lsp_number}
-use Rattle.isis_model.specs.Sets.{has}
+use Rattle.model_router.specs.Sets.{has}
 use Rattle.lsp_store.specs.declared.entry.Entry.{Entry}
 use Rattle.flag_sync.specs.declared.flag_row.FlagRow.{FlagRow}
 

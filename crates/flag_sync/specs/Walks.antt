@@ -2,8 +2,8 @@
 use Rattle.std.specs.Prelude.{ℕ, Bool, ◌&&◌, not, List, [], ◌∷◌, slice_index, if◌then◌else◌}
 use Rattle.isis_base.specs.declared.identifiers.LspId.{LspId}
 use Rattle.isis_base.specs.Identifiers.{lsp_number}
-use Rattle.isis_model.specs.Sets.{has}
-use Rattle.isis_model.specs.Cells.{Cell}
+use Rattle.model_router.specs.Sets.{has}
+use Rattle.model_router.specs.Cells.{Cell}
 use Rattle.flag_sync.specs.declared.deed.Deed.{Deed}
 use Rattle.flag_sync.specs.declared.flag_row.FlagRow.{FlagRow}
 use Rattle.flag_sync.specs.FlagRows.{done}

@@ -3,8 +3,8 @@ ghost use Rattle.std.specs.Prelude.{◌≡◌};
 ghost use Rattle.std.specs.Option.{option_map};
 ghost use Rattle.isis_base.specs.Identifiers.{lsp_number};
 ghost use Rattle.isis_base.specs.Keys.{rank};
-ghost use Rattle.isis_model.specs.Books.{rank_at};
-ghost use Rattle.isis_model.specs.Sorted.{RisesFrom};
+ghost use Rattle.model_router.specs.Books.{rank_at};
+ghost use Rattle.model_router.specs.Sorted.{RisesFrom};
 ghost use Rattle.flag_sync.specs.Ages.{less_left, over_from, first_of, first_over};
 ghost use Rattle.flag_sync.specs.BookStates.{book_of, SameCircuits};
 

@@ -1,6 +1,6 @@
 //! Sets of circuits as words: circuit c is bit c - 1.
 ghost use Rattle.std.specs.Prelude.{◌≡◌, ◌<◌};
-ghost use Rattle.isis_model.specs.Sets.{has, with_one, without, only};
+ghost use Rattle.model_router.specs.Sets.{has, with_one, without, only};
 
 /// Whether the circuit at a place is in the set.
 pub(crate) fn has_bit(set: u64, place: u8) -> bool

@@ -1,7 +1,7 @@
 //! One level's database with its flags.
 ghost use Rattle.std.specs.Prelude.{◌≡◌, ◌≤◌, ◌<◌, ◌+◌, length, max, IfOk, IfErr, OnOk, OnErr, IsOk, Err, ℕ, [], Some, if◌then◌else◌};
-ghost use Rattle.isis_model.specs.Places.{nth};
-ghost use Rattle.isis_model.specs.Sets.{has, with_one};
+ghost use Rattle.model_router.specs.Places.{nth};
+ghost use Rattle.model_router.specs.Sets.{has, with_one};
 ghost use Rattle.lsp_store.specs.declared.fault.StoreFault.TheVariants.{Full};
 ghost use Rattle.lsp_store.specs.Databases.{ReserveCause};
 ghost use Rattle.flag_sync.specs.Circuits.{is_point};

@@ -2,8 +2,8 @@
 ghost use Rattle.std.specs.Prelude.{◌≡◌, ℕ, ◌≤◌, ◌<◌, ◌-◌, length, false, Some, None, IsSome, IfOk, IfErr, IsOk, OnOk, OnErr};
 ghost use Rattle.std.specs.Option.{option_map};
 ghost use Rattle.isis_base.specs.Identifiers.{lsp_number};
-ghost use Rattle.isis_model.specs.Cells.{Cell, flagged, purged};
-ghost use Rattle.isis_model.specs.Books.{cell_at, rank_at, is_full, set_cell, srm_at, ssn_at};
+ghost use Rattle.model_router.specs.Cells.{Cell, flagged, purged};
+ghost use Rattle.model_router.specs.Books.{cell_at, rank_at, is_full, set_cell, srm_at, ssn_at};
 ghost use Rattle.lsp_store.specs.Maps.{find, put, erase, change_at};
 ghost use Rattle.lsp_store.specs.Databases.{PutCause, with_entry, without_entry, with_change};
 ghost use Rattle.flag_sync.specs.FlagRows.{cell_of, entry_cell, done};

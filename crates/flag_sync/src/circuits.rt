@@ -2,12 +2,12 @@
 ghost use Rattle.std.specs.Prelude.{◌≡◌, ℕ, ◌-◌, ◌<◌, Some};
 ghost use Rattle.std.specs.Option.{option_map};
 ghost use Rattle.isis_base.specs.Identifiers.{lsp_number};
-ghost use Rattle.isis_model.specs.Maps.{each};
-ghost use Rattle.isis_model.specs.Sets.{has};
-ghost use Rattle.isis_model.specs.Cells.{Cell, srm_sent, srm_off};
-ghost use Rattle.isis_model.specs.Books.{Book as TheBook, cell_at, set_cell};
-ghost use Rattle.isis_model.specs.Ageing.{wait_less};
-ghost use Rattle.isis_model.specs.Pulls.{sent, answered};
+ghost use Rattle.model_router.specs.Maps.{each};
+ghost use Rattle.model_router.specs.Sets.{has};
+ghost use Rattle.model_router.specs.Cells.{Cell, srm_sent, srm_off};
+ghost use Rattle.model_router.specs.Books.{Book as TheBook, cell_at, set_cell};
+ghost use Rattle.model_router.specs.Ageing.{wait_less};
+ghost use Rattle.model_router.specs.Pulls.{sent, answered};
 ghost use Rattle.flag_sync.specs.Deeds.{deed_cell};
 ghost use Rattle.flag_sync.specs.Circuits.{cleared, open_or_close, sent_on};
 ghost use Rattle.flag_sync.specs.BookStates.{BookState, book_of, IsCircuit, SameCircuits};

@@ -1,7 +1,7 @@
 //! Entries that are kept of an LSP, and purges, which are kept as headers.
 ghost use Rattle.std.specs.Prelude.{◌≡◌, ◌<◌, ◌≤◌, length, IfOk, Some};
 ghost use Rattle.isis_base.specs.Keys.{rank};
-ghost use Rattle.isis_model.specs.Cells.{header_of, kept, purge_of};
+ghost use Rattle.model_router.specs.Cells.{header_of, kept, purge_of};
 ghost use Rattle.flag_sync.specs.declared.flag_row.FlagRow.{FlagRow as Row};
 ghost use Rattle.flag_sync.specs.FlagRows.{cell_of};
 ghost use Rattle.flag_sync.specs.Entries.{with_row, key_purged};

@@ -1,11 +1,11 @@
 //! An entry of a sequence number PDU that is heard: what each row of the table does.
 ghost use Rattle.std.specs.Prelude.{◌≡◌, ℕ, ◌≤◌, ◌<◌, ◌-◌, ◌⊎◌, ◌==◌, length, Some, None, Bool};
 ghost use Rattle.isis_base.specs.Identifiers.{lsp_number};
-ghost use Rattle.isis_model.specs.declared.snp_case.SnpCase.TheVariants as case;
-ghost use Rattle.isis_model.specs.declared.whose.Whose.{Whose};
-ghost use Rattle.isis_model.specs.Cells.{Cell, ssn_on};
-ghost use Rattle.isis_model.specs.Books.{cell_at, rank_at, is_full, set_cell};
-ghost use Rattle.isis_model.specs.SnpTable.{freed, asked, snp_row, snp_case, sets_flag, hear_entry};
+ghost use Rattle.model_router.specs.declared.snp_case.SnpCase.TheVariants as case;
+ghost use Rattle.model_router.specs.declared.whose.Whose.{Whose};
+ghost use Rattle.model_router.specs.Cells.{Cell, ssn_on};
+ghost use Rattle.model_router.specs.Books.{cell_at, rank_at, is_full, set_cell};
+ghost use Rattle.model_router.specs.SnpTable.{freed, asked, snp_row, snp_case, sets_flag, hear_entry};
 ghost use Rattle.flag_sync.specs.Deeds.{deed_cell};
 ghost use Rattle.flag_sync.specs.Heard.{entry_of, entry_answer_of};
 ghost use Rattle.flag_sync.specs.BookStates.{book_of, HasRoom, IsCircuit, KeepsRoom, SameCircuits};
@@ -19,8 +19,8 @@ use crate::heard::EntryAnswer;
 use crate::sides::ENTRY_LIMIT;
 use crate::snp_rows::{is_flagged, snp_answer, snp_row_of};
 use isis_base::{LspEntry, LspId, Octets};
-use isis_model::{SnpCase, Whose};
 use lsp_store::Entry;
+use model_router::{SnpCase, Whose};
 
 impl Book {
     /// An entry of a sequence number PDU is heard on a circuit (ISO 10589 7.3.15.2). It takes no

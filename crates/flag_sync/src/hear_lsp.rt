@@ -1,10 +1,10 @@
 //! An LSP that is heard: what each row of the table does.
 ghost use Rattle.std.specs.Prelude.{◌≡◌, ℕ, ◌≤◌, ◌<◌, ◌-◌, length, Some, None, IfOk, OnOk, OnErr, Ok, Err, true};
 ghost use Rattle.isis_base.specs.Identifiers.{lsp_number};
-ghost use Rattle.isis_model.specs.declared.lsp_case.LspCase.TheVariants as case;
-ghost use Rattle.isis_model.specs.Cells.{Cell, srm_off};
-ghost use Rattle.isis_model.specs.Books.{cell_at, rank_at, set_cell};
-ghost use Rattle.isis_model.specs.LspTable.{acked, ssn_stored, lsp_row, met, hear_lsp};
+ghost use Rattle.model_router.specs.declared.lsp_case.LspCase.TheVariants as case;
+ghost use Rattle.model_router.specs.Cells.{Cell, srm_off};
+ghost use Rattle.model_router.specs.Books.{cell_at, rank_at, set_cell};
+ghost use Rattle.model_router.specs.LspTable.{acked, ssn_stored, lsp_row, met, hear_lsp};
 ghost use Rattle.lsp_store.specs.declared.fault.StoreFault.TheVariants as fault;
 ghost use Rattle.lsp_store.specs.Maps.{find};
 ghost use Rattle.flag_sync.specs.Deeds.{deed_cell};
@@ -20,8 +20,8 @@ use crate::headers::{heard_entry, purge_entry};
 use crate::heard::{LspAnswer, LspHeard};
 use crate::lsp_rows::{lsp_answer, lsp_row_of};
 use isis_base::LspId;
-use isis_model::{LspCase, Whose};
 use lsp_store::StoreFault;
+use model_router::{LspCase, Whose};
 
 impl Book {
     /// An LSP is heard on a circuit (ISO 10589 7.3.15.1, 7.3.16). `Full` exactly where it is to be

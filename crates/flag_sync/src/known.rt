@@ -1,12 +1,12 @@
 //! What the tables ask of what is held, and of what is heard.
 ghost use Rattle.std.specs.Prelude.{◌≡◌, ◌==◌, nat_lt, Some, None};
 ghost use Rattle.isis_base.specs.Keys.{rank};
-ghost use Rattle.isis_model.specs.Ranks.{is_live, is_purge};
-ghost use Rattle.isis_model.specs.LspTable.{is_issued, is_unissued, is_newer, differs};
+ghost use Rattle.model_router.specs.Ranks.{is_live, is_purge};
+ghost use Rattle.model_router.specs.LspTable.{is_issued, is_unissued, is_newer, differs};
 ghost use Rattle.flag_sync.specs.Known.{known_cell};
 
 use isis_base::{Key, Order3, newer};
-use isis_model::Whose;
+use model_router::Whose;
 
 /// What is held of an LSP ID, so far as the tables ask: the key, and the checksum, which is 0
 /// where nothing is held.

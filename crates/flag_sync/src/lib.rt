@@ -3,7 +3,7 @@
 //!
 //! A book has an entry and a row of flags for each LSP ID. The tables for LSPs and for sequence
 //! number PDUs are each one function to a row, and one to what the row does; each call is proved
-//! equal to isis_model's definition, for every LSP ID and circuit. Own: rows of 64-bit words, bit
+//! equal to model_router's definition, for every LSP ID and circuit. Own: rows of 64-bit words, bit
 //! c - 1 for circuit c, and that flags fall at a circuit's closing.
 //!
 //! - `book.rt`: the book; `flag_row.rt`: a row; `flags.rt`: all rows, and the circuits that may have
@@ -44,7 +44,7 @@ mod walks;
 pub use book::Book;
 pub use flag_row::FlagRow;
 pub use heard::{EntryAnswer, LspAnswer, LspHeard};
-pub use isis_model::Whose;
 pub use laws::opening_law;
+pub use model_router::Whose;
 pub use said::{Keys, SaidOwed};
 pub use walks::{Due, Owed};

@@ -1,16 +1,16 @@
 //! The table for an LSP that is heard: which row it meets.
 ghost use Rattle.std.specs.Prelude.{◌≡◌, ◌==◌, nat_lt, Some};
 ghost use Rattle.isis_base.specs.Keys.{rank, entry_rank};
-ghost use Rattle.isis_model.specs.LspTable.{lsp_case};
+ghost use Rattle.model_router.specs.LspTable.{lsp_case};
 ghost use Rattle.flag_sync.specs.Known.{known_cell};
 ghost use Rattle.flag_sync.specs.Heard.{heard_of, answer_of};
 
 use crate::heard::{LspAnswer, LspHeard};
 use crate::known::{Known, has_live, has_purge, issued, unissued};
-use isis_model::{LspCase, Whose};
+use model_router::{LspCase, Whose};
 
 /// Which row of the table an LSP meets (ISO 10589 7.3.15.1, 7.3.16): the first one that applies.
-#[tactic(auto, unfolding(isis_model::specs::LspTable::lsp_case))]
+#[tactic(auto, unfolding(model_router::specs::LspTable::lsp_case))]
 pub(crate) fn lsp_row_of(known: &Known, lsp: &LspHeard<'_>, whose: Whose) -> LspCase
     ensures { result ≡ lsp_case whose (Some (known_cell known.now)) (heard_of lsp.now) }
 {

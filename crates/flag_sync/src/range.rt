@@ -2,9 +2,9 @@
 ghost use Rattle.std.specs.Prelude.{◌≡◌, ℕ, ◌-◌, ◌<◌, ◌≤◌};
 ghost use Rattle.isis_base.specs.Identifiers.{lsp_number};
 ghost use Rattle.isis_base.specs.Keys.{rank};
-ghost use Rattle.isis_model.specs.Cells.{Cell};
-ghost use Rattle.isis_model.specs.Openings.{mark_all};
-ghost use Rattle.isis_model.specs.SnpTable.{lists, is_missed, hear_range};
+ghost use Rattle.model_router.specs.Cells.{Cell};
+ghost use Rattle.model_router.specs.Openings.{mark_all};
+ghost use Rattle.model_router.specs.SnpTable.{lists, is_missed, hear_range};
 ghost use Rattle.lsp_store.specs.Maps.{between};
 ghost use Rattle.flag_sync.specs.Heard.{entries_of};
 ghost use Rattle.flag_sync.specs.Marks.{marks, some_pass, any_cell, has_key, is_unlisted};

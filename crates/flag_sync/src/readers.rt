@@ -1,10 +1,10 @@
 //! What a router asks of a book: of a circuit, of room, and of the row that an LSP will meet.
 ghost use Rattle.std.specs.Prelude.{◌≡◌, ◌-◌, is_some};
 ghost use Rattle.isis_base.specs.Identifiers.{lsp_number};
-ghost use Rattle.isis_model.specs.Sets.{has};
-ghost use Rattle.isis_model.specs.Sorted.{RisesFrom};
-ghost use Rattle.isis_model.specs.Books.{cell_at, is_full};
-ghost use Rattle.isis_model.specs.LspTable.{met};
+ghost use Rattle.model_router.specs.Sets.{has};
+ghost use Rattle.model_router.specs.Sorted.{RisesFrom};
+ghost use Rattle.model_router.specs.Books.{cell_at, is_full};
+ghost use Rattle.model_router.specs.LspTable.{met};
 ghost use Rattle.flag_sync.specs.Heard.{heard_of, answer_of};
 ghost use Rattle.flag_sync.specs.BookStates.{book_of, IsCircuit};
 
@@ -14,7 +14,7 @@ use crate::heard::{LspAnswer, LspHeard};
 use crate::lsp_rows::{lsp_answer, lsp_row_of};
 use crate::sides::ENTRY_LIMIT;
 use isis_base::LspId;
-use isis_model::Whose;
+use model_router::Whose;
 
 impl Book {
     /// Whether the circuit is open for the level.

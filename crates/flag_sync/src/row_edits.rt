@@ -136,7 +136,7 @@ fn due_in_five(waits: [u64; 3], place: u8) -> [u64; 3]
 }
 
 /// The planes a second later.
-#[tactic(auto, unfolding(isis_model::specs::Waits::fallen))]
+#[tactic(auto, unfolding(model_router::specs::Waits::fallen))]
 fn waits_less(waits: [u64; 3]) -> [u64; 3]
     ensures { result ≡ fallen_planes waits }
 {

@@ -1,8 +1,8 @@
 //! What sequence number PDUs say of a book: its keys, and the entries that are owed on a circuit.
 ghost use Rattle.std.specs.Prelude.{◌≡◌, ◌-◌, ◌<◌, Some, None, [], false};
-ghost use Rattle.isis_model.specs.Cells.{Cell};
-ghost use Rattle.isis_model.specs.Good.{IsGoodBook};
-ghost use Rattle.isis_model.specs.SnpLists.{held_keys, owed};
+ghost use Rattle.model_router.specs.Cells.{Cell};
+ghost use Rattle.model_router.specs.Good.{IsGoodBook};
+ghost use Rattle.model_router.specs.SnpLists.{held_keys, owed};
 ghost use Rattle.flag_sync.specs.Heard.{entries_of};
 ghost use Rattle.flag_sync.specs.Said.{said, key_said, is_numbered, said_keys, said_owed, SaidRise};
 ghost use Rattle.flag_sync.specs.BookStates.{book_of, IsCircuit};

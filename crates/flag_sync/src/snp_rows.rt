@@ -1,17 +1,17 @@
 //! The table for an entry of a sequence number PDU that is heard: which row it meets.
 ghost use Rattle.std.specs.Prelude.{◌≡◌, ◌==◌, nat_lt, Some};
 ghost use Rattle.isis_base.specs.Keys.{rank, entry_rank};
-ghost use Rattle.isis_model.specs.SnpTable.{snp_case, sets_flag};
+ghost use Rattle.model_router.specs.SnpTable.{snp_case, sets_flag};
 ghost use Rattle.flag_sync.specs.Known.{known_cell};
 ghost use Rattle.flag_sync.specs.Heard.{entry_of, outbid_of, entry_answer_of};
 
 use crate::heard::EntryAnswer;
 use crate::known::{Known, issued};
 use isis_base::LspEntry;
-use isis_model::{SnpCase, Whose};
+use model_router::{SnpCase, Whose};
 
 /// Which row of the table an entry meets (ISO 10589 7.3.15.2): the first one that applies.
-#[tactic(auto, unfolding(isis_model::specs::SnpTable::snp_case))]
+#[tactic(auto, unfolding(model_router::specs::SnpTable::snp_case))]
 pub(crate) fn snp_row_of(known: &Known, entry: &LspEntry, whose: Whose) -> SnpCase
     ensures { result ≡ snp_case whose (Some (known_cell known.now)) (entry_of entry.now) }
 {

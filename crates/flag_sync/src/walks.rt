@@ -1,9 +1,9 @@
 //! The LSP IDs whose SRM is due on a circuit, and those whose SSN stands there.
 ghost use Rattle.std.specs.Prelude.{◌≡◌, ◌<◌, ◌-◌, [], false};
 ghost use Rattle.isis_base.specs.declared.level.Level.{Level};
-ghost use Rattle.isis_model.specs.Pulls.{srm_due, due_lsps};
-ghost use Rattle.isis_model.specs.Sets.{has};
-ghost use Rattle.isis_model.specs.Cells.{Cell};
+ghost use Rattle.model_router.specs.Pulls.{srm_due, due_lsps};
+ghost use Rattle.model_router.specs.Sets.{has};
+ghost use Rattle.model_router.specs.Cells.{Cell};
 ghost use Rattle.flag_sync.specs.Walks.{row_due, due_of, owed_of, numbers_of, ids_where};
 ghost use Rattle.flag_sync.specs.BookStates.{book_of, IsCircuit};
 

@@ -7,10 +7,10 @@ use Rattle.std.proofs.lemmas.List.Sorted.{Contains-permutation, IsPermutation-sy
 use Rattle.isis_base.specs.declared.level.Level.TheVariants as level
 use Rattle.isis_base.specs.Identifiers.{IsId}
 use Rattle.isis_tlv.specs.declared.prefix.PrefixItem.{PrefixItem}
-use Rattle.isis_model.specs.Ranks.{is_live}
-use Rattle.isis_model.specs.Cells.{Cell}
-use Rattle.isis_model.specs.Numbers.{lsp_id}
-use Rattle.isis_model.specs.Routers.{book_of}
+use Rattle.model_router.specs.Ranks.{is_live}
+use Rattle.model_router.specs.Cells.{Cell}
+use Rattle.model_router.specs.Numbers.{lsp_id}
+use Rattle.model_router.specs.Routers.{book_of}
 use Rattle.lsp_store.specs.Databases as databases
 use Rattle.lsp_view.specs.Views.{own_node}
 use Rattle.spf_tree.specs.Nodes.{is_system}

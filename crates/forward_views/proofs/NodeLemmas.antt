@@ -7,7 +7,7 @@ use Rattle.isis_base.specs.declared.identifiers.NodeId.{NodeId}
 use Rattle.isis_base.specs.declared.identifiers.LspId.{LspId}
 use Rattle.isis_base.specs.Identifiers.{IsId, lsp_number}
 use Rattle.isis_base.proofs.ArrayLemmas.{lsp_number-one}
-use Rattle.isis_model.specs.Numbers.{system_id, lsp_id}
+use Rattle.model_router.specs.Numbers.{system_id, lsp_id}
 use Rattle.lsp_view.specs.Views.{own_node}
 use Rattle.spf_tree.specs.Nodes.{node_number, is_system}
 

@@ -4,12 +4,12 @@ use Rattle.std.specs.List.{Contains}
 use Rattle.std.specs.Option.{option_map}
 use Rattle.isis_base.specs.declared.level.Level.TheVariants as level
 use Rattle.isis_base.specs.Identifiers.{lsp_number}
-use Rattle.isis_model.specs.Places.{nth}
-use Rattle.isis_model.specs.Cells.{Cell}
-use Rattle.isis_model.specs.Ranks.{is_live}
-use Rattle.isis_model.specs.Routers.{Router, book_of}
-use Rattle.isis_model.specs.Numbers.{system_id, lsp_id}
-use Rattle.isis_datagram.proofs.NumberLemmas.{lsp-reads_back}
+use Rattle.model_router.specs.Places.{nth}
+use Rattle.model_router.specs.Cells.{Cell}
+use Rattle.model_router.specs.Ranks.{is_live}
+use Rattle.model_router.specs.Routers.{Router, book_of}
+use Rattle.model_router.specs.Numbers.{system_id, lsp_id}
+use Rattle.model_datagram.proofs.NumberLemmas.{lsp-reads_back}
 use Rattle.lsp_view.specs.Views.{own_node}
 use Rattle.spf_tree.specs.Nodes.{node_number}
 use Rattle.router_routes.specs.Told.{told_by}

@@ -6,10 +6,10 @@ use Rattle.isis_base.specs.declared.identifiers.LspId.{LspId}
 use Rattle.isis_base.specs.declared.level.Level.TheVariants as level
 use Rattle.isis_base.specs.Identifiers.{IsId}
 use Rattle.isis_base.specs.Keys.{rank}
-use Rattle.isis_model.specs.Books.{Book}
-use Rattle.isis_model.specs.Ranks.{is_live}
-use Rattle.isis_model.specs.Routers.{Router, book_of}
-use Rattle.isis_model.specs.Numbers.{system_id, system_number}
+use Rattle.model_router.specs.Books.{Book}
+use Rattle.model_router.specs.Ranks.{is_live}
+use Rattle.model_router.specs.Routers.{Router, book_of}
+use Rattle.model_router.specs.Numbers.{system_id, system_number}
 use Rattle.lsp_store.specs.declared.entry.Entry.{Entry}
 use Rattle.lsp_store.specs.Databases.{Database, live_of}
 use Rattle.lsp_store.specs.Databases as store

@@ -2,8 +2,8 @@
 use Rattle.std.proofs.Common.{◌≡◌, ℕ, ◌+◌, ◌==◌, ◌&&◌, Bool, true, false, List, take, if◌then◌else◌, Some, refl, sym, ap, ◌∙◌, arith}
 use Rattle.std.specs.List.{list_any, count_by}
 use Rattle.std.proofs.lemmas.List.Sums.{sum_by_push}
-use Rattle.isis_model.specs.Places.{nth}
-use Rattle.isis_model.specs.Routers.{Router}
+use Rattle.model_router.specs.Places.{nth}
+use Rattle.model_router.specs.Routers.{Router}
 use Rattle.router_routes.specs.Outlooks.{outlook_of}
 use Rattle.router_routes.specs.Candidates.{AreRoutesOf}
 use Rattle.std.proofs.lemmas.Bool.Decides.{nat_tests}

@@ -1,8 +1,8 @@
 -- What the tests of all routers find together.
 use Rattle.std.proofs.Common.{◌≡◌, ℕ, false, List, Option, Some, None, sym, ap, ◌∙◌, subst}
 use Rattle.std.specs.Prelude.{MatchOption}
-use Rattle.isis_model.specs.Places.{nth}
-use Rattle.isis_model.specs.Routers.{Router}
+use Rattle.model_router.specs.Places.{nth}
+use Rattle.model_router.specs.Routers.{Router}
 use Rattle.forward_views.specs.Looks.{Look}
 use Rattle.forwarding.specs.Firsts.{AllHave, IsFirstWithout}
 use Rattle.forwarding.specs.Views.{view_of}

@@ -6,7 +6,7 @@ use Rattle.std.specs.List.Sorted.{IsStrictlyIncreasing}
 use Rattle.std.proofs.lemmas.Bool.Decides.{nat_tests}
 use Rattle.std.proofs.lemmas.List.{get_or_default}
 use Rattle.isis_base.specs.declared.identifiers.SystemId.{SystemId}
-use Rattle.isis_model.specs.Places.{nth}
+use Rattle.model_router.specs.Places.{nth}
 use Rattle.spf_tree.specs.Nodes.{node_number, system_node}
 use Rattle.spf_tree.proofs.PlaceLemmas.{nodes_rise}
 use Rattle.route_table.specs.declared.rank.Rank.{Rank}
@@ -19,7 +19,7 @@ use Rattle.forward_routes.specs.Walked.{RouterOf, IsRouteOf, IsMove, AreMoves}
 use Rattle.forward_views.specs.Looks.{Look, root_of, AreAlike, IsOwner}
 use Rattle.forward_views.specs.Forwarded.{router_in, IsReached}
 use Rattle.forwarding.specs.Paths.{IsLeastHop, IsLeastMove, IsLeastPath, Arrives}
-use Rattle.isis_model.specs.Routers.{Router}
+use Rattle.model_router.specs.Routers.{Router}
 use Rattle.router_core.specs.Reached as core
 use Rattle.network_lab.specs.LabNets.{AreDistinct, systems_of}
 use Rattle.network_lab.proofs.PlaceLemmas.{some-same}

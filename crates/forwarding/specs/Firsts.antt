@@ -1,6 +1,6 @@
 -- The first item that is without something (own).
 use Rattle.std.specs.Prelude.{◌≡◌, ◌<◌, ℕ, List, Some}
-use Rattle.isis_model.specs.Places.{nth}
+use Rattle.model_router.specs.Places.{nth}
 
 -- each item has it
 abbrev pub AllHave : {X : Type 0} → (X → Type 0) → List X → Type 0

@@ -3,7 +3,7 @@ use Rattle.std.specs.Prelude.{◌≤◌, ℕ, List, map, Option, Some, None}
 use Rattle.std.specs.List.{Contains}
 use Rattle.isis_base.specs.declared.identifiers.SystemId.{SystemId}
 use Rattle.isis_base.specs.declared.identifiers.LspId.{LspId}
-use Rattle.isis_model.specs.Routers.{Router}
+use Rattle.model_router.specs.Routers.{Router}
 use Rattle.lsp_store.specs.declared.entry.Entry.{Entry}
 use Rattle.spf_tree.specs.Nodes.{node_number, system_node}
 use Rattle.router_routes.specs.Outlooks.{outlook_of}

@@ -3,7 +3,7 @@ use Rattle.std.specs.Prelude.{◌≡◌, ℕ, List, map, length, slice_get, Opti
 use Rattle.std.specs.Option.{option_map}
 use Rattle.isis_base.specs.declared.identifiers.SystemId.{SystemId}
 use Rattle.spf_tree.specs.Nodes.{system_node}
-use Rattle.isis_model.specs.Places.{nth}
+use Rattle.model_router.specs.Places.{nth}
 use Rattle.route_table.specs.declared.route.Route.{Route}
 use Rattle.forward_routes.specs.Walked.{RouterOf, IsRouteOf, AreMoves}
 use Rattle.forward_views.specs.Looks.{Look, IsOwner}

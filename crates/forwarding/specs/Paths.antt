@@ -2,7 +2,7 @@
 -- the form: own).
 use Rattle.std.specs.Prelude.{◌≡◌, ◌≤◌, ℕ, List, [], ◌∷◌, map, Some}
 use Rattle.std.specs.List.{Contains}
-use Rattle.isis_model.specs.Places.{nth}
+use Rattle.model_router.specs.Places.{nth}
 use Rattle.route_table.specs.declared.route.Route.{Route}
 use Rattle.forward_routes.specs.Walked.{RouterOf, IsRouteOf, AreMoves}
 use Rattle.forward_views.specs.Looks.{Look, root_of, IsOwner}

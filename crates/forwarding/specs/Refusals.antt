@@ -1,6 +1,6 @@
 -- Why a walk isn't promised: the first thing that is tested and doesn't hold. All of it own.
 use Rattle.std.specs.Prelude.{◌≡◌, ◌≢◌, ℕ, List, Some}
-use Rattle.isis_model.specs.Places.{nth}
+use Rattle.model_router.specs.Places.{nth}
 use Rattle.route_table.specs.declared.route.Route.{Route}
 use Rattle.forward_routes.specs.Walked.{IsRouteOf}
 use Rattle.forward_views.specs.Looks.{Look, IsSettled, AreKnown}

@@ -3,8 +3,8 @@ use Rattle.std.specs.Prelude.{◌≡◌, ◌≢◌, ◌≤◌, ℕ, ◌==◌, �
 use Rattle.std.specs.List.{Contains, list_any, count_by}
 use Rattle.isis_base.specs.declared.identifiers.SystemId.{SystemId}
 use Rattle.isis_base.specs.declared.identifiers.LspId.{LspId}
-use Rattle.isis_model.specs.Places.{nth}
-use Rattle.isis_model.specs.Routers.{Router}
+use Rattle.model_router.specs.Places.{nth}
+use Rattle.model_router.specs.Routers.{Router}
 use Rattle.lsp_store.specs.declared.entry.Entry.{Entry}
 use Rattle.spf_tree.specs.Nodes.{system_node}
 use Rattle.route_table.specs.declared.route.Route.{Route}

@@ -4,9 +4,9 @@ use Rattle.isis_base.specs.declared.identifiers.LspId.{LspId}
 use Rattle.isis_base.specs.Identifiers.{lsp_number}
 use Rattle.isis_base.specs.Keys.{rank}
 use Rattle.isis_base.specs.declared.level.Level.TheVariants as level
-use Rattle.isis_model.specs.Ranks.{is_live, number_of}
-use Rattle.isis_model.specs.Cells.{Cell}
-use Rattle.isis_model.specs.Routers.{Router, book_of}
+use Rattle.model_router.specs.Ranks.{is_live, number_of}
+use Rattle.model_router.specs.Cells.{Cell}
+use Rattle.model_router.specs.Routers.{Router, book_of}
 use Rattle.lsp_store.specs.declared.entry.Entry.{Entry}
 use Rattle.lsp_store.specs.Databases.{live_of}
 

@@ -1,7 +1,7 @@
 //! The tests of a network in their order, and the walk.
 ghost use Rattle.std.specs.Prelude.{◌≡◌, ◌<◌, ℕ, List, Some, length, IfOk, IfErr};
-ghost use Rattle.isis_model.specs.Places.{nth};
-ghost use Rattle.isis_model.specs.Routers as model;
+ghost use Rattle.model_router.specs.Places.{nth};
+ghost use Rattle.model_router.specs.Routers as model;
 ghost use Rattle.router_core.specs.Reached.{IsReached};
 ghost use Rattle.route_table.specs.Ranks.{prefix_number};
 ghost use Rattle.forward_views.specs.Looks.{Look};

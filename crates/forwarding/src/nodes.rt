@@ -5,7 +5,7 @@ ghost use Rattle.router_routes.specs.Outlooks.{outlook_of};
 ghost use Rattle.spf_tree.specs.Nodes.{node_number, system_node};
 
 use isis_base::{LspId, NodeId, SystemId};
-use isis_model::laws::identifiers::system_law;
+use model_router::laws::identifiers::system_law;
 use router_core::Router;
 
 /// A node as a number: that of its LSP number 0.

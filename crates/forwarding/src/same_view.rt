@@ -1,7 +1,7 @@
 //! Whether routers have one live view.
 ghost use Rattle.std.specs.Prelude.{◌≡◌, false, drop, MatchBool};
 ghost use Rattle.isis_base.specs.Keys.{rank};
-ghost use Rattle.isis_model.specs.Ranks.{number_of};
+ghost use Rattle.model_router.specs.Ranks.{number_of};
 ghost use Rattle.forwarding.specs.Views.{view_of, stored, view_stored};
 
 use crate::level_one::level_one;

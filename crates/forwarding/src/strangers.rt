@@ -1,8 +1,8 @@
 //! Live LSPs of systems that are none of the routers.
 ghost use Rattle.std.specs.Prelude.{◌≡◌, ◌++◌, ◌∷◌, [], ℕ, false, List, Some, map, IfOk, MatchOption};
 ghost use Rattle.isis_base.specs.declared.identifiers.SystemId.{SystemId as Id};
-ghost use Rattle.isis_model.specs.Places.{nth};
-ghost use Rattle.isis_model.specs.Routers as model;
+ghost use Rattle.model_router.specs.Places.{nth};
+ghost use Rattle.model_router.specs.Routers as model;
 ghost use Rattle.lsp_store.specs.Databases.{live_of};
 ghost use Rattle.forward_views.specs.Looks.{Look, AreKnown};
 ghost use Rattle.forwarding.specs.Foreign.{node_of, systems_in, IsLeastForeign};

@@ -1,7 +1,7 @@
 //! The first router that fails a test.
 ghost use Rattle.std.specs.Prelude.{◌≡◌, ◌<◌, ℕ, List, Some, IfOk, MatchBool, MatchOption};
-ghost use Rattle.isis_model.specs.Places.{nth};
-ghost use Rattle.isis_model.specs.Routers as model;
+ghost use Rattle.model_router.specs.Places.{nth};
+ghost use Rattle.model_router.specs.Routers as model;
 ghost use Rattle.router_routes.specs.Candidates.{AreRoutesOf};
 ghost use Rattle.forward_views.specs.Looks.{Look, outlook};
 ghost use Rattle.forwarding.specs.Firsts.{AllHave, IsFirstWithout};

@@ -1,8 +1,8 @@
 //! The walk along the least next hops.
 ghost use Rattle.std.specs.Prelude.{◌≡◌, ◌<◌, ℕ, List, Some, length, slice_get, IfOk, IfErr, IfSome};
 ghost use Rattle.std.specs.Option.{option_map};
-ghost use Rattle.isis_model.specs.Places.{nth};
-ghost use Rattle.isis_model.specs.Routers as model;
+ghost use Rattle.model_router.specs.Places.{nth};
+ghost use Rattle.model_router.specs.Routers as model;
 ghost use Rattle.route_table.specs.declared.route.Route.{Route as RouteOf};
 ghost use Rattle.route_table.specs.Ranks.{prefix_number};
 ghost use Rattle.spf_tree.specs.Nodes.{system_node};

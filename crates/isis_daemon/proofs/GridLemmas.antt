@@ -1,6 +1,6 @@
 -- The summary of a grid's network is the text of its run.
 use Rattle.std.proofs.Common.{◌≡◌, ℕ, Result, Ok, Err, IsOkAnd, refl}
-use Rattle.network_model.specs.Networks.{Network}
+use Rattle.model_network.specs.Networks.{Network}
 use Rattle.network_lab.specs.LabNets.{seen_of}
 use Rattle.lab_script.specs.declared.reason.ScriptFault.{ScriptFault}
 use Rattle.lab_grid.specs.declared.summary.Summary.{Summary}

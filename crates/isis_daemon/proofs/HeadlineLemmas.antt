@@ -1,15 +1,15 @@
 -- The headline, from the report that was written and from what holds after each event.
 use Rattle.std.proofs.Common.{◌≡◌, ℕ, List, Option, Result, Ok, Err, IsOkAnd, refl}
 use Rattle.isis_edge.specs.Told.{Wrote}
-use Rattle.network_model.specs.Networks.{Network}
+use Rattle.model_network.specs.Networks.{Network}
 use Rattle.network_lab.specs.LabNets.{seen_of}
 use Rattle.lab_script.specs.declared.reason.ScriptFault.{ScriptFault}
 use Rattle.lab_script.specs.declared.script.Script.{Script}
 use Rattle.lab_script.specs.declared.script.Script.TheVariants.{Keys, Lab}
 use Rattle.lab_script.specs.LabScripts.{LabScript}
 use Rattle.lab_script.specs.Scripts.{◌>>=◌, script_of}
-use Rattle.lab_play.specs.LabRuns.{end_of}
-use Rattle.lab_play.specs.Claimed.{IsClaimedRun}
+use Rattle.lab_text.specs.LabRuns.{end_of}
+use Rattle.lab_text.specs.LabClaims.{IsClaimedRun}
 use Rattle.lab_text.specs.Claimed.{IsClaimedScript}
 use Rattle.lab_text.specs.Runs.{IsReport, RunEnds}
 use Rattle.lab_grid.specs.declared.summary.Summary.{Summary}

@@ -10,8 +10,8 @@ use Rattle.std.specs.Prelude.{◌≡◌, ℕ, List, ◌++◌, Option, Ok}
 use Rattle.isis_edge.specs.Told.{Wrote}
 use Rattle.route_table.specs.declared.route.Route.{Route}
 use Rattle.router_core.specs.Givens.{given}
-use Rattle.network_model.specs.Networks.{Network}
-use Rattle.network_model.specs.Runs.{Happening, run}
+use Rattle.model_network.specs.Networks.{Network}
+use Rattle.model_network.specs.Runs.{Happening, run}
 use Rattle.network_lab.specs.LabNets.{Seen, seen_of}
 use Rattle.network_lab.specs.LinkStates.{AreWithin}
 use Rattle.network_lab.specs.Claims.{AreClaimed}
@@ -21,8 +21,8 @@ use Rattle.lab_script.specs.declared.script.Script.TheVariants.{Keys, Lab}
 use Rattle.lab_script.specs.LabScripts.{LabScript}
 use Rattle.lab_script.specs.Scripts.{script_of}
 use Rattle.lab_report.specs.Reports.{AreAllRoutes}
-use Rattle.lab_play.specs.LabRuns.{end_of}
-use Rattle.lab_play.specs.Claimed.{start_of, script_events}
+use Rattle.lab_text.specs.LabRuns.{end_of}
+use Rattle.lab_text.specs.LabClaims.{start_of, script_events}
 use Rattle.lab_text.specs.KeysRuns.{keys_report}
 use Rattle.lab_text.specs.LabReports.{report_by}
 use Rattle.lab_grid.specs.declared.summary.Summary.{Summary}

@@ -9,7 +9,7 @@ use Rattle.daemon_config.specs.declared.fault.ConfigFault.TheVariants as config
 use Rattle.daemon_config.specs.Words.{kind_word, key_word}
 use Rattle.daemon_run.specs.declared.end.DaemonEnd.{DaemonEnd}
 use Rattle.daemon_run.specs.declared.end.DaemonEnd.TheVariants as daemon
-use Rattle.key_net.specs.Limits.{limit_word}
+use Rattle.lab_keys.specs.Limits.{limit_word}
 use Rattle.lab_script.specs.declared.reason.ScriptFault.{ScriptFault}
 use Rattle.lab_script.specs.declared.reason.ScriptFault.TheVariants as script
 use Rattle.lab_text.specs.declared.fault.RunFault.{RunFault}

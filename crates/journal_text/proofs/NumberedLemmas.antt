@@ -1,6 +1,6 @@
 -- The entries of a history are numbered from 1.
 use Rattle.std.proofs.Common.{◌≡◌, ℕ, ◌+◌, List, [], ◌∷◌, ◌++◌, map, length, Option, Some, None, ap, subst, arith}
-use Rattle.isis_model.specs.Routers.{Router}
+use Rattle.model_router.specs.Routers.{Router}
 use Rattle.circuit_threads.specs.declared.entry.JournalEntry.{JournalEntry}
 use Rattle.circuit_threads.specs.declared.entry.Note.{Note}
 use Rattle.circuit_threads.specs.declared.entry.Note.TheVariants.{Nothing, Made, Marked}

@@ -1,7 +1,7 @@
 //! What is written is read: functions without a body, whose contracts are the laws.
 ghost use Rattle.std.specs.Prelude.{◌≡◌, ℕ, List, Option, map};
 ghost use Rattle.std.specs.List.{AllByRecursion};
-ghost use Rattle.isis_model.specs.Routers.{Router};
+ghost use Rattle.model_router.specs.Routers.{Router};
 ghost use Rattle.circuit_threads.specs.declared.entry.JournalEntry.{JournalEntry};
 ghost use Rattle.circuit_threads.specs.declared.entry.Note.{Note};
 ghost use Rattle.circuit_threads.specs.History.{IsHistory, entries};

@@ -3,8 +3,8 @@ use Rattle.std.proofs.Common.{◌≡◌, ℕ, zero, suc, ◌+◌, List, [], ◌�
 use Rattle.std.specs.List.{flat_map}
 use Rattle.std.proofs.lemmas.Grind.{flat_map-append}
 use Rattle.std.proofs.lemmas.List.{append-nil}
-use Rattle.isis_model.specs.Places.{nth}
-use Rattle.isis_model.specs.Routers.{Router}
+use Rattle.model_router.specs.Places.{nth}
+use Rattle.model_router.specs.Routers.{Router}
 use Rattle.route_table.specs.declared.route.Route.{Route}
 use Rattle.router_routes.specs.Outlooks.{outlook_of}
 use Rattle.router_routes.specs.Candidates.{AreRoutesOf}

@@ -2,9 +2,9 @@
 use Rattle.std.specs.Prelude.{◌≡◌, ℕ, List, [], ◌∷◌, length, Result, Ok, Err, IsOkAnd}
 use Rattle.std.specs.List.{flat_map}
 use Rattle.isis_base.specs.declared.level.Level.TheVariants as level
-use Rattle.isis_model.specs.Routers.{Router}
-use Rattle.network_model.specs.Networks.{Network}
-use Rattle.lab_play.specs.Passed.{Seen, groups_at, seen_of}
+use Rattle.model_router.specs.Routers.{Router}
+use Rattle.model_network.specs.Networks.{Network}
+use Rattle.lab_text.specs.Passed.{Seen, groups_at, seen_of}
 use Rattle.route_table.specs.declared.route.Route.{Route}
 use Rattle.router_routes.specs.Outlooks.{outlook_of}
 use Rattle.router_routes.specs.Candidates.{AreRoutesOf}
@@ -14,8 +14,8 @@ use Rattle.lab_script.specs.declared.reason.ScriptFault.TheVariants.{Refused, Li
 use Rattle.lab_script.specs.declared.script.Script.{Script}
 use Rattle.lab_script.specs.declared.script.Script.TheVariants.{Keys, Lab}
 use Rattle.lab_script.specs.Scripts.{◌>>=◌, script_of}
-use Rattle.lab_play.specs.LabRuns.{end_of}
-use Rattle.lab_play.specs.Claimed.{IsClaimedRun}
+use Rattle.lab_text.specs.LabRuns.{end_of}
+use Rattle.lab_text.specs.LabClaims.{IsClaimedRun}
 use Rattle.lab_grid.specs.declared.summary.Summary.{Summary}
 use Rattle.lab_grid.specs.declared.tally.Tally.{Tally}
 use Rattle.lab_grid.specs.GridText.{grid_text}

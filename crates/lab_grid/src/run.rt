@@ -1,8 +1,8 @@
 //! The run of a grid's script, and the summary of the network at its end.
 ghost use Rattle.std.specs.Prelude.{◌≡◌, ◌≤◌, IfOk, OnOk, IsOkAnd};
 ghost use Rattle.lab_script.specs.Scripts.{script_of};
-ghost use Rattle.lab_play.specs.Claimed.{IsClaimedRun};
-ghost use Rattle.lab_play.specs.LabRuns.{end_of};
+ghost use Rattle.lab_text.specs.LabClaims.{IsClaimedRun};
+ghost use Rattle.lab_text.specs.LabRuns.{end_of};
 ghost use Rattle.lab_grid.specs.GridText.{grid_text};
 ghost use Rattle.lab_grid.specs.GridRuns.{AreTallied, IsSummary, grid_end, text_end, Sums, IsClaimedIn, IsClaimedGrid};
 
@@ -10,13 +10,13 @@ use crate::script::grid_script;
 use crate::summary::Summary;
 use crate::tally::Tally;
 use isis_base::{Level, OutOfMemory};
-use lab_play::{Network, play};
 use lab_script::{LabScript, Reason, Script, ScriptFault, read_script};
+use lab_text::{Network, play};
 use std::alloc::Global;
 
 /// Runs the script of a grid of `size` rows and as many columns, 1 to 8, and sums up the network at its end. What is refused
 /// is told as of the script. At Ok the claims on links, groups, sweeps and contents held after each of its events, as
-/// `lab_play::play` says them (ISO 10589 7.3.17).
+/// `lab_text::play` says them (ISO 10589 7.3.17).
 pub fn run_grid(alloc: Global, size: u8) -> Result<Summary, ScriptFault>
     requires some { 1 ≤ size }
     requires few { size ≤ 8 }

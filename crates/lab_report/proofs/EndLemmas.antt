@@ -5,16 +5,16 @@ use Rattle.std.specs.List.{AllByRecursion}
 use Rattle.std.proofs.lemmas.Option.{slice_get-map}
 use Rattle.isis_base.specs.declared.level.CircuitKind.{CircuitKind}
 use Rattle.isis_base.specs.declared.level.Level.{Level}
-use Rattle.isis_model.proofs.BookLemmas.{same-or}
-use Rattle.isis_model.specs.Both.{at}
-use Rattle.isis_model.specs.Places.{nth}
-use Rattle.isis_model.specs.Routers.{Circuit, Router}
-use Rattle.isis_model.specs.AdjacencyLaws.{is_point}
+use Rattle.model_router.proofs.BookLemmas.{same-or}
+use Rattle.model_router.specs.Both.{at}
+use Rattle.model_router.specs.Places.{nth}
+use Rattle.model_router.specs.Routers.{Circuit, Router}
+use Rattle.model_router.specs.AdjacencyLaws.{is_point}
 use Rattle.router_desk.specs.Desks as kind
 use Rattle.router_desk.specs.declared.desk_circuit.DeskCircuit.{DeskCircuit}
-use Rattle.network_model.specs.declared.end.End.{End}
-use Rattle.network_model.specs.Networks.{place_on, place_in}
-use Rattle.network_model.specs.RunLines.{ends_of}
+use Rattle.model_network.specs.declared.end.End.{End}
+use Rattle.model_network.specs.Networks.{place_on, place_in}
+use Rattle.model_network.specs.RunLines.{ends_of}
 use Rattle.network_lab.specs.Claims.{IsEndIn, AreEnds}
 use Rattle.network_lab.specs.LabNets.{Seen}
 use Rattle.network_lab.specs.LinkStates.{is_point_in}

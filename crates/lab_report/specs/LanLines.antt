@@ -6,11 +6,11 @@ use Rattle.isis_base.specs.declared.identifiers.SystemId.{SystemId}
 use Rattle.isis_base.specs.declared.level.Level.{Level}
 use Rattle.isis_base.specs.Levels.{level_text}
 use Rattle.isis_base.specs.Texts.{system_text}
-use Rattle.isis_model.specs.Numbers.{system_id}
-use Rattle.isis_model.specs.Both.{at}
-use Rattle.isis_model.specs.Places.{nth}
-use Rattle.isis_model.specs.Routers.{Circuit, Router}
-use Rattle.network_model.specs.declared.end.End.{End}
+use Rattle.model_router.specs.Numbers.{system_id}
+use Rattle.model_router.specs.Both.{at}
+use Rattle.model_router.specs.Places.{nth}
+use Rattle.model_router.specs.Routers.{Circuit, Router}
+use Rattle.model_network.specs.declared.end.End.{End}
 use Rattle.network_lab.specs.declared.lan_state.LanState.{LanState}
 use Rattle.network_lab.specs.LabNets.{Seen}
 use Rattle.network_lab.specs.LanStates.{lan_state_at}

@@ -3,13 +3,13 @@ use Rattle.std.specs.Prelude.{ℕ, Bool, false, List, [], ◌++◌, Option, Some
 use Rattle.isis_base.specs.declared.level.Level.{Level}
 use Rattle.isis_base.specs.declared.level.Level.TheVariants as level
 use Rattle.isis_base.specs.Levels.{level_text}
-use Rattle.isis_model.specs.Places.{nth}
-use Rattle.isis_model.specs.Routers.{Router}
-use Rattle.network_model.specs.declared.end.End.{End}
+use Rattle.model_router.specs.Places.{nth}
+use Rattle.model_router.specs.Routers.{Router}
+use Rattle.model_network.specs.declared.end.End.{End}
 use Rattle.network_lab.specs.Passed.{LinkState}
 use Rattle.network_lab.specs.LabNets.{Seen}
 use Rattle.network_lab.specs.LinkStates.{state_at, pair_of, are_points}
-use Rattle.network_model.specs.RunLines.{ends_of}
+use Rattle.model_network.specs.RunLines.{ends_of}
 use Rattle.lab_report.specs.LanLines.{member_lines}
 
 -- ` up flags F G ahead P Q excepted E`

@@ -1,7 +1,7 @@
 -- The names of routers and links, by their numbers (own).
 use Rattle.std.specs.Prelude.{ℕ, List, [], map, Option, Some, None}
 use Rattle.std.specs.Borrow.{Bor}
-use Rattle.isis_model.specs.Places.{nth}
+use Rattle.model_router.specs.Places.{nth}
 
 -- the texts of lent names
 abbrev pub texts : List (Bor (List ℕ)) → List (List ℕ)

@@ -6,10 +6,10 @@ use Rattle.isis_base.specs.Texts.{hex_pair, lsp_text}
 use Rattle.isis_base.specs.Levels.{level_text}
 use Rattle.isis_base.specs.declared.level.Level.{Level}
 use Rattle.isis_base.specs.declared.level.Level.TheVariants as level
-use Rattle.isis_model.specs.Places.{nth}
-use Rattle.isis_model.specs.Routers.{Router}
-use Rattle.isis_model.specs.Numbers.{lsp_id}
-use Rattle.network_model.specs.Networks.{numbered}
+use Rattle.model_router.specs.Places.{nth}
+use Rattle.model_router.specs.Routers.{Router}
+use Rattle.model_router.specs.Numbers.{lsp_id}
+use Rattle.model_network.specs.Networks.{numbered}
 use Rattle.network_lab.specs.Passed.{doubled_in}
 use Rattle.route_table.specs.declared.route.Route.{Route}
 use Rattle.router_routes.specs.Outlooks.{outlook_of}

@@ -4,7 +4,7 @@ use Rattle.std.specs.List.{flat_map}
 use Rattle.isis_base.specs.declared.prefix.Prefix.{Prefix}
 use Rattle.isis_base.specs.PrefixTexts.{prefix_text}
 use Rattle.isis_base.specs.Texts.{system_text}
-use Rattle.isis_model.specs.Numbers.{lsp_id}
+use Rattle.model_router.specs.Numbers.{lsp_id}
 use Rattle.route_table.specs.declared.rank.Rank.{Rank}
 use Rattle.route_table.specs.declared.rank.Rank.TheVariants as rank
 use Rattle.route_table.specs.declared.route.Route.{Route}

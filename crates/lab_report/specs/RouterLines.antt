@@ -6,15 +6,15 @@ use Rattle.isis_base.specs.declared.level.Level.{Level}
 use Rattle.isis_base.specs.declared.level.Level.TheVariants as level
 use Rattle.isis_base.specs.Levels.{level_text}
 use Rattle.isis_base.specs.Texts.{system_text, lsp_text}
-use Rattle.isis_model.specs.declared.drop_name.DropName.{DropName}
-use Rattle.isis_model.specs.declared.drop_name.DropName.TheVariants as drop
-use Rattle.isis_model.specs.Both.{at}
-use Rattle.isis_model.specs.Ranks.{number_of, is_purge}
-use Rattle.isis_model.specs.Cells.{Cell}
-use Rattle.isis_model.specs.LetGos.{LetGo}
-use Rattle.isis_model.specs.Drops.{drops_of, drop_word}
-use Rattle.isis_model.specs.Routers.{Router, level_of, book_of}
-use Rattle.isis_model.specs.Numbers.{system_id, lsp_id}
+use Rattle.model_router.specs.declared.drop_name.DropName.{DropName}
+use Rattle.model_router.specs.declared.drop_name.DropName.TheVariants as drop
+use Rattle.model_router.specs.Both.{at}
+use Rattle.model_router.specs.Ranks.{number_of, is_purge}
+use Rattle.model_router.specs.Cells.{Cell}
+use Rattle.model_router.specs.LetGos.{LetGo}
+use Rattle.model_router.specs.Drops.{drops_of, drop_word}
+use Rattle.model_router.specs.Routers.{Router, level_of, book_of}
+use Rattle.model_router.specs.Numbers.{system_id, lsp_id}
 use Rattle.route_table.specs.declared.route.Route.{Route}
 use Rattle.lab_report.specs.RouteLines.{route_line}
 

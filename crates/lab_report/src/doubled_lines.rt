@@ -7,8 +7,8 @@ ghost use Rattle.lab_report.specs.Reports as lines;
 
 use crate::router_lines::level_word;
 use isis_base::{Level, LspId, Octets, OutOfMemory, add_lsp_id};
-use lsp_octets::laws::id_law;
 use network_lab::Network;
+use router_sending::laws::id_law;
 
 /// A line for each LSP ID of a level that is doubled.
 pub(crate) fn add_doubled(page: &mut Octets, net: &Network, level: Level) -> Result<(), OutOfMemory>

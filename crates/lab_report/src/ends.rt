@@ -1,6 +1,6 @@
 //! The circuits that are the ends of links and LANs.
 ghost use Rattle.std.specs.Prelude.{◌≡◌, ◌+◌, Some, IfSome};
-ghost use Rattle.isis_model.specs.Places.{nth};
+ghost use Rattle.model_router.specs.Places.{nth};
 ghost use Rattle.router_desk.specs.Desks as desk;
 ghost use Rattle.network_lab.specs.Passed.{IsThere};
 ghost use Rattle.network_lab.specs.Claims.{IsEndIn};
@@ -8,8 +8,8 @@ ghost use Rattle.network_lab.specs.LinkStates.{is_point_in};
 ghost use Rattle.lab_report.specs.LanLines.{is_lan_in};
 
 use isis_base::{CircuitKind, Level};
+use model_network::End;
 use network_lab::{Network, Router};
-use network_model::End;
 
 /// Whether an end's circuit is point-to-point and its router runs the level.
 pub(crate) fn is_point(net: &Network, end: End, level: Level) -> bool

@@ -1,9 +1,9 @@
 //! The lines of LANs in a report.
 ghost use Rattle.std.specs.Prelude.{◌≡◌, ◌+◌, ◌++◌, ◌<◌, drop, length, Some, IsSome, OnOk};
 ghost use Rattle.std.specs.Str.{bytes_eq};
-ghost use Rattle.isis_model.specs.Places.{nth};
-ghost use Rattle.network_model.specs.Networks.{place_in};
-ghost use Rattle.network_model.specs.RunLines.{ends_of};
+ghost use Rattle.model_router.specs.Places.{nth};
+ghost use Rattle.model_network.specs.Networks.{place_in};
+ghost use Rattle.model_network.specs.RunLines.{ends_of};
 ghost use Rattle.network_lab.specs.Claims.{IsEndIn};
 ghost use Rattle.lab_report.specs.LanLines as lines;
 ghost use Rattle.lab_report.specs.Names.{texts, name_at};
@@ -12,8 +12,8 @@ use crate::ends::{is_lan, router_of};
 use crate::names::add_name;
 use crate::router_lines::{level_word, system_of};
 use isis_base::{Level, Octets, OutOfMemory, SystemId, add_system_id};
+use model_network::End;
 use network_lab::{LanState, Network};
-use network_model::End;
 
 /// Adds the lines of a LAN at a level: one for each member that runs it.
 pub(crate) fn add_members(

@@ -1,7 +1,7 @@
 //! The lines of links and LANs in a report.
 ghost use Rattle.std.specs.Prelude.{◌≡◌, ◌++◌, ◌<◌, length, OnOk};
-ghost use Rattle.isis_model.specs.Places.{nth};
-ghost use Rattle.network_model.specs.RunLines.{ends_of};
+ghost use Rattle.model_router.specs.Places.{nth};
+ghost use Rattle.model_network.specs.RunLines.{ends_of};
 ghost use Rattle.network_lab.specs.LinkStates.{runs_at, pair_of};
 ghost use Rattle.lab_report.specs.LinkLines as lines;
 ghost use Rattle.lab_report.specs.Names.{texts};

@@ -2,9 +2,9 @@
 ghost use Rattle.std.specs.Prelude.{◌≡◌, ◌≤◌, ◌<◌, ◌+◌, ◌++◌, length, if◌then◌else◌, OnOk, IfOk};
 ghost use Rattle.std.specs.List.{flat_map};
 ghost use Rattle.isis_base.specs.Texts.{hex_pair};
-ghost use Rattle.isis_model.specs.Places.{nth};
+ghost use Rattle.model_router.specs.Places.{nth};
 ghost use Rattle.isis_base.specs.declared.level.Level.TheVariants as level;
-ghost use Rattle.network_model.specs.Networks.{numbered};
+ghost use Rattle.model_network.specs.Networks.{numbered};
 ghost use Rattle.network_lab.specs.LinkStates.{runs_of, groups_at};
 ghost use Rattle.lab_report.specs.LinkLines.{agree_line};
 ghost use Rattle.lab_report.specs.Reports as lines;

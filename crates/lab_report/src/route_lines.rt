@@ -5,8 +5,8 @@ ghost use Rattle.lab_report.specs.RouteLines as lines;
 ghost use Rattle.spf_tree.specs.Nodes.{system_node};
 
 use isis_base::{LspId, NodeId, Octets, OutOfMemory, Prefix, SystemId, add_number, add_system_id};
-use lsp_octets::laws::id_law;
 use route_table::{Rank, Route};
+use router_sending::laws::id_law;
 use spf_tree::Hops;
 
 /// The greatest cost that is told, in units of metrics (RFC 5305 4).

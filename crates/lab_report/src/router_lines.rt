@@ -4,7 +4,7 @@ ghost use Rattle.std.specs.List.{flat_map};
 ghost use Rattle.isis_base.specs.Identifiers.{lsp_number};
 ghost use Rattle.isis_base.specs.Keys.{rank};
 ghost use Rattle.isis_base.specs.Levels.{level_text};
-ghost use Rattle.isis_model.specs.Numbers.{system_id};
+ghost use Rattle.model_router.specs.Numbers.{system_id};
 ghost use Rattle.flag_sync.specs.BookStates.{book_of};
 ghost use Rattle.flag_sync.specs.Walks.{numbers_of};
 ghost use Rattle.lab_report.specs.RouterLines as lines;
@@ -14,12 +14,12 @@ use flag_sync::Book;
 use isis_base::{
     Key, Level, LspId, Octets, OutOfMemory, SystemId, add_lsp_id, add_number, add_system_id,
 };
-use isis_model::laws::identifiers::system_law;
-use lsp_octets::laws::id_law;
+use model_router::laws::identifiers::system_law;
 use network_lab::Router;
 use purge_ageing::LetGo;
 use route_table::Route;
 use router_desk::DropName;
+use router_sending::laws::id_law;
 
 /// Adds a router's block: its system and boot, the LSPs that it holds, those that it let go, its
 /// routes, and what it dropped.

@@ -12,7 +12,7 @@ use Rattle.std.proofs.lemmas.Option.{get_or_from_slice_get, slice_get_within}
 use Rattle.std.proofs.Math.Seq.{get_or-append_seam, take-append_seam}
 use Rattle.isis_base.specs.declared.level.CircuitKind.{CircuitKind}
 use Rattle.isis_base.specs.declared.level.CircuitKind.TheVariants.{PointToPoint, Lan}
-use Rattle.isis_model.proofs.ListLemmas.{all-append, all-map}
+use Rattle.model_router.proofs.ListLemmas.{all-append, all-map}
 use Rattle.lab_script.specs.declared.setup.End.{End}
 use Rattle.lab_script.specs.declared.setup.LabKey.{LabKey}
 use Rattle.lab_script.specs.declared.setup.LabLink.{LabLink}

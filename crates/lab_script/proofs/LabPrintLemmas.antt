@@ -15,8 +15,8 @@ use Rattle.isis_base.specs.declared.texts.TheConstants.{SYSTEM_TEXT}
 use Rattle.isis_base.proofs.AreaLemmas.{SpellsArea-written, area_of-spelled}
 use Rattle.isis_base.proofs.LevelLemmas.{levels_of-written}
 use Rattle.isis_base.proofs.SpellingLemmas.{Spells-spelled, text_octets-spelled}
-use Rattle.network_model.specs.declared.word.PduWord.{PduWord}
-use Rattle.network_model.specs.declared.word.PduWord.TheVariants.{Hello, Lsp, Csnp, Psnp}
+use Rattle.model_network.specs.declared.word.PduWord.{PduWord}
+use Rattle.model_network.specs.declared.word.PduWord.TheVariants.{Hello, Lsp, Csnp, Psnp}
 use Rattle.lab_script.specs.declared.named.NamedDeed.{NamedDeed}
 use Rattle.lab_script.specs.declared.named.NamedDeed.TheVariants as deed
 use Rattle.lab_script.specs.declared.named.NamedLine.{NamedLine}

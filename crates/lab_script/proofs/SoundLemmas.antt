@@ -1,6 +1,6 @@
 -- What holds of keys scripts with a line more.
 use Rattle.std.proofs.Common.{◌≡◌, ◌∙◌, ℕ, ◌<◌, true, false, List, [], ◌∷◌, ◌++◌, length, refl, subst, ap, arith, length-append}
-use Rattle.key_net.specs.KeysNet.{ordered}
+use Rattle.lab_keys.specs.KeysNet.{ordered}
 use Rattle.lab_script.specs.declared.events.KeyEvent.{KeyEvent}
 use Rattle.lab_script.specs.declared.events.KeyEvent.TheVariants.{Issue, Pass}
 use Rattle.lab_script.specs.declared.events.EventLine.{EventLine}

@@ -1,7 +1,7 @@
 -- What is printed of faults of scripts (own).
 use Rattle.std.specs.Prelude.{ℕ, List, ◌++◌, codes, decimal}
-use Rattle.key_net.specs.declared.faults.LimitName.{LimitName}
-use Rattle.key_net.specs.Limits.{limit_word}
+use Rattle.lab_keys.specs.declared.faults.LimitName.{LimitName}
+use Rattle.lab_keys.specs.Limits.{limit_word}
 use Rattle.lab_script.specs.declared.reason.Reason.{Reason}
 use Rattle.lab_script.specs.declared.reason.ScriptFault.{ScriptFault}
 use Rattle.lab_script.specs.declared.reason.ScriptFault.TheVariants as script

@@ -2,10 +2,10 @@
 use Rattle.std.specs.Prelude.{ℕ, not, nat_le, Bool, false, List, [], ◌∷◌, ◌++◌, length, Option, Some, None, is_some, if◌then◌else◌}
 use Rattle.std.specs.List.{list_all}
 use Rattle.std.specs.Str.{bytes_eq}
-use Rattle.key_net.specs.declared.faults.LimitName.{LimitName}
-use Rattle.key_net.specs.declared.faults.LimitName.TheVariants.{Routers, Links}
-use Rattle.key_net.specs.declared.key_net.TheConstants.{ROUTER_LIMIT, LINK_LIMIT}
-use Rattle.key_net.specs.KeysNet.{ordered}
+use Rattle.lab_keys.specs.declared.faults.LimitName.{LimitName}
+use Rattle.lab_keys.specs.declared.faults.LimitName.TheVariants.{Routers, Links}
+use Rattle.lab_keys.specs.declared.net.TheConstants.{ROUTER_LIMIT, LINK_LIMIT}
+use Rattle.lab_keys.specs.KeysNet.{ordered}
 use Rattle.lab_script.specs.declared.events.EventLine.{EventLine}
 use Rattle.lab_script.specs.declared.events.KeyEvent.TheVariants as event
 use Rattle.lab_script.specs.declared.line.KeysLine.{KeysLine}

@@ -1,6 +1,6 @@
 -- Keys scripts: what a line adds to one, or why it is refused (own).
 use Rattle.std.specs.Prelude.{ℕ, Option, Some, None, Result, Ok, Err}
-use Rattle.key_net.specs.declared.faults.LimitName.{LimitName}
+use Rattle.lab_keys.specs.declared.faults.LimitName.{LimitName}
 use Rattle.lab_script.specs.declared.line.KeysLine.{KeysLine}
 use Rattle.lab_script.specs.declared.reason.Reason.{Reason}
 use Rattle.lab_script.specs.declared.reason.Reason.TheVariants.{Form}

@@ -1,7 +1,7 @@
 -- What holds of every keys script that was read (own).
 use Rattle.std.specs.Prelude.{◌≡◌, ℕ, ◌<◌, ◌≤◌, true, List, length}
 use Rattle.std.specs.List.{AllByRecursion}
-use Rattle.key_net.specs.KeysNet.{ordered}
+use Rattle.lab_keys.specs.KeysNet.{ordered}
 use Rattle.lab_script.specs.declared.events.KeyEvent.{KeyEvent}
 use Rattle.lab_script.specs.declared.events.KeyEvent.TheVariants.{Issue, Pass}
 use Rattle.lab_script.specs.KeysJudged.{KeysScript}

@@ -7,8 +7,8 @@ use Rattle.isis_base.specs.declared.identifiers.SystemId.{SystemId}
 use Rattle.isis_base.specs.declared.texts.TheConstants.{SYSTEM_TEXT}
 use Rattle.isis_base.specs.Identifiers.{system_from}
 use Rattle.isis_base.specs.Misfit.{text_octets}
-use Rattle.network_model.specs.declared.word.PduWord.{PduWord}
-use Rattle.network_model.specs.declared.word.PduWord.TheVariants.{Hello, Lsp, Csnp, Psnp}
+use Rattle.model_network.specs.declared.word.PduWord.{PduWord}
+use Rattle.model_network.specs.declared.word.PduWord.TheVariants.{Hello, Lsp, Csnp, Psnp}
 use Rattle.lab_script.specs.declared.named.NamedScope.{NamedScope}
 use Rattle.lab_script.specs.declared.named.NamedScope.TheVariants as scope
 use Rattle.line_cuts.specs.HexTexts.{hex_of}

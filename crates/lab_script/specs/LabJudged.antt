@@ -3,8 +3,8 @@ use Rattle.std.specs.Prelude.{ℕ, ◌||◌, nat_le, Bool, List, [], ◌∷◌, 
 use Rattle.std.specs.List.{list_any}
 use Rattle.isis_base.specs.declared.level.CircuitKind.{CircuitKind}
 use Rattle.isis_base.specs.declared.level.CircuitKind.TheVariants as kind
-use Rattle.key_net.specs.declared.faults.LimitName.TheVariants.{Routers, Links, Circuits}
-use Rattle.key_net.specs.declared.key_net.TheConstants.{ROUTER_LIMIT, LINK_LIMIT}
+use Rattle.lab_keys.specs.declared.faults.LimitName.TheVariants.{Routers, Links, Circuits}
+use Rattle.lab_keys.specs.declared.net.TheConstants.{ROUTER_LIMIT, LINK_LIMIT}
 use Rattle.lab_script.specs.declared.setup.TheConstants.{CIRCUIT_LIMIT}
 use Rattle.lab_script.specs.declared.deeds.LabDeed.{LabDeed}
 use Rattle.lab_script.specs.declared.deeds.LabDeed.TheVariants as deed

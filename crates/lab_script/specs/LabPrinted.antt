@@ -7,8 +7,8 @@ use Rattle.isis_base.specs.PrefixTexts.{prefix_text}
 use Rattle.isis_base.specs.Texts.{system_text}
 use Rattle.line_cuts.specs.Fields.{on_text}
 use Rattle.line_cuts.specs.HexTexts.{AreOctets, hex_text}
-use Rattle.network_model.specs.declared.word.PduWord.{PduWord}
-use Rattle.network_model.specs.declared.word.PduWord.TheVariants.{Hello, Lsp, Csnp, Psnp}
+use Rattle.model_network.specs.declared.word.PduWord.{PduWord}
+use Rattle.model_network.specs.declared.word.PduWord.TheVariants.{Hello, Lsp, Csnp, Psnp}
 use Rattle.lab_script.specs.declared.named.NamedDeed.{NamedDeed}
 use Rattle.lab_script.specs.declared.named.NamedDeed.TheVariants as deed
 use Rattle.lab_script.specs.declared.named.NamedLine.{NamedLine}

@@ -1,7 +1,7 @@
 //! What the event lines of a lab script say.
 use isis_base::Prefix;
 use line_cuts::Hex;
-use network_model::PduWord;
+use model_network::PduWord;
 
 /// What an event line of a lab script says. Routers and links are named by their numbers from 0, a router's circuit by
 /// its place among them, and datagrams by their numbers from 1; 0 is no datagram's number.

@@ -19,7 +19,7 @@ use crate::links::Links;
 use crate::names::Names;
 use crate::reason::{Reason, ScriptFault, limited, refused};
 use isis_base::{Key, LspId};
-use key_net::{LINK_LIMIT, LimitName, ROUTER_LIMIT};
+use lab_keys::{LINK_LIMIT, LimitName, ROUTER_LIMIT};
 use std::alloc::Global;
 use std::marker::Model;
 

@@ -9,7 +9,7 @@ use crate::fields::read_name;
 use crate::named::NamedScope;
 use isis_base::{AreaAddress, LevelSet, SystemId, read_area, read_system};
 use line_cuts::{Hex, all_hex, read_up_to};
-use network_model::PduWord;
+use model_network::PduWord;
 
 /// The metric of a circuit, up to 16777215.
 pub(crate) fn read_metric(word: &[u8]) -> Option<u32>

@@ -22,7 +22,7 @@ use crate::routers::Routers;
 use crate::script_list::ScriptList;
 use crate::setup::{CIRCUIT_LIMIT, KeyScope, LabKey, LabLink, LabRouter};
 use isis_base::CircuitKind;
-use key_net::{LINK_LIMIT, LimitName, ROUTER_LIMIT};
+use lab_keys::{LINK_LIMIT, LimitName, ROUTER_LIMIT};
 use line_cuts::Hex;
 use std::alloc::Global;
 use std::marker::Model;

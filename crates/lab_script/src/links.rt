@@ -1,6 +1,6 @@
 //! Links in the order in which lines give them, and their look-up.
 ghost use Rattle.std.specs.Prelude.{◌≡◌, [], ◌∷◌, ◌++◌, length, OnOk, OnErr};
-ghost use Rattle.key_net.specs.KeysNet.{ordered as ordered_pair};
+ghost use Rattle.lab_keys.specs.KeysNet.{ordered as ordered_pair};
 ghost use Rattle.lab_script.specs.Links.{has_link};
 
 use std::alloc::{AllocError, Global};

@@ -4,7 +4,7 @@ use crate::name::Name;
 use crate::setup::LabRouter;
 use isis_base::Prefix;
 use line_cuts::Hex;
-use network_model::PduWord;
+use model_network::PduWord;
 
 /// What a key is for, with the circuit by its link's name.
 #[derive(Drop)]

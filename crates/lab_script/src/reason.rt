@@ -3,7 +3,7 @@ ghost use Rattle.lab_script.specs.declared.reason.ScriptFault.TheVariants.{OutOf
 ghost use Rattle.std.specs.Prelude.{◌≡◌, Some, Err};
 ghost use Rattle.lab_script.specs.Reasons.{reason_word};
 
-use key_net::LimitName;
+use lab_keys::LimitName;
 use std::alloc::{AllocError, AllocFailed};
 use std::error::Error;
 use std::fmt;

@@ -3,8 +3,8 @@ use Rattle.std.proofs.Common.{◌≡◌, ℕ, List, map, length, Result, Ok, Err
 use Rattle.std.proofs.lemmas.List.{length-map}
 use Rattle.std.specs.Borrow.{Bor}
 use Rattle.route_table.specs.declared.route.Route.{Route}
-use Rattle.network_model.specs.Networks.{Network}
-use Rattle.lab_play.specs.Passed.{Seen, LabNet}
+use Rattle.model_network.specs.Networks.{Network}
+use Rattle.lab_text.specs.Passed.{Seen, LabNet}
 use Rattle.lab_script.specs.declared.reason.ScriptFault.{ScriptFault}
 use Rattle.lab_script.specs.declared.script.Script.{Script}
 use Rattle.lab_script.specs.declared.script.Script.TheVariants.{Lab}
@@ -14,9 +14,9 @@ use Rattle.lab_script.specs.LabScripts.{LabScript, router_names, link_names}
 use Rattle.lab_script.specs.Scripts.{◌>>=◌}
 use Rattle.line_cuts.specs.Words.{texts}
 use Rattle.lab_report.specs.Reports.{AreAllRoutes}
-use Rattle.lab_play.specs.LabRuns.{end_of}
-use Rattle.lab_play.specs.Played.{IsLaid, ends_of}
-use Rattle.lab_play.specs.Claimed.{IsClaimedRun}
+use Rattle.lab_text.specs.LabRuns.{end_of}
+use Rattle.lab_text.specs.Played.{IsLaid, ends_of}
+use Rattle.lab_text.specs.LabClaims.{IsClaimedRun}
 use Rattle.lab_text.specs.Claimed.{IsClaimedScript}
 use Rattle.lab_text.specs.declared.fault.RunFault.{RunFault}
 use Rattle.lab_text.specs.declared.fault.RunFault.TheVariants as run

@@ -4,8 +4,8 @@ use Rattle.std.specs.Prelude.{◌==◌, ◌&&◌}
 use Rattle.std.specs.Borrow.{Bor}
 use Rattle.std.specs.List.{AllByRecursion}
 use Rattle.std.proofs.lemmas.Bool.{eqb-true, and_parts, or_cases}
-use Rattle.key_net.specs.KeysNet.{Net, with_link, has_pair, ordered}
-use Rattle.key_net.proofs.PairLemmas.{has_pair-new, has_pair-kept}
+use Rattle.lab_keys.specs.KeysNet.{Net, with_link, has_pair, ordered}
+use Rattle.lab_keys.proofs.PairLemmas.{has_pair-new, has_pair-kept}
 use Rattle.lab_script.specs.declared.events.EventLine.{EventLine}
 use Rattle.lab_script.specs.declared.events.KeyEvent.{KeyEvent}
 use Rattle.lab_script.specs.declared.events.KeyEvent.TheVariants.{Issue, Pass}

@@ -1,7 +1,7 @@
 -- Events played one after another.
 use Rattle.std.proofs.Common.{◌≡◌, ℕ, ◌+◌, ◌<◌, List, length, get_or, drop, Result, Ok, Err, sym, ap, ◌∙◌, arith}
 use Rattle.std.proofs.lemmas.List.{at_drop_more, at_drop_all}
-use Rattle.key_net.specs.KeysNet.{Net}
+use Rattle.lab_keys.specs.KeysNet.{Net}
 use Rattle.lab_script.specs.declared.events.EventLine.{EventLine}
 use Rattle.lab_script.specs.declared.reason.ScriptFault.{ScriptFault}
 use Rattle.lab_script.specs.Scripts.{◌>>=◌}

@@ -1,7 +1,7 @@
 -- What holds of scripts with a line more, and of networks that are laid out as they say.
 use Rattle.std.proofs.Common.{◌≡◌, ◌∙◌, ℕ, zero, suc, ◌<◌, true, List, [], ◌∷◌, ◌++◌, length, get_or, sym, subst, arith}
-use Rattle.key_net.specs.KeysNet.{Net, with_router, with_link, has_pair, ordered}
-use Rattle.key_net.proofs.PairLemmas.{has_pair-kept}
+use Rattle.lab_keys.specs.KeysNet.{Net, with_router, with_link, has_pair, ordered}
+use Rattle.lab_keys.proofs.PairLemmas.{has_pair-kept}
 use Rattle.lab_script.specs.declared.events.KeyEvent.{KeyEvent}
 use Rattle.lab_script.specs.declared.events.KeyEvent.TheVariants.{Issue, Pass}
 use Rattle.lab_script.specs.declared.events.EventLine.{EventLine}

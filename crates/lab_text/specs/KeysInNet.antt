@@ -1,7 +1,7 @@
 -- The events of a keys script in its network (own).
 use Rattle.std.specs.Prelude.{◌≡◌, ◌<◌, true, List}
 use Rattle.std.specs.List.{AllByRecursion}
-use Rattle.key_net.specs.KeysNet.{Net, is_joined}
+use Rattle.lab_keys.specs.KeysNet.{Net, is_joined}
 use Rattle.lab_script.specs.declared.events.KeyEvent.{KeyEvent}
 use Rattle.lab_script.specs.declared.events.KeyEvent.TheVariants.{Issue, Pass}
 use Rattle.lab_script.specs.declared.events.EventLine.{EventLine}

@@ -4,8 +4,8 @@ use Rattle.std.specs.List.{flat_map}
 use Rattle.isis_base.specs.declared.identifiers.LspId.{LspId}
 use Rattle.isis_base.specs.declared.key.Key.{Key}
 use Rattle.isis_base.specs.Texts.{lsp_text, key_text}
-use Rattle.key_net.specs.KeysNet.{Net}
-use Rattle.key_net.specs.KeysHeld.{keys_at}
+use Rattle.lab_keys.specs.KeysNet.{Net}
+use Rattle.lab_keys.specs.KeysHeld.{keys_at}
 
 abbrev pub head_line : List ℕ
 head_line = codes "isis-report 1\n"

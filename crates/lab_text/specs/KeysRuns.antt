@@ -1,6 +1,6 @@
 -- The run of a keys script: its network, its events one after another, and its report (own).
 use Rattle.std.specs.Prelude.{ℕ, List, [], ◌∷◌, length, Result, Ok, Err, if◌then◌else◌}
-use Rattle.key_net.specs.KeysNet.{Net, empty_net, with_link, with_copy, with_pass, is_at}
+use Rattle.lab_keys.specs.KeysNet.{Net, empty_net, with_link, with_copy, with_pass, is_at}
 use Rattle.lab_script.specs.declared.events.EventLine.{EventLine}
 use Rattle.lab_script.specs.declared.events.KeyEvent.{KeyEvent}
 use Rattle.lab_script.specs.declared.events.KeyEvent.TheVariants.{Issue, Pass}

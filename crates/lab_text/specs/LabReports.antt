@@ -1,14 +1,14 @@
 -- The report of a lab script (own).
 use Rattle.std.specs.Prelude.{◌≡◌, ℕ, List, Result, Ok, Err}
 use Rattle.route_table.specs.declared.route.Route.{Route}
-use Rattle.network_model.specs.Networks.{Network}
-use Rattle.lab_play.specs.Passed.{Seen, LabNet, seen_of}
+use Rattle.model_network.specs.Networks.{Network}
+use Rattle.lab_text.specs.Passed.{Seen, LabNet, seen_of}
 use Rattle.lab_script.specs.declared.reason.ScriptFault.{ScriptFault}
 use Rattle.lab_script.specs.declared.reason.ScriptFault.TheVariants.{Refused, Limit}
 use Rattle.lab_script.specs.LabScripts.{LabScript, router_names, link_names}
 use Rattle.lab_script.specs.Scripts.{◌>>=◌}
 use Rattle.lab_report.specs.Reports.{AreAllRoutes, report_text}
-use Rattle.lab_play.specs.LabRuns.{end_of, dumps_of}
+use Rattle.lab_text.specs.LabRuns.{end_of, dumps_of}
 use Rattle.lab_text.specs.declared.fault.RunFault.{RunFault}
 use Rattle.lab_text.specs.declared.fault.RunFault.TheVariants as run
 

@@ -1,5 +1,10 @@
--- The definitions: fault texts, keys in net, keys report, keys runs, report left, run faults,
--- runs, lab reports, playing, claimed; and what is passed on.
+-- The definitions: what a lab script lays out, its run, and what holds while it is played; fault texts, keys in net,
+-- keys report, keys runs, report left, run faults, runs, lab reports, playing, claimed; and what is passed on.
+pub mod Layouts
+pub mod LabRuns
+pub mod Played
+pub mod Setups
+pub mod LabClaims
 pub mod FaultTexts
 pub mod KeysInNet
 pub mod KeysReport

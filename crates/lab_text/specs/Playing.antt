@@ -1,13 +1,13 @@
 -- The network at the end of a lab script, or why there is none (own).
 use Rattle.std.specs.Prelude.{◌≡◌, length, Result, Ok, Err, None}
-use Rattle.network_model.specs.Networks.{Network}
-use Rattle.lab_play.specs.Passed.{LabNet, Seen, StandsFor}
+use Rattle.model_network.specs.Networks.{Network}
+use Rattle.lab_text.specs.Passed.{LabNet, Seen, StandsFor}
 use Rattle.lab_script.specs.declared.reason.ScriptFault.{ScriptFault}
 use Rattle.lab_script.specs.declared.reason.ScriptFault.TheVariants.{Refused, Limit}
 use Rattle.lab_script.specs.declared.script.Script.{Script}
 use Rattle.lab_script.specs.declared.script.Script.TheVariants.{Keys, Lab}
-use Rattle.lab_play.specs.LabRuns.{end_of}
-use Rattle.lab_play.specs.Played.{IsLaid}
+use Rattle.lab_text.specs.LabRuns.{end_of}
+use Rattle.lab_text.specs.Played.{IsLaid}
 use Rattle.lab_text.specs.declared.fault.RunFault.{RunFault}
 use Rattle.lab_text.specs.declared.fault.RunFault.TheVariants as run
 

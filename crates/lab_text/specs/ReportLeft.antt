@@ -1,8 +1,8 @@
 -- What is still to come of a report, and how many calls make it at most (own).
 use Rattle.std.specs.Prelude.{ℕ, suc, ◌+◌, List, [], ◌∷◌, ◌++◌, length}
 use Rattle.std.specs.List.{flat_map}
-use Rattle.key_net.specs.KeysNet.{Net}
-use Rattle.key_net.specs.KeysHeld.{keys_at}
+use Rattle.lab_keys.specs.KeysNet.{Net}
+use Rattle.lab_keys.specs.KeysHeld.{keys_at}
 use Rattle.lab_text.specs.declared.left.KeysReport.{KeysReport}
 use Rattle.lab_text.specs.KeysReport.{key_line, router_lines}
 use Rattle.line_cuts.specs.Words.{texts}

@@ -1,7 +1,7 @@
 //! Why a script's run didn't end with its whole report.
 ghost use Rattle.std.specs.Prelude.{Some};
 
-use key_net::LimitName;
+use lab_keys::LimitName;
 use lab_script::{Reason, ScriptFault};
 use std::error::Error;
 use std::fmt;

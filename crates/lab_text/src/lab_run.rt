@@ -6,9 +6,9 @@ ghost use Rattle.lab_script.specs.LabScripts.{router_names, link_names};
 ghost use Rattle.line_cuts.specs.Words.{texts};
 ghost use Rattle.lab_report.specs.ReportLeft.{routes_of, lines_left};
 ghost use Rattle.lab_report.specs.Reports.{AreAllRoutes};
-ghost use Rattle.lab_play.specs.LabRuns as run;
-ghost use Rattle.lab_play.specs.Played.{ends_of};
-ghost use Rattle.lab_play.specs.Claimed.{IsClaimedRun};
+ghost use Rattle.lab_text.specs.LabRuns as run;
+ghost use Rattle.lab_text.specs.Played.{ends_of};
+ghost use Rattle.lab_text.specs.LabClaims.{IsClaimedRun};
 ghost use Rattle.lab_text.specs.LabReports.{IsLabReport, lab_outcome, report_by, Tells};
 ghost use Rattle.lab_text.specs.Runs.{ReportEnds};
 
@@ -16,9 +16,9 @@ use crate::fault::RunFault;
 use crate::playing::play_script;
 use isis_base::OutOfMemory;
 use isis_edge::{Sink, TextFailed, write_text};
-use lab_play::Network;
 use lab_report::LabReport;
 use lab_script::{LabDeed, LabLine, LabScript, Script};
+use network_lab::Network;
 use std::alloc::Global;
 
 /// Plays a lab script and writes its whole report.

@@ -2,7 +2,7 @@
 ghost use Rattle.std.specs.Prelude.{◌≤◌, ◌+◌, length};
 
 use isis_base::{Key, LspId};
-use key_net::KeyNet;
+use lab_keys::KeyNet;
 
 /// The report of a network: its head, then the keys of each router, by LSP ID.
 #[derive(Drop)]

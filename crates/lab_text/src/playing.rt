@@ -4,9 +4,10 @@ ghost use Rattle.lab_script.specs.Scripts.{is_lab_script};
 ghost use Rattle.lab_text.specs.Claimed.{IsClaimedScript};
 ghost use Rattle.lab_text.specs.Playing.{IsPlayed, IsLaidBy};
 
+use crate::event_lines::play;
 use crate::fault::RunFault;
-use lab_play::{Network, play};
 use lab_script::Script;
+use network_lab::Network;
 use std::alloc::Global;
 
 /// The network at the end of a lab script. The first line whose event is refused, or which passes a

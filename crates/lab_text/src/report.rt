@@ -1,6 +1,6 @@
 //! The report of a keys script, made as it is written.
 ghost use Rattle.std.specs.Prelude.{◌≡◌, ◌≤◌, ◌+◌, ◌++◌, length, OnOk};
-ghost use Rattle.key_net.specs.KeysNet.{Net};
+ghost use Rattle.lab_keys.specs.KeysNet.{Net};
 ghost use Rattle.lab_text.specs.KeysReport.{key_line, report_of_net};
 ghost use Rattle.lab_text.specs.ReportLeft.{lines_left, calls_left};
 ghost use Rattle.line_cuts.specs.Words.{texts};
@@ -8,7 +8,7 @@ ghost use Rattle.line_cuts.specs.Words.{texts};
 use crate::left::KeysReport;
 use isis_base::{Key, LspId, Octets, OutOfMemory, add_lsp_id, add_number};
 use isis_edge::Text;
-use key_net::KeyNet;
+use lab_keys::KeyNet;
 
 impl<'n, 't> KeysReport<'n, 't> {
     /// The report of a network whose routers have these names.

@@ -2,7 +2,7 @@
 ghost use Rattle.std.specs.Prelude.{◌≡◌, ◌≤◌, ◌<◌, ℕ, List, length, Ok, Err, OnOk, IfOk, IsOk};
 ghost use Rattle.std.specs.List.{AllByRecursion};
 ghost use Rattle.isis_edge.specs.Faults.{Rose};
-ghost use Rattle.key_net.specs.KeysNet.{with_link};
+ghost use Rattle.lab_keys.specs.KeysNet.{with_link};
 ghost use Rattle.lab_script.specs.Gives.{Gives, Answers};
 ghost use Rattle.lab_text.specs.KeysRuns.{routers_only, with_links, laid_out, play_line, play_all, end_of, keys_outcome};
 ghost use Rattle.lab_script.specs.declared.script.Script.TheVariants.{Keys};
@@ -15,7 +15,7 @@ use crate::lab_run::run_lab;
 use crate::left::KeysReport;
 use isis_base::OutOfMemory;
 use isis_edge::{Sink, TextFailed, write_text};
-use key_net::{KeyNet, LabFault};
+use lab_keys::{KeyNet, LabFault};
 use lab_script::{EventLine, KeyEvent, KeysScript, Reason, Script, ScriptFault};
 use std::alloc::Global;
 

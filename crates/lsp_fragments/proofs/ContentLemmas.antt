@@ -13,12 +13,12 @@ use Rattle.isis_tlv.specs.declared.neighbour.NeighbourItem.{NeighbourItem}
 use Rattle.isis_tlv.specs.declared.prefix.PrefixItem.{PrefixItem}
 use Rattle.isis_tlv.specs.Items.{octets_for}
 use Rattle.isis_tlv.specs.Spelling.{area_tlv, protocol_tlv}
-use Rattle.isis_model.specs.Routers.{Router}
-use Rattle.isis_model.specs.LspNeighbours.{u56_octets, node_items}
-use Rattle.isis_model.specs.LspPrefixes.{Reach, reach_items}
-use Rattle.isis_model.specs.Wanted.{some_addresses, addresses_of, first_tlvs}
-use Rattle.isis_model.specs.Splits.{Item}
-use Rattle.isis_model.specs.SplitLaws.{IsSmall}
+use Rattle.model_router.specs.Routers.{Router}
+use Rattle.model_router.specs.LspNeighbours.{u56_octets, node_items}
+use Rattle.model_router.specs.LspPrefixes.{Reach, reach_items}
+use Rattle.model_router.specs.Wanted.{some_addresses, addresses_of, first_tlvs}
+use Rattle.model_router.specs.Splits.{Item}
+use Rattle.model_router.specs.SplitLaws.{IsSmall}
 use Rattle.std.proofs.lemmas.List.{length-take}
 use Rattle.lsp_fragments.specs.Entries.{neighbour_entry, prefix_entry, address_tlvs, node_and_metric, reach_pair}
 

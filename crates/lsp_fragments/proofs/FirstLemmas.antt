@@ -1,7 +1,7 @@
 -- Addresses in two TLVs.
 use Rattle.std.proofs.Common.{◌≡◌, ℕ, List, ◌++◌, length, take, drop, min, refl}
 use Rattle.std.proofs.lemmas.List.{take_min, drop_min}
-use Rattle.isis_model.specs.Wanted.{some_addresses}
+use Rattle.model_router.specs.Wanted.{some_addresses}
 use Rattle.lsp_fragments.specs.Entries.{address_tlvs}
 
 parts : (n : ℕ) (xs : List ℕ) (at : ℕ) → at ≡ min n (length xs) → some_addresses (take at xs) ++ some_addresses (drop at xs) ≡ some_addresses (take n xs) ++ some_addresses (drop n xs)

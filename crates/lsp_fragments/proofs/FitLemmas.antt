@@ -1,6 +1,6 @@
 -- How many entries 256 fragments hold.
 use Rattle.std.proofs.Common.{◌≡◌, ℕ, zero, suc, ◌+◌, ◌<◌, ◌≤◌, Bool, true, false, List, [], ◌∷◌, ◌++◌, length, take, Some, None, Err, if◌then◌else◌, refl, sym, ap, ◌∙◌, zero-le, arith}
-use Rattle.isis_model.specs.Splits.{Item, Draft, Split, whole, holds_more, with_item, filled, split}
+use Rattle.model_router.specs.Splits.{Item, Draft, Split, whole, holds_more, with_item, filled, split}
 use Rattle.lsp_fragments.specs.declared.fault.SplitFault.{SplitFault}
 use Rattle.lsp_fragments.specs.declared.fault.SplitFault.TheVariants.{TooMuch, OutOfMemory}
 use Rattle.lsp_fragments.specs.Fits.{put_all, count_put, IsFit, IsFault, IsPut, fit_of, fault_behind}

@@ -2,10 +2,10 @@
 use Rattle.std.proofs.Common.{◌≡◌, ℕ, ◌+◌, ◌<◌, ◌≤◌, ◌==◌, nat_lt, ◌||◌, Bool, true, false, List, [], ◌∷◌, ◌++◌, length, refl, sym, ap, ◌∙◌, subst, arith, append_assoc, append-nil, length-append, zero-le}
 use Rattle.std.proofs.lemmas.Bool.Decides.{nat_tests}
 use Rattle.std.specs.List.{AllByRecursion}
-use Rattle.isis_model.specs.Splits.{Item, Draft, whole, joins, begins, holds_more, with_item, filled, split}
-use Rattle.isis_model.specs.SplitLaws.{IsSmall, value_of}
-use Rattle.isis_model.proofs.BookLemmas.{choose}
-use Rattle.isis_model.proofs.ListLemmas.{all-append}
+use Rattle.model_router.specs.Splits.{Item, Draft, whole, joins, begins, holds_more, with_item, filled, split}
+use Rattle.model_router.specs.SplitLaws.{IsSmall, value_of}
+use Rattle.model_router.proofs.BookLemmas.{choose}
+use Rattle.model_router.proofs.ListLemmas.{all-append}
 use Rattle.lsp_fragments.specs.GoodSplits.{HasNoPlace, IsTlv, IsFragment, Bare, WithTlv, AreFragments, Single, Another, IsGoodSplit}
 
 value-one-more : (xs : List Item) (i : Item) → value_of (xs ++ i ∷ []) ≡ value_of xs ++ i.octets

@@ -2,8 +2,8 @@
 use Rattle.std.proofs.Common.{◌≡◌, ℕ, zero, suc, ◌+◌, ◌<◌, ◌≤◌, true, false, Bool, eqb, nat_lt, List, [], ◌∷◌, drop, get_or, set, Some, None, if◌then◌else◌, refl, ap, subst, arith}
 use Rattle.std.specs.List.{insert, remove}
 use Rattle.std.proofs.lemmas.Bool.Decides.{nat_tests}
-use Rattle.isis_model.specs.Maps.{find, put, erase}
-use Rattle.isis_model.specs.Sorted.{RisesFrom}
+use Rattle.model_router.specs.Maps.{find, put, erase}
+use Rattle.model_router.specs.Sorted.{RisesFrom}
 use Rattle.lsp_fragments.specs.Keyed.{keyed, AllAbove, IsPlace, IsGap}
 use Rattle.lsp_fragments.specs.Kept.{issued_from}
 

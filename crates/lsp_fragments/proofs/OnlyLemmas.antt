@@ -2,8 +2,8 @@
 use Rattle.std.proofs.Common.{◌≡◌, ℕ, ◌+◌, ◌<◌, ◌≤◌, ◌==◌, nat_lt, ◌&&◌, ◌||◌, nat_le, Bool, true, false, List, [], ◌∷◌, ◌++◌, length, Some, None, if◌then◌else◌, refl, sym, ap, ◌∙◌, subst, arith, append_assoc, append-nil, length-append}
 use Rattle.std.proofs.lemmas.Bool.Decides.{nat_tests}
 use Rattle.std.specs.List.{AllByRecursion}
-use Rattle.isis_model.specs.Splits.{Item, Draft, Split, whole, joins, begins, holds_more, with_item, filled, split}
-use Rattle.isis_model.specs.SplitLaws.{IsSmall, value_of}
+use Rattle.model_router.specs.Splits.{Item, Draft, Split, whole, joins, begins, holds_more, with_item, filled, split}
+use Rattle.model_router.specs.SplitLaws.{IsSmall, value_of}
 use Rattle.lsp_fragments.specs.Fits.{put_all}
 use Rattle.lsp_fragments.specs.GoodSplits.{HasNoPlace, IsFragment, Bare, WithTlv, AreFragments, Single, Another, IsGoodSplit}
 use Rattle.lsp_fragments.proofs.FitLemmas.{put_all-append, filled-all, filled-append}

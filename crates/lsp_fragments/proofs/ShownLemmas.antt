@@ -4,12 +4,12 @@ use Rattle.std.proofs.lemmas.List.{length-drop}
 use Rattle.std.proofs.Math.Seq.{take-length}
 use Rattle.std.proofs.lemmas.Bool.Decides.{nat_tests}
 use Rattle.std.specs.Option.{option_map, IsSome}
-use Rattle.isis_model.specs.Maps.{find, put, erase, each}
-use Rattle.isis_model.specs.Routers.{Issued}
+use Rattle.model_router.specs.Maps.{find, put, erase, each}
+use Rattle.model_router.specs.Routers.{Issued}
 use Rattle.lsp_fragments.specs.declared.kept.Kept.{Kept}
 use Rattle.lsp_fragments.specs.Kept.{kept_id, by_id, issued_of, issued_pairs, all_issued, issued_from, first_id, older_kept}
-use Rattle.isis_model.specs.Seconds.{older}
-use Rattle.isis_model.specs.Sorted.{RisesFrom}
+use Rattle.model_router.specs.Seconds.{older}
+use Rattle.model_router.specs.Sorted.{RisesFrom}
 
 -- by a test's two answers
 choose : (P : Bool → Type 0) (t : Bool) → P true → P false → P t

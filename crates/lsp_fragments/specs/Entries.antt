@@ -5,10 +5,10 @@ use Rattle.isis_base.specs.Identifiers.{lsp_number}
 use Rattle.isis_tlv.specs.declared.neighbour.NeighbourItem.{NeighbourItem}
 use Rattle.isis_tlv.specs.declared.prefix.PrefixItem.{PrefixItem}
 use Rattle.isis_tlv.specs.Spelling.{area_tlv, protocol_tlv, neighbour_octets, prefix_octets}
-use Rattle.isis_model.specs.Splits.{Item}
+use Rattle.model_router.specs.Splits.{Item}
 use Rattle.lsp_fragments.specs.declared.content.Content.{Content}
-use Rattle.isis_model.specs.LspPrefixes.{Reach}
-use Rattle.isis_model.specs.Wanted.{some_addresses}
+use Rattle.model_router.specs.LspPrefixes.{Reach}
+use Rattle.model_router.specs.Wanted.{some_addresses}
 
 -- a neighbour's entry of TLV 22 (RFC 5305 3)
 abbrev pub neighbour_entry : NeighbourItem → Item

@@ -1,6 +1,6 @@
 -- How many entries 256 fragments hold (ISO 10589 7.3.4; the order of entries: own).
 use Rattle.std.specs.Prelude.{◌≡◌, ℕ, suc, ◌+◌, ◌<◌, ◌≤◌, true, false, List, [], ◌∷◌, length, take, Option, Some, None, Result, Ok, Err, if◌then◌else◌}
-use Rattle.isis_model.specs.Splits.{Item, Draft, holds_more, with_item, split}
+use Rattle.model_router.specs.Splits.{Item, Draft, holds_more, with_item, split}
 use Rattle.lsp_fragments.specs.declared.fault.SplitFault.{SplitFault}
 use Rattle.lsp_fragments.specs.declared.fault.SplitFault.TheVariants.{TooMuch, OutOfMemory}
 

@@ -2,8 +2,8 @@
 -- it must (ISO 10589 7.3.4; the order and the greed: own).
 use Rattle.std.specs.Prelude.{◌≡◌, ℕ, ◌+◌, ◌<◌, ◌≤◌, true, false, List, [], ◌∷◌, ◌++◌, length}
 use Rattle.std.specs.List.{AllByRecursion}
-use Rattle.isis_model.specs.Splits.{Item, Split}
-use Rattle.isis_model.specs.SplitLaws.{value_of}
+use Rattle.model_router.specs.Splits.{Item, Split}
+use Rattle.model_router.specs.SplitLaws.{value_of}
 
 -- a fragment of these octets, whose last TLV has this code (0 where there is none) and a value of
 -- so many octets, has no place for an entry: neither in that TLV nor in one more (own)

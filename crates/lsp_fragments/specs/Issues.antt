@@ -2,12 +2,12 @@
 -- issues, and what an exhausted number does: own).
 use Rattle.std.specs.Prelude.{ℕ, ◌+◌, ◌==◌, nat_le, nat_lt, Bool, true, ◌&&◌, ◌||◌, not, List, [], ◌∷◌, Option, Some, None, if◌then◌else◌}
 use Rattle.isis_base.specs.declared.level.Level.{Level}
-use Rattle.isis_model.specs.Ranks.{number_of}
-use Rattle.isis_model.specs.Cells.{Cell}
-use Rattle.isis_model.specs.Givens.{Given}
-use Rattle.isis_model.specs.Routers.{Contents, Issued, LevelState, Router}
-use Rattle.isis_model.specs.OwnLsps.{last_number, same_contents, Next}
-use Rattle.isis_model.specs.OwnLsps as own
+use Rattle.model_router.specs.Ranks.{number_of}
+use Rattle.model_router.specs.Cells.{Cell}
+use Rattle.model_router.specs.Givens.{Given}
+use Rattle.model_router.specs.Routers.{Contents, Issued, LevelState, Router}
+use Rattle.model_router.specs.OwnLsps.{last_number, same_contents, Next}
+use Rattle.model_router.specs.OwnLsps as own
 use Rattle.lsp_fragments.specs.declared.issue.Issue.{Issue}
 use Rattle.lsp_fragments.specs.declared.issue.Issue.TheVariants.{Number, Exhausted, Wait}
 

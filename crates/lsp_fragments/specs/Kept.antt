@@ -1,10 +1,10 @@
 -- What is kept of own LSPs that are issued, by LSP ID (own).
 use Rattle.std.specs.Prelude.{ℕ, ◌-◌, nat_lt, List, [], ◌∷◌, length, Option, Some, None, if◌then◌else◌, Result, MatchResult}
 use Rattle.isis_base.specs.Identifiers.{lsp_number}
-use Rattle.isis_model.specs.Routers.{Issued}
+use Rattle.model_router.specs.Routers.{Issued}
 use Rattle.lsp_fragments.specs.declared.kept.Kept.{Kept}
 use Rattle.lsp_fragments.specs.Keyed.{keyed, IsPlace, IsGap}
-use Rattle.isis_model.specs.Books.{risen}
+use Rattle.model_router.specs.Books.{risen}
 
 -- own
 abbrev pub kept_id : Kept → ℕ

@@ -2,8 +2,8 @@
 ghost use Rattle.std.specs.Prelude.{◌≡◌, ◌+◌, ◌<◌, ◌≤◌, length, map, OnOk, OnErr, IfOk, IsOk, IsSome, MatchOption, None, Some, vec_capacity};
 ghost use Rattle.std.specs.Option.{option_map};
 ghost use Rattle.isis_base.specs.Identifiers.{lsp_number};
-ghost use Rattle.isis_model.specs.Maps.{find, put, erase};
-ghost use Rattle.isis_model.specs.Sorted.{RisesFrom};
+ghost use Rattle.model_router.specs.Maps.{find, put, erase};
+ghost use Rattle.model_router.specs.Sorted.{RisesFrom};
 ghost use Rattle.lsp_fragments.specs.Kept.{kept_id, by_id, issued_of, all_issued, issued_from, first_id, older_kept, IsIdAt};
 
 use crate::kept::Kept;

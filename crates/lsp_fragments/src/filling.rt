@@ -1,6 +1,6 @@
 //! Fragments while they are filled.
 ghost use Rattle.std.specs.Prelude.{◌≡◌, ◌≤◌, ◌<◌, ◌+◌, [], ◌∷◌, ◌++◌, length, true, false, Ok, IfOk, OnOk, OnErr};
-ghost use Rattle.isis_model.specs.Splits as splits;
+ghost use Rattle.model_router.specs.Splits as splits;
 
 use isis_base::{Draft, Octets, OutOfMemory};
 use std::alloc::Global;
@@ -26,7 +26,7 @@ pub(crate) struct Filling {
 
 impl Model for Filling {
     ghost use Rattle.std.specs.Prelude.{◌≤◌, ◌+◌, length};
-    ghost use Rattle.isis_model.specs.Splits as splits;
+    ghost use Rattle.model_router.specs.Splits as splits;
 
     ghost Value = { splits.Draft };
 
@@ -57,7 +57,7 @@ impl Filling {
 
     /// Puts an entry in: in the last TLV, else in a new one, else in the next fragment. Whether 256
     /// fragments hold it; where they don't, nothing changes.
-    #[tactic(auto, unfolding(isis_model::specs::Splits::with_item))]
+    #[tactic(auto, unfolding(model_router::specs::Splits::with_item))]
     pub(crate) fn put(&mut self, code: u8, entry: &[u8], room: usize) -> Result<bool, OutOfMemory>
         requires code { 0 < code }
         requires entry { length entry.now ≤ 255 }

@@ -1,7 +1,7 @@
 //! What the first fragment of an LSP begins with.
 ghost use Rattle.std.specs.Prelude.{◌≡◌, ◌≤◌, ◌*◌, ◌+◌, [], ◌++◌, length, take, drop, IfOk, OnOk};
 ghost use Rattle.isis_tlv.specs.Spelling.{area_octets, area_value, area_tlv};
-ghost use Rattle.isis_model.specs.Wanted.{some_addresses};
+ghost use Rattle.model_router.specs.Wanted.{some_addresses};
 ghost use Rattle.lsp_fragments.specs.Entries as entries;
 ghost use Rattle.lsp_fragments.specs.Entries.{address_tlvs};
 

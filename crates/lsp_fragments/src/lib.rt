@@ -3,7 +3,7 @@
 //! ISO 10589 7.3.4 (fragments), 7.3.5, 7.3.6 and 7.3.16.1 (when, and at which sequence number).
 //! Own: neighbours stand before prefixes; an entry goes into the last TLV of its code, else into a
 //! new one, else into the next fragment, and never back; the five seconds between issues; what the
-//! last sequence number does. What the calls answer is what the router's model (isis_model) says.
+//! last sequence number does. What the calls answer is what the router's model (model_router) says.
 //!
 //! A split goes over the entries once: an entry's octets are added to the last TLV, and a TLV's to
 //! its fragment. Own LSPs lie in a list by LSP ID; an issue finds its place by a binary search.

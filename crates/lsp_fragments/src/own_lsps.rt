@@ -3,11 +3,11 @@ ghost use Rattle.std.specs.Prelude.{◌≡◌, ◌+◌, ◌<◌, ◌≤◌, ℕ,
 ghost use Rattle.std.specs.Option.{option_map};
 ghost use Rattle.isis_base.specs.Identifiers.{lsp_number};
 ghost use Rattle.isis_base.specs.Keys.{rank};
-ghost use Rattle.isis_model.specs.Maps.{find, put, erase, each};
-ghost use Rattle.isis_model.specs.Ranks.{number_of};
-ghost use Rattle.isis_model.specs.Routers.{Issued};
-ghost use Rattle.isis_model.specs.Seconds.{older};
-ghost use Rattle.isis_model.specs.Sorted.{RisesFrom};
+ghost use Rattle.model_router.specs.Maps.{find, put, erase, each};
+ghost use Rattle.model_router.specs.Ranks.{number_of};
+ghost use Rattle.model_router.specs.Routers.{Issued};
+ghost use Rattle.model_router.specs.Seconds.{older};
+ghost use Rattle.model_router.specs.Sorted.{RisesFrom};
 ghost use Rattle.lsp_fragments.specs.Issues.{all_rest, issue_next, issue_above};
 ghost use Rattle.lsp_fragments.specs.Kept.{all_issued, issued_from, first_id};
 
@@ -33,7 +33,7 @@ pub struct OwnLsps {
 
 impl Model for OwnLsps {
     ghost use Rattle.std.specs.Prelude.{vec_capacity};
-    ghost use Rattle.isis_model.specs.Sorted.{RisesFrom};
+    ghost use Rattle.model_router.specs.Sorted.{RisesFrom};
     ghost use Rattle.lsp_fragments.specs.Kept.{OwnState};
 
     ghost Value = { OwnState };

@@ -1,6 +1,6 @@
 //! The split of an own LSP into fragments.
 ghost use Rattle.std.specs.Prelude.{◌≡◌, ◌≤◌, ◌<◌, ◌^◌, length, map, true, All, IfOk, IfErr, ◌+◌};
-ghost use Rattle.isis_model.specs.Splits as splits;
+ghost use Rattle.model_router.specs.Splits as splits;
 ghost use Rattle.lsp_fragments.specs.Entries.{content_first, content_entries, neighbour_entry, prefix_entry};
 ghost use Rattle.lsp_fragments.specs.Fits.{IsFault, IsPut, fit_of, fault_behind};
 

@@ -2,30 +2,30 @@
 use Rattle.std.proofs.Common.{◌≡◌, ℕ, zero, suc, true, false, ⊎_elim, List, Option, Some, None, refl, sym, ap, ◌∙◌, subst}
 use Rattle.isis_base.specs.declared.level.Level.{Level}
 use Rattle.isis_base.specs.declared.level.Level.TheVariants as level
-use Rattle.isis_model.specs.declared.drop_name.DropName.{DropName}
-use Rattle.isis_model.specs.Sets.{has}
-use Rattle.isis_model.specs.Places.{nth, with_nth}
-use Rattle.isis_model.specs.SnpTable.{SnpEntry}
-use Rattle.isis_model.specs.SweepLaws.{ListsOnce, Frees}
-use Rattle.isis_model.specs.Books.{srm_at}
-use Rattle.isis_model.specs.Configs.{Config}
-use Rattle.isis_model.specs.Routers.{Circuit, Router, LevelState, level_of, with_level, book_of}
-use Rattle.isis_model.specs.Datagrams.{Sent, PointHello, LanHello, Lsp, Csnp, Psnp}
-use Rattle.isis_model.specs.Events.{Envelope, Message, Refused, SnpHeard, Take}
-use Rattle.isis_model.specs.AdjacencyLaws.{is_point}
-use Rattle.isis_model.specs.Receiving.{drop_of, scene_of, take_or_drop, take}
-use Rattle.isis_model.specs.Takes.{take_snp}
-use Rattle.isis_model.specs.Steps.{step}
-use Rattle.isis_model.proofs.FreeLemmas.{snp-frees}
-use Rattle.isis_datagram.specs.Said.{envelope, said}
+use Rattle.model_router.specs.declared.drop_name.DropName.{DropName}
+use Rattle.model_router.specs.Sets.{has}
+use Rattle.model_router.specs.Places.{nth, with_nth}
+use Rattle.model_router.specs.SnpTable.{SnpEntry}
+use Rattle.model_router.specs.SweepLaws.{ListsOnce, Frees}
+use Rattle.model_router.specs.Books.{srm_at}
+use Rattle.model_router.specs.Configs.{Config}
+use Rattle.model_router.specs.Routers.{Circuit, Router, LevelState, level_of, with_level, book_of}
+use Rattle.model_router.specs.Datagrams.{Sent, PointHello, LanHello, Lsp, Csnp, Psnp}
+use Rattle.model_router.specs.Events.{Envelope, Message, Refused, SnpHeard, Take}
+use Rattle.model_router.specs.AdjacencyLaws.{is_point}
+use Rattle.model_router.specs.Receiving.{drop_of, scene_of, take_or_drop, take}
+use Rattle.model_router.specs.Takes.{take_snp}
+use Rattle.model_router.specs.Steps.{step}
+use Rattle.model_router.proofs.FreeLemmas.{snp-frees}
+use Rattle.model_datagram.specs.Said.{envelope, said}
 use Rattle.router_core.specs.Givens.{given}
 use Rattle.router_core.specs.Reached.{IsReached}
-use Rattle.network_model.specs.Networks.{Datagram, octets_of, Network, numbered}
-use Rattle.network_model.specs.Runs.{read_on, taking, Deliver, Arrives, Arrival, arrival, arrive, deliver_at, apply}
-use Rattle.network_model.specs.Ports.{Port, In}
-use Rattle.network_model.specs.Kept.{IsPointLink}
-use Rattle.network_model.specs.Speakers.{IsLegible, IsReading}
-use Rattle.network_model.proofs.ChangeLemmas.{nth-in, nth-set, some-same}
+use Rattle.model_network.specs.Networks.{Datagram, octets_of, Network, numbered}
+use Rattle.model_network.specs.Runs.{read_on, taking, Deliver, Arrives, Arrival, arrival, arrive, deliver_at, apply}
+use Rattle.model_network.specs.Ports.{Port, In}
+use Rattle.model_network.specs.Kept.{IsPointLink}
+use Rattle.model_network.specs.Speakers.{IsLegible, IsReading}
+use Rattle.model_network.proofs.ChangeLemmas.{nth-in, nth-set, some-same}
 use Rattle.network_lab.proofs.ReachedLemmas.{arrival-same}
 use Rattle.network_lab.specs.Reached.{IsReachedNet}
 use Rattle.network_lab.specs.Acknowledged.{IsListing, IsTaken, Acknowledges}

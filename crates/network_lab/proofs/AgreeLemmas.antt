@@ -3,24 +3,24 @@ use Rattle.std.proofs.Common.{◌≡◌, ℕ, zero, suc, ◌+◌, ◌==◌, ◌&
 use Rattle.std.proofs.lemmas.Bool.Decides.{nat_tests}
 use Rattle.std.specs.List.{flat_map}
 use Rattle.isis_base.specs.declared.level.Level.{Level}
-use Rattle.isis_model.specs.Both.{at}
-use Rattle.isis_model.specs.Places.{nth}
-use Rattle.isis_model.specs.Routers.{Router}
-use Rattle.isis_model.specs.AdjacencyLaws.{opens, is_point}
-use Rattle.isis_model.specs.Flooding.{IsKept}
-use Rattle.network_model.specs.declared.end.End.{End}
-use Rattle.network_model.specs.Networks.{Network}
-use Rattle.network_model.specs.Counts.{flags}
-use Rattle.network_model.specs.RunLines.{ends_of}
-use Rattle.network_agreement.specs.LiveViews.{live_at}
-use Rattle.network_agreement.specs.Chains.{IsClean, AreJoined, Clean, CleanBack, Swept, SweptBack}
-use Rattle.network_agreement.proofs.ChainLemmas.{joined-agrees}
-use Rattle.network_agreement.proofs.SweepLemmas.{swept-live}
-use Rattle.link_states.specs.declared.state.LinkState.{LinkState}
-use Rattle.link_states.specs.LinkStates as link
-use Rattle.link_states.specs.LinkStates.{state_of, no_state}
-use Rattle.link_states.specs.Joined.{In, TakesPart, IsChain}
-use Rattle.link_states.proofs.GroupedLemmas.{groups-of}
+use Rattle.model_router.specs.Both.{at}
+use Rattle.model_router.specs.Places.{nth}
+use Rattle.model_router.specs.Routers.{Router}
+use Rattle.model_router.specs.AdjacencyLaws.{opens, is_point}
+use Rattle.model_router.specs.Flooding.{IsKept}
+use Rattle.model_network.specs.declared.end.End.{End}
+use Rattle.model_network.specs.Networks.{Network}
+use Rattle.model_network.specs.Counts.{flags}
+use Rattle.model_network.specs.RunLines.{ends_of}
+use Rattle.model_network.specs.LiveViews.{live_at}
+use Rattle.model_network.specs.Chains.{IsClean, AreJoined, Clean, CleanBack, Swept, SweptBack}
+use Rattle.model_network.proofs.ChainLemmas.{joined-agrees}
+use Rattle.model_network.proofs.SweepLemmas.{swept-live}
+use Rattle.lab_facts.specs.declared.state.LinkState.{LinkState}
+use Rattle.lab_facts.specs.LinkStates as link
+use Rattle.lab_facts.specs.LinkStates.{state_of, no_state}
+use Rattle.lab_facts.specs.Joined.{In, TakesPart, IsChain}
+use Rattle.lab_facts.proofs.GroupedLemmas.{groups-of}
 use Rattle.network_lab.specs.LabNets.{Seen, LabNet}
 use Rattle.network_lab.specs.LabInside.{IsNet}
 use Rattle.network_lab.specs.Reached.{HasRun}

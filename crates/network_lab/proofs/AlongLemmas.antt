@@ -1,15 +1,15 @@
 -- What is kept of a network in its run, after each event of a list.
 use Rattle.std.proofs.Common.{◌≡◌, ℕ, ◌<◌, List, [], ◌∷◌, ◌++◌, Option, Some, None, refl, sym, ◌∙◌}
 use Rattle.std.specs.List.{AllByRecursion}
-use Rattle.isis_model.specs.Places.{nth}
-use Rattle.isis_model.specs.Books.{risen}
-use Rattle.isis_model.specs.Routers.{Router}
+use Rattle.model_router.specs.Places.{nth}
+use Rattle.model_router.specs.Books.{risen}
+use Rattle.model_router.specs.Routers.{Router}
 use Rattle.router_core.specs.Givens.{given}
-use Rattle.network_model.specs.Networks.{Datagram, octets_of, Network, place_at}
-use Rattle.network_model.specs.Runs.{Happening, Tick, PullOn, Deliver, Restart, SetMetric, SetOverload, SetPrefix, Inject, arrive_at, inject_at, apply, run}
-use Rattle.network_model.specs.LineEvents.{IsOfLine}
-use Rattle.network_model.specs.Speakers.{AreOctets}
-use Rattle.network_model.proofs.ChangeLemmas.{Change, Still, Moved, Restarted, apply-change}
+use Rattle.model_network.specs.Networks.{Datagram, octets_of, Network, place_at}
+use Rattle.model_network.specs.Runs.{Happening, Tick, PullOn, Deliver, Restart, SetMetric, SetOverload, SetPrefix, Inject, arrive_at, inject_at, apply, run}
+use Rattle.model_network.specs.LineEvents.{IsOfLine}
+use Rattle.model_network.specs.Speakers.{AreOctets}
+use Rattle.model_network.proofs.ChangeLemmas.{Change, Still, Moved, Restarted, apply-change}
 use Rattle.network_lab.specs.LabNets.{seen_of}
 use Rattle.network_lab.specs.Claims.{IsClaimed}
 use Rattle.network_lab.specs.Reached.{IsReachedNet, IsFitting, AreFitting}

@@ -1,16 +1,16 @@
 -- What is held live of an LSP ID that isn't doubled has one body.
 use Rattle.std.proofs.Common.{◌≡◌, ℕ, ◌/◌, ⊎_elim, true, false, List, [], ◌∷◌, Some, refl, sym, ap, ◌∙◌, subst}
 use Rattle.isis_base.specs.declared.level.Level.{Level}
-use Rattle.isis_model.specs.Ranks.{is_live, number_of}
-use Rattle.isis_model.specs.Cells.{Cell}
-use Rattle.isis_model.specs.Books.{cell_at}
-use Rattle.isis_model.specs.LetGos.{contains}
-use Rattle.isis_model.specs.Places.{nth}
-use Rattle.isis_model.specs.Routers.{Contents, Router, book_of}
-use Rattle.own_histories.specs.Sightings.{sighting, sightings_of, doubled_in}
-use Rattle.own_histories.proofs.OnceLemmas.{Has, once-seen, past-here, past-there}
-use Rattle.network_agreement.specs.Origins.{Body, Among, IsSingle}
-use Rattle.network_agreement.proofs.OriginLemmas as origin
+use Rattle.model_router.specs.Ranks.{is_live, number_of}
+use Rattle.model_router.specs.Cells.{Cell}
+use Rattle.model_router.specs.Books.{cell_at}
+use Rattle.model_router.specs.LetGos.{contains}
+use Rattle.model_router.specs.Places.{nth}
+use Rattle.model_router.specs.Routers.{Contents, Router, book_of}
+use Rattle.lab_facts.specs.Sightings.{sighting, sightings_of, doubled_in}
+use Rattle.lab_facts.proofs.OnceLemmas.{Has, once-seen, past-here, past-there}
+use Rattle.model_network.specs.Origins.{Body, Among, IsSingle}
+use Rattle.model_network.proofs.OriginLemmas as origin
 use Rattle.network_lab.specs.LabNets.{Seen}
 use Rattle.network_lab.specs.Reached.{HasRun}
 use Rattle.network_lab.specs.Agreements.{HaveOneBody}

@@ -1,10 +1,10 @@
 -- Another configuration of a router before the run.
 use Rattle.std.proofs.Common.{◌≡◌, ℕ, zero, suc, ◌+◌, ◌-◌, ◌≤◌, List, [], ◌∷◌, ◌++◌, map, take, length, true, false, Option, Some, sym, ap, ◌∙◌, subst, arith}
 use Rattle.std.specs.Option.{option_map}
-use Rattle.isis_model.specs.Numbers.{system_number}
-use Rattle.isis_model.specs.Places.{nth, with_nth}
-use Rattle.isis_model.specs.Routers.{Router}
-use Rattle.network_model.specs.declared.end.End.{End}
+use Rattle.model_router.specs.Numbers.{system_number}
+use Rattle.model_router.specs.Places.{nth, with_nth}
+use Rattle.model_router.specs.Routers.{Router}
+use Rattle.model_network.specs.declared.end.End.{End}
 use Rattle.router_desk.specs.declared.circuit_config.CircuitConfig.{CircuitConfig}
 use Rattle.router_desk.specs.declared.config.Config.{Config}
 use Rattle.router_desk.specs.Limits.{IsCircuit, IsKey, IsValid}

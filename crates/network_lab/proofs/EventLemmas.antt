@@ -2,27 +2,27 @@
 use Rattle.std.proofs.Common.{◌≡◌, ℕ, ◌<◌, ◌≤◌, ◌==◌, ◌&&◌, not, nat_le, Bool, true, false, List, [], ◌∷◌, ◌++◌, length, Option, Some, None, Result, Ok, Err, is_some, if◌then◌else◌, refl, sym, ap, ◌∙◌, subst, arith}
 use Rattle.std.specs.Option.{option_map}
 use Rattle.std.proofs.lemmas.List.{map-append, length-map}
-use Rattle.isis_model.specs.Places.{nth, with_nth}
-use Rattle.isis_model.specs.Maps.{find}
-use Rattle.isis_model.specs.Books.{risen}
-use Rattle.isis_model.specs.Routers.{Router}
-use Rattle.isis_model.specs.Events.{Event, Second, Pull}
-use Rattle.isis_model.specs.Steps.{step}
-use Rattle.isis_model.specs.AdjacencyLaws.{place_of}
+use Rattle.model_router.specs.Places.{nth, with_nth}
+use Rattle.model_router.specs.Maps.{find}
+use Rattle.model_router.specs.Books.{risen}
+use Rattle.model_router.specs.Routers.{Router}
+use Rattle.model_router.specs.Events.{Event, Second, Pull}
+use Rattle.model_router.specs.Steps.{step}
+use Rattle.model_router.specs.AdjacencyLaws.{place_of}
 use Rattle.router_desk.specs.declared.config.Change.{Change}
 use Rattle.router_desk.specs.declared.config.Change.TheVariants as change
 use Rattle.router_desk.specs.Configs.{prefix_number}
 use Rattle.router_core.specs.Events as core
 use Rattle.router_core.specs.Givens.{given}
-use Rattle.network_model.specs.Networks.{Datagram, octets_of, Taking, Network, place_in, place_at, numbered, restarted}
-use Rattle.network_model.specs.Runs as model
-use Rattle.network_model.specs.Runs.{posted, moved, moved_if, taking, arrival, on_place, pull_at, arrive, arrive_at, deliver_at, inject_at, restart_at, ranges_in, apply}
+use Rattle.model_network.specs.Networks.{Datagram, octets_of, Taking, Network, place_in, place_at, numbered, restarted}
+use Rattle.model_network.specs.Runs as model
+use Rattle.model_network.specs.Runs.{posted, moved, moved_if, taking, arrival, on_place, pull_at, arrive, arrive_at, deliver_at, inject_at, restart_at, ranges_in, apply}
 use Rattle.network_lab.specs.declared.sent.SentDatagram.{SentDatagram}
 use Rattle.network_lab.specs.declared.event.LabEvent.{LabEvent}
 use Rattle.network_lab.specs.declared.event.LabEvent.TheVariants as event
-use Rattle.key_net.specs.declared.faults.LabFault.{LabFault}
-use Rattle.key_net.specs.declared.faults.LabFault.TheVariants as fault
-use Rattle.key_net.specs.declared.faults.LimitName.TheVariants as limit
+use Rattle.lab_keys.specs.declared.faults.LabFault.{LabFault}
+use Rattle.lab_keys.specs.declared.faults.LabFault.TheVariants as fault
+use Rattle.lab_keys.specs.declared.faults.LimitName.TheVariants as limit
 use Rattle.network_lab.specs.LabNets.{Seen, LabNet, sent_of, seen_of}
 use Rattle.network_lab.specs.LabConfigs.{configs_after}
 use Rattle.network_lab.specs.LabEvents.{refusal, after, unless_on, unless_arrives, past_boots, unless_changes, IsChange, change_of}

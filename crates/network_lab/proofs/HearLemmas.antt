@@ -8,17 +8,17 @@ use Rattle.isis_base.specs.declared.level.Level.TheVariants as level
 use Rattle.isis_base.specs.declared.level.CircuitKind.{CircuitKind}
 use Rattle.isis_base.specs.Identifiers.{lsp_number}
 use Rattle.isis_pdu.specs.Layout.{kind_of}
-use Rattle.isis_model.specs.declared.drop_name.DropName.{DropName}
-use Rattle.isis_model.specs.Both.{Both, at}
-use Rattle.isis_model.specs.Cells.{Cell}
-use Rattle.isis_model.specs.Places.{nth}
-use Rattle.isis_model.specs.SnpTable.{SnpEntry, is_missed}
-use Rattle.isis_model.specs.Configs.{Config}
-use Rattle.isis_model.specs.Routers.{Circuit, Router, book_of}
-use Rattle.isis_model.specs.Events.{Envelope, Message, Refused, PointHelloHeard, LanHelloHeard, LspHeard, SnpHeard, Take, Reply}
-use Rattle.isis_model.specs.Receiving.{drop_of, take_or_drop, take}
-use Rattle.isis_model.specs.Steps.{step}
-use Rattle.isis_datagram.specs.Reading.{read}
+use Rattle.model_router.specs.declared.drop_name.DropName.{DropName}
+use Rattle.model_router.specs.Both.{Both, at}
+use Rattle.model_router.specs.Cells.{Cell}
+use Rattle.model_router.specs.Places.{nth}
+use Rattle.model_router.specs.SnpTable.{SnpEntry, is_missed}
+use Rattle.model_router.specs.Configs.{Config}
+use Rattle.model_router.specs.Routers.{Circuit, Router, book_of}
+use Rattle.model_router.specs.Events.{Envelope, Message, Refused, PointHelloHeard, LanHelloHeard, LspHeard, SnpHeard, Take, Reply}
+use Rattle.model_router.specs.Receiving.{drop_of, take_or_drop, take}
+use Rattle.model_router.specs.Steps.{step}
+use Rattle.model_datagram.specs.Reading.{read}
 use Rattle.flag_sync.specs.Marks.{any_cell}
 use Rattle.router_desk.specs.declared.desk_circuit.DeskCircuit.{DeskCircuit}
 use Rattle.router_desk.specs.Desks as kind
@@ -27,9 +27,9 @@ use Rattle.router_desk.specs.Table.{tests_of, AllHold, is_run}
 use Rattle.router_desk.specs.Opening.{SeenView, OpenedView, seen_at, message_of}
 use Rattle.router_core.specs.Givens.{given}
 use Rattle.router_core.specs.Events.{IsThere}
-use Rattle.network_model.specs.Networks.{Datagram, octets_of, Taking}
-use Rattle.network_model.specs.Runs.{read_on, taking, ranges_in}
-use Rattle.network_model.specs.Takings.{misses_any, taking_of, heard_range, ranges_of}
+use Rattle.model_network.specs.Networks.{Datagram, octets_of, Taking}
+use Rattle.model_network.specs.Runs.{read_on, taking, ranges_in}
+use Rattle.model_network.specs.Takings.{misses_any, taking_of, heard_range, ranges_of}
 use Rattle.network_lab.specs.declared.sent.SentDatagram.{SentDatagram}
 use Rattle.network_lab.specs.declared.heard_range.CsnpRange.{CsnpRange}
 use Rattle.network_lab.specs.declared.heard_range.HeardRange.{HeardRange}

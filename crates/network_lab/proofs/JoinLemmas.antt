@@ -6,11 +6,11 @@ use Rattle.std.proofs.lemmas.Bool.Decides.{nat_tests}
 use Rattle.std.proofs.lemmas.List.{map-append}
 use Rattle.std.proofs.Math.Seq.{take-length}
 use Rattle.isis_base.specs.declared.level.CircuitKind.{CircuitKind}
-use Rattle.isis_model.specs.Places.{nth, with_nth}
-use Rattle.isis_model.specs.Routers.{Router}
-use Rattle.isis_model.proofs.ListLemmas.{all-append}
-use Rattle.network_model.specs.declared.end.End.{End}
-use Rattle.network_model.specs.RunLines.{by_router, is_end, link_of}
+use Rattle.model_router.specs.Places.{nth, with_nth}
+use Rattle.model_router.specs.Routers.{Router}
+use Rattle.model_router.proofs.ListLemmas.{all-append}
+use Rattle.model_network.specs.declared.end.End.{End}
+use Rattle.model_network.specs.RunLines.{by_router, is_end, link_of}
 use Rattle.router_desk.specs.declared.circuit_config.CircuitConfig.{CircuitConfig}
 use Rattle.router_desk.specs.declared.config.Config.{Config}
 use Rattle.router_desk.specs.Limits.{IsValid}
@@ -18,7 +18,7 @@ use Rattle.router_core.specs.Reached.{IsReached}
 use Rattle.network_lab.specs.declared.joining.Joined.{Joined}
 use Rattle.network_lab.specs.declared.notes.Notes.{Notes}
 use Rattle.network_lab.specs.declared.sent.SentDatagram.{SentDatagram}
-use Rattle.key_net.specs.declared.faults.LabFault.{LabFault}
+use Rattle.lab_keys.specs.declared.faults.LabFault.{LabFault}
 use Rattle.network_lab.specs.LabNets.{LabNet, router_of, circuit_count, configured, with_circuit, with_circuits, with_row, with_ends, new_circuit, next_end, AreDistinct}
 use Rattle.network_lab.specs.LabCauses.{has_full}
 use Rattle.network_lab.specs.LabInside.{counts_of, IsEndThere, AreEndsThere, ArePorts, AreApart, IsFit, IsSetUp, IsNet}

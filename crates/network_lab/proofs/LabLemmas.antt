@@ -3,17 +3,17 @@ use Rattle.std.proofs.Common.{◌≡◌, ◌≢◌, ℕ, zero, suc, ◌+◌, ◌
 use Rattle.std.specs.List.{AllByRecursion}
 use Rattle.std.proofs.lemmas.Bool.Decides.{nat_tests}
 use Rattle.std.proofs.lemmas.List.{map-append, length-map}
-use Rattle.isis_model.specs.Places.{nth, with_nth}
-use Rattle.isis_model.specs.Routers.{Router}
-use Rattle.isis_model.specs.Numbers.{system_id, system_number}
-use Rattle.isis_model.proofs.ListLemmas.{all-map, all-append}
-use Rattle.isis_model.proofs.BookLemmas.{same-or}
-use Rattle.network_model.specs.declared.end.End.{End}
-use Rattle.network_model.specs.RunLines.{is_end, link_of}
+use Rattle.model_router.specs.Places.{nth, with_nth}
+use Rattle.model_router.specs.Routers.{Router}
+use Rattle.model_router.specs.Numbers.{system_id, system_number}
+use Rattle.model_router.proofs.ListLemmas.{all-map, all-append}
+use Rattle.model_router.proofs.BookLemmas.{same-or}
+use Rattle.model_network.specs.declared.end.End.{End}
+use Rattle.model_network.specs.RunLines.{is_end, link_of}
 use Rattle.router_desk.specs.declared.config.Config.{Config}
 use Rattle.network_lab.specs.declared.notes.Notes.{Notes}
 use Rattle.network_lab.specs.declared.sent.SentDatagram.{SentDatagram}
-use Rattle.key_net.specs.declared.faults.LabFault.{LabFault}
+use Rattle.lab_keys.specs.declared.faults.LabFault.{LabFault}
 use Rattle.network_lab.specs.LabNets.{LabNet, router_of, with_router, AreDistinct, systems_of}
 use Rattle.network_lab.specs.LabInside.{counts_of, shapes_of, IsEndThere, AreEndsThere, ArePorts, IsFit, IsSetUp, IsNet}
 use Rattle.network_lab.specs.Reached.{AreSmall, HasRun}

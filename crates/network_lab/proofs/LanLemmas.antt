@@ -7,16 +7,16 @@ use Rattle.std.proofs.lemmas.Bool.Decides.{nat_tests}
 use Rattle.isis_base.specs.declared.level.Level.{Level}
 use Rattle.isis_base.specs.declared.level.Level.TheVariants as level
 use Rattle.isis_base.specs.declared.identifiers.SystemId.{SystemId}
-use Rattle.isis_model.specs.Numbers.{system_number}
-use Rattle.isis_model.specs.Places.{nth}
-use Rattle.isis_model.specs.Routers.{Router, book_of}
-use Rattle.network_model.specs.declared.end.End.{End}
-use Rattle.network_model.specs.Networks.{Taking, Network, place_on, place_in}
-use Rattle.network_model.specs.RunLines.{ends_of}
-use Rattle.network_agreement.specs.Sweeps.{IsCovering, IsCovered, IsSweptBy}
+use Rattle.model_router.specs.Numbers.{system_number}
+use Rattle.model_router.specs.Places.{nth}
+use Rattle.model_router.specs.Routers.{Router, book_of}
+use Rattle.model_network.specs.declared.end.End.{End}
+use Rattle.model_network.specs.Networks.{Taking, Network, place_on, place_in}
+use Rattle.model_network.specs.RunLines.{ends_of}
+use Rattle.model_network.specs.Sweeps.{IsCovering, IsCovered, IsSweptBy}
 use Rattle.snp_exchange.specs.Sweeps.{in_range}
-use Rattle.lan_sweeps.specs.Sweeps.{same_level, is_at, is_covered, is_whole}
-use Rattle.lan_sweeps.proofs.SweepLemmas.{whole-each}
+use Rattle.lab_facts.specs.Sweeps.{same_level, is_at, is_covered, is_whole}
+use Rattle.lab_facts.proofs.SweepLemmas.{whole-each}
 use Rattle.network_lab.specs.LabNets.{Seen, seen_of}
 use Rattle.network_lab.specs.LanStates.{moment_of, is_counted, swept_between, swept_by, seen_by, sees_at, router_among, if_swept, sweeper_at}
 use Rattle.network_lab.specs.LinkStates.{listed, joined_pair, pair_of, joined_by, with_sweeper, swept_pair, pairs_from}

@@ -3,8 +3,8 @@ use Rattle.std.proofs.Common.{◌≡◌, ℕ, zero, suc, ◌<◌, ◌≤◌, Lis
 use Rattle.std.specs.List.{AllByRecursion}
 use Rattle.std.specs.Option.{option_map}
 use Rattle.isis_base.specs.declared.level.CircuitKind.{CircuitKind}
-use Rattle.isis_model.specs.Places.{nth, with_nth}
-use Rattle.isis_model.proofs.ListLemmas.{all-append}
+use Rattle.model_router.specs.Places.{nth, with_nth}
+use Rattle.model_router.proofs.ListLemmas.{all-append}
 use Rattle.router_desk.specs.declared.config.Config.{Config}
 use Rattle.router_desk.specs.Limits.{IsCircuit, IsValid}
 use Rattle.network_lab.specs.LabNets.{router_of, new_circuit, with_circuit}

@@ -2,15 +2,15 @@
 use Rattle.std.proofs.Common.{◌≡◌, ℕ, zero, suc, ◌+◌, ◌-◌, ◌<◌, ◌≤◌, get_or, Bool, true, false, List, [], ◌∷◌, drop, length, Option, Some, None, Result, Ok, Err, IfSome, if◌then◌else◌, refl, sym, ap, ◌∙◌, subst, arith}
 use Rattle.std.specs.Option.{option_map}
 use Rattle.std.proofs.lemmas.List.{length-map}
-use Rattle.isis_model.specs.Places.{nth}
+use Rattle.model_router.specs.Places.{nth}
 use Rattle.router_core.specs.Givens.{given}
-use Rattle.network_model.specs.declared.word.PduWord.{PduWord}
-use Rattle.network_model.specs.declared.end.End.{End}
-use Rattle.network_model.specs.Networks.{Datagram, Network, numbered}
-use Rattle.network_model.specs.Runs.{PullOn, apply}
-use Rattle.network_model.specs.RunLines as line
+use Rattle.model_network.specs.declared.word.PduWord.{PduWord}
+use Rattle.model_network.specs.declared.end.End.{End}
+use Rattle.model_network.specs.Networks.{Datagram, Network, numbered}
+use Rattle.model_network.specs.Runs.{PullOn, apply}
+use Rattle.model_network.specs.RunLines as line
 use Rattle.network_lab.specs.declared.sent.SentDatagram.{SentDatagram}
-use Rattle.key_net.specs.declared.faults.LabFault.{LabFault}
+use Rattle.lab_keys.specs.declared.faults.LabFault.{LabFault}
 use Rattle.network_lab.specs.LabNets.{Seen, LabNet, StandsFor, sent_of}
 use Rattle.network_lab.specs.LabRuns.{RunEnding, tick_unless, pull_unless, deliver_unless, pull_links_of, deliver_numbered}
 use Rattle.network_lab.proofs.PlaceLemmas.{some-same, nth-there, nth-get}

@@ -3,10 +3,10 @@ use Rattle.std.proofs.Common.{◌≡◌, ◌≢◌, ℕ, zero, suc, ◌<◌, Lis
 use Rattle.std.specs.Prelude.{slice_set, slice_get}
 use Rattle.std.proofs.lemmas.Bool.Decides.{nat_tests}
 use Rattle.std.specs.Option.{option_map}
-use Rattle.isis_model.specs.Places.{nth, with_nth}
-use Rattle.isis_model.proofs.BookLemmas.{same-or}
-use Rattle.isis_model.proofs.TouchLemmas.{nth-with_nth}
-use Rattle.network_model.specs.Networks.{numbered}
+use Rattle.model_router.specs.Places.{nth, with_nth}
+use Rattle.model_router.proofs.BookLemmas.{same-or}
+use Rattle.model_router.proofs.TouchLemmas.{nth-with_nth}
+use Rattle.model_network.specs.Networks.{numbered}
 
 pub if-yes : {A : Type 0} (x y : A) (t : Bool) → t ≡ true → (if t then x else y) ≡ x
 if-yes x y t e = ap (λ b. if b then x else y) e

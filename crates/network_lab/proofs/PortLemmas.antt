@@ -2,10 +2,10 @@
 use Rattle.std.proofs.Common.{◌≡◌, ◌≢◌, ℕ, suc, ◌+◌, ◌==◌, ◌&&◌, ◌||◌, ◌⊎◌, inl, inr, Bool, true, false, List, [], ◌∷◌, map, Some, if◌then◌else◌, refl, sym, ap, ◌∙◌, subst, arith}
 use Rattle.std.proofs.lemmas.Bool.Decides.{eqb_tells}
 use Rattle.std.specs.List.{AllByRecursion}
-use Rattle.isis_model.specs.Places.{nth}
-use Rattle.network_model.specs.declared.end.End.{End}
-use Rattle.network_model.specs.Networks.{place_on, place_in}
-use Rattle.network_model.specs.RunLines.{is_end, link_of}
+use Rattle.model_router.specs.Places.{nth}
+use Rattle.model_network.specs.declared.end.End.{End}
+use Rattle.model_network.specs.Networks.{place_on, place_in}
+use Rattle.model_network.specs.RunLines.{is_end, link_of}
 use Rattle.network_lab.specs.LabInside.{AreApart, ArePorts}
 use Rattle.network_lab.specs.Claims.{AreLinksOf}
 use Rattle.network_lab.proofs.PlaceLemmas.{some-same}

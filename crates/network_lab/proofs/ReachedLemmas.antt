@@ -1,28 +1,28 @@
 -- What is kept of a network in its run, by each event.
 use Rattle.std.proofs.Common.{◌≡◌, ℕ, zero, suc, ◌+◌, ◌-◌, ◌^◌, ◌<◌, ◌==◌, nat_lt, Bool, true, false, List, [], ◌∷◌, map, Option, Some, None, IfSome, if◌then◌else◌, refl, sym, ap, ◌∙◌, subst, arith}
 use Rattle.std.specs.List.{AllByRecursion}
-use Rattle.isis_model.specs.Places.{nth}
-use Rattle.isis_model.specs.Books.{risen}
-use Rattle.isis_model.specs.Routers.{Circuit, Router}
-use Rattle.isis_model.specs.Events.{Event, Refused, Second, Take, Pull, Metric, Overload, Prefix}
-use Rattle.isis_model.specs.declared.drop_name.DropName.TheVariants as drop
-use Rattle.isis_model.specs.Steps.{step}
-use Rattle.isis_datagram.specs.Reading.{read}
-use Rattle.isis_datagram.proofs.GoodLemmas.{Small, good-read}
-use Rattle.isis_datagram.proofs.KeptLemmas.{kept-tells}
+use Rattle.model_router.specs.Places.{nth}
+use Rattle.model_router.specs.Books.{risen}
+use Rattle.model_router.specs.Routers.{Circuit, Router}
+use Rattle.model_router.specs.Events.{Event, Refused, Second, Take, Pull, Metric, Overload, Prefix}
+use Rattle.model_router.specs.declared.drop_name.DropName.TheVariants as drop
+use Rattle.model_router.specs.Steps.{step}
+use Rattle.model_datagram.specs.Reading.{read}
+use Rattle.model_datagram.proofs.GoodLemmas.{Small, good-read}
+use Rattle.model_datagram.proofs.KeptLemmas.{kept-tells}
 use Rattle.router_core.specs.Events.{FitsPrefix}
 use Rattle.router_core.specs.Givens.{given, leaks_of, is_attached}
 use Rattle.router_core.specs.Reached.{IsReached}
 use Rattle.router_core.proofs.NameLemmas.{names-read}
 use Rattle.router_core.proofs.ReachedLemmas.{step-holds, restart-reached}
-use Rattle.network_model.specs.Networks.{Datagram, octets_of, Network, place_at, numbered, restarted}
-use Rattle.network_model.specs.Runs.{read_on, taking, Happening, Tick, PullOn, Deliver, Restart, SetMetric, SetOverload, SetPrefix, Inject, is_injection, moved_if, Arrival, NotSent, NotOn, Arrives, on_place, arrival, arrive, arrive_at, deliver_at, pull_at, restart_at, inject_at, apply}
-use Rattle.network_model.specs.Speakers.{AreSpeaking, AreOctets}
-use Rattle.network_model.specs.Kept.{AreFollowing}
-use Rattle.network_model.proofs.ChangeLemmas.{each-router}
-use Rattle.network_model.proofs.KeptLemmas.{apply-kept}
-use Rattle.network_agreement.proofs.OriginLemmas.{apply-origins}
-use Rattle.network_agreement.proofs.SweepLemmas.{apply-true, apply-agreed}
+use Rattle.model_network.specs.Networks.{Datagram, octets_of, Network, place_at, numbered, restarted}
+use Rattle.model_network.specs.Runs.{read_on, taking, Happening, Tick, PullOn, Deliver, Restart, SetMetric, SetOverload, SetPrefix, Inject, is_injection, moved_if, Arrival, NotSent, NotOn, Arrives, on_place, arrival, arrive, arrive_at, deliver_at, pull_at, restart_at, inject_at, apply}
+use Rattle.model_network.specs.Speakers.{AreSpeaking, AreOctets}
+use Rattle.model_network.specs.Kept.{AreFollowing}
+use Rattle.model_network.proofs.ChangeLemmas.{each-router}
+use Rattle.model_network.proofs.KeptLemmas.{apply-kept}
+use Rattle.model_network.proofs.OriginLemmas.{apply-origins}
+use Rattle.model_network.proofs.SweepLemmas.{apply-true, apply-agreed}
 use Rattle.network_lab.specs.LabNets.{Seen, sent_of, seen_of}
 use Rattle.network_lab.specs.Reached.{AreInRun, IsReachedNet, HasRun, AreSmall, IsFitting, Happens}
 use Rattle.network_lab.proofs.LinkLemmas.{all-at}

@@ -1,22 +1,22 @@
 -- A line `run`: what is sent is never lost, and its parts follow one another.
 use Rattle.std.proofs.Common.{◌≡◌, ℕ, zero, suc, ◌+◌, ◌<◌, ◌==◌, ◌||◌, Bool, true, false, List, [], ◌∷◌, ◌++◌, length, Option, Some, None, Result, Ok, Err, if◌then◌else◌, refl, sym, ap, ◌∙◌, subst, arith, length-append, append_assoc, append-nil, map}
 use Rattle.std.proofs.lemmas.List.{map-append, take-append-le}
-use Rattle.isis_model.specs.Places.{nth}
-use Rattle.isis_model.specs.Givens.{Given}
-use Rattle.isis_model.specs.Books.{risen}
-use Rattle.isis_model.specs.Routers.{Router}
-use Rattle.isis_model.specs.Events.{Event, Second, Pull, Metric, Overload, Prefix}
+use Rattle.model_router.specs.Places.{nth}
+use Rattle.model_router.specs.Givens.{Given}
+use Rattle.model_router.specs.Books.{risen}
+use Rattle.model_router.specs.Routers.{Router}
+use Rattle.model_router.specs.Events.{Event, Second, Pull, Metric, Overload, Prefix}
 use Rattle.router_core.specs.Givens.{given}
-use Rattle.network_model.specs.declared.word.PduWord.{PduWord}
-use Rattle.network_model.specs.declared.end.End.{End}
-use Rattle.network_model.specs.Networks.{Datagram, octets_of, Network, place_at, numbered}
-use Rattle.network_model.specs.Runs.{Happening, Tick, PullOn, Deliver, Restart, SetMetric, SetOverload, SetPrefix, Inject, Arrival, NotSent, NotOn, Arrives, moved_if, arrival, arrive, arrive_at, deliver_at, pull_at, restart_at, inject_at, apply}
-use Rattle.network_model.specs.RunLines as line
+use Rattle.model_network.specs.declared.word.PduWord.{PduWord}
+use Rattle.model_network.specs.declared.end.End.{End}
+use Rattle.model_network.specs.Networks.{Datagram, octets_of, Network, place_at, numbered}
+use Rattle.model_network.specs.Runs.{Happening, Tick, PullOn, Deliver, Restart, SetMetric, SetOverload, SetPrefix, Inject, Arrival, NotSent, NotOn, Arrives, moved_if, arrival, arrive, arrive_at, deliver_at, pull_at, restart_at, inject_at, apply}
+use Rattle.model_network.specs.RunLines as line
 use Rattle.network_lab.specs.declared.event.LabEvent.{LabEvent}
 use Rattle.network_lab.specs.declared.event.LabEvent.TheVariants as event
-use Rattle.key_net.specs.declared.faults.LabFault.{LabFault}
-use Rattle.key_net.specs.declared.faults.LabFault.TheVariants as fault
-use Rattle.key_net.specs.declared.faults.LimitName.TheVariants as limit
+use Rattle.lab_keys.specs.declared.faults.LabFault.{LabFault}
+use Rattle.lab_keys.specs.declared.faults.LabFault.TheVariants as fault
+use Rattle.lab_keys.specs.declared.faults.LimitName.TheVariants as limit
 use Rattle.network_lab.specs.declared.sent.SentDatagram.{SentDatagram}
 use Rattle.network_lab.specs.LabNets.{LabNet, StandsFor, sent_of, sent_in}
 use Rattle.network_lab.specs.LabCauses.{IsPast}

@@ -2,12 +2,12 @@
 use Rattle.std.proofs.Common.{◌≡◌, ℕ, ◌+◌, ◌-◌, ◌<◌, ◌≤◌, List, [], ◌∷◌, ◌++◌, map, take, length, Option, Some, None, Result, Ok, Err, IfErr, OnOk, append-nil, length-append, refl, sym, ap, ◌∙◌, subst, arith}
 use Rattle.std.proofs.lemmas.List.{length-map, take-map}
 use Rattle.std.proofs.Math.Seq.{take-append-add}
-use Rattle.isis_model.specs.Places.{nth}
-use Rattle.isis_model.specs.Routers.{Circuit, Router}
-use Rattle.isis_model.specs.Datagrams.{Sent}
-use Rattle.isis_model.specs.Events as model
-use Rattle.network_model.specs.Runs.{changes_of, posts, posted}
-use Rattle.network_model.specs.Runs.{post as post_of}
+use Rattle.model_router.specs.Places.{nth}
+use Rattle.model_router.specs.Routers.{Circuit, Router}
+use Rattle.model_router.specs.Datagrams.{Sent}
+use Rattle.model_router.specs.Events as model
+use Rattle.model_network.specs.Runs.{changes_of, posts, posted}
+use Rattle.model_network.specs.Runs.{post as post_of}
 use Rattle.router_core.specs.Replies.{datagrams_on, Answers}
 use Rattle.router_desk.specs.declared.cause.DropCause.{DropCause}
 use Rattle.router_core.specs.declared.reply.Reply.{Reply}
@@ -15,7 +15,7 @@ use Rattle.router_core.specs.declared.reply.Reply.TheVariants as reply
 use Rattle.network_lab.specs.declared.sent.Changes.{Changes}
 use Rattle.network_lab.specs.LabNets.{counts_in, sent_of}
 use Rattle.network_lab.specs.declared.sent.SentDatagram.{SentDatagram}
-use Rattle.key_net.specs.declared.faults.LabFault.{LabFault}
+use Rattle.lab_keys.specs.declared.faults.LabFault.{LabFault}
 use Rattle.network_lab.specs.LabSteps.{sent_by, StopCause}
 use Rattle.network_lab.specs.LabCauses.{IsPast}
 

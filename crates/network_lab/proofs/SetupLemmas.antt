@@ -1,17 +1,17 @@
 -- A network that is set up, as its parts change.
 use Rattle.std.proofs.Common.{◌≡◌, ◌≢◌, ℕ, ◌-◌, ◌<◌, ◌≤◌, List, [], ◌∷◌, ◌++◌, length, get_or, arith, Bool, false, Option, Some, refl, sym, ap, ◌∙◌, subst}
 use Rattle.std.specs.List.{AllByRecursion}
-use Rattle.isis_model.specs.Numbers.{system_id, system_number}
-use Rattle.isis_model.specs.Places.{nth, with_nth}
-use Rattle.isis_model.specs.Routers.{Router}
-use Rattle.network_model.specs.declared.end.End.{End}
+use Rattle.model_router.specs.Numbers.{system_id, system_number}
+use Rattle.model_router.specs.Places.{nth, with_nth}
+use Rattle.model_router.specs.Routers.{Router}
+use Rattle.model_network.specs.declared.end.End.{End}
 use Rattle.router_desk.specs.declared.circuit_config.CircuitConfig.{CircuitConfig}
 use Rattle.router_desk.specs.declared.config.Config.{Config}
 use Rattle.router_desk.specs.Limits.{IsCircuit, IsValid}
 use Rattle.router_core.specs.Reached.{IsReached}
 use Rattle.network_lab.specs.declared.notes.Notes.{Notes}
 use Rattle.network_lab.specs.declared.sent.SentDatagram.{SentDatagram}
-use Rattle.key_net.specs.declared.faults.LabFault.{LabFault}
+use Rattle.lab_keys.specs.declared.faults.LabFault.{LabFault}
 use Rattle.network_lab.specs.LabNets.{LabNet, router_of, reconfigured, with_changed, with_config}
 use Rattle.network_lab.specs.LabInside.{IsFit, IsNet}
 use Rattle.network_lab.specs.LabSteps.{with_circuit_at}

@@ -3,30 +3,30 @@ use Rattle.std.proofs.Common.{◌≡◌, ℕ, zero, suc, ◌<◌, ◌≤◌, ◌
 use Rattle.std.specs.List.{AllByRecursion}
 use Rattle.isis_base.specs.declared.level.Level.{Level}
 use Rattle.isis_base.specs.declared.level.Level.TheVariants as level
-use Rattle.isis_model.specs.Both.{at}
-use Rattle.isis_model.specs.Places.{nth}
-use Rattle.isis_model.specs.Routers.{Circuit, Router, book_of}
-use Rattle.isis_model.specs.Configs as model
-use Rattle.isis_model.specs.Starts.{start}
-use Rattle.isis_model.specs.AdjacencyLaws.{opens, is_point, tie_at, no_tie}
+use Rattle.model_router.specs.Both.{at}
+use Rattle.model_router.specs.Places.{nth}
+use Rattle.model_router.specs.Routers.{Circuit, Router, book_of}
+use Rattle.model_router.specs.Configs as model
+use Rattle.model_router.specs.Starts.{start}
+use Rattle.model_router.specs.AdjacencyLaws.{opens, is_point, tie_at, no_tie}
 use Rattle.router_desk.specs.declared.config.Config.{Config}
 use Rattle.router_core.specs.Reached.{IsReached}
 use Rattle.router_desk.specs.Configs.{config_of, circuits_of}
-use Rattle.network_model.specs.declared.end.End.{End}
-use Rattle.network_model.specs.Networks.{Network}
-use Rattle.network_model.specs.Ports.{Port}
-use Rattle.network_model.specs.Counts.{ahead, flags}
-use Rattle.network_model.proofs.KeptLemmas.{fresh-kept, kept-claim, start-alone}
-use Rattle.network_agreement.specs.Origins.{HoldsNothing}
-use Rattle.network_agreement.proofs.OriginLemmas.{start-origins}
-use Rattle.network_agreement.proofs.SweepLemmas.{start-true}
-use Rattle.link_states.specs.LinkStates as link
-use Rattle.link_states.specs.LinkStates.{state_of, no_state}
+use Rattle.model_network.specs.declared.end.End.{End}
+use Rattle.model_network.specs.Networks.{Network}
+use Rattle.model_network.specs.Ports.{Port}
+use Rattle.model_network.specs.Counts.{ahead, flags}
+use Rattle.model_network.proofs.KeptLemmas.{fresh-kept, kept-claim, start-alone}
+use Rattle.model_network.specs.Origins.{HoldsNothing}
+use Rattle.model_network.proofs.OriginLemmas.{start-origins}
+use Rattle.model_network.proofs.SweepLemmas.{start-true}
+use Rattle.lab_facts.specs.LinkStates as link
+use Rattle.lab_facts.specs.LinkStates.{state_of, no_state}
 use Rattle.network_lab.specs.LabNets.{Seen, LabNet, nothing_noted, router_of}
 use Rattle.network_lab.specs.Reached.{AreInRun, HoldNothing, IsReachedNet, HasRun}
 use Rattle.network_lab.specs.LabInside.{AreWired, AreApart, IsFit, IsSetUp, IsNet}
 use Rattle.network_lab.specs.Claims.{AreClaimed, IsEndIn}
-use Rattle.link_states.specs.declared.state.LinkState.{LinkState}
+use Rattle.lab_facts.specs.declared.state.LinkState.{LinkState}
 use Rattle.network_lab.specs.LinkStates.{pair_of, state_between, is_point_in, state_of_ends, state_of_pair, state_at, IsWithin, AreWithin}
 use Rattle.network_lab.proofs.PlaceLemmas.{some-same, nth-there, of-place}
 use Rattle.network_lab.proofs.LinkLemmas.{all-at}

@@ -2,20 +2,20 @@
 use Rattle.std.proofs.Common.{◌≡◌, ℕ, zero, suc, ◌+◌, ◌-◌, ◌<◌, ◌&&◌, not, true, false, is_some, MatchOption, option_map, List, [], ◌∷◌, ◌++◌, Bool, drop, get_or, length, map, unwrap_or, Option, Some, None, IfSome, refl, sym, ap, ◌∙◌, subst, arith, append_assoc}
 use Rattle.std.specs.List.{AllByRecursion, flat_map}
 use Rattle.isis_base.specs.declared.level.Level.{Level}
-use Rattle.isis_model.specs.Places.{nth}
+use Rattle.model_router.specs.Places.{nth}
 use Rattle.std.proofs.lemmas.Option.{slice_get-map}
 use Rattle.isis_base.specs.declared.level.CircuitKind.{CircuitKind}
-use Rattle.isis_model.specs.Both.{at}
-use Rattle.isis_model.specs.Routers.{Circuit, Router}
-use Rattle.isis_model.specs.AdjacencyLaws.{is_point}
+use Rattle.model_router.specs.Both.{at}
+use Rattle.model_router.specs.Routers.{Circuit, Router}
+use Rattle.model_router.specs.AdjacencyLaws.{is_point}
 use Rattle.router_desk.specs.Desks as kind
 use Rattle.router_desk.specs.declared.desk_circuit.DeskCircuit.{DeskCircuit}
-use Rattle.network_model.specs.declared.end.End.{End}
+use Rattle.model_network.specs.declared.end.End.{End}
 use Rattle.network_lab.specs.LabNets.{LabNet}
 use Rattle.network_lab.specs.LabInside.{counts_of, IsEndThere, AreEndsThere, IsNet}
 use Rattle.network_lab.specs.Claims.{IsEndIn, AreEnds}
-use Rattle.link_states.specs.declared.state.LinkState.{LinkState}
-use Rattle.link_states.specs.LinkStates.{state_of}
+use Rattle.lab_facts.specs.declared.state.LinkState.{LinkState}
+use Rattle.lab_facts.specs.LinkStates.{state_of}
 use Rattle.network_lab.specs.LinkStates.{pair_of, is_point_in, runs_at, runs_of, state_between, joined_pair, listed, joined_by}
 use Rattle.network_lab.proofs.PlaceLemmas.{some-same, nth-slice_get}
 use Rattle.network_lab.proofs.LinkLemmas.{all-at}

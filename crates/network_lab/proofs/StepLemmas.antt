@@ -1,30 +1,30 @@
 -- A router of a list takes an event.
 use Rattle.std.proofs.Common.{◌≡◌, ℕ, ◌+◌, ◌<◌, ◌==◌, ◌&&◌, Bool, true, false, if◌then◌else◌, get_or, List, [], ◌∷◌, ◌++◌, map, length, Option, Some, None, Result, Ok, Err, IfSome, IfErr, OnOk, OnErr, refl, sym, ap, ◌∙◌}
 use Rattle.std.proofs.lemmas.List.{length-map}
-use Rattle.isis_model.specs.Places.{nth, with_nth}
-use Rattle.isis_model.specs.Routers.{Router, book_of}
-use Rattle.isis_model.specs.Events as model
-use Rattle.isis_model.specs.Starts.{started, start}
-use Rattle.isis_model.specs.Steps.{step}
-use Rattle.isis_model.specs.AdjacencyLaws.{place_of}
-use Rattle.isis_model.proofs.BondLemmas.{step-stays}
+use Rattle.model_router.specs.Places.{nth, with_nth}
+use Rattle.model_router.specs.Routers.{Router, book_of}
+use Rattle.model_router.specs.Events as model
+use Rattle.model_router.specs.Starts.{started, start}
+use Rattle.model_router.specs.Steps.{step}
+use Rattle.model_router.specs.AdjacencyLaws.{place_of}
+use Rattle.model_router.proofs.BondLemmas.{step-stays}
 use Rattle.router_core.specs.declared.event.NodeEvent.{NodeEvent}
 use Rattle.router_core.specs.declared.reply.Reply.{Reply}
 use Rattle.router_core.specs.Events.{event_of}
 use Rattle.router_core.specs.Givens.{given}
 use Rattle.router_core.specs.Replies.{Answers}
 use Rattle.std.specs.Option.{option_map}
-use Rattle.network_model.specs.Networks.{restarted}
-use Rattle.network_model.specs.Runs.{changes_of, boot_of, posted}
+use Rattle.model_network.specs.Networks.{restarted}
+use Rattle.model_network.specs.Runs.{changes_of, boot_of, posted}
 use Rattle.network_lab.specs.declared.notes.Notes.{Notes}
 use Rattle.network_lab.specs.declared.sent.SentDatagram.{SentDatagram}
-use Rattle.key_net.specs.declared.faults.LabFault.{LabFault}
+use Rattle.lab_keys.specs.declared.faults.LabFault.{LabFault}
 use Rattle.network_lab.specs.declared.sent.Changes.{Changes}
 use Rattle.network_lab.specs.declared.heard_range.HeardRange.{HeardRange}
 use Rattle.network_lab.specs.LabNets.{counts_in, sent_of}
 use Rattle.network_lab.specs.LabInside.{shape_of}
 use Rattle.network_lab.specs.LabTakings.{is_taken, counts_at, kept_ranges, noted_in}
-use Rattle.lan_sweeps.specs.Sweeps.{taking_at}
+use Rattle.lab_facts.specs.Sweeps.{taking_at}
 use Rattle.isis_base.specs.Identifiers.{lsp_number}
 use Rattle.network_lab.specs.LabSteps.{posted_in, StopCause}
 use Rattle.network_lab.proofs.PlaceLemmas.{nth-set, nth-map, map-with, with-same, at-place}

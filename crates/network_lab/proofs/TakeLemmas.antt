@@ -3,15 +3,15 @@ use Rattle.std.proofs.Common.{◌≡◌, ℕ, zero, suc, ◌-◌, ◌<◌, ◌�
 use Rattle.std.specs.Option.{option_map}
 use Rattle.std.specs.Result.{result_err}
 use Rattle.std.proofs.lemmas.List.{length-map}
-use Rattle.isis_model.proofs.BookLemmas.{same-or}
-use Rattle.isis_model.specs.Places.{nth, with_nth}
-use Rattle.isis_model.specs.Books.{risen}
-use Rattle.isis_model.specs.Routers.{Router}
-use Rattle.isis_model.specs.Events.{Event, Second, Pull}
-use Rattle.isis_model.specs.Steps.{step}
+use Rattle.model_router.proofs.BookLemmas.{same-or}
+use Rattle.model_router.specs.Places.{nth, with_nth}
+use Rattle.model_router.specs.Books.{risen}
+use Rattle.model_router.specs.Routers.{Router}
+use Rattle.model_router.specs.Events.{Event, Second, Pull}
+use Rattle.model_router.specs.Steps.{step}
 use Rattle.router_desk.specs.declared.circuit_config.CircuitConfig.{CircuitConfig}
 use Rattle.router_desk.specs.declared.config.Config.{Config}
-use Rattle.isis_model.specs.Maps.{find}
+use Rattle.model_router.specs.Maps.{find}
 use Rattle.router_desk.specs.Configs.{prefix_number}
 use Rattle.router_desk.specs.declared.config.Change.{Change}
 use Rattle.router_desk.specs.declared.config.Change.TheVariants as change
@@ -19,17 +19,17 @@ use Rattle.router_core.specs.declared.event.NodeEvent.{NodeEvent}
 use Rattle.router_core.specs.Events as core
 use Rattle.router_core.specs.Events.{event_of}
 use Rattle.router_core.specs.Givens.{given}
-use Rattle.network_model.specs.declared.end.End.{End}
-use Rattle.network_model.specs.Networks.{Network, place_on, place_in, numbered, restarted}
-use Rattle.network_model.specs.Runs as model
-use Rattle.network_model.specs.Runs.{taking}
+use Rattle.model_network.specs.declared.end.End.{End}
+use Rattle.model_network.specs.Networks.{Network, place_on, place_in, numbered, restarted}
+use Rattle.model_network.specs.Runs as model
+use Rattle.model_network.specs.Runs.{taking}
 use Rattle.network_lab.specs.declared.notes.Notes.{Notes}
 use Rattle.network_lab.specs.declared.sent.SentDatagram.{SentDatagram}
 use Rattle.network_lab.specs.declared.event.LabEvent.{LabEvent}
 use Rattle.network_lab.specs.declared.event.LabEvent.TheVariants as event
-use Rattle.key_net.specs.declared.faults.LabFault.{LabFault}
-use Rattle.key_net.specs.declared.faults.LabFault.TheVariants as fault
-use Rattle.key_net.specs.declared.faults.LimitName.TheVariants as limit
+use Rattle.lab_keys.specs.declared.faults.LabFault.{LabFault}
+use Rattle.lab_keys.specs.declared.faults.LabFault.TheVariants as fault
+use Rattle.lab_keys.specs.declared.faults.LimitName.TheVariants as limit
 use Rattle.network_lab.specs.LabNets.{Seen, LabNet, seen_of, at_circuit}
 use Rattle.network_lab.specs.LabConfigs.{config_after, changed_at, configs_after}
 use Rattle.network_lab.specs.LabEvents.{refusal, after, unless_changes, change_of}

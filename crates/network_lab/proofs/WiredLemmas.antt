@@ -2,10 +2,10 @@
 use Rattle.std.proofs.Common.{◌≡◌, ℕ, zero, suc, ◌<◌, ◌≤◌, ◌==◌, ◌⊎◌, inl, inr, ⊎_elim, Bool, true, false, List, [], ◌∷◌, ◌++◌, length, Option, Some, None, unwrap_or, if◌then◌else◌, refl, sym, ap, ◌∙◌, subst, arith}
 use Rattle.std.proofs.lemmas.Bool.Decides.{nat_tests}
 use Rattle.std.specs.List.{AllByRecursion}
-use Rattle.isis_model.specs.Places.{nth}
-use Rattle.isis_model.proofs.BookLemmas.{same-or}
-use Rattle.network_model.specs.declared.end.End.{End}
-use Rattle.network_model.specs.Networks.{place_on, place_in}
+use Rattle.model_router.specs.Places.{nth}
+use Rattle.model_router.proofs.BookLemmas.{same-or}
+use Rattle.model_network.specs.declared.end.End.{End}
+use Rattle.model_network.specs.Networks.{place_on, place_in}
 use Rattle.network_lab.specs.LabInside.{AreEndsThere, AreWired}
 use Rattle.network_lab.proofs.PlaceLemmas.{some-same}
 use Rattle.network_lab.proofs.LabLemmas.{first_of, nth-snoc}

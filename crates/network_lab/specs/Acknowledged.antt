@@ -1,18 +1,18 @@
 -- An acknowledgement that is delivered (ISO 10589 7.3.15.2, 7.3.17; the words: own).
 use Rattle.std.specs.Prelude.{◌≡◌, ◌≢◌, ℕ, List, Some}
 use Rattle.isis_base.specs.declared.level.Level.{Level}
-use Rattle.isis_model.specs.declared.drop_name.DropName.{DropName}
-use Rattle.isis_model.specs.Places.{nth}
-use Rattle.isis_model.specs.SnpTable.{SnpEntry}
-use Rattle.isis_model.specs.SweepLaws.{ListsOnce, Frees}
-use Rattle.isis_model.specs.Routers.{Router, book_of}
-use Rattle.isis_model.specs.Datagrams.{Sent, PointHello, LanHello, Lsp, Csnp, Psnp}
-use Rattle.isis_model.specs.Events.{Reply, Dropped}
-use Rattle.isis_model.specs.Steps.{step}
+use Rattle.model_router.specs.declared.drop_name.DropName.{DropName}
+use Rattle.model_router.specs.Places.{nth}
+use Rattle.model_router.specs.SnpTable.{SnpEntry}
+use Rattle.model_router.specs.SweepLaws.{ListsOnce, Frees}
+use Rattle.model_router.specs.Routers.{Router, book_of}
+use Rattle.model_router.specs.Datagrams.{Sent, PointHello, LanHello, Lsp, Csnp, Psnp}
+use Rattle.model_router.specs.Events.{Reply, Dropped}
+use Rattle.model_router.specs.Steps.{step}
 use Rattle.router_core.specs.Givens.{given}
-use Rattle.network_model.specs.Networks.{Datagram, octets_of, Network, numbered}
-use Rattle.network_model.specs.Runs.{taking, Arrives, arrival}
-use Rattle.network_model.specs.Ports.{Port}
+use Rattle.model_network.specs.Networks.{Datagram, octets_of, Network, numbered}
+use Rattle.model_network.specs.Runs.{taking, Arrives, arrival}
+use Rattle.model_network.specs.Ports.{Port}
 
 -- a sequence number PDU of a level lists these (own)
 abbrev pub IsListing : Sent → Level → List SnpEntry → Type 0

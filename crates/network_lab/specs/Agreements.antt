@@ -2,17 +2,17 @@
 -- what two routers hold live under one number is the same (ISO 10589 7.3.17; the words: own).
 use Rattle.std.specs.Prelude.{◌≡◌, ℕ, true, false, List, Some}
 use Rattle.isis_base.specs.declared.level.Level.{Level}
-use Rattle.isis_model.specs.Places.{nth}
-use Rattle.isis_model.specs.Ranks.{is_live}
-use Rattle.isis_model.specs.Cells.{Cell}
-use Rattle.isis_model.specs.Books.{cell_at}
-use Rattle.isis_model.specs.LetGos.{contains}
-use Rattle.isis_model.specs.Routers.{Router, book_of}
-use Rattle.isis_model.specs.Flooding.{IsKept}
-use Rattle.link_states.specs.Joined.{In}
-use Rattle.network_agreement.specs.LiveViews.{live_at}
-use Rattle.network_agreement.specs.Origins.{body_of}
-use Rattle.own_histories.specs.Sightings.{doubled_in}
+use Rattle.model_router.specs.Places.{nth}
+use Rattle.model_router.specs.Ranks.{is_live}
+use Rattle.model_router.specs.Cells.{Cell}
+use Rattle.model_router.specs.Books.{cell_at}
+use Rattle.model_router.specs.LetGos.{contains}
+use Rattle.model_router.specs.Routers.{Router, book_of}
+use Rattle.model_router.specs.Flooding.{IsKept}
+use Rattle.lab_facts.specs.Joined.{In}
+use Rattle.model_network.specs.LiveViews.{live_at}
+use Rattle.model_network.specs.Origins.{body_of}
+use Rattle.lab_facts.specs.Sightings.{doubled_in}
 use Rattle.network_lab.specs.LabNets.{Seen}
 use Rattle.network_lab.specs.LanStates.{sweeper_at}
 use Rattle.network_lab.specs.LinkStates.{groups_at}

@@ -3,14 +3,14 @@
 use Rattle.std.specs.Prelude.{◌≡◌, ◌≢◌, ℕ, ◌<◌, true, List, [], ◌∷◌, length, Some}
 use Rattle.std.specs.List.{AllByRecursion}
 use Rattle.isis_base.specs.declared.level.Level.{Level}
-use Rattle.isis_model.specs.Places.{nth}
-use Rattle.isis_model.specs.Routers.{Router}
-use Rattle.isis_model.specs.AdjacencyLaws.{is_point}
-use Rattle.network_model.specs.declared.end.End.{End}
-use Rattle.network_model.specs.Networks.{place_in}
-use Rattle.network_model.specs.Ports.{Port}
-use Rattle.network_model.specs.Links.{IsUp}
-use Rattle.network_model.specs.Kept.{IsClaimedOf}
+use Rattle.model_router.specs.Places.{nth}
+use Rattle.model_router.specs.Routers.{Router}
+use Rattle.model_router.specs.AdjacencyLaws.{is_point}
+use Rattle.model_network.specs.declared.end.End.{End}
+use Rattle.model_network.specs.Networks.{place_in}
+use Rattle.model_network.specs.Ports.{Port}
+use Rattle.model_network.specs.Links.{IsUp}
+use Rattle.model_network.specs.Kept.{IsClaimedOf}
 use Rattle.network_lab.specs.LabNets.{Seen}
 use Rattle.network_lab.specs.Agreements.{AreAgreeing, AreSweptAlike, HaveOneBody}
 

@@ -4,12 +4,12 @@ use Rattle.std.specs.Prelude.{◌≡◌, ℕ, Bool, true, ◌&&◌, not, List, O
 use Rattle.isis_base.specs.declared.level.Level.{Level}
 use Rattle.isis_base.specs.declared.level.Level.TheVariants as level
 use Rattle.isis_base.specs.Identifiers.{lsp_number}
-use Rattle.isis_model.specs.Both.{at}
-use Rattle.isis_model.specs.Books.{Book}
-use Rattle.isis_model.specs.SnpTable.{SnpEntry}
-use Rattle.isis_model.specs.Routers.{Circuit, Router, book_of}
-use Rattle.isis_model.specs.Events.{Message, Refused, PointHelloHeard, LanHelloHeard, LspHeard, SnpHeard}
-use Rattle.network_model.specs.Takings.{would_flag_any, would_flag_range}
+use Rattle.model_router.specs.Both.{at}
+use Rattle.model_router.specs.Books.{Book}
+use Rattle.model_router.specs.SnpTable.{SnpEntry}
+use Rattle.model_router.specs.Routers.{Circuit, Router, book_of}
+use Rattle.model_router.specs.Events.{Message, Refused, PointHelloHeard, LanHelloHeard, LspHeard, SnpHeard}
+use Rattle.model_network.specs.Takings.{would_flag_any, would_flag_range}
 use Rattle.network_lab.specs.declared.sent.Changes.{Changes}
 use Rattle.network_lab.specs.declared.sent.SentDatagram.{SentDatagram}
 use Rattle.network_lab.specs.declared.heard_range.CsnpRange.{CsnpRange}

@@ -1,13 +1,13 @@
 -- When each fault of a network of routers comes (own).
 use Rattle.std.specs.Prelude.{◌≡◌, ℕ, ◌≤◌, ◌<◌, nat_le, Bool, true, false, ◌||◌, List, [], ◌∷◌, length, take, Option, Some, None, IfSome}
-use Rattle.isis_model.specs.Places.{nth}
+use Rattle.model_router.specs.Places.{nth}
 use Rattle.router_core.specs.Givens.{given}
-use Rattle.network_model.specs.declared.word.PduWord.{PduWord}
-use Rattle.network_model.specs.Networks.{Network}
-use Rattle.network_model.specs.RunLines.{run_line}
-use Rattle.key_net.specs.declared.faults.LabFault.{LabFault}
-use Rattle.key_net.specs.declared.faults.LabFault.TheVariants as fault
-use Rattle.key_net.specs.declared.faults.LimitName.TheVariants as limit
+use Rattle.model_network.specs.declared.word.PduWord.{PduWord}
+use Rattle.model_network.specs.Networks.{Network}
+use Rattle.model_network.specs.RunLines.{run_line}
+use Rattle.lab_keys.specs.declared.faults.LabFault.{LabFault}
+use Rattle.lab_keys.specs.declared.faults.LabFault.TheVariants as fault
+use Rattle.lab_keys.specs.declared.faults.LimitName.TheVariants as limit
 use Rattle.router_desk.specs.declared.config.Config.{Config}
 use Rattle.network_lab.specs.declared.sent.SentDatagram.{SentDatagram}
 use Rattle.network_lab.specs.LabNets.{LabNet, circuit_count, sent_in}

@@ -1,20 +1,20 @@
 -- Events of a network of routers: what each does to the network that it stands for, and when it is
 -- refused (own).
 use Rattle.std.specs.Prelude.{◌≡◌, ℕ, ◌-◌, ◌<◌, ◌≤◌, ◌&&◌, not, nat_le, List, length, Option, Some, None, is_some, IfSome, if◌then◌else◌}
-use Rattle.isis_model.specs.Places.{nth}
-use Rattle.isis_model.specs.Maps.{find}
-use Rattle.isis_model.specs.Routers.{Router}
+use Rattle.model_router.specs.Places.{nth}
+use Rattle.model_router.specs.Maps.{find}
+use Rattle.model_router.specs.Routers.{Router}
 use Rattle.router_desk.specs.declared.config.Change.{Change}
 use Rattle.router_desk.specs.declared.config.Change.TheVariants as change
 use Rattle.router_desk.specs.Configs.{prefix_number}
 use Rattle.router_core.specs.Events.{IsThere}
 use Rattle.router_core.specs.Givens.{given}
-use Rattle.network_model.specs.Networks.{Network, place_at, numbered}
-use Rattle.network_model.specs.Runs as model
-use Rattle.network_model.specs.Runs.{Happening, Arrival, NotSent, NotOn, Arrives, arrival, apply}
-use Rattle.key_net.specs.declared.faults.LabFault.{LabFault}
-use Rattle.key_net.specs.declared.faults.LabFault.TheVariants as fault
-use Rattle.key_net.specs.declared.faults.LimitName.TheVariants as limit
+use Rattle.model_network.specs.Networks.{Network, place_at, numbered}
+use Rattle.model_network.specs.Runs as model
+use Rattle.model_network.specs.Runs.{Happening, Arrival, NotSent, NotOn, Arrives, arrival, apply}
+use Rattle.lab_keys.specs.declared.faults.LabFault.{LabFault}
+use Rattle.lab_keys.specs.declared.faults.LabFault.TheVariants as fault
+use Rattle.lab_keys.specs.declared.faults.LimitName.TheVariants as limit
 use Rattle.network_lab.specs.declared.event.LabEvent.{LabEvent}
 use Rattle.network_lab.specs.declared.event.LabEvent.TheVariants as event
 use Rattle.network_lab.specs.declared.sent.SentDatagram.{SentDatagram}

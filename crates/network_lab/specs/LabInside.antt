@@ -1,15 +1,15 @@
 -- How a network of routers lies in memory (own).
 use Rattle.std.specs.Prelude.{◌≡◌, ℕ, ◌≤◌, ◌<◌, true, false, List, [], map, length, unwrap_or, Some, None}
 use Rattle.std.specs.List.{AllByRecursion}
-use Rattle.isis_model.specs.Places.{nth}
-use Rattle.isis_model.specs.Routers.{Router}
-use Rattle.isis_model.specs.Numbers.{system_id, system_number}
+use Rattle.model_router.specs.Places.{nth}
+use Rattle.model_router.specs.Routers.{Router}
+use Rattle.model_router.specs.Numbers.{system_id, system_number}
 use Rattle.router_desk.specs.declared.config.Config.{Config}
 use Rattle.router_desk.specs.Limits.{IsValid}
 use Rattle.router_core.specs.Reached.{IsReached}
-use Rattle.network_model.specs.declared.end.End.{End}
-use Rattle.network_model.specs.Networks.{place_in}
-use Rattle.network_model.specs.RunLines.{by_router, link_of}
+use Rattle.model_network.specs.declared.end.End.{End}
+use Rattle.model_network.specs.Networks.{place_in}
+use Rattle.model_network.specs.RunLines.{by_router, link_of}
 use Rattle.network_lab.specs.declared.network.Network.TheInside.{Inside}
 use Rattle.network_lab.specs.LabNets.{Seen, LabNet, nothing_noted, router_of, AreDistinct, systems_of}
 use Rattle.network_lab.specs.Reached.{AreSmall, HasRun}

@@ -3,16 +3,16 @@ use Rattle.std.specs.Prelude.{◌≡◌, ◌≢◌, ℕ, ◌-◌, Bool, false, L
 use Rattle.std.specs.List.{AllByRecursion}
 use Rattle.isis_base.specs.declared.level.CircuitKind.{CircuitKind}
 use Rattle.isis_base.specs.declared.level.CircuitKind.TheVariants.{PointToPoint, Lan}
-use Rattle.isis_model.specs.Both.{Both}
-use Rattle.isis_model.specs.Places.{nth, with_nth}
-use Rattle.isis_model.specs.Routers.{Router}
-use Rattle.isis_model.specs.Starts.{start}
+use Rattle.model_router.specs.Both.{Both}
+use Rattle.model_router.specs.Places.{nth, with_nth}
+use Rattle.model_router.specs.Routers.{Router}
+use Rattle.model_router.specs.Starts.{start}
 use Rattle.router_desk.specs.declared.circuit_config.CircuitConfig.{CircuitConfig}
 use Rattle.router_desk.specs.declared.config.Config.{Config}
 use Rattle.router_desk.specs.Configs.{config_of, circuits_of}
-use Rattle.network_model.specs.declared.end.End.{End}
-use Rattle.network_model.specs.Networks.{Datagram, octets_of, Network}
-use Rattle.key_net.specs.declared.faults.LabFault.{LabFault}
+use Rattle.model_network.specs.declared.end.End.{End}
+use Rattle.model_network.specs.Networks.{Datagram, octets_of, Network}
+use Rattle.lab_keys.specs.declared.faults.LabFault.{LabFault}
 use Rattle.network_lab.specs.declared.notes.Notes.{Notes}
 use Rattle.network_lab.specs.declared.sent.Changes.{Changes}
 use Rattle.network_lab.specs.declared.sent.SentDatagram.{SentDatagram}

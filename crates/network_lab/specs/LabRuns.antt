@@ -1,13 +1,13 @@
 -- How a part of a line `run` ends (own).
 use Rattle.std.specs.Prelude.{◌≡◌, ℕ, ◌==◌, ◌||◌, Option, Some, None, Result, IfErr, OnOk, if◌then◌else◌}
 use Rattle.router_core.specs.Givens.{given}
-use Rattle.network_model.specs.declared.word.PduWord.{PduWord}
-use Rattle.network_model.specs.Networks.{Network, numbered}
-use Rattle.network_model.specs.Runs.{Tick, Deliver, apply}
-use Rattle.network_model.specs.RunLines.{is_excepted, where_found, deliver_one, pull_links, links_at}
+use Rattle.model_network.specs.declared.word.PduWord.{PduWord}
+use Rattle.model_network.specs.Networks.{Network, numbered}
+use Rattle.model_network.specs.Runs.{Tick, Deliver, apply}
+use Rattle.model_network.specs.RunLines.{is_excepted, where_found, deliver_one, pull_links, links_at}
 use Rattle.network_lab.specs.declared.event.LabEvent.{LabEvent}
 use Rattle.network_lab.specs.declared.event.LabEvent.TheVariants as event
-use Rattle.key_net.specs.declared.faults.LabFault.{LabFault}
+use Rattle.lab_keys.specs.declared.faults.LabFault.{LabFault}
 use Rattle.network_lab.specs.LabNets.{LabNet, StandsFor, sent_in}
 use Rattle.network_lab.specs.LabSteps.{SameSize, StopCause}
 

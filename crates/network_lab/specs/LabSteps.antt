@@ -1,22 +1,22 @@
 -- What an event does to what is seen of a network, and how a call that carries it out ends (own).
 use Rattle.std.specs.Prelude.{◌≡◌, ℕ, ◌==◌, true, List, ◌++◌, map, length, Option, Some, None, Result, Ok, Err, IfErr, OnOk, if◌then◌else◌}
-use Rattle.isis_model.specs.Places.{with_nth}
-use Rattle.isis_model.specs.Routers.{Router}
-use Rattle.isis_model.specs.Events.{Event}
-use Rattle.isis_model.specs.Steps.{step}
-use Rattle.isis_model.specs.AdjacencyLaws.{place_of}
+use Rattle.model_router.specs.Places.{with_nth}
+use Rattle.model_router.specs.Routers.{Router}
+use Rattle.model_router.specs.Events.{Event}
+use Rattle.model_router.specs.Steps.{step}
+use Rattle.model_router.specs.AdjacencyLaws.{place_of}
 use Rattle.router_desk.specs.declared.circuit_config.CircuitConfig.{CircuitConfig}
 use Rattle.router_desk.specs.declared.config.Config.{Config}
 use Rattle.router_core.specs.Givens.{given}
-use Rattle.network_model.specs.Networks.{Network}
-use Rattle.network_model.specs.Runs.{posted}
+use Rattle.model_network.specs.Networks.{Network}
+use Rattle.model_network.specs.Runs.{posted}
 use Rattle.network_lab.specs.declared.sent.Changes.{Changes}
 use Rattle.network_lab.specs.declared.sent.SentDatagram.{SentDatagram}
 use Rattle.network_lab.specs.declared.heard_range.HeardRange.{HeardRange}
 use Rattle.network_lab.specs.declared.event.LabEvent.{LabEvent}
-use Rattle.key_net.specs.declared.faults.LabFault.{LabFault}
-use Rattle.key_net.specs.declared.faults.LabFault.TheVariants as fault
-use Rattle.key_net.specs.declared.faults.LimitName.TheVariants as limit
+use Rattle.lab_keys.specs.declared.faults.LabFault.{LabFault}
+use Rattle.lab_keys.specs.declared.faults.LabFault.TheVariants as fault
+use Rattle.lab_keys.specs.declared.faults.LimitName.TheVariants as limit
 use Rattle.network_lab.specs.LabNets.{Seen, LabNet, StandsFor, sent_of, sent_in}
 use Rattle.network_lab.specs.LabConfigs.{configs_after}
 use Rattle.network_lab.specs.LabTakings.{noted_in}

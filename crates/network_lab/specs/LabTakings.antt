@@ -2,13 +2,13 @@
 -- words: own).
 use Rattle.std.specs.Prelude.{◌≡◌, ℕ, ◌==◌, Bool, true, false, ◌&&◌, List, [], ◌∷◌, ◌++◌, Option, Some, None, if◌then◌else◌}
 use Rattle.isis_base.specs.Identifiers.{lsp_number}
-use Rattle.isis_model.specs.Routers.{Router, book_of}
-use Rattle.isis_model.specs.Events.{Reply, Done, Dropped, Send, Outcome}
-use Rattle.isis_model.specs.Steps.{step}
+use Rattle.model_router.specs.Routers.{Router, book_of}
+use Rattle.model_router.specs.Events.{Reply, Done, Dropped, Send, Outcome}
+use Rattle.model_router.specs.Steps.{step}
 use Rattle.router_core.specs.Givens.{given}
-use Rattle.network_model.specs.Networks.{Datagram, Taking}
-use Rattle.network_model.specs.Runs.{changes_of, taking, ranges_in}
-use Rattle.lan_sweeps.specs.Sweeps.{taking_at}
+use Rattle.model_network.specs.Networks.{Datagram, Taking}
+use Rattle.model_network.specs.Runs.{changes_of, taking, ranges_in}
+use Rattle.lab_facts.specs.Sweeps.{taking_at}
 use Rattle.network_lab.specs.declared.notes.Notes.{Notes}
 use Rattle.network_lab.specs.declared.sent.Changes.{Changes}
 use Rattle.network_lab.specs.declared.sent.SentDatagram.{SentDatagram}

@@ -3,16 +3,16 @@
 use Rattle.std.specs.Prelude.{ℕ, ◌-◌, ◌^◌, ◌==◌, nat_lt, Bool, false, ◌&&◌, not, List, [], ◌∷◌, Option, Some, None, is_some, if◌then◌else◌}
 use Rattle.std.specs.Option.{option_map}
 use Rattle.isis_base.specs.declared.level.Level.{Level}
-use Rattle.isis_model.specs.Numbers.{system_id}
-use Rattle.isis_model.specs.Both.{at}
-use Rattle.isis_model.specs.Places.{nth}
-use Rattle.isis_model.specs.Routers.{Circuit, Router, book_of}
+use Rattle.model_router.specs.Numbers.{system_id}
+use Rattle.model_router.specs.Both.{at}
+use Rattle.model_router.specs.Places.{nth}
+use Rattle.model_router.specs.Routers.{Circuit, Router, book_of}
 use Rattle.router_core.specs.Designated.{designated_system}
-use Rattle.network_model.specs.declared.end.End.{End}
-use Rattle.network_model.specs.Networks.{Taking, place_in}
-use Rattle.network_model.specs.RunLines.{ends_of}
-use Rattle.lan_sweeps.specs.declared.key.SweepKey.{SweepKey}
-use Rattle.lan_sweeps.specs.Sweeps.{is_whole}
+use Rattle.model_network.specs.declared.end.End.{End}
+use Rattle.model_network.specs.Networks.{Taking, place_in}
+use Rattle.model_network.specs.RunLines.{ends_of}
+use Rattle.lab_facts.specs.declared.key.SweepKey.{SweepKey}
+use Rattle.lab_facts.specs.Sweeps.{is_whole}
 use Rattle.network_lab.specs.declared.lan_state.LanState.{LanState}
 use Rattle.network_lab.specs.LabNets.{Seen}
 

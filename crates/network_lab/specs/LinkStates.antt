@@ -2,14 +2,14 @@
 use Rattle.std.specs.Prelude.{◌≡◌, ℕ, ◌+◌, ◌≤◌, ◌==◌, Bool, true, false, ◌&&◌, List, [], ◌∷◌, ◌++◌, map, slice_index, Option, Some, None, if◌then◌else◌}
 use Rattle.std.specs.List.{flat_map}
 use Rattle.isis_base.specs.declared.level.Level.{Level}
-use Rattle.isis_model.specs.Both.{at}
-use Rattle.isis_model.specs.Places.{nth}
-use Rattle.isis_model.specs.Routers.{Router}
-use Rattle.isis_model.specs.AdjacencyLaws.{is_point}
-use Rattle.network_model.specs.declared.end.End.{End}
-use Rattle.link_states.specs.declared.state.LinkState.{LinkState}
-use Rattle.link_states.specs.LinkStates.{state_of, no_state}
-use Rattle.link_states.specs.Grouped.{groups_of}
+use Rattle.model_router.specs.Both.{at}
+use Rattle.model_router.specs.Places.{nth}
+use Rattle.model_router.specs.Routers.{Router}
+use Rattle.model_router.specs.AdjacencyLaws.{is_point}
+use Rattle.model_network.specs.declared.end.End.{End}
+use Rattle.lab_facts.specs.declared.state.LinkState.{LinkState}
+use Rattle.lab_facts.specs.LinkStates.{state_of, no_state}
+use Rattle.lab_facts.specs.Grouped.{groups_of}
 use Rattle.network_lab.specs.LabNets.{Seen}
 use Rattle.network_lab.specs.LanStates.{sweeper_at}
 

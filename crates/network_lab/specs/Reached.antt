@@ -1,17 +1,17 @@
 -- Networks of the model in their run: their routers are such as can be reached (own).
 use Rattle.std.specs.Prelude.{◌≡◌, ℕ, ◌<◌, List, [], ◌∷◌, Some, IfSome}
 use Rattle.std.specs.List.{AllByRecursion}
-use Rattle.isis_model.specs.Places.{nth}
+use Rattle.model_router.specs.Places.{nth}
 use Rattle.isis_base.specs.declared.level.Level.{Level}
-use Rattle.isis_model.specs.Routers.{Router, book_of}
+use Rattle.model_router.specs.Routers.{Router, book_of}
 use Rattle.router_core.specs.Events.{FitsPrefix}
 use Rattle.router_core.specs.Givens.{given}
 use Rattle.router_core.specs.Reached.{IsReached}
-use Rattle.network_model.specs.Networks.{Network}
-use Rattle.network_model.specs.Runs.{Happening, Tick, PullOn, Deliver, Restart, SetMetric, SetOverload, SetPrefix, Inject, apply}
-use Rattle.network_model.specs.Kept.{IsKeptNet}
-use Rattle.network_agreement.specs.Origins.{HaveOrigins}
-use Rattle.network_agreement.specs.Sweeps.{AreTrue, AreAgreed}
+use Rattle.model_network.specs.Networks.{Network}
+use Rattle.model_network.specs.Runs.{Happening, Tick, PullOn, Deliver, Restart, SetMetric, SetOverload, SetPrefix, Inject, apply}
+use Rattle.model_network.specs.Kept.{IsKeptNet}
+use Rattle.model_network.specs.Origins.{HaveOrigins}
+use Rattle.model_network.specs.Sweeps.{AreTrue, AreAgreed}
 use Rattle.network_lab.specs.declared.sent.SentDatagram.{SentDatagram}
 use Rattle.network_lab.specs.LabNets.{Seen, seen_of}
 

@@ -1,12 +1,12 @@
 //! One event of a network of routers.
 ghost use Rattle.std.specs.Prelude.{◌≡◌, ◌-◌, ◌<◌, ◌≤◌, None, length, Some, Err, Ok, IfSome, IfErr, OnOk, OnErr, MatchOption, true};
 ghost use Rattle.std.specs.Option.{option_map};
-ghost use Rattle.isis_model.specs.Places.{nth, with_nth};
+ghost use Rattle.model_router.specs.Places.{nth, with_nth};
 ghost use Rattle.router_core.specs.Events.{event_of, Fits, IsThere};
-ghost use Rattle.network_model.specs.Networks.{Network as ModelNetwork, place_in, numbered};
-ghost use Rattle.network_model.specs.Runs.{taking};
+ghost use Rattle.model_network.specs.Networks.{Network as ModelNetwork, place_in, numbered};
+ghost use Rattle.model_network.specs.Runs.{taking};
 ghost use Rattle.network_lab.specs.declared.event.LabEvent.TheVariants as event;
-ghost use Rattle.key_net.specs.declared.faults.LabFault.TheVariants.{OutOfMemory};
+ghost use Rattle.lab_keys.specs.declared.faults.LabFault.TheVariants.{OutOfMemory};
 ghost use Rattle.network_lab.specs.LabNets.{StandsFor};
 ghost use Rattle.network_lab.specs.LabEvents.{IsEvent, IsChange, refusal, after, unless_changes, ApplyCause};
 ghost use Rattle.network_lab.specs.LabConfigs.{configs_after};
@@ -22,7 +22,7 @@ use crate::network::Network;
 use crate::places::{one_more, place_at, put_at};
 use crate::taking::{restart_at, take_at, taking_at};
 use isis_base::Octets;
-use key_net::{LabFault, LimitName};
+use lab_keys::{LabFault, LimitName};
 use router_core::{NodeEvent, Router};
 use router_desk::{Change, Config};
 

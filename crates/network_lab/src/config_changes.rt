@@ -1,7 +1,7 @@
 //! Configurations with the changes of a run.
 ghost use Rattle.std.specs.Prelude.{◌≡◌, ◌-◌, ◌++◌, ◌∷◌, ◌&&◌, ◌==◌, List, ℕ, OnOk, IfOk};
 ghost use Rattle.isis_base.specs.declared.prefix.Prefix.{Prefix as APrefix};
-ghost use Rattle.isis_model.specs.Places.{nth};
+ghost use Rattle.model_router.specs.Places.{nth};
 ghost use Rattle.network_lab.specs.LabNets.{at_circuit};
 ghost use Rattle.network_lab.specs.LabConfigs as after;
 ghost use Rattle.network_lab.specs.LabConfigs.{config_after};

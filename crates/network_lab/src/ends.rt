@@ -1,7 +1,7 @@
 //! The circuits of routers and the ends of links, as a run goes through them.
 ghost use Rattle.std.specs.Prelude.{◌≡◌, ◌<◌, ◌≤◌, length, IfSome};
-ghost use Rattle.isis_model.specs.Places.{nth};
-ghost use Rattle.network_model.specs.RunLines.{circuit_count, link_of as link_at, by_router, ends_of};
+ghost use Rattle.model_router.specs.Places.{nth};
+ghost use Rattle.model_network.specs.RunLines.{circuit_count, link_of as link_at, by_router, ends_of};
 
 use crate::network::Network;
 use crate::places::{count_at, number_at};

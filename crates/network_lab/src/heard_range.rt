@@ -1,6 +1,6 @@
 //! A range of a CSNP that a router hears on a LAN.
 use isis_base::{Level, LspId};
-use lan_sweeps::SweepKey;
+use lab_facts::SweepKey;
 
 /// The range of a CSNP of a level.
 #[derive(Clone, Copy, Debug)]

@@ -1,11 +1,11 @@
 //! What becomes of the routers that a link or LAN joins.
 ghost use Rattle.std.specs.Prelude.{◌≡◌, ◌<◌, ◌≤◌, ◌-◌, length, map, false, IfOk, OnOk};
 ghost use Rattle.std.specs.List.{AllByRecursion, insert};
-ghost use Rattle.isis_model.specs.Places.{nth};
+ghost use Rattle.model_router.specs.Places.{nth};
 ghost use Rattle.router_desk.specs.Limits.{IsValid};
-ghost use Rattle.network_model.specs.declared.end.End.{End as ModelEnd};
-ghost use Rattle.network_model.specs.RunLines.{by_router};
-ghost use Rattle.network_model.specs.RunLines as line;
+ghost use Rattle.model_network.specs.declared.end.End.{End as ModelEnd};
+ghost use Rattle.model_network.specs.RunLines.{by_router};
+ghost use Rattle.model_network.specs.RunLines as line;
 ghost use Rattle.network_lab.specs.LabNets.{circuit_count, new_circuit, next_end, with_circuit, router_of};
 ghost use Rattle.router_core.specs.Reached.{IsReached};
 ghost use Rattle.network_lab.specs.LabCauses as cause;
@@ -15,7 +15,7 @@ use crate::places::put_at;
 use crate::row::Row;
 use crate::setup::{Setup, put_setup, setup_of};
 use isis_base::{CircuitKind, OutOfMemory};
-use network_model::End;
+use model_network::End;
 use router_core::Router;
 use router_desk::{CircuitConfig, Config};
 use std::alloc::Global;

@@ -1,19 +1,19 @@
 //! How the members of LANs stand.
 ghost use Rattle.std.specs.Prelude.{◌≡◌, ◌-◌, ◌==◌, ◌<◌, true, length, Some, IfSome, IsSome};
 ghost use Rattle.std.specs.Option.{option_map};
-ghost use Rattle.isis_model.specs.Numbers.{system_id, system_number};
-ghost use Rattle.isis_model.specs.Places.{nth};
+ghost use Rattle.model_router.specs.Numbers.{system_id, system_number};
+ghost use Rattle.model_router.specs.Places.{nth};
 ghost use Rattle.router_core.specs.Events.{IsThere};
-ghost use Rattle.network_model.specs.Networks.{place_in};
+ghost use Rattle.model_network.specs.Networks.{place_in};
 ghost use Rattle.network_lab.specs.LanStates as state;
 ghost use Rattle.network_lab.specs.LanStates.{lan_state_at, sees_at, sweeper_at, swept_by, router_in as router_among};
 
 use crate::lan_state::LanState;
 use crate::network::Network;
 use isis_base::{Level, SystemId};
-use isis_model::laws::identifiers::system_law;
-use lan_sweeps::SweepKey;
-use network_model::End;
+use lab_facts::SweepKey;
+use model_network::End;
+use model_router::laws::identifiers::system_law;
 use router_core::Router;
 
 impl Network {

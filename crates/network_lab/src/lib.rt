@@ -1,6 +1,6 @@
 //! The network of routers under a schedule: an event steps one router, what that sends joins the datagrams,
 //! and any datagram is delivered at any later moment, any number of times. It stands for the run of
-//! network_model (own). The plain network of numbered copies is key_net's.
+//! model_network (own). The plain network of numbered copies is lab_keys's.
 //!
 //! - `network.rt`: the network of routers, and what is read of it; `event.rt`, `sent.rt`: its events and datagrams
 //! - `laws.rt`: what holds of every network
@@ -34,10 +34,10 @@ mod states;
 mod taking;
 
 pub use event::LabEvent;
-pub use key_net::{KeyNet, LINK_LIMIT, LabFault, LimitName, ROUTER_LIMIT};
+pub use lab_facts::{Groups, LinkState};
+pub use lab_keys::{KeyNet, LINK_LIMIT, LabFault, LimitName, ROUTER_LIMIT};
 pub use lan_state::LanState;
-pub use link_states::{Groups, LinkState};
+pub use model_network::PduWord;
 pub use network::Network;
-pub use network_model::PduWord;
 pub use router_core::Router;
 pub use sent::{Changes, SentDatagram};

@@ -1,6 +1,5 @@
 //! What is noted of a network's run.
-use lan_sweeps::Sweeps;
-use own_histories::Histories;
+use lab_facts::{Histories, Sweeps};
 
 /// The states that routers were in after the events that they took, with what they held live of their own LSP IDs, and the
 /// ranges of CSNPs that they took cleanly on LANs.

@@ -1,17 +1,17 @@
 //! Where things stand in lists: an end on a link, a router's boot, and a value that is put in.
 ghost use Rattle.std.specs.Prelude.{◌≡◌, ◌<◌, length};
-ghost use Rattle.isis_model.specs.Places.{nth, with_nth};
+ghost use Rattle.model_router.specs.Places.{nth, with_nth};
 ghost use Rattle.std.specs.Option.{option_copied};
-ghost use Rattle.isis_model.specs.Books.{risen};
-ghost use Rattle.network_model.specs.Networks.{place_on as place_among, place_in, numbered};
-ghost use Rattle.network_model.specs.RunLines.{ends_of};
-ghost use Rattle.network_model.specs.Runs.{boot_of};
+ghost use Rattle.model_router.specs.Books.{risen};
+ghost use Rattle.model_network.specs.Networks.{place_on as place_among, place_in, numbered};
+ghost use Rattle.model_network.specs.RunLines.{ends_of};
+ghost use Rattle.model_network.specs.Runs.{boot_of};
 ghost use Rattle.network_lab.specs.LabTakings.{counts_at};
 
 use crate::row::Row;
 use crate::sent::{Changes, SentDatagram};
 use isis_base::Level;
-use network_model::End;
+use model_network::End;
 use router_core::Router;
 
 /// The place of a router's circuit among ends.

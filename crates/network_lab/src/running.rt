@@ -1,10 +1,10 @@
 //! A line `run` of a network of routers: seconds in which all that is sent is delivered at once.
 ghost use Rattle.std.specs.Prelude.{◌≡◌, ◌-◌, ◌+◌, ◌<◌, ◌≤◌, ◌||◌, ◌==◌, [], None, Some, Err, length, option_copied, IfSome, IfErr, OnOk};
-ghost use Rattle.isis_model.specs.Places.{nth};
+ghost use Rattle.model_router.specs.Places.{nth};
 ghost use Rattle.router_core.specs.Givens.{given};
-ghost use Rattle.network_model.specs.Networks.{Network as ModelNetwork};
-ghost use Rattle.network_model.specs.RunLines as line;
-ghost use Rattle.network_model.specs.RunLines.{run_line};
+ghost use Rattle.model_network.specs.Networks.{Network as ModelNetwork};
+ghost use Rattle.model_network.specs.RunLines as line;
+ghost use Rattle.model_network.specs.RunLines.{run_line};
 ghost use Rattle.network_lab.specs.LabNets.{StandsFor};
 ghost use Rattle.network_lab.specs.LabEvents.{IsEvent, after};
 ghost use Rattle.network_lab.specs.LabCauses.{RunCause};
@@ -13,8 +13,8 @@ ghost use Rattle.network_lab.specs.LabRuns.{RunEnding, IsOfRun, tick_unless, pul
 
 use crate::event::LabEvent;
 use crate::network::Network;
-use key_net::LabFault;
-use network_model::PduWord;
+use lab_keys::LabFault;
+use model_network::PduWord;
 
 /// What a line `run` leaves out: PDUs of a kind aren't delivered, and a router has no seconds, no
 /// pulls and no deliveries.

@@ -1,18 +1,18 @@
 //! How the links of a network stand, and which routers agree.
 ghost use Rattle.std.specs.Prelude.{◌≡◌, ◌<◌, ◌+◌, ◌++◌, drop, length, Some, None, IfSome, IfOk, OnOk};
 ghost use Rattle.std.specs.List.{flat_map};
-ghost use Rattle.isis_model.specs.Places.{nth};
+ghost use Rattle.model_router.specs.Places.{nth};
 ghost use Rattle.router_desk.specs.Desks as desk;
 ghost use Rattle.router_core.specs.Events.{IsThere};
-ghost use Rattle.link_states.specs.LinkStates.{no_state as no_link_state};
+ghost use Rattle.lab_facts.specs.LinkStates.{no_state as no_link_state};
 ghost use Rattle.network_lab.specs.Claims.{IsEndIn};
 ghost use Rattle.network_lab.specs.LinkStates as state;
 ghost use Rattle.network_lab.specs.LinkStates.{state_at, groups_at, IsWithin};
 
 use crate::network::Network;
 use isis_base::{CircuitKind, Level, OutOfMemory};
-use link_states::{Groups, LinkState, joined_groups, link_state};
-use network_model::End;
+use lab_facts::{Groups, LinkState, joined_groups, link_state};
+use model_network::End;
 use router_core::Router;
 
 impl Network {

@@ -1,16 +1,16 @@
 //! A router of a list takes an event, and what it sends joins what was sent.
 ghost use Rattle.std.specs.Prelude.{◌≡◌, ℕ, ◌+◌, ◌-◌, ◌<◌, ◌≤◌, ◌∷◌, ◌++◌, ◌==◌, ◌&&◌, not, map, length, Some, IfSome, IfOk, IfErr, OnOk, OnErr};
-ghost use Rattle.isis_model.specs.Places.{nth, with_nth};
-ghost use Rattle.isis_model.specs.Routers as model;
-ghost use Rattle.isis_model.specs.Routers.{book_of};
-ghost use Rattle.isis_model.specs.Events as events;
-ghost use Rattle.isis_model.specs.Steps.{step};
-ghost use Rattle.isis_model.specs.AdjacencyLaws.{place_of};
+ghost use Rattle.model_router.specs.Places.{nth, with_nth};
+ghost use Rattle.model_router.specs.Routers as model;
+ghost use Rattle.model_router.specs.Routers.{book_of};
+ghost use Rattle.model_router.specs.Events as events;
+ghost use Rattle.model_router.specs.Steps.{step};
+ghost use Rattle.model_router.specs.AdjacencyLaws.{place_of};
 ghost use Rattle.router_core.specs.Events.{event_of, Fits, IsThere};
 ghost use Rattle.router_core.specs.Givens.{given};
 ghost use Rattle.router_core.specs.Replies.{Answers};
-ghost use Rattle.network_model.specs.Networks.{restarted};
-ghost use Rattle.network_model.specs.Runs.{taking, boot_of, posted, changes_of as counts_of_keys};
+ghost use Rattle.model_network.specs.Networks.{restarted};
+ghost use Rattle.model_network.specs.Runs.{taking, boot_of, posted, changes_of as counts_of_keys};
 ghost use Rattle.network_lab.specs.LabNets.{counts_in, sent_of};
 ghost use Rattle.network_lab.specs.LabTakings.{is_taken, kept_ranges, noted_in};
 ghost use Rattle.network_lab.specs.LabInside.{shapes_of};
@@ -23,10 +23,9 @@ use crate::places::{boot_at, changes_at, put_at};
 use crate::sent::{Changes, SentDatagram};
 use isis_base::laws::octets_law;
 use isis_base::{Level, Octets, OutOfMemory};
-use isis_model::laws::adjacencies::step_bonds;
-use key_net::{LabFault, LimitName};
-use lan_sweeps::Sweeps;
-use own_histories::Histories;
+use lab_facts::{Histories, Sweeps};
+use lab_keys::{LabFault, LimitName};
+use model_router::laws::adjacencies::step_bonds;
 use router_core::{NodeEvent, Reply, Router};
 use router_desk::laws::reading_law;
 

@@ -3,15 +3,15 @@ use Rattle.std.proofs.Common.{◌≡◌, Bool, true, false, if◌then◌else◌,
 use Rattle.std.proofs.lemmas.Bool.Decides.{nat_tests}
 use Rattle.std.proofs.lemmas.List.{append_assoc}
 use Rattle.std.specs.Option.{option_map}
-use Rattle.isis_model.specs.Maps.{find, put, erase, set_at, each}
-use Rattle.isis_model.specs.Sorted.{RisesFrom}
-use Rattle.isis_model.specs.Ranks.{is_live, is_purge}
-use Rattle.isis_model.specs.Cells.{Cell, flagged, purged}
-use Rattle.isis_model.specs.Books.{Book, cell_at, rank_of, rank_at, risen, set_cell}
-use Rattle.isis_model.specs.LetGos.{LetGo, let_go}
-use Rattle.isis_model.specs.Routers.{Issued, LevelState}
-use Rattle.isis_model.specs.Ageing.{less, aged, is_let_go, age_cell, age_one, age_all, age}
-use Rattle.isis_model.proofs.MapLemmas.{find-set_at, find-each}
+use Rattle.model_router.specs.Maps.{find, put, erase, set_at, each}
+use Rattle.model_router.specs.Sorted.{RisesFrom}
+use Rattle.model_router.specs.Ranks.{is_live, is_purge}
+use Rattle.model_router.specs.Cells.{Cell, flagged, purged}
+use Rattle.model_router.specs.Books.{Book, cell_at, rank_of, rank_at, risen, set_cell}
+use Rattle.model_router.specs.LetGos.{LetGo, let_go}
+use Rattle.model_router.specs.Routers.{Issued, LevelState}
+use Rattle.model_router.specs.Ageing.{less, aged, is_let_go, age_cell, age_one, age_all, age}
+use Rattle.model_router.proofs.MapLemmas.{find-set_at, find-each}
 use Rattle.flag_sync.specs.Ages.{less_left, over_from, first_of}
 use Rattle.purge_ageing.specs.Ids.{Rises}
 use Rattle.purge_ageing.specs.Ends.{state_of, ended, end_id, end_all, some_keyed}

@@ -5,7 +5,7 @@ use Rattle.std.specs.Result.{is_ok}
 use Rattle.std.proofs.lemmas.Bool.Decides.{nat_tests}
 use Rattle.isis_base.specs.declared.identifiers.LspId.{LspId}
 use Rattle.isis_base.specs.Identifiers.{lsp_number}
-use Rattle.isis_model.specs.LetGos.{LetGo, contains, with_id, lets_go, let_go}
+use Rattle.model_router.specs.LetGos.{LetGo, contains, with_id, lets_go, let_go}
 use Rattle.flag_sync.specs.Walks.{numbers_of}
 use Rattle.purge_ageing.specs.Ids.{Rises, AllAbove, IsPlace, IsGap, IsListed, gone_of}
 

@@ -3,12 +3,12 @@ use Rattle.std.proofs.Common.{◌≡◌, Bool, true, false, ℕ, ◌+◌, ◌<�
 use Rattle.std.specs.Option.{option_map}
 use Rattle.isis_base.specs.declared.identifiers.LspId.{LspId}
 use Rattle.isis_base.specs.Identifiers.{lsp_number}
-use Rattle.isis_model.specs.Cells.{Cell}
-use Rattle.isis_model.specs.Sorted.{RisesFrom}
-use Rattle.isis_model.specs.Books.{Book, rank_at}
-use Rattle.isis_model.specs.LetGos.{LetGo}
-use Rattle.isis_model.specs.Routers.{Issued, LevelState}
-use Rattle.isis_model.specs.Ageing.{age}
+use Rattle.model_router.specs.Cells.{Cell}
+use Rattle.model_router.specs.Sorted.{RisesFrom}
+use Rattle.model_router.specs.Books.{Book, rank_at}
+use Rattle.model_router.specs.LetGos.{LetGo}
+use Rattle.model_router.specs.Routers.{Issued, LevelState}
+use Rattle.model_router.specs.Ageing.{age}
 use Rattle.flag_sync.specs.Ages.{less_left, over_from, first_of}
 use Rattle.purge_ageing.specs.Ids.{Rises}
 use Rattle.purge_ageing.specs.Ends.{state_of, end_id, end_all, some_keyed}

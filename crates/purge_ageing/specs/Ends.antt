@@ -1,11 +1,11 @@
 -- A second of a level as two steps: a second less for all entries at once, and the end of those
 -- that have no seconds left (ISO 10589 7.3.16.3, 7.3.16.4; the form: own).
 use Rattle.std.specs.Prelude.{ℕ, nat_lt, Bool, false, ◌||◌, List, [], ◌∷◌, Option, Some, None, if◌then◌else◌}
-use Rattle.isis_model.specs.Ranks.{is_live, is_purge}
-use Rattle.isis_model.specs.Cells.{Cell, flagged, purged}
-use Rattle.isis_model.specs.Books.{Book, cell_at, rank_at, set_cell}
-use Rattle.isis_model.specs.LetGos.{LetGo, let_go}
-use Rattle.isis_model.specs.Routers.{Issued, LevelState}
+use Rattle.model_router.specs.Ranks.{is_live, is_purge}
+use Rattle.model_router.specs.Cells.{Cell, flagged, purged}
+use Rattle.model_router.specs.Books.{Book, cell_at, rank_at, set_cell}
+use Rattle.model_router.specs.LetGos.{LetGo, let_go}
+use Rattle.model_router.specs.Routers.{Issued, LevelState}
 
 -- a level's database, own LSPs and let-go LSP IDs
 abbrev pub state_of : Book → List (ℕ × Issued) → LetGo → LevelState

@@ -1,7 +1,7 @@
 //! LSP IDs in a sorted list: where one is, and how one is put in.
 ghost use Rattle.std.specs.Prelude.{◌≡◌, ◌<◌, length, MatchResult, vec_capacity};
 ghost use Rattle.isis_base.specs.Identifiers.{lsp_number};
-ghost use Rattle.isis_model.specs.LetGos.{with_id};
+ghost use Rattle.model_router.specs.LetGos.{with_id};
 ghost use Rattle.flag_sync.specs.Walks.{numbers_of};
 ghost use Rattle.purge_ageing.specs.Ids.{Rises, IsPlace, IsGap};
 

@@ -1,7 +1,7 @@
 //! The LSP IDs that a level let go.
 ghost use Rattle.std.specs.Prelude.{◌≡◌, ◌≤◌, length, [], IfOk, IfSome, MatchOption, Some, None, vec_capacity};
 ghost use Rattle.isis_base.specs.Identifiers.{lsp_number};
-ghost use Rattle.isis_model.specs.LetGos.{let_go, lets_go};
+ghost use Rattle.model_router.specs.LetGos.{let_go, lets_go};
 ghost use Rattle.flag_sync.specs.Walks.{numbers_of};
 ghost use Rattle.purge_ageing.specs.Ids.{Rises};
 
@@ -24,7 +24,7 @@ pub struct LetGo {
 
 impl Model for LetGo {
     ghost use Rattle.std.specs.Prelude.{vec_capacity};
-    ghost use Rattle.isis_model.specs.LetGos as model;
+    ghost use Rattle.model_router.specs.LetGos as model;
 
     ghost Value = { model.LetGo };
 

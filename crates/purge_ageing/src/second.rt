@@ -1,9 +1,9 @@
 //! A second of a level's entries.
 ghost use Rattle.std.specs.Prelude.{◌≡◌, ℕ, nat_lt, true, false, List};
 ghost use Rattle.isis_base.specs.Identifiers.{lsp_number};
-ghost use Rattle.isis_model.specs.Books.{rank_at};
-ghost use Rattle.isis_model.specs.Routers.{Issued};
-ghost use Rattle.isis_model.specs.Ageing as model;
+ghost use Rattle.model_router.specs.Books.{rank_at};
+ghost use Rattle.model_router.specs.Routers.{Issued};
+ghost use Rattle.model_router.specs.Ageing as model;
 ghost use Rattle.flag_sync.specs.BookStates.{book_of, SameCircuits};
 ghost use Rattle.purge_ageing.specs.Ends.{state_of, end_id};
 

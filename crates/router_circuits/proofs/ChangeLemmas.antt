@@ -1,13 +1,13 @@
 -- What became of adjacencies, and what the model says comes of it.
 use Rattle.std.proofs.Common.{◌≡◌, ℕ, Bool, true, false, not, ◌&&◌, nat_lt, eqb, ◌==◌, if◌then◌else◌, List, [], ◌∷◌, Option, Some, None, IfSome, IfOk, Result, Ok, IsSome, refl, sym, ap, subst, ◌∙◌, arith}
 use Rattle.std.proofs.lemmas.Bool.Decides.{nat_tests}
-use Rattle.isis_model.specs.Adjacencies as model
-use Rattle.isis_model.specs.Both.{Both, same_flag}
-use Rattle.isis_model.specs.Routers.{LanNeighbour, Circuit}
-use Rattle.isis_model.specs.Hellos.{is_moved, comes_up, minded, seen_so, point_circuit}
-use Rattle.isis_model.specs.Maps.{put}
-use Rattle.isis_model.proofs.BookLemmas.{choose}
-use Rattle.isis_model.specs.Seconds as seconds
+use Rattle.model_router.specs.Adjacencies as model
+use Rattle.model_router.specs.Both.{Both, same_flag}
+use Rattle.model_router.specs.Routers.{LanNeighbour, Circuit}
+use Rattle.model_router.specs.Hellos.{is_moved, comes_up, minded, seen_so, point_circuit}
+use Rattle.model_router.specs.Maps.{put}
+use Rattle.model_router.proofs.BookLemmas.{choose}
+use Rattle.model_router.specs.Seconds as seconds
 use Rattle.isis_tlv.specs.declared.three_way.Adj.TheVariants.{Up, Initializing, Down}
 use Rattle.adjacency.specs.declared.held.Held.{Held}
 use Rattle.adjacency.specs.declared.held.Held.TheVariants as held
@@ -21,11 +21,11 @@ use Rattle.adjacency.specs.Views as views
 use Rattle.isis_tlv.specs.declared.three_way.ThreeWay.{ThreeWay}
 use Rattle.isis_base.specs.declared.level.Level.{Level}
 use Rattle.isis_base.specs.declared.level.Level.TheVariants as level
-use Rattle.isis_model.specs.Configs.{Config}
-use Rattle.isis_model.specs.HelloTests.{hello_drop, shake_drop, full_drop, point_drop, lan_drop}
-use Rattle.isis_model.specs.Drops.{or_else}
-use Rattle.isis_model.specs.declared.drop_name.DropName.{DropName}
-use Rattle.isis_model.specs.declared.drop_name.DropName.TheVariants.{NoThreeWay}
+use Rattle.model_router.specs.Configs.{Config}
+use Rattle.model_router.specs.HelloTests.{hello_drop, shake_drop, full_drop, point_drop, lan_drop}
+use Rattle.model_router.specs.Drops.{or_else}
+use Rattle.model_router.specs.declared.drop_name.DropName.{DropName}
+use Rattle.model_router.specs.declared.drop_name.DropName.TheVariants.{NoThreeWay}
 use Rattle.router_circuits.specs.declared.greeted.Greeted.{Greeted}
 use Rattle.router_circuits.specs.Hellos.{IsGreeted, IsAlike, is_change, is_coming_up, is_one, with_due}
 use Rattle.router_circuits.specs.declared.medium.Medium.{Medium}

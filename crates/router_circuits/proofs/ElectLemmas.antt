@@ -3,11 +3,11 @@ use Rattle.std.proofs.Common.{◌≡◌, ℕ, suc, ◌+◌, ◌<◌, true, false
 use Rattle.std.specs.Option.{option_map}
 use Rattle.std.proofs.lemmas.Bool.Decides.{nat_tests}
 use Rattle.isis_base.specs.declared.level.Level.{Level}
-use Rattle.isis_model.specs.Adjacencies as model
-use Rattle.isis_model.specs.Both.{at}
-use Rattle.isis_model.specs.Configs.{Config}
-use Rattle.isis_model.specs.Routers.{LanNeighbour, Circuit, some_up}
-use Rattle.isis_model.specs.Elections as elections
+use Rattle.model_router.specs.Adjacencies as model
+use Rattle.model_router.specs.Both.{at}
+use Rattle.model_router.specs.Configs.{Config}
+use Rattle.model_router.specs.Routers.{LanNeighbour, Circuit, some_up}
+use Rattle.model_router.specs.Elections as elections
 use Rattle.adjacency.specs.Lans.{ups}
 use Rattle.adjacency.specs.Views.{neighbour_of}
 use Rattle.adjacency.specs.declared.neighbour.Neighbour.{Neighbour}

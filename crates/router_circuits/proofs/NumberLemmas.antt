@@ -2,7 +2,7 @@
 use Rattle.std.proofs.Common.{◌≡◌, ◌<◌, ◌/◌, ℕ, List, [], ◌∷◌, length, arith}
 use Rattle.isis_base.specs.declared.identifiers.NodeId.{NodeId}
 use Rattle.isis_base.specs.Identifiers.{lsp_number}
-use Rattle.isis_model.specs.Numbers.{node_number}
+use Rattle.model_router.specs.Numbers.{node_number}
 
 nodes : (xs : List ℕ) (p : ℕ) → length xs ≡ 6 → p < 256 → lsp_number (record { node = record { system = record { 0 = xs }; pseudonode = p }; number = 0 }) / 256 ≡ node_number (record { system = record { 0 = xs }; pseudonode = p })
 unfolding lsp_number

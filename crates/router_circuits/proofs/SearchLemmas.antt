@@ -6,16 +6,16 @@ use Rattle.std.specs.List.Sorted.{IsNonDecreasingBy}
 use Rattle.std.specs.Ordering.{nat_cmp, ordering_index}
 use Rattle.std.specs.declared.cmp.Ordering.TheVariants.{Less, Equal, Greater}
 use Rattle.std.proofs.lemmas.Bool.Decides.{nat_tests}
-use Rattle.isis_model.specs.Adjacencies as model
-use Rattle.isis_model.specs.Maps.{find}
-use Rattle.isis_model.specs.Receiving.{kept_system, up_system}
-use Rattle.isis_model.specs.Routers.{LanNeighbour}
-use Rattle.isis_model.specs.Sorted.{RisesFrom}
+use Rattle.model_router.specs.Adjacencies as model
+use Rattle.model_router.specs.Maps.{find}
+use Rattle.model_router.specs.Receiving.{kept_system, up_system}
+use Rattle.model_router.specs.Routers.{LanNeighbour}
+use Rattle.model_router.specs.Sorted.{RisesFrom}
 use Rattle.adjacency.specs.declared.neighbour.Neighbour.{Neighbour}
 use Rattle.adjacency.specs.Inside.{keyed, by_snpa, snpa_of}
 use Rattle.adjacency.specs.Lans.{AreHeard, neighbours, ups}
-use Rattle.isis_model.specs.Pulls.{snpas_of}
-use Rattle.isis_model.specs.Both.{Both, at}
+use Rattle.model_router.specs.Pulls.{snpas_of}
+use Rattle.model_router.specs.Both.{Both, at}
 use Rattle.isis_base.specs.declared.level.Level.{Level}
 use Rattle.isis_base.specs.declared.level.Level.TheVariants as level
 use Rattle.router_circuits.specs.declared.timers.Timers.{Timers}

@@ -1,10 +1,10 @@
 -- Who is designated on a LAN, and the senders of datagrams, by SNPA
 -- (ISO 10589 8.4.5; the form: own).
 use Rattle.std.specs.Prelude.{◌≡◌, ℕ, ◌<◌, length, slice_index_or, Some, List, [], ◌∷◌, if◌then◌else◌}
-use Rattle.isis_model.specs.Adjacencies.{Neighbour}
-use Rattle.isis_model.specs.Maps.{find}
-use Rattle.isis_model.specs.Elections as model
-use Rattle.isis_model.specs.Numbers.{system_number, snpa_number, node_number}
+use Rattle.model_router.specs.Adjacencies.{Neighbour}
+use Rattle.model_router.specs.Maps.{find}
+use Rattle.model_router.specs.Elections as model
+use Rattle.model_router.specs.Numbers.{system_number, snpa_number, node_number}
 use Rattle.adjacency.specs.Inside.{by_snpa}
 use Rattle.adjacency.specs.declared.neighbour.Neighbour as code
 use Rattle.router_circuits.specs.declared.designated.Designated.{Designated}

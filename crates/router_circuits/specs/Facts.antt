@@ -2,8 +2,8 @@
 use Rattle.std.specs.Prelude.{◌≡◌, ◌↔◌, true, false, [], None, IfSome}
 use Rattle.isis_base.specs.declared.level.Level.{Level}
 use Rattle.isis_tlv.specs.declared.three_way.Adj.TheVariants.{Down}
-use Rattle.isis_model.specs.Both.{at}
-use Rattle.isis_model.specs.Routers.{Circuit}
+use Rattle.model_router.specs.Both.{at}
+use Rattle.model_router.specs.Routers.{Circuit}
 use Rattle.adjacency.specs.Views.{point_down}
 use Rattle.adjacency.specs.Lans.{AreHeard}
 use Rattle.router_circuits.specs.Views.{IsSized, AllSized}

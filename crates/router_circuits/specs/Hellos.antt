@@ -2,14 +2,14 @@
 -- them (ISO 10589 8.2.4, 8.4.2; the form: own).
 use Rattle.std.specs.Prelude.{◌≡◌, ℕ, Bool, true, false, ◌&&◌, ◌||◌, not, ◌==◌, List, Option, Some, None}
 use Rattle.isis_base.specs.declared.level.Level.TheVariants as level
-use Rattle.isis_model.specs.Both.{Both, same_levels}
-use Rattle.isis_model.specs.Configs.{Config}
-use Rattle.isis_model.specs.Adjacencies.{Neighbour, Handshake, Hello, PointAdj, is_same, hear_point, point_open}
-use Rattle.isis_model.specs.Hellos.{comes_up, is_moved}
-use Rattle.isis_model.specs.Routers.{LanNeighbour}
-use Rattle.isis_model.specs.Seconds.{point_over, some_over, heard_less}
-use Rattle.isis_model.specs.Numbers.{system_number, snpa_number, node_number}
-use Rattle.isis_datagram.specs.Reading.{runs_of}
+use Rattle.model_router.specs.Both.{Both, same_levels}
+use Rattle.model_router.specs.Configs.{Config}
+use Rattle.model_router.specs.Adjacencies.{Neighbour, Handshake, Hello, PointAdj, is_same, hear_point, point_open}
+use Rattle.model_router.specs.Hellos.{comes_up, is_moved}
+use Rattle.model_router.specs.Routers.{LanNeighbour}
+use Rattle.model_router.specs.Seconds.{point_over, some_over, heard_less}
+use Rattle.model_router.specs.Numbers.{system_number, snpa_number, node_number}
+use Rattle.model_datagram.specs.Reading.{runs_of}
 use Rattle.adjacency.specs.declared.hello.Own.{Own}
 use Rattle.adjacency.specs.declared.hello.HelloFields.{HelloFields}
 use Rattle.adjacency.specs.declared.hello.AdjChange.{AdjChange}

@@ -2,11 +2,11 @@
 use Rattle.std.specs.Prelude.{◌≡◌, ℕ, ◌+◌, ◌^◌, ◌<◌, Bool, true, false, List, [], Option, Some, None}
 use Rattle.std.specs.List.{AllByRecursion}
 use Rattle.isis_base.specs.declared.identifiers.SystemId.{SystemId}
-use Rattle.isis_model.specs.Both.{Both}
-use Rattle.isis_model.specs.Configs.{Config}
-use Rattle.isis_model.specs.Adjacencies.{Neighbour, PointAdj}
-use Rattle.isis_model.specs.Routers.{LanNeighbour, CircuitLevel}
-use Rattle.isis_model.specs.Numbers.{system_number}
+use Rattle.model_router.specs.Both.{Both}
+use Rattle.model_router.specs.Configs.{Config}
+use Rattle.model_router.specs.Adjacencies.{Neighbour, PointAdj}
+use Rattle.model_router.specs.Routers.{LanNeighbour, CircuitLevel}
+use Rattle.model_router.specs.Numbers.{system_number}
 use Rattle.adjacency.specs.Views.{point_of, point_down}
 use Rattle.router_circuits.specs.declared.medium.Medium.{Medium}
 use Rattle.router_circuits.specs.declared.medium.Medium.TheVariants as medium

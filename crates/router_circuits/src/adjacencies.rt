@@ -1,8 +1,8 @@
 //! The calls of a circuit's adjacencies.
 ghost use Rattle.std.specs.Prelude.{◌≡◌, true, false, map, [], IfOk, MatchOption};
-ghost use Rattle.isis_model.specs.Both.{at};
+ghost use Rattle.model_router.specs.Both.{at};
 ghost use Rattle.router_desk.specs.Desks as desks;
-ghost use Rattle.isis_model.specs.Seconds.{heard_less, point_less, point_over, some_over};
+ghost use Rattle.model_router.specs.Seconds.{heard_less, point_less, point_over, some_over};
 ghost use Rattle.adjacency.specs.Views.{neighbour_of, point_of, point_down};
 ghost use Rattle.adjacency.specs.Lans.{AreHeard, neighbours, ups};
 ghost use Rattle.router_circuits.specs.Hellos.{both_less, is_change, is_over};

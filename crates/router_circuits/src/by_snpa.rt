@@ -1,9 +1,9 @@
 //! Neighbours in a list by SNPA.
 ghost use Rattle.std.specs.Prelude.{◌≡◌, MatchOption, None, Some};
-ghost use Rattle.isis_model.specs.Maps.{find};
-ghost use Rattle.isis_model.specs.Sorted.{RisesFrom};
+ghost use Rattle.model_router.specs.Maps.{find};
+ghost use Rattle.model_router.specs.Sorted.{RisesFrom};
 ghost use Rattle.adjacency.specs.Inside.{by_snpa};
-ghost use Rattle.isis_model.specs.Numbers.{snpa_number};
+ghost use Rattle.model_router.specs.Numbers.{snpa_number};
 ghost use Rattle.router_circuits.specs.Elections.{IsFound};
 
 use adjacency::Neighbour;

@@ -1,8 +1,8 @@
 //! A circuit.
 ghost use Rattle.std.specs.Prelude.{◌≡◌, true, false, [], map, IfOk, MatchOption};
 ghost use Rattle.std.specs.Option.{option_map};
-ghost use Rattle.isis_model.specs.Both.{at};
-ghost use Rattle.isis_model.specs.Pulls.{snpas_of};
+ghost use Rattle.model_router.specs.Both.{at};
+ghost use Rattle.model_router.specs.Pulls.{snpas_of};
 ghost use Rattle.adjacency.specs.Changes.{boot_of};
 ghost use Rattle.adjacency.specs.Inside.{snpa_of};
 ghost use Rattle.adjacency.specs.Lans.{AreHeard, neighbours, ups};
@@ -36,7 +36,7 @@ pub struct Circuit {
 }
 
 impl Model for Circuit {
-    ghost use Rattle.isis_model.specs.Routers as model;
+    ghost use Rattle.model_router.specs.Routers as model;
     ghost use Rattle.router_circuits.specs.Views.{AreSized, boots_in, heard_in, is_lan, levels_in, point_in};
 
     ghost Value = { model.Circuit };

@@ -1,11 +1,11 @@
 //! The counters of a circuit, and what is due on it.
 ghost use Rattle.std.specs.Prelude.{◌≡◌, ℕ, ◌==◌, List};
-ghost use Rattle.isis_model.specs.Both.{at};
-ghost use Rattle.isis_model.specs.Configs.{Config};
-ghost use Rattle.isis_model.specs.Elections as elections;
-ghost use Rattle.isis_model.specs.Pulls as pulls;
-ghost use Rattle.isis_model.specs.Routers.{LanNeighbour};
-ghost use Rattle.isis_model.specs.Seconds as seconds;
+ghost use Rattle.model_router.specs.Both.{at};
+ghost use Rattle.model_router.specs.Configs.{Config};
+ghost use Rattle.model_router.specs.Elections as elections;
+ghost use Rattle.model_router.specs.Pulls as pulls;
+ghost use Rattle.model_router.specs.Routers.{LanNeighbour};
+ghost use Rattle.model_router.specs.Seconds as seconds;
 ghost use Rattle.router_circuits.specs.Views.{IsHere, level_in};
 
 use crate::circuit::Circuit;

@@ -1,11 +1,11 @@
 //! Who is designated on a LAN.
 ghost use Rattle.std.specs.Prelude.{◌≡◌, ℕ, ◌+◌, ◌*◌, map, if◌then◌else◌};
 ghost use Rattle.std.specs.Option.{option_map};
-ghost use Rattle.isis_model.specs.Configs.{Config};
-ghost use Rattle.isis_model.specs.Elections as model;
-ghost use Rattle.isis_model.specs.Pulls.{lan_of};
-ghost use Rattle.isis_model.specs.Routers.{Router};
-ghost use Rattle.isis_model.specs.Numbers.{node_number, system_number};
+ghost use Rattle.model_router.specs.Configs.{Config};
+ghost use Rattle.model_router.specs.Elections as model;
+ghost use Rattle.model_router.specs.Pulls.{lan_of};
+ghost use Rattle.model_router.specs.Routers.{Router};
+ghost use Rattle.model_router.specs.Numbers.{node_number, system_number};
 ghost use Rattle.adjacency.specs.Views.{neighbour_of};
 ghost use Rattle.router_circuits.specs.Elections.{candidate_of, designated_of, elect, system_and_lan};
 ghost use Rattle.router_circuits.specs.Views.{IsHere};

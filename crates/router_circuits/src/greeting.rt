@@ -2,11 +2,11 @@
 ghost use Rattle.std.specs.Prelude.{◌≡◌, ◌&&◌, not, IfOk, IfSome, IsSome, OnErr, Some};
 ghost use Rattle.std.specs.Option.{option_map};
 ghost use Rattle.isis_base.specs.declared.level.Level.TheVariants as level;
-ghost use Rattle.isis_model.specs.Adjacencies as model;
-ghost use Rattle.isis_model.specs.Both as both;
-ghost use Rattle.isis_model.specs.Configs.{Config};
-ghost use Rattle.isis_model.specs.HelloTests.{point_drop};
-ghost use Rattle.isis_model.specs.Hellos.{minded};
+ghost use Rattle.model_router.specs.Adjacencies as model;
+ghost use Rattle.model_router.specs.Both as both;
+ghost use Rattle.model_router.specs.Configs.{Config};
+ghost use Rattle.model_router.specs.HelloTests.{point_drop};
+ghost use Rattle.model_router.specs.Hellos.{minded};
 ghost use Rattle.adjacency.specs.Changes.{IsTested};
 ghost use Rattle.adjacency.specs.Views.{neighbour_of, point_of, runs_of};
 ghost use Rattle.router_circuits.specs.Hellos.{IsGreeted, IsOwn, hello_of, is_change, is_coming_up, is_one};

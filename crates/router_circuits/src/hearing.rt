@@ -1,11 +1,11 @@
 //! Hellos that are heard on a circuit.
 ghost use Rattle.std.specs.Prelude.{◌≡◌, true, false, Bool, if◌then◌else◌, not, IfOk, IfSome, IsSome, OnErr};
-ghost use Rattle.isis_model.specs.Adjacencies as model;
-ghost use Rattle.isis_model.specs.Both.{alone, at, with_at};
-ghost use Rattle.isis_model.specs.Configs.{Config};
-ghost use Rattle.isis_model.specs.Hellos as hellos;
-ghost use Rattle.isis_model.specs.HelloTests.{lan_drop, point_drop};
-ghost use Rattle.isis_model.specs.Maps.{find};
+ghost use Rattle.model_router.specs.Adjacencies as model;
+ghost use Rattle.model_router.specs.Both.{alone, at, with_at};
+ghost use Rattle.model_router.specs.Configs.{Config};
+ghost use Rattle.model_router.specs.Hellos as hellos;
+ghost use Rattle.model_router.specs.HelloTests.{lan_drop, point_drop};
+ghost use Rattle.model_router.specs.Maps.{find};
 ghost use Rattle.adjacency.specs.Changes.{IsTested};
 ghost use Rattle.adjacency.specs.Lans as lans;
 ghost use Rattle.router_circuits.specs.Hellos.{hello_of, IsGreeted, IsOwn, with_due};

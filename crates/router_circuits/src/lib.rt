@@ -2,7 +2,7 @@
 //!
 //! ISO 10589 8.2.4 and 8.4.2 (hellos heard), 8.4.5 (the designated system of a LAN), 8.2.3 and
 //! 8.4.1 (hellos sent), 7.3.15.3, 7.3.15.4 and 7.3.17 (CSNPs and PSNPs), RFC 5303 3.2 (the
-//! three-way handshake). What each call does is what the router's model (isis_model) says of a
+//! three-way handshake). What each call does is what the router's model (model_router) says of a
 //! circuit. Own: the designated system is looked up where it is asked for, at once and without a
 //! wait; the CSNP counter stands at 0 where the router isn't designated; a circuit's number counts
 //! from 1. Beside `Circuit::new` and the copies only the first hello on a circuit takes memory.

@@ -1,6 +1,6 @@
 //! Node IDs as numbers.
 ghost use Rattle.std.specs.Prelude.{◌≡◌, ◌<◌, ◌^◌};
-ghost use Rattle.isis_model.specs.Numbers.{node_number};
+ghost use Rattle.model_router.specs.Numbers.{node_number};
 
 use isis_base::{LspId, NodeId};
 

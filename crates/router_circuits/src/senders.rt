@@ -1,11 +1,11 @@
 //! Of whom a datagram may come.
 ghost use Rattle.std.specs.Prelude.{◌≡◌, ℕ, List, map, Some};
 ghost use Rattle.std.specs.Option.{option_map};
-ghost use Rattle.isis_model.specs.Maps.{find};
-ghost use Rattle.isis_model.specs.Receiving as receiving;
-ghost use Rattle.isis_model.specs.Routers as routers;
-ghost use Rattle.isis_model.specs.Numbers.{snpa_number, system_number};
-ghost use Rattle.isis_model.specs.Sorted.{RisesFrom};
+ghost use Rattle.model_router.specs.Maps.{find};
+ghost use Rattle.model_router.specs.Receiving as receiving;
+ghost use Rattle.model_router.specs.Routers as routers;
+ghost use Rattle.model_router.specs.Numbers.{snpa_number, system_number};
+ghost use Rattle.model_router.specs.Sorted.{RisesFrom};
 ghost use Rattle.adjacency.specs.Inside.{by_snpa};
 ghost use Rattle.adjacency.specs.Lans.{AreHeard, ups};
 ghost use Rattle.adjacency.specs.Views.{neighbour_of, point_of};

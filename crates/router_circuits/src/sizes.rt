@@ -1,8 +1,8 @@
 //! The sizes of fields, and hellos in the model's words.
 ghost use Rattle.std.specs.Prelude.{◌≡◌, ℕ, ◌<◌, ◌^◌, Bool, IfSome};
-ghost use Rattle.isis_model.specs.Adjacencies as model;
-ghost use Rattle.isis_model.specs.Both.{Both};
-ghost use Rattle.isis_model.specs.Configs.{Config};
+ghost use Rattle.model_router.specs.Adjacencies as model;
+ghost use Rattle.model_router.specs.Both.{Both};
+ghost use Rattle.model_router.specs.Configs.{Config};
 ghost use Rattle.adjacency.specs.Views as views;
 ghost use Rattle.router_circuits.specs.Hellos.{IsAlike, IsOwn, hello_of};
 ghost use Rattle.router_circuits.specs.Views.{IsSized};

@@ -3,17 +3,17 @@ use Rattle.std.proofs.Common.{◌≡◌, ℕ, ◌+◌, ◌*◌, ◌%◌, ◌==�
 use Rattle.isis_base.specs.declared.level.Level.{Level}
 use Rattle.isis_base.specs.declared.entry.LspEntry.{LspEntry}
 use Rattle.isis_base.specs.Keys.{entry_rank}
-use Rattle.isis_model.specs.Cells.{Cell, Heard}
-use Rattle.isis_model.specs.Books.{Book, cell_at, rank_of}
-use Rattle.isis_model.specs.Datagrams.{Psnp}
-use Rattle.isis_model.specs.Events as model
-use Rattle.isis_model.specs.LspTable.{lsp_case, met, is_issued, is_unissued, is_newer, differs}
-use Rattle.isis_model.specs.Ranks.{is_purge, is_live}
-use Rattle.isis_model.specs.Receiving.{acks}
-use Rattle.isis_model.specs.Routers.{Circuit, Router}
-use Rattle.isis_model.specs.declared.lsp_case.LspCase.{LspCase}
-use Rattle.isis_model.specs.declared.lsp_case.LspCase.TheVariants as case
-use Rattle.isis_model.specs.declared.whose.Whose.{Whose}
+use Rattle.model_router.specs.Cells.{Cell, Heard}
+use Rattle.model_router.specs.Books.{Book, cell_at, rank_of}
+use Rattle.model_router.specs.Datagrams.{Psnp}
+use Rattle.model_router.specs.Events as model
+use Rattle.model_router.specs.LspTable.{lsp_case, met, is_issued, is_unissued, is_newer, differs}
+use Rattle.model_router.specs.Ranks.{is_purge, is_live}
+use Rattle.model_router.specs.Receiving.{acks}
+use Rattle.model_router.specs.Routers.{Circuit, Router}
+use Rattle.model_router.specs.declared.lsp_case.LspCase.{LspCase}
+use Rattle.model_router.specs.declared.lsp_case.LspCase.TheVariants as case
+use Rattle.model_router.specs.declared.whose.Whose.{Whose}
 use Rattle.flag_sync.specs.declared.heard.LspHeard.{LspHeard}
 use Rattle.flag_sync.specs.declared.heard.LspAnswer.TheVariants as answer
 use Rattle.flag_sync.specs.Heard.{answer_of}

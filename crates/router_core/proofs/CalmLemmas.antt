@@ -3,35 +3,35 @@ use Rattle.std.proofs.Common.{◌≡◌, ◌∙◌, ℕ, ◌==◌, nat_lt, Bool,
 use Rattle.std.proofs.lemmas.Bool.{cases_eq, eq-eqb, ne_eqb, eqb-true, and_parts}
 use Rattle.isis_base.specs.declared.level.Level.{Level}
 use Rattle.isis_base.specs.declared.level.Level.TheVariants as level
-use Rattle.isis_model.specs.declared.whose.Whose.{Whose}
-use Rattle.isis_model.specs.declared.drop_name.DropName.{DropName}
-use Rattle.isis_model.specs.declared.lsp_case.LspCase.{LspCase}
-use Rattle.isis_model.specs.declared.lsp_case.LspCase.TheVariants as lsp
-use Rattle.isis_model.specs.declared.snp_case.SnpCase.{SnpCase}
-use Rattle.isis_model.specs.declared.snp_case.SnpCase.TheVariants as snp
-use Rattle.isis_model.specs.Maps.{find, each}
-use Rattle.isis_model.specs.Sets.{has}
-use Rattle.isis_model.specs.Places.{nth}
-use Rattle.isis_model.specs.Ranks.{is_purge, is_live}
-use Rattle.isis_model.specs.Cells.{Cell, Heard}
-use Rattle.isis_model.specs.Books.{Book, cell_at, rank_of, checksum_of, set_cell, is_full}
-use Rattle.isis_model.specs.Deeds.{content_of}
-use Rattle.isis_model.specs.ContentLaws.{SameKey}
-use Rattle.isis_model.specs.LspTable.{is_issued, is_unissued, differs, is_newer, lsp_case, lsp_row, met, hear_lsp}
-use Rattle.isis_model.specs.SnpTable.{SnpEntry, snp_case, snp_row, is_missed, hear_entry, hear_range}
-use Rattle.isis_model.specs.Openings.{close, marked, open_up, set_open}
-use Rattle.isis_model.specs.Takes.{Scene, whose_of, lsp_taken, take_lsp, entry_taken, take_entry, take_entries, take_range, take_snp}
-use Rattle.isis_model.specs.Routers.{Circuit, LevelState, Router, level_of, book_of, with_level, with_circuit, is_open}
-use Rattle.isis_model.specs.Adjacencies.{Hello, Handshake, common_of, is_same}
-use Rattle.isis_model.specs.Hellos.{follow_circuit, follow, point_circuit, lan_circuit, take_point, take_lan}
-use Rattle.isis_model.specs.Givens.{Given}
-use Rattle.isis_model.specs.Both.{at, alone}
-use Rattle.isis_model.specs.SnpLists.{owed}
-use Rattle.isis_model.specs.Pulls.{Sending, on_circuit, at_circuit, pull_hello, is_csnp_due, pull_csnp, srm_due, sent, pull_lsps, answered, pull_psnp, pull_level, pull}
-use Rattle.isis_model.specs.Receiving.{scene_of, greeted, taken, take_or_drop, take, drop_of}
-use Rattle.isis_model.specs.Events.{Message, Refused, PointHelloHeard, LanHelloHeard, LspHeard, SnpHeard, Event, Second, Take, Pull, Metric, Overload, Prefix}
-use Rattle.isis_model.specs.Steps.{step, with_metric}
-use Rattle.isis_model.proofs.MapLemmas.{find-each, find-set_at}
+use Rattle.model_router.specs.declared.whose.Whose.{Whose}
+use Rattle.model_router.specs.declared.drop_name.DropName.{DropName}
+use Rattle.model_router.specs.declared.lsp_case.LspCase.{LspCase}
+use Rattle.model_router.specs.declared.lsp_case.LspCase.TheVariants as lsp
+use Rattle.model_router.specs.declared.snp_case.SnpCase.{SnpCase}
+use Rattle.model_router.specs.declared.snp_case.SnpCase.TheVariants as snp
+use Rattle.model_router.specs.Maps.{find, each}
+use Rattle.model_router.specs.Sets.{has}
+use Rattle.model_router.specs.Places.{nth}
+use Rattle.model_router.specs.Ranks.{is_purge, is_live}
+use Rattle.model_router.specs.Cells.{Cell, Heard}
+use Rattle.model_router.specs.Books.{Book, cell_at, rank_of, checksum_of, set_cell, is_full}
+use Rattle.model_router.specs.Deeds.{content_of}
+use Rattle.model_router.specs.ContentLaws.{SameKey}
+use Rattle.model_router.specs.LspTable.{is_issued, is_unissued, differs, is_newer, lsp_case, lsp_row, met, hear_lsp}
+use Rattle.model_router.specs.SnpTable.{SnpEntry, snp_case, snp_row, is_missed, hear_entry, hear_range}
+use Rattle.model_router.specs.Openings.{close, marked, open_up, set_open}
+use Rattle.model_router.specs.Takes.{Scene, whose_of, lsp_taken, take_lsp, entry_taken, take_entry, take_entries, take_range, take_snp}
+use Rattle.model_router.specs.Routers.{Circuit, LevelState, Router, level_of, book_of, with_level, with_circuit, is_open}
+use Rattle.model_router.specs.Adjacencies.{Hello, Handshake, common_of, is_same}
+use Rattle.model_router.specs.Hellos.{follow_circuit, follow, point_circuit, lan_circuit, take_point, take_lan}
+use Rattle.model_router.specs.Givens.{Given}
+use Rattle.model_router.specs.Both.{at, alone}
+use Rattle.model_router.specs.SnpLists.{owed}
+use Rattle.model_router.specs.Pulls.{Sending, on_circuit, at_circuit, pull_hello, is_csnp_due, pull_csnp, srm_due, sent, pull_lsps, answered, pull_psnp, pull_level, pull}
+use Rattle.model_router.specs.Receiving.{scene_of, greeted, taken, take_or_drop, take, drop_of}
+use Rattle.model_router.specs.Events.{Message, Refused, PointHelloHeard, LanHelloHeard, LspHeard, SnpHeard, Event, Second, Take, Pull, Metric, Overload, Prefix}
+use Rattle.model_router.specs.Steps.{step, with_metric}
+use Rattle.model_router.proofs.MapLemmas.{find-each, find-set_at}
 use Rattle.router_core.specs.Calm.{is_calm_row, is_calm_entry, AreClear, IsCalmMessage, IsCalm}
 
 true-false : true ≡ false → ⊥

@@ -2,13 +2,13 @@
 use Rattle.std.proofs.Common.{◌≡◌, ◌∙◌, ℕ, true, List, None, map, refl, sym, ap, subst}
 use Rattle.isis_base.specs.declared.level.Level.{Level}
 use Rattle.isis_base.specs.declared.level.Level.TheVariants as level
-use Rattle.isis_model.specs.Books.{cell_at}
-use Rattle.isis_model.specs.ContentLaws.{SameKey}
-use Rattle.isis_model.specs.Elections.{idle_all}
-use Rattle.isis_model.specs.Events.{Second}
-use Rattle.isis_model.specs.Routers.{Circuit, Router, book_of}
-use Rattle.isis_model.specs.Steps.{step}
-use Rattle.isis_model.specs.Wanted.{wanted}
+use Rattle.model_router.specs.Books.{cell_at}
+use Rattle.model_router.specs.ContentLaws.{SameKey}
+use Rattle.model_router.specs.Elections.{idle_all}
+use Rattle.model_router.specs.Events.{Second}
+use Rattle.model_router.specs.Routers.{Circuit, Router, book_of}
+use Rattle.model_router.specs.Steps.{step}
+use Rattle.model_router.specs.Wanted.{wanted}
 use Rattle.router_routes.specs.Outlooks.{outlook_of}
 use Rattle.router_core.specs.declared.marks.Marks.{Marks}
 use Rattle.router_core.specs.Givens.{given}

@@ -1,12 +1,12 @@
 -- Changes of the configuration, and what is asked.
 use Rattle.std.proofs.Common.{◌≡◌, ℕ, zero, suc, ◌-◌, ◌<◌, ◌≤◌, List, [], ◌∷◌, length, get_or, Option, Some, None, Bool, IfSome, Result, Ok, Err, OnOk, refl, sym, ap, ◌∙◌, subst, arith}
-use Rattle.isis_model.specs.AdjacencyLaws.{IsIdle, AreIdle}
-use Rattle.isis_model.specs.Drops.{count_or}
-use Rattle.isis_model.specs.Elections.{idle}
-use Rattle.isis_model.specs.Events.{Done, Metric, Overload, Prefix, settled}
-use Rattle.isis_model.specs.Places.{nth}
-use Rattle.isis_model.specs.Routers.{Circuit, Router, with_circuit}
-use Rattle.isis_model.specs.Steps.{step, with_metric, with_prefix}
+use Rattle.model_router.specs.AdjacencyLaws.{IsIdle, AreIdle}
+use Rattle.model_router.specs.Drops.{count_or}
+use Rattle.model_router.specs.Elections.{idle}
+use Rattle.model_router.specs.Events.{Done, Metric, Overload, Prefix, settled}
+use Rattle.model_router.specs.Places.{nth}
+use Rattle.model_router.specs.Routers.{Circuit, Router, with_circuit}
+use Rattle.model_router.specs.Steps.{step, with_metric, with_prefix}
 use Rattle.router_core.specs.Givens.{given}
 use Rattle.router_core.proofs.IdleLemmas.{idle-same, settled-same, settled-with}
 

@@ -2,14 +2,14 @@
 use Rattle.std.proofs.Common.{◌≡◌, ℕ, ◌+◌, ◌*◌, Bool, ◌&&◌, ◌||◌, List, [], ◌∷◌, ◌++◌, Option, Some, None, if◌then◌else◌, option_map, refl, sym, ap, ◌∙◌}
 use Rattle.isis_base.specs.declared.level.Level.{Level}
 use Rattle.isis_base.specs.declared.level.Level.TheVariants as level
-use Rattle.isis_model.specs.Both.{at}
-use Rattle.isis_model.specs.Adjacencies.{Neighbour, point_open, is_up, keeps_level}
-use Rattle.isis_model.specs.Configs.{Config}
-use Rattle.isis_model.specs.Routers.{Circuit, Contents, LanNeighbour, Router, some_up}
-use Rattle.isis_model.specs.Elections.{Candidate, better, elect, designated, oneself}
-use Rattle.isis_model.specs.Givens.{Given}
-use Rattle.isis_model.specs.LspNeighbours.{all_nodes, lan_node, lan_nodes, nodes_of, point_node, put_node, put_nodes}
-use Rattle.isis_model.specs.Wanted.{addresses_of, with_address, pseudonode_lsp, pseudonode_lsps, system_lsp, wanted}
+use Rattle.model_router.specs.Both.{at}
+use Rattle.model_router.specs.Adjacencies.{Neighbour, point_open, is_up, keeps_level}
+use Rattle.model_router.specs.Configs.{Config}
+use Rattle.model_router.specs.Routers.{Circuit, Contents, LanNeighbour, Router, some_up}
+use Rattle.model_router.specs.Elections.{Candidate, better, elect, designated, oneself}
+use Rattle.model_router.specs.Givens.{Given}
+use Rattle.model_router.specs.LspNeighbours.{all_nodes, lan_node, lan_nodes, nodes_of, point_node, put_node, put_nodes}
+use Rattle.model_router.specs.Wanted.{addresses_of, with_address, pseudonode_lsp, pseudonode_lsps, system_lsp, wanted}
 use Rattle.router_core.specs.Settled.{heard_face, neighbour_face, face, faces}
 
 -- ---- a LAN

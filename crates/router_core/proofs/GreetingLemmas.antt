@@ -3,12 +3,12 @@ use Rattle.std.proofs.Common.{◌≡◌, ℕ, suc, ◌≤◌, Bool, true, if◌t
 use Rattle.isis_base.specs.declared.level.Level.{Level}
 use Rattle.isis_base.specs.declared.level.Level.TheVariants as level
 use Rattle.isis_tlv.specs.declared.three_way.Adj.{Adj}
-use Rattle.isis_model.specs.Routers.{LanNeighbour, Circuit, Router, extended_of}
-use Rattle.isis_model.specs.Datagrams.{PointHello, LanHello}
-use Rattle.isis_model.specs.Pulls.{hellos, lan_hello, names_of, snpas_of}
+use Rattle.model_router.specs.Routers.{LanNeighbour, Circuit, Router, extended_of}
+use Rattle.model_router.specs.Datagrams.{PointHello, LanHello}
+use Rattle.model_router.specs.Pulls.{hellos, lan_hello, names_of, snpas_of}
 use Rattle.adjacency.specs.declared.neighbour.Neighbour.{Neighbour}
 use Rattle.adjacency.specs.Inside.{snpa_of}
-use Rattle.pdu_sender.specs.declared.sender.Sender.{Sender}
+use Rattle.router_sending.specs.declared.sender.Sender.{Sender}
 use Rattle.router_core.specs.Sending.{all_octets}
 use Rattle.router_core.proofs.SendingLemmas.{two-lists}
 

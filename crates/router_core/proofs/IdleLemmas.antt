@@ -2,14 +2,14 @@
 use Rattle.std.proofs.Common.{◌≡◌, ℕ, zero, suc, ◌+◌, List, [], ◌∷◌, Option, Some, None, Bool, true, false, IfSome, refl, sym, ap, ◌∙◌, subst, arith}
 use Rattle.isis_base.specs.declared.level.Level.{Level}
 use Rattle.isis_base.specs.declared.level.Level.TheVariants as level
-use Rattle.isis_model.specs.Both.{at}
-use Rattle.isis_model.specs.Places.{nth, with_nth}
-use Rattle.isis_model.specs.Configs.{Config}
-use Rattle.isis_model.specs.Routers.{Circuit, CircuitLevel, Router, with_circuit}
-use Rattle.isis_model.specs.Elections.{idle, idle_level, idle_all, is_designated}
-use Rattle.isis_model.specs.AdjacencyLaws.{IsIdle, AreIdle}
-use Rattle.isis_model.specs.Hellos.{follow}
-use Rattle.isis_model.specs.Events.{Reply, settled}
+use Rattle.model_router.specs.Both.{at}
+use Rattle.model_router.specs.Places.{nth, with_nth}
+use Rattle.model_router.specs.Configs.{Config}
+use Rattle.model_router.specs.Routers.{Circuit, CircuitLevel, Router, with_circuit}
+use Rattle.model_router.specs.Elections.{idle, idle_level, idle_all, is_designated}
+use Rattle.model_router.specs.AdjacencyLaws.{IsIdle, AreIdle}
+use Rattle.model_router.specs.Hellos.{follow}
+use Rattle.model_router.specs.Events.{Reply, settled}
 
 level-same : (own : Bool) (part : CircuitLevel) → (own ≡ false → part.csnp ≡ 0) → idle_level own part ≡ part
 level-same true part h = refl

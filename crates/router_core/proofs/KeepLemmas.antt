@@ -3,34 +3,34 @@ use Rattle.std.proofs.Common.{◌≡◌, ℕ, zero, suc, ◌+◌, ◌==◌, ◌�
 use Rattle.isis_tlv.specs.declared.three_way.Adj.TheVariants.{Down}
 use Rattle.isis_base.specs.declared.level.Level.{Level}
 use Rattle.isis_base.specs.declared.level.Level.TheVariants as level
-use Rattle.isis_model.specs.Both.{Both, at}
-use Rattle.isis_model.specs.Places.{nth, with_nth}
-use Rattle.isis_model.specs.Sets.{has}
-use Rattle.isis_model.specs.Configs.{Config}
-use Rattle.isis_model.specs.Adjacencies.{Handshake, Hello, Neighbour, PointAdj, common_of, is_same}
-use Rattle.isis_model.specs.AdjacencyLaws.{place_of}
-use Rattle.isis_model.specs.Routers.{Circuit, CircuitLevel, LanNeighbour, LevelState, Router, book_of, with_level, with_circuit, level_of}
-use Rattle.isis_model.specs.Elections.{idle_all}
-use Rattle.isis_model.specs.Hellos.{follow, point_circuit, take_point}
-use Rattle.isis_model.specs.Events.{Message, Refused, PointHelloHeard, LanHelloHeard, LspHeard, SnpHeard, Event, Second, Take, Pull, Metric, Overload, Prefix, Done, Outcome, settled}
-use Rattle.isis_model.specs.Seconds.{is_over, held_less, point_kept, point_less, heard_less}
-use Rattle.isis_model.specs.SnpLists.{owed}
-use Rattle.isis_model.specs.Pulls.{csnp_sent, Sending, on_circuit, at_circuit, pull_hello, pull_csnp, pull_lsps, pull_psnp, pull_level, pull, with_part, is_csnp_due}
-use Rattle.isis_model.specs.declared.whose.Whose.{Whose}
-use Rattle.isis_model.specs.declared.drop_name.DropName.{DropName}
-use Rattle.isis_model.specs.declared.lsp_case.LspCase.{LspCase}
-use Rattle.isis_model.specs.declared.lsp_case.LspCase.TheVariants as lsp
-use Rattle.isis_model.specs.declared.snp_case.SnpCase.{SnpCase}
-use Rattle.isis_model.specs.declared.snp_case.SnpCase.TheVariants as snp
-use Rattle.isis_model.specs.Cells.{Heard}
-use Rattle.isis_model.specs.Books.{cell_at}
-use Rattle.isis_model.specs.LspTable.{met}
-use Rattle.isis_model.specs.SnpTable.{SnpEntry, snp_case}
-use Rattle.isis_model.specs.Takes.{Scene, whose_of, lsp_taken, take_lsp, entry_taken, take_entry, take_entries, take_range, take_snp}
-use Rattle.isis_model.specs.Givens.{Given}
-use Rattle.isis_model.specs.Receiving.{scene_of, greeted, taken, take_or_drop, take, drop_of}
-use Rattle.isis_model.specs.Steps.{sent_all, step}
-use Rattle.isis_model.proofs.BookLemmas.{choose}
+use Rattle.model_router.specs.Both.{Both, at}
+use Rattle.model_router.specs.Places.{nth, with_nth}
+use Rattle.model_router.specs.Sets.{has}
+use Rattle.model_router.specs.Configs.{Config}
+use Rattle.model_router.specs.Adjacencies.{Handshake, Hello, Neighbour, PointAdj, common_of, is_same}
+use Rattle.model_router.specs.AdjacencyLaws.{place_of}
+use Rattle.model_router.specs.Routers.{Circuit, CircuitLevel, LanNeighbour, LevelState, Router, book_of, with_level, with_circuit, level_of}
+use Rattle.model_router.specs.Elections.{idle_all}
+use Rattle.model_router.specs.Hellos.{follow, point_circuit, take_point}
+use Rattle.model_router.specs.Events.{Message, Refused, PointHelloHeard, LanHelloHeard, LspHeard, SnpHeard, Event, Second, Take, Pull, Metric, Overload, Prefix, Done, Outcome, settled}
+use Rattle.model_router.specs.Seconds.{is_over, held_less, point_kept, point_less, heard_less}
+use Rattle.model_router.specs.SnpLists.{owed}
+use Rattle.model_router.specs.Pulls.{csnp_sent, Sending, on_circuit, at_circuit, pull_hello, pull_csnp, pull_lsps, pull_psnp, pull_level, pull, with_part, is_csnp_due}
+use Rattle.model_router.specs.declared.whose.Whose.{Whose}
+use Rattle.model_router.specs.declared.drop_name.DropName.{DropName}
+use Rattle.model_router.specs.declared.lsp_case.LspCase.{LspCase}
+use Rattle.model_router.specs.declared.lsp_case.LspCase.TheVariants as lsp
+use Rattle.model_router.specs.declared.snp_case.SnpCase.{SnpCase}
+use Rattle.model_router.specs.declared.snp_case.SnpCase.TheVariants as snp
+use Rattle.model_router.specs.Cells.{Heard}
+use Rattle.model_router.specs.Books.{cell_at}
+use Rattle.model_router.specs.LspTable.{met}
+use Rattle.model_router.specs.SnpTable.{SnpEntry, snp_case}
+use Rattle.model_router.specs.Takes.{Scene, whose_of, lsp_taken, take_lsp, entry_taken, take_entry, take_entries, take_range, take_snp}
+use Rattle.model_router.specs.Givens.{Given}
+use Rattle.model_router.specs.Receiving.{scene_of, greeted, taken, take_or_drop, take, drop_of}
+use Rattle.model_router.specs.Steps.{sent_all, step}
+use Rattle.model_router.proofs.BookLemmas.{choose}
 use Rattle.adjacency.specs.Lans.{neighbours}
 use Rattle.router_core.specs.Seconds.{bare_later}
 use Rattle.router_core.specs.Calm.{is_calm_row, is_calm_entry, AreClear, IsCalmMessage, IsCalm}

@@ -6,19 +6,19 @@ use Rattle.std.proofs.lemmas.Bool.Decides.{nat_tests}
 use Rattle.isis_base.specs.declared.level.Level.{Level}
 use Rattle.isis_base.specs.declared.identifiers.LspId.{LspId}
 use Rattle.lsp_store.specs.declared.entry.Entry.{Entry}
-use Rattle.isis_model.specs.Maps.{find, each}
-use Rattle.isis_model.specs.Sets.{has}
-use Rattle.isis_model.specs.Places.{nth}
-use Rattle.isis_model.specs.Sorted.{RisesFrom}
-use Rattle.isis_model.specs.Cells.{Cell}
-use Rattle.isis_model.specs.Books.{Book, cell_at, set_cell}
-use Rattle.isis_model.specs.ContentLaws.{SameKey}
-use Rattle.isis_model.specs.Openings.{close, marked, open_up, set_open}
-use Rattle.isis_model.specs.Ageing.{wait_less, less, aged, age_cell, age_one, age_all, age}
-use Rattle.isis_model.specs.Seconds.{waited}
-use Rattle.isis_model.specs.Routers.{Circuit, LevelState, is_open}
-use Rattle.isis_model.proofs.MapLemmas.{find-set_at}
-use Rattle.isis_model.proofs.RisingLemmas.{all-found}
+use Rattle.model_router.specs.Maps.{find, each}
+use Rattle.model_router.specs.Sets.{has}
+use Rattle.model_router.specs.Places.{nth}
+use Rattle.model_router.specs.Sorted.{RisesFrom}
+use Rattle.model_router.specs.Cells.{Cell}
+use Rattle.model_router.specs.Books.{Book, cell_at, set_cell}
+use Rattle.model_router.specs.ContentLaws.{SameKey}
+use Rattle.model_router.specs.Openings.{close, marked, open_up, set_open}
+use Rattle.model_router.specs.Ageing.{wait_less, less, aged, age_cell, age_one, age_all, age}
+use Rattle.model_router.specs.Seconds.{waited}
+use Rattle.model_router.specs.Routers.{Circuit, LevelState, is_open}
+use Rattle.model_router.proofs.MapLemmas.{find-set_at}
+use Rattle.model_router.proofs.RisingLemmas.{all-found}
 use Rattle.flag_sync.specs.declared.flag_row.FlagRow.{FlagRow}
 use Rattle.lsp_store.specs.Databases.{Database}
 use Rattle.flag_sync.specs.BookStates.{BookState, book_of, cells_of}

@@ -4,9 +4,9 @@ use Rattle.std.proofs.lemmas.Bool.Decides.{nat_tests}
 use Rattle.std.specs.List.{AllByRecursion, Contains}
 use Rattle.isis_base.specs.declared.level.Level.TheVariants as level
 use Rattle.isis_tlv.specs.declared.prefix.PrefixItem.{PrefixItem}
-use Rattle.isis_model.specs.LspPrefixes.{Reach, own_reach, with_leaks, prefixes_of}
-use Rattle.isis_model.specs.Maps.{find, put}
-use Rattle.isis_model.specs.Routers.{Router}
+use Rattle.model_router.specs.LspPrefixes.{Reach, own_reach, with_leaks, prefixes_of}
+use Rattle.model_router.specs.Maps.{find, put}
+use Rattle.model_router.specs.Routers.{Router}
 use Rattle.route_leaking.specs.Leaks.{up_leaks}
 use Rattle.route_table.specs.declared.route.Route.{Route}
 use Rattle.router_routes.specs.Leaks.{item_pair, leaked_by, pair_of}

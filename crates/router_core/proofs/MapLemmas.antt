@@ -3,8 +3,8 @@ use Rattle.std.proofs.Common.{◌≡◌, ℕ, zero, suc, ◌+◌, ◌<◌, ◌�
 use Rattle.std.specs.List.{insert, remove}
 use Rattle.std.proofs.lemmas.List.Edits.{length-insert}
 use Rattle.std.proofs.lemmas.Bool.Decides.{nat_tests}
-use Rattle.isis_model.specs.Maps.{find, put, erase}
-use Rattle.isis_model.specs.Sorted.{RisesFrom}
+use Rattle.model_router.specs.Maps.{find, put, erase}
+use Rattle.model_router.specs.Sorted.{RisesFrom}
 use Rattle.adjacency.specs.Inside.{keyed, AllAbove, IsPlace, IsGap}
 
 -- by a test's two answers

@@ -11,26 +11,26 @@ use Rattle.isis_base.specs.declared.identifiers.LspId.{LspId}
 use Rattle.isis_base.specs.Identifiers.{IsId, lsp_number}
 use Rattle.isis_base.proofs.ArrayLemmas.{lsp_number-one}
 use Rattle.isis_base.specs.Keys.{rank}
-use Rattle.isis_model.specs.Ranks.{is_live, is_purge, number_of as rank_number, purge_rank}
+use Rattle.model_router.specs.Ranks.{is_live, is_purge, number_of as rank_number, purge_rank}
 use Rattle.isis_base.specs.declared.level.Level.{Level}
 use Rattle.isis_base.specs.declared.level.Level.TheVariants as level
-use Rattle.isis_model.specs.declared.whose.Whose.{Whose}
-use Rattle.isis_model.specs.declared.lsp_case.LspCase.{LspCase}
-use Rattle.isis_model.specs.declared.lsp_case.LspCase.TheVariants as lsp
-use Rattle.isis_model.specs.Both.{Both, at}
-use Rattle.isis_model.specs.Sets.{without}
-use Rattle.isis_model.specs.Places.{nth}
-use Rattle.isis_model.specs.Cells.{Cell, Heard, flagged, kept, purge_of, purged}
-use Rattle.isis_model.specs.Books.{Book, cell_at, set_cell}
-use Rattle.isis_model.specs.LspTable.{differs, hear_lsp, is_issued, is_newer, is_unissued, lsp_case, lsp_row, met, ssn_stored}
-use Rattle.isis_model.specs.Takes.{Scene, whose_of, lsp_taken, take_lsp}
-use Rattle.isis_model.specs.Routers.{Circuit, LevelState, Router, book_of, level_of, with_level}
-use Rattle.isis_model.specs.Givens.{Given}
-use Rattle.isis_model.specs.Receiving.{scene_of, lsp_drop, taken}
-use Rattle.isis_model.specs.Events.{Envelope, Event, LspHeard, Take, Outcome, settled}
-use Rattle.isis_model.specs.Steps.{step}
-use Rattle.isis_model.specs.Maps as model
-use Rattle.isis_model.specs.Numbers.{system_id}
+use Rattle.model_router.specs.declared.whose.Whose.{Whose}
+use Rattle.model_router.specs.declared.lsp_case.LspCase.{LspCase}
+use Rattle.model_router.specs.declared.lsp_case.LspCase.TheVariants as lsp
+use Rattle.model_router.specs.Both.{Both, at}
+use Rattle.model_router.specs.Sets.{without}
+use Rattle.model_router.specs.Places.{nth}
+use Rattle.model_router.specs.Cells.{Cell, Heard, flagged, kept, purge_of, purged}
+use Rattle.model_router.specs.Books.{Book, cell_at, set_cell}
+use Rattle.model_router.specs.LspTable.{differs, hear_lsp, is_issued, is_newer, is_unissued, lsp_case, lsp_row, met, ssn_stored}
+use Rattle.model_router.specs.Takes.{Scene, whose_of, lsp_taken, take_lsp}
+use Rattle.model_router.specs.Routers.{Circuit, LevelState, Router, book_of, level_of, with_level}
+use Rattle.model_router.specs.Givens.{Given}
+use Rattle.model_router.specs.Receiving.{scene_of, lsp_drop, taken}
+use Rattle.model_router.specs.Events.{Envelope, Event, LspHeard, Take, Outcome, settled}
+use Rattle.model_router.specs.Steps.{step}
+use Rattle.model_router.specs.Maps as model
+use Rattle.model_router.specs.Numbers.{system_id}
 use Rattle.lsp_store.specs.declared.entry.Entry.{Entry}
 use Rattle.lsp_store.specs.Databases as store
 use Rattle.lsp_store.specs.Databases.{Database}
@@ -43,7 +43,7 @@ use Rattle.flag_sync.specs.declared.heard.LspHeard as heard
 use Rattle.flag_sync.specs.Heard.{heard_of, answer_of}
 use Rattle.flag_sync.specs.BookStates as sync
 use Rattle.flag_sync.specs.BookStates.{BookState, cells_of}
-use Rattle.lsp_octets.proofs.DraftLemmas.{id-again}
+use Rattle.router_sending.proofs.DraftLemmas.{id-again}
 use Rattle.lsp_view.specs.Views.{number_of, own_node}
 use Rattle.spf_tree.specs.Nodes.{node_number}
 use Rattle.router_routes.specs.Told.{told, told_pair, told_in, told_by}

@@ -15,14 +15,14 @@ use Rattle.isis_tlv.specs.Items.{parts_at, state_of, three_way_of}
 use Rattle.isis_tlv.proofs.TlvLemmas.{tlvs-stand}
 use Rattle.isis_pdu.specs.Layout.{length_at, body_at, value_at}
 use Rattle.isis_pdu.specs.Table as table
-use Rattle.isis_model.specs.Configs.{Config}
-use Rattle.isis_model.specs.Routers.{Circuit}
-use Rattle.isis_model.specs.Events.{Envelope, Message, Refused, PointHelloHeard, LanHelloHeard, LspHeard, SnpHeard}
-use Rattle.isis_model.specs.Numbers.{u48_of}
-use Rattle.isis_datagram.specs.Values.{items_if, items_in, handshakes_in, first_handshake}
-use Rattle.isis_datagram.specs.Tests.{first_failing, tests_of}
-use Rattle.isis_datagram.specs.Reading.{message, read}
-use Rattle.isis_datagram.proofs.GoodLemmas.{Small, small-at, small-take, small-drop, of-read}
+use Rattle.model_router.specs.Configs.{Config}
+use Rattle.model_router.specs.Routers.{Circuit}
+use Rattle.model_router.specs.Events.{Envelope, Message, Refused, PointHelloHeard, LanHelloHeard, LspHeard, SnpHeard}
+use Rattle.model_router.specs.Numbers.{u48_of}
+use Rattle.model_datagram.specs.Values.{items_if, items_in, handshakes_in, first_handshake}
+use Rattle.model_datagram.specs.Tests.{first_failing, tests_of}
+use Rattle.model_datagram.specs.Reading.{message, read}
+use Rattle.model_datagram.proofs.GoodLemmas.{Small, small-at, small-take, small-drop, of-read}
 
 -- a hello's source and extended circuit ID
 abbrev pub HasNames : Message → Type 0

@@ -3,12 +3,12 @@ use Rattle.std.proofs.Common.{◌≡◌, ℕ, zero, suc, ◌-◌, ◌<◌, Bool,
 use Rattle.std.specs.Prelude.{slice_get}
 use Rattle.std.specs.Option.{IsSomeAnd}
 use Rattle.std.proofs.lemmas.Option.{slice_get-map}
-use Rattle.isis_model.specs.Events.{Envelope}
-use Rattle.isis_model.specs.Configs.{Config}
-use Rattle.isis_model.specs.Places.{nth}
-use Rattle.isis_model.specs.Routers.{Circuit}
+use Rattle.model_router.specs.Events.{Envelope}
+use Rattle.model_router.specs.Configs.{Config}
+use Rattle.model_router.specs.Places.{nth}
+use Rattle.model_router.specs.Routers.{Circuit}
 use Rattle.isis_pdu.specs.Views.{PduView, LanHello, PointHello, Lsp, Csnp, Psnp}
-use Rattle.isis_datagram.specs.Reading.{message}
+use Rattle.model_datagram.specs.Reading.{message}
 use Rattle.router_desk.specs.declared.desk_circuit.DeskCircuit.{DeskCircuit}
 use Rattle.router_desk.specs.declared.cause.DropCause.{DropCause}
 use Rattle.router_desk.specs.Desks.{DeskView, desk_of, desk_circuit, is_lan, is_point, kind_of_circuit, circuit_at}

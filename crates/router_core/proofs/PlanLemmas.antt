@@ -3,18 +3,18 @@ use Rattle.std.proofs.Common.{◌≡◌, ℕ, Bool, true, false, not, Option, So
 use Rattle.std.specs.Prelude.{◌&&◌, is_some}
 use Rattle.isis_base.specs.declared.level.Level.{Level}
 use Rattle.std.specs.Option.{option_map}
-use Rattle.isis_model.specs.declared.drop_name.DropName.{DropName}
-use Rattle.isis_model.specs.declared.drop_name.DropName.TheVariants.{NoAdjacency, StoreFull}
-use Rattle.isis_model.specs.declared.lsp_case.LspCase.{LspCase}
-use Rattle.isis_model.specs.declared.lsp_case.LspCase.TheVariants as case
-use Rattle.isis_model.specs.AdjacencyLaws.{place_of}
-use Rattle.isis_model.specs.Cells.{Heard}
-use Rattle.isis_model.specs.Events as model
-use Rattle.isis_model.specs.Places.{nth}
-use Rattle.isis_model.specs.Receiving.{drop_of, lsp_drop, no_room, sender_of}
-use Rattle.isis_model.specs.Routers.{Circuit, Router, level_of, book_of}
-use Rattle.isis_model.specs.Sets.{has}
-use Rattle.isis_model.specs.Steps.{step}
+use Rattle.model_router.specs.declared.drop_name.DropName.{DropName}
+use Rattle.model_router.specs.declared.drop_name.DropName.TheVariants.{NoAdjacency, StoreFull}
+use Rattle.model_router.specs.declared.lsp_case.LspCase.{LspCase}
+use Rattle.model_router.specs.declared.lsp_case.LspCase.TheVariants as case
+use Rattle.model_router.specs.AdjacencyLaws.{place_of}
+use Rattle.model_router.specs.Cells.{Heard}
+use Rattle.model_router.specs.Events as model
+use Rattle.model_router.specs.Places.{nth}
+use Rattle.model_router.specs.Receiving.{drop_of, lsp_drop, no_room, sender_of}
+use Rattle.model_router.specs.Routers.{Circuit, Router, level_of, book_of}
+use Rattle.model_router.specs.Sets.{has}
+use Rattle.model_router.specs.Steps.{step}
 use Rattle.flag_sync.specs.declared.heard.LspAnswer.{LspAnswer}
 use Rattle.flag_sync.specs.declared.heard.LspHeard.{LspHeard}
 use Rattle.flag_sync.specs.Heard.{answer_of}

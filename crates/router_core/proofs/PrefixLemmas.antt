@@ -2,11 +2,11 @@
 use Rattle.std.proofs.Common.{◌≡◌, ℕ, zero, suc, ◌+◌, ◌<◌, eqb, nat_lt, Bool, true, false, List, [], ◌∷◌, map, set, get_or, length, drop, Option, Some, is_some, if◌then◌else◌, Result, Ok, Err, is_ok, refl, sym, ap, ◌∙◌, arith, zero-le}
 use Rattle.std.specs.List.{insert, remove}
 use Rattle.isis_base.specs.declared.prefix.Prefix.{Prefix}
-use Rattle.isis_model.specs.Maps.{find, put, erase}
-use Rattle.isis_model.specs.Sorted.{RisesFrom}
+use Rattle.model_router.specs.Maps.{find, put, erase}
+use Rattle.model_router.specs.Sorted.{RisesFrom}
 use Rattle.adjacency.specs.Inside.{keyed, IsPlace, IsGap}
 use Rattle.router_core.proofs.MapLemmas.{choose, rises-less, put-rises, find-place, find-gap, put-place, put-gap, erase-place, erase-gap}
-use Rattle.lsp_wanted.specs.Views.{prefix_pair}
+use Rattle.router_wanted.specs.Views.{prefix_pair}
 use Rattle.router_desk.specs.Configs.{prefixes_of}
 use Rattle.router_core.specs.PrefixLists.{own_number, IsPrefixAt}
 

@@ -4,13 +4,13 @@ use Rattle.std.proofs.lemmas.Bool.Decides.{nat_tests}
 use Rattle.isis_base.specs.declared.identifiers.LspId.{LspId}
 use Rattle.isis_base.specs.declared.entry.LspEntry.{LspEntry}
 use Rattle.isis_base.specs.declared.level.Level.{Level}
-use Rattle.isis_model.specs.Both.{at}
-use Rattle.isis_model.specs.Sets.{has}
-use Rattle.isis_model.specs.Places.{nth, with_nth}
-use Rattle.isis_model.specs.Cells.{Cell}
-use Rattle.isis_model.specs.Routers.{Circuit, Router, book_of, with_book, with_circuit}
-use Rattle.isis_model.specs.SnpLists.{entries_where, snp_entry}
-use Rattle.isis_model.specs.Pulls.{with_part, is_csnp_due, csnp_sent, answered}
+use Rattle.model_router.specs.Both.{at}
+use Rattle.model_router.specs.Sets.{has}
+use Rattle.model_router.specs.Places.{nth, with_nth}
+use Rattle.model_router.specs.Cells.{Cell}
+use Rattle.model_router.specs.Routers.{Circuit, Router, book_of, with_book, with_circuit}
+use Rattle.model_router.specs.SnpLists.{entries_where, snp_entry}
+use Rattle.model_router.specs.Pulls.{with_part, is_csnp_due, csnp_sent, answered}
 use Rattle.lsp_store.specs.declared.entry.Entry.{Entry}
 use Rattle.flag_sync.specs.declared.flag_row.FlagRow.{FlagRow}
 use Rattle.flag_sync.specs.FlagRows.{cell_of}

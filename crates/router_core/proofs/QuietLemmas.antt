@@ -6,20 +6,20 @@ use Rattle.std.specs.List.{AllByRecursion}
 use Rattle.isis_base.specs.declared.identifiers.LspId.{LspId}
 use Rattle.isis_base.specs.declared.level.Level.{Level}
 use Rattle.isis_base.specs.Identifiers.{lsp_number}
-use Rattle.isis_model.specs.Ageing.{age, age_all, age_one, age_cell}
-use Rattle.isis_model.specs.Books.{cell_at, is_full, rank_of}
-use Rattle.isis_model.specs.Cells.{Cell}
-use Rattle.isis_model.specs.Givens.{Given}
-use Rattle.isis_model.specs.Maps.{find, each}
-use Rattle.isis_model.specs.OwnLsps.{Next, Wait, Number, Exhaust, next, do_next, is_due, is_held, look, look_all, withdraw_one, withdraw_all, renew, last_number}
-use Rattle.isis_model.specs.Places.{nth}
-use Rattle.isis_model.specs.Ranks.{number_of}
-use Rattle.isis_model.specs.Routers.{Circuit, Contents, Issued, LevelState, Router}
-use Rattle.isis_model.specs.Seconds.{older, waited}
-use Rattle.isis_model.specs.Sorted.{RisesFrom}
+use Rattle.model_router.specs.Ageing.{age, age_all, age_one, age_cell}
+use Rattle.model_router.specs.Books.{cell_at, is_full, rank_of}
+use Rattle.model_router.specs.Cells.{Cell}
+use Rattle.model_router.specs.Givens.{Given}
+use Rattle.model_router.specs.Maps.{find, each}
+use Rattle.model_router.specs.OwnLsps.{Next, Wait, Number, Exhaust, next, do_next, is_due, is_held, look, look_all, withdraw_one, withdraw_all, renew, last_number}
+use Rattle.model_router.specs.Places.{nth}
+use Rattle.model_router.specs.Ranks.{number_of}
+use Rattle.model_router.specs.Routers.{Circuit, Contents, Issued, LevelState, Router}
+use Rattle.model_router.specs.Seconds.{older, waited}
+use Rattle.model_router.specs.Sorted.{RisesFrom}
 use Rattle.lsp_fragments.specs.Kept.{first_id, issued_from}
-use Rattle.lsp_wanted.specs.declared.wanted.Wanted.{Wanted}
-use Rattle.lsp_wanted.specs.Views.{wanted_of}
+use Rattle.router_wanted.specs.declared.wanted.Wanted.{Wanted}
+use Rattle.router_wanted.specs.Views.{wanted_of}
 use Rattle.router_core.specs.Seconds.{follow_one, follow_first, level_later, numbers, Waits, IsQuiet}
 
 -- ---- what is issued, in order

@@ -9,33 +9,33 @@ use Rattle.spf_repair.specs.Changes.{RepairedOf}
 use Rattle.isis_base.specs.declared.prefix.Prefix as base
 use Rattle.isis_tlv.specs.Fits.{IsArea}
 use Rattle.isis_tlv.specs.Spelling.{area_value, area_octets}
-use Rattle.isis_model.specs.AdjacencyLaws.{Bond, Bonds, Same, Ends, Meets, no_bond, bond_of, bond_at, Tie, Hears, Learns}
-use Rattle.isis_model.specs.Both.{Both}
-use Rattle.isis_model.specs.Configs as model
-use Rattle.isis_model.specs.Events.{Message, Event, Second, Take, Pull, Metric, Overload, Prefix}
-use Rattle.isis_model.specs.Good.{IsGoodEvent}
-use Rattle.isis_model.specs.Maps.{find, put}
-use Rattle.isis_model.specs.Places.{nth}
-use Rattle.isis_model.specs.Books.{cell_at}
-use Rattle.isis_model.specs.Routers.{Circuit, Router, book_of, level_of}
-use Rattle.isis_model.specs.Sorted.{RisesFrom, IsSorted}
-use Rattle.isis_model.specs.Starts.{start, started}
-use Rattle.isis_model.specs.Steps.{step}
-use Rattle.isis_model.proofs.BondLemmas.{step-stays, step-bonds, step-kept}
-use Rattle.isis_model.proofs.GoodSteps.{step-good, step-telling}
-use Rattle.isis_model.proofs.RisingLemmas.{course-rises}
-use Rattle.isis_model.proofs.StartLemmas.{start-sorted, start-good, start-telling, start-follows, start-bonds, start-idle, step-idle}
-use Rattle.isis_model.proofs.StepWays.{step-course}
-use Rattle.isis_model.proofs.TouchSteps.{step-touch}
-use Rattle.isis_datagram.specs.LspLaws.{AreSendable, TellsEvent, TellsKept}
-use Rattle.isis_model.specs.Numbers.{system_number}
-use Rattle.isis_datagram.specs.Reading.{read, runs_of}
-use Rattle.isis_datagram.specs.Senders.{IsSender}
-use Rattle.isis_datagram.specs.Speakers.{IsName}
-use Rattle.isis_datagram.proofs.GoodLemmas.{Small, good-read}
-use Rattle.isis_datagram.proofs.IssueLemmas.{given-good}
-use Rattle.isis_datagram.proofs.KeptLemmas.{kept-tells}
-use Rattle.isis_datagram.proofs.SendLemmas.{step-sendable}
+use Rattle.model_router.specs.AdjacencyLaws.{Bond, Bonds, Same, Ends, Meets, no_bond, bond_of, bond_at, Tie, Hears, Learns}
+use Rattle.model_router.specs.Both.{Both}
+use Rattle.model_router.specs.Configs as model
+use Rattle.model_router.specs.Events.{Message, Event, Second, Take, Pull, Metric, Overload, Prefix}
+use Rattle.model_router.specs.Good.{IsGoodEvent}
+use Rattle.model_router.specs.Maps.{find, put}
+use Rattle.model_router.specs.Places.{nth}
+use Rattle.model_router.specs.Books.{cell_at}
+use Rattle.model_router.specs.Routers.{Circuit, Router, book_of, level_of}
+use Rattle.model_router.specs.Sorted.{RisesFrom, IsSorted}
+use Rattle.model_router.specs.Starts.{start, started}
+use Rattle.model_router.specs.Steps.{step}
+use Rattle.model_router.proofs.BondLemmas.{step-stays, step-bonds, step-kept}
+use Rattle.model_router.proofs.GoodSteps.{step-good, step-telling}
+use Rattle.model_router.proofs.RisingLemmas.{course-rises}
+use Rattle.model_router.proofs.StartLemmas.{start-sorted, start-good, start-telling, start-follows, start-bonds, start-idle, step-idle}
+use Rattle.model_router.proofs.StepWays.{step-course}
+use Rattle.model_router.proofs.TouchSteps.{step-touch}
+use Rattle.model_datagram.specs.LspLaws.{AreSendable, TellsEvent, TellsKept}
+use Rattle.model_router.specs.Numbers.{system_number}
+use Rattle.model_datagram.specs.Reading.{read, runs_of}
+use Rattle.model_datagram.specs.Senders.{IsSender}
+use Rattle.model_datagram.specs.Speakers.{IsName}
+use Rattle.model_datagram.proofs.GoodLemmas.{Small, good-read}
+use Rattle.model_datagram.proofs.IssueLemmas.{given-good}
+use Rattle.model_datagram.proofs.KeptLemmas.{kept-tells}
+use Rattle.model_datagram.proofs.SendLemmas.{step-sendable}
 use Rattle.router_desk.specs.declared.config.Config.{Config}
 use Rattle.router_desk.specs.declared.config.Change.TheVariants as change
 use Rattle.router_desk.specs.Configs.{config_of, circuit_of, circuits_of, prefix_number, prefixes_of}
@@ -46,9 +46,9 @@ use Rattle.router_desk.proofs.ReadingLemmas.{finds-reads}
 use Rattle.router_core.specs.declared.event.NodeEvent.{NodeEvent}
 use Rattle.router_core.specs.declared.event.NodeEvent.TheVariants as event
 use Rattle.router_core.specs.Events.{event_of, Fits, IsThere}
-use Rattle.isis_model.specs.Hearings.{hearing}
-use Rattle.isis_model.specs.ContentLaws.{SameKey, TellsBoth}
-use Rattle.isis_model.proofs.TellLemmas.{course-tells}
+use Rattle.model_router.specs.Hearings.{hearing}
+use Rattle.model_router.specs.ContentLaws.{SameKey, TellsBoth}
+use Rattle.model_router.proofs.TellLemmas.{course-tells}
 use Rattle.router_routes.specs.Outlooks.{outlook_of}
 use Rattle.router_routes.specs.Following.{IsLevel}
 use Rattle.router_core.specs.Calm.{AreBelow, SameCounts, Stands, KeepsPrefixes}

@@ -10,20 +10,20 @@ use Rattle.isis_base.specs.declared.level.Level.TheVariants as level
 use Rattle.isis_base.specs.Identifiers.{IsId, lsp_number}
 use Rattle.isis_base.specs.Keys.{entry_rank}
 use Rattle.isis_base.proofs.ArrayLemmas.{lsp_number-one}
-use Rattle.isis_model.specs.declared.lsp_case.LspCase.{LspCase}
-use Rattle.isis_model.specs.declared.lsp_case.LspCase.TheVariants as lsp
-use Rattle.isis_model.specs.Books.{Book, cell_at}
-use Rattle.isis_model.specs.Cells.{Cell, flagged, kept}
-use Rattle.isis_model.specs.Events.{Envelope, LspHeard, Take}
-use Rattle.isis_model.specs.LspTable.{lsp_row, met, ssn_stored}
-use Rattle.isis_model.specs.Maps as model
-use Rattle.isis_model.specs.Places.{nth}
-use Rattle.isis_model.specs.Ranks.{is_live, is_purge}
-use Rattle.isis_model.specs.Receiving.{lsp_drop}
-use Rattle.isis_model.specs.Routers.{Circuit, Router, book_of, level_of}
-use Rattle.isis_model.specs.Sets.{without}
-use Rattle.isis_model.specs.Steps.{step}
-use Rattle.isis_model.specs.Takes.{whose_of}
+use Rattle.model_router.specs.declared.lsp_case.LspCase.{LspCase}
+use Rattle.model_router.specs.declared.lsp_case.LspCase.TheVariants as lsp
+use Rattle.model_router.specs.Books.{Book, cell_at}
+use Rattle.model_router.specs.Cells.{Cell, flagged, kept}
+use Rattle.model_router.specs.Events.{Envelope, LspHeard, Take}
+use Rattle.model_router.specs.LspTable.{lsp_row, met, ssn_stored}
+use Rattle.model_router.specs.Maps as model
+use Rattle.model_router.specs.Places.{nth}
+use Rattle.model_router.specs.Ranks.{is_live, is_purge}
+use Rattle.model_router.specs.Receiving.{lsp_drop}
+use Rattle.model_router.specs.Routers.{Circuit, Router, book_of, level_of}
+use Rattle.model_router.specs.Sets.{without}
+use Rattle.model_router.specs.Steps.{step}
+use Rattle.model_router.specs.Takes.{whose_of}
 use Rattle.lsp_store.specs.declared.entry.Entry.{Entry}
 use Rattle.lsp_store.specs.Maps.{RisesFrom, find, pair_number, put}
 use Rattle.lsp_store.proofs.MapLemmas.{find-above, rises-above}

@@ -2,25 +2,25 @@
 use Rattle.std.proofs.Common.{◌≡◌, ℕ, zero, suc, ◌+◌, ◌<◌, ◌≤◌, ◌&&◌, nat_lt, ◌==◌, List, [], ◌∷◌, length, Bool, true, false, Option, Some, None, if◌then◌else◌, is_some, refl, sym, ap, ◌∙◌, subst, arith}
 use Rattle.isis_base.specs.declared.level.Level.{Level}
 use Rattle.isis_base.specs.declared.level.Level.TheVariants as level
-use Rattle.isis_model.specs.Both.{at}
-use Rattle.isis_model.specs.Maps.{find, put, erase, set_at}
-use Rattle.isis_model.specs.Places.{nth, with_nth}
-use Rattle.isis_model.specs.Sets.{has}
-use Rattle.isis_model.specs.declared.drop_name.DropName.{DropName}
-use Rattle.isis_model.specs.Drops.{drop_place, drops_of}
-use Rattle.isis_model.specs.Books.{risen}
-use Rattle.isis_model.specs.Sorted.{RisesFrom}
-use Rattle.isis_model.specs.Adjacencies.{Hello, Handshake}
-use Rattle.isis_model.specs.Configs.{Config}
-use Rattle.isis_model.specs.Routers.{Circuit, Router, book_of}
-use Rattle.isis_model.specs.Hellos.{take_point, take_lan}
-use Rattle.isis_model.specs.Givens.{Given}
-use Rattle.isis_model.specs.Seconds.{second, count_down, hold, hold_one, hold_all}
-use Rattle.isis_model.specs.SnpLists.{owed}
-use Rattle.isis_model.specs.Pulls.{Sending, at_circuit, on_circuit, pull_hello, is_csnp_due, pull_csnp, pull_lsps, pull_psnp, pull_level, pull}
-use Rattle.isis_model.specs.Events.{Message, Refused, PointHelloHeard, LanHelloHeard, LspHeard, SnpHeard, Event, Second, Take, Pull, Metric, Overload, Prefix, settled}
-use Rattle.isis_model.specs.Receiving.{drop_of, greeted, take, take_or_drop, taken}
-use Rattle.isis_model.specs.Steps.{step, with_metric}
+use Rattle.model_router.specs.Both.{at}
+use Rattle.model_router.specs.Maps.{find, put, erase, set_at}
+use Rattle.model_router.specs.Places.{nth, with_nth}
+use Rattle.model_router.specs.Sets.{has}
+use Rattle.model_router.specs.declared.drop_name.DropName.{DropName}
+use Rattle.model_router.specs.Drops.{drop_place, drops_of}
+use Rattle.model_router.specs.Books.{risen}
+use Rattle.model_router.specs.Sorted.{RisesFrom}
+use Rattle.model_router.specs.Adjacencies.{Hello, Handshake}
+use Rattle.model_router.specs.Configs.{Config}
+use Rattle.model_router.specs.Routers.{Circuit, Router, book_of}
+use Rattle.model_router.specs.Hellos.{take_point, take_lan}
+use Rattle.model_router.specs.Givens.{Given}
+use Rattle.model_router.specs.Seconds.{second, count_down, hold, hold_one, hold_all}
+use Rattle.model_router.specs.SnpLists.{owed}
+use Rattle.model_router.specs.Pulls.{Sending, at_circuit, on_circuit, pull_hello, is_csnp_due, pull_csnp, pull_lsps, pull_psnp, pull_level, pull}
+use Rattle.model_router.specs.Events.{Message, Refused, PointHelloHeard, LanHelloHeard, LspHeard, SnpHeard, Event, Second, Take, Pull, Metric, Overload, Prefix, settled}
+use Rattle.model_router.specs.Receiving.{drop_of, greeted, take, take_or_drop, taken}
+use Rattle.model_router.specs.Steps.{step, with_metric}
 use Rattle.router_core.specs.Events.{FitsPrefix}
 use Rattle.router_core.proofs.MapLemmas.{length-put}
 use Rattle.router_core.proofs.PrefixLemmas.{put-up, erase-up}

@@ -13,33 +13,33 @@ use Rattle.isis_base.specs.Identifiers.{IsId}
 use Rattle.isis_base.specs.Keys.{rank}
 use Rattle.isis_base.specs.Prefixes.{prefix_from}
 use Rattle.isis_base.proofs.PrefixValues.{prefix_from-prefix}
-use Rattle.isis_model.specs.Both.{Both, at}
-use Rattle.isis_model.specs.Configs.{Config}
-use Rattle.isis_model.specs.Maps.{find, set_at}
-use Rattle.isis_model.specs.Sorted.{RisesFrom, IsSorted}
-use Rattle.isis_model.specs.Ranks.{is_live}
-use Rattle.isis_model.specs.Cells.{Cell}
-use Rattle.isis_model.specs.Books.{Book, cell_at}
-use Rattle.isis_model.specs.Places.{nth}
-use Rattle.isis_model.specs.Routers.{Circuit, Router, book_of}
-use Rattle.isis_model.specs.Deeds.{Content, content_of}
-use Rattle.isis_model.specs.ContentLaws.{SameKey, TellsBoth}
-use Rattle.isis_model.specs.Events.{Event, Second, Take, Pull, Metric, Overload, Prefix as ChangePrefix, Done, settled}
-use Rattle.isis_model.specs.Steps.{step, with_prefix, with_metric as set_metric}
-use Rattle.isis_model.specs.Givens.{Given}
-use Rattle.isis_model.specs.Numbers.{lsp_id, system_id, system_number}
-use Rattle.isis_datagram.specs.Reading.{runs_of}
+use Rattle.model_router.specs.Both.{Both, at}
+use Rattle.model_router.specs.Configs.{Config}
+use Rattle.model_router.specs.Maps.{find, set_at}
+use Rattle.model_router.specs.Sorted.{RisesFrom, IsSorted}
+use Rattle.model_router.specs.Ranks.{is_live}
+use Rattle.model_router.specs.Cells.{Cell}
+use Rattle.model_router.specs.Books.{Book, cell_at}
+use Rattle.model_router.specs.Places.{nth}
+use Rattle.model_router.specs.Routers.{Circuit, Router, book_of}
+use Rattle.model_router.specs.Deeds.{Content, content_of}
+use Rattle.model_router.specs.ContentLaws.{SameKey, TellsBoth}
+use Rattle.model_router.specs.Events.{Event, Second, Take, Pull, Metric, Overload, Prefix as ChangePrefix, Done, settled}
+use Rattle.model_router.specs.Steps.{step, with_prefix, with_metric as set_metric}
+use Rattle.model_router.specs.Givens.{Given}
+use Rattle.model_router.specs.Numbers.{lsp_id, system_id, system_number}
+use Rattle.model_datagram.specs.Reading.{runs_of}
 use Rattle.lsp_store.specs.declared.entry.Entry.{Entry}
 use Rattle.lsp_store.specs.Databases as store
 use Rattle.lsp_store.specs.Databases.{Database}
 use Rattle.flag_sync.specs.declared.flag_row.FlagRow.{FlagRow}
 use Rattle.flag_sync.specs.BookStates as sync
 use Rattle.flag_sync.specs.BookStates.{BookState, cells_of}
-use Rattle.lsp_octets.proofs.DraftLemmas.{id-again}
+use Rattle.router_sending.proofs.DraftLemmas.{id-again}
 use Rattle.lsp_view.specs.Views.{own_node, rows_in, overloaded_in}
 use Rattle.spf_tree.specs.Graphs.{AreUsable}
 use Rattle.spf_repair.specs.Changes.{RepairedOf}
-use Rattle.lsp_wanted.specs.Views.{prefix_pair}
+use Rattle.router_wanted.specs.Views.{prefix_pair}
 use Rattle.router_routes.specs.declared.lent.Lent.{Lent}
 use Rattle.router_routes.specs.Told.{told, told_pair, told_in, told_by}
 use Rattle.router_routes.specs.Outlooks.{Outlook, where_run, with_metric, prefixes_by, outlook_of, outlook_in}

@@ -5,18 +5,18 @@ use Rattle.std.specs.List.{AllByRecursion}
 use Rattle.isis_base.specs.declared.level.Level.{Level}
 use Rattle.isis_base.specs.declared.level.Level.TheVariants as level
 use Rattle.isis_base.specs.Identifiers.{lsp_number}
-use Rattle.isis_model.specs.Both.{at}
-use Rattle.isis_model.specs.Places.{nth, with_nth}
-use Rattle.isis_model.specs.Configs.{Config}
-use Rattle.isis_model.specs.Elections.{idle, idle_all}
-use Rattle.isis_model.specs.Events.{Done, settled}
-use Rattle.isis_model.specs.OwnLsps.{renew}
-use Rattle.isis_model.specs.Routers.{Circuit, Contents, LevelState, Router}
-use Rattle.isis_model.specs.Seconds.{second, count_down, counted, circuit_less, waited, hold, hold_one, hold_all, age_both, renew_level, renew_both}
-use Rattle.isis_model.specs.Wanted.{wanted}
-use Rattle.lsp_octets.specs.Drafts.{DraftView}
-use Rattle.lsp_wanted.specs.declared.wanted.Wanted.{Wanted}
-use Rattle.lsp_wanted.specs.Views.{wanted_of}
+use Rattle.model_router.specs.Both.{at}
+use Rattle.model_router.specs.Places.{nth, with_nth}
+use Rattle.model_router.specs.Configs.{Config}
+use Rattle.model_router.specs.Elections.{idle, idle_all}
+use Rattle.model_router.specs.Events.{Done, settled}
+use Rattle.model_router.specs.OwnLsps.{renew}
+use Rattle.model_router.specs.Routers.{Circuit, Contents, LevelState, Router}
+use Rattle.model_router.specs.Seconds.{second, count_down, counted, circuit_less, waited, hold, hold_one, hold_all, age_both, renew_level, renew_both}
+use Rattle.model_router.specs.Wanted.{wanted}
+use Rattle.router_sending.specs.Drafts.{DraftView}
+use Rattle.router_wanted.specs.declared.wanted.Wanted.{Wanted}
+use Rattle.router_wanted.specs.Views.{wanted_of}
 use Rattle.router_levels.specs.Drafts.{AreUnder, wants_of}
 use Rattle.router_levels.specs.Views.{LevelView}
 use Rattle.router_desk.specs.Desks.{desk_circuit}
@@ -24,7 +24,7 @@ use Rattle.router_core.specs.Givens.{given}
 use Rattle.router_core.specs.Machines.{IsFit}
 use Rattle.router_core.specs.Seconds.{bare_later, later, follow_one, follow_first, level_later, later_or, IsMade}
 use Rattle.router_core.specs.Settled.{face, faces}
-use Rattle.isis_model.specs.Ageing.{age}
+use Rattle.model_router.specs.Ageing.{age}
 
 -- ---- lists whose first items are changed
 

@@ -9,25 +9,25 @@ use Rattle.isis_base.specs.declared.entry.LspEntry.{LspEntry}
 use Rattle.isis_base.specs.declared.identifiers.LspId.{LspId}
 use Rattle.isis_base.specs.Identifiers.{lsp_number}
 use Rattle.isis_base.specs.Keys.{rank}
-use Rattle.isis_model.specs.Both.{at}
-use Rattle.isis_model.specs.Sets.{has}
-use Rattle.isis_model.specs.Waits.{wait}
-use Rattle.isis_model.specs.Maps.{find}
-use Rattle.isis_model.specs.Sorted.{RisesFrom}
-use Rattle.isis_model.specs.Good.{IsGood, IsGoodCell}
-use Rattle.isis_model.specs.Configs.{Config}
-use Rattle.isis_model.specs.Books.{Book}
-use Rattle.isis_model.specs.Routers.{Circuit, Router}
-use Rattle.isis_model.specs.Routers as routers
-use Rattle.isis_model.specs.Cells.{Cell}
-use Rattle.isis_model.specs.Datagrams.{Sent, PointHello, LanHello, Lsp, Csnp, Psnp}
-use Rattle.isis_model.specs.Pulls.{due_lsps, srm_due}
-use Rattle.isis_model.specs.SnpTable.{SnpEntry}
-use Rattle.isis_model.specs.SnpLists.{pieces, csnps, last_id}
-use Rattle.isis_datagram.specs.Datagrams.{datagram, pdu_octets}
-use Rattle.isis_datagram.specs.LspLaws.{IsSendable}
-use Rattle.isis_datagram.specs.Speakers.{IsSpeaking}
-use Rattle.lsp_octets.specs.Held.{IsPuttable}
+use Rattle.model_router.specs.Both.{at}
+use Rattle.model_router.specs.Sets.{has}
+use Rattle.model_router.specs.Waits.{wait}
+use Rattle.model_router.specs.Maps.{find}
+use Rattle.model_router.specs.Sorted.{RisesFrom}
+use Rattle.model_router.specs.Good.{IsGood, IsGoodCell}
+use Rattle.model_router.specs.Configs.{Config}
+use Rattle.model_router.specs.Books.{Book}
+use Rattle.model_router.specs.Routers.{Circuit, Router}
+use Rattle.model_router.specs.Routers as routers
+use Rattle.model_router.specs.Cells.{Cell}
+use Rattle.model_router.specs.Datagrams.{Sent, PointHello, LanHello, Lsp, Csnp, Psnp}
+use Rattle.model_router.specs.Pulls.{due_lsps, srm_due}
+use Rattle.model_router.specs.SnpTable.{SnpEntry}
+use Rattle.model_router.specs.SnpLists.{pieces, csnps, last_id}
+use Rattle.model_datagram.specs.Datagrams.{datagram, pdu_octets}
+use Rattle.model_datagram.specs.LspLaws.{IsSendable}
+use Rattle.model_datagram.specs.Speakers.{IsSpeaking}
+use Rattle.router_sending.specs.Held.{IsPuttable}
 use Rattle.flag_sync.specs.BookStates.{BookState, cells_of, book_of}
 use Rattle.lsp_store.specs.declared.entry.Entry.{Entry}
 use Rattle.flag_sync.specs.declared.flag_row.FlagRow.{FlagRow}
@@ -35,8 +35,8 @@ use Rattle.flag_sync.specs.FlagRows.{cell_of}
 use Rattle.flag_sync.specs.Heard.{entries_of}
 use Rattle.snp_exchange.specs.PieceLists.{PieceSaid, said_sent}
 use Rattle.snp_exchange.specs.Pieces.{lists_of}
-use Rattle.pdu_sender.specs.declared.sender.Sender.{Sender}
-use Rattle.pdu_sender.specs.Sends.{Sends}
+use Rattle.router_sending.specs.declared.sender.Sender.{Sender}
+use Rattle.router_sending.specs.Sends.{Sends}
 use Rattle.router_core.specs.Sending.{config_of, circuit_of, octets_of, all_octets, MaySend, hellos_due, csnps_due, psnps_due, level_due, open_due, all_due}
 
 -- a sender sends for what its datagrams look at

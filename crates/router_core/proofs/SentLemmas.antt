@@ -2,25 +2,25 @@
 use Rattle.std.proofs.Common.{◌≡◌, ℕ, zero, suc, ◌<◌, ◌==◌, nat_lt, ◌&&◌, Bool, true, false, if◌then◌else◌, List, [], ◌∷◌, ◌++◌, length, map, Option, Some, None, IfSome, refl, sym, ap, ap₂, ◌∙◌, subst, append_assoc, append-nil}
 use Rattle.isis_base.specs.declared.level.Level.{Level}
 use Rattle.isis_base.specs.declared.level.Level.TheVariants as level
-use Rattle.isis_model.specs.Maps.{each}
-use Rattle.isis_model.specs.Both.{at}
-use Rattle.isis_model.specs.Sets.{has}
-use Rattle.isis_model.specs.Places.{nth, with_nth}
-use Rattle.isis_model.specs.Cells.{Cell, srm_sent, srm_off}
-use Rattle.isis_model.specs.Books.{Book}
-use Rattle.isis_model.specs.Configs.{Config}
-use Rattle.isis_model.specs.Routers.{CircuitLevel, Circuit, Router, book_of, with_book, with_circuit}
-use Rattle.isis_model.specs.Datagrams.{Sent, PointHello, LanHello, Lsp, Csnp, Psnp}
-use Rattle.isis_model.specs.Elections.{idle}
-use Rattle.isis_model.specs.AdjacencyLaws.{AreIdle}
-use Rattle.isis_model.specs.Events.{Pull, Send, settled}
-use Rattle.isis_model.specs.Steps.{sent_all, step}
-use Rattle.isis_datagram.specs.Datagrams.{datagram, pdu_octets}
+use Rattle.model_router.specs.Maps.{each}
+use Rattle.model_router.specs.Both.{at}
+use Rattle.model_router.specs.Sets.{has}
+use Rattle.model_router.specs.Places.{nth, with_nth}
+use Rattle.model_router.specs.Cells.{Cell, srm_sent, srm_off}
+use Rattle.model_router.specs.Books.{Book}
+use Rattle.model_router.specs.Configs.{Config}
+use Rattle.model_router.specs.Routers.{CircuitLevel, Circuit, Router, book_of, with_book, with_circuit}
+use Rattle.model_router.specs.Datagrams.{Sent, PointHello, LanHello, Lsp, Csnp, Psnp}
+use Rattle.model_router.specs.Elections.{idle}
+use Rattle.model_router.specs.AdjacencyLaws.{AreIdle}
+use Rattle.model_router.specs.Events.{Pull, Send, settled}
+use Rattle.model_router.specs.Steps.{sent_all, step}
+use Rattle.model_datagram.specs.Datagrams.{datagram, pdu_octets}
 use Rattle.router_core.specs.Givens.{given}
 use Rattle.router_core.specs.Replies.{datagrams_on, datagrams_of}
-use Rattle.isis_model.specs.SnpTable.{SnpEntry}
-use Rattle.isis_model.specs.SnpLists.{csnp_set, entries_where, snp_entry, owed, pieces, psnps}
-use Rattle.isis_model.specs.Pulls.{Sending, on_circuit, at_circuit, hellos, pull_hello, is_csnp_due, with_part, csnp_sent, pull_csnp, srm_due, due_lsps, sent_cell, sent, pull_lsps, answered, pull_psnp, pull_level, pull}
+use Rattle.model_router.specs.SnpTable.{SnpEntry}
+use Rattle.model_router.specs.SnpLists.{csnp_set, entries_where, snp_entry, owed, pieces, psnps}
+use Rattle.model_router.specs.Pulls.{Sending, on_circuit, at_circuit, hellos, pull_hello, is_csnp_due, with_part, csnp_sent, pull_csnp, srm_due, due_lsps, sent_cell, sent, pull_lsps, answered, pull_psnp, pull_level, pull}
 use Rattle.router_core.specs.Sending.{hellos_due, csnps_due, psnps_due, level_due, open_due, all_due}
 use Rattle.router_core.specs.Pulled.{on_place, hello_gone, after_hello, csnps_gone, after_csnps, after_lsps, psnps_gone, after_psnps, after_level, after_all}
 use Rattle.router_core.proofs.IdleLemmas.{nth-with, with-twice, from-some, settle-with}

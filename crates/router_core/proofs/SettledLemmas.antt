@@ -5,13 +5,13 @@ use Rattle.std.proofs.lemmas.Bool.Decides.{nat_tests}
 use Rattle.std.specs.List.{AllByRecursion}
 use Rattle.isis_base.specs.declared.level.Level.{Level}
 use Rattle.isis_base.specs.declared.level.Level.TheVariants as level
-use Rattle.isis_model.specs.Books.{risen}
-use Rattle.isis_model.specs.Maps.{find, each}
-use Rattle.isis_model.specs.OwnLsps.{is_due, renew, same_contents}
-use Rattle.isis_model.specs.Routers.{Circuit, Contents, Issued, LevelState, Router, level_of}
-use Rattle.isis_model.specs.Seconds.{older}
-use Rattle.isis_model.specs.Wanted.{system_lsp, wanted}
-use Rattle.isis_model.proofs.MapLemmas.{find-each}
+use Rattle.model_router.specs.Books.{risen}
+use Rattle.model_router.specs.Maps.{find, each}
+use Rattle.model_router.specs.OwnLsps.{is_due, renew, same_contents}
+use Rattle.model_router.specs.Routers.{Circuit, Contents, Issued, LevelState, Router, level_of}
+use Rattle.model_router.specs.Seconds.{older}
+use Rattle.model_router.specs.Wanted.{system_lsp, wanted}
+use Rattle.model_router.proofs.MapLemmas.{find-each}
 use Rattle.lsp_fragments.specs.Issues.{all_rest}
 use Rattle.lsp_fragments.specs.Kept.{OwnState}
 use Rattle.flag_sync.specs.BookStates.{BookState, book_of}

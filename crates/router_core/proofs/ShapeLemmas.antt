@@ -3,16 +3,16 @@ use Rattle.std.proofs.Common.{◌≡◌, ℕ, zero, suc, ◌<◌, List, [], ◌�
 use Rattle.std.specs.Prelude.{slice_set}
 use Rattle.std.specs.List.{AllByRecursion}
 use Rattle.router_core.specs.Machines.{IsFit}
-use Rattle.isis_model.specs.Places.{nth, with_nth}
-use Rattle.isis_model.specs.Both.{Both}
-use Rattle.isis_model.specs.Configs.{Config}
-use Rattle.isis_model.specs.declared.drop_name.DropName.{DropName}
-use Rattle.isis_model.specs.declared.drop_name.DropName.TheVariants.{NoThreeWay}
-use Rattle.isis_model.specs.Drops.{or_else}
-use Rattle.isis_model.specs.Routers.{Circuit, Router, with_circuit}
-use Rattle.isis_model.specs.Adjacencies.{Hello, Handshake, common_of}
-use Rattle.isis_model.specs.Hellos.{point_circuit}
-use Rattle.isis_model.specs.HelloTests.{point_drop, hello_drop, shake_drop, full_drop}
+use Rattle.model_router.specs.Places.{nth, with_nth}
+use Rattle.model_router.specs.Both.{Both}
+use Rattle.model_router.specs.Configs.{Config}
+use Rattle.model_router.specs.declared.drop_name.DropName.{DropName}
+use Rattle.model_router.specs.declared.drop_name.DropName.TheVariants.{NoThreeWay}
+use Rattle.model_router.specs.Drops.{or_else}
+use Rattle.model_router.specs.Routers.{Circuit, Router, with_circuit}
+use Rattle.model_router.specs.Adjacencies.{Hello, Handshake, common_of}
+use Rattle.model_router.specs.Hellos.{point_circuit}
+use Rattle.model_router.specs.HelloTests.{point_drop, hello_drop, shake_drop, full_drop}
 
 -- a configuration of these, and nothing else
 abbrev pub bare : ℕ → List (List ℕ) → Both Bool → Config

@@ -2,10 +2,10 @@
 use Rattle.std.proofs.Common.{◌≡◌, ℕ, suc, List, [], ◌∷◌, map, length, replicate, Option, Bool, true, false, Result, Ok, Err, IfOk, refl, sym, ap, ◌∙◌, subst}
 use Rattle.std.specs.List.{AllByRecursion}
 use Rattle.isis_base.specs.declared.level.CircuitKind.{CircuitKind}
-use Rattle.isis_model.specs.Both.{Both}
-use Rattle.isis_model.specs.Configs as model
-use Rattle.isis_model.specs.Routers.{Circuit, LevelState, Router}
-use Rattle.isis_model.specs.Starts.{start, started, empty_level, points_of}
+use Rattle.model_router.specs.Both.{Both}
+use Rattle.model_router.specs.Configs as model
+use Rattle.model_router.specs.Routers.{Circuit, LevelState, Router}
+use Rattle.model_router.specs.Starts.{start, started, empty_level, points_of}
 use Rattle.router_desk.specs.declared.circuit_config.CircuitConfig.{CircuitConfig}
 use Rattle.router_desk.specs.Configs.{circuit_of}
 use Rattle.router_desk.specs.Desks.{desk_circuit, kind_of_circuit}

@@ -1,20 +1,20 @@
 -- An event is the model's step.
 use Rattle.std.proofs.Common.{◌≡◌, ℕ, ◌<◌, ◌-◌, List, Option, Some, Result, Ok, Err, IfOk, OnOk, length, refl, sym, ap, ◌∙◌, subst, arith}
 use Rattle.isis_base.specs.declared.memory.OutOfMemory.{OutOfMemory}
-use Rattle.isis_model.specs.Events as model
-use Rattle.isis_model.specs.Places.{nth}
-use Rattle.isis_model.specs.Pulls as pulls
-use Rattle.isis_model.specs.Routers.{Circuit, Router}
-use Rattle.isis_model.specs.Receiving.{drop_of, take, take_or_drop}
-use Rattle.isis_model.specs.Drops.{count_drop}
-use Rattle.isis_model.specs.declared.drop_name.DropName.{DropName}
-use Rattle.isis_model.specs.Steps.{step}
-use Rattle.isis_model.specs.Seconds.{second}
-use Rattle.isis_model.specs.AdjacencyLaws.{place_of}
+use Rattle.model_router.specs.Events as model
+use Rattle.model_router.specs.Places.{nth}
+use Rattle.model_router.specs.Pulls as pulls
+use Rattle.model_router.specs.Routers.{Circuit, Router}
+use Rattle.model_router.specs.Receiving.{drop_of, take, take_or_drop}
+use Rattle.model_router.specs.Drops.{count_drop}
+use Rattle.model_router.specs.declared.drop_name.DropName.{DropName}
+use Rattle.model_router.specs.Steps.{step}
+use Rattle.model_router.specs.Seconds.{second}
+use Rattle.model_router.specs.AdjacencyLaws.{place_of}
 use Rattle.router_desk.specs.declared.cause.DropCause.{DropCause}
 use Rattle.router_desk.specs.Causes.{name_of}
-use Rattle.router_reading.specs.Heard.{message_of}
-use Rattle.router_reading.specs.declared.heard.Heard.{Heard}
+use Rattle.router_desk.specs.Heard.{message_of}
+use Rattle.router_desk.specs.declared.heard.Heard.{Heard}
 use Rattle.router_core.specs.declared.read.Read.{Read}
 use Rattle.router_core.specs.declared.read.Read.TheVariants as read
 use Rattle.router_desk.specs.declared.config.Change.{Change}

@@ -3,18 +3,18 @@ use Rattle.std.proofs.Common.{◌≡◌, ℕ, Option, Some, None, Bool, true, fa
 use Rattle.isis_base.specs.declared.level.Level.{Level}
 use Rattle.isis_base.specs.declared.identifiers.LspId.{LspId}
 use Rattle.isis_base.specs.declared.memory.OutOfMemory.{OutOfMemory}
-use Rattle.isis_model.specs.Cells.{Heard}
-use Rattle.isis_model.specs.LspTable.{met}
-use Rattle.isis_model.specs.Places.{nth}
-use Rattle.isis_model.specs.Takes.{take_lsp, whose_of}
-use Rattle.isis_model.specs.declared.drop_name.DropName.{DropName}
-use Rattle.isis_model.specs.AdjacencyLaws.{AreIdle}
-use Rattle.isis_model.specs.Events as model
-use Rattle.isis_model.specs.Events.{Envelope, Message, Outcome, settled}
-use Rattle.isis_model.specs.Receiving.{acks, drop_of, lsp_drop, scene_of, taken, take_or_drop}
-use Rattle.isis_model.specs.Routers.{Circuit, LevelState, Router, level_of, with_level}
+use Rattle.model_router.specs.Cells.{Heard}
+use Rattle.model_router.specs.LspTable.{met}
+use Rattle.model_router.specs.Places.{nth}
+use Rattle.model_router.specs.Takes.{take_lsp, whose_of}
+use Rattle.model_router.specs.declared.drop_name.DropName.{DropName}
+use Rattle.model_router.specs.AdjacencyLaws.{AreIdle}
+use Rattle.model_router.specs.Events as model
+use Rattle.model_router.specs.Events.{Envelope, Message, Outcome, settled}
+use Rattle.model_router.specs.Receiving.{acks, drop_of, lsp_drop, scene_of, taken, take_or_drop}
+use Rattle.model_router.specs.Routers.{Circuit, LevelState, Router, level_of, with_level}
 use Rattle.router_levels.specs.Drafts as levels
-use Rattle.router_reading.specs.Heard as reading
+use Rattle.router_desk.specs.Heard as reading
 use Rattle.router_core.specs.declared.reply.Reply.{Reply}
 use Rattle.router_core.specs.Givens.{given}
 use Rattle.router_core.specs.Replies.{Answers, IsTaken, outcome}

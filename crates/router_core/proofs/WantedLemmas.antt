@@ -5,17 +5,17 @@ use Rattle.std.specs.List.{AllByRecursion}
 use Rattle.std.proofs.Math.Seq.{take-length}
 use Rattle.isis_base.specs.declared.entry.LspEntry.{LspEntry}
 use Rattle.isis_base.specs.Identifiers.{lsp_number}
-use Rattle.isis_model.specs.Routers.{Issued}
-use Rattle.isis_model.specs.Takes.{Scene}
-use Rattle.lsp_octets.specs.Drafts.{DraftView}
+use Rattle.model_router.specs.Routers.{Issued}
+use Rattle.model_router.specs.Takes.{Scene}
+use Rattle.router_sending.specs.Drafts.{DraftView}
 use Rattle.router_levels.specs.Drafts.{AreAnswers, AreReady, IsAnswer, IsReady}
 use Rattle.isis_tlv.specs.Walks as walks
 use Rattle.isis_tlv.specs.Tlvs.{AreTlvs}
-use Rattle.isis_model.specs.Good.{IsIssuable}
-use Rattle.isis_model.specs.Maps.{find}
-use Rattle.lsp_wanted.specs.declared.wanted.Wanted.{Wanted}
-use Rattle.lsp_wanted.specs.Views.{contents_of, wanted_of}
-use Rattle.isis_model.specs.Wanted.{room_for}
+use Rattle.model_router.specs.Good.{IsIssuable}
+use Rattle.model_router.specs.Maps.{find}
+use Rattle.router_wanted.specs.declared.wanted.Wanted.{Wanted}
+use Rattle.router_wanted.specs.Views.{contents_of, wanted_of}
+use Rattle.model_router.specs.Wanted.{room_for}
 
 pub find-next : {V : Type 0} (p : ℕ × V) (ps : List (ℕ × V)) (n : ℕ) → (p.0 == n) ≡ false → find (p ∷ ps) n ≡ find ps n
 find-next p ps n e = ap (λ (b : Bool). if b then Some p.1 else find ps n) e

@@ -2,23 +2,23 @@
 use Rattle.std.specs.Prelude.{◌≡◌, ℕ, ◌-◌, ◌^◌, ◌<◌, ◌≤◌, nat_le, Bool, true, false, ◌&&◌, List, [], ◌∷◌}
 use Rattle.std.specs.List.{AllByRecursion}
 use Rattle.isis_base.specs.declared.level.Level.{Level}
-use Rattle.isis_model.specs.declared.lsp_case.LspCase.{LspCase}
-use Rattle.isis_model.specs.declared.lsp_case.LspCase.TheVariants as lsp
-use Rattle.isis_model.specs.declared.snp_case.SnpCase.{SnpCase}
-use Rattle.isis_model.specs.declared.snp_case.SnpCase.TheVariants as snp
-use Rattle.isis_model.specs.declared.whose.Whose.{Whose}
+use Rattle.model_router.specs.declared.lsp_case.LspCase.{LspCase}
+use Rattle.model_router.specs.declared.lsp_case.LspCase.TheVariants as lsp
+use Rattle.model_router.specs.declared.snp_case.SnpCase.{SnpCase}
+use Rattle.model_router.specs.declared.snp_case.SnpCase.TheVariants as snp
+use Rattle.model_router.specs.declared.whose.Whose.{Whose}
 use Rattle.flag_sync.specs.declared.heard.LspAnswer.{LspAnswer}
 use Rattle.flag_sync.specs.declared.heard.LspAnswer.TheVariants as answer
 use Rattle.isis_base.specs.declared.identifiers.LspId.{LspId}
 use Rattle.lsp_store.specs.declared.entry.Entry.{Entry}
-use Rattle.isis_model.specs.Cells.{Cell}
-use Rattle.isis_model.specs.Sorted.{RisesFrom}
-use Rattle.isis_model.specs.Books.{Book, cell_at}
-use Rattle.isis_model.specs.LspTable.{met}
-use Rattle.isis_model.specs.SnpTable.{SnpEntry, snp_case}
-use Rattle.isis_model.specs.Takes.{whose_of}
-use Rattle.isis_model.specs.Routers.{Router, level_of, book_of}
-use Rattle.isis_model.specs.Events.{Message, Refused, PointHelloHeard, LanHelloHeard, LspHeard, SnpHeard, Event, Second, Take, Pull, Metric, Overload, Prefix}
+use Rattle.model_router.specs.Cells.{Cell}
+use Rattle.model_router.specs.Sorted.{RisesFrom}
+use Rattle.model_router.specs.Books.{Book, cell_at}
+use Rattle.model_router.specs.LspTable.{met}
+use Rattle.model_router.specs.SnpTable.{SnpEntry, snp_case}
+use Rattle.model_router.specs.Takes.{whose_of}
+use Rattle.model_router.specs.Routers.{Router, level_of, book_of}
+use Rattle.model_router.specs.Events.{Message, Refused, PointHelloHeard, LanHelloHeard, LspHeard, SnpHeard, Event, Second, Take, Pull, Metric, Overload, Prefix}
 
 -- the rows of an LSP that isn't newer than what is held (ISO 10589 7.3.15.1)
 abbrev pub is_calm_row : LspCase → Bool

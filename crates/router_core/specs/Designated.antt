@@ -2,9 +2,9 @@
 use Rattle.std.specs.Prelude.{ℕ, Option}
 use Rattle.std.specs.Option.{option_map}
 use Rattle.isis_base.specs.declared.level.Level.{Level}
-use Rattle.isis_model.specs.Configs.{Config}
-use Rattle.isis_model.specs.Routers.{Circuit}
-use Rattle.isis_model.specs.Elections.{designated}
+use Rattle.model_router.specs.Configs.{Config}
+use Rattle.model_router.specs.Routers.{Circuit}
+use Rattle.model_router.specs.Elections.{designated}
 
 -- the system that is designated on a circuit and level; none where the circuit is no LAN, or no
 -- neighbour is up (8.4.5)

@@ -1,8 +1,8 @@
 -- What an event is to the model's router, and when it may be handed over (own).
 use Rattle.std.specs.Prelude.{◌≡◌, ℕ, ◌-◌, ◌<◌, ◌≤◌, length, Option, Some, None}
-use Rattle.isis_model.specs.Maps.{find}
-use Rattle.isis_model.specs.Routers.{Router}
-use Rattle.isis_model.specs.Events as model
+use Rattle.model_router.specs.Maps.{find}
+use Rattle.model_router.specs.Routers.{Router}
+use Rattle.model_router.specs.Events as model
 use Rattle.router_desk.specs.declared.config.Change.{Change}
 use Rattle.router_desk.specs.declared.config.Change.TheVariants as change
 use Rattle.router_desk.specs.Configs.{prefix_number}

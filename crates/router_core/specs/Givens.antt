@@ -2,9 +2,9 @@
 -- written (own).
 use Rattle.std.specs.Prelude.{ℕ, Bool, List}
 use Rattle.isis_base.specs.declared.level.Level.{Level}
-use Rattle.isis_model.specs.Routers.{Router}
-use Rattle.isis_model.specs.Givens.{Given}
-use Rattle.isis_datagram.specs.Lsps.{given_octets}
+use Rattle.model_router.specs.Routers.{Router}
+use Rattle.model_router.specs.Givens.{Given}
+use Rattle.model_datagram.specs.Lsps.{given_octets}
 use Rattle.router_routes.specs.Outlooks.{outlook_of}
 use Rattle.router_routes.specs.Candidates as candidates
 use Rattle.router_routes.specs.Leaks as leaks

@@ -1,8 +1,8 @@
 -- What a router's level 2 LSPs say of prefixes that aren't its own (RFC 5302 3.2).
 use Rattle.std.specs.Prelude.{◌≡◌, ℕ, ◌⊎◌, IsSome, List}
 use Rattle.std.specs.List.{Contains}
-use Rattle.isis_model.specs.Maps.{find}
-use Rattle.isis_model.specs.Configs.{Config}
+use Rattle.model_router.specs.Maps.{find}
+use Rattle.model_router.specs.Configs.{Config}
 use Rattle.route_table.specs.declared.rank.Rank.TheVariants as rank
 use Rattle.route_table.specs.declared.route.Route.{Route}
 use Rattle.router_desk.specs.Configs.{prefix_number}

@@ -1,17 +1,17 @@
 -- How a router's parts lie in memory, as the router's model has them (own).
 use Rattle.std.specs.Prelude.{◌≡◌, ◌≤◌, ℕ, true, false, List, length, map, is_some}
 use Rattle.std.specs.List.{AllByRecursion}
-use Rattle.isis_model.specs.Maps.{find}
-use Rattle.isis_model.specs.Routers.{Circuit, Contents, Router, level_of}
-use Rattle.isis_model.specs.Wanted.{wanted}
+use Rattle.model_router.specs.Maps.{find}
+use Rattle.model_router.specs.Routers.{Circuit, Contents, Router, level_of}
+use Rattle.model_router.specs.Wanted.{wanted}
 use Rattle.isis_base.specs.declared.level.Level.{Level}
 use Rattle.isis_base.specs.declared.identifiers.LspId.{LspId}
 use Rattle.isis_base.specs.Identifiers.{lsp_number}
-use Rattle.isis_model.specs.Both.{at}
-use Rattle.isis_model.specs.Takes.{answer_of}
-use Rattle.isis_model.specs.Events.{Message, Refused, PointHelloHeard, LanHelloHeard, LspHeard, SnpHeard}
-use Rattle.isis_model.specs.Receiving.{scene_of}
-use Rattle.lsp_octets.specs.Drafts.{DraftView}
+use Rattle.model_router.specs.Both.{at}
+use Rattle.model_router.specs.Takes.{answer_of}
+use Rattle.model_router.specs.Events.{Message, Refused, PointHelloHeard, LanHelloHeard, LspHeard, SnpHeard}
+use Rattle.model_router.specs.Receiving.{scene_of}
+use Rattle.router_sending.specs.Drafts.{DraftView}
 use Rattle.router_desk.specs.Desks.{desk_circuit}
 use Rattle.router_levels.specs.Views.{state_of}
 use Rattle.router_core.specs.Givens.{given}

@@ -1,8 +1,8 @@
 -- The boot that a point-to-point neighbour tells (RFC 5303 3.1; that its extended circuit ID has it:
 -- own).
 use Rattle.std.specs.Prelude.{ℕ, ◌/◌, Option, Some, None, if◌then◌else◌}
-use Rattle.isis_model.specs.Adjacencies.{Neighbour, is_up}
-use Rattle.isis_model.specs.Routers.{Circuit}
+use Rattle.model_router.specs.Adjacencies.{Neighbour, is_up}
+use Rattle.model_router.specs.Routers.{Circuit}
 
 -- the last octet of an extended circuit ID is the circuit's number, and the octets before it are the
 -- boot (own)

@@ -6,24 +6,24 @@ use Rattle.isis_base.specs.declared.level.Level.TheVariants as level
 use Rattle.isis_base.specs.Identifiers.{lsp_number}
 use Rattle.isis_base.specs.Keys.{entry_rank, rank}
 use Rattle.lsp_store.specs.declared.entry.Entry.{Entry}
-use Rattle.isis_model.specs.declared.lsp_case.LspCase.{LspCase}
-use Rattle.isis_model.specs.declared.lsp_case.LspCase.TheVariants as case
-use Rattle.isis_model.specs.AdjacencyLaws.{place_of}
-use Rattle.isis_model.specs.Both.{at}
-use Rattle.isis_model.specs.Drops.{count_drop}
-use Rattle.isis_model.specs.Events as model
-use Rattle.isis_model.specs.LspTable.{met}
-use Rattle.isis_model.specs.OwnLsps.{renew}
-use Rattle.isis_model.specs.Receiving.{no_room, scene_of}
-use Rattle.isis_model.specs.Routers.{Circuit, Router, level_of, with_level}
-use Rattle.isis_model.specs.Steps.{step}
-use Rattle.isis_model.specs.Takes.{whose_of, take_lsp, take_snp}
-use Rattle.isis_model.specs.Wanted.{wanted}
+use Rattle.model_router.specs.declared.lsp_case.LspCase.{LspCase}
+use Rattle.model_router.specs.declared.lsp_case.LspCase.TheVariants as case
+use Rattle.model_router.specs.AdjacencyLaws.{place_of}
+use Rattle.model_router.specs.Both.{at}
+use Rattle.model_router.specs.Drops.{count_drop}
+use Rattle.model_router.specs.Events as model
+use Rattle.model_router.specs.LspTable.{met}
+use Rattle.model_router.specs.OwnLsps.{renew}
+use Rattle.model_router.specs.Receiving.{no_room, scene_of}
+use Rattle.model_router.specs.Routers.{Circuit, Router, level_of, with_level}
+use Rattle.model_router.specs.Steps.{step}
+use Rattle.model_router.specs.Takes.{whose_of, take_lsp, take_snp}
+use Rattle.model_router.specs.Wanted.{wanted}
 use Rattle.flag_sync.specs.Heard.{entries_of, heard_of}
 use Rattle.flag_sync.specs.declared.heard.LspAnswer.{LspAnswer}
 use Rattle.flag_sync.specs.declared.heard.LspAnswer.TheVariants as answer
 use Rattle.flag_sync.specs.declared.heard.LspHeard.{LspHeard}
-use Rattle.lsp_octets.specs.Drafts.{DraftView}
+use Rattle.router_sending.specs.Drafts.{DraftView}
 use Rattle.router_levels.specs.Drafts.{AreAnswers, AreReady, range_of}
 use Rattle.router_desk.specs.declared.envelope.Envelope.{Envelope}
 use Rattle.router_desk.specs.Causes.{name_of}

@@ -3,12 +3,12 @@
 use Rattle.std.specs.Prelude.{ℕ, ◌==◌, nat_lt, ◌&&◌, length, Option, Some, None, if◌then◌else◌}
 use Rattle.isis_base.specs.declared.level.Level.{Level}
 use Rattle.isis_base.specs.declared.level.Level.TheVariants as level
-use Rattle.isis_model.specs.Both.{at}
-use Rattle.isis_model.specs.Sets.{has}
-use Rattle.isis_model.specs.Places.{nth}
-use Rattle.isis_model.specs.Routers.{Circuit, Router, book_of, with_book, with_circuit}
-use Rattle.isis_model.specs.SnpLists.{owed}
-use Rattle.isis_model.specs.Pulls.{with_part, is_csnp_due, csnp_sent, sent, answered}
+use Rattle.model_router.specs.Both.{at}
+use Rattle.model_router.specs.Sets.{has}
+use Rattle.model_router.specs.Places.{nth}
+use Rattle.model_router.specs.Routers.{Circuit, Router, book_of, with_book, with_circuit}
+use Rattle.model_router.specs.SnpLists.{owed}
+use Rattle.model_router.specs.Pulls.{with_part, is_csnp_due, csnp_sent, sent, answered}
 
 -- what becomes of a router on a circuit, where that is there (own)
 abbrev pub on_place : Option Circuit → Router → (Circuit → Router) → Router

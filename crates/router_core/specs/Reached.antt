@@ -1,9 +1,9 @@
 -- What always holds of a router (own).
 use Rattle.std.specs.Prelude.{◌≡◌, ◌≤◌, length}
-use Rattle.isis_model.specs.Sorted.{RisesFrom}
-use Rattle.isis_model.specs.Routers.{Router}
-use Rattle.isis_model.specs.AdjacencyLaws.{FollowsAdjacencies, AreBonds, AreIdle}
-use Rattle.isis_datagram.specs.Speakers.{IsSpeaking}
+use Rattle.model_router.specs.Sorted.{RisesFrom}
+use Rattle.model_router.specs.Routers.{Router}
+use Rattle.model_router.specs.AdjacencyLaws.{FollowsAdjacencies, AreBonds, AreIdle}
+use Rattle.model_datagram.specs.Speakers.{IsSpeaking}
 use Rattle.router_routes.specs.Outlooks.{outlook_of}
 use Rattle.router_routes.specs.Following.{FollowingOf, IsFollowing}
 use Rattle.router_core.specs.declared.marks.Marks.{Marks}

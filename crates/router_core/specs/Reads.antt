@@ -1,12 +1,12 @@
 -- What an event that was read is to the model's router (own).
 use Rattle.std.specs.Prelude.{ℕ, ◌-◌, IfSome}
-use Rattle.isis_model.specs.Events as model
-use Rattle.isis_model.specs.Good.{IsGoodMessage}
-use Rattle.isis_model.specs.Places.{nth}
-use Rattle.isis_model.specs.Routers.{Router}
+use Rattle.model_router.specs.Events as model
+use Rattle.model_router.specs.Good.{IsGoodMessage}
+use Rattle.model_router.specs.Places.{nth}
+use Rattle.model_router.specs.Routers.{Router}
 use Rattle.router_desk.specs.Causes.{name_of}
-use Rattle.router_reading.specs.Heard.{message_of, IsNumbered}
-use Rattle.router_reading.specs.declared.heard.Heard.{Heard}
+use Rattle.router_desk.specs.Heard.{message_of, IsNumbered}
+use Rattle.router_desk.specs.declared.heard.Heard.{Heard}
 use Rattle.router_core.specs.declared.read.Read.{Read}
 use Rattle.router_core.specs.declared.read.Read.TheVariants as read
 use Rattle.router_core.specs.Events.{change_of, IsThere, FitsChange}

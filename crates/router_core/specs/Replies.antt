@@ -1,12 +1,12 @@
 -- What a router answers, as octets (own).
 use Rattle.std.specs.Prelude.{◌≡◌, ℕ, List, [], map, Option, Some, None, IfSome}
-use Rattle.isis_model.specs.Places.{nth}
-use Rattle.isis_model.specs.Routers.{Circuit, Router}
-use Rattle.isis_model.specs.Datagrams.{Sent}
-use Rattle.isis_model.specs.Events as model
-use Rattle.isis_model.specs.Events.{Message, Outcome}
-use Rattle.isis_model.specs.Receiving.{drop_of, take_or_drop}
-use Rattle.isis_datagram.specs.Datagrams.{datagram}
+use Rattle.model_router.specs.Places.{nth}
+use Rattle.model_router.specs.Routers.{Circuit, Router}
+use Rattle.model_router.specs.Datagrams.{Sent}
+use Rattle.model_router.specs.Events as model
+use Rattle.model_router.specs.Events.{Message, Outcome}
+use Rattle.model_router.specs.Receiving.{drop_of, take_or_drop}
+use Rattle.model_datagram.specs.Datagrams.{datagram}
 use Rattle.router_desk.specs.declared.cause.DropCause.{DropCause}
 use Rattle.router_desk.specs.Causes.{name_of}
 use Rattle.router_core.specs.Givens.{given}

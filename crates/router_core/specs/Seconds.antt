@@ -3,14 +3,14 @@
 use Rattle.std.specs.Prelude.{◌≡◌, ℕ, zero, suc, Bool, false, List, [], ◌∷◌, length, Option, Some, None}
 use Rattle.std.specs.List.{AllByRecursion}
 use Rattle.isis_base.specs.declared.level.Level.{Level}
-use Rattle.isis_model.specs.Maps.{find}
-use Rattle.isis_model.specs.OwnLsps.{is_due}
-use Rattle.isis_model.specs.Places.{nth}
-use Rattle.isis_model.specs.Routers.{Circuit, Contents, Issued, LevelState, is_open}
-use Rattle.isis_model.specs.Hellos.{follow_circuit}
-use Rattle.isis_model.specs.Ageing.{age}
-use Rattle.isis_model.specs.Seconds.{counted, circuit_less, waited}
-use Rattle.lsp_octets.specs.Drafts.{DraftView}
+use Rattle.model_router.specs.Maps.{find}
+use Rattle.model_router.specs.OwnLsps.{is_due}
+use Rattle.model_router.specs.Places.{nth}
+use Rattle.model_router.specs.Routers.{Circuit, Contents, Issued, LevelState, is_open}
+use Rattle.model_router.specs.Hellos.{follow_circuit}
+use Rattle.model_router.specs.Ageing.{age}
+use Rattle.model_router.specs.Seconds.{counted, circuit_less, waited}
+use Rattle.router_sending.specs.Drafts.{DraftView}
 use Rattle.router_levels.specs.Views.{LevelView, state_of}
 
 -- a circuit a second later: its counters, then its holding times (8.2.3, 8.2.5, 8.4.1, 8.4.2)

@@ -5,23 +5,23 @@ use Rattle.std.specs.Option.{option_copied}
 use Rattle.isis_base.specs.declared.level.Level.{Level}
 use Rattle.isis_base.specs.declared.level.Level.TheVariants as level
 use Rattle.isis_base.specs.declared.identifiers.LspId.{LspId}
-use Rattle.isis_model.specs.Both.{at}
-use Rattle.isis_model.specs.Sets.{has}
-use Rattle.isis_model.specs.Configs.{Config}
-use Rattle.isis_model.specs.Books.{Book}
-use Rattle.isis_model.specs.Routers.{CircuitLevel, Circuit, Router, book_of}
-use Rattle.isis_model.specs.Datagrams.{Sent}
-use Rattle.isis_model.specs.SnpLists.{csnp_set, pieces, owed, psnps}
-use Rattle.isis_model.specs.Pulls.{hellos, is_csnp_due, due_lsps, srm_due}
-use Rattle.isis_model.specs.Numbers.{system_number}
-use Rattle.isis_datagram.specs.Reading.{runs_of}
-use Rattle.isis_datagram.specs.Datagrams.{datagram}
+use Rattle.model_router.specs.Both.{at}
+use Rattle.model_router.specs.Sets.{has}
+use Rattle.model_router.specs.Configs.{Config}
+use Rattle.model_router.specs.Books.{Book}
+use Rattle.model_router.specs.Routers.{CircuitLevel, Circuit, Router, book_of}
+use Rattle.model_router.specs.Datagrams.{Sent}
+use Rattle.model_router.specs.SnpLists.{csnp_set, pieces, owed, psnps}
+use Rattle.model_router.specs.Pulls.{hellos, is_csnp_due, due_lsps, srm_due}
+use Rattle.model_router.specs.Numbers.{system_number}
+use Rattle.model_datagram.specs.Reading.{runs_of}
+use Rattle.model_datagram.specs.Datagrams.{datagram}
 use Rattle.adjacency.specs.Views.{point_down}
 use Rattle.lsp_store.specs.declared.entry.Entry.{Entry}
-use Rattle.lsp_octets.specs.Held.{IsPuttable}
+use Rattle.router_sending.specs.Held.{IsPuttable}
 use Rattle.flag_sync.specs.declared.flag_row.FlagRow.{FlagRow}
 use Rattle.flag_sync.specs.FlagRows.{cell_of}
-use Rattle.pdu_sender.specs.declared.sender.Sender.{Sender}
+use Rattle.router_sending.specs.declared.sender.Sender.{Sender}
 
 -- ---- a sender's datagrams
 

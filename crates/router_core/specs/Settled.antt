@@ -5,13 +5,13 @@ use Rattle.std.specs.List.{AllByRecursion}
 use Rattle.std.specs.Option.{option_map}
 use Rattle.isis_base.specs.declared.level.Level.{Level}
 use Rattle.isis_base.specs.declared.level.Level.TheVariants as level
-use Rattle.isis_model.specs.Adjacencies.{Neighbour, PointAdj}
-use Rattle.isis_model.specs.Events.{Message, Refused, PointHelloHeard, LanHelloHeard, LspHeard, SnpHeard, Event, Second, Take, Pull, Metric, Overload, Prefix}
-use Rattle.isis_model.specs.Maps.{find}
-use Rattle.isis_model.specs.OwnLsps.{same_contents}
-use Rattle.isis_model.specs.Places.{nth}
-use Rattle.isis_model.specs.Routers.{Circuit, CircuitLevel, Contents, Issued, LanNeighbour, Router, level_of}
-use Rattle.isis_model.specs.Wanted.{wanted}
+use Rattle.model_router.specs.Adjacencies.{Neighbour, PointAdj}
+use Rattle.model_router.specs.Events.{Message, Refused, PointHelloHeard, LanHelloHeard, LspHeard, SnpHeard, Event, Second, Take, Pull, Metric, Overload, Prefix}
+use Rattle.model_router.specs.Maps.{find}
+use Rattle.model_router.specs.OwnLsps.{same_contents}
+use Rattle.model_router.specs.Places.{nth}
+use Rattle.model_router.specs.Routers.{Circuit, CircuitLevel, Contents, Issued, LanNeighbour, Router, level_of}
+use Rattle.model_router.specs.Wanted.{wanted}
 use Rattle.router_core.specs.Givens.{given}
 use Rattle.router_core.specs.Seconds.{numbers}
 use Rattle.router_core.specs.declared.marks.Marks.{Marks}

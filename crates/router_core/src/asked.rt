@@ -1,24 +1,24 @@
 //! What is asked of a router.
 ghost use Rattle.std.specs.Prelude.{◌≡◌, ◌-◌, length, is_some, IfSome};
 ghost use Rattle.std.specs.Option.{option_map};
-ghost use Rattle.isis_model.specs.AdjacencyLaws.{opens};
-ghost use Rattle.isis_model.specs.Drops.{drops_of};
-ghost use Rattle.isis_model.specs.Maps.{find};
-ghost use Rattle.isis_model.specs.Both.{at};
-ghost use Rattle.isis_model.specs.Routers.{book_of};
+ghost use Rattle.model_router.specs.AdjacencyLaws.{opens};
+ghost use Rattle.model_router.specs.Drops.{drops_of};
+ghost use Rattle.model_router.specs.Maps.{find};
+ghost use Rattle.model_router.specs.Both.{at};
+ghost use Rattle.model_router.specs.Routers.{book_of};
 ghost use Rattle.router_desk.specs.Desks.{desk_of};
-ghost use Rattle.isis_model.specs.Places.{nth};
+ghost use Rattle.model_router.specs.Places.{nth};
 ghost use Rattle.router_desk.specs.Configs.{prefix_number};
-ghost use Rattle.isis_model.specs.Numbers.{system_number};
+ghost use Rattle.model_router.specs.Numbers.{system_number};
 ghost use Rattle.router_core.specs.Events.{IsThere};
 ghost use Rattle.router_core.specs.Designated.{designated_system};
 ghost use Rattle.router_core.specs.NamedBoots.{named_boot};
 
 use crate::machine::Machine;
 use isis_base::{Level, Prefix, SystemId};
-use isis_datagram::runs;
-use isis_model::DropName;
-use isis_model::laws::states::count_laws;
+use model_datagram::runs;
+use model_router::DropName;
+use model_router::laws::states::count_laws;
 use router_desk::Desk;
 
 impl Machine {

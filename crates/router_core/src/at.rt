@@ -1,15 +1,15 @@
 //! One circuit of a list, by its number: what changes on it, and that its kind and key stay.
 ghost use Rattle.std.specs.Prelude.{◌≡◌, ◌≤◌, ◌-◌, map, length, true, false, not, IfSome, IfOk, OnErr};
 ghost use Rattle.std.specs.List.{AllByRecursion};
-ghost use Rattle.isis_model.specs.Adjacencies as model;
-ghost use Rattle.isis_model.specs.Both.{alone, at};
-ghost use Rattle.isis_model.specs.Places.{nth, with_nth};
-ghost use Rattle.isis_model.specs.Configs as configs;
-ghost use Rattle.isis_model.specs.Elections.{idle};
-ghost use Rattle.isis_model.specs.Hellos as hellos;
-ghost use Rattle.isis_model.specs.HelloTests.{lan_drop, point_drop};
-ghost use Rattle.isis_model.specs.Pulls as pulls;
-ghost use Rattle.isis_model.specs.Numbers.{system_number};
+ghost use Rattle.model_router.specs.Adjacencies as model;
+ghost use Rattle.model_router.specs.Both.{alone, at};
+ghost use Rattle.model_router.specs.Places.{nth, with_nth};
+ghost use Rattle.model_router.specs.Configs as configs;
+ghost use Rattle.model_router.specs.Elections.{idle};
+ghost use Rattle.model_router.specs.Hellos as hellos;
+ghost use Rattle.model_router.specs.HelloTests.{lan_drop, point_drop};
+ghost use Rattle.model_router.specs.Pulls as pulls;
+ghost use Rattle.model_router.specs.Numbers.{system_number};
 ghost use Rattle.adjacency.specs.Changes.{IsTested};
 ghost use Rattle.router_circuits.specs.Hellos.{hello_of, IsOwn};
 ghost use Rattle.router_desk.specs.Desks.{desk_circuit};

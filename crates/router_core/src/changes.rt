@@ -1,8 +1,8 @@
 //! Changes of the configuration.
 ghost use Rattle.std.specs.Prelude.{◌≡◌, ◌≤◌, ◌-◌, IfSome, OnOk, OnErr};
-ghost use Rattle.isis_model.specs.Places.{nth};
-ghost use Rattle.isis_model.specs.Routers.{with_circuit};
-ghost use Rattle.isis_model.specs.Steps.{step, with_prefix};
+ghost use Rattle.model_router.specs.Places.{nth};
+ghost use Rattle.model_router.specs.Routers.{with_circuit};
+ghost use Rattle.model_router.specs.Steps.{step, with_prefix};
 ghost use Rattle.router_desk.specs.Configs.{prefix_number};
 ghost use Rattle.router_core.specs.Events.{change_of, FitsChange, IsThere};
 ghost use Rattle.router_core.specs.Givens.{given};

@@ -1,9 +1,9 @@
 //! What own LSPs look at of circuits: whether it is the same a second later, and after a hello.
 ghost use Rattle.std.specs.Prelude.{◌≡◌, ℕ, true, Some, IfSome, is_some, length, map};
 ghost use Rattle.std.specs.Option.{option_map};
-ghost use Rattle.isis_model.specs.Both.{at};
+ghost use Rattle.model_router.specs.Both.{at};
 ghost use Rattle.router_core.specs.Seconds.{bare_later};
-ghost use Rattle.isis_model.specs.Routers.{Router};
+ghost use Rattle.model_router.specs.Routers.{Router};
 ghost use Rattle.adjacency.specs.Views.{neighbour_of, point_of};
 ghost use Rattle.router_core.specs.Settled.{face, faces, neighbour_face, point_at, point_face};
 

@@ -1,19 +1,19 @@
 //! The hellos of a circuit, as datagrams.
 ghost use Rattle.std.specs.Prelude.{◌≡◌, ◌≤◌, ◌<◌, ◌-◌, ◌+◌, ◌*◌, ◌^◌, ◌++◌, ◌∷◌, [], OnOk};
-ghost use Rattle.isis_model.specs.Both.{at};
-ghost use Rattle.isis_model.specs.Datagrams as sent;
-ghost use Rattle.isis_model.specs.Pulls as pulls;
-ghost use Rattle.isis_model.specs.Routers.{Router, extended_of};
+ghost use Rattle.model_router.specs.Both.{at};
+ghost use Rattle.model_router.specs.Datagrams as sent;
+ghost use Rattle.model_router.specs.Pulls as pulls;
+ghost use Rattle.model_router.specs.Routers.{Router, extended_of};
 ghost use Rattle.adjacency.specs.Views.{point_of};
-ghost use Rattle.pdu_sender.specs.Sends.{Sends, FitAreas, names_of};
+ghost use Rattle.router_sending.specs.Sends.{Sends, FitAreas, names_of};
 ghost use Rattle.router_core.specs.Sending.{octets_of, all_octets};
 
 use crate::datagrams::Datagrams;
 use adjacency::P2pAdj;
 use isis_base::{Level, OutOfMemory, SystemId};
-use isis_datagram::runs;
-use pdu_sender::{Sender, lan_hello, point_hello};
+use model_datagram::runs;
 use router_circuits::Circuit;
+use router_sending::{Sender, lan_hello, point_hello};
 use std::alloc::Global;
 
 /// Adds the hellos of a circuit (ISO 10589 8.2.3, 8.4.1).

@@ -1,14 +1,14 @@
 //! Hellos that are taken.
 ghost use Rattle.std.specs.Prelude.{◌≡◌, ◌<◌, ◌^◌, ◌-◌, true, false, not, IfSome, IfOk, OnOk, OnErr};
-ghost use Rattle.isis_model.specs.Adjacencies as model;
-ghost use Rattle.isis_model.specs.Both.{alone, at};
-ghost use Rattle.isis_model.specs.Places.{nth};
-ghost use Rattle.isis_model.specs.Hellos as hellos;
-ghost use Rattle.isis_model.specs.HelloTests.{lan_drop, point_drop};
-ghost use Rattle.isis_model.specs.Routers.{extended_of, with_circuit};
-ghost use Rattle.isis_model.specs.AdjacencyLaws.{AreIdle};
-ghost use Rattle.isis_model.specs.Events.{Done, settled};
-ghost use Rattle.isis_model.specs.Receiving.{greeted};
+ghost use Rattle.model_router.specs.Adjacencies as model;
+ghost use Rattle.model_router.specs.Both.{alone, at};
+ghost use Rattle.model_router.specs.Places.{nth};
+ghost use Rattle.model_router.specs.Hellos as hellos;
+ghost use Rattle.model_router.specs.HelloTests.{lan_drop, point_drop};
+ghost use Rattle.model_router.specs.Routers.{extended_of, with_circuit};
+ghost use Rattle.model_router.specs.AdjacencyLaws.{AreIdle};
+ghost use Rattle.model_router.specs.Events.{Done, settled};
+ghost use Rattle.model_router.specs.Receiving.{greeted};
 ghost use Rattle.adjacency.specs.Changes.{IsTested};
 ghost use Rattle.router_circuits.specs.Hellos.{hello_of};
 ghost use Rattle.router_core.specs.Events.{IsThere};

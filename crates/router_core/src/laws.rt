@@ -2,8 +2,8 @@
 ghost use Rattle.std.specs.Prelude.{List};
 ghost use Rattle.std.specs.List.{AllByRecursion};
 ghost use Rattle.isis_base.specs.declared.level.Level.TheVariants as level;
-ghost use Rattle.isis_model.specs.LspPrefixes.{prefixes_of};
-ghost use Rattle.isis_model.specs.Routers.{Router};
+ghost use Rattle.model_router.specs.LspPrefixes.{prefixes_of};
+ghost use Rattle.model_router.specs.Routers.{Router};
 ghost use Rattle.route_table.specs.declared.route.Route.{Route};
 ghost use Rattle.router_routes.specs.Outlooks.{outlook_of};
 ghost use Rattle.router_routes.specs.Candidates.{AreRoutesOf};

@@ -1,14 +1,14 @@
 //! A router's levels: what is asked of one, and what one takes.
 ghost use Rattle.std.specs.Prelude.{◌≡◌, ◌<◌, ◌≤◌, ◌-◌, false, length, is_some, option_map, Some, IfSome, OnOk, OnErr, IsSome};
 ghost use Rattle.isis_base.specs.Identifiers.{lsp_number};
-ghost use Rattle.isis_model.specs.Both.{at};
-ghost use Rattle.isis_model.specs.Places.{nth};
-ghost use Rattle.isis_model.specs.Routers.{level_of, with_level};
-ghost use Rattle.isis_model.specs.LspTable as table;
-ghost use Rattle.isis_model.specs.declared.lsp_case.LspCase.TheVariants as case;
-ghost use Rattle.isis_model.specs.Takes as takes;
-ghost use Rattle.isis_model.specs.Takes.{whose_of};
-ghost use Rattle.isis_model.specs.Receiving.{lsp_drop, no_room, scene_of};
+ghost use Rattle.model_router.specs.Both.{at};
+ghost use Rattle.model_router.specs.Places.{nth};
+ghost use Rattle.model_router.specs.Routers.{level_of, with_level};
+ghost use Rattle.model_router.specs.LspTable as table;
+ghost use Rattle.model_router.specs.declared.lsp_case.LspCase.TheVariants as case;
+ghost use Rattle.model_router.specs.Takes as takes;
+ghost use Rattle.model_router.specs.Takes.{whose_of};
+ghost use Rattle.model_router.specs.Receiving.{lsp_drop, no_room, scene_of};
 ghost use Rattle.flag_sync.specs.Heard.{heard_of};
 ghost use Rattle.router_levels.specs.Views.{state_of};
 ghost use Rattle.router_levels.specs.Drafts.{IsAnswer};
@@ -20,9 +20,9 @@ ghost use Rattle.router_core.specs.Events.{IsThere};
 use crate::machine::Machine;
 use flag_sync::LspHeard;
 use isis_base::{Level, OutOfMemory};
-use lsp_octets::{Draft, lent_key};
 use router_desk::{DropCause, Envelope};
 use router_levels::LevelParts;
+use router_sending::{Draft, lent_key};
 
 impl Machine {
     /// A level.

@@ -1,7 +1,7 @@
 //! One router: its state, and what becomes of it and is answered at each event.
 //!
-//! ISO 10589 7.3 and 8, RFC 5303 and RFC 5304, as isis_model has them: `step` is the model's step,
-//! state and answer, and what is sent are the datagrams of isis_datagram. What a step can need
+//! ISO 10589 7.3 and 8, RFC 5303 and RFC 5304, as model_router has them: `step` is the model's step,
+//! state and answer, and what is sent are the datagrams of model_datagram. What a step can need
 //! memory for is made before its first change, so a step that wants memory leaves the router as it
 //! was (own).
 //!

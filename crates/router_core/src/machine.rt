@@ -1,17 +1,17 @@
 //! The parts of a router, and what they have in common.
 ghost use Rattle.std.specs.Prelude.{◌≡◌, ◌-◌, ◌<◌, IfSome};
-ghost use Rattle.isis_model.specs.Places.{nth};
-ghost use Rattle.isis_model.specs.Drops.{count_drop};
-ghost use Rattle.isis_model.specs.Hellos.{follow};
-ghost use Rattle.isis_model.specs.Elections.{idle};
-ghost use Rattle.isis_model.specs.Routers.{with_circuit};
+ghost use Rattle.model_router.specs.Places.{nth};
+ghost use Rattle.model_router.specs.Drops.{count_drop};
+ghost use Rattle.model_router.specs.Hellos.{follow};
+ghost use Rattle.model_router.specs.Elections.{idle};
+ghost use Rattle.model_router.specs.Routers.{with_circuit};
 ghost use Rattle.router_core.specs.Events.{IsThere};
 
 use crate::at::idle_at;
 use crate::prefixes::OwnPrefixes;
 use isis_base::Level;
-use isis_model::DropName;
-use isis_model::laws::states::count_laws;
+use model_router::DropName;
+use model_router::laws::states::count_laws;
 use router_circuits::Circuit;
 use router_desk::{Areas, Desk};
 use router_levels::LevelParts;
@@ -35,7 +35,7 @@ pub(crate) struct Machine {
 }
 
 impl Model for Machine {
-    ghost use Rattle.isis_model.specs.Routers as model;
+    ghost use Rattle.model_router.specs.Routers as model;
     ghost use Rattle.router_core.specs.Machines.{machine_of, IsLaid};
 
     ghost Value = { model.Router };

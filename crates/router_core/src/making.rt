@@ -1,6 +1,6 @@
 //! Routers at their start.
 ghost use Rattle.std.specs.Prelude.{◌≡◌, ◌≤◌, length, map, IfOk};
-ghost use Rattle.isis_model.specs.Starts.{start, started, empty_level, points_of};
+ghost use Rattle.model_router.specs.Starts.{start, started, empty_level, points_of};
 ghost use Rattle.router_desk.specs.Configs.{config_of, circuit_of, circuits_of};
 ghost use Rattle.router_desk.specs.Desks.{is_lan, kind_of_circuit};
 ghost use Rattle.router_desk.specs.Limits.{IsValid};

@@ -1,8 +1,8 @@
 //! Marks of levels whose own LSPs say what is wanted.
 ghost use Rattle.std.specs.Prelude.{◌≡◌, true};
-ghost use Rattle.isis_model.specs.Events.{Event};
-ghost use Rattle.isis_model.specs.Routers.{Router};
-ghost use Rattle.isis_model.specs.Steps.{step};
+ghost use Rattle.model_router.specs.Events.{Event};
+ghost use Rattle.model_router.specs.Routers.{Router};
+ghost use Rattle.model_router.specs.Steps.{step};
 ghost use Rattle.router_routes.specs.Outlooks.{outlook_of};
 ghost use Rattle.router_core.specs.Calm.{IsCalm};
 ghost use Rattle.router_core.specs.Givens.{given};

@@ -1,6 +1,6 @@
 //! What hellos look at of a router.
 ghost use Rattle.std.specs.Prelude.{◌≡◌, ◌<◌, ◌^◌, ◌*◌, ◌+◌};
-ghost use Rattle.isis_model.specs.Configs as configs;
+ghost use Rattle.model_router.specs.Configs as configs;
 ghost use Rattle.router_circuits.specs.Hellos.{IsOwn};
 
 use adjacency::Own;

@@ -1,10 +1,10 @@
 //! What a router will do at an event, made before anything changes.
 ghost use Rattle.std.specs.Prelude.{◌≡◌, ℕ, ◌-◌, Some, IfOk, IfSome};
-ghost use Rattle.isis_model.specs.Events as model;
-ghost use Rattle.isis_model.specs.Places.{nth};
-ghost use Rattle.isis_model.specs.Receiving.{drop_of};
+ghost use Rattle.model_router.specs.Events as model;
+ghost use Rattle.model_router.specs.Places.{nth};
+ghost use Rattle.model_router.specs.Receiving.{drop_of};
 ghost use Rattle.router_desk.specs.Causes.{name_of};
-ghost use Rattle.router_reading.specs.Heard.{message_of};
+ghost use Rattle.router_desk.specs.Heard.{message_of};
 ghost use Rattle.router_routes.specs.Outlooks.{outlook_of};
 ghost use Rattle.router_routes.specs.Following.{IsFollowing};
 ghost use Rattle.router_core.specs.Events.{IsThere};
@@ -20,11 +20,10 @@ use crate::reply::Reply;
 use crate::told::Told;
 use flag_sync::LspHeard;
 use isis_base::{Level, LspEntry, LspId, OutOfMemory};
-use lsp_octets::Draft;
 use router_circuits::Circuit;
-use router_desk::{Change, DropCause};
-use router_reading::Heard;
+use router_desk::{Change, DropCause, Heard};
 use router_routes::Following;
+use router_sending::Draft;
 
 /// What is done: a datagram that is dropped is counted; the configuration changes; an LSP that outbids none of one's own is
 /// taken; a sequence number PDU is taken that changes no key, with drafts of the own LSPs that it names; what was due on a

@@ -1,6 +1,6 @@
 //! The plan of a change of the configuration.
 ghost use Rattle.std.specs.Prelude.{IfOk};
-ghost use Rattle.isis_model.specs.Steps.{step};
+ghost use Rattle.model_router.specs.Steps.{step};
 ghost use Rattle.router_routes.specs.Outlooks.{outlook_of};
 ghost use Rattle.router_core.specs.Events.{change_of, FitsChange};
 ghost use Rattle.router_core.specs.Givens.{given};

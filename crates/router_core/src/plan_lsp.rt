@@ -1,9 +1,9 @@
 //! The plan of an LSP: whether it is dropped, and else the row that it meets, what is answered, and what its node tells
 //! then.
 ghost use Rattle.std.specs.Prelude.{◌≡◌, ◌-◌, ◌<◌, ◌≤◌, ◌⊎◌, true, length, None, IfOk, IfSome};
-ghost use Rattle.isis_model.specs.Places.{nth};
-ghost use Rattle.isis_model.specs.Receiving.{lsp_drop};
-ghost use Rattle.isis_model.specs.Steps.{step};
+ghost use Rattle.model_router.specs.Places.{nth};
+ghost use Rattle.model_router.specs.Receiving.{lsp_drop};
+ghost use Rattle.model_router.specs.Steps.{step};
 ghost use Rattle.flag_sync.specs.Heard.{answer_of, heard_of};
 ghost use Rattle.router_desk.specs.Opening.{envelope_of};
 ghost use Rattle.router_routes.specs.Outlooks.{outlook_of};

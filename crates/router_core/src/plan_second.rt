@@ -1,13 +1,13 @@
 //! The plan of a second in which no key changes (own).
 ghost use Rattle.std.specs.Prelude.{◌≡◌, ◌≤◌, ℕ, true, List, Some, length, IfOk, IfSome};
 ghost use Rattle.std.specs.List.{AllByRecursion};
-ghost use Rattle.isis_model.specs.Books.{cell_at};
-ghost use Rattle.isis_model.specs.ContentLaws.{SameKey};
-ghost use Rattle.isis_model.specs.Events as model;
-ghost use Rattle.isis_model.specs.OwnLsps as own;
-ghost use Rattle.isis_model.specs.Routers.{Circuit, Router, book_of, level_of};
-ghost use Rattle.isis_model.specs.Steps.{step};
-ghost use Rattle.isis_model.specs.Wanted as wants;
+ghost use Rattle.model_router.specs.Books.{cell_at};
+ghost use Rattle.model_router.specs.ContentLaws.{SameKey};
+ghost use Rattle.model_router.specs.Events as model;
+ghost use Rattle.model_router.specs.OwnLsps as own;
+ghost use Rattle.model_router.specs.Routers.{Circuit, Router, book_of, level_of};
+ghost use Rattle.model_router.specs.Steps.{step};
+ghost use Rattle.model_router.specs.Wanted as wants;
 ghost use Rattle.flag_sync.specs.BookStates as books;
 ghost use Rattle.router_routes.specs.Outlooks.{outlook_of};
 ghost use Rattle.router_routes.specs.Following.{IsFollowing};

@@ -1,16 +1,16 @@
 //! The plan of a sequence number PDU: whether it is dropped, and else whether none of its entries changes a key.
 ghost use Rattle.std.specs.Prelude.{◌≡◌, ◌-◌, true, IfOk, IfSome};
 ghost use Rattle.isis_base.specs.Identifiers.{lsp_number};
-ghost use Rattle.isis_model.specs.declared.whose.Whose.{Whose};
-ghost use Rattle.isis_model.specs.Books.{cell_at};
-ghost use Rattle.isis_model.specs.Events as model;
-ghost use Rattle.isis_model.specs.Numbers.{system_number};
-ghost use Rattle.isis_model.specs.Routers.{book_of};
-ghost use Rattle.isis_model.specs.SnpTable.{snp_case};
+ghost use Rattle.model_router.specs.declared.whose.Whose.{Whose};
+ghost use Rattle.model_router.specs.Books.{cell_at};
+ghost use Rattle.model_router.specs.Events as model;
+ghost use Rattle.model_router.specs.Numbers.{system_number};
+ghost use Rattle.model_router.specs.Routers.{book_of};
+ghost use Rattle.model_router.specs.SnpTable.{snp_case};
 ghost use Rattle.flag_sync.specs.BookStates.{book_of as state_of};
 ghost use Rattle.flag_sync.specs.Heard.{entries_of, entry_of};
 ghost use Rattle.router_desk.specs.Opening.{envelope_of};
-ghost use Rattle.router_reading.specs.Heard.{range_of};
+ghost use Rattle.router_desk.specs.Heard.{range_of};
 ghost use Rattle.router_routes.specs.Outlooks.{outlook_of};
 ghost use Rattle.router_routes.specs.Following.{IsFollowing};
 ghost use Rattle.router_core.specs.Calm.{AreClear, is_calm_entry};

@@ -1,8 +1,8 @@
 //! Prefixes in a list by their number: where one is, and how one is put and taken out.
 ghost use Rattle.std.specs.Prelude.{◌≡◌, map, is_ok, is_some, IfOk, OnOk, OnErr};
-ghost use Rattle.isis_model.specs.Maps.{find, put, erase};
-ghost use Rattle.isis_model.specs.Sorted.{RisesFrom};
-ghost use Rattle.lsp_wanted.specs.Views.{prefix_pair};
+ghost use Rattle.model_router.specs.Maps.{find, put, erase};
+ghost use Rattle.model_router.specs.Sorted.{RisesFrom};
+ghost use Rattle.router_wanted.specs.Views.{prefix_pair};
 ghost use Rattle.router_desk.specs.Configs.{prefix_number};
 ghost use Rattle.router_core.specs.PrefixLists.{IsPrefixAt};
 

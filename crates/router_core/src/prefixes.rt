@@ -1,8 +1,8 @@
 //! A router's own prefixes, in order.
 ghost use Rattle.std.specs.Prelude.{◌≡◌, is_some, length, [], IfOk, OnOk, OnErr, map};
-ghost use Rattle.isis_model.specs.Maps.{find, put, erase, set_at};
-ghost use Rattle.isis_model.specs.Sorted.{RisesFrom};
-ghost use Rattle.lsp_wanted.specs.Views.{prefix_pair};
+ghost use Rattle.model_router.specs.Maps.{find, put, erase, set_at};
+ghost use Rattle.model_router.specs.Sorted.{RisesFrom};
+ghost use Rattle.router_wanted.specs.Views.{prefix_pair};
 ghost use Rattle.router_desk.specs.Configs.{prefix_number, prefixes_of};
 
 use crate::prefix_list::{copy_of, place_of, put_at, take_out};
@@ -19,8 +19,8 @@ pub(crate) struct OwnPrefixes {
 
 impl Model for OwnPrefixes {
     ghost use Rattle.std.specs.Prelude.{List, ℕ, map};
-    ghost use Rattle.isis_model.specs.Sorted.{RisesFrom};
-    ghost use Rattle.lsp_wanted.specs.Views.{prefix_pair};
+    ghost use Rattle.model_router.specs.Sorted.{RisesFrom};
+    ghost use Rattle.router_wanted.specs.Views.{prefix_pair};
 
     ghost Value = { List (ℕ × ℕ) };
 

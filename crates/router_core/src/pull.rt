@@ -1,14 +1,14 @@
 //! What is due on a circuit is sent.
 ghost use Rattle.std.specs.Prelude.{◌≡◌, ◌≤◌, ◌<◌, ◌-◌, ◌^◌, ◌++◌, ℕ, map, Some, OnOk, IfOk, IfSome};
-ghost use Rattle.isis_model.specs.Configs.{Config};
-ghost use Rattle.isis_model.specs.Events as event;
-ghost use Rattle.isis_model.specs.Good.{IsGoodBook};
-ghost use Rattle.isis_model.specs.Places.{nth};
-ghost use Rattle.isis_model.specs.Routers.{Router};
-ghost use Rattle.isis_model.specs.Steps.{step};
-ghost use Rattle.isis_datagram.specs.Datagrams.{datagram};
+ghost use Rattle.model_router.specs.Configs.{Config};
+ghost use Rattle.model_router.specs.Events as event;
+ghost use Rattle.model_router.specs.Good.{IsGoodBook};
+ghost use Rattle.model_router.specs.Places.{nth};
+ghost use Rattle.model_router.specs.Routers.{Router};
+ghost use Rattle.model_router.specs.Steps.{step};
+ghost use Rattle.model_datagram.specs.Datagrams.{datagram};
 ghost use Rattle.flag_sync.specs.BookStates.{book_of, IsCircuit};
-ghost use Rattle.pdu_sender.specs.Sends.{Sends, FitAreas};
+ghost use Rattle.router_sending.specs.Sends.{Sends, FitAreas};
 ghost use Rattle.router_core.specs.Events.{IsThere};
 ghost use Rattle.router_core.specs.Givens.{given};
 ghost use Rattle.router_core.specs.Plans.{IsPlan};
@@ -28,9 +28,9 @@ use crate::sending::{put_csnps, put_lsps, put_psnps};
 use crate::told::Told;
 use flag_sync::Book;
 use isis_base::{Level, OutOfMemory};
-use lsp_octets::laws::sendable_law;
-use pdu_sender::Sender;
 use router_circuits::Circuit;
+use router_sending::Sender;
+use router_sending::laws::sendable_law;
 use std::alloc::Global;
 
 impl Machine {

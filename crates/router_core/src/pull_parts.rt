@@ -1,10 +1,10 @@
 //! What becomes of a router as it sends what is due on a circuit.
 ghost use Rattle.std.specs.Prelude.{◌≡◌, ◌-◌, ◌==◌, ◌&&◌, nat_lt, length, IfSome};
-ghost use Rattle.isis_model.specs.Both.{at};
-ghost use Rattle.isis_model.specs.Places.{nth};
-ghost use Rattle.isis_model.specs.Pulls as pulls;
-ghost use Rattle.isis_model.specs.Routers.{book_of, with_book, with_circuit};
-ghost use Rattle.isis_model.specs.SnpLists.{owed};
+ghost use Rattle.model_router.specs.Both.{at};
+ghost use Rattle.model_router.specs.Places.{nth};
+ghost use Rattle.model_router.specs.Pulls as pulls;
+ghost use Rattle.model_router.specs.Routers.{book_of, with_book, with_circuit};
+ghost use Rattle.model_router.specs.SnpLists.{owed};
 ghost use Rattle.flag_sync.specs.BookStates as books;
 ghost use Rattle.router_core.specs.Events.{IsThere};
 ghost use Rattle.router_core.specs.Pulled as pulled;

@@ -2,15 +2,15 @@
 ghost use Rattle.std.specs.Prelude.{◌≡◌, true, Some, map};
 ghost use Rattle.std.specs.Option.{option_map};
 ghost use Rattle.isis_base.specs.Identifiers.{lsp_number};
-ghost use Rattle.isis_model.specs.Maps.{find};
+ghost use Rattle.model_router.specs.Maps.{find};
 ghost use Rattle.lsp_fragments.specs.Issues.{says_same};
-ghost use Rattle.lsp_wanted.specs.Views.{contents_of, wanted_of};
+ghost use Rattle.router_wanted.specs.Views.{contents_of, wanted_of};
 ghost use Rattle.router_core.specs.Seconds.{IsQuiet, Waits};
 ghost use Rattle.router_core.specs.Settled.{IsSettled, Says};
 
 use isis_base::LspId;
 use lsp_fragments::{Issue, OwnLsps};
-use lsp_wanted::Wanted;
+use router_wanted::Wanted;
 
 /// Whether what is issued is what is wanted, and nothing of it is due (ISO 10589 7.3.5, 7.3.6).
 pub(crate) fn is_quiet(own: &OwnLsps, wanted: &[Wanted]) -> bool

@@ -1,7 +1,7 @@
 //! An event as what it says, read once.
 ghost use Rattle.std.specs.Prelude.{◌≡◌, ◌-◌, IfOk, IfSome};
-ghost use Rattle.isis_model.specs.Good.{IsGoodMessage};
-ghost use Rattle.isis_model.specs.Places.{nth};
+ghost use Rattle.model_router.specs.Good.{IsGoodMessage};
+ghost use Rattle.model_router.specs.Places.{nth};
 ghost use Rattle.router_desk.specs.Desks.{desk_of};
 ghost use Rattle.router_desk.specs.Opening.{IsOpenedBy, message_of};
 ghost use Rattle.router_core.specs.Events.{event_of, Fits, IsThere};
@@ -12,11 +12,10 @@ use crate::event::NodeEvent;
 use crate::machine::Machine;
 use isis_base::OutOfMemory;
 use isis_base::laws::octets_law;
-use isis_datagram::laws::good_law;
+use model_datagram::laws::good_law;
+use router_desk::heard_laws::numbered_law;
 use router_desk::laws::{passed_law, reading_law};
-use router_desk::{Change, DropCause, Opened};
-use router_reading::laws::numbered_law;
-use router_reading::{Heard, hear};
+use router_desk::{Change, DropCause, Heard, Opened, hear};
 
 /// What an event says: a second; a circuit is asked for what is due; the configuration changes; a datagram is refused
 /// by its octets, and why; or what is heard of it.

@@ -1,9 +1,9 @@
 //! LSPs that tell routes what is held of their LSP IDs already (own).
 ghost use Rattle.std.specs.Prelude.{◌≡◌, ◌-◌, true, drop, None, IfSome};
 ghost use Rattle.isis_base.specs.Identifiers.{lsp_number};
-ghost use Rattle.isis_model.specs.Places.{nth};
-ghost use Rattle.isis_model.specs.Receiving.{lsp_drop};
-ghost use Rattle.isis_model.specs.Steps.{step};
+ghost use Rattle.model_router.specs.Places.{nth};
+ghost use Rattle.model_router.specs.Receiving.{lsp_drop};
+ghost use Rattle.model_router.specs.Steps.{step};
 ghost use Rattle.lsp_store.specs.Databases.{is_live_key};
 ghost use Rattle.lsp_store.specs.Maps.{find};
 ghost use Rattle.flag_sync.specs.Heard.{answer_of, heard_of};

@@ -1,13 +1,13 @@
 //! A level a second later, and the own LSPs that it then wants.
 ghost use Rattle.std.specs.Prelude.{◌≡◌, ◌≤◌, length, map, is_some, option_copied, IfOk, IfSome};
 ghost use Rattle.std.specs.List.{AllByRecursion};
-ghost use Rattle.isis_model.specs.Both.{at};
-ghost use Rattle.isis_model.specs.Good.{IsIssuable};
-ghost use Rattle.isis_model.specs.OwnLsps as own;
-ghost use Rattle.isis_model.specs.Routers.{Router, level_of};
-ghost use Rattle.isis_model.specs.Sorted.{RisesFrom};
-ghost use Rattle.isis_model.specs.Wanted as model;
-ghost use Rattle.lsp_wanted.specs.Views.{contents_of, wanted_of};
+ghost use Rattle.model_router.specs.Both.{at};
+ghost use Rattle.model_router.specs.Good.{IsIssuable};
+ghost use Rattle.model_router.specs.OwnLsps as own;
+ghost use Rattle.model_router.specs.Routers.{Router, level_of};
+ghost use Rattle.model_router.specs.Sorted.{RisesFrom};
+ghost use Rattle.model_router.specs.Wanted as model;
+ghost use Rattle.router_wanted.specs.Views.{contents_of, wanted_of};
 ghost use Rattle.router_levels.specs.Drafts.{wants_of};
 ghost use Rattle.router_levels.specs.Views.{state_of};
 ghost use Rattle.router_routes.specs.Outlooks.{outlook_of};
@@ -20,11 +20,11 @@ ghost use Rattle.router_core.specs.Seconds.{follow_first, later_or, level_later,
 use crate::machine::Machine;
 use crate::quiet::is_quiet;
 use isis_base::{Level, OutOfMemory};
-use lsp_octets::Draft;
-use lsp_wanted::{Wanted, wanted_lsps};
 use router_circuits::Circuit;
 use router_levels::{LevelParts, Wants};
 use router_routes::Following;
+use router_sending::Draft;
+use router_wanted::{Wanted, wanted_lsps};
 use std::alloc::Global;
 
 impl Machine {
@@ -46,7 +46,7 @@ impl Machine {
             (λ w. IsIssuable (at self.now.config.keys level) (contents_of w)) list.items) }
         ensures rises { IfOk result (λ list. RisesFrom 0 (map wanted_of list.items)) }
     {
-        let base = lsp_wanted::Wants {
+        let base = router_wanted::Wants {
             system: self.desk.system(),
             areas: self.areas.as_slice(),
             levels: self.desk.levels(),

@@ -1,18 +1,18 @@
 //! A router.
 ghost use Rattle.std.specs.Prelude.{◌≡◌, ◌≤◌, ◌-◌, true, length, OnOk, OnErr, IfOk, IfErr, IfSome, MatchOption, false, is_some};
 ghost use Rattle.std.specs.Option.{option_map};
-ghost use Rattle.isis_model.specs.Both.{at};
-ghost use Rattle.isis_model.specs.Places.{nth};
-ghost use Rattle.isis_model.specs.Drops.{drops_of};
-ghost use Rattle.isis_model.specs.Numbers.{system_number};
+ghost use Rattle.model_router.specs.Both.{at};
+ghost use Rattle.model_router.specs.Places.{nth};
+ghost use Rattle.model_router.specs.Drops.{drops_of};
+ghost use Rattle.model_router.specs.Numbers.{system_number};
 ghost use Rattle.router_core.specs.Designated.{designated_system};
 ghost use Rattle.router_core.specs.NamedBoots.{named_boot};
-ghost use Rattle.isis_model.specs.AdjacencyLaws.{opens, place_of};
-ghost use Rattle.isis_model.specs.Steps.{step};
-ghost use Rattle.isis_model.specs.Starts.{start};
+ghost use Rattle.model_router.specs.AdjacencyLaws.{opens, place_of};
+ghost use Rattle.model_router.specs.Steps.{step};
+ghost use Rattle.model_router.specs.Starts.{start};
 ghost use Rattle.flag_sync.specs.BookStates.{book_of as book_in};
-ghost use Rattle.isis_model.specs.Routers.{book_of, level_of};
-ghost use Rattle.isis_model.specs.Maps.{find};
+ghost use Rattle.model_router.specs.Routers.{book_of, level_of};
+ghost use Rattle.model_router.specs.Maps.{find};
 ghost use Rattle.router_desk.specs.Configs.{config_of, circuits_of, prefix_number};
 ghost use Rattle.router_desk.specs.Desks.{desk_of};
 ghost use Rattle.router_desk.specs.Limits.{IsValid};
@@ -45,7 +45,7 @@ use spf_repair::Repaired;
 use std::alloc::Global;
 use std::marker::Model;
 
-/// One router. Contracts see it as the machine of isis_model, in a state that is reached: what always
+/// One router. Contracts see it as the machine of model_router, in a state that is reached: what always
 /// holds of such states, `facts` tells. Its routes follow its databases, and levels are marked whose own
 /// LSPs say what is wanted.
 #[derive(Drop)]
@@ -56,7 +56,7 @@ pub struct Router {
 }
 
 impl Model for Router {
-    ghost use Rattle.isis_model.specs.Routers as model;
+    ghost use Rattle.model_router.specs.Routers as model;
     ghost use Rattle.router_core.specs.Reached.{IsWhole};
 
     ghost Value = { model.Router };

@@ -1,6 +1,6 @@
 //! What routes look at of a router, and that routes follow it.
 ghost use Rattle.std.specs.Prelude.{◌≡◌, true, false, length, IfOk, OnOk, OnErr};
-ghost use Rattle.isis_model.specs.Steps.{step};
+ghost use Rattle.model_router.specs.Steps.{step};
 ghost use Rattle.router_routes.specs.Outlooks.{outlook_in, outlook_of};
 ghost use Rattle.router_routes.specs.Following.{IsFollowing};
 ghost use Rattle.router_core.specs.Calm.{AreBelow, KeepsPrefixes, SameCounts, Stands};
@@ -13,7 +13,7 @@ use crate::reached::outlook_laws;
 use crate::read::Read;
 use flag_sync::Book;
 use isis_base::{Level, OutOfMemory};
-use isis_model::laws::identifiers::system_law;
+use model_router::laws::identifiers::system_law;
 use router_desk::Change;
 use router_routes::{Following, Lent};
 

@@ -1,11 +1,11 @@
 //! A second of a router.
 ghost use Rattle.std.specs.Prelude.{◌≡◌, ◌≤◌, length, map, IfOk, OnOk, OnErr};
 ghost use Rattle.std.specs.List.{AllByRecursion};
-ghost use Rattle.isis_model.specs.Configs.{Config};
-ghost use Rattle.isis_model.specs.Elections as elections;
-ghost use Rattle.isis_model.specs.Events.{Done, settled};
-ghost use Rattle.isis_model.specs.Seconds.{second};
-ghost use Rattle.isis_model.specs.Numbers.{system_number};
+ghost use Rattle.model_router.specs.Configs.{Config};
+ghost use Rattle.model_router.specs.Elections as elections;
+ghost use Rattle.model_router.specs.Events.{Done, settled};
+ghost use Rattle.model_router.specs.Seconds.{second};
+ghost use Rattle.model_router.specs.Numbers.{system_number};
 ghost use Rattle.router_desk.specs.Desks.{desk_circuit};
 ghost use Rattle.router_routes.specs.Outlooks.{outlook_of};
 ghost use Rattle.router_routes.specs.Following.{IsFollowing};

@@ -3,17 +3,17 @@ ghost use Rattle.std.specs.Prelude.{◌≡◌, ◌≤◌, ◌<◌, ◌-◌, ◌+
 ghost use Rattle.std.specs.List.{AllByRecursion};
 ghost use Rattle.std.specs.declared.alloc.Global.{Global};
 ghost use Rattle.isis_base.specs.Identifiers.{lsp_number};
-ghost use Rattle.isis_model.specs.Cells.{Cell};
-ghost use Rattle.isis_model.specs.Datagrams as sent;
-ghost use Rattle.isis_model.specs.Good.{IsGoodBook};
-ghost use Rattle.isis_model.specs.Pulls.{due_lsps, srm_due};
-ghost use Rattle.isis_model.specs.SnpLists as model;
+ghost use Rattle.model_router.specs.Cells.{Cell};
+ghost use Rattle.model_router.specs.Datagrams as sent;
+ghost use Rattle.model_router.specs.Good.{IsGoodBook};
+ghost use Rattle.model_router.specs.Pulls.{due_lsps, srm_due};
+ghost use Rattle.model_router.specs.SnpLists as model;
 ghost use Rattle.flag_sync.specs.BookStates.{book_of, IsCircuit};
 ghost use Rattle.flag_sync.specs.FlagRows.{cell_of};
 ghost use Rattle.flag_sync.specs.Heard.{entries_of};
 ghost use Rattle.flag_sync.specs.Walks.{row_due};
-ghost use Rattle.isis_model.specs.Sets.{has};
-ghost use Rattle.lsp_octets.specs.Held.{IsPuttable};
+ghost use Rattle.model_router.specs.Sets.{has};
+ghost use Rattle.router_sending.specs.Held.{IsPuttable};
 ghost use Rattle.snp_exchange.specs.Pieces as pieces;
 ghost use Rattle.router_core.specs.Sending.{octets_of, all_octets, MaySend};
 
@@ -21,7 +21,7 @@ use crate::datagrams::Datagrams;
 use flag_sync::{Book, FlagRow};
 use isis_base::{Level, LspEntry, OutOfMemory};
 use lsp_store::Entry;
-use pdu_sender::{Sender, csnp, lsp, psnp};
+use router_sending::{Sender, csnp, lsp, psnp};
 use snp_exchange::{EntryWalk, PieceWalk, csnp_pieces, psnp_lists};
 use std::alloc::Global;
 

@@ -1,13 +1,13 @@
 //! Sequence number PDUs that are taken.
 ghost use Rattle.std.specs.Prelude.{◌≡◌, ◌-◌, ◌||◌, not, is_some, option_map, Option, IfSome, OnOk, OnErr};
-ghost use Rattle.isis_model.specs.Both.{at};
-ghost use Rattle.isis_model.specs.Places.{nth};
-ghost use Rattle.isis_model.specs.Elections.{is_designated};
-ghost use Rattle.isis_model.specs.Routers.{book_of, level_of, with_level};
-ghost use Rattle.isis_model.specs.Sets.{has};
-ghost use Rattle.isis_model.specs.Takes as takes;
-ghost use Rattle.isis_model.specs.Receiving.{is_from, scene_of, sender_of, snp_drop};
-ghost use Rattle.isis_model.specs.Numbers.{system_number};
+ghost use Rattle.model_router.specs.Both.{at};
+ghost use Rattle.model_router.specs.Places.{nth};
+ghost use Rattle.model_router.specs.Elections.{is_designated};
+ghost use Rattle.model_router.specs.Routers.{book_of, level_of, with_level};
+ghost use Rattle.model_router.specs.Sets.{has};
+ghost use Rattle.model_router.specs.Takes as takes;
+ghost use Rattle.model_router.specs.Receiving.{is_from, scene_of, sender_of, snp_drop};
+ghost use Rattle.model_router.specs.Numbers.{system_number};
 ghost use Rattle.flag_sync.specs.Heard.{entries_of};
 ghost use Rattle.router_levels.specs.Drafts.{AreAnswers, AreReady, range_of};
 ghost use Rattle.router_desk.specs.Causes.{name_of};
@@ -18,8 +18,8 @@ ghost use Rattle.router_core.specs.Events.{IsThere};
 use crate::machine::Machine;
 use designated_is::are_same_systems;
 use isis_base::{Level, LspEntry, LspId, OutOfMemory, SystemId};
-use lsp_octets::{Draft, lent_key};
 use router_desk::{DropCause, Envelope};
+use router_sending::{Draft, lent_key};
 
 impl Machine {
     /// Why a sequence number PDU is dropped, if it is (ISO 10589 7.3.15.2); `partial` for a PSNP.

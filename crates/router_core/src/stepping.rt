@@ -1,8 +1,8 @@
 //! Events that have no plan: hellos, in place, and others that a copy of the router has.
 ghost use Rattle.std.specs.Prelude.{◌≡◌, true, None, Some, IfOk, IfSome, OnOk, OnErr};
-ghost use Rattle.isis_model.specs.AdjacencyLaws.{place_of};
-ghost use Rattle.isis_model.specs.Routers as model;
-ghost use Rattle.isis_model.specs.Steps.{step};
+ghost use Rattle.model_router.specs.AdjacencyLaws.{place_of};
+ghost use Rattle.model_router.specs.Routers as model;
+ghost use Rattle.model_router.specs.Steps.{step};
 ghost use Rattle.adjacency.specs.Views.{point_of};
 ghost use Rattle.router_core.specs.Calm.{IsCalm};
 ghost use Rattle.router_core.specs.Reads.{event_in, FitsRead};
@@ -21,7 +21,7 @@ use crate::read::Read;
 use crate::reply::Reply;
 use adjacency::P2pAdj;
 use isis_base::OutOfMemory;
-use router_reading::Heard;
+use router_desk::Heard;
 use router_routes::Following;
 
 impl Machine {

@@ -2,16 +2,16 @@
 ghost use Rattle.std.specs.Prelude.{◌≡◌, ◌<◌, ◌-◌, ◌∷◌, [], not, IfSome, IfOk, OnOk, OnErr};
 ghost use Rattle.isis_base.specs.Identifiers.{lsp_number};
 ghost use Rattle.isis_base.specs.Keys.{entry_rank};
-ghost use Rattle.isis_model.specs.Datagrams as sent;
-ghost use Rattle.isis_model.specs.Drops.{count_drop};
-ghost use Rattle.isis_model.specs.LspTable as table;
-ghost use Rattle.isis_model.specs.Places.{nth};
-ghost use Rattle.isis_model.specs.Routers.{level_of, with_level};
-ghost use Rattle.isis_model.specs.Takes as takes;
-ghost use Rattle.isis_model.specs.Takes.{whose_of};
-ghost use Rattle.isis_model.specs.Receiving.{acks, scene_of};
+ghost use Rattle.model_router.specs.Datagrams as sent;
+ghost use Rattle.model_router.specs.Drops.{count_drop};
+ghost use Rattle.model_router.specs.LspTable as table;
+ghost use Rattle.model_router.specs.Places.{nth};
+ghost use Rattle.model_router.specs.Routers.{level_of, with_level};
+ghost use Rattle.model_router.specs.Takes as takes;
+ghost use Rattle.model_router.specs.Takes.{whose_of};
+ghost use Rattle.model_router.specs.Receiving.{acks, scene_of};
 ghost use Rattle.flag_sync.specs.Heard.{answer_of, entries_of, heard_of};
-ghost use Rattle.pdu_sender.specs.Sends.{Sends};
+ghost use Rattle.router_sending.specs.Sends.{Sends};
 ghost use Rattle.router_desk.specs.Causes.{name_of};
 ghost use Rattle.router_levels.specs.Drafts.{range_of};
 ghost use Rattle.router_core.specs.declared.reply.Reply.TheVariants as reply;
@@ -26,9 +26,9 @@ use crate::machine::Machine;
 use crate::reply::Reply;
 use flag_sync::{LspAnswer, LspHeard};
 use isis_base::{Level, LspEntry, LspId, OutOfMemory};
-use pdu_sender::{Sender, psnp};
 use router_desk::DropCause;
 use router_routes::Following;
+use router_sending::{Sender, psnp};
 
 impl Machine {
     /// A datagram is dropped.

@@ -1,13 +1,13 @@
 //! What is heard is taken, or dropped.
 ghost use Rattle.std.specs.Prelude.{◌≡◌, ◌<◌, ◌≤◌, ◌^◌, ◌-◌, true, false, length, IfSome, IfOk, OnErr};
-ghost use Rattle.isis_model.specs.AdjacencyLaws.{AreIdle};
-ghost use Rattle.isis_model.specs.Events as event;
-ghost use Rattle.isis_model.specs.Good.{IsGoodMessage};
-ghost use Rattle.isis_model.specs.Places.{nth};
-ghost use Rattle.isis_model.specs.Numbers.{system_number};
+ghost use Rattle.model_router.specs.AdjacencyLaws.{AreIdle};
+ghost use Rattle.model_router.specs.Events as event;
+ghost use Rattle.model_router.specs.Good.{IsGoodMessage};
+ghost use Rattle.model_router.specs.Places.{nth};
+ghost use Rattle.model_router.specs.Numbers.{system_number};
 ghost use Rattle.flag_sync.specs.Heard.{entries_of, heard_of};
 ghost use Rattle.router_desk.specs.Opening.{envelope_of};
-ghost use Rattle.router_reading.specs.Heard.{hello_heard, IsNumbered, message_of, range_of};
+ghost use Rattle.router_desk.specs.Heard.{hello_heard, IsNumbered, message_of, range_of};
 ghost use Rattle.router_routes.specs.Outlooks.{outlook_of};
 ghost use Rattle.router_routes.specs.Following.{IsFollowing};
 ghost use Rattle.router_core.specs.Events.{IsThere};
@@ -19,8 +19,7 @@ use crate::reply::Reply;
 use flag_sync::{LspAnswer, LspHeard};
 use isis_base::{Level, LspEntry, LspId, OutOfMemory, SystemId};
 use router_circuits::hello_sizes;
-use router_desk::{DropCause, Envelope};
-use router_reading::{Heard, HelloHeard};
+use router_desk::{DropCause, Envelope, Heard, HelloHeard};
 use router_routes::Following;
 
 impl Machine {

@@ -2,15 +2,15 @@
 ghost use Rattle.std.specs.Prelude.{◌≡◌, ℕ, List, Option, map, is_some, IfOk, IfSome, option_copied, option_map};
 ghost use Rattle.std.specs.List.{AllByRecursion};
 ghost use Rattle.isis_base.specs.Identifiers.{lsp_number};
-ghost use Rattle.isis_model.specs.Both.{at};
-ghost use Rattle.isis_model.specs.Sorted.{RisesFrom};
-ghost use Rattle.isis_model.specs.Good.{IsIssuable};
-ghost use Rattle.isis_model.specs.Maps.{find};
-ghost use Rattle.isis_model.specs.Wanted as model;
-ghost use Rattle.isis_model.specs.Wanted.{is_type};
-ghost use Rattle.isis_model.specs.Receiving.{scene_of};
-ghost use Rattle.lsp_wanted.specs.Views.{contents_of, wanted_of};
-ghost use Rattle.isis_model.specs.Routers.{level_of};
+ghost use Rattle.model_router.specs.Both.{at};
+ghost use Rattle.model_router.specs.Sorted.{RisesFrom};
+ghost use Rattle.model_router.specs.Good.{IsIssuable};
+ghost use Rattle.model_router.specs.Maps.{find};
+ghost use Rattle.model_router.specs.Wanted as model;
+ghost use Rattle.model_router.specs.Wanted.{is_type};
+ghost use Rattle.model_router.specs.Receiving.{scene_of};
+ghost use Rattle.router_wanted.specs.Views.{contents_of, wanted_of};
+ghost use Rattle.model_router.specs.Routers.{level_of};
 ghost use Rattle.router_levels.specs.Drafts.{AreAnswers, AreReady, IsAnswer, IsReady};
 ghost use Rattle.router_routes.specs.Outlooks.{outlook_of};
 ghost use Rattle.router_routes.specs.Following.{IsFollowing};
@@ -19,9 +19,9 @@ ghost use Rattle.router_core.specs.Machines.{AreWantedFor, draft_at};
 
 use crate::machine::Machine;
 use isis_base::{Level, LevelSet, LspEntry, LspId, Octets, OutOfMemory};
-use lsp_octets::Draft;
-use lsp_wanted::Wanted;
 use router_routes::Following;
+use router_sending::Draft;
+use router_wanted::Wanted;
 
 impl Machine {
     /// The key of a level's LSPs and sequence number PDUs (RFC 5304 3).

@@ -22,18 +22,18 @@ use Rattle.isis_pdu.specs.declared.fault.PduFault.{PduFault}
 use Rattle.isis_pdu.specs.Views.{PduView, tlvs_of_pdu}
 use Rattle.isis_pdu.specs.Layout.{kind_of}
 use Rattle.isis_pdu.specs.Decoded.{decoded}
-use Rattle.isis_model.specs.declared.drop_name.DropName.{DropName}
-use Rattle.isis_model.specs.declared.drop_name.DropName.TheVariants as drop
+use Rattle.model_router.specs.declared.drop_name.DropName.{DropName}
+use Rattle.model_router.specs.declared.drop_name.DropName.TheVariants as drop
 use Rattle.isis_base.specs.Fields.{u32_at}
-use Rattle.isis_model.specs.Events.{Envelope}
-use Rattle.isis_model.specs.Places.{nth}
-use Rattle.isis_model.specs.Configs.{Config}
-use Rattle.isis_model.specs.Routers.{Circuit}
-use Rattle.isis_model.specs.Numbers.{u48_of, snpa_number}
-use Rattle.isis_datagram.specs.Frames.{magic, first_magic, unframed}
-use Rattle.isis_datagram.specs.Values.{items_if, items_in}
-use Rattle.isis_datagram.specs.Tests as model
-use Rattle.isis_datagram.specs.Reading as reading
+use Rattle.model_router.specs.Events.{Envelope}
+use Rattle.model_router.specs.Places.{nth}
+use Rattle.model_router.specs.Configs.{Config}
+use Rattle.model_router.specs.Routers.{Circuit}
+use Rattle.model_router.specs.Numbers.{u48_of, snpa_number}
+use Rattle.model_datagram.specs.Frames.{magic, first_magic, unframed}
+use Rattle.model_datagram.specs.Values.{items_if, items_in}
+use Rattle.model_datagram.specs.Tests as model
+use Rattle.model_datagram.specs.Reading as reading
 use Rattle.router_desk.specs.declared.cause.DropCause.{DropCause}
 use Rattle.router_desk.specs.declared.desk_circuit.DeskCircuit.{DeskCircuit}
 use Rattle.router_desk.specs.Causes.{name_of}

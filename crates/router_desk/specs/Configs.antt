@@ -2,12 +2,12 @@
 use Rattle.std.specs.Prelude.{ℕ, ◌+◌, ◌*◌, List, [], ◌∷◌, map, None}
 use Rattle.isis_base.specs.declared.prefix.Prefix.{Prefix}
 use Rattle.isis_tlv.specs.declared.three_way.Adj.TheVariants.{Down}
-use Rattle.isis_model.specs.Maps.{put}
-use Rattle.isis_model.specs.Configs as model
-use Rattle.isis_model.specs.Routers.{Circuit}
-use Rattle.isis_model.specs.Starts.{quiet}
-use Rattle.isis_model.specs.Numbers.{system_number}
-use Rattle.isis_datagram.specs.Reading.{runs_of}
+use Rattle.model_router.specs.Maps.{put}
+use Rattle.model_router.specs.Configs as model
+use Rattle.model_router.specs.Routers.{Circuit}
+use Rattle.model_router.specs.Starts.{quiet}
+use Rattle.model_router.specs.Numbers.{system_number}
+use Rattle.model_datagram.specs.Reading.{runs_of}
 use Rattle.router_desk.specs.declared.circuit_config.CircuitConfig.{CircuitConfig}
 use Rattle.router_desk.specs.declared.config.Config.{Config}
 use Rattle.router_desk.specs.Desks.{is_lan}

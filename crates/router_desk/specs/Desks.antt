@@ -2,9 +2,9 @@
 use Rattle.std.specs.Prelude.{ℕ, ◌-◌, Bool, true, false, List, map, Option, slice_get}
 use Rattle.isis_base.specs.declared.level.CircuitKind.{CircuitKind}
 use Rattle.isis_base.specs.declared.level.CircuitKind.TheVariants as circuit
-use Rattle.isis_model.specs.Both.{Both}
-use Rattle.isis_model.specs.Configs.{Config}
-use Rattle.isis_model.specs.Routers.{Circuit}
+use Rattle.model_router.specs.Both.{Both}
+use Rattle.model_router.specs.Configs.{Config}
+use Rattle.model_router.specs.Routers.{Circuit}
 use Rattle.router_desk.specs.declared.desk_circuit.DeskCircuit.{DeskCircuit}
 
 -- the system ID, the levels that are run, the keys of both levels, and the kind and the key of

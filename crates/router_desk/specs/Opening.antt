@@ -10,9 +10,9 @@ use Rattle.isis_pdu.specs.declared.fault.PduFault.{PduFault}
 use Rattle.isis_pdu.specs.Views.{PduView, pdu_view}
 use Rattle.isis_pdu.specs.Layout.{body_at}
 use Rattle.isis_pdu.specs.Decoded.{decoded}
-use Rattle.isis_model.specs.Events.{Envelope, Message, Refused}
-use Rattle.isis_model.specs.Numbers.{snpa_number}
-use Rattle.isis_datagram.specs.Reading.{message}
+use Rattle.model_router.specs.Events.{Envelope, Message, Refused}
+use Rattle.model_router.specs.Numbers.{snpa_number}
+use Rattle.model_datagram.specs.Reading.{message}
 use Rattle.router_desk.specs.declared.cause.DropCause.{DropCause}
 use Rattle.router_desk.specs.declared.cause.DropCause.TheVariants as cause
 use Rattle.router_desk.specs.declared.desk_circuit.DeskCircuit.{DeskCircuit}

@@ -12,8 +12,8 @@ use Rattle.isis_pdu.specs.Layout.{kind_of}
 use Rattle.hmac_auth.specs.declared.fault.AuthFault.{AuthFault}
 use Rattle.hmac_auth.specs.declared.fault.AuthFault.TheVariants.{Wrong}
 use Rattle.hmac_auth.specs.Auth.{auth_fault}
-use Rattle.isis_model.specs.Both.{Both, at}
-use Rattle.isis_datagram.specs.Tests.{has_number, is_summed}
+use Rattle.model_router.specs.Both.{Both, at}
+use Rattle.model_datagram.specs.Tests.{has_number, is_summed}
 use Rattle.router_desk.specs.declared.cause.DropCause.{DropCause}
 use Rattle.router_desk.specs.declared.cause.DropCause.TheVariants as cause
 use Rattle.router_desk.specs.declared.desk_circuit.DeskCircuit.{DeskCircuit}

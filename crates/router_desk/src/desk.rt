@@ -5,7 +5,7 @@ ghost use Rattle.isis_base.specs.PduKinds.{header_length};
 ghost use Rattle.isis_tlv.specs.Framed.{IsPdu};
 ghost use Rattle.isis_pdu.specs.Views.{pdu_view, tlvs_of_pdu};
 ghost use Rattle.isis_pdu.specs.Layout.{kind_of};
-ghost use Rattle.isis_datagram.specs.Tests.{has_number, is_summed};
+ghost use Rattle.model_datagram.specs.Tests.{has_number, is_summed};
 ghost use Rattle.router_desk.specs.Table as table;
 ghost use Rattle.router_desk.specs.Opening.{frame_cause, seen_at, seen_on, result_in, LiesIn};
 
@@ -17,10 +17,10 @@ use crate::opened::Opened;
 use crate::values::value_place;
 use hmac_auth::{AuthFault, check_pdu};
 use isis_base::{CircuitKind, Level, LevelSet, Octets, PduKind, SystemId};
-use isis_datagram::runs;
 use isis_edge::{FrameFault, unwrap};
 use isis_pdu::laws::framed_law;
 use isis_pdu::{Pdu, decode};
+use model_datagram::runs;
 use std::marker::Model;
 
 /// The most octets of an LSP or SNP that is taken (own).
@@ -41,8 +41,8 @@ pub struct Desk {
 }
 
 impl Model for Desk {
-    ghost use Rattle.isis_model.specs.Numbers.{system_number};
-    ghost use Rattle.isis_datagram.specs.Reading.{runs_of};
+    ghost use Rattle.model_router.specs.Numbers.{system_number};
+    ghost use Rattle.model_datagram.specs.Reading.{runs_of};
     ghost use Rattle.router_desk.specs.Desks.{DeskView};
 
     ghost Value = { DeskView };

@@ -1,9 +1,9 @@
 //! What holds of all datagrams: functions without a body, whose contracts are the laws.
 ghost use Rattle.std.specs.Prelude.{◌≡◌, ℕ, ◌+◌, List, Some, Ok, IsSomeAnd};
-ghost use Rattle.isis_model.specs.Places.{nth};
-ghost use Rattle.isis_model.specs.Configs.{Config};
-ghost use Rattle.isis_model.specs.Routers.{Circuit};
-ghost use Rattle.isis_datagram.specs.Reading.{read};
+ghost use Rattle.model_router.specs.Places.{nth};
+ghost use Rattle.model_router.specs.Configs.{Config};
+ghost use Rattle.model_router.specs.Routers.{Circuit};
+ghost use Rattle.model_datagram.specs.Reading.{read};
 ghost use Rattle.router_desk.specs.Desks.{DeskView, circuit_at, desk_of};
 ghost use Rattle.router_desk.specs.Table.{tests_of, AllHold};
 ghost use Rattle.router_desk.specs.Opening.{SeenView, seen_at, message_of};

@@ -5,7 +5,7 @@ ghost use Rattle.router_desk.specs.Causes.{name_of};
 
 use crate::cause::DropCause;
 use adjacency::HelloDrop;
-use isis_model::DropName;
+use model_router::DropName;
 
 impl DropCause {
     /// The name of this cause, by which drops are counted.

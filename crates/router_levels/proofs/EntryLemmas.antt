@@ -3,24 +3,24 @@ use Rattle.std.proofs.Common.{◌≡◌, ℕ, ◌+◌, ◌<◌, ◌≤◌, eqb, 
 use Rattle.std.proofs.lemmas.Bool.Decides.{nat_tests}
 use Rattle.std.proofs.Math.Seq.{take-length}
 use Rattle.isis_base.specs.declared.entry.LspEntry.{LspEntry}
-use Rattle.isis_model.specs.declared.whose.Whose.{Whose}
-use Rattle.isis_model.specs.declared.snp_case.SnpCase.{SnpCase}
-use Rattle.isis_model.specs.declared.snp_case.SnpCase.TheVariants as case
-use Rattle.isis_model.specs.Maps.{find, put, erase, set_at}
-use Rattle.isis_model.specs.Sorted.{RisesFrom}
-use Rattle.isis_model.specs.Ranks.{number_of, is_live}
-use Rattle.isis_model.specs.Cells.{Cell}
-use Rattle.isis_model.specs.Books.{Book, cell_at, rank_of, rank_at, is_full, risen, set_cell}
-use Rattle.isis_model.specs.LspTable.{is_issued}
-use Rattle.isis_model.specs.SnpTable.{SnpEntry, snp_case, snp_row, hear_entry, hear_range}
-use Rattle.isis_model.specs.Routers.{Issued, LevelState}
-use Rattle.isis_model.specs.Takes.{Scene, whose_of, answer, held_purge, entry_taken, take_entry, take_entries, take_snp}
-use Rattle.isis_model.proofs.MapLemmas.{find-put, find-erase}
-use Rattle.isis_model.proofs.FloodLemmas.{each-snp}
+use Rattle.model_router.specs.declared.whose.Whose.{Whose}
+use Rattle.model_router.specs.declared.snp_case.SnpCase.{SnpCase}
+use Rattle.model_router.specs.declared.snp_case.SnpCase.TheVariants as case
+use Rattle.model_router.specs.Maps.{find, put, erase, set_at}
+use Rattle.model_router.specs.Sorted.{RisesFrom}
+use Rattle.model_router.specs.Ranks.{number_of, is_live}
+use Rattle.model_router.specs.Cells.{Cell}
+use Rattle.model_router.specs.Books.{Book, cell_at, rank_of, rank_at, is_full, risen, set_cell}
+use Rattle.model_router.specs.LspTable.{is_issued}
+use Rattle.model_router.specs.SnpTable.{SnpEntry, snp_case, snp_row, hear_entry, hear_range}
+use Rattle.model_router.specs.Routers.{Issued, LevelState}
+use Rattle.model_router.specs.Takes.{Scene, whose_of, answer, held_purge, entry_taken, take_entry, take_entries, take_snp}
+use Rattle.model_router.proofs.MapLemmas.{find-put, find-erase}
+use Rattle.model_router.proofs.FloodLemmas.{each-snp}
 use Rattle.flag_sync.specs.Heard.{entry_of, outbid_of}
 use Rattle.flag_sync.specs.BookStates as states
 use Rattle.isis_base.specs.Identifiers.{lsp_number}
-use Rattle.lsp_octets.specs.Drafts.{DraftView}
+use Rattle.router_sending.specs.Drafts.{DraftView}
 use Rattle.router_levels.specs.Views.{LevelView, HasRoom, Keeps}
 use Rattle.router_levels.specs.Drafts.{IsAnswer, IsReady, AreReady, AreAnswers, IsNext}
 use Rattle.router_levels.proofs.TakeLemmas.{issued-find}

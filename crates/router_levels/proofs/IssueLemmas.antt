@@ -2,14 +2,14 @@
 use Rattle.std.proofs.Common.{◌≡◌, ℕ, ◌+◌, ◌<◌, ◌≤◌, ◌==◌, false, true, List, Option, Some, None, refl, ap, arith}
 use Rattle.std.proofs.lemmas.Bool.Decides.{nat_tests}
 use Rattle.std.specs.Option.{option_map}
-use Rattle.isis_model.specs.Maps.{put, erase}
-use Rattle.isis_model.specs.Cells.{Cell, flagged, purged}
-use Rattle.isis_model.specs.Books.{Book, cell_at, rank_of, rank_at, set_cell}
-use Rattle.isis_model.specs.Routers.{Contents, Issued, LevelState, Router}
-use Rattle.isis_model.specs.Takes.{held_purge}
+use Rattle.model_router.specs.Maps.{put, erase}
+use Rattle.model_router.specs.Cells.{Cell, flagged, purged}
+use Rattle.model_router.specs.Books.{Book, cell_at, rank_of, rank_at, set_cell}
+use Rattle.model_router.specs.Routers.{Contents, Issued, LevelState, Router}
+use Rattle.model_router.specs.Takes.{held_purge}
 use Rattle.isis_base.specs.declared.level.Level.{Level}
-use Rattle.isis_model.specs.Givens.{Given}
-use Rattle.isis_model.specs.OwnLsps.{install, retire, issue_cell, outbid}
+use Rattle.model_router.specs.Givens.{Given}
+use Rattle.model_router.specs.OwnLsps.{install, retire, issue_cell, outbid}
 
 purge-is : (held : Option Cell) (opened : ℕ) → 0 < rank_of held → option_map (λ (cell : Cell). flagged (purged cell) opened 0) held ≡ Some (flagged (held_purge held) opened 0)
 purge-is None opened some = absurd (omega (arith, some))

@@ -5,15 +5,15 @@ use Rattle.std.proofs.lemmas.Nat.Bits.{bit_at-lt, bit_at_lowest, bit_at-suc}
 use Rattle.std.specs.Int.{bit_at}
 use Rattle.isis_base.specs.declared.level.CircuitKind.{CircuitKind}
 use Rattle.isis_base.specs.declared.level.CircuitKind.TheVariants.{PointToPoint, Lan}
-use Rattle.isis_model.specs.Sets.{has, with_one}
-use Rattle.isis_model.specs.Places.{nth}
-use Rattle.isis_model.specs.Maps.{each}
-use Rattle.isis_model.specs.Cells.{Cell}
-use Rattle.isis_model.specs.Books.{Book}
-use Rattle.isis_model.specs.Openings.{marked, open_up}
-use Rattle.isis_model.specs.Routers.{Circuit}
-use Rattle.isis_model.specs.Starts.{points_of}
-use Rattle.isis_model.proofs.SetLemmas.{has-with_one, has-none}
+use Rattle.model_router.specs.Sets.{has, with_one}
+use Rattle.model_router.specs.Places.{nth}
+use Rattle.model_router.specs.Maps.{each}
+use Rattle.model_router.specs.Cells.{Cell}
+use Rattle.model_router.specs.Books.{Book}
+use Rattle.model_router.specs.Openings.{marked, open_up}
+use Rattle.model_router.specs.Routers.{Circuit}
+use Rattle.model_router.specs.Starts.{points_of}
+use Rattle.model_router.proofs.SetLemmas.{has-with_one, has-none}
 use Rattle.flag_sync.specs.Circuits.{is_point}
 use Rattle.router_levels.specs.Views.{AreOfKinds}
 

@@ -5,21 +5,21 @@ use Rattle.std.specs.List.{AllByRecursion}
 use Rattle.std.specs.Option.{option_map}
 use Rattle.isis_base.specs.declared.identifiers.LspId.{LspId}
 use Rattle.isis_base.specs.Identifiers.{lsp_number}
-use Rattle.isis_model.specs.LetGos.{contains}
-use Rattle.isis_model.specs.Maps.{find, erase}
-use Rattle.isis_model.specs.Sorted.{RisesFrom}
-use Rattle.isis_model.specs.Cells.{Cell}
-use Rattle.isis_model.specs.Books.{rank_of, cell_at, is_full}
-use Rattle.isis_model.specs.Routers.{Contents, Issued, LevelState, Router}
+use Rattle.model_router.specs.LetGos.{contains}
+use Rattle.model_router.specs.Maps.{find, erase}
+use Rattle.model_router.specs.Sorted.{RisesFrom}
+use Rattle.model_router.specs.Cells.{Cell}
+use Rattle.model_router.specs.Books.{rank_of, cell_at, is_full}
+use Rattle.model_router.specs.Routers.{Contents, Issued, LevelState, Router}
 use Rattle.isis_base.specs.declared.level.Level.{Level}
-use Rattle.isis_model.specs.Givens.{Given}
-use Rattle.isis_model.specs.OwnLsps.{Next, next, do_next, look, look_all, withdraw_one, withdraw_all}
+use Rattle.model_router.specs.Givens.{Given}
+use Rattle.model_router.specs.OwnLsps.{Next, next, do_next, look, look_all, withdraw_one, withdraw_all}
 use Rattle.lsp_fragments.specs.declared.issue.Issue.TheVariants as issue
 use Rattle.lsp_fragments.specs.Issues.{issue_next, says_same, next_of}
 use Rattle.lsp_fragments.specs.Kept.{issued_from, first_id}
 use Rattle.flag_sync.specs.Walks.{numbers_of}
 use Rattle.purge_ageing.specs.Ids.{Rises}
-use Rattle.lsp_octets.specs.Drafts.{DraftView}
+use Rattle.router_sending.specs.Drafts.{DraftView}
 use Rattle.router_levels.specs.Drafts.{IsUnder, AreUnder, wants_of, numbers_wanted}
 use Rattle.router_levels.specs.Views.{LevelView, HasRoom, Keeps}
 

@@ -3,19 +3,19 @@ use Rattle.std.proofs.Common.{◌≡◌, ◌≢◌, ℕ, ◌+◌, ◌*◌, ◌/�
 use Rattle.std.proofs.lemmas.Bool.Decides.{nat_tests}
 use Rattle.isis_base.specs.declared.entry.LspEntry.{LspEntry}
 use Rattle.isis_base.specs.Keys.{entry_rank}
-use Rattle.isis_model.specs.declared.whose.Whose.{Whose}
-use Rattle.isis_model.specs.declared.whose.Whose.TheVariants as whose
-use Rattle.isis_model.specs.declared.lsp_case.LspCase.{LspCase}
-use Rattle.isis_model.specs.declared.lsp_case.LspCase.TheVariants as case
-use Rattle.isis_model.specs.Maps.{find}
-use Rattle.isis_model.specs.Ranks.{number_of}
-use Rattle.isis_model.specs.Cells.{Cell, Heard, purge_of}
-use Rattle.isis_model.specs.Books.{cell_at, rank_of}
-use Rattle.isis_model.specs.LspTable.{is_issued, met, hear_lsp}
-use Rattle.isis_model.specs.LetGos.{let_go}
-use Rattle.isis_model.specs.Routers.{LevelState}
-use Rattle.isis_model.specs.Takes.{Scene, whose_of, answer, last_purge, held_purge, lsp_taken, take_lsp}
-use Rattle.isis_model.proofs.FloodLemmas.{each-row}
+use Rattle.model_router.specs.declared.whose.Whose.{Whose}
+use Rattle.model_router.specs.declared.whose.Whose.TheVariants as whose
+use Rattle.model_router.specs.declared.lsp_case.LspCase.{LspCase}
+use Rattle.model_router.specs.declared.lsp_case.LspCase.TheVariants as case
+use Rattle.model_router.specs.Maps.{find}
+use Rattle.model_router.specs.Ranks.{number_of}
+use Rattle.model_router.specs.Cells.{Cell, Heard, purge_of}
+use Rattle.model_router.specs.Books.{cell_at, rank_of}
+use Rattle.model_router.specs.LspTable.{is_issued, met, hear_lsp}
+use Rattle.model_router.specs.LetGos.{let_go}
+use Rattle.model_router.specs.Routers.{LevelState}
+use Rattle.model_router.specs.Takes.{Scene, whose_of, answer, last_purge, held_purge, lsp_taken, take_lsp}
+use Rattle.model_router.proofs.FloodLemmas.{each-row}
 use Rattle.flag_sync.specs.declared.heard.LspHeard.{LspHeard}
 use Rattle.flag_sync.specs.declared.heard.LspAnswer.TheVariants as row
 use Rattle.flag_sync.specs.Heard.{heard_of, answer_of}

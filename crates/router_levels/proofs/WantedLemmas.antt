@@ -1,16 +1,16 @@
 -- The LSP IDs that a level wants.
 use Rattle.std.proofs.Common.{ℕ, ◌+◌, ◌*◌, ◌<◌, ◌≤◌, Bool, true, false, List, [], ◌∷◌, ◌++◌, length, if◌then◌else◌, arith, zero-le}
 use Rattle.isis_base.specs.declared.level.Level.{Level}
-use Rattle.isis_model.specs.Sorted.{RisesFrom}
-use Rattle.isis_model.specs.Routers.{Circuit, Contents, Router}
-use Rattle.isis_model.specs.Both.{at}
-use Rattle.isis_model.specs.Givens.{Given}
-use Rattle.isis_model.specs.Elections.{designated, is_own}
-use Rattle.isis_model.specs.Splits.{split}
-use Rattle.isis_model.specs.LspNeighbours.{all_nodes, lan_nodes, node_items}
-use Rattle.isis_model.specs.LspPrefixes.{prefixes_of, reach_items}
-use Rattle.isis_model.specs.Wanted.{is_type, first_flags, first_tlvs, room_of, numbered, fragments_of, system_lsp, pseudonode_lsp, pseudonode_lsps, wanted}
-use Rattle.isis_model.proofs.SplitLemmas.{split-few}
+use Rattle.model_router.specs.Sorted.{RisesFrom}
+use Rattle.model_router.specs.Routers.{Circuit, Contents, Router}
+use Rattle.model_router.specs.Both.{at}
+use Rattle.model_router.specs.Givens.{Given}
+use Rattle.model_router.specs.Elections.{designated, is_own}
+use Rattle.model_router.specs.Splits.{split}
+use Rattle.model_router.specs.LspNeighbours.{all_nodes, lan_nodes, node_items}
+use Rattle.model_router.specs.LspPrefixes.{prefixes_of, reach_items}
+use Rattle.model_router.specs.Wanted.{is_type, first_flags, first_tlvs, room_of, numbered, fragments_of, system_lsp, pseudonode_lsp, pseudonode_lsps, wanted}
+use Rattle.model_router.proofs.SplitLemmas.{split-few}
 
 -- rising pairs below a number
 abbrev Below : ℕ → List (ℕ × Contents) → Type 0

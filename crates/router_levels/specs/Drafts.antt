@@ -5,12 +5,12 @@ use Rattle.isis_base.specs.declared.identifiers.LspId.{LspId}
 use Rattle.isis_base.specs.declared.level.Level.{Level}
 use Rattle.isis_base.specs.declared.entry.LspEntry.{LspEntry}
 use Rattle.isis_base.specs.Identifiers.{lsp_number}
-use Rattle.isis_model.specs.Both.{at}
-use Rattle.isis_model.specs.Maps.{find}
-use Rattle.isis_model.specs.Routers.{Contents, Issued, Router}
-use Rattle.isis_model.specs.Takes.{Scene, answer_of}
-use Rattle.isis_datagram.specs.Lsps.{given_octets}
-use Rattle.lsp_octets.specs.Drafts.{DraftView}
+use Rattle.model_router.specs.Both.{at}
+use Rattle.model_router.specs.Maps.{find}
+use Rattle.model_router.specs.Routers.{Contents, Issued, Router}
+use Rattle.model_router.specs.Takes.{Scene, answer_of}
+use Rattle.model_datagram.specs.Lsps.{given_octets}
+use Rattle.router_sending.specs.Drafts.{DraftView}
 
 -- what a step knows, where own LSPs are written as octets (own)
 abbrev pub scene_with : (Router → Level → List (ℕ × ℕ)) → (Router → Bool) → Router → Level → Scene

@@ -2,8 +2,8 @@
 use Rattle.std.specs.Prelude.{◌≡◌, ℕ, ◌+◌, ◌≤◌, ◌⊎◌, true, false, Bool, List, [], ◌∷◌, length}
 use Rattle.isis_base.specs.declared.level.CircuitKind.{CircuitKind}
 use Rattle.isis_base.specs.declared.level.CircuitKind.TheVariants.{PointToPoint, Lan}
-use Rattle.isis_model.specs.LetGos.{LetGo}
-use Rattle.isis_model.specs.Routers.{Circuit, LevelState}
+use Rattle.model_router.specs.LetGos.{LetGo}
+use Rattle.model_router.specs.Routers.{Circuit, LevelState}
 use Rattle.flag_sync.specs.declared.heard.LspAnswer.{LspAnswer}
 use Rattle.flag_sync.specs.declared.heard.LspAnswer.TheVariants as answer
 use Rattle.flag_sync.specs.BookStates.{BookState, book_of, SameCircuits, KeepsRoom}

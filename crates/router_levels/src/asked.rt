@@ -1,10 +1,10 @@
 //! What a router asks of a level.
 ghost use Rattle.std.specs.Prelude.{◌≡◌, ◌/◌, ◌==◌};
 ghost use Rattle.isis_base.specs.Identifiers.{lsp_number};
-ghost use Rattle.isis_model.specs.LspTable.{met};
-ghost use Rattle.isis_model.specs.Takes.{whose_of};
-ghost use Rattle.isis_model.specs.Receiving as receiving;
-ghost use Rattle.isis_model.specs.Numbers.{system_number};
+ghost use Rattle.model_router.specs.LspTable.{met};
+ghost use Rattle.model_router.specs.Takes.{whose_of};
+ghost use Rattle.model_router.specs.Receiving as receiving;
+ghost use Rattle.model_router.specs.Numbers.{system_number};
 ghost use Rattle.flag_sync.specs.Heard.{heard_of, answer_of};
 ghost use Rattle.router_levels.specs.Views.{state_of, keeps_entry};
 

@@ -1,8 +1,8 @@
 //! Circuits of a level: opened, closed and pulled.
 ghost use Rattle.std.specs.Prelude.{◌≡◌, ◌-◌};
-ghost use Rattle.isis_model.specs.Openings as openings;
-ghost use Rattle.isis_model.specs.Hellos.{follow_circuit};
-ghost use Rattle.isis_model.specs.Pulls.{sent, answered};
+ghost use Rattle.model_router.specs.Openings as openings;
+ghost use Rattle.model_router.specs.Hellos.{follow_circuit};
+ghost use Rattle.model_router.specs.Pulls.{sent, answered};
 ghost use Rattle.flag_sync.specs.BookStates.{book_of, IsCircuit};
 ghost use Rattle.router_levels.specs.Views.{state_of};
 

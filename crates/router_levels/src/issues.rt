@@ -3,19 +3,19 @@ ghost use Rattle.std.specs.Prelude.{◌≡◌, ℕ, ◌<◌, ◌⊎◌, List, Bo
 ghost use Rattle.std.specs.Option.{option_copied};
 ghost use Rattle.isis_base.specs.declared.level.Level.{Level};
 ghost use Rattle.isis_base.specs.Identifiers.{lsp_number};
-ghost use Rattle.isis_model.specs.Maps.{find, put, erase};
-ghost use Rattle.isis_model.specs.Books.{cell_at, rank_at, is_full};
-ghost use Rattle.isis_model.specs.Routers.{Router};
-ghost use Rattle.isis_model.specs.Takes.{held_purge};
-ghost use Rattle.isis_model.specs.OwnLsps as model;
-ghost use Rattle.isis_datagram.specs.Lsps.{given_octets};
+ghost use Rattle.model_router.specs.Maps.{find, put, erase};
+ghost use Rattle.model_router.specs.Books.{cell_at, rank_at, is_full};
+ghost use Rattle.model_router.specs.Routers.{Router};
+ghost use Rattle.model_router.specs.Takes.{held_purge};
+ghost use Rattle.model_router.specs.OwnLsps as model;
+ghost use Rattle.model_datagram.specs.Lsps.{given_octets};
 ghost use Rattle.flag_sync.specs.BookStates.{HasRoom};
 ghost use Rattle.router_levels.specs.Views.{state_of, Keeps};
 ghost use Rattle.router_levels.specs.Drafts.{IsUnder};
 
 use crate::level_parts::LevelParts;
 use isis_base::{LspId, OutOfMemory};
-use lsp_octets::{Draft, Issued};
+use router_sending::{Draft, Issued};
 
 impl LevelParts {
     /// An own LSP is issued at a number, with SRM set and SSN clear on all open circuits (ISO 10589

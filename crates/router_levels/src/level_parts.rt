@@ -1,7 +1,7 @@
 //! One level of a router.
 ghost use Rattle.std.specs.Prelude.{◌≡◌, ◌≤◌, length, List, IfOk, OnOk, OnErr};
-ghost use Rattle.isis_model.specs.Routers.{Circuit};
-ghost use Rattle.isis_model.specs.Starts.{empty_level, points_of};
+ghost use Rattle.model_router.specs.Routers.{Circuit};
+ghost use Rattle.model_router.specs.Starts.{empty_level, points_of};
 ghost use Rattle.router_levels.specs.Views.{state_of, HasRoom, AreOfKinds};
 
 use flag_sync::Book;

@@ -1,7 +1,7 @@
 //! One level of a router: its database with flags, its own LSPs that are issued, and the LSP IDs
 //! that it let go (ISO 10589 7.3.6, 7.3.15, 7.3.16).
 //!
-//! Each call is proved equal to its part of the router's model (isis_model) on the whole level.
+//! Each call is proved equal to its part of the router's model (model_router) on the whole level.
 //! Own: what a call may need memory for is made before it, as drafts of own LSPs and as room; so an
 //! SNP, a second and the renewal of own LSPs change the level in one stroke and can't fail.
 //!

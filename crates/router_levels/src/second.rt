@@ -1,8 +1,8 @@
 //! Seconds of a level.
 ghost use Rattle.std.specs.Prelude.{◌≡◌, ℕ, true, false};
-ghost use Rattle.isis_model.specs.Books.{rank_at};
-ghost use Rattle.isis_model.specs.Seconds.{waited};
-ghost use Rattle.isis_model.specs.Ageing as model;
+ghost use Rattle.model_router.specs.Books.{rank_at};
+ghost use Rattle.model_router.specs.Seconds.{waited};
+ghost use Rattle.model_router.specs.Ageing as model;
 ghost use Rattle.router_levels.specs.Views.{state_of};
 
 use crate::level_parts::LevelParts;

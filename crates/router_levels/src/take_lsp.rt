@@ -4,17 +4,17 @@ ghost use Rattle.std.specs.Option.{option_copied};
 ghost use Rattle.isis_base.specs.declared.level.Level.{Level};
 ghost use Rattle.isis_base.specs.Identifiers.{lsp_number};
 ghost use Rattle.isis_base.specs.Keys.{entry_rank};
-ghost use Rattle.isis_model.specs.declared.lsp_case.LspCase.TheVariants as case;
-ghost use Rattle.isis_model.specs.Maps.{find};
-ghost use Rattle.isis_model.specs.Books.{cell_at};
-ghost use Rattle.isis_model.specs.LetGos.{let_go};
-ghost use Rattle.isis_model.specs.LspTable as table;
-ghost use Rattle.isis_model.specs.Routers.{Contents, Router};
-ghost use Rattle.isis_model.specs.OwnLsps as model;
-ghost use Rattle.isis_model.specs.Receiving.{no_room};
-ghost use Rattle.isis_model.specs.Takes.{whose_of, last_purge, take_lsp};
-ghost use Rattle.isis_model.specs.Numbers.{system_number};
-ghost use Rattle.isis_datagram.specs.Lsps.{given_octets};
+ghost use Rattle.model_router.specs.declared.lsp_case.LspCase.TheVariants as case;
+ghost use Rattle.model_router.specs.Maps.{find};
+ghost use Rattle.model_router.specs.Books.{cell_at};
+ghost use Rattle.model_router.specs.LetGos.{let_go};
+ghost use Rattle.model_router.specs.LspTable as table;
+ghost use Rattle.model_router.specs.Routers.{Contents, Router};
+ghost use Rattle.model_router.specs.OwnLsps as model;
+ghost use Rattle.model_router.specs.Receiving.{no_room};
+ghost use Rattle.model_router.specs.Takes.{whose_of, last_purge, take_lsp};
+ghost use Rattle.model_router.specs.Numbers.{system_number};
+ghost use Rattle.model_datagram.specs.Lsps.{given_octets};
 ghost use Rattle.flag_sync.specs.Heard.{heard_of, answer_of};
 ghost use Rattle.flag_sync.specs.BookStates.{IsCircuit};
 ghost use Rattle.router_levels.specs.Views.{state_of};
@@ -23,7 +23,7 @@ ghost use Rattle.router_levels.specs.Drafts.{IsUnder, IsAnswer, scene_with};
 use crate::level_parts::LevelParts;
 use flag_sync::{LspAnswer, LspHeard, Whose};
 use isis_base::{LspId, Order3, OutOfMemory, SystemId, newer};
-use lsp_octets::Draft;
+use router_sending::Draft;
 
 impl LevelParts {
     /// An LSP is taken on a circuit by this system (ISO 10589 7.3.15.1, 7.3.16): the row that it

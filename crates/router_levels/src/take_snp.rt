@@ -4,14 +4,14 @@ ghost use Rattle.std.specs.Option.{option_copied};
 ghost use Rattle.std.specs.Vec.Iter.{into_iter_items};
 ghost use Rattle.isis_base.specs.declared.level.Level.{Level};
 ghost use Rattle.isis_base.specs.Identifiers.{lsp_number};
-ghost use Rattle.isis_model.specs.Maps.{find};
-ghost use Rattle.isis_model.specs.Books.{cell_at, rank_at};
-ghost use Rattle.isis_model.specs.SnpTable.{snp_case};
-ghost use Rattle.isis_model.specs.Routers.{Router};
-ghost use Rattle.isis_model.specs.OwnLsps as model;
-ghost use Rattle.isis_model.specs.Takes.{Scene, whose_of, held_purge, take_entry, take_entries, take_snp};
-ghost use Rattle.isis_model.specs.Numbers.{system_number};
-ghost use Rattle.isis_datagram.specs.Lsps.{given_octets};
+ghost use Rattle.model_router.specs.Maps.{find};
+ghost use Rattle.model_router.specs.Books.{cell_at, rank_at};
+ghost use Rattle.model_router.specs.SnpTable.{snp_case};
+ghost use Rattle.model_router.specs.Routers.{Router};
+ghost use Rattle.model_router.specs.OwnLsps as model;
+ghost use Rattle.model_router.specs.Takes.{Scene, whose_of, held_purge, take_entry, take_entries, take_snp};
+ghost use Rattle.model_router.specs.Numbers.{system_number};
+ghost use Rattle.model_datagram.specs.Lsps.{given_octets};
 ghost use Rattle.flag_sync.specs.Heard.{entry_of, entries_of, outbid_of};
 ghost use Rattle.flag_sync.specs.BookStates.{IsCircuit};
 ghost use Rattle.router_levels.specs.Views.{state_of, HasRoom, Keeps};
@@ -19,7 +19,7 @@ ghost use Rattle.router_levels.specs.Drafts.{IsUnder, IsAnswer, IsReady, AreRead
 
 use crate::level_parts::LevelParts;
 use isis_base::{LspEntry, LspId, SystemId};
-use lsp_octets::Draft;
+use router_sending::Draft;
 use std::vec::IntoIter;
 
 impl LevelParts {

@@ -2,7 +2,7 @@
 ghost use Rattle.std.specs.Prelude.{◌≡◌, [], ◌∷◌, ◌++◌, length, OnOk, OnErr};
 
 use isis_base::{LspId, OutOfMemory};
-use lsp_octets::Draft;
+use router_sending::Draft;
 use std::alloc::Global;
 use std::marker::Model;
 
@@ -16,7 +16,7 @@ pub struct Wants {
 
 impl Model for Wants {
     ghost use Rattle.std.specs.Prelude.{◌≡◌, List, map};
-    ghost use Rattle.lsp_octets.specs.Drafts.{DraftView};
+    ghost use Rattle.router_sending.specs.Drafts.{DraftView};
 
     ghost Value = { List DraftView };
 

@@ -6,10 +6,10 @@ use Rattle.std.proofs.lemmas.Bool.Decides.{nat_tests}
 use Rattle.isis_base.specs.declared.level.Level.{Level}
 use Rattle.isis_base.specs.declared.level.Level.TheVariants as level
 use Rattle.isis_tlv.specs.declared.prefix.PrefixItem.{PrefixItem}
-use Rattle.isis_model.specs.Maps.{find}
-use Rattle.isis_model.specs.Sorted.{RisesFrom}
-use Rattle.isis_model.proofs.MapLemmas.{find-put}
-use Rattle.isis_model.proofs.RisingLemmas.{put-rises}
+use Rattle.model_router.specs.Maps.{find}
+use Rattle.model_router.specs.Sorted.{RisesFrom}
+use Rattle.model_router.proofs.MapLemmas.{find-put}
+use Rattle.model_router.proofs.RisingLemmas.{put-rises}
 use Rattle.spf_tree.proofs.SearchLemmas.{contains_first, contains_rest, contains_cases, contains_none}
 use Rattle.route_table.specs.declared.rank.Rank.{Rank}
 use Rattle.route_table.specs.declared.rank.Rank.TheVariants as rank

@@ -17,8 +17,8 @@ use Rattle.spf_repair.specs.Changes.{RepairedOf}
 use Rattle.spf_tree.specs.Graphs.{AreUsable}
 use Rattle.router_routes.specs.Following.{IsLevel}
 use Rattle.isis_base.specs.declared.level.Level.TheVariants as level
-use Rattle.isis_datagram.specs.Reading.{runs_of}
-use Rattle.isis_model.specs.Both.{Both}
+use Rattle.model_datagram.specs.Reading.{runs_of}
+use Rattle.model_router.specs.Both.{Both}
 use Rattle.router_routes.specs.declared.lent.Lent.{Lent}
 use Rattle.router_routes.specs.Outlooks.{Outlook, where_run, outlook_in}
 use Rattle.router_routes.specs.Told.{told_pair, told_in}

@@ -6,7 +6,7 @@ use Rattle.isis_base.specs.declared.level.Level.TheVariants as level
 use Rattle.spf_tree.specs.declared.row.Row.{Row}
 use Rattle.spf_tree.specs.Graphs.{times}
 use Rattle.spf_repair.specs.Changes.{RepairedOf}
-use Rattle.isis_model.specs.Both.{Both}
+use Rattle.model_router.specs.Both.{Both}
 use Rattle.route_table.specs.declared.route.Route.{Route}
 use Rattle.router_routes.specs.Outlooks.{Outlook, IsGraph}
 use Rattle.route_table.specs.declared.candidate.Candidate.{Candidate}

@@ -5,7 +5,7 @@ use Rattle.isis_base.specs.declared.level.Level.{Level}
 use Rattle.isis_base.specs.declared.level.Level.TheVariants as level
 use Rattle.isis_base.specs.declared.prefix.Prefix.{Prefix}
 use Rattle.isis_tlv.specs.declared.prefix.PrefixItem.{PrefixItem}
-use Rattle.isis_model.specs.Maps.{find, put}
+use Rattle.model_router.specs.Maps.{find, put}
 use Rattle.route_table.specs.declared.candidate.Candidate.{Candidate}
 use Rattle.route_table.specs.Ranks.{rank_number}
 use Rattle.route_leaking.specs.Leaks.{leaked_metric, up_leaks, down_leaks}

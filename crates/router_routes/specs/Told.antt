@@ -4,9 +4,9 @@ use Rattle.std.specs.Prelude.{ℕ, false, List, [], ◌∷◌, ◌++◌, drop, m
 use Rattle.std.proofs.Common.{arith}
 use Rattle.isis_base.specs.declared.identifiers.LspId.{LspId}
 use Rattle.isis_base.specs.declared.key.Key.{Key}
-use Rattle.isis_model.specs.Ranks.{is_live}
-use Rattle.isis_model.specs.Cells.{Cell}
-use Rattle.isis_model.specs.Numbers.{lsp_id}
+use Rattle.model_router.specs.Ranks.{is_live}
+use Rattle.model_router.specs.Cells.{Cell}
+use Rattle.model_router.specs.Numbers.{lsp_id}
 use Rattle.lsp_store.specs.declared.entry.Entry.{Entry}
 use Rattle.lsp_store.specs.Databases.{live_of}
 

@@ -1,7 +1,7 @@
 //! What prefixes may be reached by (RFC 5302 3.2).
 ghost use Rattle.std.specs.Prelude.{[], ◌≡◌, ◌++◌, ◌&&◌, not, map, IfOk, OnOk, IfSome};
 ghost use Rattle.std.specs.List.{flat_map, list_any};
-ghost use Rattle.isis_datagram.specs.Reading.{runs_of};
+ghost use Rattle.model_datagram.specs.Reading.{runs_of};
 ghost use Rattle.lsp_view.specs.Views.{own_node};
 ghost use Rattle.router_routes.specs.Moved.{IsFit, AreFit, told_of, outlook_at};
 ghost use Rattle.router_routes.specs.Candidates.{reached_in, rank_in, told_candidate, system_candidates, own_candidate, defaults, default_of, is_for_all, candidates_of};
@@ -9,9 +9,9 @@ ghost use Rattle.router_routes.specs.Kept.{AreReached, AreSame, told_candidates}
 
 use crate::view::{LevelView, View, store_of};
 use isis_base::{Level, LevelSet, NodeId, OutOfMemory, Prefix, SystemId};
-use isis_datagram::runs;
 use isis_tlv::PrefixItem;
 use lsp_view::{is_attached, reach_into};
+use model_datagram::runs;
 use route_table::{Candidate, Rank};
 use std::alloc::Global;
 

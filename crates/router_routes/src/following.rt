@@ -1,7 +1,7 @@
 //! The value that follows a router's databases.
 ghost use Rattle.std.specs.Prelude.{◌≡◌, false, ◌+◌, ◌-◌, ◌^◌, ◌<◌, ◌≤◌, min, length, IfOk, OnOk, OnErr};
 ghost use Rattle.isis_base.specs.declared.level.Level.TheVariants as level;
-ghost use Rattle.isis_model.specs.Both.{at};
+ghost use Rattle.model_router.specs.Both.{at};
 ghost use Rattle.lsp_view.specs.Views.{own_node, rows_in, overloaded_in};
 ghost use Rattle.spf_tree.specs.declared.row.Row as row;
 ghost use Rattle.spf_tree.specs.Graphs.{AreUsable, times};

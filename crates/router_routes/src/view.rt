@@ -1,8 +1,8 @@
 //! What routes look at, where what one node tells in one level may be read elsewhere (own).
 ghost use Rattle.std.specs.Prelude.{◌≡◌, ◌∷◌, [], true};
 ghost use Rattle.isis_base.specs.declared.level.Level.TheVariants as level;
-ghost use Rattle.isis_datagram.specs.Reading.{runs_of};
-ghost use Rattle.isis_model.specs.Both.{at};
+ghost use Rattle.model_datagram.specs.Reading.{runs_of};
+ghost use Rattle.model_router.specs.Both.{at};
 ghost use Rattle.spf_repair.specs.Changes.{RepairedOf};
 ghost use Rattle.router_routes.specs.Following.{IsLevel};
 ghost use Rattle.lsp_view.specs.Views.{own_node, lead_of, reach_in};

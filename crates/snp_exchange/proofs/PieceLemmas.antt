@@ -7,11 +7,11 @@ use Rattle.std.proofs.Math.Seq.{take-append_seam, drop-append_seam}
 use Rattle.isis_base.specs.declared.level.Level.{Level}
 use Rattle.isis_base.specs.declared.entry.LspEntry.{LspEntry}
 use Rattle.isis_base.specs.Identifiers.{lsp_number}
-use Rattle.isis_model.specs.Cells.{Cell}
-use Rattle.isis_model.specs.Books.{Book}
-use Rattle.isis_model.specs.SnpTable.{SnpEntry}
-use Rattle.isis_model.specs.SnpLists.{entries_where, pieces, csnps, csnp_set, held_keys, owed, last_id}
-use Rattle.isis_model.specs.Datagrams.{Sent, Csnp}
+use Rattle.model_router.specs.Cells.{Cell}
+use Rattle.model_router.specs.Books.{Book}
+use Rattle.model_router.specs.SnpTable.{SnpEntry}
+use Rattle.model_router.specs.SnpLists.{entries_where, pieces, csnps, csnp_set, held_keys, owed, last_id}
+use Rattle.model_router.specs.Datagrams.{Sent, Csnp}
 use Rattle.flag_sync.specs.Heard.{entry_of, entries_of}
 use Rattle.snp_exchange.specs.declared.csnp.Piece.{Piece}
 use Rattle.snp_exchange.specs.Pieces.{sent, filled, lists_of, listed}

@@ -7,10 +7,10 @@ use Rattle.isis_base.specs.declared.level.Level.{Level}
 use Rattle.isis_base.specs.declared.identifiers.LspId.{LspId}
 use Rattle.isis_base.specs.declared.entry.LspEntry.{LspEntry}
 use Rattle.isis_base.specs.Identifiers.{lsp_number}
-use Rattle.isis_model.specs.Books.{Book}
-use Rattle.isis_model.specs.SnpTable.{SnpEntry}
-use Rattle.isis_model.specs.SnpLists.{pieces, csnps, csnp_set, held_keys, last_id}
-use Rattle.isis_model.specs.Datagrams.{Sent, Csnp}
+use Rattle.model_router.specs.Books.{Book}
+use Rattle.model_router.specs.SnpTable.{SnpEntry}
+use Rattle.model_router.specs.SnpLists.{pieces, csnps, csnp_set, held_keys, last_id}
+use Rattle.model_router.specs.Datagrams.{Sent, Csnp}
 use Rattle.flag_sync.specs.Heard.{entry_of, entries_of}
 use Rattle.flag_sync.specs.Said.{SaidRise}
 use Rattle.snp_exchange.specs.declared.csnp.Piece.{Piece}

@@ -5,8 +5,8 @@ use Rattle.isis_base.specs.declared.level.Level.{Level}
 use Rattle.isis_base.specs.declared.identifiers.LspId.{LspId}
 use Rattle.isis_base.specs.declared.entry.LspEntry.{LspEntry}
 use Rattle.isis_base.specs.Identifiers.{lsp_number}
-use Rattle.isis_model.specs.SnpLists.{last_id}
-use Rattle.isis_model.specs.Datagrams.{Sent, Csnp}
+use Rattle.model_router.specs.SnpLists.{last_id}
+use Rattle.model_router.specs.Datagrams.{Sent, Csnp}
 use Rattle.flag_sync.specs.Heard.{entries_of}
 use Rattle.snp_exchange.specs.declared.piece_walk.PieceWalk.{PieceWalk}
 

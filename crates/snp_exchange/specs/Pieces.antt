@@ -5,9 +5,9 @@ use Rattle.std.specs.declared.alloc.Global.{Global}
 use Rattle.isis_base.specs.declared.level.Level.{Level}
 use Rattle.isis_base.specs.declared.entry.LspEntry.{LspEntry}
 use Rattle.isis_base.specs.Identifiers.{lsp_number}
-use Rattle.isis_model.specs.SnpTable.{SnpEntry}
-use Rattle.isis_model.specs.SnpLists.{last_id}
-use Rattle.isis_model.specs.Datagrams.{Sent, Csnp}
+use Rattle.model_router.specs.SnpTable.{SnpEntry}
+use Rattle.model_router.specs.SnpLists.{last_id}
+use Rattle.model_router.specs.Datagrams.{Sent, Csnp}
 use Rattle.flag_sync.specs.Heard.{entries_of}
 use Rattle.snp_exchange.specs.declared.csnp.Piece.{Piece}
 

@@ -1,8 +1,8 @@
 //! The CSNP set of a book, as a list.
 ghost use Rattle.std.specs.Prelude.{◌≡◌, ◌++◌, [], ◌∷◌, suc, length, OnOk, IfOk};
 ghost use Rattle.isis_base.specs.declared.level.Level.{Level};
-ghost use Rattle.isis_model.specs.SnpLists as model;
-ghost use Rattle.isis_model.specs.Good.{IsGoodBook};
+ghost use Rattle.model_router.specs.SnpLists as model;
+ghost use Rattle.model_router.specs.Good.{IsGoodBook};
 ghost use Rattle.flag_sync.specs.Heard.{entries_of};
 ghost use Rattle.flag_sync.specs.Said.{said_keys};
 ghost use Rattle.flag_sync.specs.BookStates.{book_of};

@@ -2,8 +2,8 @@
 ghost use Rattle.std.specs.Prelude.{◌≡◌, ◌<◌, ◌≤◌, ◌+◌, ◌++◌, suc, length, take};
 ghost use Rattle.isis_base.specs.declared.level.Level.{Level};
 ghost use Rattle.isis_base.specs.Identifiers.{lsp_number};
-ghost use Rattle.isis_model.specs.SnpLists as model;
-ghost use Rattle.isis_model.specs.Good.{IsGoodBook};
+ghost use Rattle.model_router.specs.SnpLists as model;
+ghost use Rattle.model_router.specs.Good.{IsGoodBook};
 ghost use Rattle.flag_sync.specs.Heard.{entries_of};
 ghost use Rattle.flag_sync.specs.Said.{said_keys};
 ghost use Rattle.flag_sync.specs.BookStates.{book_of};

@@ -1,8 +1,8 @@
 //! What PSNPs on a circuit list.
 ghost use Rattle.std.specs.Prelude.{◌≡◌, ◌-◌, ◌≤◌, ◌<◌, [], ◌∷◌, ◌++◌, List, length, OnOk, IfOk};
-ghost use Rattle.isis_model.specs.SnpTable.{SnpEntry};
-ghost use Rattle.isis_model.specs.SnpLists as model;
-ghost use Rattle.isis_model.specs.Good.{IsGoodBook};
+ghost use Rattle.model_router.specs.SnpTable.{SnpEntry};
+ghost use Rattle.model_router.specs.SnpLists as model;
+ghost use Rattle.model_router.specs.Good.{IsGoodBook};
 ghost use Rattle.flag_sync.specs.Heard.{entry_of, entries_of};
 ghost use Rattle.flag_sync.specs.Said.{said_owed};
 ghost use Rattle.flag_sync.specs.BookStates.{book_of, IsCircuit};

@@ -5,47 +5,47 @@ use Rattle.std.proofs.lemmas.Bool.Decides.{nat_tests}
 use Rattle.std.specs.Option.{option_map}
 use Rattle.isis_base.specs.declared.level.Level.{Level}
 use Rattle.isis_base.specs.declared.level.Level.TheVariants as level
-use Rattle.isis_model.specs.declared.whose.Whose.{Whose}
-use Rattle.isis_model.specs.declared.drop_name.DropName.{DropName}
-use Rattle.isis_model.specs.Maps.{find, each}
-use Rattle.isis_model.specs.Both.{at, alone}
-use Rattle.isis_model.specs.Places.{nth}
-use Rattle.isis_model.specs.Sets.{has}
-use Rattle.isis_model.specs.Ranks.{number_of, is_purge, is_live}
-use Rattle.isis_model.specs.Cells.{Cell, Heard, purged, flagged, srm_on, srm_off, srm_sent}
-use Rattle.isis_model.specs.Books.{Book, cell_at, rank_of, rank_at, is_full, set_cell}
-use Rattle.isis_model.specs.LspTable.{hear_lsp}
-use Rattle.isis_model.specs.SnpTable.{SnpEntry, hear_entry, hear_range}
-use Rattle.isis_model.specs.LetGos.{lets_go}
-use Rattle.isis_model.specs.Openings.{marked, close, open_up, set_open}
-use Rattle.isis_model.specs.Adjacencies.{common_of, Handshake, Hello, is_same}
-use Rattle.isis_model.specs.Routers.{Circuit, Contents, Issued, LevelState, Router, level_of, book_of, with_level, with_circuit, is_open}
-use Rattle.isis_model.specs.Hellos.{follow_circuit, follow, point_circuit, lan_circuit, take_point, take_lan}
-use Rattle.isis_model.specs.Givens.{Given}
-use Rattle.isis_model.specs.Wanted.{wanted}
-use Rattle.isis_model.specs.OwnLsps.{Next, Wait, Number, Exhaust, is_due, is_held, issue_cell, install, retire, retire_held, do_next}
-use Rattle.isis_model.specs.OwnLsps.{look, look_all, withdraw_one, withdraw_all, renew, outbid, last_number}
-use Rattle.isis_model.specs.Takes.{Scene, last_purge, lsp_taken, take_lsp, held_purge, entry_taken, take_entry, take_entries, take_range, take_snp, whose_of}
-use Rattle.isis_model.specs.Ageing.{wait_less, less, aged, is_let_go, age_cell, age_one, age_all, age}
-use Rattle.isis_model.specs.Seconds.{circuit_less, waited, count_down, hold, hold_one, hold_all, age_both, renew_both, second}
-use Rattle.isis_model.specs.Pulls.{srm_due, sent, answered, Sending, with_part, is_csnp_due, at_circuit}
-use Rattle.isis_model.specs.Pulls.{pull_hello, pull_csnp, pull_lsps, pull_psnp, pull_level, pull}
-use Rattle.isis_model.specs.SnpLists.{owed}
-use Rattle.isis_model.specs.Events.{Message, Refused, PointHelloHeard, LanHelloHeard, LspHeard, SnpHeard, Event, Second, Take, Pull, Metric, Overload, Prefix}
-use Rattle.isis_model.specs.Receiving.{greeted, scene_of, taken, take_or_drop, drop_of}
-use Rattle.isis_model.specs.Receiving as receiving
-use Rattle.isis_model.specs.Steps.{with_metric, step}
-use Rattle.isis_model.specs.Sorted.{RisesFrom, IsSorted}
-use Rattle.isis_model.specs.Flooding.{Floods}
-use Rattle.isis_model.specs.Deeds.{Hearing, with_this}
-use Rattle.isis_model.proofs.MapLemmas.{find-each}
-use Rattle.isis_model.proofs.BookLemmas.{choose, test, cell_at-set_cell, cells-after}
-use Rattle.isis_model.proofs.FloodLemmas.{each-row, each-snp, lsp-floods, entry-floods, range-floods}
-use Rattle.isis_model.proofs.LevelLemmas.{last-rank, held-rank}
-use Rattle.isis_model.proofs.RouterWays.{waited-way, hold_all-course}
-use Rattle.isis_model.proofs.RisingLemmas.{way-rises, course-rises}
-use Rattle.isis_model.proofs.KeyLemmas.{at_circuit-tells}
-use Rattle.isis_model.proofs.StepLemmas.{rank-stays}
+use Rattle.model_router.specs.declared.whose.Whose.{Whose}
+use Rattle.model_router.specs.declared.drop_name.DropName.{DropName}
+use Rattle.model_router.specs.Maps.{find, each}
+use Rattle.model_router.specs.Both.{at, alone}
+use Rattle.model_router.specs.Places.{nth}
+use Rattle.model_router.specs.Sets.{has}
+use Rattle.model_router.specs.Ranks.{number_of, is_purge, is_live}
+use Rattle.model_router.specs.Cells.{Cell, Heard, purged, flagged, srm_on, srm_off, srm_sent}
+use Rattle.model_router.specs.Books.{Book, cell_at, rank_of, rank_at, is_full, set_cell}
+use Rattle.model_router.specs.LspTable.{hear_lsp}
+use Rattle.model_router.specs.SnpTable.{SnpEntry, hear_entry, hear_range}
+use Rattle.model_router.specs.LetGos.{lets_go}
+use Rattle.model_router.specs.Openings.{marked, close, open_up, set_open}
+use Rattle.model_router.specs.Adjacencies.{common_of, Handshake, Hello, is_same}
+use Rattle.model_router.specs.Routers.{Circuit, Contents, Issued, LevelState, Router, level_of, book_of, with_level, with_circuit, is_open}
+use Rattle.model_router.specs.Hellos.{follow_circuit, follow, point_circuit, lan_circuit, take_point, take_lan}
+use Rattle.model_router.specs.Givens.{Given}
+use Rattle.model_router.specs.Wanted.{wanted}
+use Rattle.model_router.specs.OwnLsps.{Next, Wait, Number, Exhaust, is_due, is_held, issue_cell, install, retire, retire_held, do_next}
+use Rattle.model_router.specs.OwnLsps.{look, look_all, withdraw_one, withdraw_all, renew, outbid, last_number}
+use Rattle.model_router.specs.Takes.{Scene, last_purge, lsp_taken, take_lsp, held_purge, entry_taken, take_entry, take_entries, take_range, take_snp, whose_of}
+use Rattle.model_router.specs.Ageing.{wait_less, less, aged, is_let_go, age_cell, age_one, age_all, age}
+use Rattle.model_router.specs.Seconds.{circuit_less, waited, count_down, hold, hold_one, hold_all, age_both, renew_both, second}
+use Rattle.model_router.specs.Pulls.{srm_due, sent, answered, Sending, with_part, is_csnp_due, at_circuit}
+use Rattle.model_router.specs.Pulls.{pull_hello, pull_csnp, pull_lsps, pull_psnp, pull_level, pull}
+use Rattle.model_router.specs.SnpLists.{owed}
+use Rattle.model_router.specs.Events.{Message, Refused, PointHelloHeard, LanHelloHeard, LspHeard, SnpHeard, Event, Second, Take, Pull, Metric, Overload, Prefix}
+use Rattle.model_router.specs.Receiving.{greeted, scene_of, taken, take_or_drop, drop_of}
+use Rattle.model_router.specs.Receiving as receiving
+use Rattle.model_router.specs.Steps.{with_metric, step}
+use Rattle.model_router.specs.Sorted.{RisesFrom, IsSorted}
+use Rattle.model_router.specs.Flooding.{Floods}
+use Rattle.model_router.specs.Deeds.{Hearing, with_this}
+use Rattle.model_router.proofs.MapLemmas.{find-each}
+use Rattle.model_router.proofs.BookLemmas.{choose, test, cell_at-set_cell, cells-after}
+use Rattle.model_router.proofs.FloodLemmas.{each-row, each-snp, lsp-floods, entry-floods, range-floods}
+use Rattle.model_router.proofs.LevelLemmas.{last-rank, held-rank}
+use Rattle.model_router.proofs.RouterWays.{waited-way, hold_all-course}
+use Rattle.model_router.proofs.RisingLemmas.{way-rises, course-rises}
+use Rattle.model_router.proofs.KeyLemmas.{at_circuit-tells}
+use Rattle.model_router.proofs.StepLemmas.{rank-stays}
 use Rattle.step_laws.specs.Falls.{is_ending, IsLetGoNow, FallIsLetGo}
 
 -- ---- what holds from a level to another

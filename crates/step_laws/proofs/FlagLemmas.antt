@@ -2,25 +2,25 @@
 use Rattle.std.proofs.Common.{◌≡◌, ℕ, ◌==◌, Bool, true, false, ◌&&◌, ◌||◌, nat_lt, nat_le, List, Option, Some, None, if◌then◌else◌, refl, sym, ap, ◌∙◌}
 use Rattle.std.proofs.Common.{subst}
 use Rattle.std.specs.Option.{option_map}
-use Rattle.isis_model.specs.declared.whose.Whose.{Whose}
-use Rattle.isis_model.specs.declared.lsp_case.LspCase.{LspCase}
-use Rattle.isis_model.specs.declared.lsp_case.LspCase.TheVariants as lsp
-use Rattle.isis_model.specs.declared.snp_case.SnpCase.{SnpCase}
-use Rattle.isis_model.specs.declared.snp_case.SnpCase.TheVariants as snp
-use Rattle.isis_model.specs.Maps.{find, each}
-use Rattle.isis_model.specs.Ranks.{is_live}
-use Rattle.isis_model.specs.Sets.{has, with_one, without, only}
-use Rattle.isis_model.specs.Waits.{Waits, wait, no_waits, due_at, five_at, fallen}
-use Rattle.isis_model.specs.Cells.{Cell, Heard, purged, flagged, srm_on, srm_off, srm_sent}
-use Rattle.isis_model.specs.Books.{Book, cell_at, is_full, set_cell}
-use Rattle.isis_model.specs.LspTable.{ssn_stored, lsp_row, met, hear_lsp}
-use Rattle.isis_model.specs.SnpTable.{SnpEntry, snp_case, asked, snp_row, hear_entry, is_missed, hear_range}
-use Rattle.isis_model.specs.Openings.{close, marked, open_up, set_open}
-use Rattle.isis_model.specs.Ageing.{wait_less, less, aged}
-use Rattle.isis_model.specs.Pulls.{srm_due, sent, answered}
-use Rattle.isis_model.proofs.MapLemmas.{find-each}
-use Rattle.isis_model.proofs.SetLemmas.{has-with_one, has-only, has-none}
-use Rattle.isis_model.proofs.BookLemmas.{choose, same-or, cells-after, opened-set_cell}
+use Rattle.model_router.specs.declared.whose.Whose.{Whose}
+use Rattle.model_router.specs.declared.lsp_case.LspCase.{LspCase}
+use Rattle.model_router.specs.declared.lsp_case.LspCase.TheVariants as lsp
+use Rattle.model_router.specs.declared.snp_case.SnpCase.{SnpCase}
+use Rattle.model_router.specs.declared.snp_case.SnpCase.TheVariants as snp
+use Rattle.model_router.specs.Maps.{find, each}
+use Rattle.model_router.specs.Ranks.{is_live}
+use Rattle.model_router.specs.Sets.{has, with_one, without, only}
+use Rattle.model_router.specs.Waits.{Waits, wait, no_waits, due_at, five_at, fallen}
+use Rattle.model_router.specs.Cells.{Cell, Heard, purged, flagged, srm_on, srm_off, srm_sent}
+use Rattle.model_router.specs.Books.{Book, cell_at, is_full, set_cell}
+use Rattle.model_router.specs.LspTable.{ssn_stored, lsp_row, met, hear_lsp}
+use Rattle.model_router.specs.SnpTable.{SnpEntry, snp_case, asked, snp_row, hear_entry, is_missed, hear_range}
+use Rattle.model_router.specs.Openings.{close, marked, open_up, set_open}
+use Rattle.model_router.specs.Ageing.{wait_less, less, aged}
+use Rattle.model_router.specs.Pulls.{srm_due, sent, answered}
+use Rattle.model_router.proofs.MapLemmas.{find-each}
+use Rattle.model_router.proofs.SetLemmas.{has-with_one, has-only, has-none}
+use Rattle.model_router.proofs.BookLemmas.{choose, same-or, cells-after, opened-set_cell}
 
 -- What holds of the open circuits, SRM, SSN and the waits of a cell, with all that deeds on one cell have to keep of it.
 pub record Rule : Type 1 where

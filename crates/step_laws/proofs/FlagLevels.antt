@@ -1,26 +1,26 @@
 -- What the parts of a step on one level keep of each cell's flags.
 use Rattle.std.proofs.Common.{◌≡◌, ℕ, ◌+◌, ◌==◌, true, List, [], ◌∷◌, Option, Some, None}
 use Rattle.isis_base.specs.declared.level.Level.{Level}
-use Rattle.isis_model.specs.declared.whose.Whose.{Whose}
-use Rattle.isis_model.specs.declared.lsp_case.LspCase.{LspCase}
-use Rattle.isis_model.specs.declared.lsp_case.LspCase.TheVariants as lsp
-use Rattle.isis_model.specs.declared.snp_case.SnpCase.{SnpCase}
-use Rattle.isis_model.specs.declared.snp_case.SnpCase.TheVariants as snp
-use Rattle.isis_model.specs.Maps.{find, erase}
-use Rattle.isis_model.specs.Ranks.{number_of, is_live}
-use Rattle.isis_model.specs.Sets.{has}
-use Rattle.isis_model.specs.Cells.{Cell, Heard, purged}
-use Rattle.isis_model.specs.Books.{cell_at, is_full}
-use Rattle.isis_model.specs.LspTable.{met}
-use Rattle.isis_model.specs.SnpTable.{SnpEntry, snp_case}
-use Rattle.isis_model.specs.Routers.{Contents, Issued, LevelState, Router}
-use Rattle.isis_model.specs.Givens.{Given}
-use Rattle.isis_model.specs.OwnLsps.{Next, Wait, Number, Exhaust, next, last_number, issue_cell, install, retire, retire_held, do_next, look, look_all}
-use Rattle.isis_model.specs.OwnLsps.{withdraw_one, withdraw_all, renew, outbid}
-use Rattle.isis_model.specs.Takes.{Scene, whose_of, answer_of, answer, last_purge, lsp_taken, take_lsp, held_purge, entry_taken, take_entry, take_entries}
-use Rattle.isis_model.specs.Takes.{take_range, take_snp}
-use Rattle.isis_model.specs.Ageing.{age_cell, age_one, age_all, age}
-use Rattle.isis_model.proofs.BookLemmas.{choose}
+use Rattle.model_router.specs.declared.whose.Whose.{Whose}
+use Rattle.model_router.specs.declared.lsp_case.LspCase.{LspCase}
+use Rattle.model_router.specs.declared.lsp_case.LspCase.TheVariants as lsp
+use Rattle.model_router.specs.declared.snp_case.SnpCase.{SnpCase}
+use Rattle.model_router.specs.declared.snp_case.SnpCase.TheVariants as snp
+use Rattle.model_router.specs.Maps.{find, erase}
+use Rattle.model_router.specs.Ranks.{number_of, is_live}
+use Rattle.model_router.specs.Sets.{has}
+use Rattle.model_router.specs.Cells.{Cell, Heard, purged}
+use Rattle.model_router.specs.Books.{cell_at, is_full}
+use Rattle.model_router.specs.LspTable.{met}
+use Rattle.model_router.specs.SnpTable.{SnpEntry, snp_case}
+use Rattle.model_router.specs.Routers.{Contents, Issued, LevelState, Router}
+use Rattle.model_router.specs.Givens.{Given}
+use Rattle.model_router.specs.OwnLsps.{Next, Wait, Number, Exhaust, next, last_number, issue_cell, install, retire, retire_held, do_next, look, look_all}
+use Rattle.model_router.specs.OwnLsps.{withdraw_one, withdraw_all, renew, outbid}
+use Rattle.model_router.specs.Takes.{Scene, whose_of, answer_of, answer, last_purge, lsp_taken, take_lsp, held_purge, entry_taken, take_entry, take_entries}
+use Rattle.model_router.specs.Takes.{take_range, take_snp}
+use Rattle.model_router.specs.Ageing.{age_cell, age_one, age_all, age}
+use Rattle.model_router.proofs.BookLemmas.{choose}
 use Rattle.step_laws.proofs.FlagLemmas.{Rule, Fits, Held, flooded-held, hear_lsp-held, hear_entry-held, hear_range-held, aged-held}
 
 -- ---- own LSPs

@@ -3,31 +3,31 @@ use Rattle.std.proofs.Common.{◌≡◌, ℕ, zero, suc, ◌==◌, Bool, true, f
 use Rattle.std.proofs.Common.{if◌then◌else◌, refl, sym, subst}
 use Rattle.isis_base.specs.declared.level.Level.{Level}
 use Rattle.isis_base.specs.declared.level.Level.TheVariants as level
-use Rattle.isis_model.specs.declared.drop_name.DropName.{DropName}
-use Rattle.isis_model.specs.declared.drop_name.DropName.TheVariants.{NoAdjacency}
-use Rattle.isis_model.specs.Both.{Both, at, alone}
-use Rattle.isis_model.specs.Places.{nth}
-use Rattle.isis_model.specs.Sets.{has}
-use Rattle.isis_model.specs.Books.{Book}
-use Rattle.isis_model.specs.Adjacencies.{common_of, Handshake, Hello, is_same}
-use Rattle.isis_model.specs.Openings.{close}
-use Rattle.isis_model.specs.Routers.{Circuit, LevelState, Router, level_of, book_of, with_level, with_book, with_circuit, is_open}
-use Rattle.isis_model.specs.Hellos.{follow_circuit, follow, point_circuit, lan_circuit, take_point, take_lan}
-use Rattle.isis_model.specs.Givens.{Given}
-use Rattle.isis_model.specs.Takes.{whose_of}
-use Rattle.isis_model.specs.OwnLsps.{renew}
-use Rattle.isis_model.specs.Wanted.{wanted}
-use Rattle.isis_model.specs.Ageing.{age}
-use Rattle.isis_model.specs.Seconds.{circuit_less, waited, count_down, hold, hold_one, hold_all, age_level, age_both, renew_level, second}
-use Rattle.isis_model.specs.SnpLists.{owed}
-use Rattle.isis_model.specs.Pulls.{Sending, is_csnp_due, with_part, sent, answered, on_circuit, at_circuit, pull_hello, pull_csnp, pull_lsps, pull_psnp}
-use Rattle.isis_model.specs.Pulls.{pull_level, pull}
-use Rattle.isis_model.specs.Events.{Message, Refused, PointHelloHeard, LanHelloHeard, LspHeard, SnpHeard, Event, Second, Take, Pull, Metric, Overload, Prefix}
-use Rattle.isis_model.specs.Events.{Outcome, settled}
-use Rattle.isis_model.specs.Receiving as receiving
-use Rattle.isis_model.specs.Receiving.{sender_of, is_from, greeted, scene_of, taken, take_or_drop, drop_of}
-use Rattle.isis_model.specs.Steps.{with_metric, with_prefix, step}
-use Rattle.isis_model.proofs.BookLemmas.{choose}
+use Rattle.model_router.specs.declared.drop_name.DropName.{DropName}
+use Rattle.model_router.specs.declared.drop_name.DropName.TheVariants.{NoAdjacency}
+use Rattle.model_router.specs.Both.{Both, at, alone}
+use Rattle.model_router.specs.Places.{nth}
+use Rattle.model_router.specs.Sets.{has}
+use Rattle.model_router.specs.Books.{Book}
+use Rattle.model_router.specs.Adjacencies.{common_of, Handshake, Hello, is_same}
+use Rattle.model_router.specs.Openings.{close}
+use Rattle.model_router.specs.Routers.{Circuit, LevelState, Router, level_of, book_of, with_level, with_book, with_circuit, is_open}
+use Rattle.model_router.specs.Hellos.{follow_circuit, follow, point_circuit, lan_circuit, take_point, take_lan}
+use Rattle.model_router.specs.Givens.{Given}
+use Rattle.model_router.specs.Takes.{whose_of}
+use Rattle.model_router.specs.OwnLsps.{renew}
+use Rattle.model_router.specs.Wanted.{wanted}
+use Rattle.model_router.specs.Ageing.{age}
+use Rattle.model_router.specs.Seconds.{circuit_less, waited, count_down, hold, hold_one, hold_all, age_level, age_both, renew_level, second}
+use Rattle.model_router.specs.SnpLists.{owed}
+use Rattle.model_router.specs.Pulls.{Sending, is_csnp_due, with_part, sent, answered, on_circuit, at_circuit, pull_hello, pull_csnp, pull_lsps, pull_psnp}
+use Rattle.model_router.specs.Pulls.{pull_level, pull}
+use Rattle.model_router.specs.Events.{Message, Refused, PointHelloHeard, LanHelloHeard, LspHeard, SnpHeard, Event, Second, Take, Pull, Metric, Overload, Prefix}
+use Rattle.model_router.specs.Events.{Outcome, settled}
+use Rattle.model_router.specs.Receiving as receiving
+use Rattle.model_router.specs.Receiving.{sender_of, is_from, greeted, scene_of, taken, take_or_drop, drop_of}
+use Rattle.model_router.specs.Steps.{with_metric, with_prefix, step}
+use Rattle.model_router.proofs.BookLemmas.{choose}
 use Rattle.step_laws.proofs.FlagLemmas.{Rule, Whole, whole, wait_less-held, sent-held, answered-held, close-whole, set_open-whole}
 use Rattle.step_laws.proofs.FlagLevels.{take_lsp-held, take_snp-held, age-held, renew-held}
 

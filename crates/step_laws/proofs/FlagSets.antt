@@ -2,19 +2,19 @@
 use Rattle.std.proofs.Common.{◌≡◌, ℕ, eqb, Bool, true, false, not, ◌&&◌, ◌||◌, List, Option, Some, None, refl, sym, ◌∙◌, subst}
 use Rattle.isis_base.specs.declared.level.Level.{Level}
 use Rattle.isis_base.specs.declared.level.Level.TheVariants as level
-use Rattle.isis_model.specs.Sets.{has, with_one, without}
-use Rattle.isis_model.specs.Cells.{Cell}
-use Rattle.isis_model.specs.Books.{cell_at, srm_of, ssn_of}
-use Rattle.isis_model.specs.Configs.{Config}
-use Rattle.isis_model.specs.Routers.{Circuit, Router, book_of}
-use Rattle.isis_model.specs.Givens.{Given}
-use Rattle.isis_model.specs.Events.{Event}
-use Rattle.isis_model.specs.Steps.{step}
-use Rattle.isis_model.specs.Starts.{start}
-use Rattle.isis_model.proofs.SetLemmas.{has-with_one, has-without, has-none}
-use Rattle.isis_model.proofs.BookLemmas.{same-or}
-use Rattle.isis_model.proofs.FloodLemmas.{covers-more}
-use Rattle.isis_model.proofs.RouterLemmas.{off-other}
+use Rattle.model_router.specs.Sets.{has, with_one, without}
+use Rattle.model_router.specs.Cells.{Cell}
+use Rattle.model_router.specs.Books.{cell_at, srm_of, ssn_of}
+use Rattle.model_router.specs.Configs.{Config}
+use Rattle.model_router.specs.Routers.{Circuit, Router, book_of}
+use Rattle.model_router.specs.Givens.{Given}
+use Rattle.model_router.specs.Events.{Event}
+use Rattle.model_router.specs.Steps.{step}
+use Rattle.model_router.specs.Starts.{start}
+use Rattle.model_router.proofs.SetLemmas.{has-with_one, has-without, has-none}
+use Rattle.model_router.proofs.BookLemmas.{same-or}
+use Rattle.model_router.proofs.FloodLemmas.{covers-more}
+use Rattle.model_router.proofs.RouterLemmas.{off-other}
 use Rattle.step_laws.specs.Flags.{FlagsAreOpen}
 use Rattle.step_laws.proofs.FlagLemmas.{Rule, Fits, Whole}
 use Rattle.step_laws.proofs.FlagRouters.{Holds, step-holds}

@@ -6,19 +6,19 @@ use Rattle.std.specs.Int.{bit_at}
 use Rattle.std.proofs.lemmas.Nat.Bits.{bit_at_or, bit_at_and, bit_at_xor, bit_at-pow_same, bit_at-pow_other, bit_at-lt, bit_at-zero}
 use Rattle.isis_base.specs.declared.level.Level.{Level}
 use Rattle.isis_base.specs.declared.level.Level.TheVariants as level
-use Rattle.isis_model.specs.Sets.{has, with_one, without}
-use Rattle.isis_model.specs.Waits.{Waits, wait, no_waits, due_at, five_at, waiting, fallen}
-use Rattle.isis_model.specs.Cells.{Cell}
-use Rattle.isis_model.specs.Books.{cell_at, srm_of}
-use Rattle.isis_model.specs.Configs.{Config}
-use Rattle.isis_model.specs.Routers.{Circuit, Router, book_of}
-use Rattle.isis_model.specs.Givens.{Given}
-use Rattle.isis_model.specs.Events.{Event}
-use Rattle.isis_model.specs.Steps.{step}
-use Rattle.isis_model.specs.Starts.{start}
-use Rattle.isis_model.proofs.BookLemmas.{choose, same-or}
-use Rattle.isis_model.proofs.FloodLemmas.{covers-more}
-use Rattle.isis_model.proofs.RouterLemmas.{off-other}
+use Rattle.model_router.specs.Sets.{has, with_one, without}
+use Rattle.model_router.specs.Waits.{Waits, wait, no_waits, due_at, five_at, waiting, fallen}
+use Rattle.model_router.specs.Cells.{Cell}
+use Rattle.model_router.specs.Books.{cell_at, srm_of}
+use Rattle.model_router.specs.Configs.{Config}
+use Rattle.model_router.specs.Routers.{Circuit, Router, book_of}
+use Rattle.model_router.specs.Givens.{Given}
+use Rattle.model_router.specs.Events.{Event}
+use Rattle.model_router.specs.Steps.{step}
+use Rattle.model_router.specs.Starts.{start}
+use Rattle.model_router.proofs.BookLemmas.{choose, same-or}
+use Rattle.model_router.proofs.FloodLemmas.{covers-more}
+use Rattle.model_router.proofs.RouterLemmas.{off-other}
 use Rattle.step_laws.specs.Flags.{wait_of, WaitsAreFlagged}
 use Rattle.step_laws.proofs.FlagLemmas.{Rule, Fits, Whole}
 use Rattle.step_laws.proofs.FlagRouters.{Holds, step-holds}

@@ -7,35 +7,35 @@ use Rattle.std.proofs.lemmas.List.Elements.{filter-append}
 use Rattle.std.specs.List.{AllByRecursion}
 use Rattle.isis_base.specs.declared.level.Level.{Level}
 use Rattle.isis_base.specs.declared.level.Level.TheVariants as level
-use Rattle.isis_model.specs.declared.drop_name.DropName.{DropName}
-use Rattle.isis_model.specs.declared.lsp_case.LspCase.{LspCase}
-use Rattle.isis_model.specs.declared.lsp_case.LspCase.TheVariants as lsp
-use Rattle.isis_model.specs.Maps.{each}
-use Rattle.isis_model.specs.Both.{Both, at, is_level}
-use Rattle.isis_model.specs.Places.{nth}
-use Rattle.isis_model.specs.Sets.{has}
-use Rattle.isis_model.specs.Cells.{Cell, Heard, srm_sent, srm_off, ssn_off}
-use Rattle.isis_model.specs.Books.{Book}
-use Rattle.isis_model.specs.SnpTable.{SnpEntry}
-use Rattle.isis_model.specs.Routers.{Circuit, LevelState, Router, book_of, with_book, with_circuit}
-use Rattle.isis_model.specs.Givens.{Given}
-use Rattle.isis_model.specs.Datagrams.{Sent, PointHello, LanHello, Lsp, Csnp, Psnp}
-use Rattle.isis_model.specs.Pulls.{Sending, due_lsps, srm_due, sent_cell, sent, answered, lan_hello, hellos, at_circuit, pull_hello, pull_csnp, pull_lsps}
-use Rattle.isis_model.specs.Pulls.{pull_psnp, pull_level, pull, is_csnp_due}
-use Rattle.isis_model.specs.SnpLists.{snp_entry, entries_where, last_id, pieces, csnps, csnp_set, owed, psnps, held_keys}
-use Rattle.isis_model.specs.Events.{Done, Send, Reply, Dropped, Message, Refused, PointHelloHeard, LanHelloHeard, LspHeard, SnpHeard, Event, Second, Take}
-use Rattle.isis_model.specs.Events.{Pull, Metric, Overload, Prefix, settled}
-use Rattle.isis_model.specs.Receiving.{taken, acks, take_or_drop, drop_of}
-use Rattle.isis_model.specs.Receiving as receiving
-use Rattle.isis_model.specs.Steps.{sent_all, step}
-use Rattle.isis_model.specs.Sorted.{IsSorted}
-use Rattle.isis_model.specs.Good.{IsGoodRouter}
-use Rattle.isis_model.specs.CsnpLaws.{IsWithin, HasShortIds}
-use Rattle.isis_model.proofs.BookLemmas.{choose}
-use Rattle.isis_model.proofs.RisingLemmas.{all-found}
-use Rattle.isis_model.proofs.ListLemmas.{all-map}
-use Rattle.isis_model.proofs.CsnpLemmas.{Rises, listed-rises, listed-few, piece-within, some-piece}
-use Rattle.isis_model.proofs.KeyLemmas.{good-ids, at_circuit-tells}
+use Rattle.model_router.specs.declared.drop_name.DropName.{DropName}
+use Rattle.model_router.specs.declared.lsp_case.LspCase.{LspCase}
+use Rattle.model_router.specs.declared.lsp_case.LspCase.TheVariants as lsp
+use Rattle.model_router.specs.Maps.{each}
+use Rattle.model_router.specs.Both.{Both, at, is_level}
+use Rattle.model_router.specs.Places.{nth}
+use Rattle.model_router.specs.Sets.{has}
+use Rattle.model_router.specs.Cells.{Cell, Heard, srm_sent, srm_off, ssn_off}
+use Rattle.model_router.specs.Books.{Book}
+use Rattle.model_router.specs.SnpTable.{SnpEntry}
+use Rattle.model_router.specs.Routers.{Circuit, LevelState, Router, book_of, with_book, with_circuit}
+use Rattle.model_router.specs.Givens.{Given}
+use Rattle.model_router.specs.Datagrams.{Sent, PointHello, LanHello, Lsp, Csnp, Psnp}
+use Rattle.model_router.specs.Pulls.{Sending, due_lsps, srm_due, sent_cell, sent, answered, lan_hello, hellos, at_circuit, pull_hello, pull_csnp, pull_lsps}
+use Rattle.model_router.specs.Pulls.{pull_psnp, pull_level, pull, is_csnp_due}
+use Rattle.model_router.specs.SnpLists.{snp_entry, entries_where, last_id, pieces, csnps, csnp_set, owed, psnps, held_keys}
+use Rattle.model_router.specs.Events.{Done, Send, Reply, Dropped, Message, Refused, PointHelloHeard, LanHelloHeard, LspHeard, SnpHeard, Event, Second, Take}
+use Rattle.model_router.specs.Events.{Pull, Metric, Overload, Prefix, settled}
+use Rattle.model_router.specs.Receiving.{taken, acks, take_or_drop, drop_of}
+use Rattle.model_router.specs.Receiving as receiving
+use Rattle.model_router.specs.Steps.{sent_all, step}
+use Rattle.model_router.specs.Sorted.{IsSorted}
+use Rattle.model_router.specs.Good.{IsGoodRouter}
+use Rattle.model_router.specs.CsnpLaws.{IsWithin, HasShortIds}
+use Rattle.model_router.proofs.BookLemmas.{choose}
+use Rattle.model_router.proofs.RisingLemmas.{all-found}
+use Rattle.model_router.proofs.ListLemmas.{all-map}
+use Rattle.model_router.proofs.CsnpLemmas.{Rises, listed-rises, listed-few, piece-within, some-piece}
+use Rattle.model_router.proofs.KeyLemmas.{good-ids, at_circuit-tells}
 use Rattle.step_laws.specs.Listings.{lies_within, ListsExactly, ReplyListsExactly, is_csnp_of, csnps_in, AreNoneOrSet, CoverIds, AreNoneOrCovering}
 
 -- ---- what a filter keeps

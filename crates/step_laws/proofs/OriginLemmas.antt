@@ -5,37 +5,37 @@ use Rattle.std.proofs.lemmas.Bool.Decides.{nat_tests}
 use Rattle.std.specs.Option.{option_map}
 use Rattle.isis_base.specs.declared.level.Level.{Level}
 use Rattle.isis_base.specs.declared.level.Level.TheVariants as level
-use Rattle.isis_model.specs.declared.whose.Whose.{Whose}
-use Rattle.isis_model.specs.declared.whose.Whose.TheVariants as whose
-use Rattle.isis_model.specs.declared.lsp_case.LspCase.{LspCase}
-use Rattle.isis_model.specs.declared.lsp_case.LspCase.TheVariants as lsp
-use Rattle.isis_model.specs.declared.drop_name.DropName.{DropName}
-use Rattle.isis_model.specs.Maps.{find}
-use Rattle.isis_model.specs.Places.{nth}
-use Rattle.isis_model.specs.Ranks.{number_of, is_live, live_rank}
-use Rattle.isis_model.specs.Cells.{Cell, Heard, kept, purged, purge_of, flagged, srm_on, srm_off, ssn_off}
-use Rattle.isis_model.specs.Books.{Book, cell_at, rank_of, set_cell}
-use Rattle.isis_model.specs.LspTable.{is_newer, differs, lsp_case, acked, lsp_row, hear_lsp}
-use Rattle.isis_model.specs.Routers.{Circuit, Contents, LevelState, Router, level_of, book_of, with_level}
-use Rattle.isis_model.specs.Givens.{Given}
-use Rattle.isis_model.specs.OwnLsps.{issue_cell, install, retire, outbid, last_number}
-use Rattle.isis_model.specs.Takes.{answer_of, last_purge, lsp_taken, take_lsp, whose_of}
-use Rattle.isis_model.specs.Events.{Envelope, Message, Refused, PointHelloHeard, LanHelloHeard, LspHeard, SnpHeard}
-use Rattle.isis_model.specs.Events.{Event, Second, Take, Pull, Metric, Overload, Prefix}
-use Rattle.isis_model.specs.Receiving.{scene_of, take_or_drop, drop_of}
-use Rattle.isis_model.specs.Receiving as receiving
-use Rattle.isis_model.specs.Steps.{step}
-use Rattle.isis_model.specs.Deeds.{Content, content_of}
-use Rattle.isis_model.specs.Hearings.{Source, hearing}
-use Rattle.isis_model.specs.Hearings as hearings
-use Rattle.isis_model.specs.ContentLaws.{Comes}
-use Rattle.isis_model.proofs.BookLemmas.{choose, cells-after}
-use Rattle.isis_model.proofs.FloodLemmas.{each-row}
-use Rattle.isis_model.proofs.GoodCells.{purge-dead}
-use Rattle.isis_model.proofs.LevelWays.{issued-own}
-use Rattle.isis_model.proofs.OwnLemmas.{answer-mine}
-use Rattle.isis_model.proofs.StepWays.{step-course}
-use Rattle.isis_model.proofs.TellLemmas.{course-tells}
+use Rattle.model_router.specs.declared.whose.Whose.{Whose}
+use Rattle.model_router.specs.declared.whose.Whose.TheVariants as whose
+use Rattle.model_router.specs.declared.lsp_case.LspCase.{LspCase}
+use Rattle.model_router.specs.declared.lsp_case.LspCase.TheVariants as lsp
+use Rattle.model_router.specs.declared.drop_name.DropName.{DropName}
+use Rattle.model_router.specs.Maps.{find}
+use Rattle.model_router.specs.Places.{nth}
+use Rattle.model_router.specs.Ranks.{number_of, is_live, live_rank}
+use Rattle.model_router.specs.Cells.{Cell, Heard, kept, purged, purge_of, flagged, srm_on, srm_off, ssn_off}
+use Rattle.model_router.specs.Books.{Book, cell_at, rank_of, set_cell}
+use Rattle.model_router.specs.LspTable.{is_newer, differs, lsp_case, acked, lsp_row, hear_lsp}
+use Rattle.model_router.specs.Routers.{Circuit, Contents, LevelState, Router, level_of, book_of, with_level}
+use Rattle.model_router.specs.Givens.{Given}
+use Rattle.model_router.specs.OwnLsps.{issue_cell, install, retire, outbid, last_number}
+use Rattle.model_router.specs.Takes.{answer_of, last_purge, lsp_taken, take_lsp, whose_of}
+use Rattle.model_router.specs.Events.{Envelope, Message, Refused, PointHelloHeard, LanHelloHeard, LspHeard, SnpHeard}
+use Rattle.model_router.specs.Events.{Event, Second, Take, Pull, Metric, Overload, Prefix}
+use Rattle.model_router.specs.Receiving.{scene_of, take_or_drop, drop_of}
+use Rattle.model_router.specs.Receiving as receiving
+use Rattle.model_router.specs.Steps.{step}
+use Rattle.model_router.specs.Deeds.{Content, content_of}
+use Rattle.model_router.specs.Hearings.{Source, hearing}
+use Rattle.model_router.specs.Hearings as hearings
+use Rattle.model_router.specs.ContentLaws.{Comes}
+use Rattle.model_router.proofs.BookLemmas.{choose, cells-after}
+use Rattle.model_router.proofs.FloodLemmas.{each-row}
+use Rattle.model_router.proofs.GoodCells.{purge-dead}
+use Rattle.model_router.proofs.LevelWays.{issued-own}
+use Rattle.model_router.proofs.OwnLemmas.{answer-mine}
+use Rattle.model_router.proofs.StepWays.{step-course}
+use Rattle.model_router.proofs.TellLemmas.{course-tells}
 use Rattle.step_laws.specs.Origins.{Origin, Taken, Made, NewHasOrigin}
 
 -- ---- one cell

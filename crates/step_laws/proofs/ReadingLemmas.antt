@@ -6,31 +6,31 @@ use Rattle.std.specs.List.{AllByRecursion}
 use Rattle.std.proofs.lemmas.Bool.Decides.{nat_tests}
 use Rattle.isis_base.specs.declared.level.Level.{Level}
 use Rattle.isis_base.specs.declared.level.Level.TheVariants as level
-use Rattle.isis_model.specs.declared.whose.Whose.{Whose}
-use Rattle.isis_model.specs.declared.whose.Whose.TheVariants as whose
-use Rattle.isis_model.specs.declared.drop_name.DropName.{DropName}
-use Rattle.isis_model.specs.declared.snp_case.SnpCase.{SnpCase}
-use Rattle.isis_model.specs.declared.snp_case.SnpCase.TheVariants.{Nothing, Outbid, Confused, Same, Older, Newer, Asked, Unasked}
-use Rattle.isis_model.specs.Maps.{find}
-use Rattle.isis_model.specs.Places.{nth}
-use Rattle.isis_model.specs.Ranks.{is_live}
-use Rattle.isis_model.specs.Cells.{Cell, srm_on}
-use Rattle.isis_model.specs.Books.{Book, cell_at, rank_of, rank_at, checksum_of, is_full, risen, set_cell}
-use Rattle.isis_model.specs.LspTable.{is_issued, differs}
-use Rattle.isis_model.specs.SnpTable.{SnpEntry, snp_case, snp_row, freed, hear_entry, hear_range, lists, sets_flag, is_missed}
-use Rattle.isis_model.specs.Routers.{Circuit, LevelState, Router, level_of, book_of, with_level}
-use Rattle.isis_model.specs.Givens.{Given}
-use Rattle.isis_model.specs.Takes.{Scene, whose_of, entry_taken, take_entry, take_entries, take_snp}
-use Rattle.isis_model.specs.Events.{Envelope, Message, SnpHeard, Take}
-use Rattle.isis_model.specs.Receiving.{scene_of, drop_of, take_or_drop}
-use Rattle.isis_model.specs.Receiving as receiving
-use Rattle.isis_model.specs.Steps.{step}
-use Rattle.isis_model.specs.Sorted.{IsSorted}
-use Rattle.isis_model.specs.SweepLaws.{AreClean, IsRangeClean}
-use Rattle.isis_model.proofs.MapLemmas.{find-each}
-use Rattle.isis_model.proofs.BookLemmas.{choose, test, same-or, cells-after}
-use Rattle.isis_model.proofs.RisingLemmas.{all-found}
-use Rattle.network_model.specs.Takings.{would_flag, would_flag_any, misses_any, would_flag_range, is_clean}
+use Rattle.model_router.specs.declared.whose.Whose.{Whose}
+use Rattle.model_router.specs.declared.whose.Whose.TheVariants as whose
+use Rattle.model_router.specs.declared.drop_name.DropName.{DropName}
+use Rattle.model_router.specs.declared.snp_case.SnpCase.{SnpCase}
+use Rattle.model_router.specs.declared.snp_case.SnpCase.TheVariants.{Nothing, Outbid, Confused, Same, Older, Newer, Asked, Unasked}
+use Rattle.model_router.specs.Maps.{find}
+use Rattle.model_router.specs.Places.{nth}
+use Rattle.model_router.specs.Ranks.{is_live}
+use Rattle.model_router.specs.Cells.{Cell, srm_on}
+use Rattle.model_router.specs.Books.{Book, cell_at, rank_of, rank_at, checksum_of, is_full, risen, set_cell}
+use Rattle.model_router.specs.LspTable.{is_issued, differs}
+use Rattle.model_router.specs.SnpTable.{SnpEntry, snp_case, snp_row, freed, hear_entry, hear_range, lists, sets_flag, is_missed}
+use Rattle.model_router.specs.Routers.{Circuit, LevelState, Router, level_of, book_of, with_level}
+use Rattle.model_router.specs.Givens.{Given}
+use Rattle.model_router.specs.Takes.{Scene, whose_of, entry_taken, take_entry, take_entries, take_snp}
+use Rattle.model_router.specs.Events.{Envelope, Message, SnpHeard, Take}
+use Rattle.model_router.specs.Receiving.{scene_of, drop_of, take_or_drop}
+use Rattle.model_router.specs.Receiving as receiving
+use Rattle.model_router.specs.Steps.{step}
+use Rattle.model_router.specs.Sorted.{IsSorted}
+use Rattle.model_router.specs.SweepLaws.{AreClean, IsRangeClean}
+use Rattle.model_router.proofs.MapLemmas.{find-each}
+use Rattle.model_router.proofs.BookLemmas.{choose, test, same-or, cells-after}
+use Rattle.model_router.proofs.RisingLemmas.{all-found}
+use Rattle.model_network.specs.Takings.{would_flag, would_flag_any, misses_any, would_flag_range, is_clean}
 use Rattle.step_laws.specs.Readings.{KeepsKeys, IsTakenCleanly}
 
 -- ---- tests

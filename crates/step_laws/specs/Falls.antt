@@ -1,13 +1,13 @@
 -- Where the rank of a key falls: a second lets its LSP ID go (ISO 10589 7.3.16.4; the words: own).
 use Rattle.std.specs.Prelude.{◌≡◌, ℕ, ◌<◌, Bool, true, false, Option, Some, None}
 use Rattle.isis_base.specs.declared.level.Level.{Level}
-use Rattle.isis_model.specs.Cells.{Cell}
-use Rattle.isis_model.specs.Books.{cell_at, rank_at}
-use Rattle.isis_model.specs.LetGos.{lets_go}
-use Rattle.isis_model.specs.Ageing.{is_let_go}
-use Rattle.isis_model.specs.Routers.{Router, level_of, book_of}
-use Rattle.isis_model.specs.Sorted.{IsSorted}
-use Rattle.isis_model.specs.Events.{Event, Second}
+use Rattle.model_router.specs.Cells.{Cell}
+use Rattle.model_router.specs.Books.{cell_at, rank_at}
+use Rattle.model_router.specs.LetGos.{lets_go}
+use Rattle.model_router.specs.Ageing.{is_let_go}
+use Rattle.model_router.specs.Routers.{Router, level_of, book_of}
+use Rattle.model_router.specs.Sorted.{IsSorted}
+use Rattle.model_router.specs.Events.{Event, Second}
 
 -- whether what is held of an LSP ID is a purge with at most one second left (7.3.16.4)
 abbrev pub is_ending : Option Cell → Bool

@@ -1,11 +1,11 @@
 -- Where flags stand and what they wait, in every state that is reached (ISO 10589 7.3.15, 7.3.17).
 use Rattle.std.specs.Prelude.{◌≡◌, ℕ, ◌<◌, ◌≤◌, true, Option, Some, None}
 use Rattle.isis_base.specs.declared.level.Level.{Level}
-use Rattle.isis_model.specs.Sets.{has}
-use Rattle.isis_model.specs.Waits.{wait}
-use Rattle.isis_model.specs.Cells.{Cell}
-use Rattle.isis_model.specs.Books.{Book, cell_at, srm_at, ssn_at}
-use Rattle.isis_model.specs.Routers.{Router, book_of}
+use Rattle.model_router.specs.Sets.{has}
+use Rattle.model_router.specs.Waits.{wait}
+use Rattle.model_router.specs.Cells.{Cell}
+use Rattle.model_router.specs.Books.{Book, cell_at, srm_at, ssn_at}
+use Rattle.model_router.specs.Routers.{Router, book_of}
 
 -- SRM and SSN of every LSP ID stand on circuits that are open for the level, and on no other
 -- (7.3.15, 7.3.17; that a circuit that closes loses its flags: own)

@@ -2,14 +2,14 @@
 -- cover all LSP IDs (ISO 10589 7.3.15.3; the words: own).
 use Rattle.std.specs.Prelude.{◌≡◌, ℕ, ◌+◌, ◌^◌, ◌≤◌, nat_le, Bool, false, ◌&&◌, ◌⊎◌, List, [], ◌∷◌, filter}
 use Rattle.isis_base.specs.declared.level.Level.{Level}
-use Rattle.isis_model.specs.Both.{is_level}
-use Rattle.isis_model.specs.Books.{Book}
-use Rattle.isis_model.specs.SnpTable.{SnpEntry}
-use Rattle.isis_model.specs.Routers.{Router, book_of}
-use Rattle.isis_model.specs.Datagrams.{Sent, PointHello, LanHello, Lsp, Csnp, Psnp}
-use Rattle.isis_model.specs.SnpLists.{held_keys, csnp_set}
-use Rattle.isis_model.specs.Events.{Reply, Done, Dropped, Send}
-use Rattle.isis_model.specs.ReplyLaws.{AllSent}
+use Rattle.model_router.specs.Both.{is_level}
+use Rattle.model_router.specs.Books.{Book}
+use Rattle.model_router.specs.SnpTable.{SnpEntry}
+use Rattle.model_router.specs.Routers.{Router, book_of}
+use Rattle.model_router.specs.Datagrams.{Sent, PointHello, LanHello, Lsp, Csnp, Psnp}
+use Rattle.model_router.specs.SnpLists.{held_keys, csnp_set}
+use Rattle.model_router.specs.Events.{Reply, Done, Dropped, Send}
+use Rattle.model_router.specs.ReplyLaws.{AllSent}
 
 -- ---- what a CSNP lists
 

@@ -2,16 +2,16 @@
 -- 7.3.15.1, 7.3.16.1; the words: own).
 use Rattle.std.specs.Prelude.{◌≡◌, ◌≢◌, ℕ, ◌/◌}
 use Rattle.isis_base.specs.declared.level.Level.{Level}
-use Rattle.isis_model.specs.Ranks.{live_rank}
-use Rattle.isis_model.specs.Cells.{Heard, kept}
-use Rattle.isis_model.specs.Books.{cell_at}
-use Rattle.isis_model.specs.Routers.{Contents, Router, book_of}
-use Rattle.isis_model.specs.Givens.{Given}
-use Rattle.isis_model.specs.OwnLsps.{issue_cell}
-use Rattle.isis_model.specs.Events.{Envelope, LspHeard, Event, Take}
-use Rattle.isis_model.specs.Deeds.{Content, content_of}
-use Rattle.isis_model.specs.Hearings.{IsOwnLsp}
-use Rattle.isis_model.specs.ContentLaws.{Comes}
+use Rattle.model_router.specs.Ranks.{live_rank}
+use Rattle.model_router.specs.Cells.{Heard, kept}
+use Rattle.model_router.specs.Books.{cell_at}
+use Rattle.model_router.specs.Routers.{Contents, Router, book_of}
+use Rattle.model_router.specs.Givens.{Given}
+use Rattle.model_router.specs.OwnLsps.{issue_cell}
+use Rattle.model_router.specs.Events.{Envelope, LspHeard, Event, Take}
+use Rattle.model_router.specs.Deeds.{Content, content_of}
+use Rattle.model_router.specs.Hearings.{IsOwnLsp}
+use Rattle.model_router.specs.ContentLaws.{Comes}
 
 -- where a new live LSP comes from: it was taken in the event and is of another system, or it is of
 -- the router's own system and was made by what is given (7.3.15.1, 7.3.16.1; the words: own)

@@ -1,10 +1,10 @@
 -- A CSNP that is taken without a flag, entry after entry (ISO 10589 7.3.15.2; the words: own).
 use Rattle.std.specs.Prelude.{◌≡◌, ℕ, List}
-use Rattle.isis_model.specs.Books.{Book, cell_at, rank_at, checksum_of}
-use Rattle.isis_model.specs.SnpTable.{SnpEntry}
-use Rattle.isis_model.specs.Routers.{LevelState}
-use Rattle.isis_model.specs.Takes.{Scene, take_entries}
-use Rattle.isis_model.specs.SweepLaws.{AreClean, IsRangeClean}
+use Rattle.model_router.specs.Books.{Book, cell_at, rank_at, checksum_of}
+use Rattle.model_router.specs.SnpTable.{SnpEntry}
+use Rattle.model_router.specs.Routers.{LevelState}
+use Rattle.model_router.specs.Takes.{Scene, take_entries}
+use Rattle.model_router.specs.SweepLaws.{AreClean, IsRangeClean}
 
 -- a book has the keys of the one before it, with their checksums, and no change was counted (own)
 pub record KeepsKeys (old new : Book) : Type 0 where

@@ -1,8 +1,8 @@
 //! The law of ranks: where one falls.
-ghost use Rattle.isis_model.specs.Routers.{Router};
-ghost use Rattle.isis_model.specs.Givens.{Given};
-ghost use Rattle.isis_model.specs.Events.{Event};
-ghost use Rattle.isis_model.specs.Steps.{step};
+ghost use Rattle.model_router.specs.Routers.{Router};
+ghost use Rattle.model_router.specs.Givens.{Given};
+ghost use Rattle.model_router.specs.Events.{Event};
+ghost use Rattle.model_router.specs.Steps.{step};
 ghost use Rattle.step_laws.specs.Falls.{FallIsLetGo};
 
 /// The rank of a key falls only in a second, and only where what was held is a purge with at most

@@ -1,12 +1,12 @@
 //! Laws of where flags stand and what they wait: at the start, and kept by every step.
 ghost use Rattle.std.specs.Prelude.{◌≡◌, ℕ, ◌-◌, ◌==◌, List, if◌then◌else◌};
-ghost use Rattle.isis_model.specs.Waits.{Waits, wait, no_waits, due_at, five_at, fallen};
-ghost use Rattle.isis_model.specs.Configs.{Config};
-ghost use Rattle.isis_model.specs.Routers.{Circuit, Router};
-ghost use Rattle.isis_model.specs.Givens.{Given};
-ghost use Rattle.isis_model.specs.Events.{Event};
-ghost use Rattle.isis_model.specs.Steps.{step};
-ghost use Rattle.isis_model.specs.Starts.{start};
+ghost use Rattle.model_router.specs.Waits.{Waits, wait, no_waits, due_at, five_at, fallen};
+ghost use Rattle.model_router.specs.Configs.{Config};
+ghost use Rattle.model_router.specs.Routers.{Circuit, Router};
+ghost use Rattle.model_router.specs.Givens.{Given};
+ghost use Rattle.model_router.specs.Events.{Event};
+ghost use Rattle.model_router.specs.Steps.{step};
+ghost use Rattle.model_router.specs.Starts.{start};
 ghost use Rattle.step_laws.specs.Flags.{FlagsAreOpen, WaitsAreFlagged};
 
 /// At a router's start SRM and SSN stand on open circuits alone.

@@ -1,4 +1,4 @@
-//! The laws of one step, exactly: what the laws of isis_model and network_model say more weakly, or leave out.
+//! The laws of one step, exactly: what the laws of model_router and model_network say more weakly, or leave out.
 //!
 //! Definitions and laws alone; each law is a function without a body, whose contract holds for whatever is given, every
 //! state and every event.

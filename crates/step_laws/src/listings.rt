@@ -1,11 +1,11 @@
 //! Laws of the CSNPs in a reply: which they are, what they list, and which LSP IDs they cover.
 ghost use Rattle.isis_base.specs.declared.level.Level.{Level};
-ghost use Rattle.isis_model.specs.Routers.{Router};
-ghost use Rattle.isis_model.specs.Givens.{Given};
-ghost use Rattle.isis_model.specs.Events.{Event};
-ghost use Rattle.isis_model.specs.Steps.{step};
-ghost use Rattle.isis_model.specs.Sorted.{IsSorted};
-ghost use Rattle.isis_model.specs.Good.{IsGoodRouter};
+ghost use Rattle.model_router.specs.Routers.{Router};
+ghost use Rattle.model_router.specs.Givens.{Given};
+ghost use Rattle.model_router.specs.Events.{Event};
+ghost use Rattle.model_router.specs.Steps.{step};
+ghost use Rattle.model_router.specs.Sorted.{IsSorted};
+ghost use Rattle.model_router.specs.Good.{IsGoodRouter};
 ghost use Rattle.step_laws.specs.Listings.{ReplyListsExactly, AreNoneOrSet, AreNoneOrCovering};
 
 /// A CSNP in a reply lists exactly the keys in its range that are held after the step: each once,

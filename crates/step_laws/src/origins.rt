@@ -1,8 +1,8 @@
 //! The law of new live LSPs: where one comes from.
-ghost use Rattle.isis_model.specs.Routers.{Router};
-ghost use Rattle.isis_model.specs.Givens.{Given};
-ghost use Rattle.isis_model.specs.Events.{Event};
-ghost use Rattle.isis_model.specs.Steps.{step};
+ghost use Rattle.model_router.specs.Routers.{Router};
+ghost use Rattle.model_router.specs.Givens.{Given};
+ghost use Rattle.model_router.specs.Events.{Event};
+ghost use Rattle.model_router.specs.Steps.{step};
 ghost use Rattle.step_laws.specs.Origins.{NewHasOrigin};
 
 /// A live LSP that is held after a step, and wasn't held before it with its rank and content, was

@@ -1,17 +1,17 @@
 //! The law of the two readings of a CSNP that is taken without a flag.
 ghost use Rattle.std.specs.Prelude.{◌≡◌, ◌↔◌, ℕ, true, false, List, Option, Some, None};
 ghost use Rattle.isis_base.specs.declared.level.Level.{Level};
-ghost use Rattle.isis_model.specs.Places.{nth};
-ghost use Rattle.isis_model.specs.SnpTable.{SnpEntry};
-ghost use Rattle.isis_model.specs.Routers.{Circuit, LevelState, Router, level_of};
-ghost use Rattle.isis_model.specs.Givens.{Given};
-ghost use Rattle.isis_model.specs.Takes.{Scene, take_snp};
-ghost use Rattle.isis_model.specs.Events.{Envelope, SnpHeard, Take};
-ghost use Rattle.isis_model.specs.Receiving.{scene_of, drop_of};
-ghost use Rattle.isis_model.specs.Steps.{step};
-ghost use Rattle.isis_model.specs.Sorted.{IsSorted};
-ghost use Rattle.isis_model.specs.SweepLaws.{AreClean};
-ghost use Rattle.network_model.specs.Takings.{would_flag_any, is_clean};
+ghost use Rattle.model_router.specs.Places.{nth};
+ghost use Rattle.model_router.specs.SnpTable.{SnpEntry};
+ghost use Rattle.model_router.specs.Routers.{Circuit, LevelState, Router, level_of};
+ghost use Rattle.model_router.specs.Givens.{Given};
+ghost use Rattle.model_router.specs.Takes.{Scene, take_snp};
+ghost use Rattle.model_router.specs.Events.{Envelope, SnpHeard, Take};
+ghost use Rattle.model_router.specs.Receiving.{scene_of, drop_of};
+ghost use Rattle.model_router.specs.Steps.{step};
+ghost use Rattle.model_router.specs.Sorted.{IsSorted};
+ghost use Rattle.model_router.specs.SweepLaws.{AreClean};
+ghost use Rattle.model_network.specs.Takings.{would_flag_any, is_clean};
 ghost use Rattle.step_laws.specs.Readings.{KeepsKeys, IsTakenCleanly};
 
 /// Entry after entry, each by whose its LSP is and at what those before it left, no entry of an SNP

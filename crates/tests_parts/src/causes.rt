@@ -1,5 +1,5 @@
-//! The causes of a drop of isis_model, each call once.
-use isis_model::DropName;
+//! The causes of a drop of model_router, each call once.
+use model_router::DropName;
 use std::test::Fail;
 
 /// Whether a cause stands at this place, with this word.

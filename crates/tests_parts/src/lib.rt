@@ -7,7 +7,7 @@
 //! - `ageing`: purge_ageing; `exchange`: snp_exchange
 //! - `fragments`: lsp_fragments
 //! - `neighbours`, `boots`: adjacency; `elections`: designated_is
-//! - `causes`: isis_model
+//! - `causes`: model_router
 #![tactic(auto)]
 
 #[cfg(test)]

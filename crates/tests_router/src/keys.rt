@@ -1,9 +1,9 @@
-//! Worked nets of key_net, and the words of its faults.
+//! Worked nets of lab_keys, and the words of its faults.
 ghost use Rattle.std.specs.Prelude.{◌≡◌, ◌<◌, IfOk};
 
 use crate::made::{ONE, TWO};
 use isis_base::{Key, LspId};
-use key_net::{KeyNet, LabFault, LimitName};
+use lab_keys::{KeyNet, LabFault, LimitName};
 use std::alloc::Global;
 
 const FIRST: LspId = LspId {

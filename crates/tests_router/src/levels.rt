@@ -6,8 +6,8 @@ use crate::made::{FIRST, OWN};
 use flag_sync::LspHeard;
 use isis_base::{CircuitKind, Level, LspEntry, LspId, Octets, OutOfMemory};
 use isis_tlv::are_tlvs;
-use lsp_octets::Draft;
 use router_levels::{LevelParts, Wants};
+use router_sending::Draft;
 use std::alloc::Global;
 
 /// What another router says of an LSP ID.

@@ -4,12 +4,12 @@
 //! octets are from outside: the scripts beside src/ make them with Python's own modules.
 //!
 //! - `made.rt`: values that several of them begin with
-//! - `octets.rt`: lsp_octets, with the rows of `octets_vectors.py`; `sending.rt`: pdu_sender, with those of
+//! - `octets.rt`: LSPs of router_sending, with the rows of `octets_vectors.py`; `sending.rt`: its PDUs, with those of
 //!   `sending_vectors.py`; `levels.rt`: router_levels
 //! - `desks.rt`: router_desk, with the rows of `desks_vectors.py`; `circuits.rt`: router_circuits; `wants.rt`:
-//!   lsp_wanted; `readings.rt`: router_reading
+//!   router_wanted; `readings.rt`: what router_desk reads of PDUs
 //! - `routers.rt`: router_core
-//! - `keys.rt`: key_net; `sweeps.rt`: lan_sweeps; `links.rt`: link_states
+//! - `keys.rt`: lab_keys; `sweeps.rt`, `links.rt`: lab_facts, its ranges of CSNPs and its groups
 #![tactic(auto)]
 
 #[cfg(test)]

@@ -1,6 +1,6 @@
-//! Rows of groups of link_states.
+//! Rows of groups of lab_facts.
 use isis_base::OutOfMemory;
-use link_states::{Groups, joined_groups};
+use lab_facts::{Groups, joined_groups};
 use std::alloc::Global;
 
 /// The place of the group that has a router; 9 where none has it.

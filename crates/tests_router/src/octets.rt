@@ -1,13 +1,13 @@
-//! An own LSP of lsp_octets issued, and what is held sent, with and without a key. The expected octets are from
+//! An own LSP of router_sending issued, and what is held sent, with and without a key. The expected octets are from
 //! octets_vectors.py beside src/.
 ghost use Rattle.std.specs.Prelude.{◌≡◌, IsTrue};
-ghost use Rattle.lsp_octets.specs.Held.{IsHeader};
+ghost use Rattle.router_sending.specs.Held.{IsHeader};
 
 use crate::made::{AGED, LIVE, OWN, octets};
 use isis_base::{Key, Level, Octets, OutOfMemory, PduKind};
 use isis_tlv::are_tlvs;
-use lsp_octets::{Draft, lent_key, put_lsp};
 use lsp_store::Entry;
+use router_sending::{Draft, lent_key, put_lsp};
 use std::alloc::Global;
 
 /// A key, none where it is empty, a sequence number, TLVs, and the octets that are issued.

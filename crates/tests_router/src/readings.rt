@@ -1,11 +1,10 @@
-//! Each type of PDU heard once by router_reading. The octets of the point-to-point hello were written by another
+//! Each type of PDU heard once by router_desk. The octets of the point-to-point hello were written by another
 //! program; the others are put together field by field.
 use crate::made::{FIRST, HELLO};
 use isis_base::{Level, OutOfMemory, Snpa, SystemId};
 use isis_pdu::{Pdu, decode};
 use isis_tlv::Adj;
-use router_desk::{Envelope, Seen};
-use router_reading::{Heard, HelloHeard, hear};
+use router_desk::{Envelope, Heard, HelloHeard, Seen, hear};
 use std::alloc::Global;
 
 /// A point-to-point hello with one area and the state Down; a LAN hello of level 1 with two areas

@@ -1,4 +1,4 @@
-//! Each kind of datagram of pdu_sender once. The expected PDUs are from sending_vectors.py beside src/.
+//! Each kind of datagram of router_sending once. The expected PDUs are from sending_vectors.py beside src/.
 ghost use Rattle.std.specs.Prelude.{◌≡◌, ◌≤◌, [], ◌∷◌, length};
 ghost use Rattle.isis_tlv.specs.Spelling.{area_value};
 
@@ -9,7 +9,7 @@ use isis_base::{
 };
 use isis_tlv::Adj;
 use lsp_store::Entry;
-use pdu_sender::{Sender, csnp, lan_hello, lsp, point_hello, psnp};
+use router_sending::{Sender, csnp, lan_hello, lsp, point_hello, psnp};
 use std::alloc::Global;
 
 const POINT: &[u8] =

@@ -1,6 +1,6 @@
-//! Ranges of lan_sweeps at two moments.
+//! Ranges of lab_facts at two moments.
 use isis_base::{Level, LspId, OutOfMemory};
-use lan_sweeps::{SweepKey, Sweeps};
+use lab_facts::{SweepKey, Sweeps};
 use std::alloc::Global;
 
 /// The last LSP ID of the first half, as a number.

@@ -1,11 +1,11 @@
-//! What lsp_wanted tells of a level of a router that is designated on a LAN: its LSP, with leaks, and its pseudonode's.
+//! What router_wanted tells of a level of a router that is designated on a LAN: its LSP, with leaks, and its pseudonode's.
 ghost use Rattle.std.specs.Prelude.{◌≡◌, IfOk};
 
 use crate::made::{SECOND, TWO, circuit};
 use adjacency::{HelloFields, Own};
 use isis_base::{AreaAddress, CircuitKind, Level, LevelSet, OutOfMemory, Prefix, Snpa, SystemId};
-use lsp_wanted::{Wanted, Wants, wanted_lsps};
 use router_circuits::Circuit;
+use router_wanted::{Wanted, Wants, wanted_lsps};
 use std::alloc::Global;
 
 const MINE: SystemId = SystemId([0, 0, 0, 0, 0, 9]);

@@ -1,8 +1,8 @@
 -- A walk that is found step by step (own).
 use Rattle.std.specs.Prelude.{◌≡◌, ℕ, List, Result, Ok, Err}
 use Rattle.isis_base.specs.declared.prefix.Prefix.{Prefix}
-use Rattle.isis_model.specs.Routers.{Router}
-use Rattle.network_model.specs.Networks.{Network}
+use Rattle.model_router.specs.Routers.{Router}
+use Rattle.model_network.specs.Networks.{Network}
 use Rattle.lab_script.specs.declared.reason.ScriptFault.TheVariants.{Refused, Limit}
 use Rattle.lab_script.specs.declared.script.Script.{Script}
 use Rattle.lab_text.specs.Runs.{outcome_of}

@@ -1,7 +1,7 @@
 -- How many moves journals are.
 use Rattle.std.proofs.Common.{◌≡◌, ◌≢◌, ℕ, zero, suc, ◌+◌, ◌-◌, ◌<◌, ◌≤◌, ◌==◌, ◌⊎◌, inl, inr, true, false, List, [], ◌∷◌, ◌++◌, take, drop, length, Some, refl, sym, ap, ◌∙◌, subst, arith}
 use Rattle.std.proofs.lemmas.Bool.Decides.{eqb_tells}
-use Rattle.isis_model.specs.Places.{nth, with_nth}
+use Rattle.model_router.specs.Places.{nth, with_nth}
 use Rattle.weave_model.specs.Entries.{Entry}
 use Rattle.weave_model.specs.Weavings.{Move, Restarts, entries_before, behind_restart, track_of}
 use Rattle.weave_replay.specs.declared.journal.WovenJournal.{WovenJournal}

@@ -1,18 +1,18 @@
 -- Events of the network for the moves of its routers.
 use Rattle.std.proofs.Common.{◌≡◌, ℕ, zero, suc, ◌-◌, ◌<◌, ◌||◌, nat_le, nat_lt, is_some, true, List, [], ◌∷◌, length, get_or, Some, None, sym, ap, ◌∙◌, subst, arith}
 use Rattle.std.proofs.lemmas.Bool.{and_parts, leb-true}
-use Rattle.isis_model.specs.Maps.{find}
-use Rattle.isis_model.specs.Places.{nth}
-use Rattle.isis_model.specs.Routers.{Router}
+use Rattle.model_router.specs.Maps.{find}
+use Rattle.model_router.specs.Places.{nth}
+use Rattle.model_router.specs.Routers.{Router}
 use Rattle.router_desk.specs.declared.config.Change.{Change}
 use Rattle.router_desk.specs.declared.config.Change.TheVariants as change
 use Rattle.router_desk.specs.Configs.{prefix_number}
 use Rattle.router_core.specs.Events.{IsThere}
-use Rattle.network_model.specs.declared.end.End.{End}
-use Rattle.network_model.specs.Networks.{Network, place_in}
-use Rattle.network_model.specs.RunLines.{circuit_count}
-use Rattle.network_model.specs.Runs as model
-use Rattle.network_model.specs.Runs.{Happening}
+use Rattle.model_network.specs.declared.end.End.{End}
+use Rattle.model_network.specs.Networks.{Network, place_in}
+use Rattle.model_network.specs.RunLines.{circuit_count}
+use Rattle.model_network.specs.Runs as model
+use Rattle.model_network.specs.Runs.{Happening}
 use Rattle.network_lab.specs.LabNets.{Seen, LabNet, StandsFor}
 use Rattle.network_lab.specs.LabEvents.{IsChange}
 use Rattle.network_lab.specs.Claims.{AreLinksOf, HaveOneLink}

@@ -2,9 +2,9 @@
 use Rattle.std.proofs.Common.{◌≡◌, ◌≢◌, ℕ, ◌==◌, ◌⊎◌, inl, inr, true, false, List, [], ◌∷◌, ◌++◌, length, Some, slice_get, set, refl, sym, ap, ◌∙◌, subst, arith}
 use Rattle.std.proofs.lemmas.List.{length-set}
 use Rattle.std.proofs.lemmas.Bool.Decides.{eqb_tells}
-use Rattle.isis_model.specs.Givens.{Given}
-use Rattle.network_model.specs.Networks.{Network}
-use Rattle.network_model.specs.Runs.{Happening, Restart, apply, run}
+use Rattle.model_router.specs.Givens.{Given}
+use Rattle.model_network.specs.Networks.{Network}
+use Rattle.model_network.specs.Runs.{Happening, Restart, apply, run}
 use Rattle.weave_core.proofs.PlaceLemmas.{slice_get-set, slice_get-set_other}
 use Rattle.weave_model.specs.Weavings.{Move, Restarts, Scene, Goes, Front, IsFarthest}
 use Rattle.weave_replay.proofs.PlaceLemmas.{some-is}

@@ -1,6 +1,6 @@
 -- Items of lists by their places.
 use Rattle.std.proofs.Common.{◌≡◌, ℕ, zero, suc, ◌+◌, ◌≤◌, List, [], ◌∷◌, ◌++◌, take, drop, length, Some, slice_get, refl, ap, subst, arith}
-use Rattle.isis_model.specs.Places.{nth}
+use Rattle.model_router.specs.Places.{nth}
 use Rattle.weave_replay.proofs.PlaceLemmas.{some-is}
 
 pub nth-slice : {X : Type 0} → (xs : List X) (i : ℕ) → slice_get xs i ≡ nth xs i

@@ -1,7 +1,7 @@
 -- Plans of routers, as they grow.
 use Rattle.std.proofs.Common.{◌≡◌, ℕ, zero, suc, ◌+◌, ◌<◌, true, false, List, [], ◌∷◌, ◌++◌, length, Some, refl, sym, ap, ◌∙◌, arith}
 use Rattle.std.proofs.lemmas.List.{append_assoc}
-use Rattle.isis_model.specs.Places.{nth}
+use Rattle.model_router.specs.Places.{nth}
 use Rattle.weave_model.specs.Entries.{Entry}
 use Rattle.weave_model.specs.Weavings.{Move, Does, Restarts, entries_before, track_of}
 use Rattle.weave_replay.specs.declared.journal.WovenJournal.{WovenJournal}

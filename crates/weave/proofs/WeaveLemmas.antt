@@ -1,7 +1,7 @@
 -- What is told and what is played where rounds end, whatever network is stood for.
 use Rattle.std.proofs.Common.{◌≡◌, ℕ, ◌<◌, List, [], length, sym, ap, ◌∙◌, subst}
 use Rattle.std.specs.List.{AllByRecursion}
-use Rattle.network_model.specs.Networks.{Network}
+use Rattle.model_network.specs.Networks.{Network}
 use Rattle.network_lab.specs.declared.event.LabEvent.{LabEvent}
 use Rattle.network_lab.specs.LabNets.{Seen, LabNet, StandsFor}
 use Rattle.network_lab.specs.Claims.{HaveOneLink}

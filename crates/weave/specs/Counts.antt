@@ -1,6 +1,6 @@
 -- Which entry is the first that isn't made, by how many moves of each router were made (own).
 use Rattle.std.specs.Prelude.{◌≡◌, ℕ, ◌+◌, ◌-◌, ◌<◌, ◌≤◌, List, [], ◌∷◌, length, take, Option, Some, None}
-use Rattle.isis_model.specs.Places.{nth}
+use Rattle.model_router.specs.Places.{nth}
 use Rattle.weave_model.specs.Entries.{Entry}
 use Rattle.weave_model.specs.Weavings.{Move}
 use Rattle.weave_core.specs.declared.moves.Move.{Move as CoreMove}

@@ -1,6 +1,6 @@
 -- What is told of journals that aren't woven (own).
 use Rattle.std.specs.Prelude.{List}
-use Rattle.network_model.specs.Networks.{Network}
+use Rattle.model_network.specs.Networks.{Network}
 use Rattle.weave_replay.specs.declared.journal.WovenJournal.{WovenJournal}
 use Rattle.weave_replay.specs.declared.fault.ReplayFault.TheVariants as replay
 use Rattle.weave_replay.specs.Replays.{IsTold, AreReplayed}

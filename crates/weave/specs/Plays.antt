@@ -1,11 +1,11 @@
 -- Turns that are played: each is an event of the network (own).
 use Rattle.std.specs.Prelude.{◌≡◌, ℕ, List, [], ◌∷◌, ◌++◌, map, Option, Some}
-use Rattle.isis_model.specs.Places.{nth}
-use Rattle.isis_model.specs.Routers.{Router}
+use Rattle.model_router.specs.Places.{nth}
+use Rattle.model_router.specs.Routers.{Router}
 use Rattle.router_core.specs.Givens.{given}
-use Rattle.network_model.specs.declared.end.End.{End}
-use Rattle.network_model.specs.Networks.{Network}
-use Rattle.network_model.specs.Runs.{Happening, apply}
+use Rattle.model_network.specs.declared.end.End.{End}
+use Rattle.model_network.specs.Networks.{Network}
+use Rattle.model_network.specs.Runs.{Happening, apply}
 use Rattle.network_lab.specs.declared.event.LabEvent.{LabEvent}
 use Rattle.network_lab.specs.LabNets.{Seen, LabNet, StandsFor}
 use Rattle.network_lab.specs.LabEvents.{happening_of}

@@ -1,11 +1,11 @@
 -- What is woven: a schedule of all that journals say, in rounds over the routers (own).
 use Rattle.std.specs.Prelude.{◌≡◌, ℕ, List, [], map, length, None, Some}
-use Rattle.isis_model.specs.Places.{nth}
-use Rattle.isis_model.specs.Routers.{Router}
+use Rattle.model_router.specs.Places.{nth}
+use Rattle.model_router.specs.Routers.{Router}
 use Rattle.router_core.specs.Givens.{given}
-use Rattle.network_model.specs.declared.end.End.{End}
-use Rattle.network_model.specs.Networks.{Network}
-use Rattle.network_model.specs.Runs.{Happening}
+use Rattle.model_network.specs.declared.end.End.{End}
+use Rattle.model_network.specs.Networks.{Network}
+use Rattle.model_network.specs.Runs.{Happening}
 use Rattle.network_lab.specs.declared.event.LabEvent.{LabEvent}
 use Rattle.network_lab.specs.LabNets.{LabNet, StandsFor}
 use Rattle.network_lab.specs.LabEvents.{happening_of}

@@ -1,7 +1,7 @@
 //! The first entry that wasn't made, by how many moves of each router were made.
 ghost use Rattle.std.specs.Prelude.{◌≡◌, ◌+◌, ◌^◌, ◌<◌, ◌∷◌, [], ◌++◌, ℕ, List, length, Some, IfOk, IfSome, IfNone};
 ghost use Rattle.std.specs.List.{AllByRecursion};
-ghost use Rattle.isis_model.specs.Places.{nth, with_nth};
+ghost use Rattle.model_router.specs.Places.{nth, with_nth};
 ghost use Rattle.weave_replay.specs.declared.journal.WovenJournal as woven;
 ghost use Rattle.weave.specs.Counts.{AreCounted, AreAhead, IsFoundIn, IsFound};
 

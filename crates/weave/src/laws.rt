@@ -1,8 +1,8 @@
 //! What follows for journals that are woven, and for those that aren't.
 ghost use Rattle.std.specs.Prelude.{◌≡◌, ◌≢◌, ℕ, List};
 ghost use Rattle.router_core.specs.Givens.{given};
-ghost use Rattle.network_model.specs.Networks.{Network};
-ghost use Rattle.network_model.specs.Runs.{Happening, run};
+ghost use Rattle.model_network.specs.Networks.{Network};
+ghost use Rattle.model_network.specs.Runs.{Happening, run};
 ghost use Rattle.network_lab.specs.declared.event.LabEvent.{LabEvent};
 ghost use Rattle.network_lab.specs.LabNets.{LabNet, StandsFor};
 ghost use Rattle.weave_model.specs.Weavings.{Scene, IsWeaving};

@@ -1,7 +1,7 @@
 //! Journals replayed by copies of a network's routers.
 ghost use Rattle.std.specs.Prelude.{◌≡◌, ◌<◌, ◌∷◌, [], ◌++◌, List, length, IfOk, IfErr, OnOk};
 ghost use Rattle.std.specs.List.{AllByRecursion};
-ghost use Rattle.network_model.specs.Networks.{Network as ModelNetwork};
+ghost use Rattle.model_network.specs.Networks.{Network as ModelNetwork};
 ghost use Rattle.network_lab.specs.LabNets.{StandsFor};
 ghost use Rattle.weave_replay.specs.declared.journal.WovenJournal as woven;
 ghost use Rattle.weave_replay.specs.Replays.{IsTold, AreReplayed};

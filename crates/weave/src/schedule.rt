@@ -1,7 +1,7 @@
 //! Schedules.
 ghost use Rattle.std.specs.Prelude.{◌≡◌, ◌∷◌, [], ◌++◌, length, OnOk};
 ghost use Rattle.std.specs.Option.{option_copied};
-ghost use Rattle.isis_model.specs.Places.{nth};
+ghost use Rattle.model_router.specs.Places.{nth};
 
 use isis_base::OutOfMemory;
 use network_lab::LabEvent;

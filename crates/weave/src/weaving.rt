@@ -1,7 +1,7 @@
 //! Journals of a network's routers, woven.
 ghost use Rattle.std.specs.Prelude.{◌≡◌, ◌<◌, [], length, map, IfOk, IfErr};
 ghost use Rattle.std.specs.List.{AllByRecursion};
-ghost use Rattle.network_model.specs.Networks.{Network as ModelNetwork};
+ghost use Rattle.model_network.specs.Networks.{Network as ModelNetwork};
 ghost use Rattle.network_lab.specs.LabNets.{StandsFor};
 ghost use Rattle.weave_replay.specs.Replays.{AreReplayed};
 ghost use Rattle.weave.specs.Woven.{IsUnbegun, AreRows, IsWoven};

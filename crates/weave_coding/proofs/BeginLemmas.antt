@@ -1,9 +1,9 @@
 -- A network at its start matches the tracks by letters.
 use Rattle.std.proofs.Common.{◌≡◌, ℕ, zero, suc, ◌+◌, ◌<◌, List, [], ◌∷◌, map, length, Some, slice_get, refl, sym, ap, ◌∙◌, subst, arith}
-use Rattle.isis_model.specs.Givens.{Given}
-use Rattle.isis_model.specs.Places.{nth}
-use Rattle.isis_model.specs.Routers.{Router}
-use Rattle.network_model.specs.Networks.{Datagram, Network}
+use Rattle.model_router.specs.Givens.{Given}
+use Rattle.model_router.specs.Places.{nth}
+use Rattle.model_router.specs.Routers.{Router}
+use Rattle.model_network.specs.Networks.{Datagram, Network}
 use Rattle.weave_replay.specs.Passed.{given}
 use Rattle.weave_core.specs.declared.moves.Move.{Move as CoreMove}
 use Rattle.weave_core.specs.Codes.{code_of}

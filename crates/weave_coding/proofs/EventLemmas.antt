@@ -1,7 +1,7 @@
 -- An entry that takes something, as a move; and what it takes has a letter then.
 use Rattle.std.proofs.Common.{◌≡◌, ℕ, ◌-◌, List, map, length, get_or, Some, IfSome, sym, ap, ◌∙◌, subst, arith}
-use Rattle.isis_model.specs.Places.{nth}
-use Rattle.network_model.specs.declared.end.End.{End}
+use Rattle.model_router.specs.Places.{nth}
+use Rattle.model_network.specs.declared.end.End.{End}
 use Rattle.weave_replay.specs.Passed.WovenEvent.{WovenEvent}
 use Rattle.weave_replay.specs.Passed.WovenEvent.TheVariants as event
 use Rattle.weave_core.specs.declared.moves.Move.{Move as CoreMove}

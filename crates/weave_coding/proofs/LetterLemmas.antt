@@ -5,7 +5,7 @@ use Rattle.std.specs.Str.{bytes_eq}
 use Rattle.std.proofs.lemmas.Bool.{eq-eqb}
 use Rattle.std.proofs.lemmas.Slice.Eq.{bytes_eq-Decides}
 use Rattle.weave_core.specs.Codes.{is_wire, wire_place, or_else, code_of, with_wire}
-use Rattle.isis_model.specs.Places.{nth}
+use Rattle.model_router.specs.Places.{nth}
 use Rattle.weave_model.specs.Entries.{Deed, Second, Take, Pull, Metric, Overload, Prefix, Entry}
 use Rattle.weave_replay.specs.declared.journal.WovenJournal.{WovenJournal}
 use Rattle.weave_replay.specs.Entries.{entries_of}

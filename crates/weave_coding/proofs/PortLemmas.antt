@@ -3,10 +3,10 @@ use Rattle.std.proofs.Common.{◌≡◌, ℕ, ◌==◌, nat_le, Bool, true, fals
 use Rattle.std.specs.List.{AllByRecursion}
 use Rattle.std.proofs.lemmas.Bool.{and_parts, eq-eqb, leb-true}
 use Rattle.std.proofs.lemmas.List.{length-map}
-use Rattle.isis_model.specs.Places.{nth}
-use Rattle.isis_model.specs.Routers.{Router}
-use Rattle.isis_model.specs.Starts.{started}
-use Rattle.network_model.specs.Networks.{restarted}
+use Rattle.model_router.specs.Places.{nth}
+use Rattle.model_router.specs.Routers.{Router}
+use Rattle.model_router.specs.Starts.{started}
+use Rattle.model_network.specs.Networks.{restarted}
 use Rattle.weave_replay.specs.Passed.{given}
 use Rattle.weave_model.specs.Entries.{Deed, Second, Take, Pull, Metric, Overload, Prefix, Entry, event_of, next, replay}
 use Rattle.weave_model.specs.Faults.{is_there, fits, AreGood, AreGoodAll}

@@ -1,7 +1,7 @@
 -- Tracks with more behind them.
 use Rattle.std.proofs.Common.{◌≡◌, ℕ, true, false, List, [], ◌∷◌, ◌++◌, length, refl, sym, ap, ◌∙◌, subst}
 use Rattle.std.proofs.lemmas.List.{append_assoc}
-use Rattle.network_model.specs.declared.end.End.{End}
+use Rattle.model_network.specs.declared.end.End.{End}
 use Rattle.weave_core.specs.declared.moves.Move.{Move as CoreMove}
 use Rattle.weave_core.specs.Codes.{code_of}
 use Rattle.weave_model.specs.Entries.{Entry}

@@ -1,8 +1,8 @@
 -- Where weaving begins: no router did anything, and each has its journals before it (own).
 use Rattle.std.specs.Prelude.{◌≡◌, ℕ, zero, suc, ◌+◌, List, [], ◌∷◌, length, Some}
-use Rattle.isis_model.specs.Places.{nth}
-use Rattle.isis_model.specs.Routers.{Router}
-use Rattle.network_model.specs.Networks.{Network}
+use Rattle.model_router.specs.Places.{nth}
+use Rattle.model_router.specs.Routers.{Router}
+use Rattle.model_network.specs.Networks.{Network}
 use Rattle.weave_model.specs.Weavings.{Move, track_of, Scene}
 use Rattle.weave_replay.specs.declared.journal.WovenJournal.{WovenJournal}
 use Rattle.weave_replay.specs.Replays.{journals_of, in_first_boot}

@@ -1,7 +1,7 @@
 //! What follows for journals that replay.
 ghost use Rattle.std.specs.Prelude.{◌≡◌, ℕ, List, length};
-ghost use Rattle.isis_model.specs.Routers.{Router};
-ghost use Rattle.network_model.specs.Networks.{Network};
+ghost use Rattle.model_router.specs.Routers.{Router};
+ghost use Rattle.model_network.specs.Networks.{Network};
 ghost use Rattle.weave_replay.specs.Passed.{given};
 ghost use Rattle.weave_core.specs.declared.moves.Move.{Move as CoreMove};
 ghost use Rattle.weave_core.specs.Codes.{code_of};
@@ -12,7 +12,7 @@ ghost use Rattle.weave_replay.specs.Replays.{AreReplayed};
 ghost use Rattle.weave_coding.specs.Begins.{begin, HaveAsMany, IsAtStart};
 ghost use Rattle.weave_coding.specs.Coded.{HavePortsAll, AreAllCoded};
 
-use isis_model::laws::adjacencies::step_bonds;
+use model_router::laws::adjacencies::step_bonds;
 use weave_model::laws::begin_laws;
 use weave_replay::laws::replay_laws;
 

@@ -1,6 +1,6 @@
 //! An entry as a move.
 ghost use Rattle.std.specs.Prelude.{◌≡◌, ℕ, List, length, map, slice_get, IfOk, IfSome};
-ghost use Rattle.network_model.specs.declared.end.End as end;
+ghost use Rattle.model_network.specs.declared.end.End as end;
 ghost use Rattle.weave_core.specs.Codes.{code_of};
 ghost use Rattle.weave_model.specs.Coding.{sends_of, IsQuiet, IsMoveCode};
 ghost use Rattle.weave_model.specs.Weavings.{Does};

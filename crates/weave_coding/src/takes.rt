@@ -1,7 +1,7 @@
 //! Letters for what is taken.
 ghost use Rattle.std.specs.Prelude.{◌<◌, length, map, IfSome, OnOk};
 ghost use Rattle.std.specs.List.{AllByRecursion};
-ghost use Rattle.isis_model.specs.Places.{nth};
+ghost use Rattle.model_router.specs.Places.{nth};
 ghost use Rattle.weave_coding.specs.Coded.{HasPort, HavePorts, IsLettered, AreLettered, AreKept, HavePortsAll, AreLetteredAll};
 ghost use Rattle.weave_replay.specs.Entries.{entry_of, entries_of};
 

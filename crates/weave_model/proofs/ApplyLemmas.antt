@@ -2,17 +2,17 @@
 use Rattle.std.proofs.Common.{◌≡◌, ◌≢◌, ℕ, ◌-◌, ◌==◌, ◌⊎◌, inl, inr, Bool, true, false, List, [], ◌∷◌, ◌++◌, map, Option, Some, None, if◌then◌else◌, refl, sym, ap, ◌∙◌, subst}
 use Rattle.std.proofs.lemmas.List.{append-nil}
 use Rattle.std.proofs.lemmas.Bool.Decides.{eqb_tells}
-use Rattle.isis_model.specs.Places.{nth, with_nth}
-use Rattle.isis_model.specs.Givens.{Given}
-use Rattle.isis_model.specs.Datagrams.{Sent}
-use Rattle.isis_model.specs.Routers.{Circuit, Router}
-use Rattle.isis_model.specs.Events as model
-use Rattle.isis_model.specs.Events.{Event, Reply}
-use Rattle.isis_model.specs.Steps.{step}
-use Rattle.isis_model.specs.AdjacencyLaws.{place_of}
-use Rattle.network_model.specs.declared.end.End.{End}
-use Rattle.network_model.specs.Networks.{Datagram, octets_of, Taking, Network, place_in, place_at, numbered, restarted}
-use Rattle.network_model.specs.Runs.{Happening, post, posts, posted, moved, moved_if, pull_at, restart_at, arrive, arrival, Arrives, NotOn, Arrival, on_place, deliver_at, taking, ranges_in, apply}
+use Rattle.model_router.specs.Places.{nth, with_nth}
+use Rattle.model_router.specs.Givens.{Given}
+use Rattle.model_router.specs.Datagrams.{Sent}
+use Rattle.model_router.specs.Routers.{Circuit, Router}
+use Rattle.model_router.specs.Events as model
+use Rattle.model_router.specs.Events.{Event, Reply}
+use Rattle.model_router.specs.Steps.{step}
+use Rattle.model_router.specs.AdjacencyLaws.{place_of}
+use Rattle.model_network.specs.declared.end.End.{End}
+use Rattle.model_network.specs.Networks.{Datagram, octets_of, Taking, Network, place_in, place_at, numbered, restarted}
+use Rattle.model_network.specs.Runs.{Happening, post, posts, posted, moved, moved_if, pull_at, restart_at, arrive, arrival, Arrives, NotOn, Arrival, on_place, deliver_at, taking, ranges_in, apply}
 use Rattle.weave_core.specs.declared.moves.Move.{Move as CoreMove}
 use Rattle.weave_core.specs.declared.moves.Sent.{Sent as CoreSent}
 use Rattle.weave_core.specs.Fits.{sent_by}

@@ -1,22 +1,22 @@
 -- A router that was changed before all other events is at its start with the changed configuration.
 use Rattle.std.proofs.Common.{◌≡◌, ℕ, zero, suc, ◌+◌, Bool, true, false, List, [], ◌∷◌, map, Option, Some, None, if◌then◌else◌, refl, sym, ap, ◌∙◌}
-use Rattle.isis_model.specs.Sets.{with_one}
-use Rattle.isis_model.specs.Places.{nth, with_nth}
-use Rattle.isis_model.specs.Maps.{set_at}
-use Rattle.isis_model.specs.Givens.{Given}
-use Rattle.isis_model.specs.Configs.{Config}
-use Rattle.isis_model.specs.Routers.{Circuit, CircuitLevel, Router}
-use Rattle.isis_model.specs.Elections.{idle, idle_level, idle_all, is_designated}
-use Rattle.isis_model.specs.Starts.{start, started, quiet, points_of, empty_level}
-use Rattle.isis_model.specs.Steps.{step, with_metric}
-use Rattle.isis_model.specs.Events.{Event, Second, Take, Pull, Metric, Overload, Prefix}
+use Rattle.model_router.specs.Sets.{with_one}
+use Rattle.model_router.specs.Places.{nth, with_nth}
+use Rattle.model_router.specs.Maps.{set_at}
+use Rattle.model_router.specs.Givens.{Given}
+use Rattle.model_router.specs.Configs.{Config}
+use Rattle.model_router.specs.Routers.{Circuit, CircuitLevel, Router}
+use Rattle.model_router.specs.Elections.{idle, idle_level, idle_all, is_designated}
+use Rattle.model_router.specs.Starts.{start, started, quiet, points_of, empty_level}
+use Rattle.model_router.specs.Steps.{step, with_metric}
+use Rattle.model_router.specs.Events.{Event, Second, Take, Pull, Metric, Overload, Prefix}
 use Rattle.isis_base.specs.declared.level.Level.TheVariants as level
 use Rattle.weave_model.specs.Begins.{metric_in, started_with, IsChange}
 use Rattle.weave_model.specs.Entries.{Entry, next, replay}
 use Rattle.weave_model.specs.Faults.{AreGood, AreGoodAll}
 use Rattle.weave_model.specs.Weavings.{Move, Restarts, entries_before, behind_restart, track_of}
 use Rattle.weave_model.specs.Coding.{IsGoodTrack}
-use Rattle.network_model.specs.Networks.{restarted}
+use Rattle.model_network.specs.Networks.{restarted}
 
 quiet-level : (own : Bool) → idle_level own quiet ≡ quiet
 quiet-level true = refl

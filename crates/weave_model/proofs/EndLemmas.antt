@@ -1,10 +1,10 @@
 -- Where the rounds end, no schedule goes further.
 use Rattle.std.proofs.Common.{◌≡◌, ℕ, suc, ◌≤◌, List, [], ◌∷◌, ◌++◌, map, length, Some, slice_get, refl, sym, ap, ◌∙◌, subst, arith}
 use Rattle.std.proofs.lemmas.List.{length-append, length-set}
-use Rattle.isis_model.specs.Givens.{Given}
-use Rattle.network_model.specs.declared.end.End.{End}
-use Rattle.network_model.specs.Links.{IsWired}
-use Rattle.network_model.specs.Runs.{Happening}
+use Rattle.model_router.specs.Givens.{Given}
+use Rattle.model_network.specs.declared.end.End.{End}
+use Rattle.model_network.specs.Links.{IsWired}
+use Rattle.model_network.specs.Runs.{Happening}
 use Rattle.weave_core.specs.declared.moves.Move.{Move as CoreMove}
 use Rattle.weave_core.specs.declared.moves.Turn.{Turn}
 use Rattle.weave_core.specs.Scenes.{Scene as CoreScene, IsEnd}

@@ -1,8 +1,8 @@
 -- A journal has at most one first fault, and none where all is good.
 use Rattle.std.proofs.Common.{◌≡◌, ℕ, zero, suc, ◌<◌, ◌⊎◌, inl, inr, true, false, List, [], ◌∷◌, take, Option, Some, None, refl, sym, ap, ◌∙◌, subst, arith}
-use Rattle.isis_model.specs.Places.{nth}
-use Rattle.isis_model.specs.Givens.{Given}
-use Rattle.isis_model.specs.Routers.{Router}
+use Rattle.model_router.specs.Places.{nth}
+use Rattle.model_router.specs.Givens.{Given}
+use Rattle.model_router.specs.Routers.{Router}
 use Rattle.weave_model.specs.Entries.{Entry, next, replay}
 use Rattle.weave_model.specs.Faults.{IsGood, AreGood, Fault, OfEvent, OfReply, IsFaulty, IsFirstFault}
 

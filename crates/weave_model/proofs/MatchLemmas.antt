@@ -2,12 +2,12 @@
 use Rattle.std.proofs.Common.{◌≡◌, ◌≢◌, ℕ, ◌-◌, ◌==◌, ◌⊎◌, inl, inr, true, false, List, [], ◌∷◌, ◌++◌, map, length, Option, Some, None, slice_get, set, refl, sym, ap, ◌∙◌, subst}
 use Rattle.std.proofs.lemmas.List.{length-set, map-append}
 use Rattle.std.proofs.lemmas.Bool.Decides.{eqb_tells}
-use Rattle.isis_model.specs.Places.{nth, with_nth}
-use Rattle.isis_model.specs.Givens.{Given}
-use Rattle.isis_model.specs.Routers.{Router}
-use Rattle.network_model.specs.declared.end.End.{End}
-use Rattle.network_model.specs.Networks.{octets_of, Network, place_in, numbered}
-use Rattle.network_model.specs.Runs.{Happening, Tick, PullOn, Deliver, Restart, SetMetric, SetOverload, SetPrefix, apply}
+use Rattle.model_router.specs.Places.{nth, with_nth}
+use Rattle.model_router.specs.Givens.{Given}
+use Rattle.model_router.specs.Routers.{Router}
+use Rattle.model_network.specs.declared.end.End.{End}
+use Rattle.model_network.specs.Networks.{octets_of, Network, place_in, numbered}
+use Rattle.model_network.specs.Runs.{Happening, Tick, PullOn, Deliver, Restart, SetMetric, SetOverload, SetPrefix, apply}
 use Rattle.weave_core.specs.declared.moves.Move.{Move as CoreMove}
 use Rattle.weave_core.specs.declared.moves.Sent.{Sent as CoreSent}
 use Rattle.weave_core.specs.declared.moves.Turn.{Turn}
@@ -18,7 +18,7 @@ use Rattle.weave_model.specs.Entries.{Deed, Second, Take, Pull, Metric, Overload
 use Rattle.weave_model.specs.Weavings.{Move, Does, Restarts, Delivers, IsDeed, IsMove, Scene, Goes, Front}
 use Rattle.weave_core.specs.Codes.{IsCode}
 use Rattle.weave_model.specs.Coding.{IsTake, IsDeedCode, IsMoveCode, AreCodes, after_move, IsGoodTrack, letter_of, turn_for, IsPair, Matches}
-use Rattle.network_model.proofs.ChangeLemmas.{nth-set, nth-other}
+use Rattle.model_network.proofs.ChangeLemmas.{nth-set, nth-other}
 use Rattle.weave_core.proofs.PlaceLemmas.{slice_get-set, slice_get-set_other}
 use Rattle.weave_core.proofs.FrontLemmas.{front-on as core-front-on}
 use Rattle.weave_model.proofs.PlaceLemmas.{There, there-too, Image, image-numbered, numbered-image, Fitting, fitting-is, is-fitting}

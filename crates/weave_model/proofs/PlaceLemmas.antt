@@ -1,8 +1,8 @@
 -- Items of lists by their place, and which letter fits.
 use Rattle.std.proofs.Common.{◌≡◌, ◌≢◌, ℕ, zero, suc, ◌==◌, ◌&&◌, not, ◌⊎◌, inl, inr, Bool, true, false, List, [], ◌∷◌, map, length, Option, Some, None, slice_get, refl, ap, ◌∙◌, subst, arith}
 use Rattle.std.proofs.lemmas.Bool.Decides.{eqb_tells}
-use Rattle.isis_model.specs.Places.{nth}
-use Rattle.network_model.specs.Networks.{numbered}
+use Rattle.model_router.specs.Places.{nth}
+use Rattle.model_network.specs.Networks.{numbered}
 use Rattle.weave_core.specs.declared.moves.Sent.{Sent as CoreSent}
 use Rattle.weave_core.specs.Fits.{fits}
 use Rattle.weave_core.specs.Fronts.{numbered as core_numbered}

@@ -1,12 +1,12 @@
 -- Where replay begins: a router at its start, with the changes that came before all other events
 -- (own).
 use Rattle.std.specs.Prelude.{ℕ, List, Option, Some, None}
-use Rattle.isis_model.specs.Places.{nth, with_nth}
-use Rattle.isis_model.specs.Maps.{set_at}
-use Rattle.isis_model.specs.Configs.{Config}
-use Rattle.isis_model.specs.Routers.{Circuit, Router}
-use Rattle.isis_model.specs.Starts.{start}
-use Rattle.isis_model.specs.Events.{Event, Second, Take, Pull, Metric, Overload, Prefix}
+use Rattle.model_router.specs.Places.{nth, with_nth}
+use Rattle.model_router.specs.Maps.{set_at}
+use Rattle.model_router.specs.Configs.{Config}
+use Rattle.model_router.specs.Routers.{Circuit, Router}
+use Rattle.model_router.specs.Starts.{start}
+use Rattle.model_router.specs.Events.{Event, Second, Take, Pull, Metric, Overload, Prefix}
 
 -- own
 abbrev pub metric_in : List Circuit → ℕ → ℕ → Option Circuit → List Circuit

@@ -1,11 +1,11 @@
 -- What is woven: moves that need and send letters, which stand for octets on links (own).
 use Rattle.std.specs.Prelude.{◌≡◌, ℕ, ◌<◌, ◌-◌, List, [], ◌∷◌, map, length, Option, Some, None, slice_get}
-use Rattle.isis_model.specs.Places.{nth}
-use Rattle.isis_model.specs.Givens.{Given}
-use Rattle.isis_model.specs.Routers.{Router}
-use Rattle.network_model.specs.declared.end.End.{End}
-use Rattle.network_model.specs.Networks.{Datagram, octets_of, Network, place_in, restarted}
-use Rattle.network_model.specs.Runs.{Happening, Tick, PullOn, Deliver, Restart, SetMetric, SetOverload, SetPrefix, Inject}
+use Rattle.model_router.specs.Places.{nth}
+use Rattle.model_router.specs.Givens.{Given}
+use Rattle.model_router.specs.Routers.{Router}
+use Rattle.model_network.specs.declared.end.End.{End}
+use Rattle.model_network.specs.Networks.{Datagram, octets_of, Network, place_in, restarted}
+use Rattle.model_network.specs.Runs.{Happening, Tick, PullOn, Deliver, Restart, SetMetric, SetOverload, SetPrefix, Inject}
 use Rattle.weave_core.specs.declared.moves.Move.{Move as CoreMove}
 use Rattle.weave_core.specs.declared.moves.Sent.{Sent as CoreSent}
 use Rattle.weave_core.specs.declared.moves.Turn.{Turn}

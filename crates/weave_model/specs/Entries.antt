@@ -1,16 +1,16 @@
 -- Entries of journals, and their replay by the machine (own).
 use Rattle.std.specs.Prelude.{ℕ, ◌-◌, Bool, List, [], ◌∷◌, map, Option, Some, None}
-use Rattle.isis_model.specs.declared.drop_name.DropName.{DropName}
-use Rattle.isis_model.specs.Places.{nth}
-use Rattle.isis_model.specs.Givens.{Given}
-use Rattle.isis_model.specs.Datagrams.{Sent}
-use Rattle.isis_model.specs.Routers.{Circuit, Router}
-use Rattle.isis_model.specs.Events as model
-use Rattle.isis_model.specs.Events.{Event, Reply}
-use Rattle.isis_model.specs.Steps.{step}
-use Rattle.isis_model.specs.AdjacencyLaws.{place_of}
-use Rattle.isis_datagram.specs.Datagrams.{datagram}
-use Rattle.network_model.specs.Runs.{taking}
+use Rattle.model_router.specs.declared.drop_name.DropName.{DropName}
+use Rattle.model_router.specs.Places.{nth}
+use Rattle.model_router.specs.Givens.{Given}
+use Rattle.model_router.specs.Datagrams.{Sent}
+use Rattle.model_router.specs.Routers.{Circuit, Router}
+use Rattle.model_router.specs.Events as model
+use Rattle.model_router.specs.Events.{Event, Reply}
+use Rattle.model_router.specs.Steps.{step}
+use Rattle.model_router.specs.AdjacencyLaws.{place_of}
+use Rattle.model_datagram.specs.Datagrams.{datagram}
+use Rattle.model_network.specs.Runs.{taking}
 
 -- What an entry says was done: a second; octets taken, and a pull, on a circuit by its number, from
 -- 1; or a change of the configuration (own).

@@ -1,10 +1,10 @@
 -- Faults of journals (own).
 use Rattle.std.specs.Prelude.{◌≡◌, ◌≢◌, ℕ, ◌&&◌, ◌||◌, nat_le, nat_lt, Bool, true, false, List, [], ◌∷◌, length, take, is_some, Some, None}
-use Rattle.isis_model.specs.Places.{nth}
-use Rattle.isis_model.specs.Maps.{find}
-use Rattle.isis_model.specs.Givens.{Given}
-use Rattle.isis_model.specs.Routers.{Router}
-use Rattle.network_model.specs.Networks.{restarted}
+use Rattle.model_router.specs.Places.{nth}
+use Rattle.model_router.specs.Maps.{find}
+use Rattle.model_router.specs.Givens.{Given}
+use Rattle.model_router.specs.Routers.{Router}
+use Rattle.model_network.specs.Networks.{restarted}
 use Rattle.weave_model.specs.Entries.{Deed, Second, Take, Pull, Metric, Overload, Prefix, Entry, next, answer_to, replay}
 
 -- the circuit of a number is there (own)

@@ -1,8 +1,8 @@
 -- Weavings: schedules of a network that are journals of its routers (own).
 use Rattle.std.specs.Prelude.{◌≡◌, ◌≢◌, ℕ, ◌-◌, ◌≤◌, List, [], ◌∷◌, length, Some, slice_get, set}
-use Rattle.isis_model.specs.Givens.{Given}
-use Rattle.network_model.specs.Networks.{Datagram, octets_of, Network, place_at, numbered}
-use Rattle.network_model.specs.Runs.{Happening, Tick, PullOn, Deliver, Restart, SetMetric, SetOverload, SetPrefix, apply}
+use Rattle.model_router.specs.Givens.{Given}
+use Rattle.model_network.specs.Networks.{Datagram, octets_of, Network, place_at, numbered}
+use Rattle.model_network.specs.Runs.{Happening, Tick, PullOn, Deliver, Restart, SetMetric, SetOverload, SetPrefix, apply}
 use Rattle.weave_model.specs.Entries.{Deed, Second, Take, Pull, Metric, Overload, Prefix, Entry}
 
 -- a move of a router: an entry of a journal, or the restart between two journals (own)

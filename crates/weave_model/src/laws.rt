@@ -1,14 +1,14 @@
 //! The laws of journals and weavings.
 ghost use Rattle.std.specs.Prelude.{◌≡◌, ℕ, List, ◌++◌, map, length, Some, slice_get};
-ghost use Rattle.isis_model.specs.Givens.{Given};
-ghost use Rattle.isis_model.specs.Configs.{Config};
-ghost use Rattle.isis_model.specs.Routers.{Circuit, Router};
-ghost use Rattle.isis_model.specs.Events.{Event};
-ghost use Rattle.isis_model.specs.Steps.{step};
-ghost use Rattle.isis_model.specs.Starts.{start};
-ghost use Rattle.network_model.specs.declared.end.End.{End};
-ghost use Rattle.network_model.specs.Links.{IsWired};
-ghost use Rattle.network_model.specs.Runs.{Happening};
+ghost use Rattle.model_router.specs.Givens.{Given};
+ghost use Rattle.model_router.specs.Configs.{Config};
+ghost use Rattle.model_router.specs.Routers.{Circuit, Router};
+ghost use Rattle.model_router.specs.Events.{Event};
+ghost use Rattle.model_router.specs.Steps.{step};
+ghost use Rattle.model_router.specs.Starts.{start};
+ghost use Rattle.model_network.specs.declared.end.End.{End};
+ghost use Rattle.model_network.specs.Links.{IsWired};
+ghost use Rattle.model_network.specs.Runs.{Happening};
 ghost use Rattle.weave_core.specs.declared.moves.Move.{Move as CoreMove};
 ghost use Rattle.weave_core.specs.Codes.{IsCode};
 ghost use Rattle.weave_core.specs.Scenes.{Scene as CoreScene, IsEnd};

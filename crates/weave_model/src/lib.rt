@@ -2,9 +2,9 @@
 //! they are.
 //!
 //! A journal of a router has an entry for each event: what was done, and what was answered. It is
-//! replayed by the machine (isis_model). An entry has a fault where its event doesn't fit the
+//! replayed by the machine (model_router). An entry has a fault where its event doesn't fit the
 //! router's state, or where the machine answers otherwise. A router that restarted has several
-//! journals. A schedule of a network (network_model) is a weaving of its routers' journals where
+//! journals. A schedule of a network (model_network) is a weaving of its routers' journals where
 //! each router's events are those of its journals, with a restart between two, and each take is a
 //! delivery of an earlier datagram with those octets, sent on that link by another router. A front
 //! is a schedule of prefixes of them.

@@ -2,10 +2,10 @@
 use Rattle.std.proofs.Common.{◌≡◌, ◌≢◌, ℕ, zero, suc, ◌+◌, ◌==◌, ◌<◌, ◌≤◌, ◌⊎◌, inl, inr, true, false, List, [], ◌∷◌, ◌++◌, length, take, Option, Some, None, refl, sym, ap, ◌∙◌, subst, arith}
 use Rattle.std.specs.Prelude.{IfSome}
 use Rattle.std.proofs.lemmas.Bool.Decides.{eqb_tells}
-use Rattle.isis_model.specs.Places.{nth, with_nth}
-use Rattle.isis_model.specs.Routers.{Router}
-use Rattle.isis_model.specs.Starts.{start}
-use Rattle.network_model.specs.Networks.{restarted}
+use Rattle.model_router.specs.Places.{nth, with_nth}
+use Rattle.model_router.specs.Routers.{Router}
+use Rattle.model_router.specs.Starts.{start}
+use Rattle.model_network.specs.Networks.{restarted}
 use Rattle.router_core.specs.Givens.{given}
 use Rattle.weave_model.specs.Entries.{Entry, replay}
 use Rattle.weave_model.specs.Faults.{AreGood, Fault, OfEvent, OfReply, opening}

@@ -1,19 +1,19 @@
 -- What a router answers to an entry is what the machine answers, and one entry more.
 use Rattle.std.proofs.Common.{◌≡◌, ℕ, List, [], ◌∷◌, ◌++◌, refl, sym, ap, ◌∙◌, subst}
-use Rattle.isis_model.specs.Routers.{Router}
-use Rattle.isis_model.specs.Events as model
-use Rattle.isis_model.specs.Events.{Event}
-use Rattle.isis_model.specs.Steps.{step}
-use Rattle.isis_model.specs.AdjacencyLaws.{place_of}
+use Rattle.model_router.specs.Routers.{Router}
+use Rattle.model_router.specs.Events as model
+use Rattle.model_router.specs.Events.{Event}
+use Rattle.model_router.specs.Steps.{step}
+use Rattle.model_router.specs.AdjacencyLaws.{place_of}
 use Rattle.router_core.specs.declared.reply.Reply.{Reply}
 use Rattle.router_core.specs.Givens.{given}
 use Rattle.router_core.specs.Replies.{Answers}
 use Rattle.weave_model.specs.Entries.{Deed, Dropped, Sends, Entry, event_of, answer_by, answer_to, next, replay}
 use Rattle.weave_model.specs.Faults.{IsGood, AreGood}
 use Rattle.weave_replay.specs.Outcomes.{answer_in}
-use Rattle.isis_model.specs.Datagrams.{Sent}
-use Rattle.isis_model.specs.Routers.{Circuit}
-use Rattle.isis_model.specs.Places.{nth}
+use Rattle.model_router.specs.Datagrams.{Sent}
+use Rattle.model_router.specs.Routers.{Circuit}
+use Rattle.model_router.specs.Places.{nth}
 use Rattle.std.proofs.Common.{Option, Some, None}
 use Rattle.weave_model.specs.Entries.{octets_on}
 use Rattle.router_core.specs.Replies.{datagrams_on}

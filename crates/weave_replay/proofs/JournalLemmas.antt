@@ -3,12 +3,12 @@ use Rattle.std.proofs.Common.{◌≡◌, ◌≢◌, ℕ, suc, ◌+◌, ◌==◌,
 use Rattle.std.proofs.lemmas.Bool.{eq-eqb}
 use Rattle.std.proofs.lemmas.Bool.Decides.{eqb_tells}
 use Rattle.std.proofs.lemmas.List.{length-append, append-nil}
-use Rattle.isis_model.specs.Givens.{Given}
-use Rattle.isis_model.specs.Routers.{Router}
-use Rattle.isis_model.specs.Events.{Event}
-use Rattle.isis_model.specs.Steps.{step}
-use Rattle.isis_model.specs.AdjacencyLaws.{Stays}
-use Rattle.network_model.specs.Networks.{restarted}
+use Rattle.model_router.specs.Givens.{Given}
+use Rattle.model_router.specs.Routers.{Router}
+use Rattle.model_router.specs.Events.{Event}
+use Rattle.model_router.specs.Steps.{step}
+use Rattle.model_router.specs.AdjacencyLaws.{Stays}
+use Rattle.model_network.specs.Networks.{restarted}
 use Rattle.router_core.specs.Givens.{given}
 use Rattle.weave_model.specs.Entries.{Entry, event_of, next, replay}
 use Rattle.weave_model.specs.Faults.{opening}

@@ -2,7 +2,7 @@
 use Rattle.std.proofs.Common.{◌≡◌, ℕ, zero, suc, ◌<◌, ◌≤◌, ◌⊎◌, inl, inr, true, false, Bool, ◌||◌, nat_lt, List, [], ◌∷◌, length, Some, refl, sym, ap, ◌∙◌, subst, arith}
 use Rattle.std.specs.List.{AllByRecursion, list_any}
 use Rattle.std.proofs.lemmas.Bool.{cases_order, cases_Bool, ltb-true, ltb-false}
-use Rattle.isis_model.specs.Places.{nth}
+use Rattle.model_router.specs.Places.{nth}
 use Rattle.weave_replay.specs.declared.journal.WovenJournal.{WovenJournal}
 use Rattle.weave_replay.specs.Replays.{journals_of, AreManyBoots, AreFewBoots}
 use Rattle.weave_replay.specs.Outcomes.{AreCounts}

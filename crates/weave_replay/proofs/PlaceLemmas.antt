@@ -1,6 +1,6 @@
 -- Items of lists by their places.
 use Rattle.std.proofs.Common.{◌≡◌, ◌≢◌, ℕ, zero, suc, ◌+◌, ◌<◌, ◌≤◌, ◌⊎◌, inl, inr, List, [], ◌∷◌, ◌++◌, map, take, length, get_or, Option, Some, None, slice_get, refl, sym, ap, ◌∙◌, subst, arith}
-use Rattle.isis_model.specs.Places.{nth, with_nth}
+use Rattle.model_router.specs.Places.{nth, with_nth}
 
 pub some-is : {A : Type 0} → (x y : A) → Some x ≡ Some y → x ≡ y
 some-is {A = A} x y e = ap of e

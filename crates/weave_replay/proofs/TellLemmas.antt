@@ -3,11 +3,11 @@ use Rattle.std.proofs.Common.{◌≡◌, ◌≢◌, ℕ, ◌+◌, ◌==◌, ◌<
 use Rattle.std.proofs.lemmas.Bool.{cases_order}
 use Rattle.std.proofs.lemmas.Bool.Decides.{eqb_tells}
 use Rattle.std.proofs.lemmas.List.{length-append, append_assoc}
-use Rattle.isis_model.specs.Places.{nth}
-use Rattle.isis_model.specs.Routers.{Router}
+use Rattle.model_router.specs.Places.{nth}
+use Rattle.model_router.specs.Routers.{Router}
 use Rattle.router_core.specs.Givens.{given}
-use Rattle.key_net.specs.declared.faults.LimitName.{LimitName}
-use Rattle.key_net.specs.declared.faults.LimitName.TheVariants as limit
+use Rattle.lab_keys.specs.declared.faults.LimitName.{LimitName}
+use Rattle.lab_keys.specs.declared.faults.LimitName.TheVariants as limit
 use Rattle.weave_model.specs.Entries.{Entry}
 use Rattle.weave_model.specs.Faults.{AreGood, AreGoodAll, Fault, OfEvent, OfReply, IsFirstFault, opening}
 use Rattle.weave_model.proofs.FaultLemmas.{no-fault, first-once}

@@ -1,9 +1,9 @@
 -- What became of an entry and of a journal that were replayed, and how routers stand behind
 -- journals (own).
 use Rattle.std.specs.Prelude.{◌≡◌, ℕ, ◌+◌, ◌≤◌, List, [], ◌∷◌, ◌++◌, length, Some}
-use Rattle.isis_model.specs.Places.{nth, with_nth}
-use Rattle.isis_model.specs.Routers.{Router}
-use Rattle.isis_model.specs.Starts.{start}
+use Rattle.model_router.specs.Places.{nth, with_nth}
+use Rattle.model_router.specs.Routers.{Router}
+use Rattle.model_router.specs.Starts.{start}
 use Rattle.router_desk.specs.Causes.{name_of}
 use Rattle.router_core.specs.declared.reply.Reply.{Reply}
 use Rattle.router_core.specs.declared.reply.Reply.TheVariants as reply

@@ -1,12 +1,12 @@
 -- The replay of journals of several routers, each by its router; the first fault, and the limits
 -- (own).
 use Rattle.std.specs.Prelude.{◌≡◌, ℕ, ◌+◌, ◌==◌, ◌<◌, ◌≤◌, List, [], ◌∷◌, length, take, Some, if◌then◌else◌}
-use Rattle.isis_model.specs.Places.{nth}
-use Rattle.isis_model.specs.Routers.{Router}
-use Rattle.isis_model.specs.Starts.{start}
+use Rattle.model_router.specs.Places.{nth}
+use Rattle.model_router.specs.Routers.{Router}
+use Rattle.model_router.specs.Starts.{start}
 use Rattle.router_core.specs.Givens.{given}
-use Rattle.key_net.specs.declared.faults.LimitName.{LimitName}
-use Rattle.key_net.specs.declared.faults.LimitName.TheVariants as limit
+use Rattle.lab_keys.specs.declared.faults.LimitName.{LimitName}
+use Rattle.lab_keys.specs.declared.faults.LimitName.TheVariants as limit
 use Rattle.weave_model.specs.Entries.{Entry}
 use Rattle.weave_model.specs.Faults.{AreGood, Fault, OfEvent, OfReply, IsFirstFault, opening}
 use Rattle.weave_model.specs.Coding.{sends_of}

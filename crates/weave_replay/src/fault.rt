@@ -1,6 +1,6 @@
 //! Why journals aren't replayed to their ends.
 use isis_base::OutOfMemory;
-use key_net::LimitName;
+use lab_keys::LimitName;
 
 /// Why journals aren't replayed to their ends: the first of these that applies (own). Journals and
 /// their entries are counted from 1.

@@ -4,8 +4,8 @@ ghost use Rattle.std.specs.List.{AllByRecursion};
 ghost use Rattle.circuit_threads.specs.declared.entry.Note.{Note};
 ghost use Rattle.circuit_threads.specs.History.{IsHistory, entries};
 ghost use Rattle.circuit_threads.specs.Shared.{KeepsPrefixes};
-ghost use Rattle.isis_model.specs.Places.{nth};
-ghost use Rattle.isis_model.specs.Routers.{Router};
+ghost use Rattle.model_router.specs.Places.{nth};
+ghost use Rattle.model_router.specs.Routers.{Router};
 ghost use Rattle.journal_text.specs.Written.{entry_read};
 ghost use Rattle.router_core.specs.Events.{Fits};
 ghost use Rattle.router_core.specs.Givens.{given};
@@ -16,7 +16,7 @@ ghost use Rattle.weave_replay.specs.declared.fault.ReplayFault.{ReplayFault};
 ghost use Rattle.weave_replay.specs.declared.journal.WovenJournal.{WovenJournal};
 ghost use Rattle.weave_replay.specs.Replays.{journals_of, in_first_boot, no_memory, IsTold, AreReplayed};
 
-use isis_model::laws::adjacencies::step_bonds;
+use model_router::laws::adjacencies::step_bonds;
 use router_desk::laws::reading_law;
 
 /// One thing at most applies to journals, so where nothing wants memory what is told is what

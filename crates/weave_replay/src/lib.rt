@@ -29,6 +29,6 @@ mod sending;
 pub use fault::ReplayFault;
 pub use journal::WovenJournal;
 pub use journal_text::{WovenEntry, WovenEvent, WovenReply};
-pub use key_net::LimitName;
+pub use lab_keys::LimitName;
 pub use replaying::replay_journals;
 pub use router_core::Datagrams;

@@ -1,9 +1,9 @@
 //! All journals, replayed in order.
 ghost use Rattle.std.specs.Prelude.{◌≡◌, ◌<◌, ◌≤◌, ◌+◌, ◌^◌, ◌∷◌, [], ◌++◌, List, length, replicate, Some, nat_lt, OnOk, IfOk, IfErr, IfSome};
 ghost use Rattle.std.specs.List.{AllByRecursion, list_any};
-ghost use Rattle.isis_model.specs.Places.{nth, with_nth};
-ghost use Rattle.isis_model.specs.Routers as model;
-ghost use Rattle.isis_model.specs.Starts.{start};
+ghost use Rattle.model_router.specs.Places.{nth, with_nth};
+ghost use Rattle.model_router.specs.Routers as model;
+ghost use Rattle.model_router.specs.Starts.{start};
 ghost use Rattle.weave_replay.specs.declared.journal.WovenJournal as woven;
 ghost use Rattle.weave_replay.specs.Entries.{entries_of};
 ghost use Rattle.weave_replay.specs.Outcomes.{AreCounts, AreBehind, IsReplayedIn, IsReplayedNext};
@@ -14,8 +14,8 @@ use crate::fault::ReplayFault;
 use crate::journal::WovenJournal;
 use crate::sending::send_too_many;
 use isis_base::OutOfMemory;
-use isis_model::laws::adjacencies::step_bonds;
-use key_net::LimitName;
+use lab_keys::LimitName;
+use model_router::laws::adjacencies::step_bonds;
 use router_core::Router;
 use std::alloc::Global;
 

@@ -11,7 +11,7 @@ use Rattle.line_cuts.specs.Forms.{Form, field, done, marked}
 use Rattle.line_cuts.specs.Words.{words_of}
 use Rattle.lab_script.specs.declared.reason.Reason.{Reason}
 use Rattle.lab_script.specs.declared.reason.ScriptFault.{ScriptFault}
-use Rattle.key_net.specs.declared.key_net.TheConstants.{ROUTER_LIMIT, LINK_LIMIT}
+use Rattle.lab_keys.specs.declared.net.TheConstants.{ROUTER_LIMIT, LINK_LIMIT}
 use Rattle.lab_script.specs.declared.deeds.LabDeed.{LabDeed}
 use Rattle.lab_script.specs.declared.deeds.LabLine.{LabLine}
 use Rattle.lab_script.specs.declared.script.Script.{Script}

@@ -5,27 +5,27 @@ use Rattle.std.proofs.lemmas.List.{map-append, append-nil}
 use Rattle.std.proofs.lemmas.Result.{IfOk-at_ok}
 use Rattle.isis_base.specs.declared.level.CircuitKind.{CircuitKind}
 use Rattle.isis_base.specs.declared.level.CircuitKind.TheVariants as kind
-use Rattle.isis_model.specs.Places.{nth, with_nth}
-use Rattle.isis_model.specs.Configs.{Config as ModelConfig}
-use Rattle.isis_model.specs.Routers.{Circuit, Router}
-use Rattle.isis_model.specs.Events.{Event, Second, Take, Pull, Metric, Overload, Prefix}
-use Rattle.isis_model.specs.Sets.{with_one}
-use Rattle.isis_model.specs.Starts.{started, points_of, empty_level, start}
-use Rattle.isis_model.specs.Steps.{step}
+use Rattle.model_router.specs.Places.{nth, with_nth}
+use Rattle.model_router.specs.Configs.{Config as ModelConfig}
+use Rattle.model_router.specs.Routers.{Circuit, Router}
+use Rattle.model_router.specs.Events.{Event, Second, Take, Pull, Metric, Overload, Prefix}
+use Rattle.model_router.specs.Sets.{with_one}
+use Rattle.model_router.specs.Starts.{started, points_of, empty_level, start}
+use Rattle.model_router.specs.Steps.{step}
 use Rattle.router_desk.specs.declared.config.Change.{Change}
 use Rattle.router_desk.specs.declared.config.Change.TheVariants as change
 use Rattle.router_desk.specs.declared.circuit_config.CircuitConfig.{CircuitConfig}
 use Rattle.router_desk.specs.declared.config.Config.{Config}
 use Rattle.router_desk.specs.Configs.{config_of, circuits_of, prefix_number}
 use Rattle.network_lab.specs.Passed.{given}
-use Rattle.network_model.specs.Networks.{Network, Datagram}
-use Rattle.network_model.specs.Runs.{apply, moved_if}
+use Rattle.model_network.specs.Networks.{Network, Datagram}
+use Rattle.model_network.specs.Runs.{apply, moved_if}
 use Rattle.network_lab.specs.declared.event.LabEvent.TheVariants as event
 use Rattle.network_lab.specs.LabEvents.{refusal, after, change_of}
 use Rattle.network_lab.specs.LabNets.{LabNet, Seen, StandsFor, sent_of, empty_lab, router_of, with_router, configured, reconfigured, with_circuit, with_circuits, with_ends, with_changed, new_circuit}
 use Rattle.network_lab.proofs.PlaceLemmas.{map-with}
-use Rattle.key_net.specs.declared.faults.LabFault.{LabFault}
-use Rattle.key_net.specs.declared.faults.LimitName.TheVariants.{Datagrams}
+use Rattle.lab_keys.specs.declared.faults.LabFault.{LabFault}
+use Rattle.lab_keys.specs.declared.faults.LimitName.TheVariants.{Datagrams}
 use Rattle.lab_script.specs.declared.reason.ScriptFault.{ScriptFault}
 use Rattle.lab_script.specs.declared.reason.ScriptFault.TheVariants.{Limit}
 use Rattle.lab_script.specs.declared.deeds.LabDeed.{LabDeed}
@@ -38,9 +38,9 @@ use Rattle.lab_script.specs.declared.setup.LabKey.{LabKey}
 use Rattle.lab_script.specs.declared.setup.LabLink.{LabLink}
 use Rattle.lab_script.specs.declared.setup.LabRouter.{LabRouter}
 use Rattle.lab_script.specs.LabScripts.{LabScript, end_routers}
-use Rattle.lab_play.specs.LabRuns.{within, unless, play_event, play_deed, play_all, end_of, ◌>>=◌}
-use Rattle.lab_play.specs.Layouts as lay
-use Rattle.lab_play.specs.Layouts.{opened, laid_out}
+use Rattle.lab_text.specs.LabRuns.{within, unless, play_event, play_deed, play_all, end_of, ◌>>=◌}
+use Rattle.lab_text.specs.Layouts as lay
+use Rattle.lab_text.specs.Layouts.{opened, laid_out}
 use Rattle.weave_model.specs.Begins.{metric_in, started_with, IsChange}
 use Rattle.weave_model.proofs.BeginLemmas.{change-starts}
 use Rattle.weave_replay.specs.Replays.{in_first_boot}

@@ -1,9 +1,9 @@
 -- Journals that have a weaving.
 use Rattle.std.proofs.Common.{◌≡◌, ℕ, List, Result, Ok, Err, refl}
-use Rattle.isis_model.specs.Routers.{Router}
+use Rattle.model_router.specs.Routers.{Router}
 use Rattle.network_lab.specs.Passed.{given}
-use Rattle.network_model.specs.Networks.{Network}
-use Rattle.network_model.specs.Runs.{Happening}
+use Rattle.model_network.specs.Networks.{Network}
+use Rattle.model_network.specs.Runs.{Happening}
 use Rattle.lab_script.specs.declared.reason.ScriptFault.{ScriptFault}
 use Rattle.weave_model.specs.Weavings.{Scene, IsWeaving}
 use Rattle.weave_replay.specs.declared.fault.ReplayFault.{ReplayFault}

@@ -4,9 +4,9 @@ use Rattle.std.specs.Prelude.{leb}
 use Rattle.std.proofs.lemmas.Bool.Decides.{leb_tells}
 use Rattle.std.specs.List.{AllByRecursion}
 use Rattle.std.proofs.lemmas.List.{take-take}
-use Rattle.isis_model.proofs.ListLemmas.{all-take}
-use Rattle.key_net.specs.declared.faults.LimitName.{LimitName}
-use Rattle.network_model.specs.Networks.{Network}
+use Rattle.model_router.proofs.ListLemmas.{all-take}
+use Rattle.lab_keys.specs.declared.faults.LimitName.{LimitName}
+use Rattle.model_network.specs.Networks.{Network}
 use Rattle.network_lab.specs.declared.event.LabEvent.{LabEvent}
 use Rattle.network_lab.specs.LabNets.{LabNet, StandsFor}
 use Rattle.lab_script.specs.declared.reason.Reason.{Reason}

@@ -1,7 +1,7 @@
 -- Answers of calls that read, play and weave (own).
 use Rattle.std.specs.Prelude.{◌≡◌, ℕ, List, Option, Result, Ok, Err, None}
-use Rattle.key_net.specs.declared.faults.LimitName.{LimitName}
-use Rattle.network_model.specs.Networks.{Network}
+use Rattle.lab_keys.specs.declared.faults.LimitName.{LimitName}
+use Rattle.model_network.specs.Networks.{Network}
 use Rattle.network_lab.specs.LabNets.{LabNet, StandsFor}
 use Rattle.lab_script.specs.declared.reason.ScriptFault.{ScriptFault}
 use Rattle.lab_script.specs.declared.reason.ScriptFault.TheVariants as script

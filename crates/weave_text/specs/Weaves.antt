@@ -1,10 +1,10 @@
 -- The weaving of a text's journals, or why there is none (own).
 use Rattle.std.specs.Prelude.{◌≡◌, ◌⊎◌, ℕ, List, map, Option, Result, Ok, Err, IsOkAnd}
 use Rattle.isis_edge.specs.Told.{Wrote, TellsSame}
-use Rattle.key_net.specs.declared.faults.LimitName.{LimitName}
+use Rattle.lab_keys.specs.declared.faults.LimitName.{LimitName}
 use Rattle.network_lab.specs.Passed.{given}
-use Rattle.network_model.specs.Networks.{Network}
-use Rattle.network_model.specs.Runs.{Happening}
+use Rattle.model_network.specs.Networks.{Network}
+use Rattle.model_network.specs.Runs.{Happening}
 use Rattle.network_lab.specs.declared.event.LabEvent.{LabEvent}
 use Rattle.network_lab.specs.LabNets.{LabNet}
 use Rattle.lab_script.specs.declared.reason.ScriptFault.{ScriptFault}

@@ -1,7 +1,7 @@
 -- What a text says that is to be woven, or the first line that is refused (own).
 use Rattle.std.specs.Prelude.{ℕ, ◌-◌, List, take, Option, Some, None, Result, Ok, Err}
-use Rattle.key_net.specs.declared.faults.LimitName.{LimitName}
-use Rattle.network_model.specs.Networks.{Network}
+use Rattle.lab_keys.specs.declared.faults.LimitName.{LimitName}
+use Rattle.model_network.specs.Networks.{Network}
 use Rattle.lab_script.specs.declared.reason.Reason.{Reason}
 use Rattle.lab_script.specs.declared.reason.Reason.TheVariants.{Head}
 use Rattle.lab_script.specs.declared.reason.ScriptFault.{ScriptFault}
@@ -9,7 +9,7 @@ use Rattle.lab_script.specs.declared.reason.ScriptFault.TheVariants.{Refused, Li
 use Rattle.lab_script.specs.declared.script.Script.{Script}
 use Rattle.lab_script.specs.declared.script.Script.TheVariants.{Keys, Lab}
 use Rattle.lab_script.specs.Scripts.{◌>>=◌, script_of, names_in}
-use Rattle.lab_play.specs.LabRuns.{end_of}
+use Rattle.lab_text.specs.LabRuns.{end_of}
 use Rattle.weave_script.specs.Ahead.{behind_head, ahead_count, behind_many, script_text, told_in}
 use Rattle.weave_script.specs.Blocks.{Block, blocks_in}
 use Rattle.weave_script.specs.Lines.{Left, lines_in, all_of}

@@ -6,7 +6,7 @@ use Rattle.line_cuts.specs.Fields.{on_text}
 use Rattle.line_cuts.specs.HexTexts.{hex_text}
 use Rattle.router_desk.specs.declared.config.Change.{Change}
 use Rattle.router_desk.specs.declared.config.Change.TheVariants as change
-use Rattle.network_model.specs.RunLines.{link_of}
+use Rattle.model_network.specs.RunLines.{link_of}
 use Rattle.network_lab.specs.declared.event.LabEvent.{LabEvent}
 use Rattle.network_lab.specs.declared.event.LabEvent.TheVariants as event
 use Rattle.network_lab.specs.LabNets.{Seen}

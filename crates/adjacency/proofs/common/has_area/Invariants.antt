@@ -1,5 +1,5 @@
 use Rattle.std.proofs.Common.{◌≡◌, drop}
-use Rattle.isis_model.specs.Adjacencies as model
+use Rattle.model_router.specs.Adjacencies as model
 use Rattle.adjacency.proofs.common.has_area.Given as goal
 
 -- what is left decides

@@ -1,7 +1,7 @@
 use Rattle.std.proofs.Common.{◌∙◌, ap, Some, ℕ, Option, map}
 use Rattle.std.specs.Option.{option_map}
-use Rattle.isis_model.specs.Both.{at}
-use Rattle.isis_model.specs.Elections as elections
+use Rattle.model_router.specs.Both.{at}
+use Rattle.model_router.specs.Elections as elections
 use Rattle.adjacency.specs.Lans.{candidate_from}
 use Rattle.adjacency.proofs.ElectLemmas.{candidates-up, designated-by, designated-nobody, elect-neighbour, elect-oneself}
 use Rattle.adjacency.proofs.laws.designated_laws.Goals as goal

@@ -7,7 +7,7 @@ use Rattle.circuit_threads.specs.declared.entry.Note.{Note}
 use Rattle.circuit_serve.specs.Labels.{of_label}
 use Rattle.circuit_serve.proofs.Picks.{both_begin}
 use Rattle.circuit_serve.proofs.Joins.{by_first, by_second, picked_all}
-use Rattle.isis_model.specs.Routers.{Router}
+use Rattle.model_router.specs.Routers.{Router}
 use Rattle.circuit_threads.specs.Sharing.{first_router}
 use Rattle.circuit_serve.specs.Walks.{IsCalm}
 use Rattle.circuit_serve.proofs.Stops.{keeps_stop, either_longer}

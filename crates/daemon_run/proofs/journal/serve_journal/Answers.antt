@@ -1,7 +1,7 @@
 use Rattle.std.proofs.Common.{◌≡◌, ℕ, ◌+◌, List, [], ◌++◌, refl, sym, ap, ◌∙◌, subst, append-nil}
 use Rattle.isis_edge.specs.Told.{Wrote}
 use Rattle.isis_edge.specs.Faults.{Rose}
-use Rattle.isis_model.specs.Routers.{Router}
+use Rattle.model_router.specs.Routers.{Router}
 use Rattle.turn_lock.specs.Passes.{seen}
 use Rattle.circuit_threads.specs.declared.entry.Note.{Note}
 use Rattle.circuit_threads.specs.declared.entry.JournalEntry.{JournalEntry}

@@ -1,6 +1,6 @@
 use Rattle.std.proofs.Common.{ap, bit_and}
 use Rattle.std.proofs.lemmas.Nat.{one_shl}
-use Rattle.isis_model.specs.Sets.{only}
+use Rattle.model_router.specs.Sets.{only}
 use Rattle.flag_sync.proofs.bits.only_bit.Goals as goal
 
 pub returns : goal.returns

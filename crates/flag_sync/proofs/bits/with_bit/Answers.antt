@@ -1,6 +1,6 @@
 use Rattle.std.proofs.Common.{ap, bit_or}
 use Rattle.std.proofs.lemmas.Nat.{one_shl}
-use Rattle.isis_model.specs.Sets.{with_one}
+use Rattle.model_router.specs.Sets.{with_one}
 use Rattle.flag_sync.proofs.bits.with_bit.Goals as goal
 
 pub returns : goal.returns

@@ -1,6 +1,6 @@
 use Rattle.std.proofs.Common.{ℕ, ap, bit_and, bit_xor}
 use Rattle.std.proofs.lemmas.Nat.{one_shl}
-use Rattle.isis_model.specs.Sets.{without}
+use Rattle.model_router.specs.Sets.{without}
 use Rattle.flag_sync.proofs.bits.without_bit.Goals as goal
 
 pub returns : goal.returns

@@ -1,5 +1,5 @@
 use Rattle.std.proofs.Common.{◌∙◌, ℕ, ap, arith}
-use Rattle.isis_model.specs.Sets.{has}
+use Rattle.model_router.specs.Sets.{has}
 use Rattle.flag_sync.proofs.KindLemmas.{nth-some, kinds-start, kinds-turn, kinds-end}
 use Rattle.flag_sync.proofs.book.points_of.Goals as goal
 

@@ -1,6 +1,6 @@
 use Rattle.std.proofs.Common.{◌≡◌, ◌≤◌, ◌-◌, ◌&&◌, nat_lt, ℕ, length}
-use Rattle.isis_model.specs.Places.{nth}
-use Rattle.isis_model.specs.Sets.{has}
+use Rattle.model_router.specs.Places.{nth}
+use Rattle.model_router.specs.Sets.{has}
 use Rattle.flag_sync.specs.Circuits.{is_point}
 use Rattle.flag_sync.proofs.book.points_of.Given as goal
 

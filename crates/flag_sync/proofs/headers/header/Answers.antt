@@ -1,6 +1,6 @@
 use Rattle.std.proofs.Common.{◌≡◌, ◌++◌, ℕ, List, take, length, ap, ◌∙◌, arith}
 use Rattle.std.proofs.lemmas.List.{length-take-le}
-use Rattle.isis_model.specs.Cells.{header_of}
+use Rattle.model_router.specs.Cells.{header_of}
 use Rattle.flag_sync.proofs.HeaderLemmas.{header-front}
 use Rattle.flag_sync.proofs.headers.header.Goals as goal
 

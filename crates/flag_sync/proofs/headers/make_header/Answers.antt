@@ -1,6 +1,6 @@
 use Rattle.std.proofs.Common.{length, ap, ◌∙◌, sym, arith}
 use Rattle.std.proofs.lemmas.List.{length-take-le}
-use Rattle.isis_model.specs.Cells.{header_of}
+use Rattle.model_router.specs.Cells.{header_of}
 use Rattle.flag_sync.proofs.HeaderLemmas.{filled, header-front, header-length}
 use Rattle.flag_sync.proofs.headers.make_header.Goals as goal
 

@@ -1,5 +1,5 @@
 use Rattle.std.proofs.Common.{refl}
-use Rattle.isis_model.specs.Openings.{mark_all, open_up}
+use Rattle.model_router.specs.Openings.{mark_all, open_up}
 use Rattle.flag_sync.proofs.laws.opening_law.Goals as goal
 
 pub returns : goal.returns

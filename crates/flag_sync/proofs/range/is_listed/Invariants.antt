@@ -1,5 +1,5 @@
 use Rattle.std.proofs.Common.{◌≡◌, length}
-use Rattle.isis_model.specs.SnpTable.{lists}
+use Rattle.model_router.specs.SnpTable.{lists}
 use Rattle.flag_sync.specs.Heard.{entries_of}
 use Rattle.flag_sync.proofs.range.is_listed.Given as goal
 

@@ -1,6 +1,6 @@
 use Rattle.std.proofs.Common.{◌≡◌, ℕ, List, Some, sym, ◌∙◌, subst, arith}
-use Rattle.isis_model.specs.Places.{nth}
-use Rattle.isis_model.specs.Routers.{Router}
+use Rattle.model_router.specs.Places.{nth}
+use Rattle.model_router.specs.Routers.{Router}
 use Rattle.router_core.specs.Reached.{IsReached}
 use Rattle.network_lab.proofs.PlaceLemmas.{some-same, nth-less}
 use Rattle.forwarding.proofs.ListLemmas.{up-to}

@@ -3,7 +3,7 @@ use Rattle.std.specs.List.{flat_map}
 use Rattle.std.proofs.lemmas.Grind.{flat_map-append}
 use Rattle.std.proofs.lemmas.List.{take_all}
 use Rattle.isis_base.specs.declared.identifiers.SystemId.{SystemId}
-use Rattle.isis_model.specs.Routers.{Router}
+use Rattle.model_router.specs.Routers.{Router}
 use Rattle.network_lab.proofs.ConfigLemmas.{take-nth}
 use Rattle.forwarding.specs.Foreign.{node_of, systems_in, systems_told, IsLeastForeign}
 use Rattle.lsp_store.specs.Databases.{live_of}

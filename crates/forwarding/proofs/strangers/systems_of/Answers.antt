@@ -1,6 +1,6 @@
 use Rattle.std.proofs.Common.{◌≡◌, ℕ, List, [], ◌∷◌, ◌++◌, map, take, sym, ap, ◌∙◌}
 use Rattle.std.proofs.lemmas.List.{map-append}
-use Rattle.isis_model.specs.Routers.{Router}
+use Rattle.model_router.specs.Routers.{Router}
 use Rattle.spf_tree.specs.Nodes.{node_number}
 use Rattle.network_lab.proofs.ConfigLemmas.{take-nth}
 use Rattle.forwarding.specs.Foreign.{node_of}

@@ -1,5 +1,5 @@
 use Rattle.std.proofs.Common.{◌≡◌, ℕ, Some, sym, ◌∙◌, subst, arith}
-use Rattle.isis_model.specs.Places.{nth}
+use Rattle.model_router.specs.Places.{nth}
 use Rattle.network_lab.proofs.PlaceLemmas.{some-same, nth-less}
 use Rattle.forward_views.specs.Looks.{Look}
 use Rattle.forwarding.proofs.ListLemmas.{contains-nth, match-true, match-false, up-to}

@@ -1,5 +1,5 @@
 use Rattle.std.proofs.Common.{◌≡◌, ◌<◌, ℕ, List, Some}
-use Rattle.isis_model.specs.Places.{nth}
+use Rattle.model_router.specs.Places.{nth}
 use Rattle.forward_views.specs.Looks.{Look}
 use Rattle.forwarding.specs.Tests.{AreLooks}
 use Rattle.forwarding.proofs.test.first_without.Given as goal

@@ -1,6 +1,6 @@
 use Rattle.std.proofs.Common.{◌≡◌, ℕ, ◌+◌, List, [], ◌∷◌, length, sym, ap, ◌∙◌, subst, arith, length-append}
 use Rattle.std.specs.Option.{option_map}
-use Rattle.isis_model.specs.Routers.{Router}
+use Rattle.model_router.specs.Routers.{Router}
 use Rattle.spf_tree.specs.Nodes.{system_node}
 use Rattle.route_table.specs.Ranks.{prefix_number}
 use Rattle.network_lab.proofs.PlaceLemmas.{of-place}

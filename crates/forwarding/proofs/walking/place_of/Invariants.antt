@@ -1,6 +1,6 @@
 use Rattle.std.proofs.Common.{◌≡◌, ◌≢◌, ◌<◌, ℕ, Some}
-use Rattle.isis_model.specs.Places.{nth}
-use Rattle.isis_model.specs.Routers.{Router}
+use Rattle.model_router.specs.Places.{nth}
+use Rattle.model_router.specs.Routers.{Router}
 use Rattle.spf_tree.specs.Nodes.{system_node}
 use Rattle.forwarding.specs.Foreign.{node_of}
 use Rattle.forwarding.proofs.walking.place_of.Given as goal

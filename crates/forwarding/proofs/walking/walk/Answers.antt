@@ -1,5 +1,5 @@
 use Rattle.std.proofs.Common.{List, refl}
-use Rattle.isis_model.specs.Routers.{Router}
+use Rattle.model_router.specs.Routers.{Router}
 use Rattle.route_table.specs.Ranks.{prefix_number}
 use Rattle.forward_routes.specs.Walked.{IsRouteOf}
 use Rattle.forward_views.specs.Forwarded.{router_in}

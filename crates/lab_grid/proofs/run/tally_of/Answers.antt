@@ -1,5 +1,5 @@
 use Rattle.std.proofs.Common.{List, [], take, subst, sym}
-use Rattle.isis_model.specs.Routers.{Router}
+use Rattle.model_router.specs.Routers.{Router}
 use Rattle.route_table.specs.declared.route.Route.{Route}
 use Rattle.router_routes.specs.Outlooks.{outlook_of}
 use Rattle.router_routes.specs.Candidates.{AreRoutesOf}

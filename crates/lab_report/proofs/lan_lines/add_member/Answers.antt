@@ -1,7 +1,7 @@
 -- The line of a member, and those that are left.
 use Rattle.std.proofs.Common.{List, ℕ, ◌++◌, ◌+◌, drop, ap, ◌∙◌}
-use Rattle.isis_model.specs.Places.{nth}
-use Rattle.network_model.specs.RunLines.{ends_of}
+use Rattle.model_router.specs.Places.{nth}
+use Rattle.model_network.specs.RunLines.{ends_of}
 use Rattle.lab_report.specs.LanLines.{member_lines}
 use Rattle.lab_report.specs.Names.{texts}
 use Rattle.lab_report.proofs.EndLemmas.{member-step}

@@ -1,6 +1,6 @@
 use Rattle.std.proofs.Common.{◌≡◌, ◌++◌, drop}
-use Rattle.isis_model.specs.Places.{nth}
-use Rattle.network_model.specs.RunLines.{ends_of}
+use Rattle.model_router.specs.Places.{nth}
+use Rattle.model_network.specs.RunLines.{ends_of}
 use Rattle.lab_report.specs.LanLines.{member_lines}
 use Rattle.lab_report.specs.Names.{texts}
 use Rattle.lab_report.proofs.lan_lines.add_members.Given as goal

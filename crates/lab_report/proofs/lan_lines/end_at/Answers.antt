@@ -1,8 +1,8 @@
 -- An end of a LAN is there.
 use Rattle.std.proofs.Common.{List, Option, ap, ◌∙◌}
-use Rattle.isis_model.specs.Places.{nth}
-use Rattle.network_model.specs.declared.end.End.{End}
-use Rattle.network_model.specs.RunLines.{ends_of}
+use Rattle.model_router.specs.Places.{nth}
+use Rattle.model_network.specs.declared.end.End.{End}
+use Rattle.model_network.specs.RunLines.{ends_of}
 use Rattle.lab_report.proofs.EndLemmas.{nth-or, place-within, end-there, end-in}
 use Rattle.lab_report.proofs.lan_lines.end_at.Goals as goal
 

@@ -1,5 +1,5 @@
 use Rattle.std.proofs.Common.{◌≡◌, ◌++◌, drop}
-use Rattle.lab_play.specs.LabRuns as run
+use Rattle.lab_text.specs.LabRuns as run
 use Rattle.lab_text.proofs.lab_run.dumps_of.Given as goal
 
 -- those so far, and those that are left

@@ -1,6 +1,6 @@
 use Rattle.std.proofs.Common.{◌∙◌, take, get_or, sym, ap, arith}
 use Rattle.std.proofs.lemmas.List.{take_more, length-take-le}
-use Rattle.key_net.specs.KeysNet.{Net, with_link}
+use Rattle.lab_keys.specs.KeysNet.{Net, with_link}
 use Rattle.lab_text.specs.KeysRuns.{with_links}
 use Rattle.lab_text.proofs.LayLemmas.{with_links-routers, with_links-count, with_links-push, ends-at}
 use Rattle.lab_text.proofs.run.add_links.Goals as goal

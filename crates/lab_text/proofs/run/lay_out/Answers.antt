@@ -1,5 +1,5 @@
 use Rattle.std.proofs.Common.{◌∙◌, length, sym, ap, subst}
-use Rattle.key_net.specs.KeysNet.{Net}
+use Rattle.lab_keys.specs.KeysNet.{Net}
 use Rattle.lab_text.specs.KeysRuns.{routers_only, with_links}
 use Rattle.lab_text.specs.KeysInNet.{AreInNet}
 use Rattle.lab_text.proofs.LayLemmas.{laid_out-sound, with_links-routers, laid-as}

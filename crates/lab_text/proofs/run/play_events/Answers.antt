@@ -1,5 +1,5 @@
 use Rattle.std.proofs.Common.{◌∙◌, ◌+◌, drop, sym, arith}
-use Rattle.key_net.specs.KeysNet.{Net}
+use Rattle.lab_keys.specs.KeysNet.{Net}
 use Rattle.lab_text.specs.KeysRuns.{play_line, play_all}
 use Rattle.lab_text.proofs.PlayLemmas.{play_all-at, play_all-end, bind-ok, bind-err}
 use Rattle.lab_script.proofs.ReadLemmas.{Gives-from_step}

@@ -1,6 +1,6 @@
 use Rattle.std.proofs.Common.{◌≡◌, ◌∙◌, ap, List, length, map, sym, subst}
 use Rattle.std.proofs.lemmas.List.{with_items_is, length-map}
-use Rattle.isis_model.specs.Sorted.{RisesFrom}
+use Rattle.model_router.specs.Sorted.{RisesFrom}
 use Rattle.lsp_fragments.specs.declared.kept.Kept.{Kept}
 use Rattle.lsp_fragments.specs.Kept.{by_id, older_kept}
 use Rattle.lsp_fragments.proofs.ShownLemmas.{older-rises}

@@ -1,7 +1,7 @@
 use Rattle.std.proofs.Common.{◌∙◌, ap, sym, refl, subst, zero-le, List}
 use Rattle.std.specs.List.{insert}
 use Rattle.lsp_fragments.specs.declared.kept.Kept.{Kept}
-use Rattle.isis_model.specs.Sorted.{RisesFrom}
+use Rattle.model_router.specs.Sorted.{RisesFrom}
 use Rattle.lsp_fragments.specs.Kept.{kept_id, by_id}
 use Rattle.lsp_fragments.proofs.MapLemmas.{put-place, put-gap, put-rises, find-gap}
 use Rattle.lsp_fragments.proofs.by_id.put_at.Goals as goal

@@ -1,6 +1,6 @@
 use Rattle.std.proofs.Common.{◌∙◌, ap, sym, subst}
 use Rattle.isis_base.specs.Identifiers.{lsp_number}
-use Rattle.isis_model.specs.Sorted.{RisesFrom}
+use Rattle.model_router.specs.Sorted.{RisesFrom}
 use Rattle.lsp_fragments.specs.Kept.{kept_id, by_id}
 use Rattle.lsp_fragments.proofs.MapLemmas.{erase-place, erase-gap, erase-rises}
 use Rattle.lsp_fragments.proofs.by_id.take_out.Goals as goal

@@ -1,10 +1,10 @@
 use Rattle.std.proofs.Common.{◌≡◌, ◌==◌, ◌+◌, Some, None, if◌then◌else◌, refl}
-use Rattle.isis_model.specs.Cells.{purged}
-use Rattle.isis_model.specs.Routers.{LevelState}
-use Rattle.isis_model.specs.Ranks.{is_live}
-use Rattle.isis_model.specs.Maps.{erase}
-use Rattle.isis_model.specs.OwnLsps.{outbid, install, retire, last_number, issue_cell}
-use Rattle.isis_model.proofs.BookLemmas.{choose, test}
+use Rattle.model_router.specs.Cells.{purged}
+use Rattle.model_router.specs.Routers.{LevelState}
+use Rattle.model_router.specs.Ranks.{is_live}
+use Rattle.model_router.specs.Maps.{erase}
+use Rattle.model_router.specs.OwnLsps.{outbid, install, retire, last_number, issue_cell}
+use Rattle.model_router.proofs.BookLemmas.{choose, test}
 use Rattle.lsp_fragments.specs.declared.issue.Issue.TheVariants.{Number, Exhausted}
 use Rattle.lsp_fragments.specs.Issues.{outbid_by}
 use Rattle.lsp_fragments.proofs.laws.own_laws.Goals as goal

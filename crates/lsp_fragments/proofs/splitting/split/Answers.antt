@@ -1,5 +1,5 @@
 use Rattle.std.proofs.Common.{◌≡◌, ℕ, List, [], Some, Err, true, ◌∙◌, sym, ap, subst}
-use Rattle.isis_model.specs.Splits.{Draft}
+use Rattle.model_router.specs.Splits.{Draft}
 use Rattle.lsp_fragments.specs.Entries.{content_first, content_entries}
 use Rattle.lsp_fragments.specs.Fits.{IsPut, put_all}
 use Rattle.lsp_fragments.proofs.FitLemmas.{split-all, split-fault}

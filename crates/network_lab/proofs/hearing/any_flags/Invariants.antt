@@ -1,7 +1,7 @@
 use Rattle.std.proofs.Common.{◌≡◌, length}
 use Rattle.flag_sync.specs.BookStates.{book_of as book_in}
 use Rattle.flag_sync.specs.Heard.{entries_of}
-use Rattle.network_model.specs.Takings.{would_flag_any}
+use Rattle.model_network.specs.Takings.{would_flag_any}
 use Rattle.network_lab.proofs.hearing.any_flags.Given as goal
 
 -- what is left decides

@@ -2,13 +2,13 @@ use Rattle.std.proofs.Common.{List, Option, Some, sym, ap, ◌∙◌}
 use Rattle.isis_base.specs.declared.entry.LspEntry.{LspEntry}
 use Rattle.isis_base.specs.declared.identifiers.LspId.{LspId}
 use Rattle.isis_base.specs.Identifiers.{lsp_number}
-use Rattle.isis_model.specs.Events.{SnpHeard}
-use Rattle.isis_model.specs.Numbers.{system_number}
+use Rattle.model_router.specs.Events.{SnpHeard}
+use Rattle.model_router.specs.Numbers.{system_number}
 use Rattle.flag_sync.specs.Heard.{entries_of}
 use Rattle.router_desk.specs.Opening.{envelope_of}
-use Rattle.router_reading.specs.declared.heard.Heard.{Heard}
-use Rattle.router_reading.specs.declared.heard.Heard.TheVariants as heard
-use Rattle.router_reading.specs.Heard.{message_of}
+use Rattle.router_desk.specs.declared.heard.Heard.{Heard}
+use Rattle.router_desk.specs.declared.heard.Heard.TheVariants as heard
+use Rattle.router_desk.specs.Heard.{message_of}
 use Rattle.network_lab.specs.Hearing.{unflagged_range}
 use Rattle.network_lab.proofs.hearing.unflagged_heard.Goals as goal
 

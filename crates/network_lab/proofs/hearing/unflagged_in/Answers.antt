@@ -1,6 +1,6 @@
 use Rattle.std.proofs.Common.{◌-◌, ℕ, sym, ap, ◌∙◌}
 use Rattle.isis_pdu.specs.Views.{pdu_view}
-use Rattle.isis_model.specs.Places.{nth}
+use Rattle.model_router.specs.Places.{nth}
 use Rattle.router_desk.specs.Desks.{desk_of}
 use Rattle.router_desk.specs.Opening.{SeenView, seen_view, message_of}
 use Rattle.network_lab.proofs.HearLemmas.{lan-at, level-run, pdu-heard}

@@ -1,5 +1,5 @@
 use Rattle.std.proofs.Common.{◌≡◌, ◌-◌, drop, length}
-use Rattle.network_model.specs.RunLines.{by_router}
+use Rattle.model_network.specs.RunLines.{by_router}
 use Rattle.network_lab.proofs.joining.ordered_of.Given as goal
 
 -- the last ones are in order

@@ -1,6 +1,6 @@
 use Rattle.std.proofs.Common.{◌≡◌, ◌++◌, drop, take}
-use Rattle.network_model.specs.declared.end.End.{End}
-use Rattle.network_model.specs.RunLines as line
+use Rattle.model_network.specs.declared.end.End.{End}
+use Rattle.model_network.specs.RunLines as line
 use Rattle.network_lab.proofs.joining.place_behind.Given as goal
 
 -- those so far are of no greater router

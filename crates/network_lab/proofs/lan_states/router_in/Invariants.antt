@@ -1,5 +1,5 @@
 use Rattle.std.proofs.Common.{◌≡◌, drop}
-use Rattle.isis_model.specs.Numbers.{system_number}
+use Rattle.model_router.specs.Numbers.{system_number}
 use Rattle.network_lab.specs.LanStates.{router_in as router_among}
 use Rattle.network_lab.proofs.lan_states.router_in.Given as goal
 

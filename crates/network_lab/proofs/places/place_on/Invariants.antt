@@ -1,5 +1,5 @@
 use Rattle.std.proofs.Common.{◌≡◌, drop}
-use Rattle.network_model.specs.Networks.{place_on as place_among}
+use Rattle.model_network.specs.Networks.{place_on as place_among}
 use Rattle.network_lab.proofs.places.place_on.Given as goal
 
 abbrev pub invariant-loop-end : goal.invariant-loop-end

@@ -1,5 +1,5 @@
 use Rattle.std.proofs.Common.{◌≡◌, take}
-use Rattle.isis_model.specs.Places.{with_nth}
+use Rattle.model_router.specs.Places.{with_nth}
 use Rattle.network_lab.proofs.setup.replaced.Given as goal
 
 abbrev pub invariant-loop-at : goal.invariant-loop-at

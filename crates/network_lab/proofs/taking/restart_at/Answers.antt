@@ -1,8 +1,8 @@
 use Rattle.std.proofs.Common.{◌≡◌, ◌+◌, IfSome, ℕ, List, ap, sym, subst, ◌∙◌}
-use Rattle.isis_model.specs.Places.{with_nth}
-use Rattle.network_model.specs.Networks.{restarted}
-use Rattle.isis_model.specs.Places.{nth}
-use Rattle.isis_model.specs.Routers.{Router}
+use Rattle.model_router.specs.Places.{with_nth}
+use Rattle.model_network.specs.Networks.{restarted}
+use Rattle.model_router.specs.Places.{nth}
+use Rattle.model_router.specs.Routers.{Router}
 use Rattle.network_lab.specs.LabInside.{shape_of, shapes_of}
 use Rattle.network_lab.proofs.PlaceLemmas.{nth-get}
 use Rattle.network_lab.proofs.StepLemmas.{counts-with, start-kept, restart-state}

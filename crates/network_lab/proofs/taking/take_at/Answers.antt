@@ -1,7 +1,7 @@
 use Rattle.std.proofs.Common.{List, ap, ◌∙◌}
-use Rattle.isis_model.specs.Places.{nth}
-use Rattle.isis_model.specs.Routers.{Router}
-use Rattle.network_model.specs.Runs.{boot_of}
+use Rattle.model_router.specs.Places.{nth}
+use Rattle.model_router.specs.Routers.{Router}
+use Rattle.model_network.specs.Runs.{boot_of}
 use Rattle.network_lab.specs.LabTakings.{counts_at}
 use Rattle.network_lab.proofs.StepLemmas.{take-sends, take-stops, keeps-there, take-keeps}
 use Rattle.network_lab.proofs.taking.take_at.Goals as goal

@@ -1,8 +1,8 @@
 use Rattle.std.proofs.Common.{◌≡◌, ◌||◌, ℕ, List, length}
 use Rattle.std.specs.Option.{option_map}
 use Rattle.isis_base.specs.Identifiers.{lsp_number}
-use Rattle.isis_model.specs.Routers.{Issued}
-use Rattle.isis_model.specs.Sorted.{RisesFrom}
+use Rattle.model_router.specs.Routers.{Issued}
+use Rattle.model_router.specs.Sorted.{RisesFrom}
 use Rattle.flag_sync.specs.Ages.{over_from, first_of}
 use Rattle.flag_sync.specs.BookStates.{book_of, SameCircuits}
 use Rattle.purge_ageing.specs.Ends.{state_of, end_all, some_keyed}

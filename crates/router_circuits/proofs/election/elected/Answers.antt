@@ -1,5 +1,5 @@
 use Rattle.std.proofs.Common.{if◌then◌else◌, ap, ◌∙◌}
-use Rattle.isis_model.specs.Elections as model
+use Rattle.model_router.specs.Elections as model
 use Rattle.router_circuits.specs.Elections.{candidate_of}
 use Rattle.router_circuits.proofs.ElectLemmas.{elect-step}
 use Rattle.router_circuits.proofs.election.elected.Goals as goal

@@ -1,6 +1,6 @@
 use Rattle.std.proofs.Common.{◌∙◌, ap, refl, sym}
-use Rattle.isis_model.specs.Adjacencies as model
-use Rattle.isis_model.specs.HelloTests.{point_drop}
+use Rattle.model_router.specs.Adjacencies as model
+use Rattle.model_router.specs.HelloTests.{point_drop}
 use Rattle.adjacency.specs.Views as views
 use Rattle.router_circuits.specs.Hellos.{hello_of}
 use Rattle.router_circuits.proofs.ChangeLemmas.{greeted-words, shaken, same-common, same-point}

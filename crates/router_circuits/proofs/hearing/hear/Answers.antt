@@ -1,8 +1,8 @@
 use Rattle.std.proofs.Common.{List, ℕ, ◌∙◌, ap, sym, subst, arith}
-use Rattle.isis_model.specs.Adjacencies as model
-use Rattle.isis_model.specs.Both.{alone}
-use Rattle.isis_model.specs.HelloTests.{lan_drop}
-use Rattle.isis_model.specs.Routers.{LanNeighbour}
+use Rattle.model_router.specs.Adjacencies as model
+use Rattle.model_router.specs.Both.{alone}
+use Rattle.model_router.specs.HelloTests.{lan_drop}
+use Rattle.model_router.specs.Routers.{LanNeighbour}
 use Rattle.adjacency.specs.Lans as lans
 use Rattle.adjacency.specs.Views as views
 use Rattle.router_circuits.specs.Hellos.{hello_of}

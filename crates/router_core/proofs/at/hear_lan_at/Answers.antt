@@ -1,14 +1,14 @@
 use Rattle.std.proofs.Common.{◌≡◌, ◌-◌, Result, Ok, Err, IfOk, OnErr, ap, arith, refl}
 use Rattle.std.proofs.lemmas.Result.{IfOk-weaker}
-use Rattle.isis_model.specs.Both.{alone, at}
-use Rattle.isis_model.specs.Adjacencies.{common_of}
-use Rattle.isis_model.specs.Configs.{Config}
-use Rattle.isis_model.specs.Hellos.{lan_circuit}
-use Rattle.isis_model.specs.HelloTests.{lan_drop}
-use Rattle.isis_model.specs.Routers.{Circuit}
+use Rattle.model_router.specs.Both.{alone, at}
+use Rattle.model_router.specs.Adjacencies.{common_of}
+use Rattle.model_router.specs.Configs.{Config}
+use Rattle.model_router.specs.Hellos.{lan_circuit}
+use Rattle.model_router.specs.HelloTests.{lan_drop}
+use Rattle.model_router.specs.Routers.{Circuit}
 use Rattle.adjacency.specs.Changes.{IsTested}
-use Rattle.isis_model.specs.Numbers.{system_number}
-use Rattle.isis_datagram.specs.Reading.{runs_of}
+use Rattle.model_router.specs.Numbers.{system_number}
+use Rattle.model_datagram.specs.Reading.{runs_of}
 use Rattle.router_circuits.specs.Hellos.{hello_of}
 use Rattle.router_desk.specs.Desks.{desk_circuit}
 use Rattle.router_core.specs.Machines.{IsFit}

@@ -3,13 +3,13 @@ use Rattle.std.proofs.lemmas.Result.{IfOk-weaker}
 use Rattle.isis_base.specs.declared.memory.OutOfMemory.{OutOfMemory}
 use Rattle.adjacency.specs.Changes.{IsTested}
 use Rattle.adjacency.specs.declared.hello.HelloDrop.{HelloDrop}
-use Rattle.isis_model.specs.Adjacencies.{common_of, is_same}
-use Rattle.isis_model.specs.Configs.{Config}
-use Rattle.isis_model.specs.Hellos.{point_circuit}
-use Rattle.isis_model.specs.HelloTests.{point_drop}
-use Rattle.isis_model.specs.Routers.{Circuit}
-use Rattle.isis_model.specs.Numbers.{system_number}
-use Rattle.isis_datagram.specs.Reading.{runs_of}
+use Rattle.model_router.specs.Adjacencies.{common_of, is_same}
+use Rattle.model_router.specs.Configs.{Config}
+use Rattle.model_router.specs.Hellos.{point_circuit}
+use Rattle.model_router.specs.HelloTests.{point_drop}
+use Rattle.model_router.specs.Routers.{Circuit}
+use Rattle.model_router.specs.Numbers.{system_number}
+use Rattle.model_datagram.specs.Reading.{runs_of}
 use Rattle.router_circuits.specs.Hellos.{hello_of, IsOwn}
 use Rattle.router_desk.specs.Desks.{desk_circuit}
 use Rattle.router_core.specs.Machines.{IsFit}

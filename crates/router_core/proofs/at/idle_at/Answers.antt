@@ -1,5 +1,5 @@
 use Rattle.std.proofs.Common.{◌-◌, false, [], ap, arith, refl}
-use Rattle.isis_model.specs.Numbers.{system_number}
+use Rattle.model_router.specs.Numbers.{system_number}
 use Rattle.router_desk.specs.Desks.{desk_circuit}
 use Rattle.router_core.specs.Machines.{IsFit}
 use Rattle.router_core.proofs.ShapeLemmas.{set-keeps, set-all, fit-same, bare}

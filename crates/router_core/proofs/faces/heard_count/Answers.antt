@@ -1,6 +1,6 @@
 use Rattle.std.proofs.Common.{length, sym, ap, ◌∙◌}
 use Rattle.adjacency.specs.Views.{neighbour_of}
-use Rattle.isis_model.specs.Both.{at}
+use Rattle.model_router.specs.Both.{at}
 use Rattle.router_core.proofs.KeepLemmas.{length-heard}
 use Rattle.router_core.proofs.SecondLemmas.{length-map}
 use Rattle.router_core.proofs.faces.heard_count.Goals as goal

@@ -1,7 +1,7 @@
 use Rattle.std.proofs.Common.{◌≡◌, ◌-◌, ◌+◌, ◌*◌, ◌∙◌, ap, arith}
-use Rattle.isis_model.specs.Datagrams.{Sent}
-use Rattle.isis_model.specs.Routers.{extended_of}
-use Rattle.isis_datagram.specs.Datagrams.{datagram}
+use Rattle.model_router.specs.Datagrams.{Sent}
+use Rattle.model_router.specs.Routers.{extended_of}
+use Rattle.model_datagram.specs.Datagrams.{datagram}
 use Rattle.router_core.specs.Sending.{config_of, circuit_of}
 use Rattle.router_core.proofs.SendingLemmas.{sends-here, put-one}
 use Rattle.router_core.proofs.GreetingLemmas.{point-says}

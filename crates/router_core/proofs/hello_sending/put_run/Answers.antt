@@ -1,7 +1,7 @@
 use Rattle.std.proofs.Common.{◌-◌, ◌∙◌, ap}
-use Rattle.isis_model.specs.Both.{at}
-use Rattle.isis_model.specs.Datagrams.{Sent}
-use Rattle.isis_datagram.specs.Datagrams.{datagram}
+use Rattle.model_router.specs.Both.{at}
+use Rattle.model_router.specs.Datagrams.{Sent}
+use Rattle.model_datagram.specs.Datagrams.{datagram}
 use Rattle.router_core.specs.Sending.{config_of, circuit_of}
 use Rattle.router_core.proofs.SendingLemmas.{sends-here, put-one}
 use Rattle.router_core.proofs.GreetingLemmas.{lan-says, heard-few}

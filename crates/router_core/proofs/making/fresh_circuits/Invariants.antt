@@ -1,5 +1,5 @@
 use Rattle.std.proofs.Common.{◌≡◌, take, map}
-use Rattle.isis_model.specs.Starts.{started}
+use Rattle.model_router.specs.Starts.{started}
 use Rattle.router_core.proofs.making.fresh_circuits.Given as goal
 
 -- the circuits so far

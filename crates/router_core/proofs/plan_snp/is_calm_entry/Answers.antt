@@ -1,7 +1,7 @@
 use Rattle.std.proofs.Common.{subst, arith}
 use Rattle.isis_base.specs.Identifiers.{lsp_number}
 use Rattle.isis_base.specs.Keys.{StandsAgainst, rank}
-use Rattle.isis_model.specs.Books.{cell_at}
+use Rattle.model_router.specs.Books.{cell_at}
 use Rattle.flag_sync.specs.BookStates.{book_of}
 use Rattle.flag_sync.specs.Heard.{entry_of}
 use Rattle.router_core.proofs.CalmLemmas.{unlike-calm}

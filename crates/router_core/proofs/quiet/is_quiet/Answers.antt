@@ -1,7 +1,7 @@
 use Rattle.std.proofs.Common.{◌≡◌, ℕ, List, ◌-◌, ◌∷◌, map, length, take, drop, sym, ap, ◌∙◌}
-use Rattle.isis_model.specs.Routers.{Issued}
+use Rattle.model_router.specs.Routers.{Issued}
 use Rattle.lsp_fragments.specs.Kept.{first_id, issued_from}
-use Rattle.lsp_wanted.specs.Views.{wanted_of}
+use Rattle.router_wanted.specs.Views.{wanted_of}
 use Rattle.router_core.specs.Seconds.{numbers, Waits}
 use Rattle.router_core.proofs.WantedLemmas.{opens-at}
 use Rattle.router_core.proofs.QuietLemmas.{from-zero, same-turn, waits-turn}

@@ -3,7 +3,7 @@ use Rattle.std.specs.List.{AllByRecursion}
 use Rattle.std.specs.Option.{option_map}
 use Rattle.isis_base.specs.Identifiers.{lsp_number}
 use Rattle.lsp_fragments.specs.Kept.{first_id, issued_from}
-use Rattle.lsp_wanted.specs.Views.{wanted_of}
+use Rattle.router_wanted.specs.Views.{wanted_of}
 use Rattle.router_core.specs.Seconds.{numbers, Waits}
 use Rattle.router_core.proofs.quiet.is_quiet.Given as goal
 

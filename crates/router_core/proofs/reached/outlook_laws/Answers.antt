@@ -1,6 +1,6 @@
-use Rattle.isis_model.specs.Events.{Event, Second, Take, Pull, Metric, Overload, Prefix}
-use Rattle.isis_model.specs.Routers.{Router}
-use Rattle.isis_model.proofs.BondLemmas.{step-stays}
+use Rattle.model_router.specs.Events.{Event, Second, Take, Pull, Metric, Overload, Prefix}
+use Rattle.model_router.specs.Routers.{Router}
+use Rattle.model_router.proofs.BondLemmas.{step-stays}
 use Rattle.router_core.specs.Givens.{given}
 use Rattle.router_core.specs.Calm.{IsCalm, KeepsPrefixes}
 use Rattle.router_core.proofs.CalmLemmas.{calm-kept}

@@ -1,6 +1,6 @@
 use Rattle.std.proofs.Common.{◌≡◌, ◌^◌, ◌<◌, ℕ, List, [], ◌∷◌, length, subst, arith}
 use Rattle.isis_base.specs.Identifiers.{lsp_number}
-use Rattle.isis_model.specs.Numbers.{u48_of}
+use Rattle.model_router.specs.Numbers.{u48_of}
 use Rattle.router_core.proofs.reached.system_law.Goals as goal
 
 -- a system's number is below 2 ^ 48, since that of its LSP ID of zeros is below 2 ^ 64

@@ -3,10 +3,10 @@ use Rattle.std.specs.List.{AllByRecursion}
 use Rattle.std.specs.Option.{option_copied}
 use Rattle.std.specs.Vec.Iter.{into_iter_items}
 use Rattle.isis_base.specs.Identifiers.{lsp_number}
-use Rattle.isis_model.specs.Good.{IsIssuable}
-use Rattle.lsp_octets.specs.Drafts.{DraftView}
-use Rattle.lsp_wanted.specs.declared.wanted.Wanted.{Wanted}
-use Rattle.lsp_wanted.specs.Views.{contents_of, wanted_of}
+use Rattle.model_router.specs.Good.{IsIssuable}
+use Rattle.router_sending.specs.Drafts.{DraftView}
+use Rattle.router_wanted.specs.declared.wanted.Wanted.{Wanted}
+use Rattle.router_wanted.specs.Views.{contents_of, wanted_of}
 use Rattle.router_levels.specs.Drafts.{wants_of}
 use Rattle.router_core.specs.Seconds.{IsMade}
 use Rattle.router_core.proofs.WantedLemmas.{all-rest}

@@ -1,5 +1,5 @@
 use Rattle.std.proofs.Common.{◌+◌, ◌-◌, arith, ◌∙◌}
-use Rattle.isis_model.specs.Elections.{idle}
+use Rattle.model_router.specs.Elections.{idle}
 use Rattle.router_core.proofs.SecondLemmas.{changed-next, changed-all, same-count}
 use Rattle.router_core.proofs.second.idle_all.Goals as goal
 

@@ -1,8 +1,8 @@
 use Rattle.std.proofs.Common.{◌≡◌, length, map}
 use Rattle.std.specs.List.{AllByRecursion}
-use Rattle.isis_model.specs.Configs.{Config}
-use Rattle.isis_model.specs.Elections.{idle}
-use Rattle.isis_model.specs.Numbers.{system_number}
+use Rattle.model_router.specs.Configs.{Config}
+use Rattle.model_router.specs.Elections.{idle}
+use Rattle.model_router.specs.Numbers.{system_number}
 use Rattle.router_desk.specs.Desks.{desk_circuit}
 use Rattle.router_core.specs.Machines.{IsFit}
 use Rattle.router_core.proofs.SecondLemmas.{changed}

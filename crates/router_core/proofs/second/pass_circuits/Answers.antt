@@ -1,5 +1,5 @@
 use Rattle.std.proofs.Common.{ℕ, ◌+◌, ◌-◌, arith, ◌∙◌}
-use Rattle.isis_model.specs.Routers.{Circuit}
+use Rattle.model_router.specs.Routers.{Circuit}
 use Rattle.router_core.specs.Seconds.{later}
 use Rattle.router_core.proofs.SecondLemmas.{changed-next, changed-map-all, same-count}
 use Rattle.router_core.proofs.second.pass_circuits.Goals as goal

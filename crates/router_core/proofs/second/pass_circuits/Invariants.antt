@@ -1,6 +1,6 @@
 use Rattle.std.proofs.Common.{◌≡◌, ℕ, length, map}
 use Rattle.std.specs.List.{AllByRecursion}
-use Rattle.isis_model.specs.Routers.{Circuit}
+use Rattle.model_router.specs.Routers.{Circuit}
 use Rattle.router_desk.specs.Desks.{desk_circuit}
 use Rattle.router_core.specs.Machines.{IsFit}
 use Rattle.router_core.specs.Seconds.{later}

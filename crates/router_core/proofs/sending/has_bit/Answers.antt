@@ -1,6 +1,6 @@
 use Rattle.std.proofs.Common.{ℕ, nat_eq, ap}
 use Rattle.std.proofs.lemmas.Nat.Bits.{shr_and_one}
-use Rattle.isis_model.specs.Sets.{has}
+use Rattle.model_router.specs.Sets.{has}
 use Rattle.router_core.proofs.sending.has_bit.Goals as goal
 
 -- src/sending.rt

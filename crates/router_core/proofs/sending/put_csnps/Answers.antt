@@ -1,8 +1,8 @@
 use Rattle.std.proofs.Common.{◌∙◌, ◌≤◌, ℕ, suc, List, [], ◌∷◌, ◌++◌, length, refl, sym, ap, subst, append_assoc}
 use Rattle.std.specs.List.{AllByRecursion}
 use Rattle.isis_base.specs.Identifiers.{lsp_number}
-use Rattle.isis_model.specs.Datagrams as sent
-use Rattle.isis_model.specs.SnpLists.{pieces}
+use Rattle.model_router.specs.Datagrams as sent
+use Rattle.model_router.specs.SnpLists.{pieces}
 use Rattle.flag_sync.specs.Heard.{entries_of}
 use Rattle.flag_sync.specs.Said.{said_keys}
 use Rattle.snp_exchange.specs.PieceLists.{PieceSaid, said_sent}

@@ -2,7 +2,7 @@ use Rattle.std.proofs.Common.{◌≡◌, ◌≤◌, ◌++◌, Vec, length}
 use Rattle.std.specs.List.{AllByRecursion}
 use Rattle.std.specs.declared.alloc.Global.{Global}
 use Rattle.isis_base.specs.declared.entry.LspEntry.{LspEntry}
-use Rattle.isis_model.specs.SnpLists.{psnps}
+use Rattle.model_router.specs.SnpLists.{psnps}
 use Rattle.snp_exchange.specs.Pieces.{lists_of}
 use Rattle.router_core.specs.Sending.{all_octets}
 use Rattle.router_core.proofs.sending.put_lists.Given as goal

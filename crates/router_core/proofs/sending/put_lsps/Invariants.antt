@@ -1,5 +1,5 @@
 use Rattle.std.proofs.Common.{◌≡◌, ◌-◌, ◌++◌, length}
-use Rattle.isis_model.specs.Pulls.{due_lsps}
+use Rattle.model_router.specs.Pulls.{due_lsps}
 use Rattle.flag_sync.specs.BookStates.{cells_of}
 use Rattle.router_core.specs.Sending.{all_octets, MaySend}
 use Rattle.router_core.proofs.sending.put_lsps.Given as goal

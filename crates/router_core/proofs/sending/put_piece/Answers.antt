@@ -1,9 +1,9 @@
 use Rattle.std.proofs.Common.{◌-◌, ◌∙◌, List, ap}
 use Rattle.isis_base.specs.declared.entry.LspEntry.{LspEntry}
 use Rattle.isis_base.specs.Identifiers.{lsp_number}
-use Rattle.isis_model.specs.Datagrams as sent
+use Rattle.model_router.specs.Datagrams as sent
 use Rattle.flag_sync.specs.Heard.{entries_of}
-use Rattle.isis_datagram.specs.Datagrams.{datagram}
+use Rattle.model_datagram.specs.Datagrams.{datagram}
 use Rattle.router_core.specs.Sending.{config_of, circuit_of}
 use Rattle.router_core.proofs.SendingLemmas.{sends-here, put-one}
 use Rattle.router_core.proofs.sending.put_piece.Goals as goal

@@ -2,7 +2,7 @@ use Rattle.std.proofs.Common.{◌≤◌, ◌-◌, List, Vec, length, sym, subst}
 use Rattle.std.specs.List.{AllByRecursion}
 use Rattle.std.specs.declared.alloc.Global.{Global}
 use Rattle.isis_base.specs.declared.entry.LspEntry.{LspEntry}
-use Rattle.isis_model.specs.SnpTable.{SnpEntry}
+use Rattle.model_router.specs.SnpTable.{SnpEntry}
 use Rattle.flag_sync.specs.Heard.{entries_of}
 use Rattle.flag_sync.specs.Said.{said_owed}
 use Rattle.router_core.proofs.SendingLemmas.{few-lists, few-pieces}

@@ -1,8 +1,8 @@
 use Rattle.std.proofs.Common.{◌≡◌, ◌==◌, ◌-◌, ◌∷◌, false, length, take, drop, sym, ◌∙◌}
 use Rattle.isis_base.specs.Identifiers.{lsp_number}
-use Rattle.isis_model.specs.Good.{IsIssuable}
-use Rattle.lsp_wanted.specs.declared.wanted.Wanted.{Wanted}
-use Rattle.lsp_wanted.specs.Views.{contents_of}
+use Rattle.model_router.specs.Good.{IsIssuable}
+use Rattle.router_wanted.specs.declared.wanted.Wanted.{Wanted}
+use Rattle.router_wanted.specs.Views.{contents_of}
 use Rattle.router_core.proofs.WantedLemmas.{opens-at, all-first, all-rest, find-rest, eq-other}
 use Rattle.router_core.proofs.wanted.said_of.Goals as goal
 

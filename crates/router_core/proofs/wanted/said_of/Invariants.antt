@@ -1,10 +1,10 @@
 use Rattle.std.proofs.Common.{◌≡◌, ℕ, List, Option, map, length}
 use Rattle.std.specs.List.{AllByRecursion}
 use Rattle.isis_base.specs.Identifiers.{lsp_number}
-use Rattle.isis_model.specs.Good.{IsIssuable}
-use Rattle.isis_model.specs.Maps.{find}
-use Rattle.lsp_wanted.specs.declared.wanted.Wanted.{Wanted}
-use Rattle.lsp_wanted.specs.Views.{contents_of, wanted_of}
+use Rattle.model_router.specs.Good.{IsIssuable}
+use Rattle.model_router.specs.Maps.{find}
+use Rattle.router_wanted.specs.declared.wanted.Wanted.{Wanted}
+use Rattle.router_wanted.specs.Views.{contents_of, wanted_of}
 use Rattle.router_core.proofs.wanted.said_of.Given as goal
 
 -- those that are left are found as all are

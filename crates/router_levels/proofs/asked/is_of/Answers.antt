@@ -1,6 +1,6 @@
 use Rattle.std.proofs.Common.{◌≡◌, ◌==◌, ◌/◌, ℕ, List, [], ◌∷◌, length, ap₂, ap, ◌∙◌, arith}
 use Rattle.isis_base.specs.Identifiers.{lsp_number}
-use Rattle.isis_model.specs.Numbers.{u48_of}
+use Rattle.model_router.specs.Numbers.{u48_of}
 use Rattle.router_levels.proofs.asked.is_of.Goals as goal
 
 -- a system's number is that of its LSP ID of zeros, without the last two octets

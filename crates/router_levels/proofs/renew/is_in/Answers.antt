@@ -2,7 +2,7 @@ use Rattle.std.proofs.Common.{rules, ◌≡◌, ℕ, List, Result, Ok, Err, is_o
 use Rattle.std.proofs.lemmas.List.Sorted.{answers_always}
 use Rattle.isis_base.specs.declared.identifiers.LspId.{LspId}
 use Rattle.isis_base.specs.Identifiers.{lsp_number}
-use Rattle.isis_model.specs.LetGos.{contains}
+use Rattle.model_router.specs.LetGos.{contains}
 use Rattle.flag_sync.specs.Walks.{numbers_of}
 use Rattle.purge_ageing.specs.Ids.{IsPlace, IsGap}
 use Rattle.purge_ageing.proofs.SearchLemmas.{searched}

@@ -4,8 +4,8 @@ use Rattle.router_routes.specs.Kept.{AreBeside}
 use Rattle.router_routes.proofs.BesideLemmas.{beside-one, beside-two}
 use Rattle.isis_base.specs.declared.level.Level.{Level}
 use Rattle.isis_base.specs.declared.level.Level.TheVariants as level
-use Rattle.isis_datagram.specs.Reading.{runs_of}
-use Rattle.isis_model.specs.Both.{at}
+use Rattle.model_datagram.specs.Reading.{runs_of}
+use Rattle.model_router.specs.Both.{at}
 use Rattle.lsp_view.specs.Views.{own_node}
 use Rattle.router_routes.specs.declared.view.Moved.{Moved}
 use Rattle.router_routes.specs.Told.{told_in}

@@ -1,7 +1,7 @@
 use Rattle.std.proofs.Common.{◌++◌, ◌+◌, List, [], ◌∷◌, length, take, ap, ◌∙◌, arith}
 use Rattle.std.proofs.lemmas.List.{length-append}
 use Rattle.isis_base.specs.declared.entry.LspEntry.{LspEntry}
-use Rattle.isis_model.specs.SnpLists.{last_id}
+use Rattle.model_router.specs.SnpLists.{last_id}
 use Rattle.flag_sync.specs.Heard.{entries_of}
 use Rattle.snp_exchange.proofs.WalkLemmas.{take-more, more-behind, last-said}
 use Rattle.snp_exchange.proofs.pieces.pass_piece.Goals as goal

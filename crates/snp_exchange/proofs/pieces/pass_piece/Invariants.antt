@@ -1,6 +1,6 @@
 use Rattle.std.proofs.Common.{◌≡◌, ◌++◌, ◌-◌, ◌<◌, ◌≤◌, length, take}
 use Rattle.isis_base.specs.Identifiers.{lsp_number}
-use Rattle.isis_model.specs.SnpLists.{last_id}
+use Rattle.model_router.specs.SnpLists.{last_id}
 use Rattle.flag_sync.specs.Heard.{entries_of}
 use Rattle.snp_exchange.proofs.pieces.pass_piece.Given as goal
 

@@ -1,7 +1,7 @@
 use Rattle.std.proofs.Common.{◌≡◌, ◌∙◌, ◌++◌, [], ◌∷◌, List, Vec, ap, arith}
 use Rattle.std.specs.declared.alloc.Global.{Global}
 use Rattle.isis_base.specs.declared.entry.LspEntry.{LspEntry}
-use Rattle.isis_model.specs.SnpTable.{SnpEntry}
+use Rattle.model_router.specs.SnpTable.{SnpEntry}
 use Rattle.flag_sync.specs.Heard.{entries_of}
 use Rattle.snp_exchange.specs.Pieces.{lists_of, listed}
 use Rattle.snp_exchange.proofs.PieceLemmas.{list-more, list-full}

@@ -1,6 +1,6 @@
 use Rattle.std.proofs.Common.{◌≡◌, ℕ, ◌-◌, ◌∷◌, [], ◌++◌, List, length, sym, ap, ◌∙◌, subst, arith}
 use Rattle.std.proofs.lemmas.List.{length-map}
-use Rattle.isis_model.specs.Places.{with_nth}
+use Rattle.model_router.specs.Places.{with_nth}
 use Rattle.weave_replay.specs.Entries.{entry_of, entries_of}
 use Rattle.weave.specs.Counts.{AreAhead}
 use Rattle.weave.proofs.CountLemmas.{not-made, are-made, ahead-more}

@@ -1,5 +1,5 @@
 use Rattle.std.proofs.Common.{◌≡◌, ℕ, ◌-◌, true, get_or, sym, subst}
-use Rattle.isis_model.specs.Places.{nth}
+use Rattle.model_router.specs.Places.{nth}
 use Rattle.journal_text.specs.declared.entry.WovenEvent.{WovenEvent}
 use Rattle.weave_model.specs.Faults.{fits}
 use Rattle.weave_model.specs.Weavings.{Pulls, IsDeed}

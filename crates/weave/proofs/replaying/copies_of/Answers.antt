@@ -1,5 +1,5 @@
 use Rattle.std.proofs.Common.{◌∷◌, [], ◌++◌, List, take, sym, ap, ◌∙◌}
-use Rattle.isis_model.specs.Routers.{Router}
+use Rattle.model_router.specs.Routers.{Router}
 use Rattle.weave_replay.proofs.PlaceLemmas.{take-more}
 use Rattle.weave.proofs.replaying.copies_of.Goals as goal
 

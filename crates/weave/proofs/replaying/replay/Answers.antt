@@ -1,5 +1,5 @@
 use Rattle.std.proofs.Common.{List, ap, sym, ◌∙◌, subst}
-use Rattle.isis_model.specs.Routers.{Router}
+use Rattle.model_router.specs.Routers.{Router}
 use Rattle.network_lab.specs.LabNets.{Seen}
 use Rattle.weave_replay.specs.Replays.{IsTold}
 use Rattle.weave.proofs.replaying.replay.Goals as goal

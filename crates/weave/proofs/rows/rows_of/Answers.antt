@@ -1,8 +1,8 @@
 use Rattle.std.proofs.Common.{◌≡◌, ℕ, ◌+◌, ◌∷◌, [], ◌++◌, List, Vec, Global, map, take, length, sym, ap, ◌∙◌, subst, arith}
 use Rattle.std.proofs.lemmas.List.{map-append}
-use Rattle.isis_model.specs.Places.{nth}
-use Rattle.isis_model.specs.Routers.{Router}
-use Rattle.network_model.specs.RunLines.{circuit_count}
+use Rattle.model_router.specs.Places.{nth}
+use Rattle.model_router.specs.Routers.{Router}
+use Rattle.model_network.specs.RunLines.{circuit_count}
 use Rattle.weave_replay.proofs.PlaceLemmas.{There, there, take-more}
 use Rattle.weave_coding.specs.Coded.{ArePorts}
 use Rattle.weave_coding.proofs.RowLemmas.{length-part}

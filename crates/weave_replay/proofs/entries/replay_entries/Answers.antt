@@ -1,5 +1,5 @@
 use Rattle.std.proofs.Common.{List, map, take, refl, sym, ap, ◌∙◌, subst, arith}
-use Rattle.isis_model.specs.Routers.{Router}
+use Rattle.model_router.specs.Routers.{Router}
 use Rattle.router_core.specs.Givens.{given}
 use Rattle.weave_model.specs.Entries.{Entry, next, replay}
 use Rattle.weave_model.specs.Faults.{AreGood, IsGood, IsFaulty, OfEvent, OfReply}

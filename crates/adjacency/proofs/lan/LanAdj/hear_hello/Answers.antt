@@ -1,9 +1,9 @@
 use Rattle.std.proofs.Common.{Bool, Option, Some, None, if◌then◌else◌, ◌∙◌, sym, ap}
-use Rattle.isis_model.specs.declared.drop_name.DropName.{DropName}
-use Rattle.isis_model.specs.declared.drop_name.DropName.TheVariants as name
-use Rattle.isis_model.specs.Drops.{or_else}
-use Rattle.isis_model.specs.HelloTests.{full_drop}
-use Rattle.isis_model.specs.Numbers.{system_number}
+use Rattle.model_router.specs.declared.drop_name.DropName.{DropName}
+use Rattle.model_router.specs.declared.drop_name.DropName.TheVariants as name
+use Rattle.model_router.specs.Drops.{or_else}
+use Rattle.model_router.specs.HelloTests.{full_drop}
+use Rattle.model_router.specs.Numbers.{system_number}
 use Rattle.adjacency.proofs.LanLemmas.{heard-rises, full-shown, has-room}
 use Rattle.adjacency.proofs.lan.LanAdj.hear_hello.Goals as goal
 

@@ -1,6 +1,6 @@
 use Rattle.std.proofs.Common.{◌≡◌, ◌≤◌, List, [], length, None, sym, refl, ap, ◌∙◌, subst, arith}
 use Rattle.std.specs.Option.{option_map}
-use Rattle.isis_model.specs.Routers.{Router}
+use Rattle.model_router.specs.Routers.{Router}
 use Rattle.router_desk.specs.Desks.{desk_of}
 use Rattle.circuit_threads.specs.declared.behind.Start.{Start}
 use Rattle.circuit_threads.specs.declared.entry.JournalEntry.{JournalEntry}

@@ -1,9 +1,9 @@
 use Rattle.std.proofs.Common.{◌≡◌, ◌+◌, ◌≤◌, List, length, Some, None, IfOk, sym, ap, ◌∙◌, subst, arith}
 use Rattle.std.specs.Option.{option_map}
 use Rattle.std.proofs.Math.Logic.{∥∥₁_map}
-use Rattle.isis_model.specs.Routers.{Router}
-use Rattle.isis_model.specs.AdjacencyLaws.{place_of}
-use Rattle.isis_model.specs.Steps.{step}
+use Rattle.model_router.specs.Routers.{Router}
+use Rattle.model_router.specs.AdjacencyLaws.{place_of}
+use Rattle.model_router.specs.Steps.{step}
 use Rattle.isis_edge.specs.Faults.{Rose}
 use Rattle.router_desk.specs.Desks.{desk_of}
 use Rattle.router_core.specs.declared.event.NodeEvent.{NodeEvent}

@@ -1,8 +1,8 @@
 use Rattle.std.proofs.Common.{◌≡◌, List, sym, subst, ap, ◌∙◌, arith}
 use Rattle.std.specs.Option.{option_map}
 use Rattle.isis_base.specs.Identifiers.{lsp_number}
-use Rattle.isis_model.specs.Books.{Book}
-use Rattle.isis_model.specs.Sorted as sorted
+use Rattle.model_router.specs.Books.{Book}
+use Rattle.model_router.specs.Sorted as sorted
 use Rattle.lsp_store.specs.Maps.{RisesFrom}
 use Rattle.lsp_store.specs.Databases.{Database}
 use Rattle.flag_sync.specs.Entries.{AllHaveHeaders}

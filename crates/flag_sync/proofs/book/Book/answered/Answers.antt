@@ -1,8 +1,8 @@
 use Rattle.std.proofs.Common.{ℕ, ap, ◌∙◌}
-use Rattle.isis_model.specs.Maps.{each}
-use Rattle.isis_model.specs.Cells.{Cell, ssn_off}
-use Rattle.isis_model.specs.Books.{Book}
-use Rattle.isis_model.specs.Pulls.{answered}
+use Rattle.model_router.specs.Maps.{each}
+use Rattle.model_router.specs.Cells.{Cell, ssn_off}
+use Rattle.model_router.specs.Books.{Book}
+use Rattle.model_router.specs.Pulls.{answered}
 use Rattle.flag_sync.specs.BookStates.{book_of}
 use Rattle.flag_sync.proofs.book.Book.answered.Goals as goal
 

@@ -1,9 +1,9 @@
 use Rattle.std.proofs.Common.{◌≡◌, Some, subst, ap, ◌∙◌, arith}
 use Rattle.std.specs.Option.{option_map}
 use Rattle.isis_base.specs.Identifiers.{lsp_number}
-use Rattle.isis_model.specs.Cells.{Cell, ssn_on, empty_cell}
-use Rattle.isis_model.specs.Books.{cell_at, is_full, set_cell}
-use Rattle.isis_model.specs.SnpTable.{asked}
+use Rattle.model_router.specs.Cells.{Cell, ssn_on, empty_cell}
+use Rattle.model_router.specs.Books.{cell_at, is_full, set_cell}
+use Rattle.model_router.specs.SnpTable.{asked}
 use Rattle.lsp_store.specs.Maps.{RisesFrom}
 use Rattle.flag_sync.specs.BookStates.{BookState, book_of}
 use Rattle.flag_sync.proofs.BookLemmas.{asked-found, asked-full, asked-new}

@@ -1,7 +1,7 @@
 use Rattle.std.proofs.Common.{[], sym, ◌≡◌, ◌-◌, ℕ, List, subst, ap₂, ◌∙◌}
 use Rattle.isis_base.specs.declared.identifiers.LspId.{LspId}
-use Rattle.isis_model.specs.Cells.{Cell}
-use Rattle.isis_model.specs.Pulls.{srm_due}
+use Rattle.model_router.specs.Cells.{Cell}
+use Rattle.model_router.specs.Pulls.{srm_due}
 use Rattle.flag_sync.specs.declared.flag_row.FlagRow.{FlagRow}
 use Rattle.flag_sync.specs.Walks.{due_of, numbers_of, ids_where}
 use Rattle.flag_sync.specs.BookStates.{BookState, book_of}

@@ -1,7 +1,7 @@
 use Rattle.std.proofs.Common.{◌≡◌, ℕ, List, sym, subst, ap, ◌∙◌, arith}
 use Rattle.isis_base.specs.declared.identifiers.LspId.{LspId}
-use Rattle.isis_model.specs.Maps.{each}
-use Rattle.isis_model.specs.Cells.{Cell}
+use Rattle.model_router.specs.Maps.{each}
+use Rattle.model_router.specs.Cells.{Cell}
 use Rattle.flag_sync.specs.declared.flag_row.FlagRow.{FlagRow}
 use Rattle.flag_sync.specs.FlagRows.{done}
 use Rattle.flag_sync.specs.Deeds.{deed_cell}

@@ -1,7 +1,7 @@
 use Rattle.std.proofs.Common.{◌-◌, ℕ, sym, ap, ◌∙◌}
-use Rattle.isis_model.specs.declared.snp_case.SnpCase.{SnpCase}
-use Rattle.isis_model.specs.Books.{cell_at, is_full, set_cell}
-use Rattle.isis_model.specs.SnpTable.{snp_row}
+use Rattle.model_router.specs.declared.snp_case.SnpCase.{SnpCase}
+use Rattle.model_router.specs.Books.{cell_at, is_full, set_cell}
+use Rattle.model_router.specs.SnpTable.{snp_row}
 use Rattle.flag_sync.specs.Heard.{entry_of, entry_answer_of}
 use Rattle.flag_sync.specs.BookStates.{book_of}
 use Rattle.flag_sync.proofs.RowLemmas.{snp-known, snp-confused-held, entry-met}

@@ -1,7 +1,7 @@
 use Rattle.std.proofs.Common.{◌≡◌, ◌-◌, true, ℕ, sym, subst, ap, ◌∙◌}
-use Rattle.isis_model.specs.declared.lsp_case.LspCase.{LspCase}
-use Rattle.isis_model.specs.Books.{cell_at, set_cell}
-use Rattle.isis_model.specs.LspTable.{lsp_row}
+use Rattle.model_router.specs.declared.lsp_case.LspCase.{LspCase}
+use Rattle.model_router.specs.Books.{cell_at, set_cell}
+use Rattle.model_router.specs.LspTable.{lsp_row}
 use Rattle.flag_sync.specs.Heard.{heard_of, answer_of, makes_entry}
 use Rattle.flag_sync.specs.BookStates.{book_of}
 use Rattle.flag_sync.proofs.RowLemmas.{lsp-known, confused-held, rank-some, hear-met}

@@ -1,5 +1,5 @@
 use Rattle.std.proofs.Common.{◌≡◌, subst, sym, ap, eqb, ℕ, ◌∙◌}
-use Rattle.isis_model.specs.Books.{is_full}
+use Rattle.model_router.specs.Books.{is_full}
 use Rattle.flag_sync.specs.BookStates.{BookState, book_of}
 use Rattle.flag_sync.proofs.BookLemmas.{full-is}
 use Rattle.flag_sync.proofs.book.Book.is_full.Goals as goal

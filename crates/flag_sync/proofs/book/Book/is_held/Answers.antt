@@ -1,7 +1,7 @@
 use Rattle.std.proofs.Common.{◌≡◌, is_some, Option, Some, None, subst, sym, ap, ◌∙◌, Bor}
 use Rattle.std.specs.Option.{MatchOption}
 use Rattle.isis_base.specs.Identifiers.{lsp_number}
-use Rattle.isis_model.specs.Books.{cell_at}
+use Rattle.model_router.specs.Books.{cell_at}
 use Rattle.lsp_store.specs.declared.entry.Entry.{Entry}
 use Rattle.lsp_store.specs.Maps.{find}
 use Rattle.flag_sync.specs.BookStates.{BookState, book_of}

@@ -1,7 +1,7 @@
 use Rattle.std.proofs.Common.{◌≡◌, Some, List, sym, subst, ap, ap₂, ◌∙◌, zero-le}
 use Rattle.isis_base.specs.declared.identifiers.LspId.{LspId}
 use Rattle.isis_base.specs.Identifiers.{lsp_number}
-use Rattle.isis_model.specs.Books.{set_cell}
+use Rattle.model_router.specs.Books.{set_cell}
 use Rattle.lsp_store.specs.Maps.{RisesFrom, put}
 use Rattle.lsp_store.specs.Databases.{Database}
 use Rattle.lsp_store.proofs.MapLemmas.{put-rises}

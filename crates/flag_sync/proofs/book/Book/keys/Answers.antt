@@ -1,7 +1,7 @@
 use Rattle.std.proofs.Common.{◌≡◌, List, sym, subst, ap, ◌∙◌}
 use Rattle.isis_base.specs.declared.identifiers.LspId.{LspId}
-use Rattle.isis_model.specs.Good.{IsGoodBook}
-use Rattle.isis_model.specs.SnpLists.{held_keys}
+use Rattle.model_router.specs.Good.{IsGoodBook}
+use Rattle.model_router.specs.SnpLists.{held_keys}
 use Rattle.lsp_store.specs.declared.entry.Entry.{Entry}
 use Rattle.flag_sync.specs.Heard.{entries_of}
 use Rattle.flag_sync.specs.Said.{said_keys, SaidRise}

@@ -1,6 +1,6 @@
 use Rattle.std.proofs.Common.{None, refl, subst}
 use Rattle.isis_base.specs.Identifiers.{lsp_number}
-use Rattle.isis_model.specs.Books.{cell_at}
+use Rattle.model_router.specs.Books.{cell_at}
 use Rattle.flag_sync.specs.declared.known.Known.{Known}
 use Rattle.flag_sync.specs.Known.{Knows}
 use Rattle.flag_sync.specs.BookStates.{BookState, book_of}

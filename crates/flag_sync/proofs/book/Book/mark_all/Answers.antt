@@ -1,8 +1,8 @@
 use Rattle.std.proofs.Common.{◌≡◌, ◌-◌, ℕ, List, sym, subst, ap, ◌∙◌, arith}
 use Rattle.isis_base.specs.declared.identifiers.LspId.{LspId}
-use Rattle.isis_model.specs.Cells.{Cell}
-use Rattle.isis_model.specs.Books.{Book}
-use Rattle.isis_model.specs.Openings.{mark_all}
+use Rattle.model_router.specs.Cells.{Cell}
+use Rattle.model_router.specs.Books.{Book}
+use Rattle.model_router.specs.Openings.{mark_all}
 use Rattle.flag_sync.specs.declared.flag_row.FlagRow.{FlagRow}
 use Rattle.flag_sync.specs.Marks.{marks, has_key}
 use Rattle.flag_sync.specs.BookStates.{BookState, book_of, AreBeside}

@@ -1,5 +1,5 @@
 use Rattle.std.proofs.Common.{◌≡◌, ◌-◌, [], false, subst}
-use Rattle.isis_model.specs.Pulls.{due_lsps}
+use Rattle.model_router.specs.Pulls.{due_lsps}
 use Rattle.flag_sync.specs.BookStates.{BookState, book_of}
 use Rattle.flag_sync.specs.Among.{some_srm}
 use Rattle.flag_sync.proofs.AmongLemmas.{none-sent}

@@ -1,4 +1,4 @@
-use Rattle.isis_model.specs.Books.{is_full}
+use Rattle.model_router.specs.Books.{is_full}
 use Rattle.flag_sync.specs.BookStates.{book_of}
 use Rattle.flag_sync.proofs.book.Book.meet_entry.Goals as goal
 

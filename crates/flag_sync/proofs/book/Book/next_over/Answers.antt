@@ -1,7 +1,7 @@
 use Rattle.std.proofs.Common.{◌≡◌, subst, ap, ◌∙◌}
 use Rattle.std.specs.Option.{option_map}
 use Rattle.isis_base.specs.Identifiers.{lsp_number}
-use Rattle.isis_model.specs.Sorted.{RisesFrom}
+use Rattle.model_router.specs.Sorted.{RisesFrom}
 use Rattle.lsp_store.specs.Maps.{from}
 use Rattle.flag_sync.specs.Ages.{over_from, first_of, first_over}
 use Rattle.flag_sync.specs.BookStates.{BookState, book_of}

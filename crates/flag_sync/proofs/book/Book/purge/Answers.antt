@@ -2,8 +2,8 @@ use Rattle.std.proofs.Common.{◌≡◌, ◌<◌, List, sym, subst, ap, ap₂, �
 use Rattle.std.specs.Option.{option_map}
 use Rattle.isis_base.specs.declared.identifiers.LspId.{LspId}
 use Rattle.isis_base.specs.Identifiers.{lsp_number}
-use Rattle.isis_model.specs.Cells.{Cell, flagged, purged}
-use Rattle.isis_model.specs.Books.{cell_at, rank_at, set_cell}
+use Rattle.model_router.specs.Cells.{Cell, flagged, purged}
+use Rattle.model_router.specs.Books.{cell_at, rank_at, set_cell}
 use Rattle.lsp_store.specs.Maps.{RisesFrom, change_at}
 use Rattle.lsp_store.specs.Databases.{Database}
 use Rattle.lsp_store.proofs.ChangeLemmas.{change-rises}

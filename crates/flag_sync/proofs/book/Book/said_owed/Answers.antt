@@ -1,7 +1,7 @@
 use Rattle.std.proofs.Common.{[], sym, ◌≡◌, ◌-◌, ℕ, List, subst, ap, ap₂, ◌∙◌}
 use Rattle.isis_base.specs.declared.identifiers.LspId.{LspId}
-use Rattle.isis_model.specs.Good.{IsGoodBook}
-use Rattle.isis_model.specs.SnpLists.{owed}
+use Rattle.model_router.specs.Good.{IsGoodBook}
+use Rattle.model_router.specs.SnpLists.{owed}
 use Rattle.lsp_store.specs.declared.entry.Entry.{Entry}
 use Rattle.flag_sync.specs.declared.flag_row.FlagRow.{FlagRow}
 use Rattle.flag_sync.specs.Heard.{entries_of}

@@ -1,8 +1,8 @@
 use Rattle.std.proofs.Common.{◌≡◌, List, refl, sym, subst, ap, ◌∙◌, arith}
 use Rattle.isis_base.specs.declared.identifiers.LspId.{LspId}
-use Rattle.isis_model.specs.Waits.{fallen}
-use Rattle.isis_model.specs.Cells.{Cell}
-use Rattle.isis_model.specs.Ageing.{wait_less}
+use Rattle.model_router.specs.Waits.{fallen}
+use Rattle.model_router.specs.Cells.{Cell}
+use Rattle.model_router.specs.Ageing.{wait_less}
 use Rattle.flag_sync.specs.declared.flag_row.FlagRow.{FlagRow}
 use Rattle.flag_sync.specs.FlagRows.{row_less}
 use Rattle.flag_sync.specs.BookStates.{BookState, book_of, AreBeside}

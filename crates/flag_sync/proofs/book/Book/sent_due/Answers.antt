@@ -1,8 +1,8 @@
 use Rattle.std.proofs.Common.{◌≡◌, ◌-◌, Bool, true, false, if◌then◌else◌, ℕ, List, refl, sym, subst, ap, ◌∙◌, arith}
 use Rattle.isis_base.specs.declared.identifiers.LspId.{LspId}
-use Rattle.isis_model.specs.Maps.{each}
-use Rattle.isis_model.specs.Cells.{Cell}
-use Rattle.isis_model.specs.Pulls.{sent, sent_cell, srm_due}
+use Rattle.model_router.specs.Maps.{each}
+use Rattle.model_router.specs.Cells.{Cell}
+use Rattle.model_router.specs.Pulls.{sent, sent_cell, srm_due}
 use Rattle.lsp_store.specs.declared.entry.Entry.{Entry}
 use Rattle.flag_sync.specs.declared.deed.Deed.{Deed}
 use Rattle.flag_sync.specs.declared.flag_row.FlagRow.{FlagRow}

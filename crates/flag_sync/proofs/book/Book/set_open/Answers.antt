@@ -1,7 +1,7 @@
 use Rattle.std.proofs.Common.{◌-◌, ℕ, ap, ◌∙◌}
-use Rattle.isis_model.specs.Sets.{without}
-use Rattle.isis_model.specs.Books.{Book}
-use Rattle.isis_model.specs.Openings.{close}
+use Rattle.model_router.specs.Sets.{without}
+use Rattle.model_router.specs.Books.{Book}
+use Rattle.model_router.specs.Openings.{close}
 use Rattle.flag_sync.specs.BookStates.{BookState, book_of}
 use Rattle.flag_sync.proofs.book.Book.set_open.Goals as goal
 

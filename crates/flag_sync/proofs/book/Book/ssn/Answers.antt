@@ -1,7 +1,7 @@
 use Rattle.std.proofs.Common.{◌≡◌, ◌-◌, false, sym, ap, subst, ◌∙◌}
 use Rattle.isis_base.specs.Identifiers.{lsp_number}
-use Rattle.isis_model.specs.Sets.{has}
-use Rattle.isis_model.specs.Books.{ssn_at}
+use Rattle.model_router.specs.Sets.{has}
+use Rattle.model_router.specs.Books.{ssn_at}
 use Rattle.flag_sync.specs.BookStates.{BookState, book_of}
 use Rattle.flag_sync.proofs.BookLemmas.{ssn-found, ssn-none}
 use Rattle.flag_sync.proofs.book.Book.ssn.Goals as goal

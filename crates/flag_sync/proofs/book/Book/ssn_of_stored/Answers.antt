@@ -1,7 +1,7 @@
 use Rattle.std.proofs.Common.{◌≡◌, sym, subst, ◌∙◌}
 use Rattle.isis_base.specs.Identifiers.{lsp_number}
-use Rattle.isis_model.specs.Books.{cell_at}
-use Rattle.isis_model.specs.LspTable.{ssn_stored}
+use Rattle.model_router.specs.Books.{cell_at}
+use Rattle.model_router.specs.LspTable.{ssn_stored}
 use Rattle.flag_sync.specs.BookStates.{BookState, book_of}
 use Rattle.flag_sync.proofs.BookLemmas.{stored-found, stored-none}
 use Rattle.flag_sync.proofs.book.Book.ssn_of_stored.Goals as goal

@@ -1,6 +1,6 @@
 use Rattle.std.proofs.Common.{◌≡◌, subst}
 use Rattle.isis_base.specs.Identifiers.{lsp_number}
-use Rattle.isis_model.specs.Books.{cell_at, set_cell}
+use Rattle.model_router.specs.Books.{cell_at, set_cell}
 use Rattle.flag_sync.specs.BookStates.{BookState, book_of}
 use Rattle.flag_sync.proofs.BookLemmas.{book-stays}
 use Rattle.flag_sync.proofs.book.Book.stay.Goals as goal

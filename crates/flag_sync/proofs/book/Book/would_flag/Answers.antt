@@ -1,7 +1,7 @@
 use Rattle.std.proofs.Common.{ap, ◌∙◌}
-use Rattle.isis_model.specs.declared.whose.Whose.TheVariants as whose
-use Rattle.isis_model.specs.Books.{cell_at}
-use Rattle.isis_model.specs.SnpTable.{sets_flag}
+use Rattle.model_router.specs.declared.whose.Whose.TheVariants as whose
+use Rattle.model_router.specs.Books.{cell_at}
+use Rattle.model_router.specs.SnpTable.{sets_flag}
 use Rattle.flag_sync.specs.Heard.{entry_of}
 use Rattle.flag_sync.specs.BookStates.{book_of}
 use Rattle.flag_sync.proofs.RowLemmas.{snp-known, flags-same}

@@ -1,6 +1,6 @@
 use Rattle.std.proofs.Common.{◌≡◌, subst, ◌∙◌}
 use Rattle.isis_base.specs.Identifiers.{lsp_number}
-use Rattle.isis_model.specs.SnpTable.{is_missed}
+use Rattle.model_router.specs.SnpTable.{is_missed}
 use Rattle.flag_sync.specs.Heard.{entries_of}
 use Rattle.flag_sync.specs.Marks.{any_cell, is_unlisted}
 use Rattle.flag_sync.specs.BookStates.{BookState, book_of}

@@ -1,5 +1,5 @@
 use Rattle.std.proofs.Common.{◌<◌, List, ℕ, length, sym, subst, ap, arith}
-use Rattle.key_net.specs.KeysNet.{ordered}
+use Rattle.lab_keys.specs.KeysNet.{ordered}
 use Rattle.lab_script.specs.KeysJudged.{KeysScript}
 use Rattle.lab_script.specs.KeysSound.{IsSound}
 use Rattle.lab_script.proofs.SoundLemmas.{IsSound-link, ordered-below, ordered-twice}

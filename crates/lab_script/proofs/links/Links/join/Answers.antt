@@ -2,7 +2,7 @@ use Rattle.std.proofs.Common.{◌≡◌, ◌∙◌, List, ℕ, Option, Some, Non
 use Rattle.std.specs.Prelude.{is_some}
 use Rattle.std.specs.Option.{option_copied}
 use Rattle.std.specs.Borrow.{Bor}
-use Rattle.key_net.specs.KeysNet.{ordered}
+use Rattle.lab_keys.specs.KeysNet.{ordered}
 use Rattle.lab_script.specs.Links.{has_link}
 use Rattle.lab_script.proofs.links.Links.join.Goals as goal
 

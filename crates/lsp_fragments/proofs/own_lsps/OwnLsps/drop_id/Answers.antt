@@ -1,6 +1,6 @@
 use Rattle.std.proofs.Common.{◌∙◌, ap}
 use Rattle.isis_base.specs.Identifiers.{lsp_number}
-use Rattle.isis_model.specs.Maps.{erase}
+use Rattle.model_router.specs.Maps.{erase}
 use Rattle.lsp_fragments.specs.Kept.{OwnState, by_id, issued_pairs}
 use Rattle.lsp_fragments.proofs.ShownLemmas.{erase-shown}
 use Rattle.lsp_fragments.proofs.own_lsps.OwnLsps.drop_id.Goals as goal

@@ -2,7 +2,7 @@ use Rattle.std.proofs.Common.{◌∙◌, ap, subst, sym}
 use Rattle.std.specs.Option.{IsSome}
 use Rattle.std.proofs.lemmas.Result.{on_ok_weaker}
 use Rattle.isis_base.specs.Identifiers.{lsp_number}
-use Rattle.isis_model.specs.Maps.{find, put}
+use Rattle.model_router.specs.Maps.{find, put}
 use Rattle.lsp_fragments.specs.Kept.{OwnState, by_id, issued_pairs}
 use Rattle.lsp_fragments.proofs.ShownLemmas.{put-shown, find-some}
 use Rattle.lsp_fragments.proofs.own_lsps.OwnLsps.issued.Goals as goal

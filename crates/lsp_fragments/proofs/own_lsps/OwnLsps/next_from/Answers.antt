@@ -1,5 +1,5 @@
 use Rattle.std.proofs.Common.{subst}
-use Rattle.isis_model.specs.Sorted.{RisesFrom}
+use Rattle.model_router.specs.Sorted.{RisesFrom}
 use Rattle.lsp_fragments.specs.Kept.{OwnState, by_id}
 use Rattle.lsp_fragments.proofs.ShownLemmas.{issued-rises}
 use Rattle.lsp_fragments.proofs.own_lsps.OwnLsps.next_from.Goals as goal

@@ -1,7 +1,7 @@
 use Rattle.std.proofs.Common.{◌∙◌, ap, ℕ}
-use Rattle.isis_model.specs.Maps.{each}
-use Rattle.isis_model.specs.Routers.{Issued}
-use Rattle.isis_model.specs.Seconds.{older}
+use Rattle.model_router.specs.Maps.{each}
+use Rattle.model_router.specs.Routers.{Issued}
+use Rattle.model_router.specs.Seconds.{older}
 use Rattle.lsp_fragments.specs.Kept.{OwnState, all_issued}
 use Rattle.lsp_fragments.proofs.ShownLemmas.{each-shown}
 use Rattle.lsp_fragments.proofs.own_lsps.OwnLsps.second.Goals as goal

@@ -1,6 +1,6 @@
 use Rattle.std.proofs.Common.{length, ◌<◌, List}
-use Rattle.isis_model.specs.Places.{nth}
-use Rattle.network_model.specs.declared.end.End.{End}
+use Rattle.model_router.specs.Places.{nth}
+use Rattle.model_network.specs.declared.end.End.{End}
 use Rattle.network_lab.proofs.PlaceLemmas.{of-place}
 use Rattle.network_lab.proofs.LanLemmas.{end-less}
 use Rattle.network_lab.proofs.network.Network.add_member.Goals as goal

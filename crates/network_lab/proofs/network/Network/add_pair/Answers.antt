@@ -1,5 +1,5 @@
 use Rattle.std.proofs.Common.{None, Some, sym, append-nil}
-use Rattle.isis_model.specs.Places.{nth}
+use Rattle.model_router.specs.Places.{nth}
 use Rattle.network_lab.proofs.LanLemmas.{pair-more}
 use Rattle.network_lab.proofs.network.Network.add_pair.Goals as goal
 

@@ -1,6 +1,6 @@
 use Rattle.std.proofs.Common.{◌≡◌, ◌++◌, IfSome, drop}
 use Rattle.std.specs.List.{flat_map}
-use Rattle.isis_model.specs.Places.{nth}
+use Rattle.model_router.specs.Places.{nth}
 use Rattle.network_lab.specs.LinkStates.{swept_pair}
 use Rattle.network_lab.proofs.network.Network.add_swept.Given as goal
 

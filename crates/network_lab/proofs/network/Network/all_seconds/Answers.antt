@@ -1,6 +1,6 @@
 use Rattle.std.proofs.Common.{◌-◌, ◌+◌, ℕ, ap, refl}
 use Rattle.router_core.specs.Givens.{given}
-use Rattle.network_model.specs.RunLines as line
+use Rattle.model_network.specs.RunLines as line
 use Rattle.network_lab.proofs.RunLemmas.{starts, goes, ends, stops, line-grows}
 use Rattle.network_lab.proofs.LoopLemmas.{zero-less, left-grows, second-step, second-end}
 use Rattle.network_lab.proofs.network.Network.all_seconds.Goals as goal

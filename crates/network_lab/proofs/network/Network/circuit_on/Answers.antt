@@ -1,8 +1,8 @@
 use Rattle.std.proofs.Common.{◌≡◌, ◌+◌, ◌-◌, ◌<◌, List, length, Some, ap, sym, ◌∙◌, arith}
-use Rattle.isis_model.specs.Places.{nth}
-use Rattle.isis_model.specs.Routers.{Router}
-use Rattle.network_model.specs.declared.end.End.{End}
-use Rattle.network_model.specs.Networks.{place_in}
+use Rattle.model_router.specs.Places.{nth}
+use Rattle.model_router.specs.Routers.{Router}
+use Rattle.model_network.specs.declared.end.End.{End}
+use Rattle.model_network.specs.Networks.{place_in}
 use Rattle.router_core.specs.Events.{IsThere}
 use Rattle.network_lab.specs.LabNets.{LabNet}
 use Rattle.network_lab.proofs.PlaceLemmas.{nth-get, to-place}

@@ -1,6 +1,6 @@
 use Rattle.std.proofs.Common.{length, ap, ◌∙◌, arith}
-use Rattle.isis_model.specs.Places.{nth}
-use Rattle.network_model.specs.RunLines.{circuit_count}
+use Rattle.model_router.specs.Places.{nth}
+use Rattle.model_network.specs.RunLines.{circuit_count}
 use Rattle.network_lab.specs.LabNets.{LabNet}
 use Rattle.network_lab.proofs.ReadLemmas.{circuits-is}
 use Rattle.network_lab.proofs.network.Network.circuits.Goals as goal

@@ -1,6 +1,6 @@
 use Rattle.std.proofs.Common.{◌-◌, ◌+◌, ℕ, ap, arith}
 use Rattle.router_core.specs.Givens.{given}
-use Rattle.network_model.specs.RunLines as line
+use Rattle.model_network.specs.RunLines as line
 use Rattle.network_lab.specs.LabRuns.{deliver_numbered}
 use Rattle.network_lab.proofs.RunLemmas.{starts, goes, ends, stops, behind-grows}
 use Rattle.network_lab.proofs.LoopLemmas.{left-grows, behind-step, behind-end, sent-count, fuel, fuel-start}

@@ -1,6 +1,6 @@
 use Rattle.std.proofs.Common.{◌-◌, ◌≤◌}
 use Rattle.router_core.specs.Givens.{given}
-use Rattle.network_model.specs.RunLines as line
+use Rattle.model_network.specs.RunLines as line
 use Rattle.network_lab.specs.LabRuns.{GoesOn}
 use Rattle.network_lab.proofs.network.Network.deliver_behind.Given as goal
 

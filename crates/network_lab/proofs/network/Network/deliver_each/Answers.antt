@@ -1,8 +1,8 @@
 use Rattle.std.proofs.Common.{◌≡◌, ◌+◌, List, IfSome, drop, refl, subst, arith}
-use Rattle.isis_model.specs.Places.{nth}
+use Rattle.model_router.specs.Places.{nth}
 use Rattle.router_core.specs.Givens.{given}
-use Rattle.network_model.specs.declared.end.End.{End}
-use Rattle.network_model.specs.RunLines as line
+use Rattle.model_network.specs.declared.end.End.{End}
+use Rattle.model_network.specs.RunLines as line
 use Rattle.network_lab.specs.LabRuns.{deliver_unless}
 use Rattle.network_lab.proofs.RunLemmas.{starts, goes, ends, stops, each-grows}
 use Rattle.network_lab.proofs.LoopLemmas.{left-grows, each-step, each-end}

@@ -1,6 +1,6 @@
 use Rattle.std.proofs.Common.{◌≤◌, ℕ, List, length, ap, sym, ◌∙◌, subst}
-use Rattle.network_model.specs.Networks.{numbered}
-use Rattle.network_model.specs.RunLines as line
+use Rattle.model_network.specs.Networks.{numbered}
+use Rattle.model_network.specs.RunLines as line
 use Rattle.network_lab.specs.declared.sent.SentDatagram.{SentDatagram}
 use Rattle.network_lab.specs.LabNets.{LabNet}
 use Rattle.network_lab.specs.LabRuns.{deliver_numbered}

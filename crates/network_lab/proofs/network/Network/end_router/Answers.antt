@@ -1,9 +1,9 @@
 use Rattle.std.proofs.Common.{◌≡◌, ◌<◌, Some, length, map, get_or, ap, sym, refl, subst, ◌∙◌, arith}
 use Rattle.std.proofs.lemmas.List.{length-map}
-use Rattle.isis_model.specs.Places.{nth}
-use Rattle.isis_model.specs.Routers.{Router}
-use Rattle.network_model.specs.declared.end.End.{End}
-use Rattle.network_model.specs.RunLines.{by_router, ends_of}
+use Rattle.model_router.specs.Places.{nth}
+use Rattle.model_router.specs.Routers.{Router}
+use Rattle.model_network.specs.declared.end.End.{End}
+use Rattle.model_network.specs.RunLines.{by_router, ends_of}
 use Rattle.network_lab.specs.LabNets.{LabNet}
 use Rattle.network_lab.proofs.PlaceLemmas.{to-place}
 use Rattle.network_lab.proofs.ReadLemmas.{ends-is, end-is, end-there}

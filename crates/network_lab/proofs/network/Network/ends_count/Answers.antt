@@ -1,7 +1,7 @@
 use Rattle.std.proofs.Common.{List, length, ap, ◌∙◌}
-use Rattle.isis_model.specs.Places.{nth}
-use Rattle.network_model.specs.declared.end.End.{End}
-use Rattle.network_model.specs.RunLines.{by_router, ends_of}
+use Rattle.model_router.specs.Places.{nth}
+use Rattle.model_network.specs.declared.end.End.{End}
+use Rattle.model_network.specs.RunLines.{by_router, ends_of}
 use Rattle.network_lab.specs.LabNets.{LabNet}
 use Rattle.network_lab.proofs.ReadLemmas.{count-is}
 use Rattle.network_lab.proofs.network.Network.ends_count.Goals as goal

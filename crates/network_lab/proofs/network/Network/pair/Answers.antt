@@ -1,5 +1,5 @@
 use Rattle.std.proofs.Common.{IfSome, Option, sym, subst}
-use Rattle.network_model.specs.declared.end.End.{End}
+use Rattle.model_network.specs.declared.end.End.{End}
 use Rattle.network_lab.specs.Claims.{IsEndIn}
 use Rattle.network_lab.proofs.StateLemmas.{pair-there}
 use Rattle.network_lab.proofs.network.Network.pair.Goals as goal

@@ -1,8 +1,8 @@
 use Rattle.std.proofs.Common.{length, List, ℕ, ap, sym, ◌∙◌, subst, arith}
 use Rattle.std.proofs.lemmas.List.{length-map}
-use Rattle.isis_model.specs.Places.{nth}
-use Rattle.isis_model.specs.Routers.{Router}
-use Rattle.network_model.specs.RunLines.{circuit_count}
+use Rattle.model_router.specs.Places.{nth}
+use Rattle.model_router.specs.Routers.{Router}
+use Rattle.model_network.specs.RunLines.{circuit_count}
 use Rattle.network_lab.specs.LabNets.{LabNet}
 use Rattle.network_lab.specs.Claims.{AreLinksOf}
 use Rattle.network_lab.proofs.PlaceLemmas.{nth-get}

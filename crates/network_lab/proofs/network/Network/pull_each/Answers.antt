@@ -1,6 +1,6 @@
 use Rattle.std.proofs.Common.{◌-◌, ◌+◌, ℕ, length, ap}
 use Rattle.router_core.specs.Givens.{given}
-use Rattle.network_model.specs.RunLines as line
+use Rattle.model_network.specs.RunLines as line
 use Rattle.network_lab.specs.LabRuns.{pull_unless}
 use Rattle.network_lab.proofs.RunLemmas.{starts, goes, ends, stops, all-pulls-grow}
 use Rattle.network_lab.proofs.LoopLemmas.{zero-less, left-grows, pull-step, pull-end}

@@ -1,6 +1,6 @@
 use Rattle.std.proofs.Common.{◌-◌, length}
 use Rattle.router_core.specs.Givens.{given}
-use Rattle.network_model.specs.RunLines as line
+use Rattle.model_network.specs.RunLines as line
 use Rattle.network_lab.specs.LabRuns.{GoesOn}
 use Rattle.network_lab.proofs.network.Network.pull_each.Given as goal
 

@@ -1,7 +1,7 @@
 use Rattle.std.proofs.Common.{◌-◌, ◌+◌, [], List, ap, sym, ◌∙◌}
 use Rattle.router_core.specs.Givens.{given}
-use Rattle.network_model.specs.declared.end.End.{End}
-use Rattle.network_model.specs.RunLines as line
+use Rattle.model_network.specs.declared.end.End.{End}
+use Rattle.model_network.specs.RunLines as line
 use Rattle.network_lab.specs.LabRuns.{pull_links_of}
 use Rattle.network_lab.proofs.RunLemmas.{starts, goes, ends, stops, pulls-grow}
 use Rattle.network_lab.proofs.LoopLemmas.{left-grows, links_in, links-start, links-step, links-end}

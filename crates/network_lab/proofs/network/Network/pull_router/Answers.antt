@@ -1,5 +1,5 @@
 use Rattle.std.proofs.Common.{sym, ◌∙◌}
-use Rattle.network_model.specs.RunLines as line
+use Rattle.model_network.specs.RunLines as line
 use Rattle.network_lab.specs.LabRuns.{pull_links_of}
 use Rattle.network_lab.proofs.LoopLemmas.{skips-one, takes-one}
 use Rattle.network_lab.proofs.network.Network.pull_router.Goals as goal

@@ -1,5 +1,5 @@
 use Rattle.std.proofs.Common.{◌≡◌, length, IfSome, List, sym, ap, ◌∙◌, subst}
-use Rattle.isis_model.specs.Places.{nth}
+use Rattle.model_router.specs.Places.{nth}
 use Rattle.router_desk.specs.declared.config.Config.{Config}
 use Rattle.network_lab.specs.LabNets.{LabNet}
 use Rattle.network_lab.specs.LabInside.{lab_of, IsNet}

@@ -1,8 +1,8 @@
 use Rattle.std.proofs.Common.{◌≡◌, ◌<◌, Option, length, ap, sym, subst, arith}
-use Rattle.isis_model.specs.Places.{nth, with_nth}
-use Rattle.isis_model.specs.Routers.{Router}
-use Rattle.network_model.specs.Networks.{restarted}
-use Rattle.network_model.specs.Runs.{boot_of}
+use Rattle.model_router.specs.Places.{nth, with_nth}
+use Rattle.model_router.specs.Routers.{Router}
+use Rattle.model_network.specs.Networks.{restarted}
+use Rattle.model_network.specs.Runs.{boot_of}
 use Rattle.network_lab.specs.LabNets.{LabNet}
 use Rattle.network_lab.proofs.PlaceLemmas.{nth-get, of-place}
 use Rattle.network_lab.proofs.TakeLemmas.{here, restart-off-ends, restart-stops, restart-ends, restart-is, stop-is, restart-goes, same-goes}

@@ -1,7 +1,7 @@
 use Rattle.std.proofs.Common.{sym, ◌∙◌}
 use Rattle.router_core.specs.Givens.{given}
-use Rattle.network_model.specs.Runs.{Tick, apply}
-use Rattle.network_model.specs.RunLines as line
+use Rattle.model_network.specs.Runs.{Tick, apply}
+use Rattle.model_network.specs.RunLines as line
 use Rattle.network_lab.proofs.LoopLemmas.{skips-one, takes-one}
 use Rattle.network_lab.proofs.network.Network.tick_one.Goals as goal
 

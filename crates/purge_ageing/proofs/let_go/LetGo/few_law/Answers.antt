@@ -1,6 +1,6 @@
 use Rattle.std.proofs.Common.{◌≤◌, Bool, true, false, List, length, IfSome, subst, arith}
 use Rattle.isis_base.specs.declared.identifiers.LspId.{LspId}
-use Rattle.isis_model.specs.LetGos.{LetGo}
+use Rattle.model_router.specs.LetGos.{LetGo}
 use Rattle.purge_ageing.specs.Ids.{gone_of}
 use Rattle.purge_ageing.proofs.IdLemmas.{length-numbers}
 use Rattle.purge_ageing.proofs.let_go.LetGo.few_law.Goals as goal

@@ -1,7 +1,7 @@
 use Rattle.std.proofs.Common.{Bool, ◌∙◌, ap}
-use Rattle.isis_model.specs.Both.{at}
-use Rattle.isis_model.specs.Pulls as pulls
-use Rattle.isis_model.specs.Routers.{CircuitLevel}
+use Rattle.model_router.specs.Both.{at}
+use Rattle.model_router.specs.Pulls as pulls
+use Rattle.model_router.specs.Routers.{CircuitLevel}
 use Rattle.router_circuits.proofs.circuit.Circuit.csnp_sent.Goals as goal
 
 pub returns : goal.returns

@@ -1,9 +1,9 @@
 use Rattle.std.proofs.Common.{◌≡◌, ℕ, true, List, map, Some, Option, ◌∙◌, ap, sym, arith}
 use Rattle.std.specs.Option.{option_map}
-use Rattle.isis_model.specs.Adjacencies.{Neighbour}
-use Rattle.isis_model.specs.Both.{at}
-use Rattle.isis_model.specs.Routers.{some_up}
-use Rattle.isis_model.specs.Elections as model
+use Rattle.model_router.specs.Adjacencies.{Neighbour}
+use Rattle.model_router.specs.Both.{at}
+use Rattle.model_router.specs.Routers.{some_up}
+use Rattle.model_router.specs.Elections as model
 use Rattle.adjacency.specs.Views.{neighbour_of}
 use Rattle.router_circuits.specs.Elections.{elect, system_and_lan}
 use Rattle.router_circuits.proofs.ElectLemmas.{designated-some}

@@ -1,7 +1,7 @@
 use Rattle.std.proofs.Common.{◌≡◌, ℕ, List, false, ◌∙◌, ap}
-use Rattle.isis_model.specs.Adjacencies as model
-use Rattle.isis_model.specs.Hellos.{minded}
-use Rattle.isis_model.specs.Routers.{Circuit}
+use Rattle.model_router.specs.Adjacencies as model
+use Rattle.model_router.specs.Hellos.{minded}
+use Rattle.model_router.specs.Routers.{Circuit}
 use Rattle.router_circuits.specs.Hellos.{hello_of}
 use Rattle.router_circuits.specs.Views.{boots_in, heard_in, is_lan, levels_in, point_in}
 use Rattle.router_circuits.proofs.ChangeLemmas.{met-some, anew-some, ok-of}

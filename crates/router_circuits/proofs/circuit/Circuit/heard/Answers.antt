@@ -1,6 +1,6 @@
 use Rattle.std.proofs.Common.{List, ℕ, sym, ap, subst, ◌∙◌}
-use Rattle.isis_model.specs.Both.{at}
-use Rattle.isis_model.specs.Routers.{Circuit, LanNeighbour}
+use Rattle.model_router.specs.Both.{at}
+use Rattle.model_router.specs.Routers.{Circuit, LanNeighbour}
 use Rattle.adjacency.specs.Lans.{AreHeard, neighbours}
 use Rattle.router_circuits.specs.Views.{heard_in}
 use Rattle.router_circuits.proofs.SearchLemmas.{all-snpas, level-heard}

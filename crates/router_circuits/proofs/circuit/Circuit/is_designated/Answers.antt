@@ -1,6 +1,6 @@
 use Rattle.std.proofs.Common.{◌∙◌, sym, ap, eqb, ℕ}
-use Rattle.isis_model.specs.Elections as model
-use Rattle.isis_model.specs.Numbers.{system_number}
+use Rattle.model_router.specs.Elections as model
+use Rattle.model_router.specs.Numbers.{system_number}
 use Rattle.router_circuits.proofs.ElectLemmas.{is_own-some}
 use Rattle.router_circuits.proofs.circuit.Circuit.is_designated.Goals as goal
 

@@ -1,7 +1,7 @@
 use Rattle.std.proofs.Common.{ℕ, List, ap}
 use Rattle.std.proofs.lemmas.Result.{IfOk-weaker}
-use Rattle.isis_model.specs.Both.{Both}
-use Rattle.isis_model.specs.Routers.{LanNeighbour}
+use Rattle.model_router.specs.Both.{Both}
+use Rattle.model_router.specs.Routers.{LanNeighbour}
 use Rattle.router_circuits.proofs.medium.Medium.hear_lan.Goals as goal
 
 abbrev pair : List (ℕ × LanNeighbour) → List (ℕ × LanNeighbour) → Both (List (ℕ × LanNeighbour))

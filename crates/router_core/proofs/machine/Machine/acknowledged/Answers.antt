@@ -1,12 +1,12 @@
 use Rattle.std.proofs.Common.{◌≡◌, ◌-◌, false, not, List, ℕ, sym, ◌∙◌, subst}
 use Rattle.isis_base.specs.Identifiers.{lsp_number}
-use Rattle.isis_model.specs.Cells.{Heard}
-use Rattle.isis_model.specs.declared.lsp_case.LspCase.{LspCase}
-use Rattle.isis_model.specs.LspTable.{met}
-use Rattle.isis_model.specs.Places.{nth}
-use Rattle.isis_model.specs.Routers.{LevelState, level_of}
-use Rattle.isis_model.specs.Receiving.{acks}
-use Rattle.isis_model.specs.Takes.{whose_of}
+use Rattle.model_router.specs.Cells.{Heard}
+use Rattle.model_router.specs.declared.lsp_case.LspCase.{LspCase}
+use Rattle.model_router.specs.LspTable.{met}
+use Rattle.model_router.specs.Places.{nth}
+use Rattle.model_router.specs.Routers.{LevelState, level_of}
+use Rattle.model_router.specs.Receiving.{acks}
+use Rattle.model_router.specs.Takes.{whose_of}
 use Rattle.flag_sync.specs.Heard.{heard_of}
 use Rattle.router_core.specs.declared.reply.Reply.TheVariants as reply
 use Rattle.router_core.specs.Replies.{Answers}

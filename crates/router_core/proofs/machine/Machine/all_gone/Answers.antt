@@ -1,6 +1,6 @@
 use Rattle.std.proofs.Common.{◌-◌, ◌∙◌, length, ap, arith}
 use Rattle.isis_base.specs.declared.level.Level.TheVariants as level
-use Rattle.isis_model.specs.Routers.{Router}
+use Rattle.model_router.specs.Routers.{Router}
 use Rattle.router_core.proofs.SentLemmas.{hello-length, level-length}
 use Rattle.router_core.proofs.machine.Machine.all_gone.Goals as goal
 

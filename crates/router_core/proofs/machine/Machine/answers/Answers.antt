@@ -1,7 +1,7 @@
 use Rattle.std.proofs.Common.{is_some}
-use Rattle.isis_model.specs.Both.{at}
-use Rattle.isis_model.specs.Receiving.{scene_of}
-use Rattle.isis_model.specs.Routers.{level_of}
+use Rattle.model_router.specs.Both.{at}
+use Rattle.model_router.specs.Receiving.{scene_of}
+use Rattle.model_router.specs.Routers.{level_of}
 use Rattle.router_core.specs.Givens.{given}
 use Rattle.router_core.proofs.WantedLemmas.{ready-end, said-end}
 use Rattle.router_core.proofs.machine.Machine.answers.Goals as goal

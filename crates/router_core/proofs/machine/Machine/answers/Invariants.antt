@@ -2,11 +2,11 @@ use Rattle.std.proofs.Common.{List, ◌++◌, Option, length, is_some, map}
 use Rattle.std.specs.List.{AllByRecursion}
 use Rattle.isis_base.specs.declared.entry.LspEntry.{LspEntry}
 use Rattle.isis_base.specs.Identifiers.{lsp_number}
-use Rattle.isis_model.specs.Both.{at}
-use Rattle.isis_model.specs.Receiving.{scene_of}
-use Rattle.isis_model.specs.Routers.{level_of}
-use Rattle.lsp_octets.specs.Drafts.{DraftView}
-use Rattle.lsp_wanted.specs.Views.{wanted_of}
+use Rattle.model_router.specs.Both.{at}
+use Rattle.model_router.specs.Receiving.{scene_of}
+use Rattle.model_router.specs.Routers.{level_of}
+use Rattle.router_sending.specs.Drafts.{DraftView}
+use Rattle.router_wanted.specs.Views.{wanted_of}
 use Rattle.router_levels.specs.Drafts.{AreAnswers, AreReady}
 use Rattle.router_core.specs.Givens.{given}
 use Rattle.router_core.specs.Machines.{AreWantedFor}

@@ -1,5 +1,5 @@
 use Rattle.std.proofs.Common.{length}
-use Rattle.isis_model.specs.Routers.{book_of}
+use Rattle.model_router.specs.Routers.{book_of}
 use Rattle.flag_sync.specs.Heard.{entries_of}
 use Rattle.router_core.specs.Calm.{AreClear}
 use Rattle.router_core.proofs.machine.Machine.are_clear.Given as goal

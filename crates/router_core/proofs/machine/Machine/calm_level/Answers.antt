@@ -1,9 +1,9 @@
 use Rattle.std.proofs.Common.{List, map, sym, ap, subst, ◌∙◌}
-use Rattle.isis_model.specs.Routers.{level_of}
-use Rattle.isis_model.specs.Wanted as model
+use Rattle.model_router.specs.Routers.{level_of}
+use Rattle.model_router.specs.Wanted as model
 use Rattle.lsp_fragments.specs.Issues.{all_rest}
-use Rattle.lsp_wanted.specs.declared.wanted.Wanted.{Wanted}
-use Rattle.lsp_wanted.specs.Views.{wanted_of}
+use Rattle.router_wanted.specs.declared.wanted.Wanted.{Wanted}
+use Rattle.router_wanted.specs.Views.{wanted_of}
 use Rattle.router_core.specs.Givens.{given}
 use Rattle.router_core.specs.Settled.{IsSettled, faces}
 use Rattle.router_core.proofs.LastLemmas.{later-kept}

@@ -1,5 +1,5 @@
 use Rattle.std.proofs.Common.{◌≡◌, OnOk, sym, subst}
-use Rattle.isis_model.specs.Steps.{step}
+use Rattle.model_router.specs.Steps.{step}
 use Rattle.router_desk.specs.declared.config.Change.{Change}
 use Rattle.router_desk.specs.Configs.{prefix_number}
 use Rattle.router_core.specs.Events.{change_of, FitsChange}

@@ -1,7 +1,7 @@
 use Rattle.std.proofs.Common.{◌-◌, arith}
-use Rattle.isis_model.specs.Both.{at}
-use Rattle.isis_model.specs.Routers.{with_circuit}
-use Rattle.isis_model.specs.Pulls.{with_part, is_csnp_due, csnp_sent}
+use Rattle.model_router.specs.Both.{at}
+use Rattle.model_router.specs.Routers.{with_circuit}
+use Rattle.model_router.specs.Pulls.{with_part, is_csnp_due, csnp_sent}
 use Rattle.router_core.specs.Pulled.{after_csnps}
 use Rattle.router_core.proofs.PullLemmas.{gone-then, gone-else}
 use Rattle.router_core.proofs.machine.Machine.csnps_gone.Goals as goal

@@ -1,7 +1,7 @@
 use Rattle.std.proofs.Common.{ℕ, List, Option, sym, subst}
-use Rattle.isis_model.specs.Good.{IsIssuable}
-use Rattle.isis_model.specs.Both.{at}
-use Rattle.lsp_wanted.specs.Views.{contents_of}
+use Rattle.model_router.specs.Good.{IsIssuable}
+use Rattle.model_router.specs.Both.{at}
+use Rattle.router_wanted.specs.Views.{contents_of}
 use Rattle.router_core.proofs.WantedLemmas.{none-issuable}
 use Rattle.router_core.proofs.IdleLemmas.{from-some}
 use Rattle.router_core.proofs.machine.Machine.draft_in.Goals.{in-Some+in_ok-copy-in-Some, in-None}

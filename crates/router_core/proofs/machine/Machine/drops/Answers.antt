@@ -1,6 +1,6 @@
 use Rattle.std.proofs.Common.{ℕ, get_or, ap, ◌∙◌}
-use Rattle.isis_model.specs.Drops.{drop_place, drops_of}
-use Rattle.isis_model.specs.Routers.{Router}
+use Rattle.model_router.specs.Drops.{drop_place, drops_of}
+use Rattle.model_router.specs.Routers.{Router}
 use Rattle.router_core.proofs.ChangeLemmas.{index-nth}
 use Rattle.router_core.proofs.machine.Machine.drops.Goals as goal
 

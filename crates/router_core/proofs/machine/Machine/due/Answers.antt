@@ -1,14 +1,14 @@
 use Rattle.std.proofs.Common.{◌≡◌, ℕ, ◌-◌, map, Option, IfSome, sym, subst}
-use Rattle.isis_model.specs.Places.{nth}
-use Rattle.isis_model.specs.Routers.{Circuit}
-use Rattle.isis_model.specs.Datagrams.{Sent}
-use Rattle.isis_datagram.specs.Datagrams.{datagram}
+use Rattle.model_router.specs.Places.{nth}
+use Rattle.model_router.specs.Routers.{Circuit}
+use Rattle.model_router.specs.Datagrams.{Sent}
+use Rattle.model_datagram.specs.Datagrams.{datagram}
 use Rattle.flag_sync.specs.BookStates.{book_of}
-use Rattle.pdu_sender.specs.Sends.{Sends}
+use Rattle.router_sending.specs.Sends.{Sends}
 use Rattle.router_core.specs.Sending.{all_due}
 use Rattle.router_core.proofs.IdleLemmas.{from-some}
 use Rattle.isis_base.specs.declared.level.Level.TheVariants as level
-use Rattle.isis_model.specs.Good.{IsGoodBook}
+use Rattle.model_router.specs.Good.{IsGoodBook}
 use Rattle.router_core.proofs.SendingLemmas.{may-of, all-out}
 use Rattle.router_core.proofs.machine.Machine.due.Goals as goal
 

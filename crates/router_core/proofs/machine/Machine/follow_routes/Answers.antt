@@ -1,7 +1,7 @@
 use Rattle.std.proofs.Common.{◌∙◌, ap}
 use Rattle.isis_base.specs.declared.level.Level.TheVariants as level
-use Rattle.isis_model.specs.Routers.{Router}
-use Rattle.isis_model.specs.Steps.{step}
+use Rattle.model_router.specs.Routers.{Router}
+use Rattle.model_router.specs.Steps.{step}
 use Rattle.router_core.specs.Reads.{event_in}
 use Rattle.router_core.specs.Givens.{given}
 use Rattle.router_core.proofs.RouteLemmas.{step-rooted, lent-level}

@@ -1,11 +1,11 @@
 use Rattle.std.proofs.Common.{◌-◌, IfOk, IfSome, refl, sym, subst, length, ap, arith}
-use Rattle.isis_model.specs.Adjacencies.{common_of}
-use Rattle.isis_model.specs.Both.{alone, at}
-use Rattle.isis_model.specs.Places.{nth}
+use Rattle.model_router.specs.Adjacencies.{common_of}
+use Rattle.model_router.specs.Both.{alone, at}
+use Rattle.model_router.specs.Places.{nth}
 use Rattle.std.proofs.lemmas.Result.{IfOk-weaker}
-use Rattle.isis_model.specs.Hellos.{lan_circuit}
-use Rattle.isis_model.specs.HelloTests.{lan_drop}
-use Rattle.isis_model.specs.Routers.{Router}
+use Rattle.model_router.specs.Hellos.{lan_circuit}
+use Rattle.model_router.specs.HelloTests.{lan_drop}
+use Rattle.model_router.specs.Routers.{Router}
 use Rattle.adjacency.specs.Changes.{IsTested}
 use Rattle.router_circuits.specs.Hellos.{hello_of}
 use Rattle.router_core.specs.Machines.{machine_of}

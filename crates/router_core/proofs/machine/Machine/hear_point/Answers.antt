@@ -1,10 +1,10 @@
 use Rattle.std.proofs.Common.{◌≡◌, ℕ, ◌-◌, ◌+◌, ◌*◌, not, IfOk, IfSome, refl, sym, subst, ◌∙◌, arith, length, ap}
-use Rattle.isis_model.specs.Adjacencies.{common_of, is_same}
+use Rattle.model_router.specs.Adjacencies.{common_of, is_same}
 use Rattle.std.proofs.lemmas.Result.{IfOk-weaker}
-use Rattle.isis_model.specs.Hellos.{point_circuit}
-use Rattle.isis_model.specs.Places.{nth}
-use Rattle.isis_model.specs.HelloTests.{point_drop}
-use Rattle.isis_model.specs.Routers.{Router, extended_of}
+use Rattle.model_router.specs.Hellos.{point_circuit}
+use Rattle.model_router.specs.Places.{nth}
+use Rattle.model_router.specs.HelloTests.{point_drop}
+use Rattle.model_router.specs.Routers.{Router, extended_of}
 use Rattle.adjacency.specs.Changes.{IsTested}
 use Rattle.router_circuits.specs.Hellos.{hello_of}
 use Rattle.router_core.specs.Machines.{machine_of}

@@ -1,5 +1,5 @@
 use Rattle.std.proofs.Common.{◌-◌, ◌==◌, arith}
-use Rattle.isis_model.specs.Routers.{with_circuit}
+use Rattle.model_router.specs.Routers.{with_circuit}
 use Rattle.router_core.specs.Pulled.{after_hello}
 use Rattle.router_core.proofs.PullLemmas.{gone-then, gone-else}
 use Rattle.router_core.proofs.machine.Machine.hello_gone.Goals as goal

@@ -2,9 +2,9 @@ use Rattle.std.proofs.Common.{◌≡◌, ◌∙◌, ◌-◌, None, ap, subst, ar
 use Rattle.std.specs.List.{AllByRecursion}
 use Rattle.isis_base.specs.declared.identifiers.LspId.{LspId}
 use Rattle.isis_base.specs.Identifiers.{IsId, lsp_number}
-use Rattle.isis_model.specs.Places.{nth}
-use Rattle.isis_model.specs.Receiving.{lsp_drop}
-use Rattle.isis_model.specs.Routers.{Circuit, LevelState, book_of, level_of}
+use Rattle.model_router.specs.Places.{nth}
+use Rattle.model_router.specs.Receiving.{lsp_drop}
+use Rattle.model_router.specs.Routers.{Circuit, LevelState, book_of, level_of}
 use Rattle.lsp_store.specs.declared.entry.Entry.{Entry}
 use Rattle.lsp_store.specs.Databases.{Database}
 use Rattle.lsp_store.specs.Maps.{RisesFrom, find}

@@ -1,7 +1,7 @@
 use Rattle.std.proofs.Common.{◌-◌, ◌∙◌, length, sym, ap, arith}
-use Rattle.isis_model.specs.Books.{Book}
-use Rattle.isis_model.specs.Sets.{has}
-use Rattle.isis_model.specs.Routers.{Router}
+use Rattle.model_router.specs.Books.{Book}
+use Rattle.model_router.specs.Sets.{has}
+use Rattle.model_router.specs.Routers.{Router}
 use Rattle.router_core.proofs.PullLemmas.{csnps-length, level-then, level-else}
 use Rattle.router_core.proofs.machine.Machine.level_gone.Goals as goal
 

@@ -1,9 +1,9 @@
 use Rattle.std.proofs.Common.{◌≡◌, ℕ, List, Option, is_some, option_copied, sym, ap, subst, ◌∙◌}
 use Rattle.std.specs.List.{AllByRecursion}
-use Rattle.isis_model.specs.Both.{at}
-use Rattle.isis_model.specs.Configs.{Config}
-use Rattle.isis_model.specs.OwnLsps.{renew}
-use Rattle.isis_model.specs.Routers.{LevelState, level_of}
+use Rattle.model_router.specs.Both.{at}
+use Rattle.model_router.specs.Configs.{Config}
+use Rattle.model_router.specs.OwnLsps.{renew}
+use Rattle.model_router.specs.Routers.{LevelState, level_of}
 use Rattle.router_levels.specs.Drafts.{wants_of}
 use Rattle.router_levels.specs.Views.{state_of}
 use Rattle.router_core.specs.Givens.{given, leaks_of, is_attached}

@@ -1,11 +1,11 @@
 use Rattle.std.proofs.Common.{ℕ, List, map, ap, ◌∙◌}
-use Rattle.isis_model.specs.Maps.{each}
-use Rattle.isis_model.specs.Routers.{Issued, LevelState, level_of}
-use Rattle.isis_model.specs.Seconds.{older}
-use Rattle.isis_model.specs.Wanted as model
+use Rattle.model_router.specs.Maps.{each}
+use Rattle.model_router.specs.Routers.{Issued, LevelState, level_of}
+use Rattle.model_router.specs.Seconds.{older}
+use Rattle.model_router.specs.Wanted as model
 use Rattle.lsp_fragments.specs.Kept.{OwnState}
-use Rattle.lsp_wanted.specs.declared.wanted.Wanted.{Wanted}
-use Rattle.lsp_wanted.specs.Views.{wanted_of}
+use Rattle.router_wanted.specs.declared.wanted.Wanted.{Wanted}
+use Rattle.router_wanted.specs.Views.{wanted_of}
 use Rattle.router_core.specs.Givens.{given}
 use Rattle.router_core.proofs.QuietLemmas.{later-same}
 use Rattle.router_core.proofs.machine.Machine.level_renewed.Goals as goal

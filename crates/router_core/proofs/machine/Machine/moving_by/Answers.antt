@@ -2,10 +2,10 @@ use Rattle.std.proofs.Common.{◌≡◌, ◌∙◌, ◌-◌, true, List, None, s
 use Rattle.std.specs.List.{AllByRecursion}
 use Rattle.isis_base.specs.Identifiers.{IsId}
 use Rattle.lsp_store.specs.Maps.{RisesFrom}
-use Rattle.isis_model.specs.Both.{at}
-use Rattle.isis_model.specs.Places.{nth}
-use Rattle.isis_model.specs.Receiving.{lsp_drop}
-use Rattle.isis_model.specs.Routers.{Circuit, LevelState, book_of, level_of}
+use Rattle.model_router.specs.Both.{at}
+use Rattle.model_router.specs.Places.{nth}
+use Rattle.model_router.specs.Receiving.{lsp_drop}
+use Rattle.model_router.specs.Routers.{Circuit, LevelState, book_of, level_of}
 use Rattle.router_desk.specs.Opening.{envelope_of}
 use Rattle.flag_sync.specs.BookStates as sync
 use Rattle.flag_sync.specs.declared.heard.LspAnswer.{LspAnswer}
@@ -17,7 +17,7 @@ use Rattle.router_routes.specs.Moved.{IsMovedAt}
 use Rattle.lsp_store.specs.Databases.{Database}
 use Rattle.lsp_store.specs.declared.entry.Entry.{Entry}
 use Rattle.isis_base.specs.declared.identifiers.LspId.{LspId}
-use Rattle.isis_model.specs.Steps.{step}
+use Rattle.model_router.specs.Steps.{step}
 use Rattle.router_core.specs.Givens.{given}
 use Rattle.router_core.specs.Plans.{IsTeller, is_moving, lsp_event}
 use Rattle.router_core.proofs.IdleLemmas.{from-some}

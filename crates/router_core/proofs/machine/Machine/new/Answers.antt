@@ -1,7 +1,7 @@
 use Rattle.std.proofs.Common.{◌≡◌, ℕ, ◌≤◌, List, length, map, ap, sym, ◌∙◌, subst, arith}
 use Rattle.std.proofs.lemmas.Result.{IfOk-at_ok}
 use Rattle.std.specs.List.{AllByRecursion}
-use Rattle.isis_model.specs.Routers.{Circuit}
+use Rattle.model_router.specs.Routers.{Circuit}
 use Rattle.router_desk.specs.Configs.{config_of, circuit_of, circuits_of, prefixes_of}
 use Rattle.router_desk.specs.Desks.{DeskView, desk_circuit}
 use Rattle.router_core.specs.Machines.{IsFit}

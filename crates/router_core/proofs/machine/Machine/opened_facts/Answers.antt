@@ -1,8 +1,8 @@
 use Rattle.std.proofs.Common.{◌≡◌, ℕ, ◌+◌, ◌-◌, ◌<◌, List, Result, sym, ◌∙◌, subst, arith}
 use Rattle.std.specs.List.{AllByRecursion}
-use Rattle.isis_model.specs.Events.{Message}
-use Rattle.isis_model.specs.Good.{IsGoodMessage}
-use Rattle.isis_model.specs.Places.{nth}
+use Rattle.model_router.specs.Events.{Message}
+use Rattle.model_router.specs.Good.{IsGoodMessage}
+use Rattle.model_router.specs.Places.{nth}
 use Rattle.router_desk.specs.declared.cause.DropCause.{DropCause}
 use Rattle.router_desk.specs.Desks.{desk_of}
 use Rattle.router_desk.specs.Opening.{SeenView, message_of, seen_at}

@@ -1,7 +1,7 @@
 use Rattle.std.proofs.Common.{◌≡◌, ◌-◌, Some, refl, sym, subst}
-use Rattle.isis_model.specs.Events as model
-use Rattle.isis_model.specs.Places.{nth}
-use Rattle.isis_model.specs.Receiving.{drop_of}
+use Rattle.model_router.specs.Events as model
+use Rattle.model_router.specs.Places.{nth}
+use Rattle.model_router.specs.Receiving.{drop_of}
 use Rattle.router_desk.specs.Causes.{name_of}
 use Rattle.router_core.specs.declared.read.Read.{Read}
 use Rattle.router_core.specs.Plans.{IsPlan}

@@ -1,6 +1,6 @@
 use Rattle.std.proofs.Common.{refl}
-use Rattle.isis_model.specs.AdjacencyLaws.{place_of}
-use Rattle.isis_model.specs.Steps.{step}
+use Rattle.model_router.specs.AdjacencyLaws.{place_of}
+use Rattle.model_router.specs.Steps.{step}
 use Rattle.router_core.specs.Events.{change_of}
 use Rattle.router_core.specs.Givens.{given}
 use Rattle.router_core.proofs.StepLemmas.{change-reply}

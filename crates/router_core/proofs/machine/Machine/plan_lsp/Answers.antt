@@ -1,13 +1,13 @@
 use Rattle.std.proofs.Common.{◌≡◌, ◌⊎◌, true, ◌∙◌, ◌-◌, None, IfSome, Ok, refl, ap, subst, arith}
 use Rattle.isis_base.specs.Identifiers.{lsp_number}
-use Rattle.isis_model.specs.Events as model
-use Rattle.isis_model.specs.Numbers.{system_number}
-use Rattle.isis_model.specs.LspTable.{met}
-use Rattle.isis_model.specs.Takes.{whose_of}
-use Rattle.isis_model.specs.Places.{nth}
-use Rattle.isis_model.specs.Receiving.{lsp_drop}
-use Rattle.isis_model.specs.Routers.{Router, level_of}
-use Rattle.isis_model.specs.Steps.{step}
+use Rattle.model_router.specs.Events as model
+use Rattle.model_router.specs.Numbers.{system_number}
+use Rattle.model_router.specs.LspTable.{met}
+use Rattle.model_router.specs.Takes.{whose_of}
+use Rattle.model_router.specs.Places.{nth}
+use Rattle.model_router.specs.Receiving.{lsp_drop}
+use Rattle.model_router.specs.Routers.{Router, level_of}
+use Rattle.model_router.specs.Steps.{step}
 use Rattle.flag_sync.specs.Heard.{heard_of, answer_of}
 use Rattle.router_desk.specs.Opening.{envelope_of}
 use Rattle.router_levels.specs.Views.{state_of}

@@ -1,9 +1,9 @@
 use Rattle.std.proofs.Common.{◌≡◌, ◌-◌, map, refl, arith}
-use Rattle.isis_model.specs.Datagrams.{Sent}
-use Rattle.isis_model.specs.Events as event
-use Rattle.isis_model.specs.Places.{nth}
-use Rattle.isis_model.specs.Steps.{step}
-use Rattle.isis_datagram.specs.Datagrams.{datagram}
+use Rattle.model_router.specs.Datagrams.{Sent}
+use Rattle.model_router.specs.Events as event
+use Rattle.model_router.specs.Places.{nth}
+use Rattle.model_router.specs.Steps.{step}
+use Rattle.model_datagram.specs.Datagrams.{datagram}
 use Rattle.router_core.specs.Givens.{given}
 use Rattle.router_core.specs.Sending.{all_due}
 use Rattle.router_core.proofs.IdleLemmas.{from-some}

@@ -1,8 +1,8 @@
 use Rattle.std.proofs.Common.{◌≡◌, ◌∙◌, List, Some, map, length, refl, sym, ap, subst}
 use Rattle.isis_base.specs.declared.level.Level.TheVariants as level
-use Rattle.isis_model.specs.Events as model
-use Rattle.isis_model.specs.Routers.{Circuit, Router}
-use Rattle.isis_model.specs.Steps.{step}
+use Rattle.model_router.specs.Events as model
+use Rattle.model_router.specs.Routers.{Circuit, Router}
+use Rattle.model_router.specs.Steps.{step}
 use Rattle.router_core.specs.Givens.{given}
 use Rattle.router_core.specs.Plans.{IsCalmAt}
 use Rattle.router_core.specs.Seconds.{bare_later}

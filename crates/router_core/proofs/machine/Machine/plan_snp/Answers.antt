@@ -1,16 +1,16 @@
 use Rattle.std.proofs.Common.{◌≡◌, ◌-◌, ℕ, Bool, Option, Some, None, IfSome, refl, sym, ap, subst, arith}
-use Rattle.isis_model.specs.Events as model
-use Rattle.isis_model.specs.Numbers.{system_number}
-use Rattle.isis_model.specs.Places.{nth}
-use Rattle.isis_model.specs.Receiving.{scene_of, snp_drop}
-use Rattle.isis_model.specs.Routers.{Router, level_of, with_level}
-use Rattle.isis_model.specs.Steps.{step}
-use Rattle.isis_model.specs.Takes.{take_snp}
+use Rattle.model_router.specs.Events as model
+use Rattle.model_router.specs.Numbers.{system_number}
+use Rattle.model_router.specs.Places.{nth}
+use Rattle.model_router.specs.Receiving.{scene_of, snp_drop}
+use Rattle.model_router.specs.Routers.{Router, level_of, with_level}
+use Rattle.model_router.specs.Steps.{step}
+use Rattle.model_router.specs.Takes.{take_snp}
 use Rattle.flag_sync.specs.Heard.{entries_of}
 use Rattle.router_desk.specs.Causes.{name_of}
 use Rattle.router_desk.specs.Opening.{envelope_of}
 use Rattle.router_levels.specs.Drafts as levels
-use Rattle.router_reading.specs.Heard.{range_of}
+use Rattle.router_desk.specs.Heard.{range_of}
 use Rattle.router_core.specs.Givens.{given}
 use Rattle.router_core.specs.Replies.{Answers, outcome}
 use Rattle.router_core.specs.declared.reply.Reply.TheVariants as reply

@@ -1,9 +1,9 @@
 use Rattle.std.proofs.Common.{◌-◌, ◌==◌, ◌&&◌, nat_lt, length, arith}
-use Rattle.isis_model.specs.Both.{at}
-use Rattle.isis_model.specs.Routers.{book_of}
-use Rattle.isis_model.specs.SnpLists.{owed}
-use Rattle.isis_model.specs.Places.{nth}
-use Rattle.isis_model.specs.Pulls.{with_part}
+use Rattle.model_router.specs.Both.{at}
+use Rattle.model_router.specs.Routers.{book_of}
+use Rattle.model_router.specs.SnpLists.{owed}
+use Rattle.model_router.specs.Places.{nth}
+use Rattle.model_router.specs.Pulls.{with_part}
 use Rattle.router_core.specs.Pulled.{after_psnps, answer_gone}
 use Rattle.router_core.proofs.PullLemmas.{gone-then, gone-else, then-answered}
 use Rattle.router_core.proofs.machine.Machine.psnps_gone.Goals as goal

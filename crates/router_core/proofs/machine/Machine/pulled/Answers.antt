@@ -1,7 +1,7 @@
 use Rattle.std.proofs.Common.{◌≡◌, ◌-◌, ◌∙◌, length, ap, arith}
-use Rattle.isis_model.specs.Events as event
-use Rattle.isis_model.specs.Routers.{Router}
-use Rattle.isis_model.specs.Steps.{step}
+use Rattle.model_router.specs.Events as event
+use Rattle.model_router.specs.Routers.{Router}
+use Rattle.model_router.specs.Steps.{step}
 use Rattle.router_core.specs.Givens.{given}
 use Rattle.router_core.proofs.PullLemmas.{on-there}
 use Rattle.router_core.proofs.SentLemmas.{all-length, pulled-step}

@@ -1,8 +1,8 @@
 use Rattle.std.proofs.Common.{ℕ, ◌≤◌, List, length, map, ap, sym, ◌∙◌, subst, arith}
 use Rattle.std.proofs.lemmas.Result.{IfOk-at_ok}
 use Rattle.std.specs.List.{AllByRecursion}
-use Rattle.isis_model.specs.Routers.{Circuit}
-use Rattle.isis_model.specs.Starts.{started}
+use Rattle.model_router.specs.Routers.{Circuit}
+use Rattle.model_router.specs.Starts.{started}
 use Rattle.router_desk.specs.Desks.{DeskView, desk_circuit}
 use Rattle.router_core.specs.Machines.{IsFit}
 use Rattle.router_core.proofs.StartLemmas.{started-fit, started-desk, length-mapped}

@@ -1,7 +1,7 @@
 use Rattle.std.proofs.Common.{◌≡◌, List, map, sym, ap, ◌∙◌}
 use Rattle.isis_base.specs.declared.level.Level.TheVariants as level
-use Rattle.isis_model.specs.Elections.{idle_all}
-use Rattle.isis_model.specs.Routers.{Circuit, Router}
+use Rattle.model_router.specs.Elections.{idle_all}
+use Rattle.model_router.specs.Routers.{Circuit, Router}
 use Rattle.router_levels.specs.Views.{state_of}
 use Rattle.router_core.specs.Machines.{machine_of}
 use Rattle.router_core.specs.Seconds.{bare_later, later}

@@ -1,9 +1,9 @@
 use Rattle.std.proofs.Common.{◌≡◌, ◌∙◌, List, None, refl, sym, ap, subst}
 use Rattle.isis_base.specs.declared.level.Level.TheVariants as level
-use Rattle.isis_model.specs.Elections.{idle_all}
-use Rattle.isis_model.specs.Events as model
-use Rattle.isis_model.specs.Routers.{Circuit, Router}
-use Rattle.isis_model.specs.Steps.{step}
+use Rattle.model_router.specs.Elections.{idle_all}
+use Rattle.model_router.specs.Events as model
+use Rattle.model_router.specs.Routers.{Circuit, Router}
+use Rattle.model_router.specs.Steps.{step}
 use Rattle.router_levels.specs.Views.{state_of}
 use Rattle.router_core.specs.Givens.{given}
 use Rattle.router_core.specs.Machines.{machine_of}

@@ -1,5 +1,5 @@
 use Rattle.std.proofs.Common.{◌-◌, sym}
-use Rattle.isis_model.specs.Elections.{idle}
+use Rattle.model_router.specs.Elections.{idle}
 use Rattle.router_core.specs.Machines.{machine_of}
 use Rattle.router_core.proofs.ShapeLemmas.{circuits-set}
 use Rattle.router_core.proofs.machine.Machine.settle.Goals as goal

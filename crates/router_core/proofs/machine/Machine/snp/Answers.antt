@@ -1,13 +1,13 @@
 use Rattle.std.proofs.Common.{◌≡◌, ℕ, ◌-◌, Bool, Option, None, ap, refl, subst, sym, ◌∙◌}
-use Rattle.isis_model.specs.Events as event
-use Rattle.isis_model.specs.Places.{nth}
-use Rattle.isis_model.specs.Receiving.{scene_of, snp_drop}
-use Rattle.isis_model.specs.Routers.{level_of, with_level}
-use Rattle.isis_model.specs.Takes.{take_snp}
-use Rattle.isis_model.specs.Numbers.{system_number}
+use Rattle.model_router.specs.Events as event
+use Rattle.model_router.specs.Places.{nth}
+use Rattle.model_router.specs.Receiving.{scene_of, snp_drop}
+use Rattle.model_router.specs.Routers.{level_of, with_level}
+use Rattle.model_router.specs.Takes.{take_snp}
+use Rattle.model_router.specs.Numbers.{system_number}
 use Rattle.router_desk.specs.Opening.{envelope_of}
 use Rattle.flag_sync.specs.Heard.{entries_of}
-use Rattle.router_reading.specs.Heard.{range_of}
+use Rattle.router_desk.specs.Heard.{range_of}
 use Rattle.router_core.specs.Givens.{given}
 use Rattle.router_core.specs.Replies.{Answers, outcome}
 use Rattle.router_core.specs.declared.reply.Reply.TheVariants as reply

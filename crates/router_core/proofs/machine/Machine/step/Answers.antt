@@ -1,9 +1,9 @@
 use Rattle.std.proofs.Common.{◌≡◌, ◌-◌, map, sym, subst, arith}
-use Rattle.isis_model.specs.Datagrams.{Sent}
-use Rattle.isis_model.specs.Places.{nth}
-use Rattle.isis_model.specs.Pulls.{pull}
-use Rattle.isis_model.specs.Routers.{Router}
-use Rattle.isis_datagram.specs.Datagrams.{datagram}
+use Rattle.model_router.specs.Datagrams.{Sent}
+use Rattle.model_router.specs.Places.{nth}
+use Rattle.model_router.specs.Pulls.{pull}
+use Rattle.model_router.specs.Routers.{Router}
+use Rattle.model_datagram.specs.Datagrams.{datagram}
 use Rattle.router_core.specs.declared.read.Read.TheVariants as read
 use Rattle.router_core.specs.Events.{IsThere}
 use Rattle.router_core.specs.Reads.{FitsRead}

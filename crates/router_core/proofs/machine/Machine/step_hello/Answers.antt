@@ -1,9 +1,9 @@
 use Rattle.std.proofs.Common.{◌≡◌, Some, IfSome, ap, sym, subst, ◌∙◌}
 use Rattle.std.proofs.lemmas.Bool.{and_parts}
 use Rattle.adjacency.specs.Views.{point_of}
-use Rattle.isis_model.specs.AdjacencyLaws.{place_of}
-use Rattle.isis_model.specs.Routers.{Router}
-use Rattle.isis_model.specs.Steps.{step}
+use Rattle.model_router.specs.AdjacencyLaws.{place_of}
+use Rattle.model_router.specs.Routers.{Router}
+use Rattle.model_router.specs.Steps.{step}
 use Rattle.router_routes.specs.Outlooks.{outlook_of}
 use Rattle.router_core.specs.Reads.{event_in}
 use Rattle.router_core.specs.Givens.{given}

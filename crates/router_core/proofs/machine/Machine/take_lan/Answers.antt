@@ -1,10 +1,10 @@
 use Rattle.std.proofs.Common.{◌≡◌, ◌-◌, false}
-use Rattle.isis_model.specs.Adjacencies.{common_of}
-use Rattle.isis_model.specs.Both.{alone}
-use Rattle.isis_model.specs.Events.{Done, settled}
-use Rattle.isis_model.specs.Places.{nth}
-use Rattle.isis_model.specs.Hellos.{lan_circuit, take_lan}
-use Rattle.isis_model.specs.Routers.{with_circuit}
+use Rattle.model_router.specs.Adjacencies.{common_of}
+use Rattle.model_router.specs.Both.{alone}
+use Rattle.model_router.specs.Events.{Done, settled}
+use Rattle.model_router.specs.Places.{nth}
+use Rattle.model_router.specs.Hellos.{lan_circuit, take_lan}
+use Rattle.model_router.specs.Routers.{with_circuit}
 use Rattle.router_circuits.specs.Hellos.{hello_of}
 use Rattle.router_circuits.proofs.ChangeLemmas.{ok-of}
 use Rattle.router_core.proofs.IdleLemmas.{each-some, from-some, heard-with}

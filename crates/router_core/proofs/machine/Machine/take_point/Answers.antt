@@ -1,14 +1,14 @@
 use Rattle.std.proofs.Common.{◌≡◌, ◌-◌, ◌&&◌, not, Option, Some, None, IfSome, Bool, Result, subst}
-use Rattle.isis_model.specs.Adjacencies.{common_of, is_same, Handshake}
-use Rattle.isis_model.specs.Drops.{or_else}
-use Rattle.isis_model.specs.declared.drop_name.DropName.{DropName}
-use Rattle.isis_model.specs.declared.drop_name.DropName.TheVariants.{NoThreeWay}
-use Rattle.isis_model.specs.Events.{Done, settled}
-use Rattle.isis_model.specs.HelloTests.{hello_drop, shake_drop, full_drop, point_drop}
-use Rattle.isis_model.specs.Places.{nth}
-use Rattle.isis_model.specs.Hellos.{point_circuit, take_point, follow}
-use Rattle.isis_model.specs.Receiving.{greeted}
-use Rattle.isis_model.specs.Routers.{Circuit, with_circuit, extended_of}
+use Rattle.model_router.specs.Adjacencies.{common_of, is_same, Handshake}
+use Rattle.model_router.specs.Drops.{or_else}
+use Rattle.model_router.specs.declared.drop_name.DropName.{DropName}
+use Rattle.model_router.specs.declared.drop_name.DropName.TheVariants.{NoThreeWay}
+use Rattle.model_router.specs.Events.{Done, settled}
+use Rattle.model_router.specs.HelloTests.{hello_drop, shake_drop, full_drop, point_drop}
+use Rattle.model_router.specs.Places.{nth}
+use Rattle.model_router.specs.Hellos.{point_circuit, take_point, follow}
+use Rattle.model_router.specs.Receiving.{greeted}
+use Rattle.model_router.specs.Routers.{Circuit, with_circuit, extended_of}
 use Rattle.router_circuits.specs.Hellos.{hello_of}
 use Rattle.router_core.proofs.ShapeLemmas.{has-shake}
 use Rattle.adjacency.specs.Changes.{IsTested}

@@ -1,7 +1,7 @@
 use Rattle.std.proofs.Common.{◌≡◌, ◌∙◌, ◌-◌, ℕ, List, ap, sym, subst}
-use Rattle.isis_model.specs.Maps.{set_at}
-use Rattle.isis_model.specs.Routers.{Router}
-use Rattle.isis_model.specs.Steps.{step}
+use Rattle.model_router.specs.Maps.{set_at}
+use Rattle.model_router.specs.Routers.{Router}
+use Rattle.model_router.specs.Steps.{step}
 use Rattle.router_desk.specs.declared.config.Change.{Change}
 use Rattle.router_desk.specs.Configs.{prefix_number}
 use Rattle.router_routes.specs.Outlooks.{outlook_of, prefixes_by}

@@ -1,10 +1,10 @@
 use Rattle.std.proofs.Common.{◌≡◌, ℕ, List, map, is_some, IfOk, refl, sym, subst, ◌∙◌, ap}
 use Rattle.std.specs.List.{AllByRecursion}
-use Rattle.isis_model.specs.Both.{at}
-use Rattle.isis_model.specs.Configs.{Config}
-use Rattle.isis_model.specs.Good.{IsIssuable}
-use Rattle.isis_model.specs.Routers.{Contents, Router}
-use Rattle.lsp_wanted.specs.Views.{contents_of, prefix_pair, wanted_of}
+use Rattle.model_router.specs.Both.{at}
+use Rattle.model_router.specs.Configs.{Config}
+use Rattle.model_router.specs.Good.{IsIssuable}
+use Rattle.model_router.specs.Routers.{Contents, Router}
+use Rattle.router_wanted.specs.Views.{contents_of, prefix_pair, wanted_of}
 use Rattle.router_routes.specs.Outlooks.{outlook_of}
 use Rattle.router_core.specs.Givens.{given}
 use Rattle.router_core.specs.Machines.{machine_of}

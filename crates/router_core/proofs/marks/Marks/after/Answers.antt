@@ -1,4 +1,4 @@
-use Rattle.isis_model.specs.Steps.{step}
+use Rattle.model_router.specs.Steps.{step}
 use Rattle.router_core.specs.Givens.{given}
 use Rattle.router_core.proofs.KeepLemmas.{step-keeps}
 use Rattle.router_core.proofs.SettledLemmas.{marks-keep}

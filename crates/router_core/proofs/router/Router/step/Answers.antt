@@ -1,6 +1,6 @@
 use Rattle.std.proofs.Common.{sym, subst}
-use Rattle.isis_model.specs.Events.{Event}
-use Rattle.isis_model.specs.Routers.{Router}
+use Rattle.model_router.specs.Events.{Event}
+use Rattle.model_router.specs.Routers.{Router}
 use Rattle.router_core.specs.Events.{event_of, Fits}
 use Rattle.router_core.specs.Plans.{IsPlan, IsSound}
 use Rattle.router_core.specs.Reads.{event_in}

@@ -1,10 +1,10 @@
 use Rattle.std.proofs.Common.{◌≡◌, ◌-◌, None, IsSome, subst, sym, ap, ◌∙◌}
-use Rattle.isis_model.specs.declared.whose.Whose.{Whose}
-use Rattle.isis_model.specs.Books.{Book, cell_at}
-use Rattle.isis_model.specs.SnpTable.{snp_case, hear_entry}
-use Rattle.isis_model.specs.Routers.{LevelState}
-use Rattle.isis_model.specs.Takes.{whose_of, take_entry}
-use Rattle.isis_model.specs.Numbers.{system_number}
+use Rattle.model_router.specs.declared.whose.Whose.{Whose}
+use Rattle.model_router.specs.Books.{Book, cell_at}
+use Rattle.model_router.specs.SnpTable.{snp_case, hear_entry}
+use Rattle.model_router.specs.Routers.{LevelState}
+use Rattle.model_router.specs.Takes.{whose_of, take_entry}
+use Rattle.model_router.specs.Numbers.{system_number}
 use Rattle.flag_sync.specs.declared.heard.EntryAnswer.{EntryAnswer}
 use Rattle.flag_sync.specs.Heard.{entry_of, outbid_of}
 use Rattle.flag_sync.specs.BookStates.{book_of}

@@ -3,12 +3,12 @@ use Rattle.std.specs.Option.{option_copied}
 use Rattle.isis_base.specs.declared.identifiers.LspId.{LspId}
 use Rattle.isis_base.specs.declared.level.Level.{Level}
 use Rattle.isis_base.specs.Identifiers.{lsp_number}
-use Rattle.isis_model.specs.Both.{at}
-use Rattle.isis_model.specs.Maps.{put}
-use Rattle.isis_model.specs.Cells.{Cell, flagged}
-use Rattle.isis_model.specs.Books.{set_cell}
-use Rattle.isis_model.specs.OwnLsps.{install, issue_cell}
-use Rattle.isis_datagram.specs.Lsps.{given_octets}
+use Rattle.model_router.specs.Both.{at}
+use Rattle.model_router.specs.Maps.{put}
+use Rattle.model_router.specs.Cells.{Cell, flagged}
+use Rattle.model_router.specs.Books.{set_cell}
+use Rattle.model_router.specs.OwnLsps.{install, issue_cell}
+use Rattle.model_datagram.specs.Lsps.{given_octets}
 use Rattle.flag_sync.specs.FlagRows.{no_flags, entry_cell}
 use Rattle.flag_sync.specs.BookStates.{book_of}
 use Rattle.router_levels.specs.Views.{LevelView, state_of}

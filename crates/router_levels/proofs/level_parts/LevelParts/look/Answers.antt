@@ -1,9 +1,9 @@
 use Rattle.std.proofs.Common.{inl, inr, refl, ap, ◌∙◌}
 use Rattle.isis_base.specs.declared.identifiers.LspId.{LspId}
 use Rattle.isis_base.specs.Identifiers.{lsp_number}
-use Rattle.isis_model.specs.Books.{cell_at}
-use Rattle.isis_model.specs.OwnLsps.{Wait, Exhaust, Number, retire_held}
-use Rattle.isis_datagram.specs.Lsps.{given_octets}
+use Rattle.model_router.specs.Books.{cell_at}
+use Rattle.model_router.specs.OwnLsps.{Wait, Exhaust, Number, retire_held}
+use Rattle.model_datagram.specs.Lsps.{given_octets}
 use Rattle.router_levels.specs.Views.{state_of}
 use Rattle.router_levels.proofs.EntryLemmas.{room-one}
 use Rattle.router_levels.proofs.RenewLemmas.{looked, first-room}

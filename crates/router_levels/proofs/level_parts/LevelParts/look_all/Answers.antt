@@ -1,7 +1,7 @@
 use Rattle.std.proofs.Common.{◌≡◌, ◌∷◌, is_some, ◌∙◌}
 use Rattle.std.specs.Option.{option_copied}
 use Rattle.std.specs.Vec.Iter.{into_iter_items}
-use Rattle.isis_datagram.specs.Lsps.{given_octets}
+use Rattle.model_datagram.specs.Lsps.{given_octets}
 use Rattle.router_levels.specs.Views.{state_of}
 use Rattle.router_levels.proofs.RenewLemmas.{keyed-next, under-next, look-next, room-turn}
 use Rattle.router_levels.proofs.level_parts.LevelParts.look_all.Goals as goal

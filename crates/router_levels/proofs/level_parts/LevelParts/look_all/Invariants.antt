@@ -3,10 +3,10 @@ use Rattle.std.specs.List.{AllByRecursion}
 use Rattle.std.specs.Option.{option_copied}
 use Rattle.std.specs.Vec.Iter.{into_iter_items}
 use Rattle.isis_base.specs.declared.level.Level.{Level}
-use Rattle.isis_model.specs.Routers.{Router}
-use Rattle.isis_model.specs.OwnLsps.{look_all}
-use Rattle.isis_datagram.specs.Lsps.{given_octets}
-use Rattle.lsp_octets.specs.Drafts.{DraftView}
+use Rattle.model_router.specs.Routers.{Router}
+use Rattle.model_router.specs.OwnLsps.{look_all}
+use Rattle.model_datagram.specs.Lsps.{given_octets}
+use Rattle.router_sending.specs.Drafts.{DraftView}
 use Rattle.router_levels.specs.Views.{state_of, HasRoom}
 use Rattle.router_levels.specs.Drafts.{AreUnder, wants_of}
 use Rattle.router_levels.proofs.level_parts.LevelParts.look_all.Given as goal

@@ -2,11 +2,11 @@ use Rattle.std.proofs.Common.{◌≡◌, ℕ, Bool, true, false, not, ◌||◌, 
 use Rattle.isis_base.specs.declared.identifiers.LspId.{LspId}
 use Rattle.isis_base.specs.Identifiers.{lsp_number}
 use Rattle.isis_base.specs.Keys.{rank}
-use Rattle.isis_model.specs.Maps.{find}
-use Rattle.isis_model.specs.Cells.{Cell}
-use Rattle.isis_model.specs.Books.{cell_at, rank_at, is_full}
-use Rattle.isis_model.specs.Routers.{Issued}
-use Rattle.isis_model.specs.OwnLsps.{next}
+use Rattle.model_router.specs.Maps.{find}
+use Rattle.model_router.specs.Cells.{Cell}
+use Rattle.model_router.specs.Books.{cell_at, rank_at, is_full}
+use Rattle.model_router.specs.Routers.{Issued}
+use Rattle.model_router.specs.OwnLsps.{next}
 use Rattle.lsp_fragments.specs.Issues.{issue_next, next_of}
 use Rattle.router_levels.specs.Views.{LevelView, state_of}
 use Rattle.router_levels.proofs.RenewLemmas.{next-place, no-place, some-place, next-number}

@@ -2,10 +2,10 @@ use Rattle.std.proofs.Common.{ℕ, ◌+◌, ◌≤◌, ap, ◌∙◌, arith}
 use Rattle.std.proofs.lemmas.Result.{on_ok_weaker}
 use Rattle.isis_base.specs.declared.identifiers.LspId.{LspId}
 use Rattle.isis_base.specs.Identifiers.{lsp_number}
-use Rattle.isis_model.specs.Books.{cell_at}
-use Rattle.isis_model.specs.OwnLsps.{install, issue_cell}
-use Rattle.isis_model.specs.Takes.{last_purge}
-use Rattle.isis_datagram.specs.Lsps.{given_octets}
+use Rattle.model_router.specs.Books.{cell_at}
+use Rattle.model_router.specs.OwnLsps.{install, issue_cell}
+use Rattle.model_router.specs.Takes.{last_purge}
+use Rattle.model_datagram.specs.Lsps.{given_octets}
 use Rattle.flag_sync.specs.Heard.{heard_of}
 use Rattle.router_levels.specs.Views.{state_of}
 use Rattle.router_levels.proofs.IssueLemmas.{outbid-issue, outbid-retire}

@@ -1,11 +1,11 @@
 use Rattle.std.proofs.Common.{◌≡◌, ℕ, ◌+◌, ◌≤◌, List, None, subst, sym, ap, ◌∙◌, arith}
 use Rattle.isis_base.specs.declared.identifiers.LspId.{LspId}
 use Rattle.isis_base.specs.Identifiers.{lsp_number}
-use Rattle.isis_model.specs.Maps.{find}
-use Rattle.isis_model.specs.Books.{cell_at}
-use Rattle.isis_model.specs.OwnLsps.{install, retire, issue_cell}
-use Rattle.isis_model.specs.Takes.{held_purge}
-use Rattle.isis_datagram.specs.Lsps.{given_octets}
+use Rattle.model_router.specs.Maps.{find}
+use Rattle.model_router.specs.Books.{cell_at}
+use Rattle.model_router.specs.OwnLsps.{install, retire, issue_cell}
+use Rattle.model_router.specs.Takes.{held_purge}
+use Rattle.model_datagram.specs.Lsps.{given_octets}
 use Rattle.router_levels.specs.Views.{state_of}
 use Rattle.router_levels.proofs.IssueLemmas.{outbid-issue, outbid-retire}
 use Rattle.router_levels.proofs.EntryLemmas.{put-fewer, erase-fewer}

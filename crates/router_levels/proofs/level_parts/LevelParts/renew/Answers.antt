@@ -2,13 +2,13 @@ use Rattle.std.proofs.Common.{◌≡◌, List, map, sym, ap, subst, ◌∙◌}
 use Rattle.std.specs.Option.{option_copied}
 use Rattle.std.specs.Vec.Iter.{into_iter_items}
 use Rattle.isis_base.specs.declared.identifiers.LspId.{LspId}
-use Rattle.isis_model.specs.Sorted.{RisesFrom}
-use Rattle.isis_model.specs.Routers.{LevelState}
-use Rattle.isis_model.specs.OwnLsps.{look_all, withdraw_all}
-use Rattle.isis_datagram.specs.Lsps.{given_octets}
+use Rattle.model_router.specs.Sorted.{RisesFrom}
+use Rattle.model_router.specs.Routers.{LevelState}
+use Rattle.model_router.specs.OwnLsps.{look_all, withdraw_all}
+use Rattle.model_datagram.specs.Lsps.{given_octets}
 use Rattle.flag_sync.specs.Walks.{numbers_of}
 use Rattle.purge_ageing.specs.Ids.{Rises}
-use Rattle.lsp_octets.specs.Drafts.{DraftView}
+use Rattle.router_sending.specs.Drafts.{DraftView}
 use Rattle.router_levels.specs.Views.{state_of}
 use Rattle.router_levels.specs.Drafts.{AreUnder, wants_of, numbers_wanted}
 use Rattle.router_levels.proofs.RenewLemmas.{numbers-are, wants-rise}

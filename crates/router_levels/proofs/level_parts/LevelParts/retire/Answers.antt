@@ -1,9 +1,9 @@
 use Rattle.std.proofs.Common.{◌≡◌, ◌<◌, subst, sym, ap₂, ◌∙◌, List}
 use Rattle.isis_base.specs.Identifiers.{lsp_number}
-use Rattle.isis_model.specs.Books.{Book, cell_at, rank_at}
-use Rattle.isis_model.specs.Routers.{LevelState}
-use Rattle.isis_model.specs.Takes.{held_purge}
-use Rattle.isis_model.specs.OwnLsps.{retire}
+use Rattle.model_router.specs.Books.{Book, cell_at, rank_at}
+use Rattle.model_router.specs.Routers.{LevelState}
+use Rattle.model_router.specs.Takes.{held_purge}
+use Rattle.model_router.specs.OwnLsps.{retire}
 use Rattle.router_levels.specs.Views.{LevelView, state_of}
 use Rattle.router_levels.proofs.IssueLemmas.{retire-is}
 use Rattle.router_levels.proofs.level_parts.LevelParts.retire.Goals as goal

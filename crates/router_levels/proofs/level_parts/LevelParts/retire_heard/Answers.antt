@@ -1,10 +1,10 @@
 use Rattle.std.proofs.Common.{◌≡◌, ◌<◌, Some, nat_lt, false, subst, sym, ap, ◌∙◌, arith}
 use Rattle.std.proofs.lemmas.Bool.Decides.{nat_tests}
 use Rattle.isis_base.specs.Keys.{rank}
-use Rattle.isis_model.specs.Cells.{Cell, flagged}
-use Rattle.isis_model.specs.Books.{cell_at, rank_of, rank_at, set_cell}
-use Rattle.isis_model.specs.OwnLsps.{retire}
-use Rattle.isis_model.specs.Takes.{last_purge}
+use Rattle.model_router.specs.Cells.{Cell, flagged}
+use Rattle.model_router.specs.Books.{cell_at, rank_of, rank_at, set_cell}
+use Rattle.model_router.specs.OwnLsps.{retire}
+use Rattle.model_router.specs.Takes.{last_purge}
 use Rattle.flag_sync.specs.Heard.{heard_of}
 use Rattle.flag_sync.specs.BookStates.{book_of}
 use Rattle.flag_sync.proofs.RowLemmas.{rank-some}

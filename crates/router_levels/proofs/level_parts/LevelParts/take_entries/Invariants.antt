@@ -2,9 +2,9 @@ use Rattle.std.proofs.Common.{◌≡◌, ◌-◌, ℕ, List, Bool, length, is_so
 use Rattle.std.specs.Vec.Iter.{into_iter_items}
 use Rattle.std.specs.Option.{option_copied}
 use Rattle.isis_base.specs.declared.level.Level.{Level}
-use Rattle.isis_model.specs.Routers.{Router}
-use Rattle.isis_model.specs.Takes.{take_entries}
-use Rattle.isis_model.specs.Numbers.{system_number}
+use Rattle.model_router.specs.Routers.{Router}
+use Rattle.model_router.specs.Takes.{take_entries}
+use Rattle.model_router.specs.Numbers.{system_number}
 use Rattle.flag_sync.specs.Heard.{entries_of}
 use Rattle.router_levels.specs.Views.{state_of, HasRoom}
 use Rattle.router_levels.specs.Drafts.{AreReady, AreAnswers, scene_with}

@@ -2,16 +2,16 @@ use Rattle.std.proofs.Common.{◌≡◌, ◌-◌, ◌<◌, ℕ, Option, Some, No
 use Rattle.std.specs.Option.{option_copied}
 use Rattle.isis_base.specs.declared.identifiers.LspId.{LspId}
 use Rattle.isis_base.specs.Identifiers.{lsp_number}
-use Rattle.isis_model.specs.Maps.{find}
-use Rattle.isis_model.specs.declared.snp_case.SnpCase.{SnpCase}
-use Rattle.isis_model.specs.Ranks.{number_of}
-use Rattle.isis_model.specs.Books.{cell_at, rank_at}
-use Rattle.isis_model.specs.SnpTable.{snp_case}
-use Rattle.isis_model.specs.Routers.{Contents, Issued, LevelState}
-use Rattle.isis_model.specs.OwnLsps.{outbid}
-use Rattle.isis_model.specs.Takes.{whose_of, held_purge}
-use Rattle.isis_model.specs.Numbers.{system_number}
-use Rattle.isis_datagram.specs.Lsps.{given_octets}
+use Rattle.model_router.specs.Maps.{find}
+use Rattle.model_router.specs.declared.snp_case.SnpCase.{SnpCase}
+use Rattle.model_router.specs.Ranks.{number_of}
+use Rattle.model_router.specs.Books.{cell_at, rank_at}
+use Rattle.model_router.specs.SnpTable.{snp_case}
+use Rattle.model_router.specs.Routers.{Contents, Issued, LevelState}
+use Rattle.model_router.specs.OwnLsps.{outbid}
+use Rattle.model_router.specs.Takes.{whose_of, held_purge}
+use Rattle.model_router.specs.Numbers.{system_number}
+use Rattle.model_datagram.specs.Lsps.{given_octets}
 use Rattle.flag_sync.specs.Heard.{entry_of, outbid_of}
 use Rattle.router_levels.specs.Views.{state_of}
 use Rattle.router_levels.specs.Drafts.{IsReady, IsAnswer, scene_with}

@@ -1,13 +1,13 @@
 use Rattle.std.proofs.Common.{ℕ, ◌-◌, sym, ap, ap₂, ◌∙◌}
-use Rattle.isis_model.specs.declared.whose.Whose.{Whose}
-use Rattle.isis_model.specs.LetGos.{let_go}
-use Rattle.isis_model.specs.Books.{cell_at}
-use Rattle.isis_model.specs.LspTable.{met, hear_lsp}
-use Rattle.isis_model.specs.Routers.{Contents, LevelState}
-use Rattle.isis_model.specs.OwnLsps.{outbid}
-use Rattle.isis_model.specs.Takes.{whose_of, last_purge}
-use Rattle.isis_model.specs.Numbers.{system_number}
-use Rattle.isis_datagram.specs.Lsps.{given_octets}
+use Rattle.model_router.specs.declared.whose.Whose.{Whose}
+use Rattle.model_router.specs.LetGos.{let_go}
+use Rattle.model_router.specs.Books.{cell_at}
+use Rattle.model_router.specs.LspTable.{met, hear_lsp}
+use Rattle.model_router.specs.Routers.{Contents, LevelState}
+use Rattle.model_router.specs.OwnLsps.{outbid}
+use Rattle.model_router.specs.Takes.{whose_of, last_purge}
+use Rattle.model_router.specs.Numbers.{system_number}
+use Rattle.model_datagram.specs.Lsps.{given_octets}
 use Rattle.flag_sync.specs.Heard.{heard_of, answer_of}
 use Rattle.router_levels.specs.Views.{LevelView, state_of}
 use Rattle.router_levels.specs.Drafts.{scene_with, IsAnswer}

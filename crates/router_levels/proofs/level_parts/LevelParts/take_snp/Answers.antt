@@ -1,11 +1,11 @@
 use Rattle.std.proofs.Common.{◌-◌, Option, sym, ap, ◌∙◌}
 use Rattle.isis_base.specs.declared.identifiers.LspId.{LspId}
 use Rattle.isis_base.specs.Identifiers.{lsp_number}
-use Rattle.isis_model.specs.Books.{Book}
-use Rattle.isis_model.specs.SnpTable.{hear_range}
-use Rattle.isis_model.specs.Routers.{LevelState}
-use Rattle.isis_model.specs.Takes.{take_snp}
-use Rattle.isis_model.specs.Numbers.{system_number}
+use Rattle.model_router.specs.Books.{Book}
+use Rattle.model_router.specs.SnpTable.{hear_range}
+use Rattle.model_router.specs.Routers.{LevelState}
+use Rattle.model_router.specs.Takes.{take_snp}
+use Rattle.model_router.specs.Numbers.{system_number}
 use Rattle.flag_sync.specs.Heard.{entries_of}
 use Rattle.router_levels.specs.Views.{LevelView, state_of}
 use Rattle.router_levels.specs.Drafts.{scene_with, range_of}

@@ -1,8 +1,8 @@
 use Rattle.std.proofs.Common.{◌≡◌, ℕ, List, None, sym, ap, ◌∙◌}
 use Rattle.isis_base.specs.Identifiers.{lsp_number}
-use Rattle.isis_model.specs.LetGos.{contains}
-use Rattle.isis_model.specs.Maps.{find}
-use Rattle.isis_model.specs.OwnLsps.{withdraw_one}
+use Rattle.model_router.specs.LetGos.{contains}
+use Rattle.model_router.specs.Maps.{find}
+use Rattle.model_router.specs.OwnLsps.{withdraw_one}
 use Rattle.router_levels.specs.Views.{state_of}
 use Rattle.router_levels.proofs.RenewLemmas.{wanted-find, kept-wanted, not-wanted}
 use Rattle.router_levels.proofs.level_parts.LevelParts.withdraw.Goals as goal

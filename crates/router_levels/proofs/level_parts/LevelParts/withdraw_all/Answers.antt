@@ -2,9 +2,9 @@ use Rattle.std.proofs.Common.{◌≡◌, ◌<◌, ◌+◌, ℕ, List, Option, So
 use Rattle.std.specs.Option.{option_map}
 use Rattle.isis_base.specs.declared.identifiers.LspId.{LspId}
 use Rattle.isis_base.specs.Identifiers.{lsp_number}
-use Rattle.isis_model.specs.Sorted.{RisesFrom}
-use Rattle.isis_model.specs.Routers.{Issued, LevelState}
-use Rattle.isis_model.specs.OwnLsps.{withdraw_all}
+use Rattle.model_router.specs.Sorted.{RisesFrom}
+use Rattle.model_router.specs.Routers.{Issued, LevelState}
+use Rattle.model_router.specs.OwnLsps.{withdraw_all}
 use Rattle.lsp_fragments.specs.Kept.{issued_from, first_id}
 use Rattle.router_levels.specs.Views.{LevelView, state_of}
 use Rattle.router_levels.proofs.RenewLemmas.{behind, behind-is, from-zero, left-rises, turn-withdraws, turn-shorter}

@@ -1,8 +1,8 @@
 use Rattle.std.proofs.Common.{◌≡◌, ℕ, List, length}
 use Rattle.std.specs.Option.{option_map}
 use Rattle.isis_base.specs.Identifiers.{lsp_number}
-use Rattle.isis_model.specs.Routers.{Contents}
-use Rattle.isis_model.specs.OwnLsps.{withdraw_all}
+use Rattle.model_router.specs.Routers.{Contents}
+use Rattle.model_router.specs.OwnLsps.{withdraw_all}
 use Rattle.lsp_fragments.specs.Kept.{first_id}
 use Rattle.flag_sync.specs.Walks.{numbers_of}
 use Rattle.router_levels.specs.Views.{state_of}

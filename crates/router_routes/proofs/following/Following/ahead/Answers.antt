@@ -1,6 +1,6 @@
 use Rattle.std.proofs.Common.{◌≡◌, ◌∙◌, true, false, List, Some, None, sym, subst}
 use Rattle.isis_base.specs.declared.identifiers.LspId.{LspId}
-use Rattle.isis_model.specs.Both.{at}
+use Rattle.model_router.specs.Both.{at}
 use Rattle.lsp_store.specs.declared.entry.Entry.{Entry}
 use Rattle.lsp_store.specs.Maps.{RisesFrom}
 use Rattle.spf_repair.specs.Changes.{RepairedOf}

@@ -1,6 +1,0 @@
--- What is read is good.
-use Rattle.isis_datagram.proofs.GoodLemmas.{good-read}
-use Rattle.isis_datagram.proofs.laws.good_law.Goals as goal
-
-pub returns : goal.returns
-returns c = good-read

@@ -1,6 +1,0 @@
--- The purge of what tells itself tells itself.
-use Rattle.isis_datagram.proofs.KeptLemmas.{purged-tells}
-use Rattle.isis_datagram.proofs.laws.purged_law.Goals as goal
-
-pub returns : goal.returns
-returns c = purged-tells

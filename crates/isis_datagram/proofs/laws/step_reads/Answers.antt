@@ -1,6 +1,0 @@
--- Whatever LSP or SNP a step sends reads back.
-use Rattle.isis_datagram.proofs.SendLemmas.{step-reads}
-use Rattle.isis_datagram.proofs.laws.step_reads.Goals as goal
-
-pub returns : goal.returns
-returns c = step-reads

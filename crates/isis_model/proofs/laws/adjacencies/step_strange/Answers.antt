@@ -1,9 +1,0 @@
--- What comes from another boot than the one that is kept is dropped.
-use Rattle.isis_model.proofs.StrangerLemmas.{strange-lsp, strange-snp}
-use Rattle.isis_model.proofs.laws.adjacencies.step_strange.Goals as goal
-
-pub returns-clause-lsp : goal.returns-clause-lsp
-returns-clause-lsp c = strange-lsp
-
-pub returns-clause-snp : goal.returns-clause-snp
-returns-clause-snp c = strange-snp

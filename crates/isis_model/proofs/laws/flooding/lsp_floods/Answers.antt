@@ -1,6 +1,0 @@
--- An LSP that is heard keeps the flooding of every LSP ID on every circuit.
-use Rattle.isis_model.proofs.FloodLemmas.{lsp-floods}
-use Rattle.isis_model.proofs.laws.flooding.lsp_floods.Goals as goal
-
-pub returns : goal.returns
-returns c = lsp-floods

@@ -1,6 +1,0 @@
--- An LSP in a reply is held with its rank and content after the step.
-use Rattle.isis_model.proofs.ExactLemmas.{step-exact}
-use Rattle.isis_model.proofs.laws.replies.step_exact.Goals as goal
-
-pub returns : goal.returns
-returns c = step-exact

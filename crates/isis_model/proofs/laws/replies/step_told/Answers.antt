@@ -1,6 +1,0 @@
--- A CSNP in a reply tells the keys in its range that are held after the step.
-use Rattle.isis_model.proofs.KeyLemmas.{step-told}
-use Rattle.isis_model.proofs.laws.replies.step_told.Goals as goal
-
-pub returns : goal.returns
-returns c = step-told

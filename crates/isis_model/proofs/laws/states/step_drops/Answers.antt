@@ -1,9 +1,0 @@
--- A datagram is dropped where a test refuses it, and then its cause's counter alone changes.
-use Rattle.isis_model.proofs.DropLemmas.{step-refused, step-unchanged}
-use Rattle.isis_model.proofs.laws.states.step_drops.Goals as goal
-
-pub returns-clause-refused : goal.returns-clause-refused
-returns-clause-refused c = step-refused
-
-pub returns-clause-unchanged : goal.returns-clause-unchanged
-returns-clause-unchanged c = step-unchanged

@@ -1,5 +1,0 @@
-use Rattle.key_net.proofs.NetLemmas.{AreHeld-router}
-use Rattle.key_net.proofs.key_net.KeyNet.add_router.Goals as goal
-
-pub invariant_of-self-2 : goal.invariant_of-self-2
-invariant_of-self-2 c = let n = c.new.ensures in let p = c.in_ok-push.ensures.items in rw p (AreHeld-router _ _ _ _ _ c.self.invariant n.items)

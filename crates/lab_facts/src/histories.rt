@@ -1,0 +1,99 @@
+//! What the routers of a network held live of their own LSP IDs, after each event.
+ghost use Rattle.std.specs.Prelude.{◌≡◌, [], ◌∷◌, List, OnOk, OnErr};
+ghost use Rattle.flag_sync.specs.Walks.{numbers_of};
+ghost use Rattle.model_router.specs.Routers.{Router as ModelRouter};
+ghost use Rattle.lab_facts.specs.Sightings.{doubled_in, sightings_of, Remembers};
+ghost use Rattle.lab_facts.specs.Entries.{Keep};
+
+use crate::history::History;
+use isis_base::{Level, LspId, OutOfMemory};
+use note_list::NoteList;
+use router_core::Router;
+use std::alloc::Global;
+use std::marker::Model;
+
+/// What the routers of a network held live of their own LSP IDs in the states that they were in. Contracts see these
+/// states, the latest first.
+#[derive(Drop)]
+pub struct Histories {
+    alloc: Global,
+    one: History,
+    two: History,
+    past: NoteList<Router, u8>,
+}
+
+impl Model for Histories {
+    ghost use Rattle.std.specs.Prelude.{List, []};
+    ghost use Rattle.model_router.specs.Routers as model;
+    ghost use Rattle.lab_facts.specs.Entries.{past_after, Keep};
+
+    ghost Value = { List model.Router };
+
+    ghost view = { λ h. past_after h.past.items [] };
+
+    ghost invariant = { λ h. Keep h.one h.two (past_after h.past.items []) };
+}
+
+impl Histories {
+    /// No router was seen yet. It takes no memory.
+    pub fn new(alloc: Global) -> Histories
+        ensures { result ≡ [] }
+    {
+        Histories {
+            alloc,
+            one: History::new(alloc),
+            two: History::new(alloc),
+            past: NoteList::new(&0),
+        }
+    }
+
+    /// Sees a router's state after an event. At `OutOfMemory` all that was seen is forgotten.
+    pub fn note(&mut self, router: &Router) -> Result<(), OutOfMemory>
+        ensures ok { OnOk result (self.new ≡ router.now ∷ self.old) }
+        ensures err { OnErr result (self.new ≡ []) }
+    {
+        match note_levels(&mut self.one, &mut self.two, router) {
+            Ok(()) => {}
+            Err(error) => {
+                self.one = History::new(self.alloc);
+                self.two = History::new(self.alloc);
+                self.past = NoteList::new(&0);
+                return Err(error);
+            }
+        }
+        self.past.push(router);
+        Ok(())
+    }
+
+    /// The LSP IDs of a level that are doubled, in order: a router of their system held two contents live under one
+    /// number.
+    pub fn doubled(&self, level: Level) -> &[LspId]
+        ensures { numbers_of result.now ≡ doubled_in self.now level }
+    {
+        match level {
+            Level::One => self.one.doubled(),
+            Level::Two => self.two.doubled(),
+        }
+    }
+}
+
+/// Both levels see a router's state.
+fn note_levels(one: &mut History, two: &mut History, router: &Router) -> Result<(), OutOfMemory>
+    ensures { OnOk result ((past : List ModelRouter) → Keep one.old two.old past
+        → Keep one.new two.new (router.now ∷ past)) }
+{
+    note_level(one, router, Level::One)?;
+    note_level(two, router, Level::Two)
+}
+
+/// A level sees a router's state.
+fn note_level(history: &mut History, router: &Router, level: Level) -> Result<(), OutOfMemory>
+    ensures { OnOk result ((past : List ModelRouter)
+        → Remembers history.old (sightings_of past level)
+        → Remembers history.new (sightings_of (router.now ∷ past) level)) }
+{
+    let system = router.desk().system();
+    let book = router.database(level);
+    book.flag_pages();
+    history.note(system, book)
+}

@@ -1,2 +1,0 @@
--- The lemmas, a module for each topic.
-pub mod SweepLemmas

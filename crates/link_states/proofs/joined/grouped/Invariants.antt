@@ -1,5 +1,0 @@
-use Rattle.link_states.specs.Tags.{AreGrouped}
-use Rattle.link_states.proofs.joined.grouped.Given as goal
-
-abbrev pub invariant-loop-router : goal.invariant-loop-router
-invariant-loop-router l = AreGrouped l.runs l.labels l.router l.groups l.places.items

@@ -1,5 +1,0 @@
--- Lemmas, by topic.
-pub mod DraftLemmas
-pub mod SumLemmas
-pub mod HeldLemmas
-pub mod IssueLemmas

@@ -1,5 +1,0 @@
-use Rattle.isis_datagram.proofs.ItemLemmas.{tlvs-none}
-use Rattle.lsp_octets.proofs.blank.blank.Goals as goal
-
-pub encode-requires-clause-tlvs : goal.encode-requires-clause-tlvs
-encode-requires-clause-tlvs c = tlvs-none

@@ -1,0 +1,17 @@
+//! The levels that are run.
+ghost use Rattle.std.specs.Prelude.{◌≡◌};
+ghost use Rattle.model_router.specs.Both.{at};
+ghost use Rattle.model_datagram.specs.Reading.{runs_of};
+
+use isis_base::{Level, LevelSet};
+
+/// Whether a set of levels has a level.
+pub fn runs(levels: LevelSet, level: Level) -> bool
+    ensures { result ≡ at (runs_of levels) level }
+{
+    match (levels, level) {
+        (LevelSet::One, Level::Two) => false,
+        (LevelSet::Two, Level::One) => false,
+        _ => true,
+    }
+}

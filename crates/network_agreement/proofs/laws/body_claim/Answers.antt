@@ -1,6 +1,0 @@
--- Live LSPs of one rank have one body.
-use Rattle.network_agreement.proofs.OriginLemmas.{one-body}
-use Rattle.network_agreement.proofs.laws.body_claim.Goals as goal
-
-pub returns : goal.returns
-returns c net l i j id a b x y h single at_a at_b p q same live = one-body net i j a b l id x y h single at_a at_b p q same live

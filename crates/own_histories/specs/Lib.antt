@@ -1,3 +1,0 @@
--- The definitions: sightings, entries.
-pub mod Sightings
-pub mod Entries

@@ -1,4 +1,0 @@
--- Lemmas, by topic.
-pub mod PieceLemmas
-pub mod EndLemmas
-pub mod SendLemmas

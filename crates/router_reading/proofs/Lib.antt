@@ -1,3 +1,0 @@
--- Lemmas, by topic.
-pub mod TwinLemmas
-pub mod LeftLemmas

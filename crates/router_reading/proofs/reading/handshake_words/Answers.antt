@@ -1,5 +1,0 @@
-use Rattle.router_reading.proofs.TwinLemmas.{handshake-twins}
-use Rattle.router_reading.proofs.reading.handshake_words.Goals as goal
-
-pub returns : goal.returns
-returns c = handshake-twins c.args.value
