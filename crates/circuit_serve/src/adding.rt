@@ -2,6 +2,7 @@
 ghost use Rattle.std.specs.Prelude.{◌≡◌, ◌+◌, ◌*◌, ◌<◌, ◌≤◌, ℕ, [], ◌∷◌, ◌++◌, length, vec_len, vec_capacity, slice_get, IfSome};
 ghost use Rattle.daemon_edge.specs.Closings.{Opening};
 ghost use Rattle.daemon_edge.specs.Ports.{IsFresh};
+ghost use Rattle.router_core.specs.Events.{IsThere};
 ghost use Rattle.turn_lock.specs.Passes.{turns_left, label, splits, own, seen};
 ghost use Rattle.circuit_threads.specs.Sharing.{first_router, IsPassOf};
 ghost use Rattle.circuit_serve.specs.Ends.{IsNew};
@@ -78,20 +79,50 @@ pub(crate) fn add_jobs<'a, J: Journal + Drop, P: Port + Drop, T: Pacer, G: Gate>
     let mut circuit: u8 = 0;
     for port in ports {
         circuit += 1;
-        let (rest, its) = shared.split(pass, turns + turns);
+        let (rest, job) = new_job(alloc, shared, gate, pass, port, circuit, turns);
         pass = rest;
-        list = put(
-            list,
-            Job {
-                alloc,
-                shared,
-                gate,
-                pass: Some(its),
-                task: Task::Circuit(circuit, port),
-                turns,
-                end: None,
-            },
-        );
+        list = put(list, job);
     }
     (pass, list)
+}
+
+/// The job of a circuit, with a pass of its own, and the pass that it was split off.
+fn new_job<'a, J: Journal + Drop, P: Port + Drop, T: Pacer, G: Gate>(
+    alloc: Global,
+    shared: &'a SharedRouter<J>,
+    gate: &'a G,
+    pass: Pass<Behind<J>>,
+    port: P,
+    circuit: u8,
+    turns: u64,
+) -> (
+    Pass<Behind<J>>,
+    Job<'a, Behind<J>, SharedRouter<J>, P, T, G>,
+)
+    requires lock { IsPassOf shared.now pass × (label pass ≡ 0) × (splits pass + 1 ≡ circuit)
+        × (own pass ≡ []) }
+    requires calm { IsCalm (first_router shared.now) (seen pass) }
+    requires turns { turns ≤ 864000 }
+    requires left { turns + turns ≤ turns_left pass }
+    requires there { IsThere (first_router shared.now) circuit }
+    requires fresh { IsFresh (P.given port) (P.offered port) (P.asked port) }
+    ensures lock { IsPassOf shared.now result.0 × (label result.0 ≡ 0)
+        × (splits result.0 ≡ circuit) × (own result.0 ≡ []) }
+    ensures left { turns_left result.0 + (turns + turns) ≡ turns_left pass }
+    ensures seen { seen result.0 ≡ seen pass }
+    ensures job { IsNew P.given P.offered P.asked shared.now turns circuit result.1.task
+        result.1.pass result.1.end × (result.1.turns ≡ turns) × (result.1.shared.now ≡ shared.now) }
+    ensures opened { IsOpened P.opening (P.opening port) result.1.task }
+{
+    let (rest, its) = shared.split(pass, turns + turns);
+    let job = Job {
+        alloc,
+        shared,
+        gate,
+        pass: Some(its),
+        task: Task::Circuit(circuit, port),
+        turns,
+        end: None,
+    };
+    (rest, job)
 }

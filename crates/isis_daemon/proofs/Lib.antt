@@ -2,6 +2,7 @@
 mod GridLemmas
 pub mod HeadlineLemmas
 pub mod ShowLemmas
+mod InputLemmas
 mod TakenLemmas
 mod OptionLemmas
 mod WalkLemmas

@@ -5,7 +5,7 @@ use Rattle.std.proofs.lemmas.Slice.Eq.{bytes_eq-Decides}
 use Rattle.isis_base.specs.declared.identifiers.SystemId.{SystemId}
 use Rattle.isis_base.specs.declared.level.Level.{Level}
 use Rattle.isis_daemon.specs.declared.command.Command.TheVariants.{Routes6, Alternates}
-use Rattle.isis_daemon.specs.Commands.{command_of, captured_of, level_in, system_in}
+use Rattle.isis_daemon.specs.Commands.{command_of, captured_of, level_in, system_in, grid_size_of, walk_of, weave_of}
 use Rattle.isis_daemon.specs.Options.{name_in, value_in, pieces_of, options_of, daemon_of}
 
 fails : (b : Bool) → ¬ (b ≡ true) → b ≡ false
@@ -79,3 +79,38 @@ alone (word ∷ l ∷ s ∷ []) x is =
     hit true e = refl
     hit false e = absurd (cc e)
 alone (word ∷ l ∷ s ∷ next ∷ words) x is = refl
+
+-- what is asked for isn't none
+pub clash : {A : Type 0} (x : A) (o : Option A) → Some x ≡ o → o ≡ None → ⊥
+clash x o some none = cc (some ∙ none)
+
+-- what is asked for is this
+pub told : {A : Type 0} (x : A) (o : Option A) (P : A → Type 0) → Some x ≡ o → P x → IfSome o P
+told x o P some is = subst (λ z. IfSome z P) some is
+
+-- ---- nor do they ask for a grid, a walk or a weaving
+
+named : (word : List ℕ) (words : List (List ℕ)) (x : ℕ × ℕ) → daemon_of (word ∷ words) ≡ Some x → word ≡ codes "daemon"
+named word words x is = (bytes_eq-Decides word (codes "daemon")).0 (hit (bytes_eq word (codes "daemon")) is)
+  where
+    hit : (b : Bool) → (if b then options_of (pieces_of words) else None) ≡ Some x → b ≡ true
+    hit true e = refl
+    hit false e = absurd (cc e)
+
+pub no_grid : (words : List (List ℕ)) (x : ℕ × ℕ) → daemon_of words ≡ Some x → grid_size_of words ≡ None
+no_grid [] x is = refl
+no_grid (word ∷ []) x is = refl
+no_grid (word ∷ number ∷ []) x is = subst (λ (w : List ℕ). grid_size_of (w ∷ number ∷ []) ≡ None) (sym (named word (number ∷ []) x is)) refl
+no_grid (word ∷ number ∷ next ∷ words) x is = refl
+
+pub no_walk : (words : List (List ℕ)) (x : ℕ × ℕ) → daemon_of words ≡ Some x → walk_of words ≡ None
+no_walk [] x is = refl
+no_walk (word ∷ []) x is = refl
+no_walk (word ∷ name ∷ []) x is = refl
+no_walk (word ∷ name ∷ prefix ∷ []) x is = subst (λ (w : List ℕ). walk_of (w ∷ name ∷ prefix ∷ []) ≡ None) (sym (named word (name ∷ prefix ∷ []) x is)) refl
+no_walk (word ∷ name ∷ prefix ∷ next ∷ words) x is = refl
+
+pub no_weave : (words : List (List ℕ)) (x : ℕ × ℕ) → daemon_of words ≡ Some x → weave_of words ≡ None
+no_weave [] x is = refl
+no_weave (word ∷ []) x is = subst (λ (w : List ℕ). weave_of (w ∷ []) ≡ None) (sym (named word [] x is)) refl
+no_weave (word ∷ next ∷ words) x is = refl

@@ -81,6 +81,10 @@ weave_of (word ∷ next ∷ words) = None
 abbrev pub AreNoText : List (List ℕ) → Type 0
 AreNoText words = (command_of words ≡ None) × (grid_size_of words ≡ None)
 
+-- words that ask for no text of an input, for no grid, no walk and no weaving
+abbrev pub AreNoInput : List (List ℕ) → Type 0
+AreNoInput words = AreNoText words × (walk_of words ≡ None) × (weave_of words ≡ None)
+
 -- words that ask for nothing
 abbrev pub AreNone : List (List ℕ) → Type 0
 AreNone words =

@@ -8,7 +8,8 @@
 //! `isis daemon --boot N --turns N` reads a configuration from standard input, opens a UDP port for each of its
 //! circuits, runs its router, and writes the router's journal.
 //!
-//! - `run.rt`: the call `run`, from the octets read to the octets written; `texts.rt`: that of what reads a text
+//! - `run.rt`: the call `run`, from the octets read to the octets written; `inputs.rt`: that of all but a daemon
+//! - `texts.rt`: what makes a text of its input
 //! - `command.rt`, `options.rt`: what the words ask for; `status.rt`: how a run ends
 //! - `grid.rt`: the run of a grid; `walk.rt`: a walk after a script; `weaving.rt`: journals woven; `daemon.rt`: a router over its circuits' ports
 //! - `show.rt`: the call `show`, line by line; `show/lines.rt` the lines of a PDU, and `shown.rt` what is still to come
@@ -17,6 +18,7 @@
 mod command;
 mod daemon;
 mod grid;
+mod inputs;
 mod options;
 mod run;
 mod show;

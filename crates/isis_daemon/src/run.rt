@@ -12,13 +12,10 @@ ghost use Rattle.isis_daemon.specs.Runs.{Ends, IsTaken, IsTakenWithin, IsDoneUnl
 ghost use Rattle.isis_daemon.specs.WalkEnds.{WalkEnds, IsWalkable};
 ghost use Rattle.isis_daemon.specs.WeaveEnds.{WeaveEnds, CanBeWoven};
 
-use crate::command::{walk_of, weave_of};
 use crate::daemon::daemon;
+use crate::inputs::run_input;
 use crate::options::daemon_of;
 use crate::status::Status;
-use crate::texts::run_text;
-use crate::walk::walk;
-use crate::weaving::weave;
 use daemon_edge::{Gate, Pacer, Ports, Spawner};
 use isis_edge::{Sink, Source};
 use std::alloc::Global;
@@ -143,21 +140,11 @@ pub fn run<
     ensures aside { daemon_of (map string_bytes words.now) ≡ None
         → (ports.new ≡ ports.old) × (spawner.new ≡ spawner.old) × (result.1 ≡ pacer) }
 {
-    if let Some(asked) = walk_of(words) {
-        let mut output = output;
-        let status = walk(alloc, asked.name, asked.prefix, input, &mut output);
-        return (output, pacer, status);
-    }
-    if let Some(()) = weave_of(words) {
-        let mut output = output;
-        let status = weave(alloc, input, &mut output);
-        return (output, pacer, status);
-    }
     if let Some(options) = daemon_of(words) {
         return daemon(
             rt, alloc, options, input, output, ports, spawner, pacer, gate,
         );
     }
-    let (output, status) = run_text(alloc, words, input, output);
+    let (output, status) = run_input(alloc, words, input, output);
     (output, pacer, status)
 }

@@ -128,7 +128,9 @@ fn lab<O: Sink>(alloc: Global, text: &[u8], output: &mut O) -> Status
         Ok(script) => script,
         Err(fault) => return Status::from(fault),
     };
-    match run_script(alloc, &script, output) {
+    let end = run_script(alloc, &script, output);
+    drop(script);
+    match end {
         Ok(()) => Status::Done,
         Err(fault) => Status::from(fault),
     }

@@ -61,7 +61,9 @@ fn walk_after<O: Sink>(
         Ok(script) => script,
         Err(fault) => return Status::from(fault),
     };
-    match write_walk(alloc, &script, name, prefix, output) {
+    let end = write_walk(alloc, &script, name, prefix, output);
+    drop(script);
+    match end {
         Ok(()) => Status::Done,
         Err(fault) => Status::from(fault),
     }

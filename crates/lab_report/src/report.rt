@@ -1,5 +1,5 @@
 //! The report of a network of routers, made as it is written.
-ghost use Rattle.std.specs.Prelude.{◌≡◌, ◌≤◌, ◌<◌, ◌+◌, ◌++◌, length, if◌then◌else◌, OnOk, IfOk};
+ghost use Rattle.std.specs.Prelude.{◌≡◌, ◌≤◌, ◌<◌, ◌+◌, [], ◌++◌, length, if◌then◌else◌, true, false, Ok, OnOk, IfOk};
 ghost use Rattle.std.specs.List.{flat_map};
 ghost use Rattle.isis_base.specs.Texts.{hex_pair};
 ghost use Rattle.model_router.specs.Places.{nth};
@@ -72,29 +72,58 @@ impl<'n, 't> Text for LabReport<'n, 't> {
     fn add_next(&mut self, page: &mut Octets) -> Result<bool, OutOfMemory> {
         page.extend(self.head)?;
         self.head = b"";
-        if let [name, others @ ..] = self.router_names {
-            add_block(page, name, self.net, &self.routes, self.router)?;
-            self.router += 1;
-            self.router_names = others;
-            return Ok(true);
+        match self.router_names {
+            [] => self.add_behind_routers(page),
+            [name, others @ ..] => {
+                add_block(page, name, self.net, &self.routes, self.router)?;
+                self.router += 1;
+                self.router_names = others;
+                Ok(true)
+            }
         }
-        if let [name, others @ ..] = self.link_names {
-            add_link(page, self.routers, name, self.net, self.link)?;
-            self.link += 1;
-            self.link_names = others;
-            return Ok(true);
+    }
+}
+
+impl<'n, 't> LabReport<'n, 't> {
+    /// The next piece, where the blocks of all routers are written.
+    fn add_behind_routers(&mut self, page: &mut Octets) -> Result<bool, OutOfMemory>
+        requires { (self.old.head.now ≡ []) × (self.old.router_names.now ≡ []) }
+        ensures adds { OnOk result (page.new ++ lines_left self.new ≡ page.old ++ lines_left self.old) }
+        ensures ends { result ≡ Ok false → lines_left self.new ≡ [] }
+        ensures fewer { result ≡ Ok true → calls_left self.new < calls_left self.old }
+    {
+        match self.link_names {
+            [] => self.add_behind_links(page),
+            [name, others @ ..] => {
+                add_link(page, self.routers, name, self.net, self.link)?;
+                self.link += 1;
+                self.link_names = others;
+                Ok(true)
+            }
         }
+    }
+
+    /// The next piece, where the lines of all links are written too.
+    fn add_behind_links(&mut self, page: &mut Octets) -> Result<bool, OutOfMemory>
+        requires { (self.old.head.now ≡ []) × (self.old.router_names.now ≡ [])
+            × (self.old.link_names.now ≡ []) }
+        ensures adds { OnOk result (page.new ++ lines_left self.new ≡ page.old ++ lines_left self.old) }
+        ensures ends { result ≡ Ok false → lines_left self.new ≡ [] }
+        ensures fewer { result ≡ Ok true → calls_left self.new < calls_left self.old }
+    {
         if self.is_open {
             add_net(page, self.net, self.groups)?;
             self.is_open = false;
             return Ok(true);
         }
-        if let [number, others @ ..] = self.dumps {
-            add_datagram(page, self.routers, self.links, self.net, *number)?;
-            self.dumps = others;
-            return Ok(true);
+        match self.dumps {
+            [] => Ok(false),
+            [number, others @ ..] => {
+                add_datagram(page, self.routers, self.links, self.net, *number)?;
+                self.dumps = others;
+                Ok(true)
+            }
         }
-        Ok(false)
     }
 }
 

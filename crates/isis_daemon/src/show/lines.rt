@@ -1,5 +1,5 @@
 //! The lines that octets are shown as.
-ghost use Rattle.std.specs.Prelude.{◌≡◌, ◌+◌, ◌^◌, ◌<◌, ◌≤◌, ◌++◌, length, OnOk};
+ghost use Rattle.std.specs.Prelude.{◌≡◌, ◌+◌, ◌^◌, ◌<◌, ◌≤◌, ◌++◌, codes, decimal, length, OnOk};
 ghost use Rattle.std.specs.List.{flat_map};
 ghost use Rattle.isis_tlv.specs.Tlvs.{tlv_list};
 ghost use Rattle.isis_tlv.specs.TlvViews.{one_view};
@@ -7,11 +7,12 @@ ghost use Rattle.isis_pdu.specs.Decoded.{decoded};
 ghost use Rattle.isis_pdu.specs.Layout.{kind_of};
 ghost use Rattle.isis_base.specs.PduKinds.{header_length};
 ghost use Rattle.isis_pdu.specs.Views.{pdu_view, tlvs_of_pdu, decoded_view};
+ghost use Rattle.isis_base.specs.Texts.{node_text, lsp_text};
 ghost use Rattle.isis_daemon.specs.ShowText as show;
 
 use isis_base::{
-    Level, LevelSet, Octets, OutOfMemory, SystemId, add_hex, add_levels, add_lsp_id, add_node_id,
-    add_number, add_system_id,
+    Level, LevelSet, LspId, NodeId, Octets, OutOfMemory, SystemId, add_hex, add_levels, add_lsp_id,
+    add_node_id, add_number, add_system_id,
 };
 use isis_pdu::{Pdu, PduFaultKind, decode};
 use isis_tlv::{Tlv, Tlvs};
@@ -117,6 +118,58 @@ fn add_checksum(
     add_hex(text, flags)
 }
 
+/// Adds the fields of a LAN hello.
+fn add_lan_hello(
+    text: &mut Octets,
+    circuit_type: LevelSet,
+    source: SystemId,
+    holding: u16,
+    priority: u8,
+    lan: NodeId,
+) -> Result<(), OutOfMemory>
+    ensures { OnOk result (text.new ≡ text.old ++ (show.hello_text circuit_type source holding
+        ++ codes " priority " ++ decimal priority ++ codes " lan " ++ node_text lan)) }
+{
+    add_hello(text, circuit_type, source, holding)?;
+    add_number(text, b" priority ", u64::from(priority))?;
+    add_node_id(text, b" lan ", lan)
+}
+
+/// Adds the fields of a hello of a point-to-point link.
+fn add_point_hello(
+    text: &mut Octets,
+    circuit_type: LevelSet,
+    source: SystemId,
+    holding: u16,
+    circuit: u8,
+) -> Result<(), OutOfMemory>
+    ensures { OnOk result (text.new ≡ text.old ++ (show.hello_text circuit_type source holding
+        ++ codes " id " ++ decimal circuit)) }
+{
+    add_hello(text, circuit_type, source, holding)?;
+    add_number(text, b" id ", u64::from(circuit))
+}
+
+/// Adds the first fields of an LSP.
+fn add_entry(text: &mut Octets, lifetime: u16, id: LspId, number: u32) -> Result<(), OutOfMemory>
+    ensures { OnOk result (text.new ≡ text.old ++ (codes " lifetime " ++ decimal lifetime
+        ++ codes " id " ++ lsp_text id ++ codes " number " ++ decimal number)) }
+{
+    add_number(text, b" lifetime ", u64::from(lifetime))?;
+    add_lsp_id(text, b" id ", id)?;
+    add_number(text, b" number ", u64::from(number))
+}
+
+/// Adds the fields of a CSNP.
+fn add_range(text: &mut Octets, source: NodeId, start: LspId, end: LspId) -> Result<(), OutOfMemory>
+    ensures { OnOk result (text.new ≡ text.old ++ (codes " source " ++ node_text source
+        ++ codes " start " ++ lsp_text start ++ codes " end " ++ lsp_text end)) }
+{
+    add_node_id(text, b" source ", source)?;
+    add_lsp_id(text, b" start ", start)?;
+    add_lsp_id(text, b" end ", end)
+}
+
 /// Adds the fields of a PDU, which has these octets.
 fn add_fields(text: &mut Octets, pdu: &Pdu<'_>, octets: &[u8]) -> Result<(), OutOfMemory>
     requires { header_length (kind_of (pdu_view pdu.now)) ≤ length octets.now }
@@ -130,21 +183,14 @@ fn add_fields(text: &mut Octets, pdu: &Pdu<'_>, octets: &[u8]) -> Result<(), Out
             priority,
             lan,
             ..
-        } => {
-            add_hello(text, circuit_type, source, holding)?;
-            add_number(text, b" priority ", u64::from(priority))?;
-            add_node_id(text, b" lan ", lan)
-        }
+        } => add_lan_hello(text, circuit_type, source, holding, priority, lan),
         Pdu::PointHello {
             circuit_type,
             source,
             holding,
             circuit,
             ..
-        } => {
-            add_hello(text, circuit_type, source, holding)?;
-            add_number(text, b" id ", u64::from(circuit))
-        }
+        } => add_point_hello(text, circuit_type, source, holding, circuit),
         Pdu::Lsp {
             lifetime,
             id,
@@ -153,9 +199,7 @@ fn add_fields(text: &mut Octets, pdu: &Pdu<'_>, octets: &[u8]) -> Result<(), Out
             flags,
             ..
         } => {
-            add_number(text, b" lifetime ", u64::from(lifetime))?;
-            add_lsp_id(text, b" id ", id)?;
-            add_number(text, b" number ", u64::from(number))?;
+            add_entry(text, lifetime, id, number)?;
             add_checksum(text, lifetime, checksum, flags, octets)
         }
         Pdu::Csnp {
@@ -163,12 +207,8 @@ fn add_fields(text: &mut Octets, pdu: &Pdu<'_>, octets: &[u8]) -> Result<(), Out
             start,
             end,
             ..
-        } => {
-            add_node_id(text, b" source ", source)?;
-            add_lsp_id(text, b" start ", start)?;
-            add_lsp_id(text, b" end ", end)
-        }
-        Pdu::Psnp { source, .. } => { add_node_id(text, b" source ", source) }
+        } => add_range(text, source, start, end),
+        Pdu::Psnp { source, .. } => add_node_id(text, b" source ", source),
     }
 }
 

@@ -1,71 +1,129 @@
-use Rattle.std.proofs.Common.{ℕ, List, map, string_bytes, sym}
-use Rattle.isis_daemon.proofs.OptionLemmas.{alone, unless}
+use Rattle.std.proofs.Common.{map, string_bytes, refl, sym, arith}
+use Rattle.isis_daemon.proofs.OptionLemmas.{alone, no_grid, no_walk, no_weave, clash, told, unless}
 use Rattle.isis_daemon.proofs.run.run.Goals as goal
 
-pub returns-in-Some-daemon_of-clause-complete : goal.returns-in-Some-daemon_of-clause-complete
-returns-in-Some-daemon_of-clause-complete g c =
-    let words : List (List ℕ) = map string_bytes c.args.words.now in
-    unless _ _ (alone words _ (sym c.in-Some-daemon_of.ensures.value))
+pub returns-in-Some-clause-usage : goal.returns-in-Some-clause-usage
+returns-in-Some-clause-usage g c = (λ e. absurd (c.daemon.ensures.usage e), λ none. absurd (clash _ _ c.in-Some.ensures.value none.1))
 
-pub returns-in-Some-daemon_of-clause-daemon_complete : goal.returns-in-Some-daemon_of-clause-daemon_complete
-returns-in-Some-daemon_of-clause-daemon_complete g c = rw (← c.in-Some-daemon_of.ensures.value) c.daemon.ensures.complete
+pub returns-in-Some-clause-untouched : goal.returns-in-Some-clause-untouched
+returns-in-Some-clause-untouched g c = λ e. absurd (c.daemon.ensures.usage e)
 
 pub returns-in-Some-clause-ends : goal.returns-in-Some-clause-ends
-returns-in-Some-clause-ends g c = unless _ _ c.in-Some.ensures.alone.0.0
-
-pub returns-in-Some-clause-complete : goal.returns-in-Some-clause-complete
-returns-in-Some-clause-complete g c = unless _ _ c.in-Some.ensures.alone.0.0
-
-pub returns-in-Some-clause-grid : goal.returns-in-Some-clause-grid
-returns-in-Some-clause-grid g c = unless _ _ c.in-Some.ensures.alone.0.1
-
-pub returns-in-Some-clause-grid_unread : goal.returns-in-Some-clause-grid_unread
-returns-in-Some-clause-grid_unread g c = unless _ _ c.in-Some.ensures.alone.0.1
-
-pub returns-in-Some-clause-grid_complete : goal.returns-in-Some-clause-grid_complete
-returns-in-Some-clause-grid_complete g c = unless _ _ c.in-Some.ensures.alone.0.1
-
-pub returns-in-Some-clause-daemon : goal.returns-in-Some-clause-daemon
-returns-in-Some-clause-daemon g c = unless _ _ c.in-Some.ensures.alone.1
-
-pub returns-in-Some-clause-daemon_complete : goal.returns-in-Some-clause-daemon_complete
-returns-in-Some-clause-daemon_complete g c = unless _ _ c.in-Some.ensures.alone.1
+returns-in-Some-clause-ends g c = unless _ _ (alone (map string_bytes c.args.words.now) _ (sym c.in-Some.ensures.value))
 
 pub returns-in-Some-clause-taken : goal.returns-in-Some-clause-taken
-returns-in-Some-clause-taken g c = c.walk-status.ensures.taken
+returns-in-Some-clause-taken g c = c.daemon.ensures.taken
+
+pub returns-in-Some-clause-headline : goal.returns-in-Some-clause-headline
+returns-in-Some-clause-headline g c = λ done lab. absurd (clash _ _ (sym lab) (alone (map string_bytes c.args.words.now) _ (sym c.in-Some.ensures.value)))
 
 pub returns-in-Some-clause-read_fault : goal.returns-in-Some-clause-read_fault
-returns-in-Some-clause-read_fault g c = c.walk-status.ensures.read_fault
+returns-in-Some-clause-read_fault g c = c.daemon.ensures.read_fault
 
 pub returns-in-Some-clause-write_fault : goal.returns-in-Some-clause-write_fault
-returns-in-Some-clause-write_fault g c = c.walk-status.ensures.write_fault
+returns-in-Some-clause-write_fault g c = c.daemon.ensures.write_fault
 
-pub returns-in-Some-weave_of-clause-ends : goal.returns-in-Some-weave_of-clause-ends
-returns-in-Some-weave_of-clause-ends g c = unless _ _ c.in-Some-weave_of.ensures.alone.0.0
+pub returns-in-Some-clause-not_started : goal.returns-in-Some-clause-not_started
+returns-in-Some-clause-not_started g c = c.daemon.ensures.not_started
 
-pub returns-in-Some-weave_of-clause-complete : goal.returns-in-Some-weave_of-clause-complete
-returns-in-Some-weave_of-clause-complete g c = unless _ _ c.in-Some-weave_of.ensures.alone.0.0
+pub returns-in-Some-clause-complete : goal.returns-in-Some-clause-complete
+returns-in-Some-clause-complete g c = unless _ _ (alone (map string_bytes c.args.words.now) _ (sym c.in-Some.ensures.value))
 
-pub returns-in-Some-weave_of-clause-grid : goal.returns-in-Some-weave_of-clause-grid
-returns-in-Some-weave_of-clause-grid g c = unless _ _ c.in-Some-weave_of.ensures.alone.0.1
+pub returns-in-Some-clause-later : goal.returns-in-Some-clause-later
+returns-in-Some-clause-later g c = c.daemon.ensures.later
 
-pub returns-in-Some-weave_of-clause-grid_unread : goal.returns-in-Some-weave_of-clause-grid_unread
-returns-in-Some-weave_of-clause-grid_unread g c = unless _ _ c.in-Some-weave_of.ensures.alone.0.1
+pub returns-in-Some-clause-grid : goal.returns-in-Some-clause-grid
+returns-in-Some-clause-grid g c = unless _ _ (no_grid (map string_bytes c.args.words.now) _ (sym c.in-Some.ensures.value))
 
-pub returns-in-Some-weave_of-clause-grid_complete : goal.returns-in-Some-weave_of-clause-grid_complete
-returns-in-Some-weave_of-clause-grid_complete g c = unless _ _ c.in-Some-weave_of.ensures.alone.0.1
+pub returns-in-Some-clause-grid_unread : goal.returns-in-Some-clause-grid_unread
+returns-in-Some-clause-grid_unread g c = unless _ _ (no_grid (map string_bytes c.args.words.now) _ (sym c.in-Some.ensures.value))
 
-pub returns-in-Some-weave_of-clause-daemon : goal.returns-in-Some-weave_of-clause-daemon
-returns-in-Some-weave_of-clause-daemon g c = unless _ _ c.in-Some-weave_of.ensures.alone.1
+pub returns-in-Some-clause-grid_headline : goal.returns-in-Some-clause-grid_headline
+returns-in-Some-clause-grid_headline g c = λ done. unless _ _ (no_grid (map string_bytes c.args.words.now) _ (sym c.in-Some.ensures.value))
 
-pub returns-in-Some-weave_of-clause-daemon_complete : goal.returns-in-Some-weave_of-clause-daemon_complete
-returns-in-Some-weave_of-clause-daemon_complete g c = unless _ _ c.in-Some-weave_of.ensures.alone.1
+pub returns-in-Some-clause-grid_complete : goal.returns-in-Some-clause-grid_complete
+returns-in-Some-clause-grid_complete g c = unless _ _ (no_grid (map string_bytes c.args.words.now) _ (sym c.in-Some.ensures.value))
 
-pub returns-in-Some-weave_of-clause-taken : goal.returns-in-Some-weave_of-clause-taken
-returns-in-Some-weave_of-clause-taken g c = c.weave-status.ensures.taken
+pub returns-in-Some-clause-daemon : goal.returns-in-Some-clause-daemon
+returns-in-Some-clause-daemon g c = told _ _ _ c.in-Some.ensures.value c.daemon.ensures.daemon
 
-pub returns-in-Some-weave_of-clause-read_fault : goal.returns-in-Some-weave_of-clause-read_fault
-returns-in-Some-weave_of-clause-read_fault g c = c.weave-status.ensures.read_fault
+pub returns-in-Some-clause-daemon_complete : goal.returns-in-Some-clause-daemon_complete
+returns-in-Some-clause-daemon_complete g c = told _ _ _ c.in-Some.ensures.value c.daemon.ensures.complete
 
-pub returns-in-Some-weave_of-clause-write_fault : goal.returns-in-Some-weave_of-clause-write_fault
-returns-in-Some-weave_of-clause-write_fault g c = c.weave-status.ensures.write_fault
+pub returns-in-Some-clause-walk : goal.returns-in-Some-clause-walk
+returns-in-Some-clause-walk g c = unless _ _ (no_walk (map string_bytes c.args.words.now) _ (sym c.in-Some.ensures.value))
+
+pub returns-in-Some-clause-walk_complete : goal.returns-in-Some-clause-walk_complete
+returns-in-Some-clause-walk_complete g c = unless _ _ (no_walk (map string_bytes c.args.words.now) _ (sym c.in-Some.ensures.value))
+
+pub returns-in-Some-clause-weave : goal.returns-in-Some-clause-weave
+returns-in-Some-clause-weave g c = unless _ _ (no_weave (map string_bytes c.args.words.now) _ (sym c.in-Some.ensures.value))
+
+pub returns-in-Some-clause-weave_complete : goal.returns-in-Some-clause-weave_complete
+returns-in-Some-clause-weave_complete g c = unless _ _ (no_weave (map string_bytes c.args.words.now) _ (sym c.in-Some.ensures.value))
+
+pub returns-in-Some-clause-aside : goal.returns-in-Some-clause-aside
+returns-in-Some-clause-aside g c = λ none. absurd (clash _ _ c.in-Some.ensures.value none)
+
+pub returns-clause-usage : goal.returns-clause-usage
+returns-clause-usage g c = (λ e. let no = c.run_input-output.ensures.usage.0 e in (no.0, sym c.in_default.ensures.value, no.1, no.2), λ none. c.run_input-output.ensures.usage.1 (none.0, none.2, none.3))
+
+pub returns-clause-untouched : goal.returns-clause-untouched
+returns-clause-untouched g c = c.run_input-output.ensures.untouched
+
+pub returns-clause-ends : goal.returns-clause-ends
+returns-clause-ends g c = c.run_input-output.ensures.ends
+
+pub returns-clause-taken : goal.returns-clause-taken
+returns-clause-taken g c = c.run_input-output.ensures.taken
+
+pub returns-clause-headline : goal.returns-clause-headline
+returns-clause-headline g c = c.run_input-output.ensures.headline
+
+pub returns-clause-read_fault : goal.returns-clause-read_fault
+returns-clause-read_fault g c = c.run_input-output.ensures.read_fault
+
+pub returns-clause-write_fault : goal.returns-clause-write_fault
+returns-clause-write_fault g c = c.run_input-output.ensures.write_fault
+
+pub returns-clause-complete : goal.returns-clause-complete
+returns-clause-complete g c = c.run_input-output.ensures.complete
+
+pub returns-clause-not_started : goal.returns-clause-not_started
+returns-clause-not_started g c = λ e. absurd (c.run_input-output.ensures.started e)
+
+pub returns-clause-later : goal.returns-clause-later
+returns-clause-later g c = (c.run_input-output.ensures.later.0, c.run_input-output.ensures.later.1, omega arith, omega arith)
+
+pub returns-clause-grid : goal.returns-clause-grid
+returns-clause-grid g c = c.run_input-output.ensures.grid
+
+pub returns-clause-grid_unread : goal.returns-clause-grid_unread
+returns-clause-grid_unread g c = c.run_input-output.ensures.grid_unread
+
+pub returns-clause-grid_headline : goal.returns-clause-grid_headline
+returns-clause-grid_headline g c = c.run_input-output.ensures.grid_headline
+
+pub returns-clause-grid_complete : goal.returns-clause-grid_complete
+returns-clause-grid_complete g c = c.run_input-output.ensures.grid_complete
+
+pub returns-clause-walk : goal.returns-clause-walk
+returns-clause-walk g c = c.run_input-output.ensures.walk
+
+pub returns-clause-walk_complete : goal.returns-clause-walk_complete
+returns-clause-walk_complete g c = c.run_input-output.ensures.walk_complete
+
+pub returns-clause-weave : goal.returns-clause-weave
+returns-clause-weave g c = c.run_input-output.ensures.weave
+
+pub returns-clause-weave_complete : goal.returns-clause-weave_complete
+returns-clause-weave_complete g c = c.run_input-output.ensures.weave_complete
+
+pub returns-clause-daemon : goal.returns-clause-daemon
+returns-clause-daemon g c = unless _ _ (sym c.in_default.ensures.value)
+
+pub returns-clause-daemon_complete : goal.returns-clause-daemon_complete
+returns-clause-daemon_complete g c = unless _ _ (sym c.in_default.ensures.value)
+
+pub returns-clause-aside : goal.returns-clause-aside
+returns-clause-aside g c = λ none. (refl, refl, refl)

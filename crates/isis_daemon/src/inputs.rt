@@ -1,0 +1,89 @@
+//! What needs no ports and no threads: a walk, a weaving, and what makes a text of its input.
+ghost use Rattle.std.specs.Prelude.{◌≡◌, ◌≤◌, map, Some, None, string_bytes, IfSome, IsOk, IsSomeAnd, ◌↔◌};
+ghost use Rattle.isis_edge.specs.Faults.{Rose};
+ghost use Rattle.lab_grid.specs.GridRuns.{grid_end};
+ghost use Rattle.isis_daemon.specs.declared.command.Command.TheVariants as command;
+ghost use Rattle.isis_daemon.specs.Commands.{command_of, grid_size_of, walk_of, weave_of, AreNoInput};
+ghost use Rattle.isis_daemon.specs.GridEnds.{GridEnds};
+ghost use Rattle.isis_daemon.specs.Headline.{IsHeadline, IsGridHeadline};
+ghost use Rattle.isis_daemon.specs.Runs.{Ends, IsTaken, IsTakenWithin, IsDoneUnlessMemory};
+ghost use Rattle.isis_daemon.specs.WalkEnds.{WalkEnds, IsWalkable};
+ghost use Rattle.isis_daemon.specs.WeaveEnds.{WeaveEnds, CanBeWoven};
+
+use crate::command::{walk_of, weave_of};
+use crate::status::Status;
+use crate::texts::run_text;
+use crate::walk::walk;
+use crate::weaving::weave;
+use isis_edge::{Sink, Source};
+use std::alloc::Global;
+
+/// Runs what needs no ports and no threads. The words are tested first, then the input is read.
+pub(crate) fn run_input<I: Source, O: Sink>(
+    alloc: Global,
+    words: &[String],
+    input: &mut I,
+    output: O,
+) -> (O, Status)
+    ensures usage { (result.1 ≡ Status.Usage) ↔ AreNoInput (map string_bytes words.now) }
+    ensures untouched { result.1 ≡ Status.Usage
+        → (I.left input.new ≡ I.left input.old) × (I.faults input.new ≡ I.faults input.old)
+        × (result.0 ≡ output) }
+    ensures started { ¬ (result.1 ≡ Status.NotStarted) }
+    ensures ends { IfSome (command_of (map string_bytes words.now))
+        (λ command. Ends command (I.left input.old) (I.left input.new) (O.held output)
+        (O.held result.0) result.1) }
+    ensures taken { IsTakenWithin (I.left input.old) (I.left input.new) }
+    ensures headline { result.1 ≡ Status.Done
+        → command_of (map string_bytes words.now) ≡ Some command.Lab
+        → IfSome (I.left input.old)
+        (λ octets. IsHeadline octets (O.held output) (O.held result.0)) }
+    ensures read_fault { result.1 ≡ Status.ReadFault
+        → Rose (I.faults input.old) (I.faults input.new) }
+    ensures write_fault { result.1 ≡ Status.WriteFault
+        → Rose (O.faults output) (O.faults result.0) }
+    ensures complete { IfSome (command_of (map string_bytes words.now))
+        (λ command. IsSomeAnd (I.left input.old) (IsTaken command)
+        → ¬ Rose (I.faults input.old) (I.faults input.new)
+        → ¬ Rose (O.faults output) (O.faults result.0)
+        → IsDoneUnlessMemory result.1) }
+    ensures later { (I.faults input.old ≤ I.faults input.new)
+        × (O.faults output ≤ O.faults result.0) }
+    ensures grid { IfSome (grid_size_of (map string_bytes words.now))
+        (λ size. GridEnds size (O.held output) (O.held result.0) result.1) }
+    ensures grid_unread { IfSome (grid_size_of (map string_bytes words.now))
+        (λ _. (I.left input.new ≡ I.left input.old) × (I.faults input.new ≡ I.faults input.old)) }
+    ensures grid_headline { result.1 ≡ Status.Done
+        → IfSome (grid_size_of (map string_bytes words.now))
+        (λ size. IsGridHeadline size (O.held output) (O.held result.0)) }
+    ensures grid_complete { IfSome (grid_size_of (map string_bytes words.now))
+        (λ size. IsOk (grid_end size) → ¬ Rose (O.faults output) (O.faults result.0)
+        → IsDoneUnlessMemory result.1) }
+    ensures walk { IfSome (walk_of (map string_bytes words.now)) (λ asked.
+        WalkEnds asked.0 asked.1 (I.left input.old) (I.left input.new) (O.held output)
+        (O.held result.0) result.1) }
+    ensures walk_complete { IfSome (walk_of (map string_bytes words.now)) (λ asked.
+        IsSomeAnd (I.left input.old) (IsWalkable asked.0 asked.1)
+        → ¬ Rose (I.faults input.old) (I.faults input.new)
+        → ¬ Rose (O.faults output) (O.faults result.0)
+        → IsDoneUnlessMemory result.1) }
+    ensures weave { IfSome (weave_of (map string_bytes words.now)) (λ _.
+        WeaveEnds (I.left input.old) (I.left input.new) (O.held output) (O.held result.0)
+        result.1) }
+    ensures weave_complete { IfSome (weave_of (map string_bytes words.now)) (λ _.
+        IsSomeAnd (I.left input.old) CanBeWoven
+        → ¬ Rose (I.faults input.old) (I.faults input.new)
+        → ¬ Rose (O.faults output) (O.faults result.0)
+        → IsDoneUnlessMemory result.1) }
+{
+    let mut output = output;
+    if let Some(asked) = walk_of(words) {
+        let status = walk(alloc, asked.name, asked.prefix, input, &mut output);
+        return (output, status);
+    }
+    if let Some(()) = weave_of(words) {
+        let status = weave(alloc, input, &mut output);
+        return (output, status);
+    }
+    run_text(alloc, words, input, output)
+}
