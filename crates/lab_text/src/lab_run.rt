@@ -41,9 +41,14 @@ pub(crate) fn run_lab<O: Sink>(
     };
     let dumps = match dumps_of(alloc, lab) {
         Ok(dumps) => dumps,
-        Err(OutOfMemory) => return Err(RunFault::OutOfMemory),
+        Err(OutOfMemory) => {
+            drop(net);
+            return Err(RunFault::OutOfMemory);
+        }
     };
-    write_report(alloc, &net, lab, &dumps, out)
+    let end = write_report(alloc, &net, lab, &dumps, out);
+    drop(net);
+    end
 }
 
 /// Writes the report of the network at the end of a lab script.

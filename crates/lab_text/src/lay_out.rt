@@ -26,18 +26,30 @@ pub(crate) fn lay_out(alloc: Global, script: &LabScript<'_>) -> Result<Network, 
     ensures early { IfOk result (λ net. net.begun ≡ false) }
 {
     let mut net = Network::new(alloc);
-    match add_routers(alloc, &mut net, script) {
-        Ok(()) => {}
-        Err(error) => return Err(error),
-    }
-    match add_links(alloc, &mut net, script) {
-        Ok(()) => {}
-        Err(error) => return Err(error),
-    }
-    match set_keys(alloc, &mut net, script) {
+    match set_up(alloc, &mut net, script) {
         Ok(()) => Ok(net),
-        Err(error) => Err(error),
+        Err(error) => {
+            drop(net);
+            Err(error)
+        }
     }
+}
+
+/// Adds all that the setup lines say to an empty network.
+fn set_up(alloc: Global, net: &mut Network, script: &LabScript<'_>) -> Result<(), OutOfMemory>
+    requires { net.old ≡ empty_lab }
+    ensures value { OnOk result (net.new ≡ laid_out script.now) }
+    ensures has { OnOk result (HasLinks (length script.now.routers) script.now.links net.new) }
+{
+    match add_routers(alloc, net, script) {
+        Ok(()) => {}
+        Err(error) => return Err(error),
+    }
+    match add_links(alloc, net, script) {
+        Ok(()) => {}
+        Err(error) => return Err(error),
+    }
+    set_keys(alloc, net, script)
 }
 
 /// Adds the routers, each without a circuit.
