@@ -12,3 +12,4 @@ pub mod HopLemmas
 pub mod TableLemmas
 pub mod DistanceLemmas
 pub mod ApartLemmas
+pub mod LocalLemmas

@@ -9,3 +9,4 @@ pub mod Search
 pub mod Places
 pub mod Pairs
 pub mod Exploring
+pub mod Local
