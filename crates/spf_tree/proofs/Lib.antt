@@ -13,3 +13,4 @@ pub mod TableLemmas
 pub mod DistanceLemmas
 pub mod ApartLemmas
 pub mod LocalLemmas
+pub mod PassingLemmas

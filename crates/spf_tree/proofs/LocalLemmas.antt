@@ -1,16 +1,16 @@
 -- Least walks to nodes outside a set are least walks still.
 
-use Rattle.std.proofs.Common.{◌≡◌, ◌∙◌, ℕ, zero, suc, ◌+◌, ◌≤◌, ◌<◌, ◌==◌, ◌&&◌, Bool, true, false, if◌then◌else◌, cond, List, [], ◌∷◌, ◌↔◌, ◌⊎◌, Option, Some, None, refl, sym, ap, subst, arith, inl, inr}
+use Rattle.std.proofs.Common.{◌≡◌, ◌≢◌, ◌∙◌, ℕ, zero, suc, ◌+◌, ◌≤◌, ◌<◌, ◌==◌, ◌&&◌, Bool, true, false, if◌then◌else◌, cond, List, [], ◌∷◌, ◌↔◌, ◌⊎◌, Option, Some, None, refl, sym, ap, subst, arith, inl, inr}
 use Rattle.std.specs.List.{Contains, sum_by}
 use Rattle.std.specs.Option.{is_some}
 use Rattle.std.proofs.lemmas.List.Sums.{sum_by-cons}
-use Rattle.std.proofs.lemmas.Bool.{cases_Bool, cases_lt, eqb-true, eq-eqb, and_from}
+use Rattle.std.proofs.lemmas.Bool.{cases_lt, eqb-true, eq-eqb, and_from}
 use Rattle.spf_tree.specs.declared.row.Row.{Row}
 use Rattle.spf_tree.specs.Graphs.{times, same_row}
 use Rattle.spf_tree.specs.Nodes.{is_system}
 use Rattle.spf_tree.specs.Walks.{start, end, IsWalk, cost, IsWithin, AreLeast}
 use Rattle.spf_tree.specs.NextHops.{IsLeastWalk, IsNextHop, first_system}
-use Rattle.spf_tree.specs.Local.{AreExchanged, HasAlike, IsClosed, IsOutside, LeadsAt, is_in}
+use Rattle.spf_tree.specs.Local.{AreExchanged, HasAlike, IsClosed, IsOutside}
 use Rattle.spf_tree.proofs.SearchLemmas.{contains_cases, contains_first, contains_none, contains_rest}
 use Rattle.spf_tree.proofs.WalkLemmas.{within_some}
 
@@ -29,7 +29,7 @@ module _ (rows : List Row) (root : ℕ) (f : ℕ → Option ℕ) (least : AreLea
       let same = other.2 in
       let most = w.2 in
       let e : w.0 ≡ cost walk = omega arith in
-      w.1 ∙ ap Some e
+      w.1 ∙ ap (λ (c : ℕ). Some c) e
 
   -- its part before the last row is one to where that starts
   pub rest-costs : (row : Row) (walk : List Row) (node : ℕ) → IsWalk rows root (row ∷ walk) node → f node ≡ Some (row.metric + cost walk) → f (start row) ≡ Some (cost walk)
@@ -42,9 +42,9 @@ module _ (rows : List Row) (root : ℕ) (f : ℕ → Option ℕ) (least : AreLea
       let same = other.2 in
       let most = before.2 in
       let e : before.0 ≡ cost walk = omega arith in
-      before.1 ∙ ap Some e
+      before.1 ∙ ap (λ (c : ℕ). Some c) e
 
-  module _ (others : List Row) (inside : List ℕ) (out : IsOutside rows others f inside) where
+  module _ (others : List Row) (inside : List ℕ) (out : IsOutside rows others root f inside) where
     -- a walk over alike rows, of the same cost and first system
     pub record IsCarried (walk : List Row) (node : ℕ) : Type 0 where
       pub over : List Row
@@ -52,12 +52,13 @@ module _ (rows : List Row) (root : ℕ) (f : ℕ → Option ℕ) (least : AreLea
       pub costs : cost over ≡ cost walk
       pub first : first_system over ≡ first_system walk
 
-    pub carries : (walk : List Row) (node : ℕ) → IsWalk rows root walk node → f node ≡ Some (cost walk) → is_in inside node ≡ false → IsCarried walk node
+    pub carries : (walk : List Row) (node : ℕ) → IsWalk rows root walk node → f node ≡ Some (cost walk) → (Contains inside node → ⊥) → IsCarried walk node
     carries [] node w is free = record { over = []; is = w; costs = refl; first = refl }
     carries (row ∷ walk) node w is free =
         let before = rest-costs row walk node w is in
-        let at-end : f (end row) ≡ Some (row.metric + cost walk) = ap f w.1 ∙ is in
-        let step = out.row row (cost walk) w.0 (before, at-end) (ap (is_in inside) w.1 ∙ free) in
+        let sum : row.metric + cost walk ≡ cost walk + row.metric = omega arith in
+        let at-end : f (end row) ≡ Some (cost walk + row.metric) = ap f w.1 ∙ is ∙ ap (λ (c : ℕ). Some c) sum in
+        let step = out.row row w.0 (λ e. w.2 (sym w.1 ∙ e)) (cost walk, before, at-end) (λ h. free (subst (λ (n : ℕ). Contains inside n) w.1 h)) in
         let alike = step.0 in
         let rest : IsCarried walk (start row) = carries walk (start row) w.3 before step.1 in
         let metric = alike.metric in
@@ -69,12 +70,12 @@ module _ (rows : List Row) (root : ℕ) (f : ℕ → Option ℕ) (least : AreLea
           first = first-same alike.other row rest.over walk alike.ends rest.first;
         }
 
-    pub next-stays : (g : ℕ → Option ℕ) → AreLeast others root g → ((m : ℕ) → is_in inside m ≡ false → f m ≡ g m) → (target hop : ℕ) → is_in inside target ≡ false → IsNextHop rows root target hop → IsNextHop others root target hop
+    pub next-stays : (g : ℕ → Option ℕ) → AreLeast others root g → ((m : ℕ) → (Contains inside m → ⊥) → f m ≡ g m) → (target hop : ℕ) → (Contains inside target → ⊥) → IsNextHop rows root target hop → IsNextHop others root target hop
     next-stays g other-least same target hop free next =
         let is = next.1 in
         let costs = costs-it next.0 target is in
         let there = carries next.0 target is.is costs free in
-        let g-is : g target ≡ Some (cost there.over) = sym (same target free) ∙ costs ∙ ap Some (sym there.costs) in (
+        let g-is : g target ≡ Some (cost there.over) = sym (same target free) ∙ costs ∙ ap (λ (c : ℕ). Some c) (sym there.costs) in (
           there.over,
           record {
             is = there.is;
@@ -84,26 +85,23 @@ module _ (rows : List Row) (root : ℕ) (f : ℕ → Option ℕ) (least : AreLea
         )
 
 -- next hops of nodes outside the set are one in both graphs
-pub hops-same : (old new : List Row) (root : ℕ) (f g : ℕ → Option ℕ) (inside : List ℕ) → AreLeast old root f → AreLeast new root g → ((m : ℕ) → is_in inside m ≡ false → f m ≡ g m) → IsOutside old new f inside → IsOutside new old g inside
-    → (target hop : ℕ) → is_in inside target ≡ false → IsNextHop old root target hop ↔ IsNextHop new root target hop
+pub hops-same : (old new : List Row) (root : ℕ) (f g : ℕ → Option ℕ) (inside : List ℕ) → AreLeast old root f → AreLeast new root g → ((m : ℕ) → (Contains inside m → ⊥) → f m ≡ g m) → IsOutside old new root f inside → IsOutside new old root g inside
+    → (target hop : ℕ) → (Contains inside target → ⊥) → IsNextHop old root target hop ↔ IsNextHop new root target hop
 hops-same old new root f g inside least-old least-new same out-old out-new target hop free = (
   next-stays old root f least-old new inside out-old g least-new same target hop free,
   next-stays new root g least-new old inside out-new f least-old (λ m not-in. sym (same m not-in)) target hop free,
 )
 
 -- a closed set has the rows of least walks outside of it outside
-pub closed-out : (rows others : List Row) (costs : ℕ → Option ℕ) (inside : List ℕ) → IsClosed rows others costs inside → IsOutside rows others costs inside
-closed-out rows others costs inside closed =
+pub closed-out : (rows others : List Row) (root : ℕ) (costs : ℕ → Option ℕ) (inside : List ℕ) → IsClosed rows others root costs inside → IsOutside rows others root costs inside
+closed-out rows others root costs inside closed =
     record {
-      row = λ row c has leads free. (
-        (elim (closed.seeds row c has leads) [
+      row = λ row has ne leads free. (
+        (elim (closed.seeds row has ne leads) [
           | inl there ↦ there
-          | inr in-set ↦ absurd (let e : true ≡ false = sym in-set ∙ free in cc)
+          | inr in-set ↦ absurd (free in-set)
         ]),
-        (elim (cases_Bool (is_in inside (start row))) [
-          | inl in-set ↦ absurd (let e : true ≡ false = sym (closed.goes_on row c has leads in-set) ∙ free in cc)
-          | inr not-in ↦ not-in
-        ]),
+        (λ in-set. free (closed.goes_on row has ne leads in-set)),
       );
     }
 
@@ -127,7 +125,7 @@ times-cons row x rows = sum_by-cons (λ y. cond (same_row row y) 1 0) x rows
 
 there-step : (row first : Row) (rows : List Row) → (1 ≤ times rows row → HasAlike rows row) → (b : Bool) → same_row row first ≡ b → 1 ≤ cond b 1 0 + times rows row → HasAlike (first ∷ rows) row
 there-step row first rows rest true e some = alike-first row first rows e
-there-step row first rows rest false e some = alike-more row first rows (rest some)
+there-step row first rows rest false e some = let more : 1 ≤ 0 + times rows row = some in alike-more row first rows (rest (omega arith))
 
 -- a row that is counted is there alike, and one that is there is counted
 pub counted-there : (rows : List Row) (row : Row) → 1 ≤ times rows row → HasAlike rows row

@@ -10,3 +10,4 @@ pub mod Places
 pub mod Pairs
 pub mod Exploring
 pub mod Local
+pub mod Passing

@@ -1,14 +1,11 @@
 -- Nodes outside a set, over least walks: what a change of rows and costs leaves as it was. All of it own.
 
-use Rattle.std.specs.Prelude.{◌≡◌, ℕ, ◌+◌, ◌==◌, ◌⊎◌, Bool, true, false, List, Option, Some}
-use Rattle.std.specs.List.{Contains, list_any}
+use Rattle.std.specs.Prelude.{◌≡◌, ◌≢◌, ℕ, ◌+◌, ◌⊎◌, List, Option}
+use Rattle.std.specs.List.{Contains}
 use Rattle.spf_tree.specs.declared.row.Row.{Row}
 use Rattle.spf_tree.specs.Graphs.{times}
 use Rattle.spf_tree.specs.Walks.{start, end}
-
--- whether a node is in the set
-abbrev pub is_in : List ℕ → ℕ → Bool
-is_in nodes node = list_any (λ (n : ℕ). n == node) nodes
+use Rattle.spf_tree.specs.Exploring.{LeadsBy}
 
 -- the list has a row of the same ends and metric
 pub record HasAlike (rows : List Row) (row : Row) : Type 0 where
@@ -18,22 +15,22 @@ pub record HasAlike (rows : List Row) (row : Row) : Type 0 where
   pub ends : end other ≡ end row
   pub metric : other.metric ≡ row.metric
 
--- the row leads from one cost to the next
-abbrev pub LeadsAt : (ℕ → Option ℕ) → Row → ℕ → Type 0
-LeadsAt costs row c = (costs (start row) ≡ Some c) × (costs (end row) ≡ Some (row.metric + c))
+-- the metric is the difference of the costs of a row's ends
+abbrev pub LeadsAt : (ℕ → Option ℕ) → Row → Type 0
+LeadsAt costs row = LeadsBy (costs (start row)) (costs (end row)) row.metric
 
 -- a row of least walks that ends outside the set starts outside it, and the other list has it
-pub record IsOutside (rows others : List Row) (costs : ℕ → Option ℕ) (inside : List ℕ) : Type 0 where
-  pub row : (row : Row) (c : ℕ) → Contains rows row → LeadsAt costs row c
-      → is_in inside (end row) ≡ false → HasAlike others row × (is_in inside (start row) ≡ false)
+pub record IsOutside (rows others : List Row) (root : ℕ) (costs : ℕ → Option ℕ) (inside : List ℕ) : Type 0 where
+  pub row : (row : Row) → Contains rows row → end row ≢ root → LeadsAt costs row
+      → (Contains inside (end row) → ⊥) → HasAlike others row × (Contains inside (start row) → ⊥)
 
 -- what a walk over rows has to find: the ends of rows of least walks that the other list lacks, and with each node the
 -- ends of such rows that start there
-pub record IsClosed (rows others : List Row) (costs : ℕ → Option ℕ) (inside : List ℕ) : Type 0 where
-  pub seeds : (row : Row) (c : ℕ) → Contains rows row → LeadsAt costs row c
-      → HasAlike others row ⊎ (is_in inside (end row) ≡ true)
-  pub goes_on : (row : Row) (c : ℕ) → Contains rows row → LeadsAt costs row c
-      → is_in inside (start row) ≡ true → is_in inside (end row) ≡ true
+pub record IsClosed (rows others : List Row) (root : ℕ) (costs : ℕ → Option ℕ) (inside : List ℕ) : Type 0 where
+  pub seeds : (row : Row) → Contains rows row → end row ≢ root → LeadsAt costs row
+      → HasAlike others row ⊎ Contains inside (end row)
+  pub goes_on : (row : Row) → Contains rows row → end row ≢ root → LeadsAt costs row
+      → Contains inside (start row) → Contains inside (end row)
 
 -- rows with some taken out and some put in
 abbrev pub AreExchanged : List Row → List Row → List Row → List Row → Type 0
