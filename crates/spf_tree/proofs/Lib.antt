@@ -14,3 +14,4 @@ pub mod DistanceLemmas
 pub mod ApartLemmas
 pub mod LocalLemmas
 pub mod PassingLemmas
+pub mod EnteringLemmas

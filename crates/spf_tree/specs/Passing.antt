@@ -123,6 +123,13 @@ pub record AreEntered (rows : List Row) (known : List (ℕ × ℕ)) (root : ℕ)
 abbrev pub IsOther : ℕ → ℕ → Type 0
 IsOther root node = (node ≢ root) × (is_system node ≡ true)
 
+-- a system of the set that isn't the root is there as its own hop
+pub record IsOwn (node root : ℕ) (inside : List ℕ) (old new : List (ℕ × ℕ)) : Type 0 where
+  pub longer : IsLonger old new
+  pub from : (n w : ℕ) → Contains new (n, w)
+      → Contains old (n, w) ⊎ (IsOther root node × (n ≡ node) × (w ≡ node))
+  pub there : IsOther root node → Contains inside node → Contains new (node, node)
+
 -- each system of the first so many nodes that is in the set and isn't the root is there as its own hop
 pub record AreOwn (nodes : List ℕ) (root : ℕ) (inside : List ℕ) (old new : List (ℕ × ℕ))
     (many : ℕ) : Type 0 where
@@ -133,6 +140,13 @@ pub record AreOwn (nodes : List ℕ) (root : ℕ) (inside : List ℕ) (old new :
       → Contains inside (slice_index_or nodes k d)
       → Contains new (slice_index_or nodes k d, slice_index_or nodes k d)
 
+-- the pair is there if its node is outside the set
+pub record IsKept (node word : ℕ) (inside : List ℕ) (old new : List (ℕ × ℕ)) : Type 0 where
+  pub longer : IsLonger old new
+  pub from : (n w : ℕ) → Contains new (n, w)
+      → Contains old (n, w) ⊎ ((Contains inside node → ⊥) × (n ≡ node) × (w ≡ word))
+  pub there : (Contains inside node → ⊥) → Contains new (node, word)
+
 -- the first so many pairs whose node is outside the set are there too
 pub record AreKept (known : List (ℕ × ℕ)) (inside : List ℕ) (old new : List (ℕ × ℕ)) (many : ℕ) : Type 0 where
   pub longer : IsLonger old new
@@ -140,3 +154,9 @@ pub record AreKept (known : List (ℕ × ℕ)) (inside : List ℕ) (old new : Li
       → Contains old (n, w) ⊎ (Contains known (n, w) × (Contains inside n → ⊥))
   pub here : (k : ℕ) (d : ℕ × ℕ) → k < many → (Contains inside (slice_index_or known k d).0 → ⊥)
       → Contains new (slice_index_or known k d)
+
+-- each next hop of a node of the set is there
+abbrev pub HaveAllInside : List Row → ℕ → List Label → List ℕ → List (ℕ × ℕ) → Type 0
+HaveAllInside rows root labels inside found =
+    (target hop : ℕ) → Contains inside target → IsHopByLabels rows root labels target hop
+    → Contains found (target, hop)
