@@ -1,4 +1,6 @@
--- What the check doesn't find alone: maps, and the two lists of a LAN.
+-- What the check doesn't find alone: maps, binary searches, and the two lists of a LAN.
+mod MapLemmas
+mod SearchLemmas
 mod PairLemmas
 mod TagLemmas
 mod PressLemmas

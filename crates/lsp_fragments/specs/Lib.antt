@@ -4,4 +4,5 @@ pub mod Entries
 pub mod Fits
 pub mod GoodSplits
 pub mod Issues
+pub mod Keyed
 pub mod Kept

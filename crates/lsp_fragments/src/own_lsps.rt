@@ -11,11 +11,10 @@ ghost use Rattle.model_router.specs.Sorted.{RisesFrom};
 ghost use Rattle.lsp_fragments.specs.Issues.{all_rest, issue_next, issue_above};
 ghost use Rattle.lsp_fragments.specs.Kept.{all_issued, issued_from, first_id};
 
-use crate::by_id::{age_all, copy_of, id_above, id_from, kept_of, place_of};
+use crate::by_id::{age_all, copy_of, id_above, id_from, kept_of, place_of, put_at, take_out};
 use crate::issue::Issue;
 use crate::kept::Kept;
 use isis_base::{Key, LspId, Octets, OutOfMemory};
-use ordered::{insert_at, take_out};
 use std::alloc::Global;
 use std::marker::Model;
 
@@ -109,7 +108,7 @@ impl OwnLsps {
             tlvs,
             age: 0,
         };
-        insert_at(&mut self.list, place, kept)
+        put_at(&mut self.list, place, kept)
     }
 
     /// The LSP ID isn't issued any longer.
@@ -117,7 +116,7 @@ impl OwnLsps {
         ensures issued { self.new.issued ≡ erase self.old.issued (lsp_number id) }
         ensures spare { self.old.spare ≤ self.new.spare }
     {
-        take_out(&mut self.list, id.to_number());
+        take_out(&mut self.list, id);
     }
 
     /// Whether the LSP ID is issued.

@@ -12,7 +12,7 @@
 //! - `ids.rt`: LSP IDs in a sorted list
 #![tactic(auto)]
 
-pub mod ids;
+mod ids;
 mod let_go;
 mod second;
 

@@ -1,7 +1,5 @@
--- The definitions: ranks, routes, lookups, order, patches, and how they are put in.
+-- The definitions: ranks, routes, lookups, order.
 pub mod Ranks
 pub mod Routes
 pub mod Lookups
 pub mod Order
-pub mod Patches
-pub mod Putting

@@ -11,6 +11,8 @@ mod GreetingLemmas
 mod SentLemmas
 mod StepLemmas
 mod PrefixLemmas
+mod MapLemmas
+mod SearchLemmas
 mod StartLemmas
 mod ChangeLemmas
 mod RestLemmas
@@ -23,7 +25,6 @@ mod LastLemmas
 pub mod RouteLemmas
 mod LeakedUpLemmas
 mod MovedLemmas
-mod OutbidLemmas
 mod RefreshLemmas
 mod FaceLemmas
 mod KeepLemmas

@@ -23,8 +23,7 @@ impl Machine {
                 circuit,
                 level,
                 lsp,
-                answer,
-            } => self.hear_lsp(circuit, level, &lsp, answer),
+            } => self.hear_lsp(circuit, level, &lsp, None),
             Deed::Snp {
                 circuit,
                 level,

@@ -41,7 +41,6 @@ mod own;
 mod plan;
 mod plan_change;
 mod plan_lsp;
-mod plan_outbid;
 mod plan_second;
 mod plan_snp;
 mod prefix_list;

@@ -6,7 +6,6 @@ ghost use Rattle.model_router.specs.Receiving.{lsp_drop};
 ghost use Rattle.model_router.specs.Steps.{step};
 ghost use Rattle.flag_sync.specs.Heard.{answer_of, heard_of};
 ghost use Rattle.router_desk.specs.Opening.{envelope_of};
-ghost use Rattle.router_routes.specs.Following.{IsFollowing};
 ghost use Rattle.router_routes.specs.Outlooks.{outlook_of};
 ghost use Rattle.router_core.specs.Calm.{is_calm_answer};
 ghost use Rattle.router_core.specs.Events.{IsThere};
@@ -27,7 +26,6 @@ use flag_sync::{LspAnswer, LspHeard};
 use isis_base::laws::lsp_id_law;
 use isis_base::{Level, OutOfMemory};
 use router_desk::Envelope;
-use router_routes::Following;
 
 impl Machine {
     /// The plan of an LSP that came (ISO 10589 7.3.15.1); `None` where what it changes isn't known beforehand.
@@ -36,14 +34,12 @@ impl Machine {
         circuit: u8,
         from: (Level, Envelope),
         lsp: &LspHeard<'a>,
-        following: &Following,
         marks: Marks,
     ) -> Result<Option<Plan<'a>>, OutOfMemory>
         requires there { IsThere self.now circuit }
         requires number { 0 < lsp.now.entry.number }
         requires octets { 27 ≤ length lsp.now.octets.now }
         requires reached { IsReached self.now }
-        requires following { IsFollowing (outlook_of self.now) following.now }
         requires marks { AreTrue marks self.now }
         ensures { IfOk result (λ o. IfSome o
             (IsPlan self.now (lsp_event circuit from.0 from.1 lsp.now))) }
@@ -54,12 +50,6 @@ impl Machine {
             None => {}
         }
         let row = self.level(level).lsp_case(self.desk.system(), lsp);
-        match row {
-            LspAnswer::Outbid { above } => {
-                return self.plan_outbid(circuit, from, lsp, above, following);
-            }
-            _ => {}
-        }
         let reply = self.acknowledged(circuit, level, lsp, row)?;
         let (told, marks) = match self.told_by_lsp(circuit, from, lsp, row, marks)? {
             Some(both) => both,
@@ -69,7 +59,6 @@ impl Machine {
             circuit,
             level,
             lsp: *lsp,
-            answer: None,
         };
         Ok(Some(Plan {
             deed,

@@ -12,6 +12,3 @@ pub mod HopLemmas
 pub mod TableLemmas
 pub mod DistanceLemmas
 pub mod ApartLemmas
-pub mod LocalLemmas
-pub mod PassingLemmas
-pub mod EnteringLemmas

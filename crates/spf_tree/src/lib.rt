@@ -14,23 +14,18 @@
 //! - `label.rt`, `labels.rt`: costs known so far; `queue.rt`: offers that wait; `search.rt`: the search
 //! - `distances.rt`: what a search ends with; `scratch.rt`: distances from scratch
 //! - `reach.rt`: what least walks lead to; `next.rt`: next hops of one target; `table.rt`: of all targets at once
-//! - `inside.rt`: the nodes whose next hops a change may change; `passing.rt`: what rows of least walks pass on; `entering.rt`:
-//!   the hops of a set of nodes, by those outside; `after.rt`: the table of all hops after a change
 //! - `hops.rt`: lists of systems
 //! - `offers.rt`: offers by numbers of nodes, for the crate that repairs distances
 //! - `laws.rt`: what follows for all rows
 #![tactic(auto)]
 
-mod after;
 mod choice;
 mod distances;
 mod edge;
 mod edges;
-mod entering;
 mod graph;
 mod hops;
 mod indexed;
-mod inside;
 mod label;
 mod labels;
 pub mod laws;
@@ -38,7 +33,6 @@ mod next;
 mod node;
 mod nodes;
 mod offers;
-mod passing;
 mod queue;
 mod reach;
 mod row;
@@ -60,7 +54,6 @@ pub mod parts {
     pub use crate::reach::is_step;
 }
 
-pub use after::{HopsAfter, hops_after};
 pub use choice::usable;
 pub use distances::Distances;
 pub use graph::Graph;

@@ -107,7 +107,7 @@ fn table_all(
 }
 
 /// The pairs in order, each once.
-pub fn pairs_in_order(mut pairs: Vec<(u64, u64)>) -> Vec<(u64, u64)>
+fn pairs_in_order(mut pairs: Vec<(u64, u64)>) -> Vec<(u64, u64)>
     ensures rising { IsStrictlySortedBy pair_cmp result.items }
     ensures all { (pair : ℕ × ℕ) → Contains pairs.items pair → Contains result.items pair }
     ensures none { (pair : ℕ × ℕ) → Contains result.items pair → Contains pairs.items pair }
@@ -118,7 +118,7 @@ pub fn pairs_in_order(mut pairs: Vec<(u64, u64)>) -> Vec<(u64, u64)>
 }
 
 /// The place of the first pair whose target isn't below this one.
-pub fn first_pair(pairs: &[(u64, u64)], target: u64) -> usize
+fn first_pair(pairs: &[(u64, u64)], target: u64) -> usize
     requires { IsTable pairs.now }
     ensures within { result ≤ length pairs.now }
     ensures below { (k : ℕ) (d : ℕ × ℕ) → k < result → (slice_index_or pairs.now k d).0 < target }
@@ -163,22 +163,6 @@ impl HopTable {
     {
         hops_beside(alloc, self.pairs.as_slice(), number(target))
     }
-}
-
-/// The pairs of a table.
-pub fn pairs_of(table: &HopTable) -> &[(u64, u64)]
-    ensures same { result.now ≡ table.now }
-    ensures table { IsTable result.now }
-{
-    table.pairs.as_slice()
-}
-
-/// The table of pairs.
-pub fn table_of(pairs: Vec<(u64, u64)>) -> HopTable
-    requires { IsTable pairs.items }
-    ensures { result ≡ pairs.items }
-{
-    HopTable { pairs }
 }
 
 /// The hops beside a target.

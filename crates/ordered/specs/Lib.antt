@@ -1,2 +1,0 @@
--- The definitions: lists by a key of their items.
-pub mod Keyed
