@@ -1,7 +1,6 @@
 -- The two lists of a LAN after a neighbour is kept, and after a second.
-use Rattle.std.proofs.Common.{◌≡◌, ℕ, suc, ◌+◌, ◌<◌, ◌≤◌, ◌⊎◌, inl, inr, true, false, Bool, not, ◌&&◌, ◌||◌, nat_le, eqb, nat_lt, List, [], ◌∷◌, length, map, Option, Some, None, IsSome, is_some, is_none, if◌then◌else◌, refl, sym, ap, ◌∙◌, subst, arith}
+use Rattle.std.proofs.Common.{◌≡◌, ℕ, suc, ◌+◌, ◌<◌, ◌≤◌, ◌⊎◌, inl, inr, true, false, Bool, not, ◌&&◌, ◌||◌, nat_le, eqb, nat_lt, List, [], ◌∷◌, length, map, Option, Some, None, IsSome, is_some, is_none, if◌then◌else◌, refl, sym, ap, ◌∙◌, subst, arith, Result, Ok, Err, MatchResult}
 use Rattle.std.specs.Result.{is_ok, is_err}
-use Rattle.std.proofs.Common.{Result, Ok, Err, MatchResult}
 use Rattle.std.specs.List.{AllByRecursion}
 use Rattle.std.proofs.lemmas.Bool.Decides.{nat_tests}
 use Rattle.model_router.specs.Maps.{find, put, erase}
@@ -10,10 +9,11 @@ use Rattle.model_router.specs.Adjacencies as model
 use Rattle.model_router.specs.Seconds as seconds
 use Rattle.model_router.specs.Numbers.{system_number}
 use Rattle.adjacency.specs.declared.neighbour.Neighbour.{Neighbour}
-use Rattle.adjacency.specs.Views.{neighbour_of}
+use Rattle.adjacency.specs.Views.{neighbour_of, by_snpa, snpa_of}
 use Rattle.adjacency.specs.Lans.{AreHeard, neighbours, ups, was_up, has_boot, some_up_over}
-use Rattle.adjacency.specs.Inside.{by_snpa, snpa_of, tagged, untagged, chosen, shown, tags_of, lan_of, IsLan, IsPlace, IsGap, keeps_boot, all_less, some_ended, is_ended, less_by_one}
-use Rattle.adjacency.proofs.MapLemmas.{choose, rises-less, length-keyed, length-put, put-rises, find-place, find-gap}
+use Rattle.ordered.specs.Keyed.{IsPlace, IsGap}
+use Rattle.adjacency.specs.Inside.{tagged, untagged, chosen, shown, tags_of, lan_of, IsLan, keeps_boot, all_less, some_ended, is_ended, less_by_one}
+use Rattle.ordered.proofs.MapLemmas.{choose, rises-less, length-keyed, length-put, put-rises, find-place, find-gap}
 use Rattle.adjacency.proofs.TagLemmas.{has_tag, untagged-tagged, length-untagged, chosen-few, untagged-rises, chosen-rises, untagged-put, chosen-put, chosen-erase, find-chosen, find-untagged, tagged-reads_back}
 
 abbrev Tags : Type 0

@@ -1,6 +1,4 @@
--- What the check doesn't find alone: maps, binary searches, and the two lists of a LAN.
-mod MapLemmas
-mod SearchLemmas
+-- What the check doesn't find alone: maps, and the two lists of a LAN.
 mod PairLemmas
 mod TagLemmas
 mod PressLemmas

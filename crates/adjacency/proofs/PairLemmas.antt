@@ -1,55 +1,36 @@
 -- What is found and put at a place of a list of pairs in order.
-use Rattle.std.proofs.Common.{◌≡◌, ℕ, zero, suc, ◌+◌, ◌<◌, ◌≤◌, true, false, Bool, nat_le, ◌&&◌, List, [], ◌∷◌, length, get_or, set, Option, Some, None, is_none, is_some, if◌then◌else◌, refl, sym, ap, ◌∙◌, subst, arith}
+use Rattle.std.proofs.Common.{◌≡◌, ℕ, ◌+◌, ◌<◌, ◌≤◌, true, false, Bool, nat_le, ◌&&◌, List, [], ◌∷◌, length, get_or, set, Option, Some, None, is_none, is_some, if◌then◌else◌, refl, sym, ap, ◌∙◌, subst, arith}
 use Rattle.std.specs.List.{insert}
 use Rattle.std.proofs.lemmas.Bool.Decides.{nat_tests}
 use Rattle.model_router.specs.Maps.{find, put}
 use Rattle.model_router.specs.Sorted.{RisesFrom}
-use Rattle.adjacency.specs.Inside.{keyed, AllAbove, IsPlace, IsGap}
+use Rattle.ordered.specs.Keyed.{keyed, paired, IsPlace, IsGap}
+use Rattle.ordered.proofs.PairLemmas as pairs
 use Rattle.adjacency.specs.Remembered.{number_of, AreBoots, is_full, greater}
-use Rattle.adjacency.proofs.MapLemmas.{put-rises, length-put}
+use Rattle.ordered.proofs.MapLemmas.{put-rises, length-put}
+
+-- a list is that of its pairs
+same : (xs : List (ℕ × ℕ)) → paired number_of (λ pair. pair.1) xs ≡ xs
+same [] = refl
+same (x ∷ xs) = ap (λ (m : List (ℕ × ℕ)). x ∷ m) (same xs)
 
 pub keyed-rises : (xs : List (ℕ × ℕ)) (least : ℕ) → RisesFrom least xs → RisesFrom least (keyed number_of xs)
 keyed-rises [] least r = tt
 keyed-rises (x ∷ xs) least r = (r.0, keyed-rises xs (x.0 + 1) r.1)
 
 pub find-pair : (xs : List (ℕ × ℕ)) (n i : ℕ) (d : ℕ × ℕ) → IsPlace number_of xs n i → find xs n ≡ Some (get_or xs i d).1
-find-pair [] n i d at = absurd (let h = at.inside in omega (arith, h))
-find-pair (x ∷ xs) n zero d at = let h = at.here d in grind (arith, nat_tests, h)
-find-pair (x ∷ xs) n (suc i) d at =
-    let h = at.low.0 in
-    let rest : IsPlace number_of xs n i = record { inside = (let k = at.inside in omega (arith, k)); low = at.low.1; here = at.here; high = at.high } in
-    grind (arith, nat_tests, h, find-pair xs n i d rest)
+find-pair xs n i d at = ap (λ (m : List (ℕ × ℕ)). find m n) (sym (same xs)) ∙ pairs.find-pair number_of (λ pair. pair.1) xs n i d at
 
 pub put-pair : (xs : List (ℕ × ℕ)) (n i v : ℕ) → IsPlace number_of xs n i → put xs n v ≡ set xs i (n, v)
-unfolding put
-put-pair [] n i v at = absurd (let h = at.inside in omega (arith, h))
-put-pair (x ∷ xs) n zero v at = let h = at.here x in grind (arith, nat_tests, h)
-put-pair (x ∷ xs) n (suc i) v at =
-    let h = at.low.0 in
-    let rest : IsPlace number_of xs n i = record { inside = (let k = at.inside in omega (arith, k)); low = at.low.1; here = at.here; high = at.high } in
-    grind (arith, nat_tests, h, put-pair xs n i v rest)
-
-none-above : (xs : List (ℕ × ℕ)) (n : ℕ) → AllAbove number_of n xs → find xs n ≡ None
-none-above [] n a = refl
-none-above (x ∷ xs) n a = let h = a.0 in grind (arith, nat_tests, h, none-above xs n a.1)
+put-pair xs n i v at =
+    ap (λ (m : List (ℕ × ℕ)). put m n v) (sym (same xs)) ∙ pairs.put-pair number_of (λ pair. pair.1) xs n i (n, v) refl at ∙ same (set xs i (n, v))
 
 pub find-no_pair : (xs : List (ℕ × ℕ)) (n i : ℕ) → IsGap number_of xs n i → find xs n ≡ None
-find-no_pair [] n i gap = refl
-find-no_pair (x ∷ xs) n zero gap = none-above (x ∷ xs) n gap.high
-find-no_pair (x ∷ xs) n (suc i) gap =
-    let h = gap.low.0 in
-    let rest : IsGap number_of xs n i = record { inside = (let k = gap.inside in omega (arith, k)); low = gap.low.1; high = gap.high } in
-    grind (arith, nat_tests, h, find-no_pair xs n i rest)
+find-no_pair xs n i gap = ap (λ (m : List (ℕ × ℕ)). find m n) (sym (same xs)) ∙ pairs.find-no_pair number_of (λ pair. pair.1) xs n i gap
 
 pub put-new_pair : (xs : List (ℕ × ℕ)) (n i v : ℕ) → IsGap number_of xs n i → put xs n v ≡ insert xs i (n, v)
-unfolding put
-put-new_pair [] n zero v gap = refl
-put-new_pair [] n (suc i) v gap = refl
-put-new_pair (x ∷ xs) n zero v gap = let h = gap.high.0 in grind (arith, nat_tests, h)
-put-new_pair (x ∷ xs) n (suc i) v gap =
-    let h = gap.low.0 in
-    let rest : IsGap number_of xs n i = record { inside = (let k = gap.inside in omega (arith, k)); low = gap.low.1; high = gap.high } in
-    grind (arith, nat_tests, h, put-new_pair xs n i v rest)
+put-new_pair xs n i v gap =
+    ap (λ (m : List (ℕ × ℕ)). put m n v) (sym (same xs)) ∙ pairs.put-new_pair number_of (λ pair. pair.1) xs n i (n, v) refl gap ∙ same (insert xs i (n, v))
 
 -- one more is put where there is room, or the system is there
 pub put-boots : (xs : List (ℕ × ℕ)) (space n v : ℕ) → AreBoots xs space → is_full xs n ≡ false → AreBoots (put xs n v) space

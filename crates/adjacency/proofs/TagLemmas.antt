@@ -4,7 +4,7 @@ use Rattle.std.proofs.lemmas.Bool.Decides.{nat_tests}
 use Rattle.model_router.specs.Maps.{find, put, erase}
 use Rattle.model_router.specs.Sorted.{RisesFrom}
 use Rattle.adjacency.specs.Inside.{tagged, untagged, chosen}
-use Rattle.adjacency.proofs.MapLemmas.{choose, rises-less, find-above, put-above, erase-above}
+use Rattle.ordered.proofs.MapLemmas.{choose, rises-less, find-above, put-above, erase-above}
 
 pub untagged-tagged : {V : Type 0} (up heard : List (ℕ × V)) → untagged (tagged up heard) ≡ heard
 untagged-tagged up [] = refl

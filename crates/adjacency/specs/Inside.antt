@@ -1,49 +1,16 @@
 -- How the neighbours that are heard on a LAN lie in two lists, all of them and those in state Up
 -- (own).
-use Rattle.std.specs.Prelude.{◌≡◌, ℕ, ◌-◌, ◌<◌, ◌≤◌, ◌==◌, nat_le, suc, Bool, ◌||◌, false, Option, Some, None, List, [], ◌∷◌, length, take, drop, slice_index_or, Result, MatchResult, is_some, if◌then◌else◌}
+use Rattle.std.specs.Prelude.{◌≡◌, ℕ, ◌-◌, ◌≤◌, ◌==◌, nat_le, Bool, ◌||◌, false, Option, Some, None, List, [], ◌∷◌, length, Result, MatchResult, is_some, if◌then◌else◌}
 use Rattle.std.specs.List.{AllByRecursion}
 use Rattle.model_router.specs.Maps.{find}
 use Rattle.model_router.specs.Sorted.{RisesFrom}
 use Rattle.model_router.specs.Routers.{LanNeighbour}
-use Rattle.model_router.specs.Numbers.{system_number, snpa_number}
+use Rattle.model_router.specs.Numbers.{system_number}
 use Rattle.adjacency.specs.declared.neighbour.Neighbour.{Neighbour}
-use Rattle.adjacency.specs.Views.{neighbour_of}
+use Rattle.ordered.specs.Keyed.{IsPlace, IsGap}
+use Rattle.adjacency.specs.Views.{neighbour_of, snpa_of, by_snpa}
 
--- ---- a list as a map
-
--- a list's items by a key of each
-abbrev pub keyed : {X : Type 0} → (X → ℕ) → List X → List (ℕ × X)
-keyed key [] = []
-keyed key (x ∷ xs) = (key x, x) ∷ keyed key xs
-
-abbrev pub snpa_of : Neighbour → ℕ
-snpa_of n = snpa_number n.snpa
-
--- neighbours by SNPA
-abbrev pub by_snpa : List Neighbour → List (ℕ × Neighbour)
-by_snpa ns = keyed snpa_of ns
-
--- each key is below n, and each is above it
-abbrev pub AllBelow : {X : Type 0} → (X → ℕ) → ℕ → List X → Type 0
-AllBelow key n [] = Unit {0}
-AllBelow key n (x ∷ xs) = (key x < n) × AllBelow key n xs
-
-abbrev pub AllAbove : {X : Type 0} → (X → ℕ) → ℕ → List X → Type 0
-AllAbove key n [] = Unit {0}
-AllAbove key n (x ∷ xs) = (n < key x) × AllAbove key n xs
-
--- the place has the item of this key, with lesser ones before it and greater ones behind it
-pub record IsPlace {X : Type 0} (key : X → ℕ) (xs : List X) (n place : ℕ) : Type 0 where
-  pub inside : place < length xs
-  pub low : AllBelow key n (take place xs)
-  pub here : (d : X) → key (slice_index_or xs place d) ≡ n
-  pub high : AllAbove key n (drop (suc place) xs)
-
--- no item has this key: lesser ones are before the place, and greater ones from it on
-pub record IsGap {X : Type 0} (key : X → ℕ) (xs : List X) (n place : ℕ) : Type 0 where
-  pub inside : place ≤ length xs
-  pub low : AllBelow key n (take place xs)
-  pub high : AllAbove key n (drop place xs)
+-- ---- a list by SNPA
 
 -- a place of the neighbour of an SNPA, where it is one of the list, and else where it would go
 abbrev pub IsAt : List Neighbour → ℕ → Result ℕ ℕ → Type 0

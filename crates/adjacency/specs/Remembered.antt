@@ -2,7 +2,7 @@
 use Rattle.std.specs.Prelude.{ℕ, ◌≤◌, nat_le, nat_lt, Bool, ◌&&◌, List, length, Option, Some, None, is_none, Result, MatchResult, if◌then◌else◌}
 use Rattle.model_router.specs.Maps.{find}
 use Rattle.model_router.specs.Sorted.{RisesFrom}
-use Rattle.adjacency.specs.Inside.{IsPlace, IsGap}
+use Rattle.ordered.specs.Keyed.{IsPlace, IsGap}
 
 -- own
 abbrev pub number_of : ℕ × ℕ → ℕ

@@ -1,5 +1,5 @@
 -- Neighbours, hellos and one's own part as the model of the router has them.
-use Rattle.std.specs.Prelude.{ℕ, Bool, true, false, [], Option, Some, None}
+use Rattle.std.specs.Prelude.{ℕ, Bool, true, false, List, [], Option, Some, None}
 use Rattle.isis_base.specs.declared.identifiers.SystemId.{SystemId}
 use Rattle.isis_base.specs.declared.level.LevelSet.{LevelSet}
 use Rattle.isis_base.specs.declared.level.LevelSet.TheVariants as levels
@@ -9,6 +9,7 @@ use Rattle.model_router.specs.Both.{Both}
 use Rattle.model_router.specs.Configs.{Config}
 use Rattle.model_router.specs.Adjacencies as model
 use Rattle.model_router.specs.Numbers.{system_number, snpa_number, node_number}
+use Rattle.ordered.specs.Keyed.{keyed}
 use Rattle.adjacency.specs.declared.neighbour.Neighbour.{Neighbour}
 use Rattle.adjacency.specs.declared.hello.Own.{Own}
 use Rattle.adjacency.specs.declared.hello.HelloFields.{HelloFields}
@@ -37,6 +38,13 @@ neighbour_of n = record {
   lan = node_number n.lan;
   left = n.left;
 }
+
+-- neighbours by SNPA (own)
+abbrev pub snpa_of : Neighbour → ℕ
+snpa_of n = snpa_number n.snpa
+
+abbrev pub by_snpa : List Neighbour → List (ℕ × Neighbour)
+by_snpa ns = keyed snpa_of ns
 
 -- an extended circuit ID that isn't there counts as 0 (own)
 abbrev pub id_or_0 : Option ℕ → ℕ

@@ -8,6 +8,7 @@ ghost use Rattle.adjacency.specs.Remembered.{AreBoots, IsAtPair, is_full, greate
 
 use designated_is::system_to_number;
 use isis_base::{OutOfMemory, SystemId};
+use ordered::place_of;
 use std::alloc::Global;
 use std::marker::Model;
 
@@ -91,8 +92,7 @@ fn place_in(list: &[(u64, u32)], system: SystemId) -> Result<usize, usize>
     requires { RisesFrom 0 list.now }
     ensures { IsAtPair list.now (system_number system) result }
 {
-    let number = system_to_number(system);
-    list.binary_search_by_key(&number, |pair| pair.0)
+    place_of(list, system_to_number(system))
 }
 
 /// Keeps the greater boot number in a list.

@@ -1,47 +1,31 @@
-//! Neighbours in a list by SNPA: where one is, and how one is put, taken out and aged.
+//! Neighbours in a list by SNPA: where one is, and how they are aged.
 ghost use Rattle.std.specs.Prelude.{◌≡◌, ◌≤◌, ◌<◌, length, take, vec_capacity};
-ghost use Rattle.model_router.specs.Maps.{put, erase};
 ghost use Rattle.model_router.specs.Sorted.{RisesFrom};
 ghost use Rattle.model_router.specs.Numbers.{snpa_number};
-ghost use Rattle.adjacency.specs.Inside.{by_snpa, snpa_of, IsAt, all_less, some_ended, less_by_one};
+ghost use Rattle.adjacency.specs.Views.{by_snpa};
+ghost use Rattle.adjacency.specs.Inside.{IsAt, all_less, some_ended, less_by_one};
 
 use crate::neighbour::Neighbour;
 use designated_is::snpa_to_number;
 use isis_base::Snpa;
+use ordered::Keyed;
+
+impl Keyed for Neighbour {
+    ghost use Rattle.adjacency.specs.Views.{snpa_of};
+
+    ghost key = { snpa_of };
+
+    fn key(&self) -> u64 {
+        snpa_to_number(self.snpa)
+    }
+}
 
 /// Where the neighbour of an SNPA is, or where it would go.
 pub fn place_of(list: &[Neighbour], snpa: Snpa) -> Result<usize, usize>
     requires { RisesFrom 0 (by_snpa list.now) }
     ensures { IsAt list.now (snpa_number snpa) result }
 {
-    let number = snpa_to_number(snpa);
-    list.binary_search_by_key(&number, |neighbour| snpa_to_number(neighbour.snpa))
-}
-
-/// Puts a neighbour in at its place.
-pub fn put_at(list: &mut Vec<Neighbour>, place: Result<usize, usize>, neighbour: Neighbour)
-    requires place { IsAt list.old.items (snpa_of neighbour) place }
-    requires room { length (put (by_snpa list.old.items) (snpa_of neighbour) neighbour)
-        ≤ vec_capacity list.old }
-    ensures items { by_snpa list.new.items
-        ≡ put (by_snpa list.old.items) (snpa_of neighbour) neighbour }
-    ensures room { vec_capacity list.new ≡ vec_capacity list.old }
-{
-    match place {
-        Ok(at) => list[at] = neighbour,
-        Err(at) => list.insert(at, neighbour).unwrap(),
-    }
-}
-
-/// Takes the neighbour of an SNPA out, where there is one.
-pub fn take_out(list: &mut Vec<Neighbour>, place: Result<usize, usize>, snpa: Snpa)
-    requires { IsAt list.old.items (snpa_number snpa) place }
-    ensures items { by_snpa list.new.items ≡ erase (by_snpa list.old.items) (snpa_number snpa) }
-    ensures room { vec_capacity list.new ≡ vec_capacity list.old }
-{
-    if let Ok(at) = place {
-        list.remove(at);
-    }
+    ordered::place_of(list, snpa_to_number(snpa))
 }
 
 /// A second of each holding time: those that end go. Whether some do.

@@ -4,13 +4,15 @@ ghost use Rattle.model_router.specs.Maps.{find, put, erase};
 ghost use Rattle.model_router.specs.Routers.{LanNeighbour};
 ghost use Rattle.model_router.specs.Seconds as seconds;
 ghost use Rattle.model_router.specs.Numbers.{system_number};
-ghost use Rattle.adjacency.specs.Inside.{by_snpa, snpa_of, lan_of, IsLan, IsAt, keeps_boot};
-ghost use Rattle.adjacency.specs.Views.{neighbour_of};
+ghost use Rattle.adjacency.specs.Views.{by_snpa, snpa_of, neighbour_of};
+ghost use Rattle.adjacency.specs.Inside.{lan_of, IsLan, IsAt, keeps_boot};
 ghost use Rattle.adjacency.specs.Lans as lan;
 
-use crate::by_snpa::{age, place_of, put_at, take_out};
+use crate::by_snpa::{age, place_of};
 use crate::hello::AdjChange;
 use crate::neighbour::Neighbour;
+use designated_is::snpa_to_number;
+use ordered::{put_at, take_at};
 
 /// Keeps a neighbour, Up or not, at the place that it has among those heard.
 pub fn keep(
@@ -70,7 +72,7 @@ fn put_or_take_out(
         put_at(up, place, neighbour);
         return;
     }
-    take_out(up, place, neighbour.snpa);
+    take_at(up, place, snpa_to_number(neighbour.snpa));
 }
 
 /// What became of a neighbour.

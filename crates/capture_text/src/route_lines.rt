@@ -6,12 +6,10 @@ ghost use Rattle.capture_text.specs.Routes6Text as lines;
 
 use ipv6_reach::{Prefix6, Rank6, Route6};
 use isis_base::laws::lsp_id_law;
+use isis_base::numbers::PREFIX_METRIC;
 use isis_base::{LspId, NodeId, Octets, OutOfMemory, SystemId, add_number, add_system_id};
 use spf_tree::Hops;
 use std::alloc::Global;
-
-/// The greatest cost that is told, in units of metrics (RFC 5308 2).
-const GREATEST_COST: u64 = 4_261_412_864;
 
 /// `route6 PREFIX RANK COST via SYSTEM SYSTEM`.
 #[tactic(auto, unfolding(crate::specs::Routes6Text::route6_line))]
@@ -55,7 +53,7 @@ fn add_way(page: &mut Octets, rank: Rank6, cost: u64) -> Result<(), OutOfMemory>
 fn told_cost(cost: u64) -> u64
     ensures { result ≡ lines.told_cost6 cost }
 {
-    cost.min(GREATEST_COST)
+    cost.min(u64::from(PREFIX_METRIC))
 }
 
 /// The word of a rank.

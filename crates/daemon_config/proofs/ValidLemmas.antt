@@ -11,7 +11,7 @@ use Rattle.isis_base.specs.declared.prefix.Prefix.{Prefix}
 use Rattle.isis_base.specs.AreaTexts.{area_of}
 use Rattle.isis_base.specs.Levels.{levels_of}
 use Rattle.router_desk.specs.declared.circuit_config.CircuitConfig.{CircuitConfig}
-use Rattle.router_desk.specs.Configs.{prefix_number}
+use Rattle.isis_base.specs.Prefixes.{prefix_number}
 use Rattle.router_desk.specs.Limits.{IsKey, IsCircuit, IsValid, AreDistinct, numbers_of}
 use Rattle.daemon_config.specs.declared.fault.ConfigKey.{ConfigKey}
 use Rattle.daemon_config.specs.declared.fault.ConfigKey.TheVariants as field

@@ -13,6 +13,7 @@ use crate::settings::{CircuitRead, CircuitsRead};
 use crate::shapes::{key_if_given, number_or, text_if_given, wanted, wanted_text};
 use daemon_edge::{Address, CircuitPlace, Places};
 use isis_base::CircuitKind;
+use isis_base::numbers::{CIRCUIT_LIMIT, CIRCUIT_METRIC};
 use router_desk::{CircuitConfig, Circuits};
 use std::alloc::Global;
 use toml::{Table, Value};
@@ -36,7 +37,7 @@ fn read_circuit(alloc: Global, table: &Table) -> Result<CircuitRead, ConfigFault
     let kind = wanted_text::<CircuitKind>(table, ConfigKey::Kind)?;
     let bind = wanted_text::<Address>(table, ConfigKey::Bind)?;
     let peers = read_peers(alloc, table, most_peers(kind))?;
-    let metric = number_or(table, ConfigKey::Metric, 10, 16_777_215)?;
+    let metric = number_or(table, ConfigKey::Metric, 10, CIRCUIT_METRIC)?;
     let priority = number_or(table, ConfigKey::Priority, 64, 127)?;
     let address = text_if_given::<u32>(table, ConfigKey::Address)?;
     let key = key_if_given(alloc, table, ConfigKey::Key)?;
@@ -63,7 +64,7 @@ pub(crate) fn read_circuits(alloc: Global, top: &Table) -> Result<CircuitsRead, 
         Ok(value) => value,
         Err(fault) => return Err(fault),
     };
-    match table_items(value, key, 1, 64) {
+    match table_items(value, key, 1, CIRCUIT_LIMIT) {
         Ok(items) => circuits_in(alloc, items),
         Err(fault) => Err(fault),
     }

@@ -1,7 +1,7 @@
 //! Prefixes of which none is named twice.
 ghost use Rattle.std.specs.Prelude.{◌≡◌, ◌==◌, [], ◌∷◌, ◌++◌, IfOk};
 ghost use Rattle.std.specs.List.{list_any};
-ghost use Rattle.router_desk.specs.Configs.{prefix_number};
+ghost use Rattle.isis_base.specs.Prefixes.{prefix_number};
 ghost use Rattle.router_desk.specs.Limits.{numbers_of};
 
 use isis_base::{OutOfMemory, Prefix};
@@ -30,13 +30,6 @@ impl Model for NamedPrefixes {
     ghost invariant = { λ named. HasNumbers named.numbers named.list };
 }
 
-/// A prefix as a number: 64 times its address, and its length.
-fn number_of(prefix: &Prefix) -> u64
-    ensures { result ≡ prefix_number prefix.now }
-{
-    64 * u64::from(prefix.address()) + u64::from(prefix.length())
-}
-
 impl NamedPrefixes {
     /// No prefixes. It takes no memory.
     pub(crate) fn new(alloc: Global) -> NamedPrefixes
@@ -52,14 +45,14 @@ impl NamedPrefixes {
     pub(crate) fn has(&self, prefix: &Prefix) -> bool
         ensures { result ≡ list_any (λ n. n == prefix_number prefix.now) (numbers_of self.now) }
     {
-        self.numbers.contains(&number_of(prefix))
+        self.numbers.contains(&prefix.to_number())
     }
 
     /// These, and a prefix with its metric behind them.
     pub(crate) fn with(mut self, prefix: Prefix, metric: u32) -> Result<NamedPrefixes, OutOfMemory>
         ensures { IfOk result (λ named. named ≡ self ++ (prefix, metric) ∷ []) }
     {
-        self.numbers.insert(number_of(&prefix))?;
+        self.numbers.insert(prefix.to_number())?;
         self.list.push((prefix, metric))?;
         Ok(self)
     }

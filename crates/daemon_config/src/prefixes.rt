@@ -12,6 +12,7 @@ use crate::lists::table_items;
 use crate::named::NamedPrefixes;
 use crate::shapes::{found, number_or, wanted_text};
 use isis_base::Prefix;
+use isis_base::numbers::{PREFIX_LIMIT, PREFIX_METRIC};
 use router_desk::Prefixes;
 use std::alloc::Global;
 use toml::{Table, Value};
@@ -26,7 +27,7 @@ pub(crate) fn read_prefixes(alloc: Global, top: &Table) -> Result<Prefixes, Conf
     let Some(value) = found(top, key) else {
         return Ok(Prefixes::new(alloc));
     };
-    match table_items(value, key, 0, 4096) {
+    match table_items(value, key, 0, PREFIX_LIMIT) {
         Ok(items) => prefixes_in(alloc, items),
         Err(fault) => Err(fault),
     }
@@ -65,7 +66,7 @@ fn with_prefix(table: &Table, named: NamedPrefixes) -> Result<NamedPrefixes, Con
     if named.has(&prefix) {
         return refused(ConfigKind::Value, ConfigKey::Prefix);
     }
-    let metric = number_or(table, ConfigKey::PrefixMetric, 10, 4_261_412_864)?;
+    let metric = number_or(table, ConfigKey::PrefixMetric, 10, PREFIX_METRIC)?;
     match named.with(prefix, metric) {
         Ok(all) => Ok(all),
         Err(_) => Err(ConfigFault::OutOfMemory),

@@ -26,10 +26,11 @@ mod sleep_pacer;
 mod spawning;
 mod udp;
 
+pub use isis_base::List as PlaceList;
 pub use memory_pacer::MemoryPacer;
 pub use memory_ports::{MemoryPort, MemoryPorts};
 pub use pacing::{Gate, OpenGate, Pace, Pacer};
-pub use place::{Address, CircuitPlace, Peers, PlaceList, Places};
+pub use place::{Address, CircuitPlace, Peers, Places};
 pub use port::{Offered, Port, Taken};
 pub use ports::{Ports, Refused};
 pub use sleep_pacer::SleepPacer;

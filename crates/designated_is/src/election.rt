@@ -19,6 +19,21 @@ pub fn elect(candidates: &[Candidate]) -> Option<SystemId>
     Some(best(*first, others).system)
 }
 
+/// Whether a candidate stands before another: by priority, then SNPA (ISO 10589 8.4.5), then system ID (own).
+pub fn stands_before(a: Candidate, b: Candidate) -> bool
+    ensures { result ≡ beats a b }
+{
+    if a.priority != b.priority {
+        return a.priority > b.priority;
+    }
+    let a_snpa = snpa_to_number(a.snpa);
+    let b_snpa = snpa_to_number(b.snpa);
+    if a_snpa != b_snpa {
+        return a_snpa > b_snpa;
+    }
+    system_to_number(a.system) > system_to_number(b.system)
+}
+
 /// The number of a circuit's pseudonode: the circuit's number (own). With it the router's model makes
 /// one's own LAN ID.
 pub fn pseudonode(circuit: u8) -> u8
@@ -49,19 +64,4 @@ fn better(best: Candidate, other: Candidate) -> Candidate
         return other;
     }
     best
-}
-
-/// Whether a candidate stands before another.
-fn stands_before(a: Candidate, b: Candidate) -> bool
-    ensures { result ≡ beats a b }
-{
-    if a.priority != b.priority {
-        return a.priority > b.priority;
-    }
-    let a_snpa = snpa_to_number(a.snpa);
-    let b_snpa = snpa_to_number(b.snpa);
-    if a_snpa != b_snpa {
-        return a_snpa > b_snpa;
-    }
-    system_to_number(a.system) > system_to_number(b.system)
 }

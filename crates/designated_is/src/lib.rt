@@ -17,6 +17,6 @@ mod laws;
 mod numbers;
 
 pub use candidate::Candidate;
-pub use election::{elect, pseudonode};
+pub use election::{elect, pseudonode, stands_before};
 pub use laws::election_laws;
 pub use numbers::{are_same_systems, snpa_to_number, system_to_number};

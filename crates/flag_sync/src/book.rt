@@ -10,7 +10,7 @@ ghost use Rattle.flag_sync.specs.BookStates.{no_entries, AreBeside};
 use crate::bits::with_bit;
 use crate::flag_row::FlagRow;
 use crate::flags::Flags;
-use crate::sides::ENTRY_LIMIT;
+use isis_base::numbers::ENTRY_LIMIT;
 use isis_base::{CircuitKind, OutOfMemory};
 use lsp_store::{Pages, Store, StoreFault};
 use std::alloc::Global;

@@ -8,15 +8,13 @@ ghost use Rattle.flag_sync.specs.Entries.{with_row, key_purged};
 ghost use Rattle.flag_sync.specs.Heard.{heard_of};
 
 use crate::heard::LspHeard;
+use isis_base::numbers::LSP_HEADER;
 use isis_base::{Key, Octets, OutOfMemory};
 use lsp_store::{Change, Entry};
 use std::alloc::Global;
 
 /// The seconds that a purge and an empty entry are kept (ISO 10589 7.3.16.4, ZeroAgeLifetime).
 pub(crate) const PURGE_SECONDS: u16 = 60;
-
-/// The octets of a header.
-const HEADER: usize = 27;
 
 /// An entry becomes its purge: its header, with 60 seconds left.
 #[derive(Drop)]
@@ -28,7 +26,7 @@ impl Change<Entry> for Purge {
     ghost changed = { λ _ entry. purged_entry entry };
 
     fn change(&self, entry: &mut Entry) {
-        if entry.octets.len() < HEADER {
+        if entry.octets.len() < LSP_HEADER {
             return;
         }
         entry.key = purge_key(entry.key);
@@ -91,7 +89,7 @@ fn header(alloc: Global, lsp: &[u8]) -> Result<Octets, OutOfMemory>
     ensures len { IfOk result (λ octets. 27 ≤ length octets) }
 {
     let mut octets = Octets::new(alloc);
-    match octets.extend(&lsp[..HEADER]) {
+    match octets.extend(&lsp[..LSP_HEADER]) {
         Ok(()) => {}
         Err(fault) => return Err(fault),
     }
@@ -106,7 +104,7 @@ fn make_header(octets: &mut Octets)
     ensures header { octets.new ≡ header_of octets.old }
     ensures len { 27 ≤ length octets.new }
 {
-    octets.truncate(HEADER);
+    octets.truncate(LSP_HEADER);
     write_header(octets.as_mut_slice());
 }
 

@@ -12,8 +12,8 @@ use crate::bits::has_bit;
 use crate::book::Book;
 use crate::heard::{LspAnswer, LspHeard};
 use crate::lsp_rows::{lsp_answer, lsp_row_of};
-use crate::sides::ENTRY_LIMIT;
 use isis_base::LspId;
+use isis_base::numbers::ENTRY_LIMIT;
 use model_router::Whose;
 
 impl Book {

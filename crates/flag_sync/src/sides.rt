@@ -8,10 +8,8 @@ ghost use Rattle.flag_sync.specs.BookStates.{AreBeside};
 use crate::flag_row::FlagRow;
 use crate::flags::Flags;
 use isis_base::LspId;
+use isis_base::numbers::ENTRY_LIMIT;
 use lsp_store::{Entry, Store, StoreFault};
-
-/// The most entries of a store.
-pub(crate) const ENTRY_LIMIT: usize = 65_536;
 
 /// Sets an LSP ID's entry and its row. At a fault nothing is changed but that room for rows may be
 /// taken.

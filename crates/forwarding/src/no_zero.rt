@@ -10,13 +10,11 @@ use crate::nodes::{number, system_number, system_of};
 use crate::test::Test;
 use isis_base::OutOfMemory;
 use isis_tlv::NeighbourItem;
+use isis_tlv::codes::NEIGHBOURS;
 use lsp_store::Store;
 use lsp_view::parts::add_items;
 use router_core::Router;
 use std::alloc::Global;
-
-/// The code of extended IS reachability (RFC 5305 3).
-const NEIGHBOURS: u8 = 22;
 
 /// That a router's own LSPs list no neighbour at metric 0 (RFC 5305 3).
 #[derive(Drop)]

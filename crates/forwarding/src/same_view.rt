@@ -1,17 +1,15 @@
 //! Whether routers have one live view.
-ghost use Rattle.std.specs.Prelude.{◌≡◌, false, drop, MatchBool};
+ghost use Rattle.std.specs.Prelude.{◌≡◌, false, MatchBool};
 ghost use Rattle.isis_base.specs.Keys.{rank};
 ghost use Rattle.model_router.specs.Ranks.{number_of};
 ghost use Rattle.forwarding.specs.Views.{view_of, stored, view_stored};
 
 use crate::level_one::level_one;
 use crate::test::Test;
+use isis_base::fields::behind_header;
 use isis_base::{Key, LspId, OutOfMemory};
 use lsp_store::{Entry, Store};
 use router_core::Router;
-
-/// How many octets an LSP's header has (ISO 10589 9.8).
-const HEADER: usize = 27;
 
 /// That a router has the live view of level 1 that another one has.
 #[derive(Drop)]
@@ -57,7 +55,7 @@ fn is_same(id: LspId, entry: &Entry, other_id: LspId, other: &Entry) -> bool
     id.to_number() == other_id.to_number()
         && number_of(entry.key) == number_of(other.key)
         && entry.flags == other.flags
-        && tlvs_of(entry.octets.as_slice()) == tlvs_of(other.octets.as_slice())
+        && behind_header(entry.octets.as_slice()) == behind_header(other.octets.as_slice())
 }
 
 /// The sequence number of a key; 0 where there is none.
@@ -68,14 +66,4 @@ fn number_of(key: Option<Key>) -> u32
         Some(key) => key.number,
         None => 0,
     }
-}
-
-/// The octets behind an LSP's header.
-fn tlvs_of(octets: &[u8]) -> &[u8]
-    ensures { result.now ≡ drop 27 octets.now }
-{
-    if octets.len() < HEADER {
-        return &[];
-    }
-    &octets[HEADER..]
 }

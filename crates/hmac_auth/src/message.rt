@@ -5,6 +5,7 @@ ghost use Rattle.hmac_auth.specs.Pdus.{is_lsp, is_purge, blanked};
 
 use crate::hmac::digest_of_pieces;
 use isis_base::fields::u16_at;
+use isis_base::numbers::{LSP_CHECKSUM, LSP_LIFETIME};
 
 /// The number of octets of a digest.
 pub(crate) const DIGEST: usize = 16;
@@ -14,12 +15,6 @@ const L1_LSP: u8 = 18;
 
 /// The type of a level 2 LSP (ISO 10589 9).
 const L2_LSP: u8 = 20;
-
-/// The place of the two octets of an LSP's remaining lifetime (ISO 10589 9).
-const LIFETIME: usize = 10;
-
-/// The place of the two octets of an LSP's checksum (ISO 10589 9).
-const CHECKSUM: usize = 24;
 
 /// What the message has in the place of a digest.
 const NO_DIGEST: [u8; DIGEST] = [0; DIGEST];
@@ -43,7 +38,7 @@ pub(crate) fn is_purge(pdu: &[u8]) -> bool
     requires { 16 < length pdu.now }
     ensures { result ≡ is_purge pdu.now }
 {
-    is_lsp(pdu) && u16_at(pdu, LIFETIME) == 0
+    is_lsp(pdu) && u16_at(pdu, LSP_LIFETIME) == 0
 }
 
 /// The digest under the key that belongs at a place of the PDU.
@@ -57,11 +52,11 @@ pub(crate) fn digest_of_pdu(key: &[u8], pdu: &[u8], at: usize) -> [u8; 16]
         return digest_of_pieces(key, &[&pdu[..at], &NO_DIGEST, rest]);
     }
     let pieces = [
-        &pdu[..LIFETIME],
+        &pdu[..LSP_LIFETIME],
         &NO_LIFETIME,
-        &pdu[LIFETIME + 2..CHECKSUM],
+        &pdu[LSP_LIFETIME + 2..LSP_CHECKSUM],
         &NO_CHECKSUM,
-        &pdu[CHECKSUM + 2..at],
+        &pdu[LSP_CHECKSUM + 2..at],
         &NO_DIGEST,
         rest,
     ];

@@ -6,10 +6,8 @@ ghost use Rattle.hmac_auth.specs.Auth.{auth_tlv, digest_place, has_others};
 
 use crate::fault::AuthFault;
 use crate::message::DIGEST;
+use isis_tlv::codes::AUTHENTICATION;
 use isis_tlv::{Tlv, Tlvs};
-
-/// The code of the TLV with authentication information (ISO 10589 9).
-const CODE: u8 = 10;
 
 /// The type of HMAC-MD5, which the value begins with (RFC 5304 2).
 const HMAC_MD5: u8 = 54;
@@ -22,7 +20,7 @@ fn auth_tlv(pdu: &[u8], header: usize) -> Option<Tlv<'_>>
     let body = &pdu[header..];
     for tlv in Tlvs::new(body, header) {
         match tlv {
-            Ok(tlv) if tlv.code == CODE => return Some(tlv),
+            Ok(tlv) if tlv.code == AUTHENTICATION => return Some(tlv),
             Ok(_) => {}
             Err(_) => break,
         }
@@ -37,7 +35,7 @@ pub(crate) fn has_others(pdu: &[u8], header: usize) -> bool
 {
     for tlv in Tlvs::new(&pdu[header..], header) {
         match tlv {
-            Ok(tlv) if tlv.code != CODE => return true,
+            Ok(tlv) if tlv.code != AUTHENTICATION => return true,
             Ok(_) => {}
             Err(_) => break,
         }

@@ -15,6 +15,7 @@ ghost use Rattle.ipv6_reach.specs.Captured.{CapturedOf, head_of, is_same, rank_o
 
 use crate::head::Head;
 use crate::took::Took;
+use isis_base::numbers::ENTRY_LIMIT;
 use isis_base::{Key, Level, LspId, NodeId, Octets, Order3, OutOfMemory, SystemId, newer};
 use isis_pdu::{Pdu, decode};
 use iso_checksum::holds;
@@ -138,7 +139,7 @@ fn is_full_for(store: &Store, id: LspId) -> bool
     ensures { IsTrue result
         ↔ ((find store.now.entries (lsp_number id) ≡ None) × (65536 ≤ length store.now.entries)) }
 {
-    if store.len() < 65_536 {
+    if store.len() < ENTRY_LIMIT {
         return false;
     }
     match store.get(id) {

@@ -9,6 +9,7 @@ ghost use Rattle.ipv6_reach.specs.Reach6.{is_reachable6, reach6_in};
 
 use crate::item6::Prefix6Item;
 use crate::items6::prefixes6;
+use isis_base::numbers::PREFIX_METRIC;
 use isis_base::{LspId, NodeId, OutOfMemory, SystemId};
 use isis_tlv::Items;
 use lsp_store::Store;
@@ -17,9 +18,6 @@ use lsp_view::parts::{Listed, add_items, lead};
 
 /// The code of IPv6 reachability (RFC 5308 2).
 const PREFIXES6: u8 = 236;
-
-/// The greatest metric of a prefix that may be reached (RFC 5308 2).
-const GREATEST: u32 = 4_261_412_864;
 
 impl Listed for Prefix6Item {
     fn walk(value: &[u8]) -> Items<'_, Prefix6Item> {
@@ -87,7 +85,7 @@ fn add_reachable6(items: &mut Vec<Prefix6Item>, listed: &[Prefix6Item]) -> Resul
     ensures { OnOk result (items.new.items ≡ items.old.items ++ filter is_reachable6 listed.now) }
 {
     for item in listed {
-        if item.metric <= GREATEST {
+        if item.metric <= PREFIX_METRIC {
             match items.push(*item) {
                 Ok(()) => {}
                 Err(_) => return Err(OutOfMemory),

@@ -1,7 +1,11 @@
--- The prefix of an address and a length (own).
-use Rattle.std.specs.Prelude.{◌≡◌, ℕ, ◌-◌, ◌%◌, ◌^◌, ◌==◌, nat_le, Bool, true, false, Option, Some, None, refl}
+-- A prefix as a number, and the prefix of an address and a length (own).
+use Rattle.std.specs.Prelude.{◌≡◌, ℕ, ◌+◌, ◌*◌, ◌-◌, ◌%◌, ◌^◌, ◌==◌, nat_le, Bool, true, false, Option, Some, None, refl}
 use Rattle.std.proofs.lemmas.Bool.{leb-true, eqb-true}
 use Rattle.isis_base.specs.declared.prefix.Prefix.{Prefix}
+
+-- a prefix as a number (own)
+abbrev pub prefix_number : Prefix → ℕ
+prefix_number prefix = 64 * prefix.address + prefix.length
 
 -- what follows from a test where it holds, and nothing where it doesn't
 abbrev pub where_true : {A : Type 0} (test : Bool) → (test ≡ true → Option A) → Option A

@@ -1,8 +1,9 @@
 //! Fields of octets at a place: numbers, the first octet the greatest, and identifiers (ISO 10589 9).
-ghost use Rattle.std.specs.Prelude.{◌≡◌, ◌+◌, ◌≤◌, length};
+ghost use Rattle.std.specs.Prelude.{◌≡◌, ◌+◌, ◌≤◌, length, drop};
 ghost use Rattle.isis_base.specs.Fields as field;
 
 use crate::identifiers::{LspId, NodeId, SystemId};
+use crate::numbers::LSP_HEADER;
 
 /// The number of the two octets at a place.
 pub fn u16_at(octets: &[u8], place: usize) -> u16
@@ -61,4 +62,14 @@ pub fn lsp_at(octets: &[u8], place: usize) -> LspId
     let node = node_at(octets, place);
     let number = octets[place + 7];
     LspId { node, number }
+}
+
+/// The octets behind an LSP's header (ISO 10589 9.8); none where they are fewer than it has.
+pub fn behind_header(octets: &[u8]) -> &[u8]
+    ensures { result.now ≡ drop 27 octets.now }
+{
+    if octets.len() < LSP_HEADER {
+        return &[];
+    }
+    &octets[LSP_HEADER..]
 }

@@ -10,6 +10,9 @@ ghost use Rattle.isis_base.specs.declared.key.Key.{Key};
 ghost use Rattle.isis_base.specs.declared.level.Level.{Level};
 ghost use Rattle.isis_base.specs.declared.level.Level.TheVariants as level;
 ghost use Rattle.isis_base.specs.declared.parts.Part.TheVariants.{Octet, Mark};
+ghost use Rattle.isis_base.specs.declared.pdu_kind.PduKind.TheVariants as kind;
+ghost use Rattle.isis_base.specs.PduKinds.{header_length};
+ghost use Rattle.isis_base.specs.declared.numbers.TheConstants.{LSP_HEADER, LSP_LIFETIME, LSP_SUMMED, LSP_CHECKSUM, OVERLOAD, ATTACHED, CIRCUIT_METRIC, PREFIX_METRIC, FRAME, SNP_ENTRIES, ENTRY_LIMIT, CIRCUIT_LIMIT, PREFIX_LIMIT, BOOT_LIMIT};
 ghost use Rattle.isis_base.specs.Keys.{join_of};
 ghost use Rattle.isis_base.specs.AreaTexts.{SpellsArea, area_text, area_of};
 ghost use Rattle.isis_base.specs.declared.level.LevelSet.{LevelSet};
@@ -24,7 +27,7 @@ ghost use Rattle.isis_base.specs.Texts.{Spells, system_text, snpa_text, node_tex
 use crate::area::AreaAddress;
 use crate::identifiers::{LspId, NodeId, Snpa, SystemId};
 use crate::level::Level;
-use crate::numbers::{octets_of_lsp, octets_of_system};
+use crate::lsp_number::{octets_of_lsp, octets_of_system};
 use crate::prefix::Prefix;
 
 /// What Display writes of a system ID spells it and is read as it, and a text spells one system ID.
@@ -172,3 +175,22 @@ pub fn are_six(octets: [u8; 6])
 {
     let [_a, _b, _c, _d, _e, _f] = octets;
 }
+
+/// The numbers of the protocol and the limits, in figures.
+pub fn number_laws()
+    ensures header { (level : Level) → LSP_HEADER ≡ header_length (kind.Lsp level) }
+    ensures octets { LSP_HEADER ≡ 27 }
+    ensures lifetime { LSP_LIFETIME ≡ 10 }
+    ensures summed { LSP_SUMMED ≡ 12 }
+    ensures checksum { LSP_CHECKSUM ≡ 24 }
+    ensures overload { OVERLOAD ≡ 4 }
+    ensures attached { ATTACHED ≡ 8 }
+    ensures circuit_metric { CIRCUIT_METRIC ≡ 16777215 }
+    ensures prefix_metric { PREFIX_METRIC ≡ 4261412864 }
+    ensures frame { FRAME ≡ 14 }
+    ensures snp_entries { SNP_ENTRIES ≡ 75 }
+    ensures entries { ENTRY_LIMIT ≡ 65536 }
+    ensures circuits { CIRCUIT_LIMIT ≡ 64 }
+    ensures prefixes { PREFIX_LIMIT ≡ 4096 }
+    ensures boots { BOOT_LIMIT ≡ 16777215 }
+{}

@@ -1,53 +1,43 @@
-//! LSP IDs as octets and as numbers.
-ghost use Rattle.std.specs.Prelude.{◌≡◌, ◌<◌};
-ghost use Rattle.std.specs.List.{AllByRecursion};
-ghost use Rattle.isis_base.specs.Identifiers.{lsp_octets, lsp_from, lsp_number};
+//! Numbers of the protocol and limits that several crates go by, each with one name (`number_laws` pins them).
 
-use crate::identifiers::{LspId, NodeId, SystemId};
+/// How many octets an LSP's header has (ISO 10589 9.8).
+pub const LSP_HEADER: usize = 27;
 
-/// The LSP ID of eight octets.
-pub fn lsp_of(octets: [u8; 8]) -> LspId
-    ensures octets { lsp_octets result ≡ octets }
-    ensures value { result ≡ lsp_from octets }
-{
-    let [a, b, c, d, e, f, pseudonode, number] = octets;
-    let system = SystemId([a, b, c, d, e, f]);
-    let node = NodeId { system, pseudonode };
-    LspId { node, number }
-}
+/// The place of an LSP's remaining lifetime (ISO 10589 9.8).
+pub const LSP_LIFETIME: usize = 10;
 
-/// The six octets of a system ID.
-pub fn octets_of_system(system: SystemId) -> [u8; 6]
-    ensures value { result ≡ system.0 }
-    ensures small { AllByRecursion (λ octet. octet < 256) result }
-{
-    let [a, b, c, d, e, f] = system.0;
-    [a, b, c, d, e, f]
-}
+/// The place of an LSP's ID, from which on its checksum counts (ISO 10589 7.3.11, 9.8).
+pub const LSP_SUMMED: usize = 12;
 
-/// The eight octets of an LSP ID.
-pub fn octets_of_lsp(id: LspId) -> [u8; 8]
-    ensures value { result ≡ lsp_octets id }
-    ensures small { AllByRecursion (λ octet. octet < 256) result }
-{
-    let NodeId { system, pseudonode } = id.node;
-    let [a, b, c, d, e, f] = system.0;
-    [a, b, c, d, e, f, pseudonode, id.number]
-}
+/// The place of an LSP's checksum (ISO 10589 9.8).
+pub const LSP_CHECKSUM: usize = 24;
 
-impl LspId {
-    /// The eight octets as a big-endian number.
-    #[tactic(auto, unfolding(crate::specs::Identifiers::lsp_number))]
-    pub fn to_number(self) -> u64
-        ensures { result ≡ lsp_number self }
-    {
-        u64::from_be_bytes(octets_of_lsp(self))
-    }
+/// The overload bit of an LSP's flags (ISO 10589 9.8).
+pub const OVERLOAD: u8 = 0x04;
 
-    /// The LSP ID of a number.
-    pub fn from_number(n: u64) -> LspId
-        ensures { lsp_number result ≡ n }
-    {
-        lsp_of(n.to_be_bytes())
-    }
-}
+/// The bit of an LSP's flags that says it is attached by the default metric (ISO 10589 9.8).
+pub const ATTACHED: u8 = 0x08;
+
+/// The greatest metric of a circuit (RFC 5305 3).
+pub const CIRCUIT_METRIC: u32 = 16_777_215;
+
+/// The greatest metric of a prefix (RFC 5305 4).
+pub const PREFIX_METRIC: u32 = 4_261_412_864;
+
+/// How many octets stand before the PDU in a circuit's datagram (own).
+pub const FRAME: usize = 14;
+
+/// The most entries of a CSNP or PSNP (own).
+pub const SNP_ENTRIES: usize = 75;
+
+/// The most entries of a level's database (own).
+pub const ENTRY_LIMIT: usize = 65_536;
+
+/// The most circuits of a router (own).
+pub const CIRCUIT_LIMIT: usize = 64;
+
+/// The most prefixes of a router (own).
+pub const PREFIX_LIMIT: usize = 4_096;
+
+/// The greatest boot number (own).
+pub const BOOT_LIMIT: u32 = 16_777_215;

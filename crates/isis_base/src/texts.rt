@@ -7,7 +7,7 @@ ghost use Rattle.isis_base.specs.Identifiers.{lsp_octets, lsp_from, system_from}
 ghost use Rattle.isis_base.specs.Texts.{Spells, IsFaultAt, HasForm};
 
 use crate::identifiers::{LspId, SystemId};
-use crate::numbers::lsp_of;
+use crate::lsp_number::lsp_of;
 use crate::parts::{Part, read_parts};
 use std::error::Error;
 use std::fmt;

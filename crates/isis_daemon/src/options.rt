@@ -3,6 +3,7 @@ ghost use Rattle.std.specs.Prelude.{◌≡◌, ◌≤◌, [], ◌∷◌, map, st
 ghost use Rattle.std.specs.Option.{option_map};
 ghost use Rattle.isis_daemon.specs.Options.{number_within, both, is_option, name_in, value_in, options_of, daemon_of};
 
+use isis_base::numbers::BOOT_LIMIT;
 use line_cuts::read_number;
 use memchr::memchr;
 use std::marker::Model;
@@ -15,9 +16,6 @@ pub struct DaemonOptions {
     /// 1 to 86,400.
     pub turns: u64,
 }
-
-/// The greatest boot number, which has three octets (own).
-const BOOT_LIMIT: u32 = 16_777_215;
 
 /// The most turns: the seconds of a day (own).
 const TURN_LIMIT: u32 = 86_400;

@@ -4,19 +4,17 @@ ghost use Rattle.isis_edge.specs.Frames.{framed, unframed, frame_view};
 ghost use Rattle.isis_edge.specs.Texts.{frame_fault_text};
 
 use isis_base::fields::{system_at, u32_at};
+use isis_base::numbers::FRAME;
 use isis_base::{Octets, OutOfMemory, Snpa};
 use std::alloc::Global;
 use std::error::Error;
 use std::fmt;
 
-/// What every datagram begins with.
+/// What every datagram begins with; the sender's SNPA and its boot number stand behind it.
 const MAGIC: &[u8; 4] = b"ISU2";
 
 /// What datagrams of the first version began with.
 const FIRST_MAGIC: &[u8; 4] = b"ISU1";
-
-/// How many octets stand before a datagram's PDU: `ISU2`, the sender's SNPA and its boot number.
-const HEADER: usize = 14;
 
 /// Why a datagram has no frame.
 #[derive(Clone, Copy, Debug, PartialEq, Eq)]
@@ -73,7 +71,7 @@ pub fn unwrap(datagram: &[u8]) -> Result<(Snpa, u32, &[u8]), FrameFault>
     if datagram.starts_with(FIRST_MAGIC) {
         return Err(FrameFault::Version);
     }
-    if datagram.len() < HEADER {
+    if datagram.len() < FRAME {
         return Err(FrameFault::Short);
     }
     if datagram[..4] != MAGIC[..] {
@@ -81,5 +79,5 @@ pub fn unwrap(datagram: &[u8]) -> Result<(Snpa, u32, &[u8]), FrameFault>
     }
     let sender = system_at(datagram, 4);
     let boot = u32_at(datagram, 10);
-    Ok((Snpa(sender.0), boot, &datagram[HEADER..]))
+    Ok((Snpa(sender.0), boot, &datagram[FRAME..]))
 }

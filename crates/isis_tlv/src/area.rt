@@ -4,6 +4,7 @@ ghost use Rattle.isis_tlv.specs.Items.{area_at, areas_of};
 ghost use Rattle.isis_tlv.specs.Fits.{IsArea};
 ghost use Rattle.isis_tlv.specs.Spelling.{area_octets, area_value, area_tlv};
 
+use crate::codes;
 use crate::items::{Item, Items};
 use crate::laws::item_laws;
 use crate::put::put_tlv;
@@ -64,5 +65,5 @@ pub fn put_areas(out: &mut Octets, areas: &[AreaAddress]) -> Result<(), OutOfMem
         add_area(&mut draft, area);
     }
     item_laws();
-    put_tlv(out, 1, draft.as_slice())
+    put_tlv(out, codes::AREAS, draft.as_slice())
 }

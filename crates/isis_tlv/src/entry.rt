@@ -4,6 +4,7 @@ ghost use Rattle.isis_tlv.specs.Fits.{IsEntry};
 ghost use Rattle.isis_tlv.specs.Items.{entry_at, entries_of};
 ghost use Rattle.isis_tlv.specs.Spelling.{entry_octets, entry_value, entry_tlv};
 
+use crate::codes;
 use crate::items::{Item, Items};
 use crate::laws::item_laws;
 use crate::put::put_tlv;
@@ -68,5 +69,5 @@ pub fn put_entries(out: &mut Octets, list: &[LspEntry]) -> Result<(), OutOfMemor
         add_entry(&mut draft, entry);
     }
     item_laws();
-    put_tlv(out, 9, draft.as_slice())
+    put_tlv(out, codes::ENTRIES, draft.as_slice())
 }

@@ -2,6 +2,7 @@
 ghost use Rattle.std.specs.Prelude.{◌≡◌, ◌≤◌, ◌*◌, ◌++◌, length, OnOk, OnErr};
 ghost use Rattle.isis_tlv.specs.Spelling.{address_value, address_tlv, protocol_tlv};
 
+use crate::codes;
 use crate::put::put_tlv;
 use isis_base::{Draft, Octets, OutOfMemory};
 
@@ -17,7 +18,7 @@ pub fn put_addresses(out: &mut Octets, list: &[u32]) -> Result<(), OutOfMemory>
     for address in list {
         draft.add(&address.to_be_bytes());
     }
-    put_tlv(out, 132, draft.as_slice())
+    put_tlv(out, codes::ADDRESSES, draft.as_slice())
 }
 
 /// Adds the TLV of code 129 that names IPv4 alone. At `OutOfMemory` the list is as it was.
@@ -25,5 +26,5 @@ pub fn put_protocols(out: &mut Octets) -> Result<(), OutOfMemory>
     ensures ok { OnOk result (out.new ≡ out.old ++ protocol_tlv) }
     ensures err { OnErr result (out.new ≡ out.old) }
 {
-    put_tlv(out, 129, &[0xcc])
+    put_tlv(out, codes::PROTOCOLS, &[0xcc])
 }

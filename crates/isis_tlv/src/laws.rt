@@ -8,6 +8,7 @@ ghost use Rattle.isis_tlv.specs.declared.tlv.TlvFault.TheVariants.{Header, Past}
 ghost use Rattle.isis_tlv.specs.declared.neighbour.NeighbourItem.{NeighbourItem};
 ghost use Rattle.isis_tlv.specs.declared.prefix.PrefixItem.{PrefixItem};
 ghost use Rattle.isis_tlv.specs.declared.three_way.ThreeWay.{ThreeWay};
+ghost use Rattle.isis_tlv.specs.declared.codes.TheConstants.{AREAS, SNPAS, ENTRIES, AUTHENTICATION, NEIGHBOURS, PROTOCOLS, ADDRESSES, PREFIXES, THREE_WAY};
 ghost use Rattle.isis_tlv.specs.Walks.{fault_of};
 ghost use Rattle.isis_tlv.specs.Tlvs.{TlvView, tlv_octets, tlvs_of, tlv_list, AreTlvs, StandsIn};
 ghost use Rattle.isis_tlv.specs.Items.{
@@ -131,4 +132,17 @@ pub fn item_laws()
         → prefixes_of (prefix_value list) ≡ map (λ item. Ok item) list }
     ensures three_way { (value : ThreeWay) → IsThreeWay value
         → three_way_of (three_way_octets value) ≡ Ok value }
+{}
+
+/// The codes of TLVs, in figures.
+pub fn code_laws()
+    ensures areas { AREAS ≡ 1 }
+    ensures snpas { SNPAS ≡ 6 }
+    ensures entries { ENTRIES ≡ 9 }
+    ensures authentication { AUTHENTICATION ≡ 10 }
+    ensures neighbours { NEIGHBOURS ≡ 22 }
+    ensures protocols { PROTOCOLS ≡ 129 }
+    ensures addresses { ADDRESSES ≡ 132 }
+    ensures prefixes { PREFIXES ≡ 135 }
+    ensures three_way { THREE_WAY ≡ 240 }
 {}

@@ -5,7 +5,7 @@
 //! RFC 5305 3 and 4, of 129 and 132 of RFC 1195 5.3 and of 240 of RFC 5303 3. Left out: sub-TLVs are stepped over
 //! and never written. Reading takes no memory; a `put_` call takes what its octets need.
 //!
-//! - `tlv.rt`: the walk over TLVs
+//! - `tlv.rt`: the walk over TLVs; `codes.rt`: their codes
 //! - `fault.rt`: where a value doesn't fit
 //! - `left.rt`: the octets that a walk has left
 //! - `items.rt`: the walk over the items of a value, whatever they are
@@ -17,6 +17,7 @@
 #![tactic(auto)]
 
 mod area;
+pub mod codes;
 mod entry;
 mod fault;
 mod ipv4;
@@ -36,7 +37,7 @@ pub use fault::ValueFault;
 pub use ipv4::{put_addresses, put_protocols};
 pub use items::{Item, Items};
 pub use neighbour::{NeighbourItem, NeighbourItems, neighbours, put_neighbours};
-pub use prefix::{PrefixItem, PrefixItems, prefixes, put_prefixes};
+pub use prefix::{DOWN, PrefixItem, PrefixItems, prefixes, put_prefixes};
 pub use put::put_tlv;
 pub use snpa::{SnpaItems, put_snpas, snpas};
 pub use three_way::{Adj, ThreeWay, put_three_way, three_way_value};

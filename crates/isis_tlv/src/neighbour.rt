@@ -4,6 +4,7 @@ ghost use Rattle.isis_tlv.specs.Items.{neighbour_at, neighbours_of};
 ghost use Rattle.isis_tlv.specs.Fits.{IsNeighbour};
 ghost use Rattle.isis_tlv.specs.Spelling.{neighbour_octets, neighbour_value, neighbour_tlv};
 
+use crate::codes;
 use crate::items::{Item, Items};
 use crate::laws::item_laws;
 use crate::put::put_tlv;
@@ -81,5 +82,5 @@ pub fn put_neighbours(out: &mut Octets, list: &[NeighbourItem]) -> Result<(), Ou
         add_neighbour(&mut draft, item);
     }
     item_laws();
-    put_tlv(out, 22, draft.as_slice())
+    put_tlv(out, codes::NEIGHBOURS, draft.as_slice())
 }

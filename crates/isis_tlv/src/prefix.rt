@@ -7,6 +7,7 @@ ghost use Rattle.isis_tlv.specs.Items.{prefix_at, prefixes_of, clear_past, octet
 ghost use Rattle.isis_tlv.specs.Fits.{IsPrefix};
 ghost use Rattle.isis_tlv.specs.Spelling.{prefix_octets, prefix_value, prefix_tlv};
 
+use crate::codes;
 use crate::items::{Item, Items};
 use crate::laws::item_laws;
 use crate::put::put_tlv;
@@ -62,8 +63,8 @@ impl Item for PrefixItem {
     }
 }
 
-/// The control octet's mark for a prefix that was leaked down.
-const DOWN: u8 = 0x80;
+/// The control octet's mark for a prefix that was leaked down (RFC 5305 4).
+pub const DOWN: u8 = 0x80;
 
 /// The control octet's mark for sub-TLVs.
 const SUBS: u8 = 0x40;
@@ -159,5 +160,5 @@ pub fn put_prefixes(out: &mut Octets, list: &[PrefixItem]) -> Result<(), OutOfMe
         add_prefix(&mut draft, item);
     }
     item_laws();
-    put_tlv(out, 135, draft.as_slice())
+    put_tlv(out, codes::PREFIXES, draft.as_slice())
 }

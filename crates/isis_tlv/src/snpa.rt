@@ -4,6 +4,7 @@ ghost use Rattle.isis_tlv.specs.Items.{snpa_at, snpas_of};
 ghost use Rattle.isis_tlv.specs.Fits.{IsSnpa};
 ghost use Rattle.isis_tlv.specs.Spelling.{snpa_value, snpa_tlv};
 
+use crate::codes;
 use crate::items::{Item, Items};
 use crate::laws::item_laws;
 use crate::put::put_tlv;
@@ -56,5 +57,5 @@ pub fn put_snpas(out: &mut Octets, list: &[Snpa]) -> Result<(), OutOfMemory>
         add_snpa(&mut draft, snpa);
     }
     item_laws();
-    put_tlv(out, 6, draft.as_slice())
+    put_tlv(out, codes::SNPAS, draft.as_slice())
 }

@@ -3,6 +3,7 @@ ghost use Rattle.std.specs.Prelude.{◌≡◌, ◌≤◌, ◌++◌, length, IsSo
 ghost use Rattle.isis_tlv.specs.Items.{state_of, three_way_of};
 ghost use Rattle.isis_tlv.specs.Spelling.{state_octet, three_way_octets, three_way_tlv};
 
+use crate::codes;
 use crate::fault::ValueFault;
 use crate::laws::item_laws;
 use crate::put::put_tlv;
@@ -93,5 +94,5 @@ pub fn put_three_way(out: &mut Octets, value: &ThreeWay) -> Result<(), OutOfMemo
         draft.add(&id.to_be_bytes());
     }
     item_laws();
-    put_tlv(out, 240, draft.as_slice())
+    put_tlv(out, codes::THREE_WAY, draft.as_slice())
 }

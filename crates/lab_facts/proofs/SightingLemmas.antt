@@ -22,7 +22,7 @@ use Rattle.lsp_store.specs.declared.entry.Entry.{Entry}
 use Rattle.flag_sync.specs.declared.flag_row.FlagRow.{FlagRow}
 use Rattle.flag_sync.specs.BookStates.{cells_of, AreBeside}
 use Rattle.flag_sync.specs.Walks.{numbers_of}
-use Rattle.purge_ageing.specs.Ids.{IsPlace}
+use Rattle.ordered.specs.Keyed.{IsPlace}
 use Rattle.lab_facts.specs.declared.said.Said.{Said}
 use Rattle.lab_facts.specs.Sightings.{Sighting, is_own, own_lsps, after, earlier, first_of, doubled_with, doubled_of, Memory, key_of, Remembers}
 use Rattle.lab_facts.specs.Entries.{contents_of, kept_of, seen_of, live_of, Left, past_after}
@@ -226,11 +226,11 @@ kept-none es first key e f = sym (ap (λ (kept : List (ℕ × Contents)). find k
 
 -- ---- an LSP ID that is there already
 
-pub with-held : (xs : List LspId) (n i : ℕ) → IsPlace xs n i → with_id (numbers_of xs) n ≡ numbers_of xs
+pub with-held : (xs : List LspId) (n i : ℕ) → IsPlace lsp_number xs n i → with_id (numbers_of xs) n ≡ numbers_of xs
 with-held [] n i at = absurd (let h = at.inside in omega (arith, h))
 with-held (x ∷ xs) n zero at = let h = at.here x in grind (arith, nat_tests, h)
 with-held (x ∷ xs) n (suc i) at =
-    let rest : IsPlace xs n i = record { inside = (let k = at.inside in omega (arith, k)); low = at.low.1; here = at.here } in
+    let rest : IsPlace lsp_number xs n i = record { inside = (let k = at.inside in omega (arith, k)); low = at.low.1; here = at.here; high = at.high } in
     let low = at.low.0 in
     grind (arith, nat_tests, low, with-held xs n i rest)
 

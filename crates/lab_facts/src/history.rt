@@ -1,5 +1,5 @@
 //! What routers held of their own LSP IDs.
-ghost use Rattle.std.specs.Prelude.{◌≡◌, ◌==◌, ◌*◌, ℕ, List, [], ◌∷◌, OnOk, MatchResult, if◌then◌else◌, Some};
+ghost use Rattle.std.specs.Prelude.{◌≡◌, ◌==◌, ◌*◌, ℕ, List, [], ◌∷◌, OnOk, if◌then◌else◌, Some};
 ghost use Rattle.isis_base.specs.Identifiers.{lsp_number};
 ghost use Rattle.model_router.specs.Maps.{find};
 ghost use Rattle.model_router.specs.LetGos.{with_id};
@@ -7,7 +7,8 @@ ghost use Rattle.flag_sync.specs.BookStates.{book_of, AreBeside};
 ghost use Rattle.flag_sync.specs.Walks.{numbers_of};
 ghost use Rattle.lsp_store.specs.declared.entry.Entry.{Entry as StoreEntry};
 ghost use Rattle.isis_base.specs.declared.identifiers.LspId.{LspId as AnId};
-ghost use Rattle.purge_ageing.specs.Ids.{Rises, IsPlace, IsGap};
+ghost use Rattle.ordered.specs.Keyed.{IsGap};
+ghost use Rattle.purge_ageing.specs.Ids.{Rises};
 ghost use Rattle.model_router.specs.Numbers.{system_number};
 ghost use Rattle.lab_facts.specs.Sightings.{Sighting, Remembers, after, own_lsps, key_of, doubled_of};
 ghost use Rattle.lab_facts.specs.Entries.{live_of, Compares, Left};
@@ -18,6 +19,7 @@ use designated_is::system_to_number;
 use flag_sync::Book;
 use isis_base::{LspId, OutOfMemory, SystemId};
 use lsp_store::Entry;
+use purge_ageing::ids::place_of;
 use std::alloc::Global;
 use std::collections::BTreeMap;
 use std::marker::Model;
@@ -171,20 +173,10 @@ fn key_of(id: LspId, number: u32) -> u128
     u128::from(id.to_number()) * 4_294_967_296 + u128::from(number)
 }
 
-/// Where an LSP ID is, or where it would go.
-fn place_of(ids: &[LspId], id: LspId) -> Result<usize, usize>
-    requires { Rises 0 (numbers_of ids.now) }
-    ensures { MatchResult result (IsPlace ids.now (lsp_number id))
-        (IsGap ids.now (lsp_number id)) }
-{
-    let number = id.to_number();
-    ids.binary_search_by_key(&number, |id| id.to_number())
-}
-
 /// Puts an LSP ID in at its place.
 fn put_at(ids: &mut Vec<LspId>, place: usize, id: LspId) -> Result<(), OutOfMemory>
     requires rises { Rises 0 (numbers_of ids.old.items) }
-    requires gap { IsGap ids.old.items (lsp_number id) place }
+    requires gap { IsGap lsp_number ids.old.items (lsp_number id) place }
     ensures items { OnOk result (numbers_of ids.new.items
         ≡ with_id (numbers_of ids.old.items) (lsp_number id)) }
     ensures rises { Rises 0 (numbers_of ids.new.items) }

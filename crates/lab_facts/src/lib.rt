@@ -1,18 +1,16 @@
-//! What a report tells of links, of LANs and of own LSP IDs.
+//! What a report tells of links, of LANs and of own LSP IDs. The words are this project's own.
 //!
-//! How the two ends of a link stand to each other, and which routers agree.
+//! How the two ends of a link stand to each other, and which routers a chain of joined links leads to.
 //!
 //! Which ranges of LSP IDs routers took of CSNPs, and whether those that were taken at the same keys cover all LSP IDs.
 //! ISO 10589 7.3.15.2: on a LAN the designated system tells in CSNPs what it holds. A router that took all of a set
 //! cleanly, while its own keys and the sender's stood still, holds the same. So each range is kept beside the boots and
-//! the counts of changed keys at which it was sent and taken, and a look-up tells whether the ranges of one such moment
-//! cover all LSP IDs. The words are this project's own. What was taken at a moment that is past stays in the map: less
-//! than the datagrams themselves, which a network keeps.
+//! the counts of changed keys at which it was sent and taken. What was taken at a moment that is past stays in the map:
+//! less than the datagrams themselves, which a network keeps.
 //!
-//! What routers held of their own LSP IDs in a run, and which of these are doubled. An LSP ID is doubled where its own
-//! router held it live at one number with two contents, the flags octet and the TLVs (ISO 10589 9.8). A history looks
-//! at what a router holds of its own LSP IDs whenever it is told to, and keeps the contents that it saw first of each
-//! LSP ID and number. The words are this project's own.
+//! What routers held of their own LSP IDs in a run, and which are doubled: held live by their own router at one number
+//! with two contents, the flags octet and the TLVs (ISO 10589 9.8). The contents seen first of each LSP ID and number
+//! are kept.
 //!
 //! - `state.rt`: the state of a link at a level; `counts.rt`: what is counted at its ends; `cells.rt`: the walk over a book's entries with
 //!   their flags

@@ -5,11 +5,9 @@ ghost use Rattle.model_router.specs.Ranks.{is_live, number_of};
 ghost use Rattle.model_router.specs.OwnLsps.{same_contents};
 ghost use Rattle.lab_facts.specs.Entries.{contents_of};
 
+use isis_base::fields::behind_header;
 use isis_base::{Key, Octets, OutOfMemory};
 use std::alloc::Global;
-
-/// The octets of an LSP's header (ISO 10589 9.8).
-const HEADER: usize = 27;
 
 /// What an LSP says behind its header: the flags octet and the TLVs (ISO 10589 9.8).
 #[derive(Drop, Debug)]
@@ -45,11 +43,7 @@ impl Said {
 pub(crate) fn tlvs_of(octets: &Octets) -> &[u8]
     ensures { result.now ≡ drop 27 octets.now }
 {
-    let octets = octets.as_slice();
-    if octets.len() < HEADER {
-        return &[];
-    }
-    &octets[HEADER..]
+    behind_header(octets.as_slice())
 }
 
 /// The number of a live LSP of a key.

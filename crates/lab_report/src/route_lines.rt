@@ -4,13 +4,11 @@ ghost use Rattle.std.specs.List.{flat_map};
 ghost use Rattle.lab_report.specs.RouteLines as lines;
 ghost use Rattle.spf_tree.specs.Nodes.{system_node};
 
+use isis_base::numbers::PREFIX_METRIC;
 use isis_base::{LspId, NodeId, Octets, OutOfMemory, Prefix, SystemId, add_number, add_system_id};
 use route_table::{Rank, Route};
 use router_sending::laws::id_law;
 use spf_tree::Hops;
-
-/// The greatest cost that is told, in units of metrics (RFC 5305 4).
-const GREATEST_COST: u64 = 4_261_412_864;
 
 /// Adds a line for each route, by prefix.
 pub(crate) fn add_routes(page: &mut Octets, name: &str, routes: &[Route]) -> Result<(), OutOfMemory>
@@ -52,7 +50,7 @@ fn add_way(page: &mut Octets, rank: Rank, cost: u64) -> Result<(), OutOfMemory>
 fn told_cost(cost: u64) -> u64
     ensures { result ≡ lines.told_cost cost }
 {
-    cost.min(GREATEST_COST)
+    cost.min(u64::from(PREFIX_METRIC))
 }
 
 /// A blank and the text of a prefix.

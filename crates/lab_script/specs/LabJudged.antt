@@ -5,7 +5,7 @@ use Rattle.isis_base.specs.declared.level.CircuitKind.{CircuitKind}
 use Rattle.isis_base.specs.declared.level.CircuitKind.TheVariants as kind
 use Rattle.lab_keys.specs.declared.faults.LimitName.TheVariants.{Routers, Links, Circuits}
 use Rattle.lab_keys.specs.declared.net.TheConstants.{ROUTER_LIMIT, LINK_LIMIT}
-use Rattle.lab_script.specs.declared.setup.TheConstants.{CIRCUIT_LIMIT}
+use Rattle.isis_base.specs.declared.numbers.TheConstants.{CIRCUIT_LIMIT}
 use Rattle.lab_script.specs.declared.deeds.LabDeed.{LabDeed}
 use Rattle.lab_script.specs.declared.deeds.LabDeed.TheVariants as deed
 use Rattle.lab_script.specs.declared.named.NamedDeed.{NamedDeed}

@@ -7,6 +7,7 @@ ghost use Rattle.lab_script.specs.LabFields as field;
 
 use crate::fields::read_name;
 use crate::named::NamedScope;
+use isis_base::numbers::{CIRCUIT_METRIC, PREFIX_METRIC};
 use isis_base::{AreaAddress, LevelSet, SystemId, read_area, read_system};
 use line_cuts::{Hex, all_hex, read_up_to};
 use model_network::PduWord;
@@ -16,7 +17,7 @@ pub(crate) fn read_metric(word: &[u8]) -> Option<u32>
     ensures value { result ≡ field.metric_of word.now }
     ensures within { IfSome result (λ metric. metric ≤ 16777215) }
 {
-    read_up_to(word, 16_777_215)
+    read_up_to(word, CIRCUIT_METRIC)
 }
 
 /// The metric of a prefix, up to 4261412864, or `none`.
@@ -27,7 +28,7 @@ pub(crate) fn read_prefix_metric(word: &[u8]) -> Option<Option<u32>>
     if word == b"none".as_slice() {
         return Some(None);
     }
-    let metric = read_up_to(word, 4_261_412_864)?;
+    let metric = read_up_to(word, PREFIX_METRIC)?;
     Some(Some(metric))
 }
 

@@ -4,9 +4,6 @@ use crate::script_list::ScriptList;
 use isis_base::{AreaAddress, CircuitKind, LevelSet, SystemId};
 use line_cuts::Hex;
 
-/// How many circuits a router may have.
-pub const CIRCUIT_LIMIT: usize = 64;
-
 /// A router of a lab script.
 #[derive(Drop)]
 pub struct LabRouter<'a> {

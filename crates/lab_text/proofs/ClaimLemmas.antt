@@ -5,9 +5,8 @@ use Rattle.model_router.specs.Places.{nth}
 use Rattle.model_router.specs.Routers.{Router}
 use Rattle.isis_base.specs.declared.prefix.Prefix as base
 use Rattle.router_desk.specs.declared.config.Change.TheVariants as change
-use Rattle.router_desk.specs.Configs.{prefix_number}
-use Rattle.network_lab.specs.Passed.{FitsPrefix}
-use Rattle.network_lab.specs.Passed.{given}
+use Rattle.isis_base.specs.Prefixes.{prefix_number}
+use Rattle.network_lab.specs.Passed.{FitsPrefix, given}
 use Rattle.model_network.specs.declared.end.End.{End}
 use Rattle.model_network.specs.Networks.{Datagram, octets_of, Network, place_in, place_at, numbered}
 use Rattle.model_network.specs.Ports.{Port}

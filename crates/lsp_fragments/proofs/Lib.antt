@@ -1,9 +1,8 @@
--- What the check doesn't find alone: addresses, entries that fit, maps, and binary searches.
+-- What the check doesn't find alone: addresses, entries that fit, maps.
 mod FirstLemmas
 mod FitLemmas
 mod GoodLemmas
 mod OnlyLemmas
-mod MapLemmas
-mod SearchLemmas
+mod FromLemmas
 mod ShownLemmas
 mod ContentLemmas

@@ -1,7 +1,8 @@
 -- What an own LSP says: what its first fragment begins with, and the entries of its TLVs (ISO 10589
 -- 9.8).
-use Rattle.std.specs.Prelude.{ℕ, ◌+◌, ◌*◌, ◌/◌, List, [], ◌++◌, map, take, drop, if◌then◌else◌}
+use Rattle.std.specs.Prelude.{ℕ, ◌/◌, List, [], ◌++◌, map, take, drop, if◌then◌else◌}
 use Rattle.isis_base.specs.Identifiers.{lsp_number}
+use Rattle.isis_base.specs.Prefixes.{prefix_number}
 use Rattle.isis_tlv.specs.declared.neighbour.NeighbourItem.{NeighbourItem}
 use Rattle.isis_tlv.specs.declared.prefix.PrefixItem.{PrefixItem}
 use Rattle.isis_tlv.specs.Spelling.{area_tlv, protocol_tlv, neighbour_octets, prefix_octets}
@@ -43,6 +44,6 @@ node_and_metric item = (lsp_number (record { node = item.node; number = 0 }) / 2
 -- up/down bit (own)
 abbrev pub reach_pair : PrefixItem → ℕ × Reach
 reach_pair item = (
-  64 * item.prefix.address + item.prefix.length,
+  prefix_number item.prefix,
   record { metric = item.metric; down = item.down },
 )

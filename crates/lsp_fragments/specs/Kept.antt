@@ -3,7 +3,7 @@ use Rattle.std.specs.Prelude.{ℕ, ◌-◌, nat_lt, List, [], ◌∷◌, length,
 use Rattle.isis_base.specs.Identifiers.{lsp_number}
 use Rattle.model_router.specs.Routers.{Issued}
 use Rattle.lsp_fragments.specs.declared.kept.Kept.{Kept}
-use Rattle.lsp_fragments.specs.Keyed.{keyed, IsPlace, IsGap}
+use Rattle.ordered.specs.Keyed.{keyed, IsPlace, IsGap}
 use Rattle.model_router.specs.Books.{risen}
 
 -- own

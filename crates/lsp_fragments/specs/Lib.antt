@@ -4,5 +4,4 @@ pub mod Entries
 pub mod Fits
 pub mod GoodSplits
 pub mod Issues
-pub mod Keyed
 pub mod Kept

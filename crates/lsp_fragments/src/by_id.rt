@@ -1,22 +1,32 @@
-//! Own LSPs in a list by LSP ID: where one is, and how one is put, taken out and aged.
-ghost use Rattle.std.specs.Prelude.{◌≡◌, ◌+◌, ◌<◌, ◌≤◌, length, map, OnOk, OnErr, IfOk, IsOk, IsSome, MatchOption, None, Some, vec_capacity};
+//! Own LSPs in a list by LSP ID: where one is, and how they are aged.
+ghost use Rattle.std.specs.Prelude.{◌≡◌, ◌+◌, map, IfOk, MatchOption, None, Some, vec_capacity};
 ghost use Rattle.std.specs.Option.{option_map};
 ghost use Rattle.isis_base.specs.Identifiers.{lsp_number};
-ghost use Rattle.model_router.specs.Maps.{find, put, erase};
+ghost use Rattle.model_router.specs.Maps.{find};
 ghost use Rattle.model_router.specs.Sorted.{RisesFrom};
-ghost use Rattle.lsp_fragments.specs.Kept.{kept_id, by_id, issued_of, all_issued, issued_from, first_id, older_kept, IsIdAt};
+ghost use Rattle.lsp_fragments.specs.Kept.{by_id, issued_of, all_issued, issued_from, first_id, older_kept, IsIdAt};
 
 use crate::kept::Kept;
 use isis_base::{LspId, OutOfMemory};
+use ordered::Keyed;
 use std::alloc::Global;
+
+impl Keyed for Kept {
+    ghost use Rattle.lsp_fragments.specs.Kept.{kept_id};
+
+    ghost key = { kept_id };
+
+    fn key(&self) -> u64 {
+        self.id.to_number()
+    }
+}
 
 /// Where the LSP ID is, or where it would go.
 pub(crate) fn place_of(list: &[Kept], id: LspId) -> Result<usize, usize>
     requires { RisesFrom 0 (by_id list.now) }
     ensures { IsIdAt list.now (lsp_number id) result }
 {
-    let number = id.to_number();
-    list.binary_search_by_key(&number, |kept| kept.id.to_number())
+    ordered::place_of(list, id.to_number())
 }
 
 /// What is kept of the LSP ID.
@@ -62,54 +72,6 @@ fn id_at(list: &[Kept]) -> Option<LspId>
     match list {
         [kept, ..] => Some(kept.id),
         [] => None,
-    }
-}
-
-/// Puts one in at its place. Where it takes the place of another, or room is spare, it takes no
-/// memory.
-pub(crate) fn put_at(
-    list: &mut Vec<Kept>,
-    place: Result<usize, usize>,
-    kept: Kept,
-) -> Result<(), OutOfMemory>
-    requires place { IsIdAt list.old.items (kept_id kept) place }
-    requires rises { RisesFrom 0 (by_id list.old.items) }
-    ensures ok { OnOk result (by_id list.new.items
-        ≡ put (by_id list.old.items) (kept_id kept) kept) }
-    ensures err { OnErr result (list.new.items ≡ list.old.items) }
-    ensures err_room { OnErr result (vec_capacity list.new ≡ vec_capacity list.old) }
-    ensures rises { RisesFrom 0 (by_id list.new.items) }
-    ensures held { IsSome (find (by_id list.old.items) (kept_id kept)) → IsOk result }
-    ensures room { length list.old.items < vec_capacity list.old → IsOk result }
-    ensures len { OnOk result (length list.new.items ≤ length list.old.items + 1) }
-    ensures capacity { vec_capacity list.old ≤ vec_capacity list.new }
-{
-    match place {
-        Ok(at) => {
-            list[at] = kept;
-            Ok(())
-        }
-        Err(at) => {
-            match list.reserve(1) {
-                Ok(()) => {}
-                Err(_) => return Err(OutOfMemory),
-            }
-            list.insert(at, kept).unwrap();
-            Ok(())
-        }
-    }
-}
-
-/// Takes the LSP ID out, where it is there.
-pub(crate) fn take_out(list: &mut Vec<Kept>, id: LspId)
-    requires { RisesFrom 0 (by_id list.old.items) }
-    ensures items { by_id list.new.items ≡ erase (by_id list.old.items) (lsp_number id) }
-    ensures rises { RisesFrom 0 (by_id list.new.items) }
-    ensures len { length list.new.items ≤ length list.old.items }
-    ensures capacity { vec_capacity list.new ≡ vec_capacity list.old }
-{
-    if let Ok(at) = place_of(list, id) {
-        list.remove(at);
     }
 }
 

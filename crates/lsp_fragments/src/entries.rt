@@ -2,10 +2,7 @@
 ghost use Rattle.std.specs.Prelude.{◌≡◌, ◌<◌, ◌≤◌, ◌^◌, take};
 ghost use Rattle.isis_tlv.specs.Spelling as spelling;
 
-use isis_tlv::{NeighbourItem, PrefixItem};
-
-/// The control octet's mark for a prefix that was leaked down (RFC 5305 4).
-const DOWN: u8 = 0x80;
+use isis_tlv::{DOWN, NeighbourItem, PrefixItem};
 
 /// The octets of a neighbour's entry (RFC 5305 3).
 pub(crate) fn neighbour_octets(item: &NeighbourItem) -> [u8; 11]

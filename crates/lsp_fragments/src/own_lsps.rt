@@ -11,10 +11,11 @@ ghost use Rattle.model_router.specs.Sorted.{RisesFrom};
 ghost use Rattle.lsp_fragments.specs.Issues.{all_rest, issue_next, issue_above};
 ghost use Rattle.lsp_fragments.specs.Kept.{all_issued, issued_from, first_id};
 
-use crate::by_id::{age_all, copy_of, id_above, id_from, kept_of, place_of, put_at, take_out};
+use crate::by_id::{age_all, copy_of, id_above, id_from, kept_of, place_of};
 use crate::issue::Issue;
 use crate::kept::Kept;
 use isis_base::{Key, LspId, Octets, OutOfMemory};
+use ordered::{insert_at, take_out};
 use std::alloc::Global;
 use std::marker::Model;
 
@@ -108,7 +109,7 @@ impl OwnLsps {
             tlvs,
             age: 0,
         };
-        put_at(&mut self.list, place, kept)
+        insert_at(&mut self.list, place, kept)
     }
 
     /// The LSP ID isn't issued any longer.
@@ -116,7 +117,7 @@ impl OwnLsps {
         ensures issued { self.new.issued ≡ erase self.old.issued (lsp_number id) }
         ensures spare { self.old.spare ≤ self.new.spare }
     {
-        take_out(&mut self.list, id);
+        take_out(&mut self.list, id.to_number());
     }
 
     /// Whether the LSP ID is issued.

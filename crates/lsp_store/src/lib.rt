@@ -31,7 +31,7 @@ pub use change::Change;
 pub use copy::TryCopy;
 pub use entry::Entry;
 pub use fault::StoreFault;
-pub use live::Live;
+pub use live::{Live, is_live};
 pub use noting::Noting;
 pub use page::Page;
 pub use pages::Pages;

@@ -25,7 +25,7 @@ impl<'a> Model for Live<'a> {
 }
 
 /// Whether an entry is live: it has a key that isn't purged.
-fn has_live_key(entry: &Entry) -> bool
+pub fn is_live(entry: &Entry) -> bool
     ensures { result ≡ is_live entry.now }
 {
     match entry.key {
@@ -46,7 +46,7 @@ impl<'a> Iterator for Live<'a> {
 
     fn next(&mut self) -> Option<(LspId, &'a Entry)> {
         while let Some((id, entry)) = self.walk.next() {
-            if has_live_key(entry) {
+            if is_live(entry) {
                 return Some((id, entry));
             }
         }

@@ -13,12 +13,10 @@ use crate::live::Live;
 use crate::noting::Noting;
 use crate::pages::Pages;
 use crate::range::Range;
+use isis_base::numbers::ENTRY_LIMIT;
 use isis_base::{Key, LspId, Order3, OutOfMemory, newer};
 use std::alloc::Global;
 use std::marker::Model;
-
-/// The most entries of a store.
-pub const ENTRY_LIMIT: usize = 65_536;
 
 /// A second less of what an entry has left, where that isn't 0.
 #[derive(Drop)]

@@ -5,14 +5,12 @@ ghost use Rattle.isis_tlv.specs.Tlvs.{tlvs_of};
 ghost use Rattle.isis_tlv.specs.Items.{values_of};
 ghost use Rattle.lsp_view.specs.Bodies.{body_of, whole, items_in};
 
+use isis_base::numbers::LSP_HEADER;
 use isis_base::{AreaAddress, OutOfMemory};
 use isis_tlv::laws::tlv_laws;
 use isis_tlv::{
     Item, Items, NeighbourItem, PrefixItem, Tlvs, are_tlvs, areas, neighbours, prefixes,
 };
-
-/// How many octets an LSP's header has (ISO 10589 9.8).
-const HEADER: usize = 27;
 
 /// An item that LSPs list in the TLVs of a code.
 pub trait Listed: Item + Copy {
@@ -63,10 +61,10 @@ pub fn add_items<I: Listed>(items: &mut Vec<I>, code: u8, octets: &[u8]) -> Resu
 fn body(octets: &[u8]) -> &[u8]
     ensures { result.now ≡ body_of octets.now }
 {
-    if octets.len() < HEADER {
+    if octets.len() < LSP_HEADER {
         return &[];
     }
-    let (_, tlvs) = octets.split_at(HEADER);
+    let (_, tlvs) = octets.split_at(LSP_HEADER);
     if has_no_fault(tlvs) { tlvs } else { &[] }
 }
 

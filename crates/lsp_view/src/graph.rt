@@ -6,15 +6,13 @@ ghost use Rattle.lsp_view.specs.Views.{row_from, rows_in, rows_at, lead_of, is_o
 
 use crate::body::add_items;
 use crate::flags::has_overload;
-use crate::lead::{is_live, lead};
+use crate::lead::lead;
 use isis_base::{LspId, NodeId, OutOfMemory};
 use isis_tlv::NeighbourItem;
-use lsp_store::{Entry, Store};
+use isis_tlv::codes::NEIGHBOURS;
+use lsp_store::{Entry, Store, is_live};
 use spf_tree::Row;
 use std::alloc::Global;
-
-/// The code of extended IS reachability (RFC 5305 3).
-const NEIGHBOURS: u8 = 22;
 
 /// A row for each neighbour that a live LSP lists whose node's number 0 is held live, in the order of LSP ID and place.
 #[tactic(auto, unfolding(crate::specs::Views::rows_in))]

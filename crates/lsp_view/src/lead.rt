@@ -1,11 +1,10 @@
 //! A node's number 0 (ISO 10589 7.2.5).
 ghost use Rattle.std.specs.Prelude.{◌≡◌};
 ghost use Rattle.std.specs.Option.{option_map};
-ghost use Rattle.lsp_store.specs.Databases.{is_live};
 ghost use Rattle.lsp_view.specs.Views.{lead_of};
 
 use isis_base::{LspId, NodeId};
-use lsp_store::{Entry, Store};
+use lsp_store::{Entry, Store, is_live};
 
 /// The entry of the node's number 0, where it is live.
 pub fn lead(store: &Store, node: NodeId) -> Option<&Entry>
@@ -14,15 +13,5 @@ pub fn lead(store: &Store, node: NodeId) -> Option<&Entry>
     match store.get(LspId { node, number: 0 }) {
         Some(entry) => { if is_live(entry) { Some(entry) } else { None } }
         None => None,
-    }
-}
-
-/// Whether an entry has a key that isn't purged.
-pub fn is_live(entry: &Entry) -> bool
-    ensures { result ≡ is_live entry.now }
-{
-    match entry.key {
-        Some(key) => !key.purged,
-        None => false,
     }
 }

@@ -24,5 +24,5 @@ pub mod parts {
 }
 
 pub use graph::{is_overloaded_at, overloaded, rows, rows_at};
-pub use lead::is_live;
+pub use lsp_store::is_live;
 pub use systems::{area_list, is_attached, reach, reach_into};

@@ -5,20 +5,13 @@ ghost use Rattle.lsp_view.specs.Views.{own_node, lead_of, is_reachable, reach_in
 
 use crate::body::add_items;
 use crate::flags::has_attached;
-use crate::lead::{is_live, lead};
+use crate::lead::lead;
+use isis_base::numbers::PREFIX_METRIC;
 use isis_base::{AreaAddress, LspId, NodeId, OutOfMemory, SystemId};
 use isis_tlv::PrefixItem;
-use lsp_store::Store;
+use isis_tlv::codes::{AREAS, PREFIXES};
+use lsp_store::{Store, is_live};
 use std::alloc::Global;
-
-/// The code of area addresses (ISO 10589 9.8).
-const AREAS: u8 = 1;
-
-/// The code of extended IP reachability (RFC 5305 4).
-const PREFIXES: u8 = 135;
-
-/// The greatest metric of a prefix that may be reached (RFC 5305 4).
-const GREATEST: u32 = 4_261_412_864;
 
 /// The node that a system is.
 fn own_node(system: SystemId) -> NodeId
@@ -92,7 +85,7 @@ fn add_reachable(items: &mut Vec<PrefixItem>, listed: &[PrefixItem]) -> Result<(
     ensures { OnOk result (items.new.items ≡ items.old.items ++ filter is_reachable listed.now) }
 {
     for item in listed {
-        if item.metric <= GREATEST {
+        if item.metric <= PREFIX_METRIC {
             match items.push(*item) {
                 Ok(()) => {}
                 Err(_) => return Err(OutOfMemory),

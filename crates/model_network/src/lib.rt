@@ -15,8 +15,7 @@
 //! words are this project's own.
 //!
 //! - `end.rt`: the ends of links; `word.rt`: the kinds of PDUs that a line `run` may leave undelivered
-//! - `laws.rt`: the laws, functions without a body whose contracts hold for whatever is given
-//! - `agreement.rt`: the laws, functions without a body whose contracts hold for whatever is given
+//! - `laws.rt`: what is claimed of links, `agreement.rt`: of routers that agree; functions without a body, whose contracts are the laws
 #![tactic(auto)]
 
 pub mod agreement;

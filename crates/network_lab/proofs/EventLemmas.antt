@@ -11,7 +11,7 @@ use Rattle.model_router.specs.Steps.{step}
 use Rattle.model_router.specs.AdjacencyLaws.{place_of}
 use Rattle.router_desk.specs.declared.config.Change.{Change}
 use Rattle.router_desk.specs.declared.config.Change.TheVariants as change
-use Rattle.router_desk.specs.Configs.{prefix_number}
+use Rattle.isis_base.specs.Prefixes.{prefix_number}
 use Rattle.router_core.specs.Events as core
 use Rattle.router_core.specs.Givens.{given}
 use Rattle.model_network.specs.Networks.{Datagram, octets_of, Taking, Network, place_in, place_at, numbered, restarted}

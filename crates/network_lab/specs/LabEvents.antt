@@ -6,7 +6,7 @@ use Rattle.model_router.specs.Maps.{find}
 use Rattle.model_router.specs.Routers.{Router}
 use Rattle.router_desk.specs.declared.config.Change.{Change}
 use Rattle.router_desk.specs.declared.config.Change.TheVariants as change
-use Rattle.router_desk.specs.Configs.{prefix_number}
+use Rattle.isis_base.specs.Prefixes.{prefix_number}
 use Rattle.router_core.specs.Events.{IsThere}
 use Rattle.router_core.specs.Givens.{given}
 use Rattle.model_network.specs.Networks.{Network, place_at, numbered}

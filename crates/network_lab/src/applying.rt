@@ -22,15 +22,10 @@ use crate::network::Network;
 use crate::places::{one_more, place_at, put_at};
 use crate::taking::{restart_at, take_at, taking_at};
 use isis_base::Octets;
+use isis_base::numbers::{BOOT_LIMIT, PREFIX_LIMIT};
 use lab_keys::{LabFault, LimitName};
 use router_core::{NodeEvent, Router};
 use router_desk::{Change, Config};
-
-/// The last boot number.
-const LAST_BOOT: u32 = 16777215;
-
-/// The most prefixes of a router's own.
-const PREFIX_LIMIT: usize = 4096;
 
 impl Network {
     /// One event. Whatever network of the model this network stood for, it then stands for that
@@ -135,7 +130,7 @@ impl Network {
         requires running { self.old.stopped ≡ None }
         ensures { Ending (event.Restart router) self.old self.new result }
     {
-        if self.routers[router].boot() >= LAST_BOOT {
+        if self.routers[router].boot() >= BOOT_LIMIT {
             return Err(LabFault::Limit(LimitName::Boots));
         }
         self.begun = true;

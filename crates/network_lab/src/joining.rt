@@ -12,16 +12,13 @@ ghost use Rattle.network_lab.specs.LabCauses as cause;
 ghost use Rattle.network_lab.specs.Joining.{Adds, IsJoined, configs_with, routers_with, ports_with};
 
 use crate::places::put_at;
-use crate::row::Row;
 use crate::setup::{Setup, put_setup, setup_of};
-use isis_base::{CircuitKind, OutOfMemory};
+use isis_base::numbers::CIRCUIT_LIMIT;
+use isis_base::{CircuitKind, List, OutOfMemory};
 use model_network::End;
 use router_core::Router;
 use router_desk::{CircuitConfig, Config};
 use std::alloc::Global;
-
-/// The most circuits of a router.
-const CIRCUIT_LIMIT: usize = 64;
 
 /// What becomes of a router that a link or LAN joins: its setup with a circuit more, and the links
 /// of its circuits.
@@ -29,7 +26,7 @@ const CIRCUIT_LIMIT: usize = 64;
 pub(crate) struct Joined {
     pub(crate) router: usize,
     pub(crate) setup: Setup,
-    pub(crate) ports: Row<usize>,
+    pub(crate) ports: List<usize>,
 }
 
 /// Whether one of these routers has all the circuits that it may have.
@@ -61,7 +58,7 @@ pub(crate) fn ends_of(
     alloc: Global,
     configs: &[Config],
     members: &[usize],
-) -> Result<Row<End>, OutOfMemory>
+) -> Result<List<End>, OutOfMemory>
     ensures { IfOk result (λ row. row ≡ map (next_end configs.now) members.now) }
 {
     let mut ends = Vec::new(alloc);
@@ -75,11 +72,11 @@ pub(crate) fn ends_of(
         }
         left = more;
     }
-    Ok(Row::of(ends))
+    Ok(List::of(ends))
 }
 
 /// Ends in order of their routers.
-pub(crate) fn ordered_of(alloc: Global, ends: &Row<End>) -> Result<Row<End>, OutOfMemory>
+pub(crate) fn ordered_of(alloc: Global, ends: &List<End>) -> Result<List<End>, OutOfMemory>
     ensures { IfOk result (λ row. row ≡ by_router ends.now) }
 {
     let ends = ends.as_slice();
@@ -91,7 +88,7 @@ pub(crate) fn ordered_of(alloc: Global, ends: &Row<End>) -> Result<Row<End>, Out
             Err(error) => return Err(error),
         }
     }
-    Ok(Row::of(ordered))
+    Ok(List::of(ordered))
 }
 
 /// Puts an end behind those of no greater router.
@@ -123,7 +120,7 @@ fn place_behind(ends: &[End], router: usize) -> usize
 pub(crate) fn joined_all(
     alloc: Global,
     configs: &[Config],
-    ports: &[Row<usize>],
+    ports: &[List<usize>],
     members: &[usize],
     link: usize,
     kind: CircuitKind,
@@ -154,7 +151,7 @@ pub(crate) fn joined_all(
 fn join(
     list: &mut Vec<Joined>,
     configs: &[Config],
-    ports: &[Row<usize>],
+    ports: &[List<usize>],
     router: usize,
     link: usize,
     kind: CircuitKind,
@@ -184,7 +181,7 @@ fn join(
 fn joined_at(
     alloc: Global,
     configs: &[Config],
-    ports: &[Row<usize>],
+    ports: &[List<usize>],
     router: usize,
     link: usize,
     kind: CircuitKind,
@@ -239,7 +236,7 @@ fn with_new(
 pub(crate) fn put_all(
     configs: &mut Vec<Config>,
     routers: &mut Vec<Router>,
-    ports: &mut Vec<Row<usize>>,
+    ports: &mut Vec<List<usize>>,
     joined: Vec<Joined>,
 )
     requires configs { AllByRecursion (λ j. j.router < length configs.old.items) joined.items }

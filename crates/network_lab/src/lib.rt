@@ -10,7 +10,7 @@
 //! - `states.rt`: how links stand, and which routers agree; `lan_state.rt`, `lan_states.rt`: how the members of LANs do
 //! - `hearing.rt`, `heard_range.rt`: the ranges of CSNPs that routers hear on LANs without a flag
 //! - `notes.rt`: what is noted of a run
-//! - `taking.rt`: a router of a list takes an event; `ends.rt`, `places.rt`, `row.rt`: circuits, ends, places
+//! - `taking.rt`: a router of a list takes an event; `ends.rt`, `places.rt`: circuits, ends, places
 #![tactic(auto)]
 
 mod applying;
@@ -26,7 +26,6 @@ pub mod laws;
 mod network;
 mod notes;
 mod places;
-mod row;
 mod running;
 mod sent;
 mod setup;

@@ -13,9 +13,8 @@ ghost use Rattle.network_lab.specs.Reached.{AreSmall, HasRun, HoldNothing};
 
 use crate::notes::Notes;
 use crate::places::sent_at;
-use crate::row::Row;
 use crate::sent::SentDatagram;
-use isis_base::{Level, LspId};
+use isis_base::{Level, List, LspId};
 use lab_facts::{Histories, Sweeps};
 use lab_keys::LabFault;
 use model_network::End;
@@ -32,11 +31,11 @@ pub struct Network {
     pub(crate) alloc: Global,
     pub(crate) configs: Vec<Config>,
     pub(crate) routers: Vec<Router>,
-    pub(crate) links: Vec<Row<End>>,
+    pub(crate) links: Vec<List<End>>,
     // of each link its ends in order of their routers
-    pub(crate) ordered: Vec<Row<End>>,
+    pub(crate) ordered: Vec<List<End>>,
     // of each router the links of its circuits
-    pub(crate) ports: Vec<Row<usize>>,
+    pub(crate) ports: Vec<List<usize>>,
     pub(crate) sent: Vec<SentDatagram>,
     pub(crate) injected: u64,
     pub(crate) notes: Notes,

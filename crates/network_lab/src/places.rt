@@ -8,9 +8,8 @@ ghost use Rattle.model_network.specs.RunLines.{ends_of};
 ghost use Rattle.model_network.specs.Runs.{boot_of};
 ghost use Rattle.network_lab.specs.LabTakings.{counts_at};
 
-use crate::row::Row;
 use crate::sent::{Changes, SentDatagram};
-use isis_base::Level;
+use isis_base::{Level, List};
 use model_network::End;
 use router_core::Router;
 
@@ -27,7 +26,7 @@ pub(crate) fn place_on(ends: &[End], router: usize) -> Option<usize>
 }
 
 /// The place of a router's circuit on a link.
-pub(crate) fn place_at(links: &[Row<End>], link: usize, router: usize) -> Option<usize>
+pub(crate) fn place_at(links: &[List<End>], link: usize, router: usize) -> Option<usize>
     ensures { result ≡ place_in (nth links.now link) router }
 {
     match links.get(link) {
@@ -37,7 +36,7 @@ pub(crate) fn place_at(links: &[Row<End>], link: usize, router: usize) -> Option
 }
 
 /// The number of ends of a link.
-pub(crate) fn count_at(links: &[Row<End>], link: usize) -> usize
+pub(crate) fn count_at(links: &[List<End>], link: usize) -> usize
     ensures { result ≡ length (ends_of (nth links.now link)) }
 {
     match links.get(link) {

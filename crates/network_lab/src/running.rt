@@ -13,6 +13,7 @@ ghost use Rattle.network_lab.specs.LabRuns.{RunEnding, IsOfRun, tick_unless, pul
 
 use crate::event::LabEvent;
 use crate::network::Network;
+use isis_base::numbers::FRAME;
 use lab_keys::LabFault;
 use model_network::PduWord;
 
@@ -57,7 +58,7 @@ impl LeftOut {
 fn is_of(word: PduWord, octets: &[u8]) -> bool
     ensures { result ≡ line.is_of word (line.type_of octets.now) }
 {
-    let code = match octets.get(18) {
+    let code = match octets.get(FRAME + 4) {
         Some(octet) => *octet % 32,
         None => 0,
     };

@@ -14,8 +14,7 @@ ghost use Rattle.network_lab.specs.LabCauses.{RouterCause, LinkCause, HasCircuit
 use crate::joining::{ends_of, has_full, joined_all, ordered_of, put_all};
 use crate::network::Network;
 use crate::places::put_at;
-use crate::row::Row;
-use isis_base::{CircuitKind, Octets, OutOfMemory};
+use isis_base::{CircuitKind, List, Octets, OutOfMemory};
 use lab_keys::{LINK_LIMIT, LabFault, LimitName, ROUTER_LIMIT};
 use model_network::End;
 use model_router::laws::identifiers::system_law;
@@ -45,7 +44,7 @@ impl Network {
         let setup = setup_of(self.alloc, config)?;
         self.configs.push_reserved(setup.config);
         self.routers.push_reserved(setup.router);
-        self.ports.push_reserved(Row::new(self.alloc));
+        self.ports.push_reserved(List::new(self.alloc));
         Ok(router)
     }
 
@@ -199,7 +198,7 @@ impl Network {
 fn make_room(
     configs: &mut Vec<Config>,
     routers: &mut Vec<Router>,
-    ports: &mut Vec<Row<usize>>,
+    ports: &mut Vec<List<usize>>,
 ) -> Result<(), AllocError>
     ensures configs { configs.new.items ≡ configs.old.items }
     ensures routers { routers.new.items ≡ routers.old.items }
@@ -299,7 +298,10 @@ fn copy_of(
 }
 
 /// Makes room for one more link.
-fn make_link_room(links: &mut Vec<Row<End>>, ordered: &mut Vec<Row<End>>) -> Result<(), AllocError>
+fn make_link_room(
+    links: &mut Vec<List<End>>,
+    ordered: &mut Vec<List<End>>,
+) -> Result<(), AllocError>
     ensures links { links.new.items ≡ links.old.items }
     ensures ordered { ordered.new.items ≡ ordered.old.items }
     ensures room { OnOk result ((vec_len links.new < vec_capacity links.new)

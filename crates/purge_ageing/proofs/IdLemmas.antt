@@ -5,40 +5,47 @@ use Rattle.std.specs.Result.{is_ok}
 use Rattle.std.proofs.lemmas.Bool.Decides.{nat_tests}
 use Rattle.isis_base.specs.declared.identifiers.LspId.{LspId}
 use Rattle.isis_base.specs.Identifiers.{lsp_number}
+use Rattle.model_router.specs.Sorted.{RisesFrom}
 use Rattle.model_router.specs.LetGos.{LetGo, contains, with_id, lets_go, let_go}
 use Rattle.flag_sync.specs.Walks.{numbers_of}
-use Rattle.purge_ageing.specs.Ids.{Rises, AllAbove, IsPlace, IsGap, IsListed, gone_of}
+use Rattle.ordered.specs.Keyed.{keyed, AllAbove, IsPlace, IsGap}
+use Rattle.purge_ageing.specs.Ids.{Rises, IsListed, gone_of}
 
 pub length-numbers : (xs : List LspId) → length (numbers_of xs) ≡ length xs
 length-numbers [] = refl
 length-numbers (x ∷ xs) = ap suc (length-numbers xs)
 
-pub has-place : (xs : List LspId) (n i : ℕ) → IsPlace xs n i → contains (numbers_of xs) n ≡ true
+-- the same of the list as a map
+pub keyed-rises : (xs : List LspId) (least : ℕ) → Rises least (numbers_of xs) → RisesFrom least (keyed lsp_number xs)
+keyed-rises [] least r = tt
+keyed-rises (x ∷ xs) least r = (r.0, keyed-rises xs (lsp_number x + 1) r.1)
+
+pub has-place : (xs : List LspId) (n i : ℕ) → IsPlace lsp_number xs n i → contains (numbers_of xs) n ≡ true
 has-place [] n i at = absurd (let h = at.inside in omega (arith, h))
 has-place (x ∷ xs) n zero at = let h = at.here x in grind (arith, nat_tests, h)
 has-place (x ∷ xs) n (suc i) at =
-    let rest : IsPlace xs n i = record { inside = (let k = at.inside in omega (arith, k)); low = at.low.1; here = at.here } in
+    let rest : IsPlace lsp_number xs n i = record { inside = (let k = at.inside in omega (arith, k)); low = at.low.1; here = at.here; high = at.high } in
     grind (arith, nat_tests, has-place xs n i rest)
 
-above-none : (xs : List LspId) (n : ℕ) → AllAbove n xs → contains (numbers_of xs) n ≡ false
+above-none : (xs : List LspId) (n : ℕ) → AllAbove lsp_number n xs → contains (numbers_of xs) n ≡ false
 above-none [] n a = refl
 above-none (x ∷ xs) n a = let h = a.0 in grind (arith, nat_tests, h, above-none xs n a.1)
 
-pub has-gap : (xs : List LspId) (n i : ℕ) → IsGap xs n i → contains (numbers_of xs) n ≡ false
+pub has-gap : (xs : List LspId) (n i : ℕ) → IsGap lsp_number xs n i → contains (numbers_of xs) n ≡ false
 has-gap [] n i gap = refl
 has-gap (x ∷ xs) n zero gap = above-none (x ∷ xs) n gap.high
 has-gap (x ∷ xs) n (suc i) gap =
     let h = gap.low.0 in
-    let rest : IsGap xs n i = record { inside = (let k = gap.inside in omega (arith, k)); low = gap.low.1; high = gap.high } in
+    let rest : IsGap lsp_number xs n i = record { inside = (let k = gap.inside in omega (arith, k)); low = gap.low.1; high = gap.high } in
     grind (arith, nat_tests, h, has-gap xs n i rest)
 
-pub with-gap : (xs : List LspId) (v : LspId) (i : ℕ) → IsGap xs (lsp_number v) i → numbers_of (insert xs i v) ≡ with_id (numbers_of xs) (lsp_number v)
+pub with-gap : (xs : List LspId) (v : LspId) (i : ℕ) → IsGap lsp_number xs (lsp_number v) i → numbers_of (insert xs i v) ≡ with_id (numbers_of xs) (lsp_number v)
 with-gap [] v zero gap = refl
 with-gap [] v (suc i) gap = refl
 with-gap (x ∷ xs) v zero gap = let h = gap.high.0 in grind (arith, nat_tests, h)
 with-gap (x ∷ xs) v (suc i) gap =
     let h = gap.low.0 in
-    let rest : IsGap xs (lsp_number v) i = record { inside = (let k = gap.inside in omega (arith, k)); low = gap.low.1; high = gap.high } in
+    let rest : IsGap lsp_number xs (lsp_number v) i = record { inside = (let k = gap.inside in omega (arith, k)); low = gap.low.1; high = gap.high } in
     grind (arith, nat_tests, h, with-gap xs v i rest)
 
 pub with-rises : (ns : List ℕ) (least n : ℕ) → least ≤ n → Rises least ns → Rises least (with_id ns n)
@@ -81,16 +88,16 @@ module _ (all : Bool) (ids : List LspId) (now : LetGo) (n : ℕ) (seen : gone_of
   unfolding let_go
   add-all e = let none = all-seen e in rw none refl
 
-  pub add-held : (i : ℕ) → all ≡ false → IsPlace ids n i → now ≡ let_go now n
+  pub add-held : (i : ℕ) → all ≡ false → IsPlace lsp_number ids n i → now ≡ let_go now n
   add-held i e at = let some = list-seen e in rw some (sym (go-held (numbers_of ids) n (has-place ids n i at)))
 
-  pub add-new : (i : ℕ) (new : List LspId) → all ≡ false → IsGap ids n i → length ids < 4096 → numbers_of new ≡ with_id (numbers_of ids) n → gone_of all new ≡ let_go now n
+  pub add-new : (i : ℕ) (new : List LspId) → all ≡ false → IsGap lsp_number ids n i → length ids < 4096 → numbers_of new ≡ with_id (numbers_of ids) n → gone_of all new ≡ let_go now n
   add-new i new e gap few same =
       let some = list-seen e in
       let len = length-numbers ids in
       rw (some, e) (ap (λ (ns : List ℕ). Some ns) same ∙ sym (go-new (numbers_of ids) n (has-gap ids n i gap) (omega (arith, len, few))))
 
-  pub add-full : (i : ℕ) → all ≡ false → IsGap ids n i → 4096 ≤ length ids → None ≡ let_go now n
+  pub add-full : (i : ℕ) → all ≡ false → IsGap lsp_number ids n i → 4096 ≤ length ids → None ≡ let_go now n
   add-full i e gap many =
       let some = list-seen e in
       let len = length-numbers ids in
@@ -100,7 +107,7 @@ module _ (all : Bool) (ids : List LspId) (now : LetGo) (n : ℕ) (seen : gone_of
   unfolding lets_go
   has-all e = let none = all-seen e in rw (none, e) refl
 
-  pub has-list : (r : Result ℕ ℕ) → all ≡ false → MatchResult r (IsPlace ids n) (IsGap ids n) → is_ok r ≡ lets_go now n
+  pub has-list : (r : Result ℕ ℕ) → all ≡ false → MatchResult r (IsPlace lsp_number ids n) (IsGap lsp_number ids n) → is_ok r ≡ lets_go now n
   unfolding lets_go
   has-list (Ok i) e h = let some = list-seen e in rw some (sym (has-place ids n i h))
   has-list (Err i) e h = let some = list-seen e in rw some (sym (has-gap ids n i h))

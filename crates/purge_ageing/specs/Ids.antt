@@ -1,7 +1,6 @@
 -- LSP IDs in a sorted list (own).
-use Rattle.std.specs.Prelude.{◌≡◌, ℕ, ◌+◌, ◌<◌, ◌≤◌, Bool, List, [], ◌∷◌, length, take, drop, slice_index_or, Some, None, if◌then◌else◌}
+use Rattle.std.specs.Prelude.{ℕ, ◌+◌, ◌≤◌, Bool, List, [], ◌∷◌, length, Some, None, if◌then◌else◌}
 use Rattle.isis_base.specs.declared.identifiers.LspId.{LspId}
-use Rattle.isis_base.specs.Identifiers.{lsp_number}
 use Rattle.model_router.specs.LetGos.{LetGo}
 use Rattle.flag_sync.specs.Walks.{numbers_of}
 
@@ -9,28 +8,6 @@ use Rattle.flag_sync.specs.Walks.{numbers_of}
 abbrev pub Rises : ℕ → List ℕ → Type 0
 Rises least [] = Unit {0}
 Rises least (n ∷ ns) = (least ≤ n) × Rises (n + 1) ns
-
--- each number is below n
-abbrev pub AllBelow : ℕ → List LspId → Type 0
-AllBelow n [] = Unit {0}
-AllBelow n (id ∷ ids) = (lsp_number id < n) × AllBelow n ids
-
--- each number is above n
-abbrev pub AllAbove : ℕ → List LspId → Type 0
-AllAbove n [] = Unit {0}
-AllAbove n (id ∷ ids) = (n < lsp_number id) × AllAbove n ids
-
--- the place has the LSP ID of this number, and lesser ones are before it
-pub record IsPlace (ids : List LspId) (n place : ℕ) : Type 0 where
-  pub inside : place < length ids
-  pub low : AllBelow n (take place ids)
-  pub here : (d : LspId) → lsp_number (slice_index_or ids place d) ≡ n
-
--- no LSP ID has this number: lesser ones are before the place, and greater ones from it on
-pub record IsGap (ids : List LspId) (n place : ℕ) : Type 0 where
-  pub inside : place ≤ length ids
-  pub low : AllBelow n (take place ids)
-  pub high : AllAbove n (drop place ids)
 
 -- what is let go: all, or those of a list
 abbrev pub gone_of : Bool → List LspId → LetGo

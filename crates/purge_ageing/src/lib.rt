@@ -12,7 +12,7 @@
 //! - `ids.rt`: LSP IDs in a sorted list
 #![tactic(auto)]
 
-mod ids;
+pub mod ids;
 mod let_go;
 mod second;
 

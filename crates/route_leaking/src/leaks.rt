@@ -3,12 +3,10 @@ ghost use Rattle.std.specs.Prelude.{◌≡◌, IfOk};
 ghost use Rattle.route_leaking.specs.Leaks.{leaked_metric, leaks, up_leaks, down_leaks};
 
 use isis_base::OutOfMemory;
+use isis_base::numbers::PREFIX_METRIC;
 use isis_tlv::PrefixItem;
 use route_table::{Rank, Route, Routes};
 use std::alloc::Global;
-
-/// The greatest metric of a prefix (RFC 5305 4).
-const GREATEST: u32 = 4_261_412_864;
 
 /// What a router of both levels says of level 1 in level 2: each route of rank One, without the up/down bit, at its cost or
 /// the greatest metric. A route that came down has another rank, so it doesn't go up again.
@@ -55,5 +53,5 @@ fn leaks(
 fn leaked_metric(cost: u64) -> u32
     ensures { result ≡ leaked_metric cost }
 {
-    cost.min(u64::from(GREATEST)) as u32
+    cost.min(u64::from(PREFIX_METRIC)) as u32
 }

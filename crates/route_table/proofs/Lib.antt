@@ -3,3 +3,6 @@ pub mod LookupLemmas
 pub mod OrderLemmas
 pub mod HopLemmas
 pub mod OneLemmas
+pub mod PatchLemmas
+pub mod PutLemmas
+pub mod FirstLemmas

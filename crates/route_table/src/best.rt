@@ -81,7 +81,7 @@ fn best_of(
 }
 
 /// The route of a prefix whose candidates begin at this place.
-fn route_at(
+pub(crate) fn route_at(
     alloc: Global,
     candidates: &[Candidate],
     first: usize,

@@ -8,6 +8,8 @@ ghost use Rattle.route_table.specs.declared.route.Route.{Route};
 ghost use Rattle.route_table.specs.Ranks.{rank_number};
 ghost use Rattle.route_table.specs.Routes.{IsHopTo, AreRising, AreRoutes};
 ghost use Rattle.route_table.specs.Lookups.{IsLongest};
+ghost use Rattle.route_table.specs.declared.patch.Patch.{Patch};
+ghost use Rattle.route_table.specs.Patches.{AreClean, AreMoved, ArePatches, IsPart, IsPatched};
 
 use crate::rank::Rank;
 
@@ -24,4 +26,30 @@ pub fn routes_laws()
         → a ≡ b }
     ensures longest { (routes : List Route) (address : ℕ) (a b : Route) → AreRising routes
         → IsLongest routes address a → IsLongest routes address b → a ≡ b }
+{}
+
+/// Where nothing moved for prefixes without a patch, and the patches are right, the patched routes are those of the new
+/// candidates and graphs.
+pub fn patch_law()
+    ensures { (one two later_one later_two : GraphOf) (old new : List Candidate)
+        (routes patched : List Route) (patches : List Patch)
+        → AreRoutes (IsHopTo one two) old routes → ArePatches (IsHopTo later_one later_two) new patches
+        → AreClean (IsHopTo one two) (IsHopTo later_one later_two) old new patches
+        → IsPatched routes patches patched → AreRoutes (IsHopTo later_one later_two) new patched }
+{}
+
+/// Where what the systems of other nodes tell stays, with the hops to them, and all that the moved nodes told or tell has
+/// a patch, nothing moved for prefixes without a patch.
+pub fn moved_law()
+    ensures { (one two later_one later_two : GraphOf) (old new : List Candidate) (moved : List ℕ)
+        (patches : List Patch)
+        → AreMoved (IsHopTo one two) (IsHopTo later_one later_two) old new moved patches
+        → AreClean (IsHopTo one two) (IsHopTo later_one later_two) old new patches }
+{}
+
+/// Patches that are right of some candidates, which have all for their prefixes, are right of all.
+pub fn part_law()
+    ensures { (one two : GraphOf) (all part : List Candidate) (patches : List Patch)
+        → ArePatches (IsHopTo one two) part patches → IsPart all part patches
+        → ArePatches (IsHopTo one two) all patches }
 {}

@@ -7,6 +7,7 @@
 //! - `rank.rt`: ranks; `candidate.rt`: what a prefix may be reached by; `route.rt`: a route
 //! - `order.rt`: candidates in order; `hops.rt`: next hops of several candidates; `best.rt`: the routes made of them
 //! - `table.rt`: the table; `links.rt`: from each route to the one that encloses it, by which an address is looked up
+//! - `patch.rt`: what some prefixes' routes become; `putting.rt`: that put in
 //! - `laws.rt`: what follows for all candidates
 #![tactic(auto)]
 
@@ -16,12 +17,15 @@ mod hops;
 pub mod laws;
 mod links;
 mod order;
+mod patch;
+mod putting;
 mod rank;
 mod route;
 mod table;
 
 pub use best::routes;
 pub use candidate::Candidate;
+pub use patch::{Patch, Patches, patches_for};
 pub use rank::Rank;
 pub use route::Route;
 pub use table::Routes;

@@ -1,6 +1,6 @@
 //! Links from each route to the nearest one before it that encloses it, and the climb over them.
 
-ghost use Rattle.std.specs.Prelude.{◌≡◌, ◌≤◌, ◌<◌, ℕ, length, slice_index_or, IfOk};
+ghost use Rattle.std.specs.Prelude.{◌≡◌, ◌≤◌, ◌<◌, ℕ, [], vec_capacity, length, slice_index_or, IfOk};
 ghost use Rattle.std.specs.Bool.{MatchBool};
 ghost use Rattle.route_table.specs.declared.route.Route.{Route};
 ghost use Rattle.route_table.specs.Routes.{AreRising};
@@ -15,19 +15,26 @@ pub fn links(alloc: Global, routes: &[Route]) -> Result<Vec<Option<usize>>, OutO
     requires { AreRising routes.now }
     ensures { IfOk result (λ links. AreLinked routes.now (length routes.now) links.items) }
 {
-    let mut links = match Vec::with_capacity(alloc, routes.len()) {
-        Ok(links) => links,
-        Err(_) => return Err(OutOfMemory),
-    };
+    match Vec::with_capacity(alloc, routes.len()) {
+        Ok(room) => Ok(links_in(room, routes)),
+        Err(_) => Err(OutOfMemory),
+    }
+}
+
+/// The same in a list that has room for them.
+pub fn links_in(room: Vec<Option<usize>>, routes: &[Route]) -> Vec<Option<usize>>
+    requires rising { AreRising routes.now }
+    requires empty { room.items ≡ [] }
+    requires room { length routes.now ≤ vec_capacity room }
+    ensures { AreLinked routes.now (length routes.now) result.items }
+{
+    let mut links = room;
     for place in 0..routes.len() {
         let address = routes[place].prefix.address();
         let link = last_of(routes, links.as_slice(), place, address);
-        match links.push(link) {
-            Ok(()) => {}
-            Err(_) => return Err(OutOfMemory),
-        }
+        links.push(link).unwrap();
     }
-    Ok(links)
+    links
 }
 
 /// The last of the first so many routes that has the address. Each step goes to a shorter prefix, so there are at most

@@ -13,7 +13,7 @@ use isis_base::{OutOfMemory, Prefix};
 use std::alloc::Global;
 
 /// A prefix as a number: by its address, then by its length.
-fn prefix_number(prefix: Prefix) -> u64
+pub(crate) fn prefix_number(prefix: Prefix) -> u64
     ensures { result ≡ prefix_number prefix }
 {
     u64::from(prefix.address()) * 64 + u64::from(prefix.length())

@@ -1,11 +1,14 @@
 //! The table of routes, and the longest prefix of an address.
 
-ghost use Rattle.std.specs.Prelude.{◌≡◌, IfOk};
+ghost use Rattle.std.specs.Prelude.{◌≡◌, ◌≤◌, ◌+◌, length, vec_len, IfOk};
 ghost use Rattle.std.specs.Option.{MatchOption};
 ghost use Rattle.route_table.specs.Routes.{AreRising};
-ghost use Rattle.route_table.specs.Lookups.{IsLongest, HasNone, IsCut};
+ghost use Rattle.route_table.specs.Lookups.{IsLongest, HasNone, IsCut, AreClimbable};
+ghost use Rattle.route_table.specs.Patches.{IsPatched};
 
-use crate::links::{last_of, links};
+use crate::links::{last_of, links, links_in};
+use crate::patch::Patches;
+use crate::putting::put_all;
 use crate::route::Route;
 use isis_base::OutOfMemory;
 use std::alloc::Global;
@@ -53,6 +56,14 @@ impl Routes {
         }
     }
 
+    /// Puts in what some prefixes' routes become. It takes no memory.
+    pub fn put(&mut self, patches: Patches)
+        requires { length self.old + length patches.list ≤ patches.room }
+        ensures { IsPatched self.old patches.list self.new }
+    {
+        exchange(&mut self.routes, &mut self.links, patches);
+    }
+
     /// An equal table.
     pub fn copy(&self) -> Result<Routes, OutOfMemory>
         ensures { IfOk result (λ copy. copy ≡ self.now) }
@@ -74,6 +85,24 @@ impl Routes {
             Err(_) => Err(OutOfMemory),
         }
     }
+}
+
+/// Routes with patches put in, and their links.
+fn exchange(routes: &mut Vec<Route>, links: &mut Vec<Option<usize>>, patches: Patches)
+    requires rising { AreRising routes.old.items }
+    requires room { vec_len routes.old + length patches.list ≤ patches.room }
+    ensures patched { IsPatched routes.old.items patches.list routes.new.items }
+    ensures climbable { AreClimbable routes.new.items links.new.items }
+{
+    let Patches {
+        list,
+        routes: mut later,
+        links: room,
+    } = patches;
+    later.append(routes).unwrap();
+    put_all(&mut later, list);
+    *links = links_in(room, later.as_slice());
+    *routes = later;
 }
 
 /// The table of routes.

@@ -2,5 +2,5 @@
 -- seconds, sizes, neighbours by SNPA, and elections.
 pub mod NumberLemmas
 pub mod ChangeLemmas
-pub mod SearchLemmas
+pub mod UpLemmas
 pub mod ElectLemmas

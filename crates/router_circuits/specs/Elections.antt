@@ -1,12 +1,9 @@
 -- Who is designated on a LAN, and the senders of datagrams, by SNPA
 -- (ISO 10589 8.4.5; the form: own).
-use Rattle.std.specs.Prelude.{◌≡◌, ℕ, ◌<◌, length, slice_index_or, Some, List, [], ◌∷◌, if◌then◌else◌}
+use Rattle.std.specs.Prelude.{ℕ, List, [], ◌∷◌, if◌then◌else◌}
 use Rattle.model_router.specs.Adjacencies.{Neighbour}
-use Rattle.model_router.specs.Maps.{find}
 use Rattle.model_router.specs.Elections as model
 use Rattle.model_router.specs.Numbers.{system_number, snpa_number, node_number}
-use Rattle.adjacency.specs.Inside.{by_snpa}
-use Rattle.adjacency.specs.declared.neighbour.Neighbour as code
 use Rattle.router_circuits.specs.declared.designated.Designated.{Designated}
 use Rattle.router_circuits.specs.declared.candidate.Candidate.{Candidate}
 
@@ -35,8 +32,3 @@ better best n = if model.beats (model.candidate n) best then model.candidate n e
 unfoldable pub elect : model.Candidate → List Neighbour → model.Candidate
 elect best [] = best
 elect best (n ∷ ns) = elect (better best n) ns
-
--- a place of a list, with the neighbour that a look-up by SNPA finds
-pub record IsFound (ns : List code.Neighbour) (snpa place : ℕ) : Type 0 where
-  pub inside : place < length ns
-  pub here : (d : code.Neighbour) → find (by_snpa ns) snpa ≡ Some (slice_index_or ns place d)

@@ -4,9 +4,8 @@ ghost use Rattle.std.specs.Option.{option_map};
 ghost use Rattle.model_router.specs.Both.{at};
 ghost use Rattle.model_router.specs.Pulls.{snpas_of};
 ghost use Rattle.adjacency.specs.Changes.{boot_of};
-ghost use Rattle.adjacency.specs.Inside.{snpa_of};
+ghost use Rattle.adjacency.specs.Views.{snpa_of, neighbour_of, point_of};
 ghost use Rattle.adjacency.specs.Lans.{AreHeard, neighbours, ups};
-ghost use Rattle.adjacency.specs.Views.{neighbour_of, point_of};
 ghost use Rattle.router_desk.specs.Configs.{circuit_of};
 ghost use Rattle.router_circuits.specs.Facts.{IsCircuit};
 

@@ -6,6 +6,8 @@ ghost use Rattle.model_router.specs.Elections as model;
 ghost use Rattle.model_router.specs.Pulls.{lan_of};
 ghost use Rattle.model_router.specs.Routers.{Router};
 ghost use Rattle.model_router.specs.Numbers.{node_number, system_number};
+ghost use Rattle.designated_is.specs.Greatest as election;
+ghost use Rattle.designated_is.specs.Numbers as numbers;
 ghost use Rattle.adjacency.specs.Views.{neighbour_of};
 ghost use Rattle.router_circuits.specs.Elections.{candidate_of, designated_of, elect, system_and_lan};
 ghost use Rattle.router_circuits.specs.Views.{IsHere};
@@ -15,7 +17,7 @@ use crate::circuit::Circuit;
 use crate::designated::Designated;
 use crate::senders::some_up;
 use adjacency::Neighbour;
-use designated_is::{are_same_systems, pseudonode, snpa_to_number, system_to_number};
+use designated_is::{are_same_systems, pseudonode, stands_before};
 use isis_base::{Level, NodeId, Snpa, SystemId};
 
 impl Circuit {
@@ -125,22 +127,19 @@ fn greater(best: Candidate, other: Candidate) -> Candidate
     ensures { candidate_of result ≡ (if model.beats (candidate_of other) (candidate_of best)
         then candidate_of other else candidate_of best) }
 {
-    if stands_before(other, best) {
+    if stands_before(plain(other), plain(best)) {
         return other;
     }
     best
 }
 
-/// Whether a candidate stands before another: by priority, then SNPA, then system.
-fn stands_before(a: Candidate, b: Candidate) -> bool
-    ensures { result ≡ model.beats (candidate_of a) (candidate_of b) }
+/// A candidate without its LAN ID, which decides nothing.
+fn plain(candidate: Candidate) -> designated_is::Candidate
+    ensures { numbers.candidate_of result ≡ election.plain (candidate_of candidate) }
 {
-    if a.priority != b.priority {
-        return a.priority > b.priority;
+    designated_is::Candidate {
+        priority: candidate.priority,
+        snpa: candidate.snpa,
+        system: candidate.system,
     }
-    let (a_snpa, b_snpa) = (snpa_to_number(a.snpa), snpa_to_number(b.snpa));
-    if a_snpa != b_snpa {
-        return a_snpa > b_snpa;
-    }
-    system_to_number(a.system) > system_to_number(b.system)
 }

@@ -6,9 +6,8 @@ ghost use Rattle.model_router.specs.Receiving as receiving;
 ghost use Rattle.model_router.specs.Routers as routers;
 ghost use Rattle.model_router.specs.Numbers.{snpa_number, system_number};
 ghost use Rattle.model_router.specs.Sorted.{RisesFrom};
-ghost use Rattle.adjacency.specs.Inside.{by_snpa};
+ghost use Rattle.adjacency.specs.Views.{by_snpa, neighbour_of, point_of};
 ghost use Rattle.adjacency.specs.Lans.{AreHeard, ups};
-ghost use Rattle.adjacency.specs.Views.{neighbour_of, point_of};
 ghost use Rattle.router_desk.specs.Opening.{envelope_of};
 
 use crate::by_snpa::neighbour_at;

@@ -7,7 +7,7 @@ use Rattle.model_router.specs.Routers.{LanNeighbour, Circuit, Router, extended_o
 use Rattle.model_router.specs.Datagrams.{PointHello, LanHello}
 use Rattle.model_router.specs.Pulls.{hellos, lan_hello, names_of, snpas_of}
 use Rattle.adjacency.specs.declared.neighbour.Neighbour.{Neighbour}
-use Rattle.adjacency.specs.Inside.{snpa_of}
+use Rattle.adjacency.specs.Views.{snpa_of}
 use Rattle.router_sending.specs.declared.sender.Sender.{Sender}
 use Rattle.router_core.specs.Sending.{all_octets}
 use Rattle.router_core.proofs.SendingLemmas.{two-lists}

@@ -11,8 +11,6 @@ mod GreetingLemmas
 mod SentLemmas
 mod StepLemmas
 mod PrefixLemmas
-mod MapLemmas
-mod SearchLemmas
 mod StartLemmas
 mod ChangeLemmas
 mod RestLemmas

@@ -38,7 +38,8 @@ use Rattle.model_datagram.proofs.KeptLemmas.{kept-tells}
 use Rattle.model_datagram.proofs.SendLemmas.{step-sendable}
 use Rattle.router_desk.specs.declared.config.Config.{Config}
 use Rattle.router_desk.specs.declared.config.Change.TheVariants as change
-use Rattle.router_desk.specs.Configs.{config_of, circuit_of, circuits_of, prefix_number, prefixes_of}
+use Rattle.isis_base.specs.Prefixes.{prefix_number}
+use Rattle.router_desk.specs.Configs.{config_of, circuit_of, circuits_of, prefixes_of}
 use Rattle.router_desk.specs.Limits.{IsValid}
 use Rattle.router_desk.specs.Opening.{OpenedView, message_of, IsOpenedBy, seen_at}
 use Rattle.router_desk.specs.Desks.{desk_of}
@@ -58,7 +59,7 @@ use Rattle.router_core.specs.Heard.{HasOctets}
 use Rattle.router_core.specs.Reached.{IsReached}
 use Rattle.router_core.proofs.ChangeLemmas.{not-there}
 use Rattle.router_core.proofs.IdleLemmas.{from-some}
-use Rattle.router_core.proofs.MapLemmas.{length-put}
+use Rattle.ordered.proofs.MapLemmas.{length-put}
 use Rattle.router_core.proofs.NameLemmas.{HasNames, names-read}
 use Rattle.router_core.proofs.PrefixLemmas.{put-up}
 use Rattle.router_core.proofs.RestLemmas.{FitsEvent, step-keeps}

@@ -22,7 +22,7 @@ use Rattle.model_router.specs.Events.{Message, Refused, PointHelloHeard, LanHell
 use Rattle.model_router.specs.Receiving.{drop_of, greeted, take, take_or_drop, taken}
 use Rattle.model_router.specs.Steps.{step, with_metric}
 use Rattle.router_core.specs.Events.{FitsPrefix}
-use Rattle.router_core.proofs.MapLemmas.{length-put}
+use Rattle.ordered.proofs.MapLemmas.{length-put}
 use Rattle.router_core.proofs.PrefixLemmas.{put-up, erase-up}
 
 -- the configuration stays, and there are as many counters

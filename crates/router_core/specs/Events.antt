@@ -5,7 +5,7 @@ use Rattle.model_router.specs.Routers.{Router}
 use Rattle.model_router.specs.Events as model
 use Rattle.router_desk.specs.declared.config.Change.{Change}
 use Rattle.router_desk.specs.declared.config.Change.TheVariants as change
-use Rattle.router_desk.specs.Configs.{prefix_number}
+use Rattle.isis_base.specs.Prefixes.{prefix_number}
 use Rattle.router_desk.specs.Desks.{desk_of}
 use Rattle.router_desk.specs.Opening.{message_of, IsOpenedBy}
 use Rattle.router_core.specs.declared.event.NodeEvent.{NodeEvent}

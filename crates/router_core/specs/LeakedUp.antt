@@ -5,7 +5,7 @@ use Rattle.model_router.specs.Maps.{find}
 use Rattle.model_router.specs.Configs.{Config}
 use Rattle.route_table.specs.declared.rank.Rank.TheVariants as rank
 use Rattle.route_table.specs.declared.route.Route.{Route}
-use Rattle.router_desk.specs.Configs.{prefix_number}
+use Rattle.isis_base.specs.Prefixes.{prefix_number}
 
 -- a prefix has a route of rank One: the best way to it is within level 1, and came over no up/down
 -- bit (RFC 5302 3.2)

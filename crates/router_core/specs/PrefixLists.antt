@@ -1,8 +1,8 @@
 -- A router's own prefixes in a list by their number (own).
 use Rattle.std.specs.Prelude.{ℕ, List, Result, MatchResult}
 use Rattle.isis_base.specs.declared.prefix.Prefix.{Prefix}
-use Rattle.adjacency.specs.Inside.{IsPlace, IsGap}
-use Rattle.router_desk.specs.Configs.{prefix_number}
+use Rattle.ordered.specs.Keyed.{IsPlace, IsGap}
+use Rattle.isis_base.specs.Prefixes.{prefix_number}
 
 -- the number of a prefix with its metric
 abbrev pub own_number : Prefix × ℕ → ℕ

@@ -8,7 +8,7 @@ ghost use Rattle.model_router.specs.Both.{at};
 ghost use Rattle.model_router.specs.Routers.{book_of};
 ghost use Rattle.router_desk.specs.Desks.{desk_of};
 ghost use Rattle.model_router.specs.Places.{nth};
-ghost use Rattle.router_desk.specs.Configs.{prefix_number};
+ghost use Rattle.isis_base.specs.Prefixes.{prefix_number};
 ghost use Rattle.model_router.specs.Numbers.{system_number};
 ghost use Rattle.router_core.specs.Events.{IsThere};
 ghost use Rattle.router_core.specs.Designated.{designated_system};

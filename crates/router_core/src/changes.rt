@@ -3,7 +3,7 @@ ghost use Rattle.std.specs.Prelude.{◌≡◌, ◌≤◌, ◌-◌, IfSome, OnOk,
 ghost use Rattle.model_router.specs.Places.{nth};
 ghost use Rattle.model_router.specs.Routers.{with_circuit};
 ghost use Rattle.model_router.specs.Steps.{step, with_prefix};
-ghost use Rattle.router_desk.specs.Configs.{prefix_number};
+ghost use Rattle.isis_base.specs.Prefixes.{prefix_number};
 ghost use Rattle.router_core.specs.Events.{change_of, FitsChange, IsThere};
 ghost use Rattle.router_core.specs.Givens.{given};
 ghost use Rattle.router_core.specs.Reached.{IsReached};

@@ -3,7 +3,7 @@ ghost use Rattle.std.specs.Prelude.{◌≡◌, map, is_ok, is_some, IfOk, OnOk, 
 ghost use Rattle.model_router.specs.Maps.{find, put, erase};
 ghost use Rattle.model_router.specs.Sorted.{RisesFrom};
 ghost use Rattle.router_wanted.specs.Views.{prefix_pair};
-ghost use Rattle.router_desk.specs.Configs.{prefix_number};
+ghost use Rattle.isis_base.specs.Prefixes.{prefix_number};
 ghost use Rattle.router_core.specs.PrefixLists.{IsPrefixAt};
 
 use isis_base::{OutOfMemory, Prefix};
@@ -15,8 +15,7 @@ pub(crate) fn place_of(list: &[(Prefix, u32)], prefix: Prefix) -> Result<usize, 
     ensures found { is_ok result ≡ is_some (find (map prefix_pair list.now)
         (prefix_number prefix)) }
 {
-    let wanted = number(prefix);
-    list.binary_search_by_key(&wanted, |own| number(own.0))
+    ordered::place_of(list, prefix.to_number())
 }
 
 /// Puts a prefix in at its place with a metric. At `OutOfMemory` the list is as it was.
@@ -61,11 +60,4 @@ pub(crate) fn copy_of(list: &Vec<(Prefix, u32)>) -> Result<Vec<(Prefix, u32)>, O
 {
     let copy = Vec::from_slice(*list.allocator(), list)?;
     Ok(copy)
-}
-
-/// A prefix as a number: 64 times its address plus its length.
-fn number(prefix: Prefix) -> u64
-    ensures { result ≡ prefix_number prefix }
-{
-    64 * u64::from(prefix.address()) + u64::from(prefix.length())
 }

@@ -3,7 +3,8 @@ ghost use Rattle.std.specs.Prelude.{◌≡◌, is_some, length, [], IfOk, OnOk, 
 ghost use Rattle.model_router.specs.Maps.{find, put, erase, set_at};
 ghost use Rattle.model_router.specs.Sorted.{RisesFrom};
 ghost use Rattle.router_wanted.specs.Views.{prefix_pair};
-ghost use Rattle.router_desk.specs.Configs.{prefix_number, prefixes_of};
+ghost use Rattle.isis_base.specs.Prefixes.{prefix_number};
+ghost use Rattle.router_desk.specs.Configs.{prefixes_of};
 
 use crate::prefix_list::{copy_of, place_of, put_at, take_out};
 use isis_base::{OutOfMemory, Prefix};

@@ -1,10 +1,9 @@
 //! LSPs that tell routes what is held of their LSP IDs already (own).
-ghost use Rattle.std.specs.Prelude.{◌≡◌, ◌-◌, true, drop, None, IfSome};
+ghost use Rattle.std.specs.Prelude.{◌≡◌, ◌-◌, true, None, IfSome};
 ghost use Rattle.isis_base.specs.Identifiers.{lsp_number};
 ghost use Rattle.model_router.specs.Places.{nth};
 ghost use Rattle.model_router.specs.Receiving.{lsp_drop};
 ghost use Rattle.model_router.specs.Steps.{step};
-ghost use Rattle.lsp_store.specs.Databases.{is_live_key};
 ghost use Rattle.lsp_store.specs.Maps.{find};
 ghost use Rattle.flag_sync.specs.Heard.{answer_of, heard_of};
 ghost use Rattle.flag_sync.specs.declared.heard.LspAnswer.TheVariants as answer;
@@ -18,12 +17,11 @@ ghost use Rattle.router_core.specs.Refreshes.{IsRefresh, TellsAgain};
 use crate::machine::Machine;
 use crate::routes::has_rows;
 use flag_sync::{LspAnswer, LspHeard};
+use isis_base::Level;
+use isis_base::fields::behind_header;
 use isis_base::laws::lsp_id_law;
-use isis_base::{Key, Level};
-use lsp_store::{Entry, Store};
+use lsp_store::{Entry, Store, is_live};
 use router_desk::Envelope;
-
-const HEADER: usize = 27;
 
 impl Machine {
     /// Whether an LSP that met a row is stored, and tells routes what was held of its LSP ID.
@@ -81,29 +79,9 @@ fn is_held(store: &Store, lsp: &LspHeard<'_>) -> bool
 fn tells_again(held: &Entry, lsp: &LspHeard<'_>) -> bool
     ensures { result ≡ true → TellsAgain held.now lsp.now }
 {
-    is_live(held.key)
+    is_live(held)
         && lsp.entry.number > 0
         && lsp.entry.lifetime > 0
         && lsp.flags == held.flags
         && behind_header(lsp.octets) == behind_header(held.octets.as_slice())
-}
-
-/// Whether a key is there and isn't purged.
-fn is_live(key: Option<Key>) -> bool
-    ensures { result ≡ is_live_key key }
-{
-    match key {
-        Some(key) => !key.purged,
-        None => false,
-    }
-}
-
-/// The octets behind an LSP's header; none where they are fewer than it has.
-fn behind_header(octets: &[u8]) -> &[u8]
-    ensures { result.now ≡ drop 27 octets.now }
-{
-    if octets.len() < HEADER {
-        return &[];
-    }
-    &octets[HEADER..]
 }

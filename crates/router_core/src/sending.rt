@@ -19,14 +19,12 @@ ghost use Rattle.router_core.specs.Sending.{octets_of, all_octets, MaySend};
 
 use crate::datagrams::Datagrams;
 use flag_sync::{Book, FlagRow};
+use isis_base::numbers::SNP_ENTRIES;
 use isis_base::{Level, LspEntry, OutOfMemory};
 use lsp_store::Entry;
 use router_sending::{Sender, csnp, lsp, psnp};
 use snp_exchange::{EntryWalk, PieceWalk, csnp_pieces, psnp_lists};
 use std::alloc::Global;
-
-/// The most entries of a CSNP.
-const MOST: usize = 75;
 
 /// Adds the CSNP set of a book, piece by piece (ISO 10589 7.3.15.3).
 pub(crate) fn put_csnps(
@@ -42,7 +40,7 @@ pub(crate) fn put_csnps(
         ++ all_octets sender.now (model.csnp_set level (book_of book.now))) }
 {
     let mut pieces = csnp_pieces(book);
-    let mut room = match Vec::with_capacity(alloc, MOST) {
+    let mut room = match Vec::with_capacity(alloc, SNP_ENTRIES) {
         Ok(room) => room,
         Err(_) => return Err(OutOfMemory),
     };

@@ -1,6 +1,7 @@
 -- What a configuration stands for: the model's configuration and circuits (own).
-use Rattle.std.specs.Prelude.{ℕ, ◌+◌, ◌*◌, List, [], ◌∷◌, map, None}
+use Rattle.std.specs.Prelude.{ℕ, List, [], ◌∷◌, map, None}
 use Rattle.isis_base.specs.declared.prefix.Prefix.{Prefix}
+use Rattle.isis_base.specs.Prefixes.{prefix_number}
 use Rattle.isis_tlv.specs.declared.three_way.Adj.TheVariants.{Down}
 use Rattle.model_router.specs.Maps.{put}
 use Rattle.model_router.specs.Configs as model
@@ -11,10 +12,6 @@ use Rattle.model_datagram.specs.Reading.{runs_of}
 use Rattle.router_desk.specs.declared.circuit_config.CircuitConfig.{CircuitConfig}
 use Rattle.router_desk.specs.declared.config.Config.{Config}
 use Rattle.router_desk.specs.Desks.{is_lan}
-
--- a prefix as a number (own)
-abbrev pub prefix_number : Prefix → ℕ
-prefix_number prefix = 64 * prefix.address + prefix.length
 
 -- prefixes with their metrics, in rising order
 abbrev pub prefixes_of : List (Prefix × ℕ) → List (ℕ × ℕ)

@@ -16,6 +16,7 @@ use crate::header::Header;
 use crate::opened::Opened;
 use crate::values::value_place;
 use hmac_auth::{AuthFault, check_pdu};
+use isis_base::numbers::LSP_SUMMED;
 use isis_base::{CircuitKind, Level, LevelSet, Octets, PduKind, SystemId};
 use isis_edge::{FrameFault, unwrap};
 use isis_pdu::laws::framed_law;
@@ -25,9 +26,6 @@ use std::marker::Model;
 
 /// The most octets of an LSP or SNP that is taken (own).
 const MOST: usize = 1492;
-
-/// Where an LSP's ID stands, from which on its checksum counts (ISO 10589 7.3.11).
-const SUMMED: usize = 12;
 
 /// What never changes of a router's configuration: its system, its levels, the kinds of its
 /// circuits, and the keys.
@@ -212,7 +210,7 @@ fn has_number(pdu: &Pdu<'_>) -> bool
 
 /// Whether the checksum of an LSP that is no purge is there and holds; other PDUs have none.
 fn is_summed(pdu: &Pdu<'_>, octets: &[u8]) -> bool
-    requires { SUMMED ≤ length octets.now }
+    requires { 12 ≤ length octets.now }
     ensures { result ≡ is_summed (pdu_view pdu.now) octets.now }
 {
     match *pdu {
@@ -220,7 +218,7 @@ fn is_summed(pdu: &Pdu<'_>, octets: &[u8]) -> bool
             lifetime,
             checksum,
             ..
-        } => lifetime == 0 || (checksum != 0 && iso_checksum::holds(&octets[SUMMED..])),
+        } => lifetime == 0 || (checksum != 0 && iso_checksum::holds(&octets[LSP_SUMMED..])),
         _ => true,
     }
 }

@@ -8,20 +8,9 @@ ghost use Rattle.model_datagram.specs.Values.{lists, handshake, first_handshake}
 
 use isis_base::laws::are_six;
 use isis_base::{AreaAddress, LspEntry, OutOfMemory, Snpa, SystemId};
+use isis_tlv::codes::{AREAS, ENTRIES, SNPAS, THREE_WAY};
 use isis_tlv::{ThreeWay, Tlvs, areas, entries, snpas, three_way_value};
 use std::alloc::Global;
-
-/// The code of area addresses (ISO 10589 9.5).
-const AREAS: u8 = 1;
-
-/// The code of SNPAs heard (ISO 10589 9.5).
-const SNPAS: u8 = 6;
-
-/// The code of LSP entries (ISO 10589 9.10).
-const ENTRIES: u8 = 9;
-
-/// The code of the three-way handshake (RFC 5303 3.1).
-const THREE_WAY: u8 = 240;
 
 /// The area addresses, up to a fault.
 #[tactic(auto, unfolding(model_datagram::specs::Values::items_in))]

@@ -7,10 +7,9 @@
 //! its checksum (ISO 10589 7.3.15.1, 7.3.16.1). The first that fails is the cause of a drop. Opening takes no memory,
 //! and what was found isn't decoded again.
 //!
-//! What an opened datagram says, as the values that a router's parts take. ISO 10589 9.5 to 9.13 and RFC 5303 3.1: the
-//! area addresses, SNPAs, three-way values and LSP entries of a PDU's TLVs. Of several three-way values the first
-//! counts (own). What is heard is the message that the definitions of model_datagram read, for every PDU that passed
-//! the desk's tests. Memory is taken for area addresses and LSP entries; an LSP's octets are lent.
+//! What is heard of a datagram that passed is the message that the definitions of model_datagram read: area addresses,
+//! SNPAs, three-way values and LSP entries of a PDU's TLVs (ISO 10589 9.5 to 9.13, RFC 5303 3.1). Of several three-way
+//! values the first counts (own). Memory is taken for area addresses and LSP entries; an LSP's octets are lent.
 //!
 //! - `config.rt`, `circuit_config.rt`: a configuration; `list.rt`: its lists; `copies.rt`: copies; `valid.rt`: whether it is within the
 //!   limits
@@ -57,7 +56,8 @@ pub use config::{Change, Config};
 pub use desk::Desk;
 pub use envelope::Envelope;
 pub use heard::{Heard, HelloHeard};
-pub use list::{Areas, Circuits, ConfigList, Prefixes};
+pub use isis_base::List as ConfigList;
+pub use list::{Areas, Circuits, Prefixes};
 pub use model_router::DropName;
 pub use opened::Opened;
 pub use reading::hear;

@@ -7,11 +7,9 @@ use crate::cause::DropCause;
 use crate::envelope::Envelope;
 use crate::found::Found;
 use crate::seen::Seen;
+use isis_base::numbers::FRAME;
 use isis_base::{Octets, OutOfMemory};
 use std::marker::Model;
-
-/// How many octets stand before a datagram's PDU.
-const FRAME: usize = 14;
 
 /// A datagram that came on a circuit, with what the tests that need no state found in it.
 #[derive(Drop, Debug)]

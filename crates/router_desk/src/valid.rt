@@ -1,26 +1,14 @@
 //! Whether a configuration is within the limits.
 ghost use Rattle.std.specs.Prelude.{◌≡◌, ◌≤◌, ◌↔◌, IsTrue, length};
-ghost use Rattle.router_desk.specs.Configs.{prefix_number};
 ghost use Rattle.router_desk.specs.Limits as limit;
 
 use crate::circuit_config::CircuitConfig;
 use crate::config::Config;
+use isis_base::numbers::{CIRCUIT_LIMIT, CIRCUIT_METRIC, PREFIX_LIMIT, PREFIX_METRIC};
 use isis_base::{Octets, Prefix};
 
 /// The most areas of a router (ISO 10589 7.1.5).
 const AREAS: usize = 3;
-
-/// The most circuits of a router (own).
-const CIRCUITS: usize = 64;
-
-/// The most prefixes of a router (own).
-const PREFIXES: usize = 4096;
-
-/// The greatest metric of a circuit (RFC 5305 3).
-const CIRCUIT_METRIC: u32 = 16_777_215;
-
-/// The greatest metric of a prefix (RFC 5305 4).
-const PREFIX_METRIC: u32 = 4_261_412_864;
 
 /// The greatest priority (ISO 10589 9.5).
 const PRIORITY: u8 = 127;
@@ -48,7 +36,7 @@ fn is_valid(config: &Config) -> bool
 {
     1 <= config.areas.len()
         && config.areas.len() <= AREAS
-        && config.circuits.len() <= CIRCUITS
+        && config.circuits.len() <= CIRCUIT_LIMIT
         && fit_circuits(config.circuits.as_slice())
         && fit_prefixes(config.prefixes.as_slice())
         && fits_key(&config.area_key)
@@ -88,7 +76,7 @@ fn fits_key(key: &Option<Octets>) -> bool
 fn fit_prefixes(prefixes: &[(Prefix, u32)]) -> bool
     ensures { result ≡ limit.fit_prefixes prefixes.now }
 {
-    prefixes.len() <= PREFIXES && fit_metrics(prefixes) && are_distinct(prefixes)
+    prefixes.len() <= PREFIX_LIMIT && fit_metrics(prefixes) && are_distinct(prefixes)
 }
 
 /// Whether each metric is within the limit.
@@ -105,10 +93,10 @@ fn fit_metrics(prefixes: &[(Prefix, u32)]) -> bool
 
 /// Whether no prefix is named twice: their numbers are sorted, and then looked at in pairs.
 fn are_distinct(prefixes: &[(Prefix, u32)]) -> bool
-    requires { length prefixes.now ≤ PREFIXES }
+    requires { length prefixes.now ≤ 4096 }
     ensures { result ≡ limit.are_distinct (limit.numbers_of prefixes.now) }
 {
-    let mut room = [0; PREFIXES];
+    let mut room = [0; PREFIX_LIMIT];
     let numbers = &mut room[..prefixes.len()];
     put_numbers(numbers, prefixes);
     numbers.sort_unstable();
@@ -121,15 +109,8 @@ fn put_numbers(numbers: &mut [u64], prefixes: &[(Prefix, u32)])
     ensures { numbers.new ≡ limit.numbers_of prefixes.now }
 {
     for place in 0..prefixes.len() {
-        numbers[place] = number_of(&prefixes[place].0);
+        numbers[place] = prefixes[place].0.to_number();
     }
-}
-
-/// A prefix as a number: 64 times its address, and its length.
-fn number_of(prefix: &Prefix) -> u64
-    ensures { result ≡ prefix_number prefix.now }
-{
-    64 * u64::from(prefix.address()) + u64::from(prefix.length())
 }
 
 /// Whether no two numbers beside each other are one.

@@ -7,7 +7,7 @@ ghost use Rattle.isis_tlv.specs.Walks.{fault_of};
 ghost use Rattle.router_desk.specs.Values.{hello_fault, snp_fault, value_fault, faulty_tlv, value_place};
 
 use isis_base::PduKind;
-use isis_tlv::{Item, Items, Tlv, Tlvs, ValueFault, areas, entries, snpas, three_way_value};
+use isis_tlv::{Item, Items, Tlv, Tlvs, ValueFault, areas, codes, entries, snpas, three_way_value};
 
 /// The place in the PDU of the first item that must be read and doesn't fit: area addresses, SNPAs
 /// and three-way values of a hello, entries of a sequence numbers PDU. `tlvs` are the octets
@@ -59,9 +59,9 @@ fn hello_fault(tlv: &Tlv<'_>) -> Option<ValueFault>
     ensures value { result ≡ hello_fault (one_view tlv.now) }
 {
     match tlv.code {
-        1 => fault_of(areas(tlv.value)),
-        6 => fault_of(snpas(tlv.value)),
-        240 => three_way_value(tlv.value).err(),
+        codes::AREAS => fault_of(areas(tlv.value)),
+        codes::SNPAS => fault_of(snpas(tlv.value)),
+        codes::THREE_WAY => three_way_value(tlv.value).err(),
         _ => None,
     }
 }
@@ -71,7 +71,7 @@ fn snp_fault(tlv: &Tlv<'_>) -> Option<ValueFault>
     ensures value { result ≡ snp_fault (one_view tlv.now) }
 {
     match tlv.code {
-        9 => fault_of(entries(tlv.value)),
+        codes::ENTRIES => fault_of(entries(tlv.value)),
         _ => None,
     }
 }

@@ -5,15 +5,13 @@ ghost use Rattle.model_router.specs.Starts.{empty_level, points_of};
 ghost use Rattle.router_levels.specs.Views.{state_of, HasRoom, AreOfKinds};
 
 use flag_sync::Book;
+use isis_base::numbers::ENTRY_LIMIT;
 use isis_base::{CircuitKind, OutOfMemory};
 use lsp_fragments::OwnLsps;
 use lsp_store::StoreFault;
 use purge_ageing::LetGo;
 use std::alloc::Global;
 use std::marker::Model;
-
-/// The most entries of a level's database.
-const ENTRY_LIMIT: usize = 65_536;
 
 /// One level of a router: its database with flags, its own LSPs that are issued, and the LSP IDs
 /// that it let go (ISO 10589 7.3.15, 7.3.6).

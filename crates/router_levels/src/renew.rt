@@ -24,6 +24,7 @@ use crate::level_parts::LevelParts;
 use crate::wants::Wants;
 use isis_base::LspId;
 use lsp_fragments::{Issue, next_laws};
+use purge_ageing::ids::place_of;
 use router_sending::Draft;
 use std::vec::IntoIter;
 
@@ -161,7 +162,5 @@ fn is_in(ids: &[LspId], id: LspId) -> bool
     requires { Rises 0 (numbers_of ids.now) }
     ensures { result ≡ contains (numbers_of ids.now) (lsp_number id) }
 {
-    let number = id.to_number();
-    ids.binary_search_by_key(&number, |id| id.to_number())
-        .is_ok()
+    place_of(ids, id).is_ok()
 }

@@ -1,28 +1,19 @@
 -- What is reached where some nodes moved, level by level, and the candidates that it gives.
-use Rattle.std.proofs.Common.{◌≡◌, ◌∙◌, ℕ, ◌==◌, Bool, true, false, ◌||◌, not, List, [], ◌∷◌, ◌++◌, ◌⊎◌, filter, Some, None, refl, sym, ap, subst, inl, inr, if◌then◌else◌}
+use Rattle.std.proofs.Common.{◌≡◌, ◌∙◌, ℕ, Bool, true, false, ◌||◌, not, List, [], ◌∷◌, ◌++◌, ◌⊎◌, filter, refl, sym, ap, subst, inl, inr}
 use Rattle.std.specs.List.{Contains, flat_map, list_any}
-use Rattle.std.proofs.lemmas.Bool.{cases_eq, eq-eqb, ne_eqb}
 use Rattle.std.proofs.lemmas.List.Elements.{Contains-append_left, Contains-append_right, Contains-append_cases}
 use Rattle.isis_base.specs.declared.identifiers.SystemId.{SystemId}
 use Rattle.isis_base.specs.declared.identifiers.NodeId.{NodeId}
 use Rattle.isis_base.specs.declared.identifiers.LspId.{LspId}
 use Rattle.isis_base.specs.declared.level.Level.TheVariants as level
-use Rattle.model_datagram.specs.Reading.{runs_of}
 use Rattle.lsp_store.specs.declared.entry.Entry.{Entry}
-use Rattle.lsp_store.specs.Maps.{RisesFrom}
 use Rattle.spf_tree.specs.Nodes.{node_number}
 use Rattle.spf_tree.specs.Distances.{cost_at}
 use Rattle.spf_tree.proofs.SearchLemmas.{contains_first, contains_rest, contains_cases, contains_none}
 use Rattle.route_table.specs.declared.candidate.Candidate.{Candidate}
-use Rattle.router_routes.specs.declared.lent.Lent.{Lent}
-use Rattle.router_routes.specs.declared.view.Moved.{Moved}
-use Rattle.router_routes.specs.Told.{told_in}
-use Rattle.router_routes.specs.Outlooks.{outlook_in, where_run}
-use Rattle.router_routes.specs.Moved.{HaveIds, told_by_nodes, told_with, outlook_by}
+use Rattle.router_routes.specs.Moved.{HaveIds, told_by_nodes, AreNodes, is_among, is_beside}
 use Rattle.router_routes.specs.Candidates.{reached_by, system_candidates}
-use Rattle.router_routes.specs.Kept.{AreSame, AreBeside, AreNodes, CostBeside, is_among, is_beside, stays, systems_among, IsTelling}
-use Rattle.router_routes.proofs.NodeLemmas.{by-tests}
-use Rattle.router_routes.proofs.MovedLemmas.{with-beside, told-ids, told-rises}
+use Rattle.router_routes.specs.Kept.{AreSame, CostBeside, stays, systems_among, IsTelling}
 use Rattle.router_routes.proofs.KeptLemmas.{filter-in, in-filter, stays-told, moved-in, added-in, telling}
 
 abbrev Pair : Type 0
@@ -101,53 +92,6 @@ same-parts p xs x = (
         | inr more ↦ (filter-in (λ y. not (p y)) xs x more).0
       ],
 )
-
--- ---- a node that tells other things
-
-one-among : (node : NodeId) (n : ℕ) → is_beside (node ∷ []) n ≡ not (n == node_number node)
-one-among node n =
-    elim (cases_eq n (node_number node)) [
-      | inl same ↦ rw (eq-eqb n (node_number node) same, eq-eqb (node_number node) n (sym same)) refl
-      | inr other ↦ rw (ne_eqb n (node_number node) other, ne_eqb (node_number node) n (λ e. other (sym e))) refl
-    ]
-
-tests-step : (c d : ℕ → Bool) (pair : Pair) (list more : List Pair) → list ≡ more → (t : Bool) → c (node_number pair.0.node) ≡ t → d (node_number pair.0.node) ≡ t → (if c (node_number pair.0.node) then pair ∷ list else list) ≡ (if d (node_number pair.0.node) then pair ∷ more else more)
-tests-step c d pair list more e true is also = rw (is, also) (ap (λ (l : List Pair). pair ∷ l) e)
-tests-step c d pair list more e false is also = rw (is, also) e
-
--- by tests that are the same
-tests-same : (c d : ℕ → Bool) → ((n : ℕ) → c n ≡ d n) → (list : List Pair) → told_by_nodes c list ≡ told_by_nodes d list
-tests-same c d same [] = refl
-tests-same c d same (pair ∷ list) = tests-step c d pair (told_by_nodes c list) (told_by_nodes d list) (tests-same c d same list) (d (node_number pair.0.node)) (same (node_number pair.0.node)) refl
-
--- by a test that passes fewer, of those that another one passes
-less-step : (c d : ℕ → Bool) (pair : Pair) (list : List Pair) → ((n : ℕ) → c n ≡ true → d n ≡ true) → told_by_nodes c (told_by_nodes d list) ≡ told_by_nodes c list → (t u : Bool) → c (node_number pair.0.node) ≡ t → d (node_number pair.0.node) ≡ u
-    → told_by_nodes c (told_by_nodes d (pair ∷ list)) ≡ told_by_nodes c (pair ∷ list)
-less-step c d pair list less rest t true is in' = ap (told_by_nodes c) (by-tests d pair list true in') ∙ by-tests c pair (told_by_nodes d list) t is ∙ ap (λ (ps : List Pair). if t then pair ∷ ps else ps) rest ∙ sym (by-tests c pair list t is)
-less-step c d pair list less rest false false is in' = ap (told_by_nodes c) (by-tests d pair list false in') ∙ rest ∙ sym (by-tests c pair list false is)
-less-step c d pair list less rest true false is in' = absurd (let e : true ≡ false = sym (less (node_number pair.0.node) is) ∙ in' in cc)
-
-pub by-less : (c d : ℕ → Bool) → ((n : ℕ) → c n ≡ true → d n ≡ true) → (list : List Pair) → told_by_nodes c (told_by_nodes d list) ≡ told_by_nodes c list
-by-less c d less [] = refl
-by-less c d less (pair ∷ list) = less-step c d pair list less (by-less c d less list) (c (node_number pair.0.node)) (d (node_number pair.0.node)) refl refl
-
-beside-level : (runs : Bool) (node : NodeId) (entries aside : List Pair) → HaveIds entries → RisesFrom 0 entries
-    → told_by_nodes (is_beside (node ∷ [])) (where_run runs (told_in entries)) ≡ told_by_nodes (is_beside (node ∷ [])) (where_run runs (told_with node (told_in entries) aside))
-beside-level false node entries aside ids rises = refl
-beside-level true node entries aside ids rises =
-    let c : ℕ → Bool = λ n. not (n == node_number node) in
-    tests-same (is_beside (node ∷ [])) c (one-among node) (told_in entries)
-    ∙ sym (with-beside node (told_in entries) aside (told-rises 0 entries rises) (told-ids entries ids))
-    ∙ sym (tests-same (is_beside (node ∷ [])) c (one-among node) (told_with node (told_in entries) aside))
-
-module _ (lent : Lent) (moved : Moved) where
-  pub beside-one : HaveIds lent.one.now.entries → RisesFrom 0 lent.one.now.entries → AreBeside (moved.node ∷ []) (outlook_in lent) (outlook_by lent (Some moved) None)
-  unfolding outlook_in outlook_by
-  beside-one ids rises = record { root = refl; areas = refl; runs = refl; prefixes = refl; one = beside-level (runs_of lent.levels).one moved.node lent.one.now.entries (told_in moved.aside.now.entries) ids rises; two = refl }
-
-  pub beside-two : HaveIds lent.two.now.entries → RisesFrom 0 lent.two.now.entries → AreBeside (moved.node ∷ []) (outlook_in lent) (outlook_by lent None (Some moved))
-  unfolding outlook_in outlook_by
-  beside-two ids rises = record { root = refl; areas = refl; runs = refl; prefixes = refl; one = refl; two = beside-level (runs_of lent.levels).two moved.node lent.two.now.entries (told_in moved.aside.now.entries) ids rises }
 
 -- ---- what is told, where some nodes moved
 

@@ -20,9 +20,9 @@ use Rattle.spf_tree.proofs.SearchLemmas.{contains_first, contains_rest, contains
 use Rattle.lsp_view.specs.Views.{own_node, number_of, where_live, lead_of, where_led, reach_in, attached_at}
 use Rattle.route_table.specs.declared.rank.Rank.TheVariants as rank
 use Rattle.route_table.specs.declared.candidate.Candidate.{Candidate}
-use Rattle.router_routes.specs.Moved.{HaveIds, told_by_nodes}
+use Rattle.router_routes.specs.Moved.{HaveIds, told_by_nodes, is_among, is_beside}
 use Rattle.router_routes.specs.Candidates.{with_cost, leads_other, reached_by, told_candidate, system_candidates, has_bit, default_by, default_of}
-use Rattle.router_routes.specs.Kept.{is_among, is_beside, stays, system_at, systems_among, CostBeside, IsTelling}
+use Rattle.router_routes.specs.Kept.{stays, system_at, systems_among, CostBeside, IsTelling}
 use Rattle.router_routes.proofs.IdLemmas.{number-0, stands}
 use Rattle.router_routes.proofs.NodeLemmas.{lead-by, reach-by}
 

@@ -20,7 +20,8 @@ use Rattle.route_table.specs.Routes.{IsNoWorse, AreRising, AreRoutes}
 use Rattle.route_leaking.specs.Leaks.{leaked_metric, leaked, has_rank, leaks}
 use Rattle.router_routes.specs.Outlooks.{Outlook}
 use Rattle.router_routes.specs.Candidates.{candidates_of, AreRoutesOf}
-use Rattle.router_routes.specs.Leaks.{prefix_number, is_better, better, way_of, best_of, has_way, leaked_of, leaks_of, item_pair, pair_of, leaked_by}
+use Rattle.isis_base.specs.Prefixes.{prefix_number}
+use Rattle.router_routes.specs.Leaks.{is_better, better, way_of, best_of, has_way, leaked_of, leaks_of, item_pair, pair_of, leaked_by}
 use Rattle.router_routes.proofs.ToldLemmas.{filter-map, map-map}
 
 abbrev Way : Type 0

@@ -8,9 +8,15 @@ pub mod DifferenceLemmas
 pub mod IdLemmas
 pub mod NodeLemmas
 pub mod MovedLemmas
+pub mod ThereLemmas
+pub mod AfterLemmas
+pub mod ViewLemmas
 pub mod NearLemmas
 pub mod NearGraphLemmas
+pub mod ReadLemmas
+pub mod MovingLemmas
 pub mod AheadLemmas
 pub mod KeptLemmas
 pub mod BesideLemmas
 pub mod SameLemmas
+pub mod SystemLemmas

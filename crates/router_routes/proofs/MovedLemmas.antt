@@ -1,32 +1,20 @@
 -- What is told where one node tells something else.
-use Rattle.std.proofs.Common.{◌≡◌, ◌∙◌, ℕ, ◌+◌, ◌-◌, ◌%◌, ◌^◌, ◌<◌, ◌≤◌, Bool, true, false, not, List, [], ◌∷◌, ◌++◌, map, Option, Some, None, refl, sym, ap, subst, arith, inl, inr, if◌then◌else◌, ◌&&◌, ◌==◌, ◌⊎◌, append_assoc, append-nil}
-use Rattle.std.specs.Prelude.{nat_lt, nat_le}
-use Rattle.std.specs.List.{flat_map}
-use Rattle.std.proofs.lemmas.Bool.{eq-eqb, ne_eqb}
+use Rattle.std.proofs.Common.{◌≡◌, ◌∙◌, ℕ, ◌+◌, ◌%◌, ◌<◌, ◌≤◌, Bool, true, false, not, List, [], ◌∷◌, ◌++◌, map, refl, sym, ap, subst, arith, inl, inr, if◌then◌else◌, ◌&&◌, ◌==◌, ◌⊎◌, append-nil}
+use Rattle.std.specs.Prelude.{nat_lt}
 use Rattle.std.proofs.lemmas.Bool.Decides.{nat_tests}
 use Rattle.isis_base.specs.declared.identifiers.SystemId.{SystemId}
 use Rattle.isis_base.specs.declared.identifiers.NodeId.{NodeId}
 use Rattle.isis_base.specs.declared.identifiers.LspId.{LspId}
 use Rattle.isis_base.specs.Identifiers.{IsId}
 use Rattle.lsp_store.specs.declared.entry.Entry.{Entry}
-use Rattle.lsp_store.specs.Maps.{pair_number, between, RisesFrom}
+use Rattle.lsp_store.specs.Maps.{pair_number, RisesFrom}
 use Rattle.lsp_store.specs.Databases.{is_live, live_of}
 use Rattle.spf_tree.specs.Nodes.{node_number}
-use Rattle.lsp_view.specs.Views.{own_node, lead_of, reach_in, rows_in, overloaded_in}
-use Rattle.spf_repair.specs.Changes.{RepairedOf}
-use Rattle.spf_tree.specs.Graphs.{AreUsable}
-use Rattle.router_routes.specs.Following.{IsLevel}
-use Rattle.isis_base.specs.declared.level.Level.TheVariants as level
-use Rattle.model_datagram.specs.Reading.{runs_of}
-use Rattle.model_router.specs.Both.{Both}
-use Rattle.router_routes.specs.declared.lent.Lent.{Lent}
-use Rattle.router_routes.specs.Outlooks.{Outlook, where_run, outlook_in}
+use Rattle.lsp_view.specs.Views.{own_node, lead_of, reach_in}
 use Rattle.router_routes.specs.Told.{told_pair, told_in}
-use Rattle.router_routes.specs.declared.view.LevelView.{LevelView}
-use Rattle.router_routes.specs.declared.view.Moved.{Moved}
-use Rattle.router_routes.specs.Moved.{told_by_nodes, told_at, told_beside, told_before, told_past, told_with, told_moved, told_of, HaveIds, FitMoved, IsFit, IsMovedAt, AreCosts, outlook_by}
+use Rattle.router_routes.specs.Moved.{told_by_nodes, told_at, told_beside, told_before, told_past, told_with, HaveIds}
 use Rattle.router_routes.proofs.IdLemmas.{Stands, stands}
-use Rattle.router_routes.proofs.NodeLemmas.{filter-append, lead-by, reach-by}
+use Rattle.router_routes.proofs.NodeLemmas.{by-tests, filter-append, lead-by, reach-by}
 
 abbrev Pair : Type 0
 Pair = LspId × Entry
@@ -39,21 +27,44 @@ by-by-step c d e pair list rest true true a b both = rw (a, b, both) (ap (λ (l 
 by-by-step c d e pair list rest true false a b both = rw (a, b, both) rest
 by-by-step c d e pair list rest false u a b both = rw (a, both) rest
 
-by-by : (c d e : ℕ → Bool) → ((m : ℕ) → e m ≡ (c m && d m)) → (list : List Pair) → told_by_nodes d (told_by_nodes c list) ≡ told_by_nodes e list
+pub by-by : (c d e : ℕ → Bool) → ((m : ℕ) → e m ≡ (c m && d m)) → (list : List Pair) → told_by_nodes d (told_by_nodes c list) ≡ told_by_nodes e list
 by-by c d e both [] = refl
 by-by c d e both (pair ∷ list) = by-by-step c d e pair list (by-by c d e both list) (c (node_number pair.0.node)) (d (node_number pair.0.node)) refl refl (both (node_number pair.0.node))
 
-by-none : (c : ℕ → Bool) → ((m : ℕ) → c m ≡ false) → (list : List Pair) → told_by_nodes c list ≡ []
+pub by-none : (c : ℕ → Bool) → ((m : ℕ) → c m ≡ false) → (list : List Pair) → told_by_nodes c list ≡ []
 by-none c none [] = refl
 by-none c none (pair ∷ list) = rw (none (node_number pair.0.node)) (by-none c none list)
 
 -- of those of some nodes, those of others
-by-apart : (c d : ℕ → Bool) → ((m : ℕ) → (c m && d m) ≡ false) → (list : List Pair) → told_by_nodes d (told_by_nodes c list) ≡ []
+pub by-apart : (c d : ℕ → Bool) → ((m : ℕ) → (c m && d m) ≡ false) → (list : List Pair) → told_by_nodes d (told_by_nodes c list) ≡ []
 by-apart c d apart list = by-by c d (λ m. c m && d m) (λ m. refl) list ∙ by-none (λ m. c m && d m) apart list
 
 -- and of those of some nodes, all
 by-within : (c d : ℕ → Bool) → ((m : ℕ) → c m ≡ (c m && d m)) → (list : List Pair) → told_by_nodes d (told_by_nodes c list) ≡ told_by_nodes c list
 by-within c d within list = by-by c d c within list
+
+-- by a test that passes fewer, of those that another one passes
+less-step : (c d : ℕ → Bool) (pair : Pair) (list : List Pair) → ((n : ℕ) → c n ≡ true → d n ≡ true) → told_by_nodes c (told_by_nodes d list) ≡ told_by_nodes c list → (t u : Bool) → c (node_number pair.0.node) ≡ t → d (node_number pair.0.node) ≡ u
+    → told_by_nodes c (told_by_nodes d (pair ∷ list)) ≡ told_by_nodes c (pair ∷ list)
+less-step c d pair list less rest t true is in' = ap (told_by_nodes c) (by-tests d pair list true in') ∙ by-tests c pair (told_by_nodes d list) t is ∙ ap (λ (ps : List Pair). if t then pair ∷ ps else ps) rest ∙ sym (by-tests c pair list t is)
+less-step c d pair list less rest false false is in' = ap (told_by_nodes c) (by-tests d pair list false in') ∙ rest ∙ sym (by-tests c pair list false is)
+less-step c d pair list less rest true false is in' = absurd (let e : true ≡ false = sym (less (node_number pair.0.node) is) ∙ in' in cc)
+
+pub by-less : (c d : ℕ → Bool) → ((n : ℕ) → c n ≡ true → d n ≡ true) → (list : List Pair) → told_by_nodes c (told_by_nodes d list) ≡ told_by_nodes c list
+by-less c d less [] = refl
+by-less c d less (pair ∷ list) = less-step c d pair list less (by-less c d less list) (c (node_number pair.0.node)) (d (node_number pair.0.node)) refl refl
+
+all-step : (c : ℕ → Bool) (pair : Pair) (list : List Pair) → c (node_number pair.0.node) ≡ true → told_by_nodes c list ≡ list → told_by_nodes c (pair ∷ list) ≡ pair ∷ list
+all-step c pair list is rest = rw is (ap (λ (l : List Pair). pair ∷ l) rest)
+
+-- by tests that are the same
+pub by-same : (c d : ℕ → Bool) → ((n : ℕ) → c n ≡ d n) → (list : List Pair) → told_by_nodes c list ≡ told_by_nodes d list
+by-same c d same list = ap (λ (t : ℕ → Bool). told_by_nodes t list) (λ i n. same n i)
+
+-- by a test that all pass
+pub by-all : (c : ℕ → Bool) → ((m : ℕ) → c m ≡ true) → (list : List Pair) → told_by_nodes c list ≡ list
+by-all c all [] = refl
+by-all c all (pair ∷ list) = all-step c pair list (all (node_number pair.0.node)) (by-all c all list)
 
 ids-step : (c : ℕ → Bool) (pair : Pair) (list : List Pair) → IsId pair.0 → HaveIds (told_by_nodes c list) → (t : Bool) → HaveIds (if t then pair ∷ told_by_nodes c list else told_by_nodes c list)
 ids-step c pair list id rest true = (id, rest)
@@ -86,9 +97,17 @@ pub told-ids : (entries : List Pair) → HaveIds entries → HaveIds (told_in en
 told-ids [] all = all
 told-ids (pair ∷ entries) all = told-ids-step pair entries all.0 (told-ids entries all.1) (is_live pair.1)
 
-weaker : (least more : ℕ) (list : List Pair) → least ≤ more → RisesFrom more list → RisesFrom least list
+pub weaker : (least more : ℕ) (list : List Pair) → least ≤ more → RisesFrom more list → RisesFrom least list
 weaker least more [] le rises = rises
 weaker least more (pair ∷ list) le rises = let first = rises.0 in (omega (arith, le, first), rises.1)
+
+rises-step : (c : ℕ → Bool) (least : ℕ) (pair : Pair) (list : List Pair) → least ≤ pair_number pair → RisesFrom (pair_number pair + 1) (told_by_nodes c list) → (t : Bool) → RisesFrom least (if t then pair ∷ told_by_nodes c list else told_by_nodes c list)
+rises-step c least pair list le rest true = (le, rest)
+rises-step c least pair list le rest false = weaker least (pair_number pair + 1) (told_by_nodes c list) (omega (arith, le)) rest
+
+pub by-rises : (c : ℕ → Bool) (least : ℕ) (list : List Pair) → RisesFrom least list → RisesFrom least (told_by_nodes c list)
+by-rises c least [] rises = rises
+by-rises c least (pair ∷ list) rises = rises-step c least pair list rises.0 (by-rises c (pair_number pair + 1) list rises.1) (c (node_number pair.0.node))
 
 told-rises-step : (least : ℕ) (pair : Pair) (entries : List Pair) → least ≤ pair_number pair → RisesFrom (pair_number pair + 1) (told_in entries) → (t : Bool) → RisesFrom least (map told_pair (if t then pair ∷ live_of entries else live_of entries))
 told-rises-step least pair entries le rest true = (le, rest)
@@ -150,7 +169,7 @@ module _ (n : ℕ) where
 
 -- ---- what is told with a node's
 
-three-by : (c : ℕ → Bool) (xs ys zs us vs ws : List Pair) → told_by_nodes c xs ≡ us → told_by_nodes c ys ≡ vs → told_by_nodes c zs ≡ ws → told_by_nodes c (xs ++ (ys ++ zs)) ≡ us ++ (vs ++ ws)
+pub three-by : (c : ℕ → Bool) (xs ys zs us vs ws : List Pair) → told_by_nodes c xs ≡ us → told_by_nodes c ys ≡ vs → told_by_nodes c zs ≡ ws → told_by_nodes c (xs ++ (ys ++ zs)) ≡ us ++ (vs ++ ws)
 three-by c xs ys zs us vs ws e f g =
     let p = λ (pair : Pair). c (node_number pair.0.node) in
     filter-append p xs (ys ++ zs) ∙ ap (λ (l : List Pair). told_by_nodes c xs ++ l) (filter-append p ys zs)
@@ -235,186 +254,3 @@ module _ (c : ℕ → Bool) (a b : List Pair) (a-ids : HaveIds a) (b-ids : HaveI
 
   pub reach-same : (system : SystemId) → IsId (record { node = own_node system; number = 255 }) → c (node_number (own_node system)) ≡ true → reach_in a system ≡ reach_in b system
   reach-same system id kept = reach-by c a a-ids system id kept ∙ ap (λ (l : List Pair). reach_in l system) same ∙ sym (reach-by c b b-ids system id kept)
-
--- ---- as a level is read
-
-module _ (node : NodeId) (entries aside : List Pair) (rises : RisesFrom 0 entries) (ids : HaveIds entries) (aside-ids : HaveIds aside) (system : SystemId) (id : IsId (record { node = own_node system; number = 255 })) where
-  whole-ids : HaveIds (told_with node (told_in entries) (told_in aside))
-  whole-ids = with-ids node (told_in entries) (told_in aside) (told-ids entries ids) (told-ids aside aside-ids)
-
-  module _ (is : node_number node ≡ node_number (own_node system)) where
-    here : (node_number (own_node system) == node_number node) ≡ true
-    here = eq-eqb (node_number (own_node system)) (node_number node) (sym is)
-
-    at : told_at node (told_in aside) ≡ told_at node (told_with node (told_in entries) (told_in aside))
-    at = sym (with-at node (told_in entries) (told_in aside))
-
-    pub lead-aside : lead_of (told_in aside) (own_node system) ≡ lead_of (told_with node (told_in entries) (told_in aside)) (own_node system)
-    lead-aside = lead-same (λ m. m == node_number node) (told_in aside) _ (told-ids aside aside-ids) whole-ids at (own_node system) (stands (record { node = own_node system; number = 255 }) id).first here
-
-    pub reach-aside : reach_in (told_in aside) system ≡ reach_in (told_with node (told_in entries) (told_in aside)) system
-    reach-aside = reach-same (λ m. m == node_number node) (told_in aside) _ (told-ids aside aside-ids) whole-ids at system id here
-
-  module _ (is : node_number node ≡ node_number (own_node system) → ⊥) where
-    other : not (node_number (own_node system) == node_number node) ≡ true
-    other = ap not (ne_eqb (node_number (own_node system)) (node_number node) (λ e. is (sym e)))
-
-    beside : told_beside node (told_in entries) ≡ told_beside node (told_with node (told_in entries) (told_in aside))
-    beside = sym (with-beside node (told_in entries) (told_in aside) (told-rises 0 entries rises) (told-ids entries ids))
-
-    pub lead-store : lead_of (told_in entries) (own_node system) ≡ lead_of (told_with node (told_in entries) (told_in aside)) (own_node system)
-    lead-store = lead-same (λ m. not (m == node_number node)) (told_in entries) _ (told-ids entries ids) whole-ids beside (own_node system) (stands (record { node = own_node system; number = 255 }) id).first other
-
-    pub reach-store : reach_in (told_in entries) system ≡ reach_in (told_with node (told_in entries) (told_in aside)) system
-    reach-store = reach-same (λ m. not (m == node_number node)) (told_in entries) _ (told-ids entries ids) whole-ids beside system id other
-
-module _ (level : LevelView) (moved : Moved) (is : level.moved ≡ Some moved) (fit : IsFit level) (rises : RisesFrom 0 level.store.now.entries) (system : SystemId) (node : NodeId) (own : node ≡ own_node system) (id : IsId (record { node = node; number = 255 })) where
-  its-id : IsId (record { node = own_node system; number = 255 })
-  its-id = subst (λ (m : NodeId). IsId (record { node = m; number = 255 })) own id
-
-  fits : FitMoved level.store.now.entries (Some moved)
-  fits = subst (FitMoved level.store.now.entries) is fit
-
-  whole-of : told_of level ≡ told_with moved.node (told_in level.store.now.entries) (told_in moved.aside.now.entries)
-  whole-of = ap (told_moved (told_in level.store.now.entries)) is
-
-  module _ (same : node_number moved.node ≡ node_number node) where
-    same-own : node_number moved.node ≡ node_number (own_node system)
-    same-own = same ∙ ap node_number own
-
-    pub lead-there : lead_of (told_in moved.aside.now.entries) (own_node system) ≡ lead_of (told_of level) (own_node system)
-    lead-there = lead-aside moved.node level.store.now.entries moved.aside.now.entries rises fits.0 fits.1 system its-id same-own ∙ sym (ap (λ (l : List Pair). lead_of l (own_node system)) whole-of)
-
-    pub reach-there : reach_in (told_in moved.aside.now.entries) system ≡ reach_in (told_of level) system
-    reach-there = reach-aside moved.node level.store.now.entries moved.aside.now.entries rises fits.0 fits.1 system its-id same-own ∙ sym (ap (λ (l : List Pair). reach_in l system) whole-of)
-
-  module _ (apart : node_number moved.node ≡ node_number node → ⊥) where
-    apart-own : node_number moved.node ≡ node_number (own_node system) → ⊥
-    apart-own e = apart (e ∙ sym (ap node_number own))
-
-    pub lead-here : lead_of (told_in level.store.now.entries) (own_node system) ≡ lead_of (told_of level) (own_node system)
-    lead-here = lead-store moved.node level.store.now.entries moved.aside.now.entries rises fits.0 fits.1 system its-id apart-own ∙ sym (ap (λ (l : List Pair). lead_of l (own_node system)) whole-of)
-
-    pub reach-here : reach_in (told_in level.store.now.entries) system ≡ reach_in (told_of level) system
-    reach-here = reach-store moved.node level.store.now.entries moved.aside.now.entries rises fits.0 fits.1 system its-id apart-own ∙ sym (ap (λ (l : List Pair). reach_in l system) whole-of)
-
--- ---- a router's outlook once a node moved
-
-moved-list : (runs : Bool) (node : NodeId) (entries aside new : List Pair) → runs ≡ true → HaveIds entries → HaveIds aside → told_beside node new ≡ told_beside node (where_run runs (told_in entries)) → told_at node new ≡ told_in aside → RisesFrom 0 new
-    → new ≡ where_run runs (told_with node (told_in entries) (told_in aside))
-moved-list true node entries aside new is ids aside-ids others here rises = is-with node (told_in entries) new (told_in aside) rises (told-ids entries ids) (told-ids aside aside-ids) others here
-moved-list false node entries aside new is ids aside-ids others here rises = absurd (let e : false ≡ true = is in cc)
-
-module _ (lent : Lent) (moved : Moved) (o : Outlook) where
-  outlook-is : (told : Both (List Pair)) → o.root ≡ own_node lent.system → o.areas ≡ lent.areas.now → o.runs ≡ runs_of lent.levels → o.prefixes ≡ lent.prefixes.now → o.told.one ≡ told.one → o.told.two ≡ told.two
-      → o ≡ record { root = own_node lent.system; areas = lent.areas.now; runs = runs_of lent.levels; prefixes = lent.prefixes.now; told = told }
-  outlook-is told a b c d e f = λ i. record { root = a i; areas = b i; runs = c i; prefixes = d i; told = record { one = e i; two = f i } }
-
-  pub moved-one : HaveIds lent.one.now.entries → HaveIds moved.aside.now.entries → IsMovedAt (outlook_in lent) o level.One moved.node (told_in moved.aside.now.entries) → o ≡ outlook_by lent (Some moved) None
-  unfolding outlook_in outlook_by
-  moved-one ids aside-ids is =
-      outlook-is _ is.root is.areas is.runs is.prefixes
-      (moved-list (runs_of lent.levels).one moved.node lent.one.now.entries moved.aside.now.entries o.told.one is.run ids aside-ids is.others is.here is.rises) is.other
-
-  pub moved-two : HaveIds lent.two.now.entries → HaveIds moved.aside.now.entries → IsMovedAt (outlook_in lent) o level.Two moved.node (told_in moved.aside.now.entries) → o ≡ outlook_by lent None (Some moved)
-  unfolding outlook_in outlook_by
-  moved-two ids aside-ids is =
-      outlook-is _ is.root is.areas is.runs is.prefixes is.other
-      (moved-list (runs_of lent.levels).two moved.node lent.two.now.entries moved.aside.now.entries o.told.two is.run ids aside-ids is.others is.here is.rises)
-
--- ---- a database from one LSP ID to another
-
-module _ (c : ℕ → Bool) (a b : ℕ) (same : (pair : Pair) → IsId pair.0 → (nat_le a (pair_number pair) && nat_le (pair_number pair) b) ≡ c (node_number pair.0.node)) where
-  span-step : (pair : Pair) (entries : List Pair) → IsId pair.0 → told_in (between a b entries) ≡ told_by_nodes c (told_in entries) → (t u : Bool) → c (node_number pair.0.node) ≡ t → is_live pair.1 ≡ u → told_in (between a b (pair ∷ entries)) ≡ told_by_nodes c (told_in (pair ∷ entries))
-  span-step pair entries id rest true true is live = rw (same pair id, live, is, live) (ap (λ (l : List Pair). told_pair pair ∷ l) rest)
-  span-step pair entries id rest true false is live = rw (same pair id, live, is, live) rest
-  span-step pair entries id rest false true is live = rw (same pair id, live, is) rest
-  span-step pair entries id rest false false is live = rw (same pair id, live, is) rest
-
-  pub span-by : (entries : List Pair) → HaveIds entries → told_in (between a b entries) ≡ told_by_nodes c (told_in entries)
-  span-by [] all = refl
-  span-by (pair ∷ entries) all = span-step pair entries all.0 (span-by entries all.1) (c (node_number pair.0.node)) (is_live pair.1) refl refl
-
-nothing : (entries : List Pair) → between 1 0 entries ≡ []
-nothing [] = refl
-nothing (pair ∷ entries) =
-    let out : (nat_le 1 (pair_number pair) && nat_le (pair_number pair) 0) ≡ false = grind (arith, nat_tests) in
-    rw out (nothing entries)
-
-module _ (node : NodeId) (number : ℕ) (id : IsId (record { node = node; number = number })) (entries : List Pair) (ids : HaveIds entries) where
-  its : Stands (record { node = node; number = number })
-  its = stands (record { node = node; number = number }) id
-
-  pub span-before : (first last : ℕ) → first ≡ 0 → last + 1 ≡ node_number node → told_in (between first last entries) ≡ told_before node (told_in entries)
-  span-before first last zero less =
-      span-by (λ m. nat_lt m (node_number node)) first last (λ pair is.
-      let s = stands pair.0 is in let a = s.is in let b = s.small in let d = s.first in let e = its.first in
-      grind (arith, nat_tests, a, b, d, e, zero, less)) entries ids
-
-  pub span-at : (first last : ℕ) → first ≡ node_number node → last ≡ node_number node + 255 → told_in (between first last entries) ≡ told_at node (told_in entries)
-  span-at first last from to =
-      span-by (λ m. m == node_number node) first last (λ pair is.
-      let s = stands pair.0 is in let a = s.is in let b = s.small in let d = s.first in let e = its.first in
-      grind (arith, nat_tests, a, b, d, e, from, to)) entries ids
-
-  pub span-past : (first last : ℕ) → first ≡ node_number node + 256 → last ≡ 2 ^ 64 - 1 → told_in (between first last entries) ≡ told_past node (told_in entries)
-  span-past first last from to =
-      span-by (λ m. nat_lt (node_number node) m) first last (λ pair is.
-      let s = stands pair.0 is in let a = s.is in let b = s.small in let d = s.first in let e = its.first in let f = s.most in
-      grind (arith, nat_tests, a, b, d, e, f, from, to)) entries ids
-
-  -- nothing stands before the least node, nor past the greatest
-  pub none-before : node_number node < 1 → told_before node (told_in entries) ≡ []
-  none-before least = by-none (λ m. nat_lt m (node_number node)) (λ m. grind (arith, nat_tests, least)) (told_in entries)
-
-  pub none-past : 2 ^ 64 ≤ node_number node + 256 → told_past node (told_in entries) ≡ []
-  none-past most =
-      sym (span-by (λ m. nat_lt (node_number node) m) 1 0 (λ pair is.
-      let s = stands pair.0 is in let a = s.is in let b = s.small in let d = s.first in let e = its.first in let f = s.most in
-      grind (arith, nat_tests, a, b, d, e, f, most)) entries ids)
-      ∙ ap told_in (nothing entries)
-
--- ---- what is made of each pair, in order
-
-flat-append : {X Y : Type 0} (f : X → List Y) (xs ys : List X) → flat_map f (xs ++ ys) ≡ flat_map f xs ++ flat_map f ys
-flat-append f [] ys = refl
-flat-append f (x ∷ xs) ys = ap (λ (l : List _). f x ++ l) (flat-append f xs ys) ∙ sym (append_assoc (f x) (flat_map f xs) (flat_map f ys))
-
-module _ {Y : Type 0} (f : Pair → List Y) (level : LevelView) (moved : Moved) (is : level.moved ≡ Some moved) where
-  made-with : (node : NodeId) (old here : List Pair) (l m n k : List Y) → l ≡ [] → m ≡ l ++ flat_map f (told_before node old) → n ≡ m ++ flat_map f (told_at node here) → k ≡ n ++ flat_map f (told_past node old) → k ≡ flat_map f (told_with node old here)
-  unfolding told_with
-  made-with node old here l m n k a b c d =
-      d ∙ ap (λ (x : List Y). x ++ flat_map f (told_past node old)) (c ∙ ap (λ (x : List Y). x ++ flat_map f (told_at node here)) (b ∙ ap (λ (x : List Y). x ++ flat_map f (told_before node old)) a))
-      ∙ append_assoc (flat_map f (told_before node old)) (flat_map f (told_at node here)) (flat_map f (told_past node old))
-      ∙ sym (flat-append f (told_before node old) (told_at node here ++ told_past node old) ∙ ap (λ (x : List Y). flat_map f (told_before node old) ++ x) (flat-append f (told_at node here) (told_past node old)))
-
-  pub made-of : (l m n k : List Y) → l ≡ [] → m ≡ l ++ flat_map f (told_before moved.node (told_in level.store.now.entries)) → n ≡ m ++ flat_map f (told_at moved.node (told_in moved.aside.now.entries)) → k ≡ n ++ flat_map f (told_past moved.node (told_in level.store.now.entries)) → k ≡ flat_map f (told_of level)
-  made-of l m n k a b c d =
-      made-with moved.node (told_in level.store.now.entries) (told_in moved.aside.now.entries) l m n k a b c d
-      ∙ sym (ap (λ (o : Option Moved). flat_map f (told_moved (told_in level.store.now.entries) o)) is)
-
-pub told-more : {Y : Type 0} (f : Pair → List Y) (list whole : List Y) (pair : Pair) (pairs : List Pair) → is_live pair.1 ≡ true → list ++ flat_map f (told_in (pair ∷ pairs)) ≡ whole → list ++ (f (told_pair pair) ++ flat_map f (told_in pairs)) ≡ whole
-told-more f list whole pair pairs live is = subst (λ (t : Bool). list ++ flat_map f (map told_pair (if t then pair ∷ live_of pairs else live_of pairs)) ≡ whole) live is
-
--- ---- costs over what is told then
-
-run-costs : (runs : Bool) (list : List Pair) (root : NodeId) (costs : RepairedOf) → runs ≡ true → AreCosts list root costs → AreUsable (rows_in (where_run runs list)) (overloaded_in (where_run runs list)) root costs.graph
-run-costs true list root costs is are = are.graph
-run-costs false list root costs is are = absurd (let e : false ≡ true = is in cc)
-
-module _ (lent : Lent) (moved : Moved) (costs : RepairedOf) where
-  pub costs-one : (runs_of lent.levels).one ≡ true → AreCosts (told_with moved.node (told_in lent.one.now.entries) (told_in moved.aside.now.entries)) (own_node lent.system) costs → IsLevel (outlook_by lent (Some moved) None) level.One costs
-  unfolding outlook_by
-  costs-one run are = record { root = are.root; graph = run-costs (runs_of lent.levels).one _ (own_node lent.system) costs run are }
-
-  pub costs-two : (runs_of lent.levels).two ≡ true → AreCosts (told_with moved.node (told_in lent.two.now.entries) (told_in moved.aside.now.entries)) (own_node lent.system) costs → IsLevel (outlook_by lent None (Some moved)) level.Two costs
-  unfolding outlook_by
-  costs-two run are = record { root = are.root; graph = run-costs (runs_of lent.levels).two _ (own_node lent.system) costs run are }
-
-  pub other-two : IsLevel (outlook_in lent) level.Two costs → IsLevel (outlook_by lent (Some moved) None) level.Two costs
-  unfolding outlook_by outlook_in
-  other-two is = record { root = is.root; graph = is.graph }
-
-  pub other-one : IsLevel (outlook_in lent) level.One costs → IsLevel (outlook_by lent None (Some moved)) level.One costs
-  unfolding outlook_by outlook_in
-  other-one is = record { root = is.root; graph = is.graph }

@@ -34,7 +34,7 @@ any-end n rows = list_any (λ (row : Row). end row == n) rows
 times-cons : (row x : Row) (rows : List Row) → times (x ∷ rows) row ≡ cond (same_row row x) 1 0 + times rows row
 times-cons row x rows = sum_by-cons (λ y. cond (same_row row y) 1 0) x rows
 
-times-append : (row : Row) (xs ys : List Row) → times (xs ++ ys) row ≡ times xs row + times ys row
+pub times-append : (row : Row) (xs ys : List Row) → times (xs ++ ys) row ≡ times xs row + times ys row
 times-append row xs ys = sum_by-append (λ y. cond (same_row row y) 1 0) xs ys
 
 same-self : (row : Row) → same_row row row ≡ true
@@ -81,7 +81,7 @@ leads-to xs ys from to same is =
     let some = f.1 in
     counted p f.0 ys (omega (arith, e, some)) f.2
 
-leads-same : (xs ys : List Row) (from to : ℕ) → ((r : Row) → start r ≡ from → end r ≡ to → times xs r ≡ times ys r) → leads xs from to ≡ leads ys from to
+pub leads-same : (xs ys : List Row) (from to : ℕ) → ((r : Row) → start r ≡ from → end r ≡ to → times xs r ≡ times ys r) → leads xs from to ≡ leads ys from to
 leads-same xs ys from to same = bools-same (leads xs from to) (leads ys from to) (leads-to xs ys from to same) (leads-to ys xs from to (λ r a b. sym (same r a b)))
 
 and-false : (t : Bool) → (t && false) ≡ false
@@ -122,7 +122,7 @@ not-start : (s e : Bool) → (s || e) ≡ false → s ≡ false
 not-start true e is = is
 not-start false e is = refl
 
-no-times-of : (x : Row) (rows : List Row) → length rows ≡ 0 → times rows x ≡ 0
+pub no-times-of : (x : Row) (rows : List Row) → length rows ≡ 0 → times rows x ≡ 0
 no-times-of x [] none = refl
 no-times-of x (row ∷ rows) none = absurd (omega (arith, none))
 

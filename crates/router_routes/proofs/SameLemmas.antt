@@ -22,20 +22,20 @@ use Rattle.route_table.specs.declared.route.Route.{Route}
 use Rattle.route_table.specs.Routes.{IsHopTo, AreRoutes}
 use Rattle.route_table.proofs.OrderLemmas.{routes_by}
 use Rattle.router_routes.specs.declared.lent.Lent.{Lent}
-use Rattle.router_routes.specs.declared.view.Moved.{Moved}
 use Rattle.router_routes.specs.declared.view.View.{View}
-use Rattle.router_routes.specs.Told.{told_in}
 use Rattle.router_routes.specs.Outlooks.{Outlook, graph_in, outlook_in, where_run}
 use Rattle.router_routes.specs.Candidates.{reached_in, reached_by, system_candidates, level_candidates, default_of, defaults, own_candidate, attached_of, is_for_all, firm_candidates, has_defaults, candidates_of, AreRoutesOf}
 use Rattle.router_routes.specs.Following.{FollowingOf, IsFollowing, IsLevel}
-use Rattle.router_routes.specs.Kept.{AreSame, AreAmong, AreBeside, AreNodes, AreReached, CostBeside, HaveToldIds, is_among, is_beside, stays, systems_among, told_candidates}
-use Rattle.router_routes.specs.Moved.{AreFit, FitMoved, HaveIds, outlook_at, told_by_nodes, told_moved, told_of}
+use Rattle.router_routes.specs.Kept.{AreSame, AreAmong, AreBeside, AreReached, CostBeside, HaveToldIds, stays, systems_among, told_candidates}
+use Rattle.router_routes.specs.Moved.{AreFit, HaveIds, outlook_at, told_of, AreNodes, is_among}
 use Rattle.router_routes.proofs.GraphLemmas.{IsGraphOf, reached-are, routes-are, hop-same}
 use Rattle.spf_tree.proofs.SearchLemmas.{contains_cases, contains_none}
 use Rattle.router_routes.proofs.IdLemmas.{number-0}
-use Rattle.router_routes.proofs.MovedLemmas.{told-ids, with-ids}
+use Rattle.router_routes.proofs.MovedLemmas.{told-ids}
+use Rattle.router_routes.proofs.AfterLemmas.{list-more}
+use Rattle.router_routes.proofs.ViewLemmas.{level-ids}
 use Rattle.router_routes.proofs.KeptLemmas.{among-in, in-among, telling-default}
-use Rattle.router_routes.proofs.BesideLemmas.{same-refl, same-both, same-back, same-append, same-parts, any-same, by-less, one-kept, both-kept}
+use Rattle.router_routes.proofs.BesideLemmas.{same-refl, same-both, same-back, same-append, same-parts, any-same, one-kept, both-kept}
 
 abbrev Pair : Type 0
 Pair = LspId × Entry
@@ -219,33 +219,12 @@ module _ (o p : Outlook) (f : FollowingOf) (is : IsFollowing o f) (nodes : List 
         attached = sym same ∙ h;
       }
 
--- other prefixes of one's own leave what is reached as it was
-pub reached-by-prefixes : (o p : Outlook) (f : FollowingOf) (ps : List (Prefix × ℕ)) (list others : List Candidate) (bit : Bool) → IsFollowing o f → p ≡ record o { prefixes = ps } → list ≡ f.told → others ≡ f.defaults → bit ≡ f.attached → AreReached p list others bit
-unfolding told_candidates attached_of
-reached-by-prefixes o p f ps list others bit is same e g h =
-    subst (λ (q : Outlook). AreReached q list others bit) (sym same)
-    (record { told = same-both list f.told _ (same-refl list f.told e) is.told; ways = same-both others f.defaults _ (same-refl others f.defaults g) is.defaults; attached = h ∙ is.attached })
-
 -- what follows a router reaches that
 pub following-reached : (o : Outlook) (f : FollowingOf) → IsFollowing o f → AreReached o f.told f.defaults f.attached
 following-reached o f is = record { told = is.told; ways = is.defaults; attached = is.attached }
 
--- more nodes may have moved
-not-true : (t : Bool) → not t ≡ true → t ≡ false
-not-true true e = absurd (let f : false ≡ true = e in cc)
-not-true false e = refl
-
-among-step : (t u : Bool) → (t ≡ true → u ≡ true) → not u ≡ true → not t ≡ true
-among-step true u more beside = absurd (let e : true ≡ false = sym (more refl) ∙ not-true u beside in cc)
-among-step false u more beside = refl
-
-list-more : (some all : List NodeId) (told later : List Pair) → AreAmong some all → told_by_nodes (is_beside some) told ≡ told_by_nodes (is_beside some) later → told_by_nodes (is_beside all) told ≡ told_by_nodes (is_beside all) later
-list-more some all told later more same =
-    let less = λ (n : ℕ). among-step (is_among some n) (is_among all n) (more n) in
-    sym (by-less (is_beside all) (is_beside some) less told) ∙ ap (told_by_nodes (is_beside all)) same ∙ by-less (is_beside all) (is_beside some) less later
-
 pub beside-more : (some all : List NodeId) (o p : Outlook) → AreAmong some all → AreBeside some o p → AreBeside all o p
-beside-more some all o p more is = record { root = is.root; areas = is.areas; runs = is.runs; prefixes = is.prefixes; one = list-more some all o.told.one p.told.one more is.one; two = list-more some all o.told.two p.told.two more is.two }
+beside-more some all o p more is = record { root = is.root; areas = is.areas; runs = is.runs; one = list-more some all o.told.one p.told.one more is.one; two = list-more some all o.told.two p.told.two more is.two }
 
 -- ---- LSP IDs and nodes
 
@@ -258,16 +237,9 @@ pub lent-have : (lent : Lent) → HaveIds lent.one.now.entries → HaveIds lent.
 unfolding outlook_in
 lent-have lent a b = record { one = where-ids (runs_of lent.levels).one _ (told-ids lent.one.now.entries a); two = where-ids (runs_of lent.levels).two _ (told-ids lent.two.now.entries b) }
 
-moved-have : (entries : List Pair) (o : Option Moved) → HaveIds entries → FitMoved entries o → HaveIds (told_moved (told_in entries) o)
-moved-have entries None ids fit = told-ids entries ids
-moved-have entries (Some moved) ids fit = with-ids moved.node (told_in entries) (told_in moved.aside.now.entries) (told-ids entries ids) (told-ids moved.aside.now.entries fit.1)
-
 pub view-have : (view : View) → HaveIds view.one.store.now.entries → HaveIds view.two.store.now.entries → AreFit view → HaveToldIds (outlook_at view)
 unfolding outlook_at
-view-have view a b fit = record {
-  one = where-ids (runs_of view.levels).one _ (moved-have view.one.store.now.entries view.one.moved a fit.one);
-  two = where-ids (runs_of view.levels).two _ (moved-have view.two.store.now.entries view.two.moved b fit.two);
-}
+view-have view a b fit = record { one = where-ids (runs_of view.levels).one _ (level-ids view.one a fit.one); two = where-ids (runs_of view.levels).two _ (level-ids view.two b fit.two) }
 
 -- one node more
 pub one-node : (m : NodeId) → IsId (record { node = m; number = 0 }) → AreNodes (m ∷ [])
@@ -338,3 +310,14 @@ unfolding outlook_at
 ways-by-nodes view s t l n run none e same =
     e ∙ ap (λ (x : List Candidate). x ++ flat_map (default_of (told_of view.one)) s) none ∙ ap (flat_map (default_of (told_of view.one))) same
     ∙ ap (λ (r : Bool). flat_map (default_of (where_run r (told_of view.one))) t) (sym run)
+
+pub among-trans : (a b c : List NodeId) → AreAmong a b → AreAmong b c → AreAmong a c
+among-trans a b c f g n is = g n (f n is)
+
+not-among : (t u : Bool) → (t ≡ true → u ≡ true) → u ≡ false → t ≡ false
+not-among true u more none = absurd (let e : true ≡ false = sym (more refl) ∙ none in cc)
+not-among false u more none = refl
+
+-- costs are the same beside more nodes
+pub cost-more : (some all : List NodeId) (d e : List (ℕ × ℕ)) → AreAmong some all → CostBeside some d e → CostBeside all d e
+cost-more some all d e more same m id none = same m id (not-among (is_among some (node_number m)) (is_among all (node_number m)) (more (node_number m)) none)

@@ -1,6 +1,6 @@
 -- What candidates stay where some nodes moved, and what those nodes tell. All of it own.
 use Rattle.std.specs.Prelude.{◌≡◌, ◌↔◌, ℕ, ◌==◌, Bool, true, false, ◌&&◌, not, List, [], ◌++◌, Option, Some, if◌then◌else◌}
-use Rattle.std.specs.List.{Contains, flat_map, list_any}
+use Rattle.std.specs.List.{Contains, flat_map}
 use Rattle.isis_base.specs.declared.identifiers.SystemId.{SystemId}
 use Rattle.isis_base.specs.declared.identifiers.NodeId.{NodeId}
 use Rattle.isis_base.specs.declared.identifiers.LspId.{LspId}
@@ -11,20 +11,13 @@ use Rattle.lsp_view.specs.Views.{own_node, lead_of, reach_in}
 use Rattle.spf_tree.specs.Nodes.{node_number}
 use Rattle.spf_tree.specs.Distances.{cost_at}
 use Rattle.route_table.specs.declared.candidate.Candidate.{Candidate}
-use Rattle.router_routes.specs.Moved.{HaveIds, told_by_nodes}
+use Rattle.router_routes.specs.Moved.{HaveIds, is_among, is_beside, told_by_nodes}
 use Rattle.router_routes.specs.Outlooks.{Outlook}
 use Rattle.router_routes.specs.Candidates.{with_cost, level_candidates, attached_of, defaults}
 
 -- two lists have the same members
 abbrev pub AreSame : {X : Type 0} → List X → List X → Type 0
 AreSame {X} xs ys = (x : X) → Contains xs x ↔ Contains ys x
-
--- whether a node is one of those that moved, and whether it isn't
-abbrev pub is_among : List NodeId → ℕ → Bool
-is_among nodes n = list_any (λ (node : NodeId). node_number node == n) nodes
-
-abbrev pub is_beside : List NodeId → ℕ → Bool
-is_beside nodes n = not (is_among nodes n)
 
 -- whether a candidate is by way of another node
 abbrev pub stays : List NodeId → Candidate → Bool
@@ -51,12 +44,11 @@ pub record AreReached (o : Outlook) (list others : List Candidate) (bit : Bool) 
   pub ways : AreSame others (defaults o.told.one o.root)
   pub attached : bit ≡ attached_of o
 
--- all nodes but some tell the same in both levels, and nothing else of what routes look at moves
+-- all nodes but some tell the same in both levels, and else own prefixes alone may move
 pub record AreBeside (nodes : List NodeId) (old new : Outlook) : Type 0 where
   pub root : new.root ≡ old.root
   pub areas : new.areas ≡ old.areas
   pub runs : new.runs ≡ old.runs
-  pub prefixes : new.prefixes ≡ old.prefixes
   pub one : told_by_nodes (is_beside nodes) old.told.one ≡ told_by_nodes (is_beside nodes) new.told.one
   pub two : told_by_nodes (is_beside nodes) old.told.two ≡ told_by_nodes (is_beside nodes) new.told.two
 
@@ -75,10 +67,6 @@ pub record IsTelling (f : List (LspId × Entry) → SystemId × ℕ → List Can
   pub same : (told later : List (LspId × Entry)) (s : SystemId × ℕ)
       → lead_of told (own_node s.0) ≡ lead_of later (own_node s.0)
       → reach_in told s.0 ≡ reach_in later s.0 → f told s ≡ f later s
-
--- each is a node, of seven octets
-abbrev pub AreNodes : List NodeId → Type 0
-AreNodes nodes = (m : NodeId) → Contains nodes m → IsId (record { node = m; number = 0 })
 
 -- the LSP IDs of what is told have eight octets
 pub record HaveToldIds (o : Outlook) : Type 0 where

@@ -1,9 +1,10 @@
 -- What a router leaks from one level into the other (RFC 5302 3), by a plain program: a law says that
 -- it is what its routes leak.
-use Rattle.std.specs.Prelude.{ℕ, ◌+◌, ◌*◌, ◌==◌, nat_lt, Bool, ◌&&◌, ◌||◌, List, [], ◌∷◌, map, filter, Option, Some, None, if◌then◌else◌}
+use Rattle.std.specs.Prelude.{ℕ, ◌==◌, nat_lt, Bool, ◌&&◌, ◌||◌, List, [], ◌∷◌, map, filter, Option, Some, None, if◌then◌else◌}
 use Rattle.isis_base.specs.declared.level.Level.{Level}
 use Rattle.isis_base.specs.declared.level.Level.TheVariants as level
 use Rattle.isis_base.specs.declared.prefix.Prefix.{Prefix}
+use Rattle.isis_base.specs.Prefixes.{prefix_number}
 use Rattle.isis_tlv.specs.declared.prefix.PrefixItem.{PrefixItem}
 use Rattle.model_router.specs.Maps.{find, put}
 use Rattle.route_table.specs.declared.candidate.Candidate.{Candidate}
@@ -12,10 +13,6 @@ use Rattle.route_leaking.specs.Leaks.{leaked_metric, up_leaks, down_leaks}
 use Rattle.route_table.specs.declared.route.Route.{Route}
 use Rattle.router_routes.specs.Outlooks.{Outlook}
 use Rattle.router_routes.specs.Candidates.{candidates_of}
-
--- a prefix as a number, as the model has it (own)
-abbrev pub prefix_number : Prefix → ℕ
-prefix_number prefix = 64 * prefix.address + prefix.length
 
 -- a rank and cost are better than others: the rank counts first (RFC 5302 3.2)
 abbrev pub is_better : ℕ × ℕ → ℕ × ℕ → Bool

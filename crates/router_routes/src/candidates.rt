@@ -56,11 +56,11 @@ pub(crate) fn told_by(
     twos: &[(SystemId, u64)],
 ) -> Result<Vec<Candidate>, OutOfMemory>
     requires fit { AreFit view.now }
-    requires ones { ones.now
-        ≡ reached_in (outlook_at view.now).told.one (outlook_at view.now).root }
-    requires twos { twos.now
-        ≡ reached_in (outlook_at view.now).told.two (outlook_at view.now).root }
-    ensures { IfOk result (λ list. list.items ≡ told_candidates (outlook_at view.now)) }
+    requires ones { AreSame ones.now
+        (reached_in (outlook_at view.now).told.one (outlook_at view.now).root) }
+    requires twos { AreSame twos.now
+        (reached_in (outlook_at view.now).told.two (outlook_at view.now).root) }
+    ensures { IfOk result (λ list. AreSame list.items (told_candidates (outlook_at view.now))) }
 {
     let mut list = with_room(alloc, ones.len())?;
     add_told(alloc, &mut list, Level::One, &view.one, ones)?;
@@ -75,10 +75,10 @@ pub(crate) fn defaults_by(
     ones: &[(SystemId, u64)],
 ) -> Result<Vec<Candidate>, OutOfMemory>
     requires fit { AreFit view.now }
-    requires ones { ones.now
-        ≡ reached_in (outlook_at view.now).told.one (outlook_at view.now).root }
-    ensures { IfOk result (λ list. list.items
-        ≡ defaults (outlook_at view.now).told.one (outlook_at view.now).root) }
+    requires ones { AreSame ones.now
+        (reached_in (outlook_at view.now).told.one (outlook_at view.now).root) }
+    ensures { IfOk result (λ list. AreSame list.items
+        (defaults (outlook_at view.now).told.one (outlook_at view.now).root)) }
 {
     let mut list = Vec::new(alloc);
     add_defaults(&mut list, &view.one, ones)?;

@@ -9,15 +9,15 @@ ghost use Rattle.router_routes.specs.Told.{told_in};
 ghost use Rattle.router_routes.specs.Outlooks.{outlook_in, where_run};
 ghost use Rattle.router_routes.specs.Candidates.{AreRoutesOf, attached_of, reached_in};
 ghost use Rattle.router_routes.specs.Following.{IsFollowing, IsRooted, IsLevel, Counts};
-ghost use Rattle.router_routes.specs.Moved.{AreFit, outlook_at};
-ghost use Rattle.router_routes.specs.Kept.{AreReached};
+ghost use Rattle.router_routes.specs.Moved.{AreFit, IsFit, outlook_at, told_of};
+ghost use Rattle.router_routes.specs.Kept.{AreReached, AreSame};
 
 use crate::candidates::{all_candidates, defaults_by, own_node, runs_one, runs_two, told_by};
 use crate::differences::rows_apart;
 use crate::lent::Lent;
 use crate::level_graph::graph_of;
 use crate::systems::{is_attached, level_systems};
-use crate::view::{View, as_lent};
+use crate::view::{LevelView, View, as_lent};
 use isis_base::{Level, LevelSet, NodeId, OutOfMemory, SystemId};
 use lsp_store::Store;
 use route_table::{Candidate, Routes, routes};
@@ -144,7 +144,8 @@ fn fresh(alloc: Global, runs: bool, store: &Store, root: NodeId) -> Result<Repai
     ensures root { IfOk result (λ new. new.root ≡ root) }
     ensures changes { IfOk result (λ new. new.changes ≡ 0) }
 {
-    let graph = graph_of(alloc, runs, store, root)?;
+    let level = LevelView { store, moved: None };
+    let graph = graph_of(alloc, runs, &level, root)?;
     Repaired::new(alloc, &graph, root)
 }
 
@@ -168,24 +169,26 @@ fn if_moved(
     if !moved {
         return old.copy();
     }
-    followed(alloc, old, runs, store)
+    let level = LevelView { store, moved: None };
+    followed(alloc, old, runs, &level)
 }
 
-/// The distances of a level, repaired for its rows as they are now.
-fn followed(
+/// The distances of a level, repaired for its rows as they are read.
+pub(crate) fn followed(
     alloc: Global,
     old: &Repaired,
     runs: bool,
-    store: &Store,
+    level: &LevelView<'_>,
 ) -> Result<Repaired, OutOfMemory>
-    requires { old.now.graph.root ≡ old.now.root }
+    requires fit { IsFit level.now }
+    requires root { old.now.graph.root ≡ old.now.root }
     ensures graph { IfOk result (λ new.
-        AreUsable (rows_in (where_run runs (told_in store.now.entries)))
-        (overloaded_in (where_run runs (told_in store.now.entries))) old.now.root new.graph) }
+        AreUsable (rows_in (where_run runs (told_of level.now)))
+        (overloaded_in (where_run runs (told_of level.now))) old.now.root new.graph) }
     ensures root { IfOk result (λ new. new.root ≡ old.now.root) }
     ensures counts { IfOk result (λ new. Counts old.now new) }
 {
-    let graph = graph_of(alloc, runs, store, old.graph().root())?;
+    let graph = graph_of(alloc, runs, level, old.graph().root())?;
     let (removed, added) = rows_apart(alloc, old.graph().rows(), rows_in_order(&graph))?;
     let mut new = old.copy()?;
     let blank = Blank::new(1);
@@ -305,8 +308,8 @@ pub(crate) fn attached(
     twos: &[(SystemId, u64)],
 ) -> Result<bool, OutOfMemory>
     requires fit { AreFit view.now }
-    requires twos { twos.now
-        ≡ reached_in (outlook_at view.now).told.two (outlook_at view.now).root }
+    requires twos { AreSame twos.now
+        (reached_in (outlook_at view.now).told.two (outlook_at view.now).root) }
     ensures { IfOk result (λ attached. attached ≡ attached_of (outlook_at view.now)) }
 {
     match view.levels {

@@ -1,5 +1,5 @@
 //! What a router keeps where some nodes moved: candidates by way of others stay (own).
-ghost use Rattle.std.specs.Prelude.{◌≡◌, ◌∷◌, [], ◌++◌, true, not, filter, IfOk, OnOk, MatchOption};
+ghost use Rattle.std.specs.Prelude.{◌≡◌, ◌++◌, true, not, filter, IfOk, OnOk, MatchOption};
 ghost use Rattle.std.specs.List.{Contains, flat_map};
 ghost use Rattle.isis_base.specs.declared.identifiers.NodeId.{NodeId};
 ghost use Rattle.isis_base.specs.declared.level.Level.TheVariants as level;
@@ -8,8 +8,8 @@ ghost use Rattle.spf_tree.specs.Nodes.{node_number};
 ghost use Rattle.spf_tree.specs.Distances.{cost_at};
 ghost use Rattle.router_routes.specs.Candidates.{attached_of, default_of, system_candidates};
 ghost use Rattle.router_routes.specs.Following.{IsFollowing, IsLevel};
-ghost use Rattle.router_routes.specs.Kept.{AreAmong, AreBeside, AreNodes, AreReached, CostBeside, HaveToldIds, is_among, stays, systems_among};
-ghost use Rattle.router_routes.specs.Moved.{AreFit, IsFit, outlook_at, told_of};
+ghost use Rattle.router_routes.specs.Kept.{AreAmong, AreBeside, AreReached, CostBeside, HaveToldIds, stays, systems_among};
+ghost use Rattle.router_routes.specs.Moved.{AreFit, AreNodes, IsFit, is_among, nodes_in, nodes_of, or_old, outlook_at, told_of};
 ghost use Rattle.router_routes.specs.Outlooks.{outlook_in, where_run};
 
 use crate::candidates::{add_all, add_defaults, add_told, runs_one, runs_two};
@@ -17,7 +17,8 @@ use crate::following::{Following, Reached, all_reached, attached};
 use crate::lent::Lent;
 use crate::same::same_candidate;
 use crate::systems::{level_systems, systems_among};
-use crate::view::{LevelView, View};
+use crate::told::{Moved, Told};
+use crate::view::{LevelView, View, nodes_law};
 use isis_base::laws::lsp_id_law;
 use isis_base::{Level, LevelSet, LspId, NodeId, OutOfMemory};
 use route_table::Candidate;
@@ -46,18 +47,47 @@ impl Following {
         ensures { IfOk result (λ reached. AreReached (outlook_at view.now) reached.told.items
             reached.defaults.items reached.attached) }
     {
-        if nodes.len() > MOST {
-            return all_reached(self.alloc, view, one, two);
-        }
-        match self.reached_after(lent, view, nodes, one, two) {
+        match self.reached_if(lent, view, nodes, one, two) {
             Ok(Some(reached)) => Ok(reached),
             Ok(None) => self.reached(),
             Err(error) => Err(error),
         }
     }
 
+    /// What is reached where these nodes moved, at these costs; `None` where it is what was reached before. Where many moved, all
+    /// is made anew.
+    pub(crate) fn reached_if(
+        &self,
+        lent: &Lent<'_>,
+        view: &View<'_>,
+        nodes: &[NodeId],
+        one: &Repaired,
+        two: &Repaired,
+    ) -> Result<Option<Reached>, OutOfMemory>
+        requires follows { IsFollowing (outlook_in lent.now) self.now }
+        requires beside { AreBeside nodes.now (outlook_in lent.now) (outlook_at view.now) }
+        requires nodes { AreNodes nodes.now }
+        requires costs_one { CostBeside nodes.now self.now.levels.one.distances one.now.distances }
+        requires costs_two { CostBeside nodes.now self.now.levels.two.distances two.now.distances }
+        requires fit { AreFit view.now }
+        requires one { IsLevel (outlook_at view.now) level.One one.now }
+        requires two { IsLevel (outlook_at view.now) level.Two two.now }
+        ensures { IfOk result (λ o. MatchOption o
+            (AreReached (outlook_at view.now) self.now.told self.now.defaults self.now.attached)
+            (λ reached. AreReached (outlook_at view.now) reached.told.items reached.defaults.items
+            reached.attached)) }
+    {
+        if nodes.len() > MOST {
+            return match all_reached(self.alloc, view, one, two) {
+                Ok(reached) => Ok(Some(reached)),
+                Err(error) => Err(error),
+            };
+        }
+        self.reached_after(lent, view, nodes, one, two)
+    }
+
     /// What is reached where these nodes moved, at these costs; `None` where it is what was reached before.
-    pub(crate) fn reached_after(
+    fn reached_after(
         &self,
         lent: &Lent<'_>,
         view: &View<'_>,
@@ -122,29 +152,88 @@ impl Following {
 /// How many nodes may move before all that is reached is made anew.
 const MOST: usize = 16;
 
-/// A node, and those whose costs in a level aren't what they were; some may be there twice.
+/// The nodes that tell other things, and those whose costs in a level aren't what they were; some may be there twice.
 pub(crate) fn moved(
     alloc: Global,
-    node: NodeId,
-    old: &Repaired,
-    new: &Repaired,
+    told: &Told<'_>,
+    old: (&Repaired, &Repaired),
+    one: &Option<Repaired>,
+    two: &Option<Repaired>,
 ) -> Result<Vec<NodeId>, OutOfMemory>
-    requires { IsId (record { node = node; number = 0 }) }
     ensures ids { IfOk result (λ moved. AreNodes moved.items) }
-    ensures kept { IfOk result (λ moved. AreAmong (node ∷ []) moved.items) }
-    ensures apart { IfOk result (λ moved. CostBeside moved.items old.now.distances new.now.distances) }
+    ensures kept { IfOk result (λ moved. AreAmong (nodes_of told.now) moved.items) }
+    ensures one { IfOk result (λ moved. CostBeside moved.items old.entry.0.now.distances
+        (or_old one.now old.entry.0.now).distances) }
+    ensures two { IfOk result (λ moved. CostBeside moved.items old.entry.1.now.distances
+        (or_old two.now old.entry.1.now).distances) }
+{
+    let mut nodes = told_nodes(alloc, told)?;
+    nodes_law(nodes.as_slice());
+    add_apart(alloc, &mut nodes, old.0, one)?;
+    add_apart(alloc, &mut nodes, old.1, two)?;
+    Ok(nodes)
+}
+
+/// The nodes that tell other things in either level.
+pub(crate) fn told_nodes(alloc: Global, told: &Told<'_>) -> Result<Vec<NodeId>, OutOfMemory>
+    ensures { IfOk result (λ nodes. nodes.items ≡ nodes_of told.now) }
 {
     let mut nodes = Vec::new(alloc);
-    match nodes.push(node) {
-        Ok(()) => {}
-        Err(_) => return Err(OutOfMemory),
+    add_moved(&mut nodes, told.one)?;
+    add_moved(&mut nodes, told.two)?;
+    Ok(nodes)
+}
+
+/// Adds those of a level.
+fn add_moved(nodes: &mut Vec<NodeId>, moved: Option<Moved<'_>>) -> Result<(), OutOfMemory>
+    ensures { OnOk result (nodes.new.items ≡ nodes.old.items ++ nodes_in moved.entry) }
+{
+    let Some(moved) = moved else {
+        return Ok(());
+    };
+    match nodes.extend_from_slice(moved.nodes) {
+        Ok(()) => Ok(()),
+        Err(_) => Err(OutOfMemory),
     }
+}
+
+/// Adds the nodes whose costs aren't what they were, where there are new ones.
+fn add_apart(
+    alloc: Global,
+    nodes: &mut Vec<NodeId>,
+    old: &Repaired,
+    new: &Option<Repaired>,
+) -> Result<(), OutOfMemory>
+    requires { AreNodes nodes.old.items }
+    ensures ids { OnOk result (AreNodes nodes.new.items) }
+    ensures kept { OnOk result (AreAmong nodes.old.items nodes.new.items) }
+    ensures apart { OnOk result (CostBeside nodes.new.items old.now.distances
+        (or_old new.now old.now).distances) }
+{
+    match new {
+        None => Ok(()),
+        Some(new) => add_changed(alloc, nodes, old, new),
+    }
+}
+
+/// Adds the nodes whose costs aren't what they were.
+fn add_changed(
+    alloc: Global,
+    nodes: &mut Vec<NodeId>,
+    old: &Repaired,
+    new: &Repaired,
+) -> Result<(), OutOfMemory>
+    requires { AreNodes nodes.old.items }
+    ensures ids { OnOk result (AreNodes nodes.new.items) }
+    ensures kept { OnOk result (AreAmong nodes.old.items nodes.new.items) }
+    ensures apart { OnOk result (CostBeside nodes.new.items old.now.distances new.now.distances) }
+{
     let numbers = match old.distances().apart(alloc, new.distances()) {
         Ok(numbers) => numbers,
         Err(error) => return Err(error),
     };
-    match add_nodes(&mut nodes, numbers.as_slice()) {
-        Ok(()) => Ok(nodes),
+    match add_nodes(nodes, numbers.as_slice()) {
+        Ok(()) => Ok(()),
         Err(error) => Err(error),
     }
 }

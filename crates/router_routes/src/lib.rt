@@ -10,10 +10,11 @@
 //! - `lent.rt`: what of a router routes look at; `level_graph.rt`: the graph of a level
 //! - `systems.rt`: the systems that a level reaches; `candidates.rt`: what they and the router tell
 //! - `differences.rt`: the rows that two graphs don't share
-//! - `view.rt`: the same where one node's LSPs are read aside; `near.rt`: the rows that start or end at a node
+//! - `told.rt`: what will be told by some nodes; `view.rt`: the same where their LSPs are read aside
+//! - `near.rt`: the rows that start or end at a node; `moving.rt`: a level's costs once some nodes tell other LSPs
 //! - `following.rt`: the value that follows a router's databases; `leaks.rt`: what it leaks
-//! - `ahead.rt`: the value that will follow once one node tells other LSPs; `own_prefixes.rt`: the same once own prefixes
-//!   are others; `kept.rt`: what stays where some nodes moved; `same.rt`: candidates compared
+//! - `ahead.rt`: the value that will follow once this is told; `kept.rt`: what stays where some nodes moved; `same.rt`:
+//!   candidates compared
 //! - `laws.rt`: the plain programs of the definitions are what the routes say
 #![tactic(auto)]
 
@@ -26,11 +27,13 @@ pub mod laws;
 mod leaks;
 mod lent;
 mod level_graph;
+mod moving;
 mod near;
-mod own_prefixes;
 mod same;
 mod systems;
+mod told;
 mod view;
 
 pub use following::Following;
 pub use lent::Lent;
+pub use told::{Moved, Told};

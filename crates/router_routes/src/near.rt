@@ -7,9 +7,10 @@ ghost use Rattle.spf_tree.specs.Nodes.{node_number};
 ghost use Rattle.spf_tree.specs.Graphs.{is_overloaded};
 ghost use Rattle.lsp_view.specs.Views.{rows_in, overloaded_in};
 ghost use Rattle.router_routes.specs.Told.{told_in};
-ghost use Rattle.router_routes.specs.Moved.{HaveIds, told_with};
+ghost use Rattle.router_routes.specs.Moved.{IsFit, IsListing, told_of, told_with};
 ghost use Rattle.router_routes.specs.Near.{touches, rows_from, rows_to, other_ends, is_first, once_each, AreEnds, near_rows, near_overloaded, IsNear};
 
+use crate::view::{LevelView, store_at};
 use isis_base::laws::lsp_id_law;
 use isis_base::{LspId, NodeId, OutOfMemory};
 use lsp_store::Store;
@@ -19,25 +20,25 @@ use spf_tree::{Graph, Row, usable};
 use std::alloc::Global;
 
 /// The graph of the rows that may be walked and that start or end at a node, where its LSPs are those
-/// aside, and all others those of a database. It reads the LSPs of the node and of its neighbours
+/// aside, and all others are read as before. It reads the LSPs of the node and of its neighbours
 /// alone.
 pub(crate) fn graph_near(
     alloc: Global,
-    store: &Store,
+    before: &LevelView<'_>,
     node: NodeId,
     aside: &Store,
     root: NodeId,
 ) -> Result<Graph, OutOfMemory>
-    requires store { HaveIds store.now.entries }
-    requires aside { HaveIds aside.now.entries }
+    requires fit { IsFit before.now }
+    requires told { IsListing (told_of before.now) }
     ensures { IfOk result (λ graph. IsNear
-        (told_with node (told_in store.now.entries) (told_in aside.now.entries)) root node graph) }
+        (told_with node (told_of before.now) (told_in aside.now.entries)) root node graph) }
 {
-    let _entries = store.len();
+    let _aside = aside.len();
     let mut rows = rows_from(alloc, aside, node)?;
     let ends = ends_beside(alloc, rows.as_slice(), number(node))?;
-    add_rows_to(alloc, &mut rows, store, number(node), ends.as_slice())?;
-    let nodes = overloaded_near(alloc, store, node, aside, ends.as_slice())?;
+    add_rows_to(alloc, &mut rows, before, number(node), ends.as_slice())?;
+    let nodes = overloaded_near(alloc, before, node, aside, ends.as_slice())?;
     if rows.len() > 0xffff_ffff {
         return Err(OutOfMemory);
     }
@@ -69,7 +70,6 @@ fn touches(node: u64, row: &Row) -> bool
 
 /// The rows that a node lists.
 fn rows_from(alloc: Global, store: &Store, node: NodeId) -> Result<Vec<Row>, OutOfMemory>
-    requires { HaveIds store.now.entries }
     ensures { IfOk result (λ rows. rows.items
         ≡ rows_from (node_number node) (rows_in (told_in store.now.entries))) }
 {
@@ -78,9 +78,29 @@ fn rows_from(alloc: Global, store: &Store, node: NodeId) -> Result<Vec<Row>, Out
     rows_at(alloc, store, node)
 }
 
+/// The rows that a node lists, where its LSPs are read.
+fn rows_read(alloc: Global, level: &LevelView<'_>, node: NodeId) -> Result<Vec<Row>, OutOfMemory>
+    requires fit { IsFit level.now }
+    requires told { IsListing (told_of level.now) }
+    ensures { IfOk result (λ rows. rows.items
+        ≡ rows_from (node_number node) (rows_in (told_of level.now))) }
+{
+    let store = store_at(level, node);
+    let _entries = store.len();
+    rows_from(alloc, store, node)
+}
+
+/// Whether a node is overloaded, where its LSPs are read.
+fn is_over_read(level: &LevelView<'_>, node: NodeId) -> bool
+    requires fit { IsFit level.now }
+    ensures { result ≡ is_overloaded (overloaded_in (told_of level.now)) (node_number node) }
+{
+    let store = store_at(level, node);
+    is_over(store, node)
+}
+
 /// Whether a node is overloaded.
 fn is_over(store: &Store, node: NodeId) -> bool
-    requires { HaveIds store.now.entries }
     ensures { result
         ≡ is_overloaded (overloaded_in (told_in store.now.entries)) (node_number node) }
 {
@@ -153,16 +173,17 @@ fn is_first(node: NodeId, nodes: &[NodeId]) -> bool
 fn add_rows_to(
     alloc: Global,
     rows: &mut Vec<Row>,
-    store: &Store,
+    before: &LevelView<'_>,
     node: u64,
     ends: &[NodeId],
 ) -> Result<(), OutOfMemory>
-    requires { HaveIds store.now.entries }
+    requires fit { IsFit before.now }
+    requires told { IsListing (told_of before.now) }
     ensures { OnOk result (rows.new.items
-        ≡ near_rows node rows.old.items ends.now (rows_in (told_in store.now.entries))) }
+        ≡ near_rows node rows.old.items ends.now (rows_in (told_of before.now))) }
 {
     for end in ends {
-        let listed = match rows_from(alloc, store, *end) {
+        let listed = match rows_read(alloc, before, *end) {
             Ok(listed) => listed,
             Err(error) => return Err(error),
         };
@@ -193,26 +214,24 @@ fn add_leading(rows: &mut Vec<Row>, listed: &[Row], node: u64) -> Result<(), Out
 #[tactic(auto, unfolding(crate::specs::Near::near_overloaded))]
 fn overloaded_near(
     alloc: Global,
-    store: &Store,
+    before: &LevelView<'_>,
     node: NodeId,
     aside: &Store,
     ends: &[NodeId],
 ) -> Result<Vec<NodeId>, OutOfMemory>
-    requires store { HaveIds store.now.entries }
-    requires aside { HaveIds aside.now.entries }
+    requires { IsFit before.now }
     ensures { IfOk result (λ nodes. nodes.items ≡ near_overloaded node
         (is_overloaded (overloaded_in (told_in aside.now.entries)) (node_number node)) ends.now
-        (overloaded_in (told_in store.now.entries))) }
+        (overloaded_in (told_of before.now))) }
 {
     let mut nodes = Vec::new(alloc);
     add_overloaded(&mut nodes, aside, node)?;
-    add_all_overloaded(&mut nodes, store, ends)?;
+    add_all_overloaded(&mut nodes, before, ends)?;
     Ok(nodes)
 }
 
 /// Adds a node where it is overloaded.
 fn add_overloaded(nodes: &mut Vec<NodeId>, store: &Store, node: NodeId) -> Result<(), OutOfMemory>
-    requires { HaveIds store.now.entries }
     ensures { OnOk result (nodes.new.items ≡ nodes.old.items
         ++ (if is_overloaded (overloaded_in (told_in store.now.entries)) (node_number node)
         then node ∷ [] else [])) }
@@ -229,15 +248,15 @@ fn add_overloaded(nodes: &mut Vec<NodeId>, store: &Store, node: NodeId) -> Resul
 /// Adds those of some nodes that are overloaded.
 fn add_all_overloaded(
     nodes: &mut Vec<NodeId>,
-    store: &Store,
+    before: &LevelView<'_>,
     ends: &[NodeId],
 ) -> Result<(), OutOfMemory>
-    requires { HaveIds store.now.entries }
+    requires { IsFit before.now }
     ensures { OnOk result (nodes.new.items ≡ nodes.old.items ++ filter (λ (end : node_id.NodeId).
-        is_overloaded (overloaded_in (told_in store.now.entries)) (node_number end)) ends.now) }
+        is_overloaded (overloaded_in (told_of before.now)) (node_number end)) ends.now) }
 {
     for end in ends {
-        if is_over(store, *end) {
+        if is_over_read(before, *end) {
             match nodes.push(*end) {
                 Ok(()) => {}
                 Err(_) => return Err(OutOfMemory),

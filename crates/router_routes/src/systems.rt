@@ -1,8 +1,6 @@
 //! The systems that a level reaches (ISO 10589 C.2), and whether one of them is in another area.
 ghost use Rattle.std.specs.Prelude.{[], ◌≡◌, ◌++◌, map, IfOk, OnOk};
 ghost use Rattle.std.specs.List.{flat_map};
-ghost use Rattle.isis_base.specs.Identifiers.{lsp_number};
-ghost use Rattle.lsp_store.specs.Maps.{between};
 ghost use Rattle.lsp_store.specs.declared.entry.Entry as entry;
 ghost use Rattle.spf_tree.specs.Nodes.{node_number};
 ghost use Rattle.spf_tree.specs.Graphs.{AreUsable};
@@ -10,23 +8,21 @@ ghost use Rattle.spf_tree.specs.Distances.{cost_at};
 ghost use Rattle.lsp_view.specs.Views.{own_node, rows_in, overloaded_in, lead_of, areas_at};
 ghost use Rattle.route_leaking.specs.Attachment.{is_attached};
 ghost use Rattle.router_routes.specs.Told.{told_in};
-ghost use Rattle.router_routes.specs.Moved.{HaveIds, IsFit, told_of, told_at, told_before, told_past};
+ghost use Rattle.router_routes.specs.Moved.{IsFit, NodesRise, is_one, told_by_nodes, told_of};
 ghost use Rattle.router_routes.specs.Outlooks.{where_run};
 ghost use Rattle.router_routes.specs.Candidates.{leads_other, reached_by, reached_in};
-ghost use Rattle.router_routes.specs.Kept.{system_at, systems_among};
+ghost use Rattle.router_routes.specs.Kept.{AreSame, system_at, systems_among};
 
-use crate::view::{LevelView, store_of};
-use isis_base::laws::lsp_id_law;
+use crate::view::{LevelView, is_one, store_of};
 use isis_base::{AreaAddress, LspId, NodeId, OutOfMemory, SystemId};
 use lsp_store::Store;
-use lsp_view::{area_list, is_live};
+use lsp_view::area_list;
 use spf_repair::Repaired;
 use spf_tree::Distances;
 use spf_tree::parts::number;
 use std::alloc::Global;
 
-/// The systems that a level reaches beside the root, each with its cost, in order; none where it isn't
-/// run.
+/// The systems that a level reaches beside the root, each with its cost, in any order; none where it isn't run.
 pub(crate) fn level_systems(
     alloc: Global,
     runs: bool,
@@ -37,8 +33,8 @@ pub(crate) fn level_systems(
     requires graph { AreUsable (rows_in (where_run runs (told_of told.now)))
         (overloaded_in (where_run runs (told_of told.now))) repaired.now.root
         repaired.now.graph }
-    ensures { IfOk result (λ list. list.items
-        ≡ reached_in (where_run runs (told_of told.now)) repaired.now.root) }
+    ensures { IfOk result (λ list. AreSame list.items
+        (reached_in (where_run runs (told_of told.now)) repaired.now.root)) }
 {
     if !runs {
         return Ok(Vec::new(alloc));
@@ -46,7 +42,7 @@ pub(crate) fn level_systems(
     reached(alloc, told, repaired.distances(), repaired.graph().root())
 }
 
-/// The systems beside the root whose live number 0 is held, and that have a distance.
+/// The systems beside the root whose live number 0 is held, and that have a distance, in any order.
 fn reached(
     alloc: Global,
     told: &LevelView<'_>,
@@ -54,20 +50,19 @@ fn reached(
     root: NodeId,
 ) -> Result<Vec<(SystemId, u64)>, OutOfMemory>
     requires { IsFit told.now }
-    ensures { IfOk result (λ list. list.items
-        ≡ flat_map (reached_by (cost_at distances.now) (node_number root)) (told_of told.now)) }
+    ensures { IfOk result (λ list. AreSame list.items
+        (flat_map (reached_by (cost_at distances.now) (node_number root)) (told_of told.now))) }
 {
     let mut list = with_room(alloc, told.store.len())?;
     let start = number(root);
     match told.moved {
-        None => match add_live(&mut list, told.store, distances, start) {
+        None => match add_those(&mut list, told.store, &[], false, distances, start) {
             Ok(()) => Ok(list),
             Err(error) => Err(error),
         },
         Some(moved) => {
-            add_before(&mut list, told.store, moved.node, distances, start)?;
-            add_at(&mut list, moved.aside, moved.node, distances, start)?;
-            add_past(&mut list, told.store, moved.node, distances, start)?;
+            add_those(&mut list, told.store, moved.nodes, false, distances, start)?;
+            add_those(&mut list, moved.aside, moved.nodes, true, distances, start)?;
             Ok(list)
         }
     }
@@ -83,111 +78,22 @@ fn with_room(alloc: Global, lsps: usize) -> Result<Vec<(SystemId, u64)>, OutOfMe
     }
 }
 
-/// Adds those of a database.
-fn add_live(
+/// Adds those of a database that are among some nodes, or that are beside them.
+fn add_those(
     list: &mut Vec<(SystemId, u64)>,
     store: &Store,
+    nodes: &[NodeId],
+    there: bool,
     distances: &Distances,
     root: u64,
 ) -> Result<(), OutOfMemory>
+    requires { NodesRise 0 nodes.now }
     ensures { OnOk result (list.new.items ≡ list.old.items
-        ++ flat_map (reached_by (cost_at distances.now) root) (told_in store.now.entries)) }
+        ++ flat_map (reached_by (cost_at distances.now) root)
+        (told_by_nodes (is_one there nodes.now) (told_in store.now.entries))) }
 {
     for (id, _) in store.live() {
-        match add_reached(list, id, distances, root) {
-            Ok(()) => {}
-            Err(error) => return Err(error),
-        }
-    }
-    Ok(())
-}
-
-/// Adds those before a node.
-fn add_before(
-    list: &mut Vec<(SystemId, u64)>,
-    store: &Store,
-    node: NodeId,
-    distances: &Distances,
-    root: u64,
-) -> Result<(), OutOfMemory>
-    requires { HaveIds store.now.entries }
-    ensures { OnOk result (list.new.items ≡ list.old.items
-        ++ flat_map (reached_by (cost_at distances.now) root)
-        (told_before node (told_in store.now.entries))) }
-{
-    lsp_id_law(LspId { node, number: 0 });
-    match number(node).checked_sub(1) {
-        None => Ok(()),
-        Some(last) => {
-            add_span(
-                list,
-                store,
-                LspId::from_number(0),
-                LspId::from_number(last),
-                distances,
-                root,
-            )
-        }
-    }
-}
-
-/// Adds the one that a node is.
-fn add_at(
-    list: &mut Vec<(SystemId, u64)>,
-    store: &Store,
-    node: NodeId,
-    distances: &Distances,
-    root: u64,
-) -> Result<(), OutOfMemory>
-    requires { HaveIds store.now.entries }
-    ensures { OnOk result (list.new.items ≡ list.old.items
-        ++ flat_map (reached_by (cost_at distances.now) root)
-        (told_at node (told_in store.now.entries))) }
-{
-    let (first, last) = (LspId { node, number: 0 }, LspId { node, number: 255 });
-    lsp_id_law(last);
-    add_span(list, store, first, last, distances, root)
-}
-
-/// Adds those past a node.
-fn add_past(
-    list: &mut Vec<(SystemId, u64)>,
-    store: &Store,
-    node: NodeId,
-    distances: &Distances,
-    root: u64,
-) -> Result<(), OutOfMemory>
-    requires { HaveIds store.now.entries }
-    ensures { OnOk result (list.new.items ≡ list.old.items
-        ++ flat_map (reached_by (cost_at distances.now) root)
-        (told_past node (told_in store.now.entries))) }
-{
-    let last = LspId { node, number: 255 };
-    lsp_id_law(last);
-    match last.to_number().checked_add(1) {
-        None => Ok(()),
-        Some(first) => {
-            let (first, end) = (LspId::from_number(first), LspId::from_number(u64::MAX));
-            add_span(list, store, first, end, distances, root)
-        }
-    }
-}
-
-/// Adds those from one LSP ID to another.
-fn add_span(
-    list: &mut Vec<(SystemId, u64)>,
-    store: &Store,
-    first: LspId,
-    last: LspId,
-    distances: &Distances,
-    root: u64,
-) -> Result<(), OutOfMemory>
-    ensures { OnOk result (list.new.items ≡ list.old.items
-        ++ flat_map (reached_by (cost_at distances.now) root)
-        (told_in (between (lsp_number first) (lsp_number last) store.now.entries))) }
-{
-    for (id, entry) in store.range(first, last) {
-        if is_live(entry) {
+        if is_one(there, nodes, number(id.node)) {
             match add_reached(list, id, distances, root) {
                 Ok(()) => {}
                 Err(error) => return Err(error),

@@ -1,32 +1,20 @@
-//! What routes look at, where what one node tells in one level may be read elsewhere (own).
-ghost use Rattle.std.specs.Prelude.{◌≡◌, ◌∷◌, [], true};
-ghost use Rattle.isis_base.specs.declared.level.Level.TheVariants as level;
-ghost use Rattle.model_datagram.specs.Reading.{runs_of};
-ghost use Rattle.model_router.specs.Both.{at};
-ghost use Rattle.spf_repair.specs.Changes.{RepairedOf};
-ghost use Rattle.router_routes.specs.Following.{IsLevel};
+//! What routes look at, where what some nodes tell is read elsewhere (own).
+ghost use Rattle.std.specs.Prelude.{◌≡◌, IfSome, MatchOption};
 ghost use Rattle.lsp_view.specs.Views.{own_node, lead_of, reach_in};
-ghost use Rattle.lsp_store.specs.Maps.{RisesFrom};
-ghost use Rattle.router_routes.specs.Kept.{AreBeside};
 ghost use Rattle.router_routes.specs.Told.{told_in};
+ghost use Rattle.router_routes.specs.Kept.{AreBeside};
 ghost use Rattle.router_routes.specs.Outlooks.{Outlook, outlook_in};
-ghost use Rattle.router_routes.specs.Moved.{IsMovedAt, HaveIds, FitMoved, IsFit, AreFit, AreCosts, beside, entries_at, told_of, told_with, outlook_by, outlook_at};
+ghost use Rattle.router_routes.specs.Moved.{AreFit, AreMoved, AreNodes, AreViewed, IsAside, IsFit, IsInOrder, NodesRise, is_among, is_one, nodes_of, told_at, told_of, outlook_at};
 
 use crate::candidates::own_node;
 use crate::lent::Lent;
+use crate::told::{Moved, Told};
 use isis_base::laws::lsp_id_law;
-use isis_base::{AreaAddress, Level, LevelSet, LspId, NodeId, Prefix, SystemId};
+use isis_base::{AreaAddress, LevelSet, LspId, NodeId, Prefix, SystemId};
 use lsp_store::Store;
 use spf_tree::parts::number;
 
-/// A node, and a database that holds what its LSPs will be.
-#[derive(Clone, Copy)]
-pub(crate) struct Moved<'a> {
-    pub node: NodeId,
-    pub aside: &'a Store,
-}
-
-/// The database of a level, where the LSPs of one node may be read in another one.
+/// The database of a level, where the LSPs of some nodes may be read in another one.
 #[derive(Clone, Copy)]
 pub(crate) struct LevelView<'a> {
     pub store: &'a Store,
@@ -45,47 +33,10 @@ pub(crate) struct View<'a> {
 }
 
 /// A router as it is.
-#[tactic(auto, unfolding(crate::specs::Moved::outlook_by, crate::specs::Outlooks::outlook_in))]
+#[tactic(auto, unfolding(crate::specs::Moved::outlook_at, crate::specs::Outlooks::outlook_in))]
 pub(crate) fn as_lent<'a>(lent: &Lent<'a>) -> View<'a>
     ensures same { outlook_at result ≡ outlook_in lent.now }
     ensures fit { AreFit result }
-{
-    view_of(lent, None, None)
-}
-
-/// A router where one node tells in one level what its LSPs will be.
-pub(crate) fn as_moved<'a>(
-    lent: &Lent<'a>,
-    level: Level,
-    node: NodeId,
-    aside: &'a Store,
-) -> View<'a>
-    requires store { HaveIds (entries_at lent.now level) }
-    requires aside { HaveIds aside.now.entries }
-    ensures same { (o : Outlook) → IsMovedAt (outlook_in lent.now) o level node
-        (told_in aside.now.entries) → o ≡ outlook_at result }
-    ensures level { (costs : RepairedOf) → at (runs_of lent.now.levels) level ≡ true
-        → AreCosts (told_with node (told_in (entries_at lent.now level)) (told_in aside.now.entries))
-        (own_node lent.now.system) costs → IsLevel (outlook_at result) level costs }
-    ensures other { (costs : RepairedOf) → IsLevel (outlook_in lent.now) (beside level) costs
-        → IsLevel (outlook_at result) (beside level) costs }
-    ensures fit { AreFit result }
-    ensures beside { RisesFrom 0 (entries_at lent.now level)
-        → AreBeside (node ∷ []) (outlook_in lent.now) (outlook_at result) }
-{
-    let moved = Moved { node, aside };
-    match level {
-        Level::One => view_of(lent, Some(moved), None),
-        Level::Two => view_of(lent, None, Some(moved)),
-    }
-}
-
-/// A router where nodes of its levels may be read elsewhere.
-#[tactic(auto, unfolding(crate::specs::Moved::outlook_by, crate::specs::Moved::outlook_at))]
-fn view_of<'a>(lent: &Lent<'a>, one: Option<Moved<'a>>, two: Option<Moved<'a>>) -> View<'a>
-    ensures same { outlook_at result ≡ outlook_by lent.now one.entry two.entry }
-    ensures fit { FitMoved lent.now.one.now.entries one.entry
-        → FitMoved lent.now.two.now.entries two.entry → AreFit result }
 {
     View {
         system: lent.system,
@@ -94,12 +45,86 @@ fn view_of<'a>(lent: &Lent<'a>, one: Option<Moved<'a>>, two: Option<Moved<'a>>) 
         prefixes: lent.prefixes,
         one: LevelView {
             store: lent.one,
-            moved: one,
+            moved: None,
         },
         two: LevelView {
             store: lent.two,
-            moved: two,
+            moved: None,
         },
+    }
+}
+
+/// A router where this will be told.
+pub(crate) fn as_told<'a>(lent: &Lent<'a>, told: &Told<'a>) -> View<'a>
+    requires one { IsInOrder told.now.one }
+    requires two { IsInOrder told.now.two }
+    ensures same { (o : Outlook) → AreMoved (outlook_in lent.now) o told.now → o ≡ outlook_at result }
+    ensures viewed { AreViewed lent.now told.now result }
+    ensures fit { AreFit result }
+    ensures beside { AreBeside (nodes_of told.now) (outlook_in lent.now) (outlook_at result) }
+{
+    let _one = lent.one.len();
+    let _two = lent.two.len();
+    moved_law(told.one);
+    moved_law(told.two);
+    view_of(lent, told)
+}
+
+/// What is known of nodes that tell other things. It does nothing.
+fn moved_law(moved: Option<Moved<'_>>)
+    ensures { IfSome moved.entry (λ m. IsAside m) }
+{
+    match moved {
+        Some(moved) => {
+            let _aside = moved.aside.len();
+            nodes_law(moved.nodes);
+        }
+        None => {}
+    }
+}
+
+/// Nodes have seven octets. It does nothing.
+pub(crate) fn nodes_law(nodes: &[NodeId])
+    ensures { AreNodes nodes.now }
+{
+    let mut left = nodes;
+    while let [first, more @ ..] = left {
+        lsp_id_law(LspId {
+            node: *first,
+            number: 0,
+        });
+        left = more;
+    }
+}
+
+/// The parts of a router where this will be told.
+fn view_of<'a>(lent: &Lent<'a>, told: &Told<'a>) -> View<'a>
+    ensures { AreViewed lent.now told.now result }
+{
+    View {
+        system: lent.system,
+        areas: lent.areas,
+        levels: lent.levels,
+        prefixes: prefixes_after(lent, told),
+        one: LevelView {
+            store: lent.one,
+            moved: told.one,
+        },
+        two: LevelView {
+            store: lent.two,
+            moved: told.two,
+        },
+    }
+}
+
+/// The prefixes that are told, or else those that are.
+fn prefixes_after<'a>(lent: &Lent<'a>, told: &Told<'a>) -> &'a [(Prefix, u32)]
+    ensures { MatchOption told.now.prefixes (result.now ≡ lent.now.prefixes.now)
+        (λ prefixes. result.now ≡ prefixes.now) }
+{
+    match told.prefixes {
+        Some(prefixes) => prefixes,
+        None => lent.prefixes,
     }
 }
 
@@ -113,15 +138,45 @@ pub(crate) fn store_of<'a>(level: &LevelView<'a>, system: SystemId) -> &'a Store
 {
     let node = own_node(system);
     lsp_id_law(LspId { node, number: 255 });
+    let store = store_at(level, node);
     let _entries = level.store.len();
+    let _its = store.len();
+    store
+}
+
+/// Where the LSPs of a node are read.
+pub(crate) fn store_at<'a>(level: &LevelView<'a>, node: NodeId) -> &'a Store
+    requires { IsFit level.now }
+    ensures { told_at node (told_in result.now.entries) ≡ told_at node (told_of level.now) }
+{
     match level.moved {
         Some(moved) => {
-            if number(moved.node) == number(node) {
+            if is_there(moved.nodes, number(node)) {
                 moved.aside
             } else {
                 level.store
             }
         }
         None => level.store,
+    }
+}
+
+/// Whether the node of a number is among these, which stand in order, or whether it is beside them.
+pub(crate) fn is_one(there: bool, nodes: &[NodeId], node: u64) -> bool
+    requires { NodesRise 0 nodes.now }
+    ensures { result ≡ is_one there nodes.now node }
+{
+    let is = is_there(nodes, node);
+    if there { is } else { !is }
+}
+
+/// Whether the node of a number is one of these, which stand in order.
+fn is_there(nodes: &[NodeId], node: u64) -> bool
+    requires { NodesRise 0 nodes.now }
+    ensures { result ≡ is_among nodes.now node }
+{
+    match nodes.binary_search_by_key(&node, |one| number(*one)) {
+        Ok(_) => true,
+        Err(_) => false,
     }
 }

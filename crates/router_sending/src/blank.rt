@@ -3,8 +3,9 @@ ghost use Rattle.std.specs.Prelude.{◌≡◌, ◌+◌, ◌≤◌, ◌++◌, len
 ghost use Rattle.router_sending.specs.Drafts.{lsp_octets_with};
 
 use crate::draft::MAX_AGE;
-use crate::places::{HEADER, LENGTH, write_at};
+use crate::places::{LENGTH, write_at};
 use isis_base::laws::lsp_id_law;
+use isis_base::numbers::LSP_HEADER;
 use isis_base::{Level, LspId, Octets, OutOfMemory};
 use isis_pdu::{Pdu, encode};
 use std::alloc::Global;
@@ -38,7 +39,7 @@ pub(crate) fn blank(
         tlvs: &[],
     };
     let mut octets = encode(alloc, &pdu)?;
-    let size = (HEADER + auth.len() + tlvs.len()) as u16;
+    let size = (LSP_HEADER + auth.len() + tlvs.len()) as u16;
     write_at(&mut octets, LENGTH, &size.to_be_bytes());
     octets.extend(auth)?;
     octets.extend(tlvs)?;

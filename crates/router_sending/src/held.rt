@@ -8,8 +8,9 @@ ghost use Rattle.flag_sync.specs.declared.flag_row.FlagRow.{FlagRow};
 ghost use Rattle.flag_sync.specs.FlagRows.{cell_of};
 ghost use Rattle.router_sending.specs.Held.{IsHeader, IsPuttable, unsigned_purge};
 
-use crate::places::{DIGEST, HEADER, LENGTH, LIFETIME, write_at};
+use crate::places::{DIGEST, LENGTH, write_at};
 use hmac_auth::sign_pdu;
+use isis_base::numbers::{LSP_HEADER, LSP_LIFETIME};
 use isis_base::{Octets, OutOfMemory};
 use lsp_store::Entry;
 
@@ -58,7 +59,7 @@ fn put_live(out: &mut Octets, entry: &Entry) -> Result<(), OutOfMemory>
 {
     out.extend(entry.octets.as_slice())?;
     let start = out.len() - entry.octets.len();
-    write_at(out, start + LIFETIME, &entry.left.to_be_bytes());
+    write_at(out, start + LSP_LIFETIME, &entry.left.to_be_bytes());
     Ok(())
 }
 
@@ -91,7 +92,7 @@ fn unsigned(header: &[u8]) -> [u8; SIGNED]
     ensures { result ≡ unsigned_purge header.now }
 {
     let mut purge = UNSIGNED;
-    purge[..HEADER].copy_from_slice(header);
+    purge[..LSP_HEADER].copy_from_slice(header);
     purge[LENGTH] = 0;
     purge[LENGTH + 1] = 46;
     purge

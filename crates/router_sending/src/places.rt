@@ -9,26 +9,15 @@ ghost use Rattle.router_sending.specs.Drafts.{with_digest};
 use hmac_auth::sign_pdu;
 use isis_base::Octets;
 use isis_base::fields::u16_at;
+use isis_base::numbers::{LSP_CHECKSUM, LSP_SUMMED};
 use iso_checksum::fill;
 use model_datagram::laws::checksum_law;
-
-/// The number of octets of an LSP's header (ISO 10589 9.8).
-pub(crate) const HEADER: usize = 27;
 
 /// The place of the PDU length (ISO 10589 9.8).
 pub(crate) const LENGTH: usize = 8;
 
-/// The place of the remaining lifetime (ISO 10589 9.8).
-pub(crate) const LIFETIME: usize = 10;
-
-/// The place of the LSP ID, from which on the checksum counts (ISO 10589 7.3.11).
-const SUMMED: usize = 12;
-
 /// The place of the sequence number (ISO 10589 9.8).
 pub(crate) const NUMBER: usize = 20;
-
-/// The place of the checksum (ISO 10589 9.8).
-const CHECKSUM: usize = 24;
 
 /// The place of the digest, which the first TLV has (RFC 5304 2).
 pub(crate) const DIGEST: usize = 30;
@@ -62,9 +51,9 @@ pub(crate) fn sign(octets: &mut Octets, key: Option<&[u8]>)
 
 /// Writes the checksum, and answers it.
 pub(crate) fn sum(octets: &mut Octets) -> u16
-    requires header { HEADER ≤ length octets.old }
+    requires header { 27 ≤ length octets.old }
     requires short { length octets.old ≤ 65535 }
-    requires blank { with_checksum CHECKSUM 0 octets.old ≡ octets.old }
+    requires blank { with_checksum 24 0 octets.old ≡ octets.old }
     ensures sum { result ≡ checksum_with (drop 12 octets.old) (length octets.old - 25) }
     ensures octets { octets.new ≡ with_checksum 24 result octets.old }
 {
@@ -73,13 +62,13 @@ pub(crate) fn sum(octets: &mut Octets) -> u16
 
 /// The same of octets that are lent.
 fn sum_octets(octets: &mut [u8]) -> u16
-    requires header { HEADER ≤ length octets.old }
+    requires header { 27 ≤ length octets.old }
     requires short { length octets.old ≤ 65535 }
-    requires blank { with_checksum CHECKSUM 0 octets.old ≡ octets.old }
+    requires blank { with_checksum 24 0 octets.old ≡ octets.old }
     ensures sum { result ≡ checksum_with (drop 12 octets.old) (length octets.old - 25) }
     ensures octets { octets.new ≡ with_checksum 24 result octets.old }
 {
     checksum_law();
-    fill(&mut octets[SUMMED..], CHECKSUM - SUMMED);
-    u16_at(octets, CHECKSUM)
+    fill(&mut octets[LSP_SUMMED..], LSP_CHECKSUM - LSP_SUMMED);
+    u16_at(octets, LSP_CHECKSUM)
 }

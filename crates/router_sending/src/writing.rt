@@ -9,13 +9,11 @@ ghost use Rattle.router_sending.specs.Writing.{frame_of, sized, digested, ended,
 
 use crate::blank::BLANK_AUTH;
 use hmac_auth::sign_pdu;
+use isis_base::numbers::FRAME;
 use isis_base::{Octets, OutOfMemory, PduKind, Snpa, SystemId};
 use isis_edge::wrap;
 use isis_pdu::{Pdu, encode};
 use std::alloc::Global;
-
-/// The octets of the frame.
-const FRAME: usize = 14;
 
 /// The frame, a header without TLVs, and, where it is to be signed, the room for the digest.
 pub(crate) fn begin(

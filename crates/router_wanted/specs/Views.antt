@@ -7,7 +7,7 @@ use Rattle.isis_tlv.specs.declared.neighbour.NeighbourItem.{NeighbourItem}
 use Rattle.model_router.specs.Routers.{Contents}
 use Rattle.lsp_fragments.specs.declared.content.Content.{Content}
 use Rattle.lsp_fragments.specs.Entries.{node_and_metric}
-use Rattle.router_desk.specs.Configs.{prefix_number}
+use Rattle.isis_base.specs.Prefixes.{prefix_number}
 use Rattle.router_wanted.specs.declared.wanted.Wanted.{Wanted}
 
 -- a prefix with its metric: 64 times its address plus its length, and the metric (own)

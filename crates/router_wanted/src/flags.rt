@@ -9,13 +9,8 @@ ghost use Rattle.router_wanted.specs.Lent.{config_of, given_of, router_of};
 
 use crate::wants::Wants;
 use isis_base::Level;
+use isis_base::numbers::{ATTACHED, OVERLOAD};
 use model_datagram::runs;
-
-/// Overload (ISO 10589 9.8).
-const OVERLOAD: u8 = 4;
-
-/// Attached, by the default metric (ISO 10589 9.8).
-const ATTACHED: u8 = 8;
 
 /// The IS type: 1 of a router of level 1 alone, else 3.
 pub(crate) fn is_type(base: &Wants<'_>) -> u8

@@ -3,13 +3,14 @@ ghost use Rattle.std.specs.Prelude.{◌≡◌, map, IfOk, OnOk};
 ghost use Rattle.model_router.specs.LspPrefixes.{own_reach, with_leaks};
 ghost use Rattle.model_router.specs.Sorted.{RisesFrom};
 ghost use Rattle.lsp_fragments.specs.Entries.{reach_pair};
-ghost use Rattle.router_desk.specs.Configs.{prefix_number};
+ghost use Rattle.isis_base.specs.Prefixes.{prefix_number};
 ghost use Rattle.router_wanted.specs.Parts.{IsSpot, is_down, is_leaked_into, leaked_or, with_leak};
 ghost use Rattle.router_wanted.specs.Views.{prefix_pair};
 
 use crate::wants::Wants;
 use isis_base::{Level, LevelSet, OutOfMemory, Prefix};
 use isis_tlv::PrefixItem;
+use ordered::place_of;
 use std::alloc::Global;
 
 /// The prefixes of a level: one's own, and those that are leaked into it (RFC 5302 3), by address
@@ -121,16 +122,8 @@ fn gap_of(list: &[PrefixItem], prefix: Prefix) -> Option<usize>
     requires { RisesFrom 0 (map reach_pair list.now) }
     ensures { IsSpot list.now (prefix_number prefix) result }
 {
-    let wanted = number(prefix);
-    match list.binary_search_by_key(&wanted, |item| number(item.prefix)) {
+    match place_of(list, prefix.to_number()) {
         Ok(_) => None,
         Err(place) => Some(place),
     }
-}
-
-/// A prefix as a number: 64 times its address plus its length.
-fn number(prefix: Prefix) -> u64
-    ensures { result ≡ prefix_number prefix }
-{
-    64 * u64::from(prefix.address()) + u64::from(prefix.length())
 }

@@ -8,12 +8,14 @@ ghost use Rattle.flag_sync.specs.Said.{said_keys};
 ghost use Rattle.flag_sync.specs.BookStates.{book_of};
 ghost use Rattle.snp_exchange.specs.Pieces.{sent};
 
-use crate::entries::Entries;
 use crate::piece_walk::{EntryWalk, PieceWalk};
 use crate::pieces::csnp_pieces;
 use flag_sync::Book;
-use isis_base::{LspId, OutOfMemory};
+use isis_base::{List, LspEntry, LspId, OutOfMemory};
 use std::alloc::Global;
+
+/// The entries of a sequence number PDU.
+pub type Entries = List<LspEntry>;
 
 /// A CSNP of a set: the first and the last LSP ID of its range, and what is said in it (ISO 10589
 /// 9.10).

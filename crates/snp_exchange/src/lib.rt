@@ -6,21 +6,18 @@
 //! the memory of what they list.
 //!
 //! - `pieces.rt`: the CSNP set piece by piece; `piece_walk.rt`: a piece, and its entries
-//! - `csnp.rt`: the CSNP set as a list; `psnp.rt`: what PSNPs list; `entries.rt`: a growing list of
-//!   entries
+//! - `csnp.rt`: the CSNP set as a list; `psnp.rt`: what PSNPs list
 //! - `sweep.rt`: which LSP IDs the ranges of CSNPs cover; `ranges.rt`: ranges in order
 #![tactic(auto)]
 
 mod csnp;
-mod entries;
 mod piece_walk;
 mod pieces;
 mod psnp;
 mod ranges;
 mod sweep;
 
-pub use csnp::{Piece, csnp_set};
-pub use entries::Entries;
+pub use csnp::{Entries, Piece, csnp_set};
 pub use piece_walk::{EntryWalk, PieceWalk};
 pub use pieces::{CsnpPieces, csnp_pieces};
 pub use psnp::psnp_lists;

@@ -9,10 +9,10 @@ ghost use Rattle.flag_sync.specs.Said.{said_keys};
 ghost use Rattle.flag_sync.specs.BookStates.{book_of};
 ghost use Rattle.snp_exchange.specs.PieceLists.{said_sent, first_said};
 
-use crate::entries::MOST;
 use crate::piece_walk::{EntryWalk, PieceWalk};
 use flag_sync::{Book, Keys};
 use isis_base::LspId;
+use isis_base::numbers::SNP_ENTRIES;
 use std::marker::Model;
 
 /// The CSNP set of a book (ISO 10589 7.3.15.3), piece by piece: the keys that are held by LSP ID,
@@ -113,7 +113,7 @@ fn pass_piece(keys: &mut Keys<'_>) -> Passed
 {
     let mut count = 0usize;
     let mut last = LspId::from_number(0);
-    while count < MOST {
+    while count < SNP_ENTRIES {
         match keys.next() {
             Some(said) => last = said.id,
             None => return Passed { count, last },

@@ -8,8 +8,8 @@ ghost use Rattle.flag_sync.specs.Said.{said_owed};
 ghost use Rattle.flag_sync.specs.BookStates.{book_of, IsCircuit};
 ghost use Rattle.snp_exchange.specs.Pieces.{lists_of, listed};
 
-use crate::entries::MOST;
 use flag_sync::Book;
+use isis_base::numbers::SNP_ENTRIES;
 use isis_base::{LspEntry, OutOfMemory};
 use std::alloc::Global;
 use std::mem;
@@ -69,7 +69,7 @@ fn add(
         ≡ lists_of lists.old.items ++ listed (entries_of entries.old.items) (entry_of said ∷ rest)) }
     ensures few { OnOk result (length entries.new.items ≤ 75) }
 {
-    if entries.len() < MOST {
+    if entries.len() < SNP_ENTRIES {
         entries.push(said)?;
         return Ok(());
     }

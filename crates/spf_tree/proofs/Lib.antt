@@ -12,3 +12,5 @@ pub mod HopLemmas
 pub mod TableLemmas
 pub mod DistanceLemmas
 pub mod ApartLemmas
+pub mod LocalLemmas
+pub mod PassingLemmas

@@ -9,3 +9,5 @@ pub mod Search
 pub mod Places
 pub mod Pairs
 pub mod Exploring
+pub mod Local
+pub mod Passing

@@ -12,11 +12,9 @@ ghost use Rattle.spf_tree.specs.Pairs.{is_pair, row_passes, ends_of, node_pair, 
 use crate::graph::{Graph, graph_of};
 use crate::node::number;
 use crate::row::Row;
+use isis_base::numbers::CIRCUIT_METRIC;
 use isis_base::{NodeId, OutOfMemory};
 use std::alloc::Global;
-
-/// The metric that no walk takes.
-const NO_METRIC: u32 = 16777215;
 
 /// The ends of each row.
 fn pairs_of(alloc: Global, rows: &[Row]) -> Result<Vec<(u64, u64)>, OutOfMemory>
@@ -73,7 +71,7 @@ fn may_walk(row: &Row, pairs: &[(u64, u64)], overloaded: &[(u64, u64)], root: u6
     ensures { result ≡ row_passes pairs.now overloaded.now root row.now }
 {
     let (from, to) = (number(row.from), number(row.to));
-    row.metric != NO_METRIC
+    row.metric != CIRCUIT_METRIC
         && has_pair(pairs, to, from)
         && (from == root || !has_pair(overloaded, from, 0))
 }

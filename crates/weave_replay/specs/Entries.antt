@@ -2,7 +2,7 @@
 use Rattle.std.specs.Prelude.{List, map}
 use Rattle.router_desk.specs.declared.config.Change.{Change}
 use Rattle.router_desk.specs.declared.config.Change.TheVariants as change
-use Rattle.router_desk.specs.Configs.{prefix_number}
+use Rattle.isis_base.specs.Prefixes.{prefix_number}
 use Rattle.journal_text.specs.declared.entry.WovenEntry.{WovenEntry}
 use Rattle.journal_text.specs.declared.entry.WovenEvent.{WovenEvent}
 use Rattle.journal_text.specs.declared.entry.WovenEvent.TheVariants as event

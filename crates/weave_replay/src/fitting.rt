@@ -7,19 +7,11 @@ ghost use Rattle.weave_model.specs.Faults.{fits as fits_by, is_there as is_there
 ghost use Rattle.weave_replay.specs.Entries.{deed_of, change_deed};
 
 use isis_base::OutOfMemory;
+use isis_base::numbers::{CIRCUIT_METRIC, PREFIX_LIMIT, PREFIX_METRIC};
 use journal_text::WovenEvent;
 use router_core::{NodeEvent, Router};
 use router_desk::Change;
 use router_desk::laws::reading_law;
-
-/// The greatest metric of a circuit (RFC 5305 3).
-const CIRCUIT_METRIC: u32 = 16_777_215;
-
-/// The greatest metric of a prefix (RFC 5305 4).
-const PREFIX_METRIC: u32 = 4_261_412_864;
-
-/// The most prefixes of a router (own).
-const PREFIXES: usize = 4096;
 
 /// Whether an event may be handed over.
 pub(crate) fn fits(router: &Router, event: &WovenEvent) -> bool
@@ -51,7 +43,7 @@ fn change_fits(router: &Router, change: Change) -> bool
         Change::Prefix { prefix, metric } => match metric {
             Some(metric) => {
                 metric <= PREFIX_METRIC
-                    && (router.has_prefix(prefix) || router.prefix_count() < PREFIXES)
+                    && (router.has_prefix(prefix) || router.prefix_count() < PREFIX_LIMIT)
             }
             None => true,
         },

@@ -14,13 +14,14 @@ use crate::fault::ReplayFault;
 use crate::journal::WovenJournal;
 use crate::sending::send_too_many;
 use isis_base::OutOfMemory;
+use isis_base::numbers::BOOT_LIMIT;
 use lab_keys::LimitName;
 use model_router::laws::adjacencies::step_bonds;
 use router_core::Router;
 use std::alloc::Global;
 
 /// The last boot, and so the most journals of a router (own).
-const LAST_BOOT: usize = 16_777_215;
+const LAST_BOOT: usize = BOOT_LIMIT as usize;
 
 /// Replays journals in order, the n-th of a router from the opening state with boot n of its
 /// configuration as changed so far, at first as it is handed in. The first entry with a fault is

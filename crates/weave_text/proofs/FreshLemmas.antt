@@ -16,7 +16,8 @@ use Rattle.router_desk.specs.declared.config.Change.{Change}
 use Rattle.router_desk.specs.declared.config.Change.TheVariants as change
 use Rattle.router_desk.specs.declared.circuit_config.CircuitConfig.{CircuitConfig}
 use Rattle.router_desk.specs.declared.config.Config.{Config}
-use Rattle.router_desk.specs.Configs.{config_of, circuits_of, prefix_number}
+use Rattle.isis_base.specs.Prefixes.{prefix_number}
+use Rattle.router_desk.specs.Configs.{config_of, circuits_of}
 use Rattle.network_lab.specs.Passed.{given}
 use Rattle.model_network.specs.Networks.{Network, Datagram}
 use Rattle.model_network.specs.Runs.{apply, moved_if}

@@ -1,7 +1,8 @@
 use Rattle.std.proofs.Common.{Option, sym, ap}
 use Rattle.adjacency.specs.declared.neighbour.Neighbour.{Neighbour}
-use Rattle.adjacency.specs.Inside.{snpa_of, keeps_boot}
-use Rattle.adjacency.proofs.MapLemmas.{find-place, find-gap}
+use Rattle.adjacency.specs.Views.{snpa_of}
+use Rattle.adjacency.specs.Inside.{keeps_boot}
+use Rattle.ordered.proofs.MapLemmas.{find-place, find-gap}
 use Rattle.adjacency.proofs.lan_lists.is_in_boot.Goals as goal
 
 pub returns-in-Ok : goal.returns-in-Ok

@@ -1,7 +1,7 @@
 use Rattle.std.proofs.Common.{◌≡◌, ◌∙◌, ◌+◌, ℕ, suc, drop, subst, arith}
 use Rattle.isis_base.specs.Identifiers.{lsp_number}
 use Rattle.lsp_fragments.specs.Kept.{kept_id, by_id, issued_from}
-use Rattle.lsp_fragments.proofs.MapLemmas.{above-place, above-gap}
+use Rattle.lsp_fragments.proofs.FromLemmas.{above-place, above-gap}
 use Rattle.lsp_fragments.proofs.ShownLemmas.{first-behind}
 use Rattle.lsp_fragments.proofs.by_id.id_above.Goals as goal
 

@@ -1,7 +1,7 @@
 use Rattle.std.proofs.Common.{◌∙◌}
 use Rattle.isis_base.specs.Identifiers.{lsp_number}
 use Rattle.lsp_fragments.specs.Kept.{kept_id}
-use Rattle.lsp_fragments.proofs.MapLemmas.{from-place, from-gap}
+use Rattle.lsp_fragments.proofs.FromLemmas.{from-place, from-gap}
 use Rattle.lsp_fragments.proofs.ShownLemmas.{first-behind}
 use Rattle.lsp_fragments.proofs.by_id.id_from.Goals as goal
 

@@ -2,7 +2,7 @@ use Rattle.std.proofs.Common.{◌∙◌, ap, sym, Some}
 use Rattle.std.specs.Option.{option_map}
 use Rattle.lsp_fragments.specs.declared.kept.Kept.{Kept}
 use Rattle.lsp_fragments.specs.Kept.{kept_id, by_id, issued_of}
-use Rattle.lsp_fragments.proofs.MapLemmas.{find-place, find-gap}
+use Rattle.ordered.proofs.MapLemmas.{find-place, find-gap}
 use Rattle.lsp_fragments.proofs.ShownLemmas.{find-shown}
 use Rattle.lsp_fragments.proofs.by_id.kept_of.Goals as goal
 

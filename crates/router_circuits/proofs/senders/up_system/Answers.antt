@@ -3,7 +3,7 @@ use Rattle.std.specs.Option.{option_map}
 use Rattle.adjacency.specs.declared.neighbour.Neighbour.{Neighbour}
 use Rattle.adjacency.specs.Views.{neighbour_of}
 use Rattle.model_router.specs.Receiving.{kept_system}
-use Rattle.router_circuits.proofs.SearchLemmas.{up-system}
+use Rattle.router_circuits.proofs.UpLemmas.{up-system}
 use Rattle.router_circuits.proofs.senders.up_system.Goals as goal
 
 pub returns-in-Some : goal.returns-in-Some

@@ -1,7 +1,7 @@
 use Rattle.std.proofs.Common.{ap}
 use Rattle.isis_base.specs.declared.prefix.Prefix.{Prefix}
 use Rattle.isis_base.specs.declared.level.Level.TheVariants as level
-use Rattle.router_desk.specs.Configs.{prefix_number}
+use Rattle.isis_base.specs.Prefixes.{prefix_number}
 use Rattle.router_routes.specs.Outlooks.{outlook_of}
 use Rattle.router_core.proofs.LeakedUpLemmas.{leaked-up}
 use Rattle.router_core.proofs.laws.leaked_up_law.Goals as goal

@@ -1,7 +1,7 @@
 use Rattle.std.proofs.Common.{◌∙◌, ap, sym, refl, subst, map}
 use Rattle.model_router.specs.Sorted.{RisesFrom}
 use Rattle.router_wanted.specs.Views.{prefix_pair}
-use Rattle.router_desk.specs.Configs.{prefix_number}
+use Rattle.isis_base.specs.Prefixes.{prefix_number}
 use Rattle.router_core.proofs.PrefixLemmas.{put-same, put-new, put-up}
 use Rattle.router_core.proofs.prefix_list.put_at.Goals as goal
 

@@ -1,7 +1,7 @@
 use Rattle.std.proofs.Common.{◌∙◌, ap, sym, subst, map}
 use Rattle.model_router.specs.Sorted.{RisesFrom}
 use Rattle.router_wanted.specs.Views.{prefix_pair}
-use Rattle.router_desk.specs.Configs.{prefix_number}
+use Rattle.isis_base.specs.Prefixes.{prefix_number}
 use Rattle.router_core.proofs.PrefixLemmas.{erase-here, erase-none, erase-up}
 use Rattle.router_core.proofs.prefix_list.take_out.Goals as goal
 

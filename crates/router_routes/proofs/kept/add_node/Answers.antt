@@ -1,7 +1,7 @@
 use Rattle.std.proofs.Common.{◌∙◌, ap, sym}
 use Rattle.isis_base.specs.declared.identifiers.NodeId.{NodeId}
 use Rattle.spf_tree.specs.Nodes.{node_number}
-use Rattle.router_routes.specs.Kept.{is_among}
+use Rattle.router_routes.specs.Moved.{is_among}
 use Rattle.router_routes.proofs.SameLemmas.{among-push, id-node, named-node, node-more, pushed-among}
 use Rattle.router_routes.proofs.kept.add_node.Goals as goal
 

@@ -3,7 +3,8 @@ use Rattle.std.specs.List.{Contains}
 use Rattle.isis_base.specs.declared.identifiers.NodeId.{NodeId}
 use Rattle.isis_base.specs.Identifiers.{IsId}
 use Rattle.spf_tree.specs.Nodes.{node_number}
-use Rattle.router_routes.specs.Kept.{AreAmong, AreNodes, is_among}
+use Rattle.router_routes.specs.Kept.{AreAmong}
+use Rattle.router_routes.specs.Moved.{AreNodes, is_among}
 use Rattle.router_routes.proofs.kept.add_nodes.Given as goal
 
 -- the nodes of the numbers so far are there; the others are left

@@ -1,5 +1,5 @@
 use Rattle.std.proofs.Common.{◌≡◌, drop}
-use Rattle.router_routes.specs.Kept.{is_among}
+use Rattle.router_routes.specs.Moved.{is_among}
 use Rattle.router_routes.proofs.kept.is_among.Given as goal
 
 -- what is left decides

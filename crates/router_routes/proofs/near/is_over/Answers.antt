@@ -6,4 +6,4 @@ use Rattle.router_routes.proofs.near.is_over.Goals as goal
 -- src/near.rt
 pub returns : goal.returns
 returns c =
-    c.is_overloaded_at.ensures ∙ over-at c.args.store.now.entries c.args.node c.len-entries.ensures.rises c.requires (stands (record { node = c.args.node; number = 0 }) c.lsp_id_law.ensures).first
+    c.is_overloaded_at.ensures ∙ over-at c.args.store.now.entries c.args.node c.len-entries.ensures.rises c.len-entries.ensures.ids (stands (record { node = c.args.node; number = 0 }) c.lsp_id_law.ensures).first

@@ -6,4 +6,4 @@ use Rattle.router_routes.proofs.near.rows_from.Goals as goal
 -- src/near.rt
 pub returns : goal.returns
 returns c =
-    IfOk-weaker c.rows_at.result _ _ (λ rows e. e ∙ own-rows c.args.store.now.entries c.args.node c.len-entries.ensures.rises c.requires c.lsp_id_law.ensures) c.rows_at.ensures
+    IfOk-weaker c.rows_at.result _ _ (λ rows e. e ∙ own-rows c.args.store.now.entries c.args.node c.len-entries.ensures.rises c.len-entries.ensures.ids c.lsp_id_law.ensures) c.rows_at.ensures

@@ -2,7 +2,9 @@ use Rattle.std.proofs.Common.{◌∙◌, ap}
 use Rattle.std.proofs.lemmas.Result.{IfOk-weaker}
 use Rattle.spf_tree.specs.Graphs.{GraphOf}
 use Rattle.router_routes.specs.Moved.{told_of}
-use Rattle.router_routes.proofs.GraphLemmas.{level-reached, level-none}
+use Rattle.router_routes.proofs.GraphLemmas.{level-none}
+use Rattle.router_routes.proofs.BesideLemmas.{same-refl}
+use Rattle.router_routes.proofs.SystemLemmas.{level-same}
 use Rattle.router_routes.proofs.systems.level_systems.Goals as goal
 
 pub returns : goal.returns
@@ -11,7 +13,7 @@ returns c =
     let repaired = c.args.repaired.now in
     let from = c.root.ensures ∙ ap (λ (g : GraphOf). g.root) c.graph.ensures in
     IfOk-weaker c.reached.result _ _ (λ list same.
-    level-reached c.args.runs told repaired.root c.root.result repaired.graph c.distances.result.now list.items c.if-not-runs.false c.requires.graph from c.distances.ensures.distances same) c.reached.ensures
+    level-same c.args.runs told repaired.root c.root.result repaired.graph c.distances.result.now list.items c.if-not-runs.false c.requires.graph from c.distances.ensures.distances same) c.reached.ensures
 
 pub returns-then-not-runs : goal.returns-then-not-runs
-returns-then-not-runs c = level-none c.args.runs (told_of c.args.told.now) c.args.repaired.now.root c.new.result.items c.if-not-runs.true c.new.ensures.items
+returns-then-not-runs c = same-refl c.new.result.items _ (level-none c.args.runs (told_of c.args.told.now) c.args.repaired.now.root c.new.result.items c.if-not-runs.true c.new.ensures.items)

@@ -1,27 +1,19 @@
-use Rattle.std.proofs.Common.{◌∙◌, sym}
-use Rattle.router_routes.proofs.MovedLemmas.{lead-there, reach-there, lead-here, reach-here}
+use Rattle.std.proofs.Common.{◌≡◌, subst}
+use Rattle.isis_base.specs.declared.identifiers.NodeId.{NodeId}
+use Rattle.isis_base.specs.Identifiers.{IsId}
+use Rattle.router_routes.specs.Told.{told_in}
+use Rattle.router_routes.specs.Moved.{told_at, told_of}
+use Rattle.router_routes.proofs.ViewLemmas.{lead-read, reach-read, level-ids}
 use Rattle.router_routes.proofs.view.store_of.Goals as goal
 
--- src/view.rt
-pub returns-then-number-clause-lead : goal.returns-then-number-clause-lead
-returns-then-number-clause-lead c =
-    lead-there c.args.level.now c.in-Some.moved c.in-Some.is c.requires c.len-entries.ensures.rises c.args.system c.own_node-node.result c.own_node-node.ensures c.lsp_id_law.ensures
-    (sym c.number.ensures ∙ c.if-number.true ∙ c.number-in-Some.ensures)
+pub returns-clause-lead : goal.returns-clause-lead
+returns-clause-lead c =
+    let level = c.args.level.now in
+    lead-read c.store_at-store.result.now.entries level c.args.system (subst (λ (n : NodeId). IsId (record { node = n; number = 255 })) c.own_node-node.ensures c.lsp_id_law.ensures) c.len-its.ensures.ids (level-ids level c.len-entries.ensures.ids c.requires)
+    (subst (λ (n : NodeId). told_at n (told_in c.store_at-store.result.now.entries) ≡ told_at n (told_of level)) c.own_node-node.ensures c.store_at-store.ensures)
 
--- src/view.rt
-pub returns-then-number-clause-reach : goal.returns-then-number-clause-reach
-returns-then-number-clause-reach c =
-    reach-there c.args.level.now c.in-Some.moved c.in-Some.is c.requires c.len-entries.ensures.rises c.args.system c.own_node-node.result c.own_node-node.ensures c.lsp_id_law.ensures
-    (sym c.number.ensures ∙ c.if-number.true ∙ c.number-in-Some.ensures)
-
--- src/view.rt
-pub returns-else-number-clause-lead : goal.returns-else-number-clause-lead
-returns-else-number-clause-lead c =
-    lead-here c.args.level.now c.in-Some.moved c.in-Some.is c.requires c.len-entries.ensures.rises c.args.system c.own_node-node.result c.own_node-node.ensures c.lsp_id_law.ensures
-    (λ e. c.if-number.false (c.number.ensures ∙ e ∙ sym c.number-in-Some.ensures))
-
--- src/view.rt
-pub returns-else-number-clause-reach : goal.returns-else-number-clause-reach
-returns-else-number-clause-reach c =
-    reach-here c.args.level.now c.in-Some.moved c.in-Some.is c.requires c.len-entries.ensures.rises c.args.system c.own_node-node.result c.own_node-node.ensures c.lsp_id_law.ensures
-    (λ e. c.if-number.false (c.number.ensures ∙ e ∙ sym c.number-in-Some.ensures))
+pub returns-clause-reach : goal.returns-clause-reach
+returns-clause-reach c =
+    let level = c.args.level.now in
+    reach-read c.store_at-store.result.now.entries level c.args.system (subst (λ (n : NodeId). IsId (record { node = n; number = 255 })) c.own_node-node.ensures c.lsp_id_law.ensures) c.len-its.ensures.ids (level-ids level c.len-entries.ensures.ids c.requires)
+    (subst (λ (n : NodeId). told_at n (told_in c.store_at-store.result.now.entries) ≡ told_at n (told_of level)) c.own_node-node.ensures c.store_at-store.ensures)

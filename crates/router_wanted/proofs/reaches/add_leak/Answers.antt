@@ -3,7 +3,7 @@ use Rattle.isis_tlv.specs.declared.prefix.PrefixItem.{PrefixItem}
 use Rattle.model_router.specs.LspPrefixes.{Reach}
 use Rattle.model_router.specs.Sorted.{RisesFrom}
 use Rattle.lsp_fragments.specs.Entries.{reach_pair}
-use Rattle.router_wanted.proofs.ReachLemmas.{put-rises}
+use Rattle.ordered.proofs.MapLemmas.{put-rises}
 use Rattle.router_wanted.proofs.reaches.add_leak.Goals as goal
 
 pub returns-in-Ok-clause-rises : goal.returns-in-Ok-clause-rises

@@ -7,16 +7,16 @@ use Rattle.snp_exchange.specs.Pieces.{lists_of, listed}
 use Rattle.snp_exchange.proofs.PieceLemmas.{list-more, list-full}
 use Rattle.snp_exchange.proofs.psnp.add.Goals as goal
 
-pub returns-then-len-lt-MOST-clause-more : goal.returns-then-len-lt-MOST-clause-more
-returns-then-len-lt-MOST-clause-more c =
-    let test = c.if-len-lt-MOST.true in
+pub returns-then-len-lt-SNP_ENTRIES-clause-more : goal.returns-then-len-lt-SNP_ENTRIES-clause-more
+returns-then-len-lt-SNP_ENTRIES-clause-more c =
+    let test = c.if-len-lt-SNP_ENTRIES.true in
     let len = c.len.ensures in
     let whole = c.args.entries.now.ok.0 in
     λ rest. ap (λ (xs : List (List SnpEntry)). lists_of c.args.lists.now.items ++ xs) (list-more c.args.entries.now.items c.push.new.self.items c.args.said rest c.in_ok-push.ensures.items (omega (arith, test, len, whole)))
 
 pub returns-clause-more : goal.returns-clause-more
 returns-clause-more c =
-    let test = c.if-len-lt-MOST.false in
+    let test = c.if-len-lt-SNP_ENTRIES.false in
     let len = c.len.ensures in
     let whole = c.args.entries.now.ok.0 in
     let few = c.requires.few in

@@ -7,5 +7,5 @@ use Rattle.lsp_fragments.proofs.own_lsps.OwnLsps.drop_id.Goals as goal
 
 pub returns-clause-issued : goal.returns-clause-issued
 returns-clause-issued c =
-    ap issued_pairs c.take_out.ensures.items ∙ erase-shown (by_id c.self.inside.list.items) (lsp_number c.args.id)
+    ap issued_pairs (rw c.to_number.ensures at c.take_out.ensures.items) ∙ erase-shown (by_id c.self.inside.list.items) (lsp_number c.args.id)
     ∙ ap (λ (s : OwnState). erase s.issued (lsp_number c.args.id)) c.self.view_is

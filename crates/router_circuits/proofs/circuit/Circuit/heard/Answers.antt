@@ -3,7 +3,7 @@ use Rattle.model_router.specs.Both.{at}
 use Rattle.model_router.specs.Routers.{Circuit, LanNeighbour}
 use Rattle.adjacency.specs.Lans.{AreHeard, neighbours}
 use Rattle.router_circuits.specs.Views.{heard_in}
-use Rattle.router_circuits.proofs.SearchLemmas.{all-snpas, level-heard}
+use Rattle.router_circuits.proofs.UpLemmas.{all-snpas, level-heard}
 use Rattle.router_circuits.proofs.circuit.Circuit.heard.Goals as goal
 
 pub returns-clause-snpas : goal.returns-clause-snpas

@@ -1,4 +1,4 @@
-use Rattle.router_circuits.proofs.SearchLemmas.{up-rises}
+use Rattle.router_circuits.proofs.UpLemmas.{up-rises}
 use Rattle.router_circuits.proofs.circuit.Circuit.sender.Goals as goal
 
 pub up_system-requires : goal.up_system-requires

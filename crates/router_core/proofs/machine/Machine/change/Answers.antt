@@ -1,7 +1,7 @@
 use Rattle.std.proofs.Common.{◌≡◌, OnOk, sym, subst}
 use Rattle.model_router.specs.Steps.{step}
 use Rattle.router_desk.specs.declared.config.Change.{Change}
-use Rattle.router_desk.specs.Configs.{prefix_number}
+use Rattle.isis_base.specs.Prefixes.{prefix_number}
 use Rattle.router_core.specs.Events.{change_of, FitsChange}
 use Rattle.router_core.specs.Givens.{given}
 use Rattle.router_core.proofs.ChangeLemmas.{metric-change, prefix-change, overload-change}

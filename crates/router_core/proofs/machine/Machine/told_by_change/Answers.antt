@@ -3,7 +3,7 @@ use Rattle.model_router.specs.Maps.{set_at}
 use Rattle.model_router.specs.Routers.{Router}
 use Rattle.model_router.specs.Steps.{step}
 use Rattle.router_desk.specs.declared.config.Change.{Change}
-use Rattle.router_desk.specs.Configs.{prefix_number}
+use Rattle.isis_base.specs.Prefixes.{prefix_number}
 use Rattle.router_routes.specs.Outlooks.{outlook_of, prefixes_by}
 use Rattle.router_core.specs.Events.{change_of}
 use Rattle.router_core.specs.Givens.{given}

@@ -1,9 +1,15 @@
-use Rattle.router_routes.proofs.SameLemmas.{reached-by-prefixes}
-use Rattle.router_routes.specs.Moved.{outlook_at}
-use Rattle.router_routes.specs.Outlooks.{outlook_in}
+use Rattle.std.proofs.Common.{ap}
+use Rattle.std.proofs.lemmas.Result.{IfOk-weaker}
+use Rattle.router_routes.specs.Outlooks.{Outlook}
 use Rattle.router_routes.proofs.following.Following.with_prefixes.Goals as goal
 
-pub made-requires-clause-reached : goal.made-requires-clause-reached
-made-requires-clause-reached c =
-    reached-by-prefixes (outlook_in c.args.lent.now) (outlook_at c.as_lent_with-view.result) c.args.self.now c.args.prefixes.now c.in_ok-reached.reached.told.items c.in_ok-reached.reached.defaults.items c.in_ok-reached.reached.attached c.requires.follows c.as_lent_with-view.ensures.same
-    c.in_ok-reached.ensures.told c.in_ok-reached.ensures.defaults c.in_ok-reached.ensures.attached
+pub returns : goal.returns
+returns c =
+    IfOk-weaker c.after.result _ _ (λ next f. λ o is. f o (record {
+      root = ap (λ (q : Outlook). q.root) is;
+      areas = ap (λ (q : Outlook). q.areas) is;
+      runs = ap (λ (q : Outlook). q.runs) is;
+      prefixes = ap (λ (q : Outlook). q.prefixes) is;
+      one = ap (λ (q : Outlook). q.told.one) is;
+      two = ap (λ (q : Outlook). q.told.two) is;
+    })) c.after.ensures

@@ -1,0 +1,2 @@
+-- The definitions: lists by a key of their items.
+pub mod Keyed

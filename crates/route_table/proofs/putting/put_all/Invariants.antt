@@ -1,0 +1,11 @@
+use Rattle.std.proofs.Common.{◌≡◌, ◌+◌, ◌≤◌, ◌++◌, length, vec_len, vec_capacity}
+use Rattle.route_table.specs.Patches.{IsPatched}
+use Rattle.route_table.proofs.putting.put_all.Given as goal
+
+abbrev pub invariant-loop-patch : goal.invariant-loop-patch
+invariant-loop-patch l = record {
+  patched : IsPatched l.fn.routes.items l.yielded l.routes.items;
+  few : vec_len l.routes ≤ vec_len l.fn.routes + length l.yielded;
+  room : vec_capacity l.fn.routes ≤ vec_capacity l.routes;
+  all : l.fn.list.items ≡ l.yielded ++ l.patch-iterator.rest.items;
+}

@@ -1,0 +1,118 @@
+//! Nodes beside a word, which rows of least walks pass on from node to node: a hop, or 0 where being in a set is passed on.
+
+ghost use Rattle.std.specs.Prelude.{◌≡◌, ℕ, length, OnOk};
+ghost use Rattle.std.specs.Bool.{OnTrue};
+ghost use Rattle.std.specs.List.{Contains};
+ghost use Rattle.std.specs.List.Sorted.{IsNonDecreasingBy};
+ghost use Rattle.spf_tree.specs.Walks.{start};
+ghost use Rattle.spf_tree.specs.Passing.{IsPut, IsPassed, ArePassed, AreEnds, AreMarked};
+
+use crate::labels::Labels;
+use crate::node::number;
+use crate::offers::first_row;
+use crate::reach::is_step;
+use crate::row::Row;
+use isis_base::OutOfMemory;
+
+/// Whether the pair is in the list.
+fn holds(pairs: &[(u64, u64)], node: u64, word: u64) -> bool
+    ensures { OnTrue result (Contains pairs.now (node, word)) }
+{
+    pairs.contains(&(node, word))
+}
+
+/// Adds the pair, unless it is there.
+pub fn add_pair(pairs: &mut Vec<(u64, u64)>, node: u64, word: u64) -> Result<(), OutOfMemory>
+    ensures { OnOk result (IsPut pairs.old.items pairs.new.items node word) }
+{
+    if holds(pairs.as_slice(), node, word) {
+        return Ok(());
+    }
+    match pairs.push((node, word)) {
+        Ok(()) => Ok(()),
+        Err(_) => Err(OutOfMemory),
+    }
+}
+
+/// Passes the word on to the end of a row, if that belongs to least walks.
+fn pass(
+    labels: &Labels,
+    root: u64,
+    row: &Row,
+    word: u64,
+    found: &mut Vec<(u64, u64)>,
+) -> Result<(), OutOfMemory>
+    ensures { OnOk result
+        (IsPassed root labels.now row.now word found.old.items found.new.items) }
+{
+    let (from, to) = (number(row.from), number(row.to));
+    if to == root {
+        return Ok(());
+    }
+    if !is_step(labels, from, to, row.metric) {
+        return Ok(());
+    }
+    match add_pair(found, to, word) {
+        Ok(()) => Ok(()),
+        Err(error) => Err(error),
+    }
+}
+
+/// Passes the word on over the rows from a node.
+pub fn pass_on(
+    rows: &[Row],
+    labels: &Labels,
+    root: u64,
+    node: u64,
+    word: u64,
+    found: &mut Vec<(u64, u64)>,
+) -> Result<(), OutOfMemory>
+    requires { IsNonDecreasingBy start rows.now }
+    ensures { OnOk result (ArePassed rows.now root labels.now node word found.old.items
+        found.new.items (length rows.now)) }
+{
+    for place in first_row(rows, node)..rows.len() {
+        let row = &rows[place];
+        if number(row.from) != node {
+            return Ok(());
+        }
+        match pass(labels, root, row, word, found) {
+            Ok(()) => {}
+            Err(error) => return Err(error),
+        }
+    }
+    Ok(())
+}
+
+/// Adds the ends of rows that belong to least walks, beside 0.
+pub fn add_ends(
+    rows: &[Row],
+    labels: &Labels,
+    root: u64,
+    found: &mut Vec<(u64, u64)>,
+) -> Result<(), OutOfMemory>
+    ensures { OnOk result (AreEnds rows.now root labels.now 0 found.old.items found.new.items
+        (length rows.now)) }
+{
+    for place in 0..rows.len() {
+        match pass(labels, root, &rows[place], 0, found) {
+            Ok(()) => {}
+            Err(error) => return Err(error),
+        }
+    }
+    Ok(())
+}
+
+/// Adds nodes beside 0.
+pub fn add_nodes(nodes: &[u64], found: &mut Vec<(u64, u64)>) -> Result<(), OutOfMemory>
+    ensures { OnOk result (AreMarked nodes.now 0 found.old.items found.new.items
+        (length nodes.now)) }
+{
+    for place in 0..nodes.len() {
+        match add_pair(found, nodes[place], 0) {
+            Ok(()) => {}
+            Err(error) => return Err(error),
+        }
+    }
+    Ok(())
+}
