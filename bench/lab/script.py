@@ -10,6 +10,8 @@ usage: script.py grid N          N x N routers of level 1, each with a prefix, `
        script.py ring N         16 LANs of N routers in a ring: the last router of each is the first of the next, `run 60`
        script.py levels N       N areas of 8 routers on a LAN, two of them of both levels, one of which leaks; a ring of links and a LAN join the areas; `run 60`
        script.py agreed N       the 1,024 routers and 4,089 links, N seconds of level 1
+       script.py prefixes N     a grid of 4 x 4 that came up, then N lines `prefix` at one router
+       script.py stored N       two routers; one takes N LSPs of 1,000 systems, which stand in a ring and tell a prefix in each
        script.py refused N       the text of `hellos`, but its first event line is refused, so that it is read and nothing is played
 """
 import sys
@@ -110,6 +112,37 @@ def wide(n):
     yield "deliver 3 r1023\n" * n
 
 
+def prefixes(n):
+    yield from grid(4)
+    yield from (f"prefix g1x1 11.{at >> 8}.{at & 255}.0/24 10\n" for at in range(n))
+
+
+def lsp(system, fragment, tlvs):
+    """An LSP of level 1 that A hands to B in its first boot."""
+    octets = bytearray.fromhex(f"831b010012010000{27 + len(tlvs) // 2:04x}04b0{system:012x}00{fragment:02x}00000009000001{tlvs}")
+    first = second = 0
+    for octet in octets[12:]:
+        first += octet
+        second += first
+    # the checksum is octet 12 of those from the LSP ID on
+    high = ((len(octets) - 25) * first - second) % 255 or 255
+    octets[24:26] = high, (-first - high) % 255 or 255
+    return f"inject B X 4953553200000000000100000001{octets.hex()}\n"
+
+
+def neighbours(*systems):
+    return f"16{11 * len(systems):02x}" + "".join(f"{system:012x}0000000a00" for system in systems)
+
+
+def stored(n):
+    yield PAIR + "run 7\n" + lsp(1, 0, "010403490001" + "8101cc" + neighbours(2, 256))
+    for at in range(n):
+        fragment, place = divmod(at, 1000)
+        ends = [256 + (place - 1) % 1000, 256 + (place + 1) % 1000] + [1] * (place == 0)
+        told = "010403490001" + "8101cc" + neighbours(*ends) if fragment == 0 else ""
+        yield lsp(256 + place, fragment, told + f"87080000000a18{11 << 16 | at:06x}")
+
+
 def refused(n):
     yield PAIR + "deliver 0 B\n"
     yield "deliver 3 B\n" * n
@@ -117,7 +150,7 @@ def refused(n):
 
 def main():
     kind, count = sys.argv[1:]
-    made = {"grid": grid, "datagrams": datagrams, "seconds": seconds, "hellos": hellos, "wide": wide, "lan": lan, "ring": ring, "levels": levels, "agreed": agreed, "refused": refused}[kind]
+    made = {"grid": grid, "datagrams": datagrams, "seconds": seconds, "hellos": hellos, "wide": wide, "lan": lan, "ring": ring, "levels": levels, "agreed": agreed, "prefixes": prefixes, "stored": stored, "refused": refused}[kind]
     sys.stdout.write("isis-lab 1\n")
     sys.stdout.writelines(made(int(count)))
 

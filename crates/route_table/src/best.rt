@@ -40,11 +40,28 @@ pub fn routes(
         Ok(hops) => hops,
         Err(error) => return Err(error),
     };
+    match routes_by(alloc, candidates, &one_hops, &two_hops) {
+        Ok(routes) => Ok(routes),
+        Err(error) => Err(error),
+    }
+}
+
+/// The routes of candidates where the next hops of both levels are known: `routes` is made of it. Origins of rank `Two` are
+/// looked for in the second table, all others in the first.
+pub fn routes_by(
+    alloc: Global,
+    candidates: &[Candidate],
+    one: &HopTable,
+    two: &HopTable,
+) -> Result<Routes, OutOfMemory>
+    ensures { IfOk result
+        (λ routes. AreRoutes (IsListedHop one.now two.now) candidates.now routes) }
+{
     let sorted = match in_order(alloc, candidates) {
         Ok(sorted) => sorted,
         Err(error) => return Err(error),
     };
-    match best_of(alloc, sorted.as_slice(), &one_hops, &two_hops) {
+    match best_of(alloc, sorted.as_slice(), one, two) {
         Ok(routes) => of(alloc, routes),
         Err(error) => Err(error),
     }

@@ -23,7 +23,7 @@ mod rank;
 mod route;
 mod table;
 
-pub use best::routes;
+pub use best::{routes, routes_by};
 pub use candidate::Candidate;
 pub use patch::{Patch, Patches, patches_for};
 pub use rank::Rank;

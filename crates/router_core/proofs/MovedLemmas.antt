@@ -1,4 +1,5 @@
 -- What a node tells once an LSP of it met a row, and that nothing else changes of what routes look at.
+use Rattle.std.specs.Prelude.{IfSome}
 use Rattle.std.proofs.Common.{◌≡◌, ◌∙◌, ℕ, ◌+◌, ◌%◌, ◌<◌, ◌≤◌, ◌⊎◌, ◌==◌, ◌&&◌, nat_le, nat_lt, Bool, true, false, List, [], ◌∷◌, ◌++◌, length, MatchOption, Option, Some, None, refl, sym, ap, subst, arith, if◌then◌else◌, inl, inr, append-nil}
 use Rattle.std.specs.Prelude.{◌||◌}
 use Rattle.std.specs.Option.{option_map}
@@ -48,6 +49,8 @@ use Rattle.lsp_view.specs.Views.{number_of, own_node}
 use Rattle.spf_tree.specs.Nodes.{node_number}
 use Rattle.router_routes.specs.Told.{told, told_pair, told_in, told_by}
 use Rattle.router_routes.specs.Following.{FollowingOf, IsFollowing}
+use Rattle.router_routes.specs.declared.coming.Coming.{Coming}
+use Rattle.router_routes.specs.Coming.{FitsIn, IsComing, IsPut as IsNextPut}
 use Rattle.router_routes.specs.Outlooks.{Outlook, outlook_of, prefixes_by, where_run}
 use Rattle.router_routes.specs.Moved.{told_at, told_beside, beside, IsMovedAt}
 use Rattle.router_core.proofs.RouteLemmas.{live-is, told-cells, SameConfig, step-config}
@@ -473,6 +476,11 @@ module _ (r : Router) (place : ℕ) (l : Level) (from : Envelope) (lsp_in : hear
 
 -- ---- what follows then
 
-pub follows-next : (o : Outlook) (next : Option FollowingOf) (old new : FollowingOf) → MatchOption next (IsFollowing o old) (λ f. IsFollowing o f) → MatchOption next (new ≡ old) (λ f. new ≡ f) → IsFollowing o new
+pub follows-next : (o : Outlook) (next : Option Coming) (old new : FollowingOf) → MatchOption next (IsFollowing o old) (λ c. IsComing o old c) → MatchOption next (new ≡ old) (λ c. IsNextPut old c new) → IsFollowing o new
 follows-next o None old new follows is = subst (IsFollowing o) (sym is) follows
-follows-next o (Some f) old new follows is = subst (IsFollowing o) (sym is) follows
+follows-next o (Some c) old new comes is = comes.follows new is
+
+-- there is room for what comes
+pub next-fits : (o : Outlook) (next : Option Coming) (old : FollowingOf) → MatchOption next (IsFollowing o old) (λ c. IsComing o old c) → IfSome next (λ c. FitsIn old.routes c.routes)
+next-fits o None old follows = tt
+next-fits o (Some c) old comes = comes.fits

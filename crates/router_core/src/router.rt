@@ -20,6 +20,7 @@ ghost use Rattle.router_desk.specs.Limits.{IsValid};
 ghost use Rattle.router_routes.specs.Outlooks.{outlook_of};
 ghost use Rattle.router_routes.specs.Candidates.{attached_of, AreRoutesOf};
 ghost use Rattle.router_routes.specs.Following.{IsFollowing, IsLevel};
+ghost use Rattle.router_routes.specs.Coming.{FitsIn, IsPut};
 ghost use Rattle.router_core.specs.Givens.{given};
 ghost use Rattle.router_core.specs.Events.{event_of, Fits, IsThere};
 ghost use Rattle.router_core.specs.Plans.{AreTold, committed, IsReady, IsSound};
@@ -41,7 +42,7 @@ use isis_base::{Level, OutOfMemory, Prefix, SystemId};
 use purge_ageing::LetGo;
 use route_table::Routes;
 use router_desk::{Config, Desk, DropName};
-use router_routes::Following;
+use router_routes::{Coming, Following};
 use spf_repair::Repaired;
 use std::alloc::Global;
 use std::marker::Model;
@@ -350,12 +351,14 @@ fn put_machine(machine: &mut Machine, next: Machine)
     *machine = next;
 }
 
-/// Another value follows the router, where there is one.
-fn put_next(following: &mut Following, next: Option<Following>)
-    ensures { MatchOption next (following.new ≡ following.old) (λ f. following.new ≡ f) }
+/// What comes stands in the place of what follows the router, where anything comes.
+fn put_next(following: &mut Following, next: Option<Coming>)
+    requires { IfSome next (λ c. FitsIn following.old.routes c.routes) }
+    ensures { MatchOption next (following.new ≡ following.old)
+        (λ c. IsPut following.old c following.new) }
 {
     match next {
-        Some(next) => *following = next,
+        Some(next) => following.put(next),
         None => {}
     }
 }

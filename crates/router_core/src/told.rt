@@ -2,13 +2,14 @@
 ghost use Rattle.std.specs.Prelude.{◌≡◌, IfOk, MatchOption};
 ghost use Rattle.router_routes.specs.Outlooks.{Outlook, outlook_of, prefixes_by};
 ghost use Rattle.router_routes.specs.Following.{IsFollowing};
+ghost use Rattle.router_routes.specs.Coming.{IsComing};
 ghost use Rattle.router_core.specs.Plans.{AreTold};
 
 use crate::machine::Machine;
 use crate::prefixes::OwnPrefixes;
 use isis_base::{Level, NodeId, OutOfMemory};
 use lsp_store::Store;
-use router_routes::Following;
+use router_routes::{Coming, Following};
 
 /// What an event changes of what routes look at: nothing, what one node tells, or one's own prefixes.
 #[derive(Drop)]
@@ -27,15 +28,15 @@ pub(crate) struct Moving {
 }
 
 impl Machine {
-    /// What follows the router once it tells this; `None` where that is what follows it now.
+    /// What will follow the router once it tells this; `None` where that is what follows it now.
     pub(crate) fn following_told(
         &self,
         following: &Following,
         told: &Told,
-    ) -> Result<Option<Following>, OutOfMemory>
+    ) -> Result<Option<Coming>, OutOfMemory>
         requires { IsFollowing (outlook_of self.now) following.now }
         ensures { IfOk result (λ next. (o : Outlook) → AreTold (outlook_of self.now) o told.now
-            → MatchOption next (IsFollowing o following.now) (λ f. IsFollowing o f)) }
+            → MatchOption next (IsFollowing o following.now) (λ c. IsComing o following.now c)) }
     {
         match told {
             Told::Nothing => Ok(None),
@@ -47,16 +48,16 @@ impl Machine {
         }
     }
 
-    /// What follows the router once its own prefixes are these; `None` where that is what follows it now.
+    /// What will follow the router once its own prefixes are these; `None` where that is what follows it now.
     fn following_with(
         &self,
         following: &Following,
         own: &OwnPrefixes,
-    ) -> Result<Option<Following>, OutOfMemory>
+    ) -> Result<Option<Coming>, OutOfMemory>
         requires { IsFollowing (outlook_of self.now) following.now }
         ensures { IfOk result (λ next. (o : Outlook)
             → o ≡ record (outlook_of self.now) { prefixes = prefixes_by own.now }
-            → MatchOption next (IsFollowing o following.now) (λ f. IsFollowing o f)) }
+            → MatchOption next (IsFollowing o following.now) (λ c. IsComing o following.now c)) }
     {
         let lent = self.lent()?;
         following.with_prefixes(&lent, own.as_slice())

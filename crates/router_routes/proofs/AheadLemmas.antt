@@ -21,7 +21,7 @@ use Rattle.router_routes.specs.declared.view.View.{View}
 use Rattle.router_routes.specs.Told.{told_in}
 use Rattle.router_routes.specs.Outlooks.{Outlook, where_run, outlook_in}
 use Rattle.router_routes.specs.Following.{FollowingOf, IsFollowing, IsLevel}
-use Rattle.router_routes.specs.Kept.{AreAmong, CostBeside}
+use Rattle.router_routes.specs.Kept.{AreAmong}
 use Rattle.router_routes.specs.Moved.{AreCosts, AreMoved, AreMovedTo, AreViewed, IsMovedAt, IsMovedBy, is_among, is_beside, nodes_in, nodes_of, or_old, outlook_at, told_at, told_beside, told_of}
 use Rattle.router_routes.proofs.MovedLemmas.{by-same}
 
@@ -149,13 +149,3 @@ told-two o p l node list told m at is a b d nodes aside =
       one = subst (λ (q : Option Moved). IsMovedBy q o.runs.one o.told.one p.told.one) (sym a) here.other;
       two = subst (λ (q : Option Moved). IsMovedBy q o.runs.two o.told.two p.told.two) (sym b) moved;
     }
-
--- ---- the newest costs
-
-pub newest-level : (o : Outlook) (l : Level) (old now new : RepairedOf) (answer : Option RepairedOf) → new ≡ or_old answer old → old ≡ now → IsLevel o l (or_old answer now) → IsLevel o l new
-newest-level o l old now new answer e f is = subst (λ (r : RepairedOf). IsLevel o l r) (sym (e ∙ ap (or_old answer) f)) is
-
-pub newest-costs : (nodes all : List NodeId) (old now new : RepairedOf) (answer : Option RepairedOf) → nodes ≡ all → new ≡ or_old answer old → old ≡ now → CostBeside nodes old.distances (or_old answer old).distances → CostBeside all now.distances new.distances
-newest-costs nodes all old now new answer same e f is =
-    subst (λ (l : List NodeId). CostBeside l now.distances new.distances) same
-    (subst (λ (r : RepairedOf). CostBeside nodes r.distances new.distances) f (subst (λ (r : RepairedOf). CostBeside nodes old.distances r.distances) (sym e) is))

@@ -47,7 +47,7 @@ any-step : {X : Type 0} (p : X → Bool) (x : X) (xs : List X) → (list_any p x
 any-step p x xs rest true is any = (x, contains_first x xs, is)
 any-step p x xs rest false is any = let o = rest any in (o.0, contains_rest x o.0 xs o.1, o.2)
 
-any-in : {X : Type 0} (p : X → Bool) (xs : List X) → list_any p xs ≡ true → (y : X) × Contains xs y × (p y ≡ true)
+pub any-in : {X : Type 0} (p : X → Bool) (xs : List X) → list_any p xs ≡ true → (y : X) × Contains xs y × (p y ≡ true)
 any-in p [] any = absurd (let e : false ≡ true = any in cc)
 any-in p (x ∷ xs) any = any-step p x xs (any-in p xs) (p x) refl any
 
@@ -56,7 +56,7 @@ in-any-step p x y xs h is true at = refl
 in-any-step p x y xs (inl same) is false at = absurd (let e : true ≡ false = sym is ∙ ap p (sym same) ∙ at in cc)
 in-any-step p x y xs (inr more) is false at = more
 
-in-any : {X : Type 0} (p : X → Bool) (xs : List X) (y : X) → Contains xs y → p y ≡ true → list_any p xs ≡ true
+pub in-any : {X : Type 0} (p : X → Bool) (xs : List X) (y : X) → Contains xs y → p y ≡ true → list_any p xs ≡ true
 in-any p [] y there is = absurd (contains_none y there)
 in-any p (x ∷ xs) y there is =
     in-any-step p x y xs

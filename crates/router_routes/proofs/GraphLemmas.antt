@@ -153,7 +153,7 @@ costs-same told later root graph is then-is =
 -- ---- routes over graphs are those over the levels' graphs
 
 module _ (ones twos : Told) (root : NodeId) (one two : GraphOf) (is-one : IsGraphOf ones root one) (is-two : IsGraphOf twos root two) where
-  hop-by : (rank : Rank) (origin hop : ℕ) → IsHopBy one two rank origin hop ↔ IsHopBy (graph_in ones root) (graph_in twos root) rank origin hop
+  pub hop-by : (rank : Rank) (origin hop : ℕ) → IsHopBy one two rank origin hop ↔ IsHopBy (graph_in ones root) (graph_in twos root) rank origin hop
   hop-by Own origin hop = ((λ h. h), (λ h. h))
   hop-by One origin hop = hops-are ones root one is-one origin hop
   hop-by Two origin hop = hops-are twos root two is-two origin hop

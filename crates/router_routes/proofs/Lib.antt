@@ -20,3 +20,6 @@ pub mod KeptLemmas
 pub mod BesideLemmas
 pub mod SameLemmas
 pub mod SystemLemmas
+pub mod NumberLemmas
+pub mod ComingLemmas
+pub mod PatchLemmas

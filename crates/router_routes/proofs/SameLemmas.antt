@@ -51,7 +51,7 @@ where-same false false xs ys us vs e f g = same-append xs [] us [] f (same-refl 
 where-same true false xs ys us vs e f g = absurd (let h : true ≡ false = e in cc)
 where-same false true xs ys us vs e f g = absurd (let h : false ≡ true = e in cc)
 
-firm-told : (o : Outlook) → firm_candidates o ≡ map (own_candidate o.root) o.prefixes ++ told_candidates o
+pub firm-told : (o : Outlook) → firm_candidates o ≡ map (own_candidate o.root) o.prefixes ++ told_candidates o
 unfolding firm_candidates told_candidates
 firm-told o = refl
 
@@ -106,6 +106,8 @@ stays-following o p f is root runs prefixes one two told ways attached =
     record {
       one = one;
       two = two;
+      hops_one = is.hops_one;
+      hops_two = is.hops_two;
       routes =
           let same = candidates-same o p f.told f.defaults root runs prefixes (sym is.attached ∙ attached) is.told is.defaults told ways in
           routes_by (IsHopTo (graph_in o.told.one o.root) (graph_in o.told.two o.root)) (IsHopTo (graph_in p.told.one p.root) (graph_in p.told.two p.root)) (candidates_of o) (candidates_of p) f.routes (λ c. (same c).1) (λ c. (same c).0)

@@ -1,10 +1,13 @@
 -- What a router keeps of its graphs and routes, and when that is right (own).
-use Rattle.std.specs.Prelude.{◌≡◌, ◌+◌, ◌-◌, ◌^◌, min, Bool, List}
+use Rattle.std.specs.Prelude.{◌≡◌, ◌↔◌, ℕ, ◌+◌, ◌-◌, ◌^◌, min, Bool, List}
+use Rattle.std.specs.List.{Contains}
 use Rattle.isis_base.specs.declared.identifiers.NodeId.{NodeId}
 use Rattle.isis_base.specs.declared.level.Level.{Level}
 use Rattle.isis_base.specs.declared.level.Level.TheVariants as level
 use Rattle.spf_tree.specs.declared.row.Row.{Row}
 use Rattle.spf_tree.specs.Graphs.{times}
+use Rattle.spf_tree.specs.Nodes.{node_number}
+use Rattle.spf_tree.specs.NextHops.{IsNextHop}
 use Rattle.spf_repair.specs.Changes.{RepairedOf}
 use Rattle.model_router.specs.Both.{Both}
 use Rattle.route_table.specs.declared.route.Route.{Route}
@@ -13,10 +16,11 @@ use Rattle.route_table.specs.declared.candidate.Candidate.{Candidate}
 use Rattle.router_routes.specs.Candidates.{AreRoutesOf, attached_of, defaults}
 use Rattle.router_routes.specs.Kept.{AreSame, told_candidates}
 
--- each level's repaired distances, the routes, whether the router is attached, what both levels tell of prefixes, and the
--- ways by default
+-- each level's repaired distances, and its nodes beside their next hops; the routes, whether the router is attached, what both
+-- levels tell of prefixes, and the ways by default
 pub record FollowingOf : Type 0 where
   pub levels : Both RepairedOf
+  pub hops : Both (List (ℕ × ℕ))
   pub routes : List Route
   pub attached : Bool
   pub told : List Candidate
@@ -27,10 +31,17 @@ pub record IsLevel (o : Outlook) (level : Level) (repaired : RepairedOf) : Type 
   pub root : repaired.root ≡ o.root
   pub graph : IsGraph o level repaired.graph
 
+-- the pairs are each node beside each of its next hops from the root of a level's graph (RFC 1195 3.10)
+pub record AreHopsOf (repaired : RepairedOf) (pairs : List (ℕ × ℕ)) : Type 0 where
+  pub each : (target hop : ℕ) → Contains pairs (target, hop)
+      ↔ IsNextHop repaired.graph.rows (node_number repaired.graph.root) target hop
+
 -- all is that of what routes look at
 pub record IsFollowing (o : Outlook) (f : FollowingOf) : Type 0 where
   pub one : IsLevel o level.One f.levels.one
   pub two : IsLevel o level.Two f.levels.two
+  pub hops_one : AreHopsOf f.levels.one f.hops.one
+  pub hops_two : AreHopsOf f.levels.two f.hops.two
   pub routes : AreRoutesOf o f.routes
   pub attached : f.attached ≡ attached_of o
   pub told : AreSame f.told (told_candidates o)

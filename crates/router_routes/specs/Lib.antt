@@ -1,5 +1,5 @@
 -- The definitions: what routes look at, least costs, candidates, what is leaked, and what follows
--- them, one node that tells other LSPs, and nodes that no route reads.
+-- them, one node that tells other LSPs, nodes that no route reads, and what will follow.
 pub mod Told
 pub mod Costs
 pub mod Outlooks
@@ -10,3 +10,5 @@ pub mod Following
 pub mod Moved
 pub mod Near
 pub mod Kept
+pub mod Coming
+pub mod Touched

@@ -1,18 +1,20 @@
-//! The value that will follow a router once nodes tell other LSPs, or its own prefixes are others (own).
-ghost use Rattle.std.specs.Prelude.{◌≡◌, ◌∷◌, [], true, None, IfOk, MatchOption};
+//! What will follow a router once nodes tell other LSPs, or its own prefixes are others (own).
+ghost use Rattle.std.specs.Prelude.{◌≡◌, ◌∷◌, [], true, None, IfOk, IfSome, MatchOption};
 ghost use Rattle.isis_base.specs.declared.identifiers.NodeId.{NodeId};
 ghost use Rattle.isis_base.specs.declared.level.Level.TheVariants as level;
 ghost use Rattle.router_routes.specs.Told.{told_in};
 ghost use Rattle.router_routes.specs.Outlooks.{Outlook, outlook_in};
-ghost use Rattle.router_routes.specs.Following.{IsFollowing, IsLevel};
+ghost use Rattle.router_routes.specs.Following.{AreHopsOf, FollowingOf, IsFollowing, IsLevel};
+ghost use Rattle.router_routes.specs.Coming.{AreLevels, AreLevelsBeside, AreLevelsOf, AreOfOneRoot, AreRoutesAfter, FitsIn, IsComing};
 ghost use Rattle.router_routes.specs.Kept.{AreBeside, AreReached};
 ghost use Rattle.router_routes.specs.Moved.{AreFit, AreMoved, AreViewed, IsInOrder, IsMovedAt, NodesRise, nodes_of, or_old, outlook_at};
 
 use crate::candidates::{runs_one, runs_two};
-use crate::following::{Following, Reached, made};
+use crate::coming::{Coming, LevelsAfter, RoutesAfter, level_of};
+use crate::following::{Following, Reached};
 use crate::kept::{moved, told_nodes};
 use crate::lent::Lent;
-use crate::moving::{level_after, newest, owned};
+use crate::moving::level_after;
 use crate::told::{Moved, Told};
 use crate::view::{View, as_told, nodes_law};
 use isis_base::{Level, NodeId, OutOfMemory, Prefix};
@@ -21,14 +23,15 @@ use spf_repair::Repaired;
 use std::alloc::Global;
 
 impl Following {
-    /// The value that will follow the router once this is told: in each level these nodes tell what is aside, all others what they
+    /// What will follow the router once this is told: in each level these nodes tell what is aside, all others what they
     /// tell now, and own prefixes are these. `None` where nothing of it changes.
-    pub fn after(&self, lent: &Lent<'_>, told: &Told<'_>) -> Result<Option<Following>, OutOfMemory>
+    pub fn after(&self, lent: &Lent<'_>, told: &Told<'_>) -> Result<Option<Coming>, OutOfMemory>
         requires follows { IsFollowing (outlook_in lent.now) self.now }
         requires one { IsInOrder told.now.one }
         requires two { IsInOrder told.now.two }
-        ensures { IfOk result (λ next. (o : Outlook) → AreMoved (outlook_in lent.now) o told.now
-            → MatchOption next (IsFollowing o self.now) (λ f. IsFollowing o f)) }
+        ensures fits { IfOk result (λ next. IfSome next (λ c. FitsIn self.now.routes c.routes)) }
+        ensures moves { IfOk result (λ next. (o : Outlook) → AreMoved (outlook_in lent.now) o told.now
+            → MatchOption next (IsFollowing o self.now) (λ c. IsComing o self.now c)) }
     {
         let view = as_told(lent, told);
         let one = level_after(self.alloc, runs_one(lent.levels), &self.one, &view.one)?;
@@ -48,11 +51,12 @@ impl Following {
         level: Level,
         node: NodeId,
         aside: &Store,
-    ) -> Result<Option<Following>, OutOfMemory>
+    ) -> Result<Option<Coming>, OutOfMemory>
         requires follows { IsFollowing (outlook_in lent.now) self.now }
-        ensures { IfOk result (λ next. (o : Outlook)
+        ensures fits { IfOk result (λ next. IfSome next (λ c. FitsIn self.now.routes c.routes)) }
+        ensures moves { IfOk result (λ next. (o : Outlook)
             → IsMovedAt (outlook_in lent.now) o level node (told_in aside.now.entries)
-            → MatchOption next (IsFollowing o self.now) (λ f. IsFollowing o f)) }
+            → MatchOption next (IsFollowing o self.now) (λ c. IsComing o self.now c)) }
     {
         let nodes = [node];
         let told = told_by(level, &nodes, aside);
@@ -64,11 +68,12 @@ impl Following {
         &self,
         lent: &Lent<'_>,
         prefixes: &[(Prefix, u32)],
-    ) -> Result<Option<Following>, OutOfMemory>
+    ) -> Result<Option<Coming>, OutOfMemory>
         requires follows { IsFollowing (outlook_in lent.now) self.now }
-        ensures { IfOk result (λ next. (o : Outlook)
+        ensures fits { IfOk result (λ next. IfSome next (λ c. FitsIn self.now.routes c.routes)) }
+        ensures moves { IfOk result (λ next. (o : Outlook)
             → o ≡ record (outlook_in lent.now) { prefixes = prefixes.now }
-            → MatchOption next (IsFollowing o self.now) (λ f. IsFollowing o f)) }
+            → MatchOption next (IsFollowing o self.now) (λ c. IsComing o self.now c)) }
     {
         let told = Told {
             one: None,
@@ -78,7 +83,7 @@ impl Following {
         self.after(lent, &told)
     }
 
-    /// The value that follows what is seen, at these levels' costs, each where it has new ones; `None` where nothing of it changes.
+    /// What comes of what is seen, at these levels' costs, each where it has new ones; `None` where nothing of it changes.
     fn with_levels(
         &self,
         lent: &Lent<'_>,
@@ -86,7 +91,7 @@ impl Following {
         view: &View<'_>,
         one: Option<Repaired>,
         two: Option<Repaired>,
-    ) -> Result<Option<Following>, OutOfMemory>
+    ) -> Result<Option<Coming>, OutOfMemory>
         requires follows { IsFollowing (outlook_in lent.now) self.now }
         requires viewed { AreViewed lent.now told.now view.now }
         requires fit { AreFit view.now }
@@ -95,32 +100,141 @@ impl Following {
         requires two { IsLevel (outlook_at view.now) level.Two (or_old two self.now.levels.two) }
         ensures { IfOk result (λ next. MatchOption next
             (IsFollowing (outlook_at view.now) self.now)
-            (λ f. IsFollowing (outlook_at view.now) f)) }
+            (λ c. IsComing (outlook_at view.now) self.now c)) }
     {
         if none_of(&one, &two, told) {
             return self.with_nodes(lent, told, view);
         }
-        let reached = match self.reached_at(lent, told, view, &one, &two) {
-            Ok(reached) => reached,
-            Err(error) => {
-                drop(one);
-                drop(two);
-                return Err(error);
-            }
-        };
-        match self.made_of(view, reached, one, two) {
-            Ok(next) => Ok(Some(next)),
+        match self.levels_of(one, two) {
+            Ok(levels) => self.with_hops(lent, told, view, levels),
             Err(error) => Err(error),
         }
     }
 
-    /// The value that follows what is seen, where costs and own prefixes stay; `None` where nothing of it changes.
+    /// Both levels with next hops that follow of their costs, where these are new.
+    fn levels_of(
+        &self,
+        one: Option<Repaired>,
+        two: Option<Repaired>,
+    ) -> Result<LevelsAfter, OutOfMemory>
+        requires one { AreOfOneRoot self.now.levels.one (or_old one self.now.levels.one) }
+        requires two { AreOfOneRoot self.now.levels.two (or_old two self.now.levels.two) }
+        requires hops_one { AreHopsOf self.now.levels.one self.now.hops.one }
+        requires hops_two { AreHopsOf self.now.levels.two self.now.hops.two }
+        ensures { IfOk result (λ levels. AreLevelsOf self.now one two levels) }
+    {
+        let one = match level_of(self.alloc, one, &self.one, &self.hops_one) {
+            Ok(one) => one,
+            Err(error) => {
+                drop(two);
+                return Err(error);
+            }
+        };
+        match level_of(self.alloc, two, &self.two, &self.hops_two) {
+            Ok(two) => Ok(LevelsAfter { one, two }),
+            Err(error) => {
+                drop(one);
+                Err(error)
+            }
+        }
+    }
+
+    /// What comes of what is seen, by these levels.
+    fn with_hops(
+        &self,
+        lent: &Lent<'_>,
+        told: &Told<'_>,
+        view: &View<'_>,
+        levels: LevelsAfter,
+    ) -> Result<Option<Coming>, OutOfMemory>
+        requires follows { IsFollowing (outlook_in lent.now) self.now }
+        requires viewed { AreViewed lent.now told.now view.now }
+        requires fit { AreFit view.now }
+        requires beside { AreBeside (nodes_of told.now) (outlook_in lent.now) (outlook_at view.now) }
+        requires levels { AreLevels (outlook_at view.now) self.now levels }
+        ensures { IfOk result (λ next. MatchOption next
+            (IsFollowing (outlook_at view.now) self.now)
+            (λ c. IsComing (outlook_at view.now) self.now c)) }
+    {
+        let nodes = moved(self.alloc, told, (&self.one, &self.two), &levels);
+        match nodes {
+            Ok(nodes) => self.with_moved(lent, told, view, nodes.as_slice(), levels),
+            Err(error) => {
+                drop(levels);
+                Err(error)
+            }
+        }
+    }
+
+    /// The same, where these nodes moved.
+    fn with_moved(
+        &self,
+        lent: &Lent<'_>,
+        told: &Told<'_>,
+        view: &View<'_>,
+        nodes: &[NodeId],
+        levels: LevelsAfter,
+    ) -> Result<Option<Coming>, OutOfMemory>
+        requires follows { IsFollowing (outlook_in lent.now) self.now }
+        requires viewed { AreViewed lent.now told.now view.now }
+        requires fit { AreFit view.now }
+        requires levels { AreLevelsBeside nodes.now (outlook_in lent.now) (outlook_at view.now)
+            self.now levels }
+        ensures { IfOk result (λ next. MatchOption next
+            (IsFollowing (outlook_at view.now) self.now)
+            (λ c. IsComing (outlook_at view.now) self.now c)) }
+    {
+        let reached = self.reached_by(lent, view, nodes, &levels);
+        match reached {
+            Ok(reached) => match self.with_reached(lent, told, view, nodes, levels, reached) {
+                Ok(coming) => Ok(Some(coming)),
+                Err(error) => Err(error),
+            },
+            Err(error) => {
+                drop(levels);
+                Err(error)
+            }
+        }
+    }
+
+    /// What comes of what is reached, where these nodes moved.
+    fn with_reached(
+        &self,
+        lent: &Lent<'_>,
+        told: &Told<'_>,
+        view: &View<'_>,
+        nodes: &[NodeId],
+        levels: LevelsAfter,
+        reached: Reached,
+    ) -> Result<Coming, OutOfMemory>
+        requires follows { IsFollowing (outlook_in lent.now) self.now }
+        requires viewed { AreViewed lent.now told.now view.now }
+        requires fit { AreFit view.now }
+        requires levels { AreLevelsBeside nodes.now (outlook_in lent.now) (outlook_at view.now)
+            self.now levels }
+        requires reached { AreReached (outlook_at view.now) reached.told.items
+            reached.defaults.items reached.attached }
+        ensures { IfOk result (λ c. IsComing (outlook_at view.now) self.now c) }
+    {
+        self.still_law(lent, view, nodes, &levels);
+        let routes = self.routes_after(lent, told, view, nodes, &levels, &reached);
+        match routes {
+            Ok(routes) => Ok(coming_of(levels, reached, routes)),
+            Err(error) => {
+                drop(levels);
+                drop(reached);
+                Err(error)
+            }
+        }
+    }
+
+    /// What comes of what is seen, where costs and own prefixes stay; `None` where nothing of it changes.
     fn with_nodes(
         &self,
         lent: &Lent<'_>,
         told: &Told<'_>,
         view: &View<'_>,
-    ) -> Result<Option<Following>, OutOfMemory>
+    ) -> Result<Option<Coming>, OutOfMemory>
         requires follows { IsFollowing (outlook_in lent.now) self.now }
         requires viewed { AreViewed lent.now told.now view.now }
         requires prefixes { told.now.prefixes ≡ None }
@@ -130,7 +244,7 @@ impl Following {
         requires two { IsLevel (outlook_at view.now) level.Two self.now.levels.two }
         ensures { IfOk result (λ next. MatchOption next
             (IsFollowing (outlook_at view.now) self.now)
-            (λ f. IsFollowing (outlook_at view.now) f)) }
+            (λ c. IsComing (outlook_at view.now) self.now c)) }
     {
         match (told.one, told.two) {
             (Some(one), None) => self.next(lent, told, view, one.nodes),
@@ -149,7 +263,7 @@ impl Following {
         told: &Told<'_>,
         view: &View<'_>,
         nodes: &[NodeId],
-    ) -> Result<Option<Following>, OutOfMemory>
+    ) -> Result<Option<Coming>, OutOfMemory>
         requires follows { IsFollowing (outlook_in lent.now) self.now }
         requires viewed { AreViewed lent.now told.now view.now }
         requires prefixes { told.now.prefixes ≡ None }
@@ -159,7 +273,7 @@ impl Following {
         requires two { IsLevel (outlook_at view.now) level.Two self.now.levels.two }
         ensures { IfOk result (λ next. MatchOption next
             (IsFollowing (outlook_at view.now) self.now)
-            (λ f. IsFollowing (outlook_at view.now) f)) }
+            (λ c. IsComing (outlook_at view.now) self.now c)) }
     {
         nodes_law(nodes);
         let reached = match self.reached_if(lent, view, nodes, &self.one, &self.two) {
@@ -167,55 +281,36 @@ impl Following {
             Ok(None) => return Ok(None),
             Err(error) => return Err(error),
         };
-        match self.made_of(view, reached, None, None) {
-            Ok(next) => Ok(Some(next)),
+        let levels = LevelsAfter {
+            one: None,
+            two: None,
+        };
+        match self.with_reached(lent, told, view, nodes, levels, reached) {
+            Ok(coming) => Ok(Some(coming)),
             Err(error) => Err(error),
         }
     }
+}
 
-    /// What is reached at these costs, each where it has new ones.
-    fn reached_at(
-        &self,
-        lent: &Lent<'_>,
-        told: &Told<'_>,
-        view: &View<'_>,
-        one: &Option<Repaired>,
-        two: &Option<Repaired>,
-    ) -> Result<Reached, OutOfMemory>
-        requires follows { IsFollowing (outlook_in lent.now) self.now }
-        requires fit { AreFit view.now }
-        requires beside { AreBeside (nodes_of told.now) (outlook_in lent.now) (outlook_at view.now) }
-        requires one { IsLevel (outlook_at view.now) level.One (or_old one.now self.now.levels.one) }
-        requires two { IsLevel (outlook_at view.now) level.Two (or_old two.now self.now.levels.two) }
-        ensures { IfOk result (λ reached. AreReached (outlook_at view.now) reached.told.items
-            reached.defaults.items reached.attached) }
-    {
-        let nodes = moved(self.alloc, told, (&self.one, &self.two), one, two)?;
-        let (one, two) = (newest(one, &self.one), newest(two, &self.two));
-        self.reached_with(lent, view, nodes.as_slice(), one, two)
-    }
-
-    /// The value of what is reached at these costs, each where it has new ones.
-    fn made_of(
-        &self,
-        view: &View<'_>,
-        reached: Reached,
-        one: Option<Repaired>,
-        two: Option<Repaired>,
-    ) -> Result<Following, OutOfMemory>
-        requires one { IsLevel (outlook_at view.now) level.One (or_old one self.now.levels.one) }
-        requires two { IsLevel (outlook_at view.now) level.Two (or_old two self.now.levels.two) }
-        requires reached { AreReached (outlook_at view.now) reached.told.items
-            reached.defaults.items reached.attached }
-        ensures { IfOk result (λ f. IsFollowing (outlook_at view.now) f) }
-    {
-        match both_owned(one, two, &self.one, &self.two) {
-            Ok((one, two)) => made(self.alloc, view, reached, one, two),
-            Err(error) => {
-                drop(reached);
-                Err(error)
-            }
-        }
+/// What comes by these parts.
+fn coming_of(levels: LevelsAfter, reached: Reached, routes: RoutesAfter) -> Coming
+    ensures { (o : Outlook) (f : FollowingOf) → AreLevels o f levels
+        → AreReached o reached.told.items reached.defaults.items reached.attached
+        → AreRoutesAfter o f.routes routes → IsComing o f result }
+{
+    let LevelsAfter { one, two } = levels;
+    let Reached {
+        told,
+        defaults,
+        attached,
+    } = reached;
+    Coming {
+        one,
+        two,
+        routes,
+        attached,
+        told,
+        defaults,
     }
 }
 
@@ -238,32 +333,6 @@ fn told_by<'a>(level: Level, nodes: &'a [NodeId], aside: &'a Store) -> Told<'a>
             two: moved,
             prefixes: None,
         },
-    }
-}
-
-/// The new costs of both levels, each or else a copy of the old ones.
-fn both_owned(
-    one: Option<Repaired>,
-    two: Option<Repaired>,
-    old_one: &Repaired,
-    old_two: &Repaired,
-) -> Result<(Repaired, Repaired), OutOfMemory>
-    ensures one { IfOk result (λ both. both.0 ≡ or_old one old_one.now) }
-    ensures two { IfOk result (λ both. both.1 ≡ or_old two old_two.now) }
-{
-    let one = match owned(one, old_one) {
-        Ok(one) => one,
-        Err(error) => {
-            drop(two);
-            return Err(error);
-        }
-    };
-    match owned(two, old_two) {
-        Ok(two) => Ok((one, two)),
-        Err(error) => {
-            drop(one);
-            Err(error)
-        }
     }
 }
 

@@ -8,11 +8,12 @@ ghost use Rattle.spf_tree.specs.Graphs.{AreUsable, times};
 ghost use Rattle.router_routes.specs.Told.{told_in};
 ghost use Rattle.router_routes.specs.Outlooks.{outlook_in, where_run};
 ghost use Rattle.router_routes.specs.Candidates.{AreRoutesOf, attached_of, reached_in};
-ghost use Rattle.router_routes.specs.Following.{IsFollowing, IsRooted, IsLevel, Counts};
+ghost use Rattle.router_routes.specs.Following.{AreHopsOf, IsFollowing, IsRooted, IsLevel, Counts};
 ghost use Rattle.router_routes.specs.Moved.{AreFit, IsFit, outlook_at, told_of};
 ghost use Rattle.router_routes.specs.Kept.{AreReached, AreSame};
 
 use crate::candidates::{all_candidates, defaults_by, own_node, runs_one, runs_two, told_by};
+use crate::coming::hops_from;
 use crate::differences::rows_apart;
 use crate::lent::Lent;
 use crate::level_graph::graph_of;
@@ -20,22 +21,24 @@ use crate::systems::{is_attached, level_systems};
 use crate::view::{LevelView, View, as_lent};
 use isis_base::{Level, LevelSet, NodeId, OutOfMemory, SystemId};
 use lsp_store::Store;
-use route_table::{Candidate, Routes, routes};
+use route_table::{Candidate, Routes, routes_by};
 use spf_repair::{Repaired, Steps};
-use spf_tree::Row;
 use spf_tree::parts::rows_in_order;
+use spf_tree::{HopTable, Row};
 use std::alloc::Global;
 use std::marker::{Brand, Model};
 use std::sync::ledger::{Blank, Ledger};
 
-/// What a router keeps of its graphs and routes: for each level the least costs from its own node,
-/// repaired when rows change; the routes; whether it is attached; and, in no order, what its levels tell of prefixes, and the
-/// ways by default.
+/// What a router keeps of its graphs and routes: for each level the least costs from its own node, repaired when rows change, and
+/// its nodes beside their next hops; the routes; whether it is attached; and, in no order, what its levels tell of prefixes, and
+/// the ways by default.
 #[derive(Drop)]
 pub struct Following {
     pub(crate) alloc: Global,
     pub(crate) one: Repaired,
     pub(crate) two: Repaired,
+    pub(crate) hops_one: HopTable,
+    pub(crate) hops_two: HopTable,
     pub(crate) routes: Routes,
     pub(crate) attached: bool,
     pub(crate) told: Vec<Candidate>,
@@ -49,6 +52,7 @@ impl Model for Following {
 
     ghost view = { λ f. record {
       levels = record { one = f.one; two = f.two };
+      hops = record { one = f.hops_one; two = f.hops_two };
       routes = f.routes;
       attached = f.attached;
       told = f.told.items;
@@ -241,7 +245,7 @@ pub(crate) fn assembled(
 }
 
 /// The value of these distances, and of what they reach.
-pub(crate) fn made(
+fn made(
     alloc: Global,
     view: &View<'_>,
     reached: Reached,
@@ -256,12 +260,14 @@ pub(crate) fn made(
     ensures one { IfOk result (λ f. f.levels.one ≡ one) }
     ensures two { IfOk result (λ f. f.levels.two ≡ two) }
 {
-    let routes = table(alloc, view, &reached, &one, &two)?;
+    let tables = tables_of(alloc, view, &reached, &one, &two)?;
     Ok(Following {
         alloc,
         one,
         two,
-        routes,
+        hops_one: tables.hops_one,
+        hops_two: tables.hops_two,
+        routes: tables.routes,
         attached: reached.attached,
         told: reached.told,
         defaults: reached.defaults,
@@ -318,19 +324,29 @@ pub(crate) fn attached(
     }
 }
 
-/// The routes of what is reached.
-fn table(
+/// Each level's nodes beside their next hops, and the routes.
+#[derive(Drop)]
+struct Tables {
+    hops_one: HopTable,
+    hops_two: HopTable,
+    routes: Routes,
+}
+
+/// The next hops by these distances, and the routes of what is reached.
+fn tables_of(
     alloc: Global,
     view: &View<'_>,
     reached: &Reached,
     one: &Repaired,
     two: &Repaired,
-) -> Result<Routes, OutOfMemory>
+) -> Result<Tables, OutOfMemory>
     requires one { IsLevel (outlook_at view.now) level.One one.now }
     requires two { IsLevel (outlook_at view.now) level.Two two.now }
     requires reached { AreReached (outlook_at view.now) reached.now.told.items
         reached.now.defaults.items reached.now.attached }
-    ensures { IfOk result (λ routes. AreRoutesOf (outlook_at view.now) routes) }
+    ensures one { IfOk result (λ t. AreHopsOf one.now t.hops_one) }
+    ensures two { IfOk result (λ t. AreHopsOf two.now t.hops_two) }
+    ensures routes { IfOk result (λ t. AreRoutesOf (outlook_at view.now) t.routes) }
 {
     let candidates = all_candidates(
         alloc,
@@ -339,12 +355,12 @@ fn table(
         reached.defaults.as_slice(),
         reached.attached,
     )?;
-    routes(
-        alloc,
-        candidates.as_slice(),
-        one.graph(),
-        one.distances(),
-        two.graph(),
-        two.distances(),
-    )
+    let hops_one = hops_from(alloc, one)?;
+    let hops_two = hops_from(alloc, two)?;
+    let routes = routes_by(alloc, candidates.as_slice(), &hops_one, &hops_two)?;
+    Ok(Tables {
+        hops_one,
+        hops_two,
+        routes,
+    })
 }

@@ -9,10 +9,13 @@ ghost use Rattle.spf_tree.specs.Distances.{cost_at};
 ghost use Rattle.router_routes.specs.Candidates.{attached_of, default_of, system_candidates};
 ghost use Rattle.router_routes.specs.Following.{IsFollowing, IsLevel};
 ghost use Rattle.router_routes.specs.Kept.{AreAmong, AreBeside, AreReached, CostBeside, HaveToldIds, stays, systems_among};
-ghost use Rattle.router_routes.specs.Moved.{AreFit, AreNodes, IsFit, is_among, nodes_in, nodes_of, or_old, outlook_at, told_of};
+ghost use Rattle.router_routes.specs.Moved.{AreFit, AreNodes, IsFit, is_among, nodes_in, nodes_of, outlook_at, told_of};
 ghost use Rattle.router_routes.specs.Outlooks.{outlook_in, where_run};
+ghost use Rattle.router_routes.specs.Coming.{AreLevelsBeside, costs_after};
+ghost use Rattle.router_routes.specs.Touched.{AreStill};
 
 use crate::candidates::{add_all, add_defaults, add_told, runs_one, runs_two};
+use crate::coming::{LevelAfter, LevelsAfter, newest_costs};
 use crate::following::{Following, Reached, all_reached, attached};
 use crate::lent::Lent;
 use crate::same::same_candidate;
@@ -131,6 +134,50 @@ impl Following {
         }))
     }
 
+    /// What is reached where these nodes moved, at these levels' costs.
+    pub(crate) fn reached_by(
+        &self,
+        lent: &Lent<'_>,
+        view: &View<'_>,
+        nodes: &[NodeId],
+        levels: &LevelsAfter,
+    ) -> Result<Reached, OutOfMemory>
+        requires follows { IsFollowing (outlook_in lent.now) self.now }
+        requires fit { AreFit view.now }
+        requires levels { AreLevelsBeside nodes.now (outlook_in lent.now) (outlook_at view.now)
+            self.now levels.now }
+        ensures { IfOk result (λ reached. AreReached (outlook_at view.now) reached.told.items
+            reached.defaults.items reached.attached) }
+    {
+        let one = newest_costs(&levels.one, &self.one);
+        let two = newest_costs(&levels.two, &self.two);
+        self.reached_with(lent, view, nodes, one, two)
+    }
+
+    /// What systems tell by way of other nodes stays. It does nothing.
+    pub(crate) fn still_law(
+        &self,
+        lent: &Lent<'_>,
+        view: &View<'_>,
+        nodes: &[NodeId],
+        levels: &LevelsAfter,
+    )
+        requires follows { IsFollowing (outlook_in lent.now) self.now }
+        requires fit { AreFit view.now }
+        requires levels { AreLevelsBeside nodes.now (outlook_in lent.now) (outlook_at view.now)
+            self.now levels.now }
+        ensures { AreStill nodes.now (outlook_in lent.now) (outlook_at view.now) }
+    {
+        lent_ids(lent);
+        view_ids(view);
+        let one = newest_costs(&levels.one, &self.one);
+        let two = newest_costs(&levels.two, &self.two);
+        let _old_one = self.one.distances();
+        let _old_two = self.two.distances();
+        let _new_one = one.distances();
+        let _new_two = two.distances();
+    }
+
     /// A copy of what was reached.
     pub(crate) fn reached(&self) -> Result<Reached, OutOfMemory>
         ensures told { IfOk result (λ reached. reached.told.items ≡ self.now.told) }
@@ -157,20 +204,19 @@ pub(crate) fn moved(
     alloc: Global,
     told: &Told<'_>,
     old: (&Repaired, &Repaired),
-    one: &Option<Repaired>,
-    two: &Option<Repaired>,
+    levels: &LevelsAfter,
 ) -> Result<Vec<NodeId>, OutOfMemory>
     ensures ids { IfOk result (λ moved. AreNodes moved.items) }
     ensures kept { IfOk result (λ moved. AreAmong (nodes_of told.now) moved.items) }
     ensures one { IfOk result (λ moved. CostBeside moved.items old.entry.0.now.distances
-        (or_old one.now old.entry.0.now).distances) }
+        (costs_after levels.now.one old.entry.0.now).distances) }
     ensures two { IfOk result (λ moved. CostBeside moved.items old.entry.1.now.distances
-        (or_old two.now old.entry.1.now).distances) }
+        (costs_after levels.now.two old.entry.1.now).distances) }
 {
     let mut nodes = told_nodes(alloc, told)?;
     nodes_law(nodes.as_slice());
-    add_apart(alloc, &mut nodes, old.0, one)?;
-    add_apart(alloc, &mut nodes, old.1, two)?;
+    add_apart(alloc, &mut nodes, old.0, &levels.one)?;
+    add_apart(alloc, &mut nodes, old.1, &levels.two)?;
     Ok(nodes)
 }
 
@@ -202,17 +248,17 @@ fn add_apart(
     alloc: Global,
     nodes: &mut Vec<NodeId>,
     old: &Repaired,
-    new: &Option<Repaired>,
+    new: &Option<LevelAfter>,
 ) -> Result<(), OutOfMemory>
     requires { AreNodes nodes.old.items }
     ensures ids { OnOk result (AreNodes nodes.new.items) }
     ensures kept { OnOk result (AreAmong nodes.old.items nodes.new.items) }
     ensures apart { OnOk result (CostBeside nodes.new.items old.now.distances
-        (or_old new.now old.now).distances) }
+        (costs_after new.now old.now).distances) }
 {
     match new {
         None => Ok(()),
-        Some(new) => add_changed(alloc, nodes, old, new),
+        Some(new) => add_changed(alloc, nodes, old, &new.costs),
     }
 }
 

@@ -13,15 +13,18 @@
 //! - `told.rt`: what will be told by some nodes; `view.rt`: the same where their LSPs are read aside
 //! - `near.rt`: the rows that start or end at a node; `moving.rt`: a level's costs once some nodes tell other LSPs
 //! - `following.rt`: the value that follows a router's databases; `leaks.rt`: what it leaks
-//! - `ahead.rt`: the value that will follow once this is told; `kept.rt`: what stays where some nodes moved; `same.rt`:
-//!   candidates compared
+//! - `ahead.rt`: what will follow once this is told; `coming.rt`: that put in the place of what follows; `hops_moved.rt`: a
+//!   level's next hops then; `kept.rt`: what stays where some nodes moved; `same.rt`: candidates compared
+//! - `touched.rt`: the prefixes whose routes are looked at anew; `patched.rt`: the routes then; `numbers.rt`: numbers in order
 //! - `laws.rt`: the plain programs of the definitions are what the routes say
 #![tactic(auto)]
 
 mod ahead;
 mod candidates;
+mod coming;
 mod differences;
 mod following;
+mod hops_moved;
 mod kept;
 pub mod laws;
 mod leaks;
@@ -29,11 +32,15 @@ mod lent;
 mod level_graph;
 mod moving;
 mod near;
+mod numbers;
+mod patched;
 mod same;
 mod systems;
 mod told;
+mod touched;
 mod view;
 
+pub use coming::Coming;
 pub use following::Following;
 pub use lent::Lent;
 pub use told::{Moved, Told};

@@ -14,3 +14,5 @@ pub mod DistanceLemmas
 pub mod ApartLemmas
 pub mod LocalLemmas
 pub mod PassingLemmas
+pub mod PlainLemmas
+pub mod EnteringLemmas

@@ -10,8 +10,10 @@ use Rattle.spf_tree.specs.Graphs.{times, same_row}
 use Rattle.spf_tree.specs.Nodes.{is_system}
 use Rattle.spf_tree.specs.Walks.{start, end, IsWalk, cost, IsWithin, AreLeast}
 use Rattle.spf_tree.specs.NextHops.{IsLeastWalk, IsNextHop, first_system}
-use Rattle.spf_tree.specs.Local.{AreExchanged, HasAlike, IsClosed, IsOutside}
+use Rattle.spf_tree.specs.Distances.{AreDistances, cost_at}
+use Rattle.spf_tree.specs.Local.{AreExchanged, AreHopsSame, HasAlike, IsClosed, IsOutside}
 use Rattle.spf_tree.proofs.SearchLemmas.{contains_cases, contains_first, contains_none, contains_rest}
+use Rattle.spf_tree.proofs.DistanceLemmas.{least_by}
 use Rattle.spf_tree.proofs.WalkLemmas.{within_some}
 
 first-same : (a b : Row) (xs ys : List Row) → end a ≡ end b → first_system xs ≡ first_system ys → first_system (a ∷ xs) ≡ first_system (b ∷ ys)
@@ -165,3 +167,14 @@ was-or-came old new removed added exchanged row has =
       | inl there ↦ inl (counted-there old row (omega arith))
       | inr gone ↦ inr (counted-there added row (omega arith))
     ]
+
+-- ---- as the code has it: rows, and labels for distances
+
+pub outside-same : (old new rs ss : List Row) (root : ℕ) (a b : List (ℕ × ℕ)) (f g : ℕ → Option ℕ) (moved inside : List ℕ) → AreDistances old root a → AreDistances new root b → rs ≡ old → ss ≡ new → ((n : ℕ) → f n ≡ cost_at a n) → ((n : ℕ) → g n ≡ cost_at b n)
+    → ((n : ℕ) → (Contains moved n → ⊥) → cost_at a n ≡ cost_at b n) → ((n : ℕ) → Contains moved n → Contains inside n) → IsClosed rs ss root f inside → IsClosed ss rs root g inside → AreHopsSame old new root inside
+outside-same old new rs ss root a b f g moved inside of-a of-b rs-is ss-is f-is g-is stay kept closed-old closed-new =
+    let first : IsClosed old new root f inside = subst (λ (xs : List Row). IsClosed old xs root f inside) ss-is (subst (λ (xs : List Row). IsClosed xs ss root f inside) rs-is closed-old) in
+    let second : IsClosed new old root g inside = subst (λ (xs : List Row). IsClosed new xs root g inside) rs-is (subst (λ (xs : List Row). IsClosed xs rs root g inside) ss-is closed-new) in
+    hops-same old new root f g inside (least_by old root (cost_at a) f (λ n. sym (f-is n)) of-a.least) (least_by new root (cost_at b) g (λ n. sym (g-is n)) of-b.least)
+    (λ m out. f-is m ∙ stay m (λ h. out (kept m h)) ∙ sym (g-is m))
+    (closed-out old new root f inside first) (closed-out new old root g inside second)

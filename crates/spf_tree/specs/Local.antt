@@ -1,10 +1,11 @@
 -- Nodes outside a set, over least walks: what a change of rows and costs leaves as it was. All of it own.
 
-use Rattle.std.specs.Prelude.{◌≡◌, ◌≢◌, ℕ, ◌+◌, ◌⊎◌, List, Option}
+use Rattle.std.specs.Prelude.{◌≡◌, ◌≢◌, ℕ, ◌+◌, ◌⊎◌, ◌↔◌, List, Option}
 use Rattle.std.specs.List.{Contains}
 use Rattle.spf_tree.specs.declared.row.Row.{Row}
 use Rattle.spf_tree.specs.Graphs.{times}
 use Rattle.spf_tree.specs.Walks.{start, end}
+use Rattle.spf_tree.specs.NextHops.{IsNextHop}
 use Rattle.spf_tree.specs.Exploring.{LeadsBy}
 
 -- the list has a row of the same ends and metric
@@ -36,3 +37,20 @@ pub record IsClosed (rows others : List Row) (root : ℕ) (costs : ℕ → Optio
 abbrev pub AreExchanged : List Row → List Row → List Row → List Row → Type 0
 AreExchanged old new removed added =
     (row : Row) → times new row + times removed row ≡ times old row + times added row
+
+-- the pairs tell the next hops of all targets
+abbrev pub AreNextHops : List Row → ℕ → List (ℕ × ℕ) → Type 0
+AreNextHops rows root pairs =
+    (target hop : ℕ) → Contains pairs (target, hop) ↔ IsNextHop rows root target hop
+
+-- the pairs tell the next hops of targets outside the set
+abbrev pub AreRightOutside : List Row → ℕ → List ℕ → List (ℕ × ℕ) → Type 0
+AreRightOutside rows root inside pairs =
+    (target hop : ℕ) → (Contains inside target → ⊥)
+    → Contains pairs (target, hop) ↔ IsNextHop rows root target hop
+
+-- targets outside the set have the same next hops over both lists of rows
+abbrev pub AreHopsSame : List Row → List Row → ℕ → List ℕ → Type 0
+AreHopsSame old new root inside =
+    (target hop : ℕ) → (Contains inside target → ⊥)
+    → IsNextHop old root target hop ↔ IsNextHop new root target hop

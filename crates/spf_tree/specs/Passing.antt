@@ -1,13 +1,13 @@
 -- Nodes beside a word, which tight rows pass on from node to node: a hop, or 0 where being in a set is passed on. All of
 -- it own.
 
-use Rattle.std.specs.Prelude.{◌≡◌, ◌≢◌, ℕ, ◌<◌, ◌⊎◌, true, List, ◌++◌, length, slice_index_or}
+use Rattle.std.specs.Prelude.{◌≡◌, ◌≢◌, ℕ, ◌<◌, ◌⊎◌, true, false, List, ◌++◌, length, slice_index_or}
 use Rattle.std.specs.List.{Contains}
 use Rattle.spf_tree.specs.declared.row.Row.{Row}
 use Rattle.spf_tree.specs.declared.label.Label.{Label}
 use Rattle.spf_tree.specs.Walks.{start, end}
 use Rattle.spf_tree.specs.Nodes.{is_system}
-use Rattle.spf_tree.specs.Exploring.{IsTight, IsHopByLabels}
+use Rattle.spf_tree.specs.Exploring.{IsTight, IsHopByLabels, Leads, goes_on}
 
 -- the node of a pair
 abbrev pub first : ℕ × ℕ → ℕ
@@ -123,6 +123,13 @@ pub record AreEntered (rows : List Row) (known : List (ℕ × ℕ)) (root : ℕ)
 abbrev pub IsOther : ℕ → ℕ → Type 0
 IsOther root node = (node ≢ root) × (is_system node ≡ true)
 
+-- a system of the set that isn't the root is there as its own hop
+pub record IsOwn (node root : ℕ) (inside : List ℕ) (old new : List (ℕ × ℕ)) : Type 0 where
+  pub longer : IsLonger old new
+  pub from : (n w : ℕ) → Contains new (n, w)
+      → Contains old (n, w) ⊎ (IsOther root node × (n ≡ node) × (w ≡ node))
+  pub there : IsOther root node → Contains inside node → Contains new (node, node)
+
 -- each system of the first so many nodes that is in the set and isn't the root is there as its own hop
 pub record AreOwn (nodes : List ℕ) (root : ℕ) (inside : List ℕ) (old new : List (ℕ × ℕ))
     (many : ℕ) : Type 0 where
@@ -133,6 +140,13 @@ pub record AreOwn (nodes : List ℕ) (root : ℕ) (inside : List ℕ) (old new :
       → Contains inside (slice_index_or nodes k d)
       → Contains new (slice_index_or nodes k d, slice_index_or nodes k d)
 
+-- the pair is there if its node is outside the set
+pub record IsKept (node word : ℕ) (inside : List ℕ) (old new : List (ℕ × ℕ)) : Type 0 where
+  pub longer : IsLonger old new
+  pub from : (n w : ℕ) → Contains new (n, w)
+      → Contains old (n, w) ⊎ ((Contains inside node → ⊥) × (n ≡ node) × (w ≡ word))
+  pub there : (Contains inside node → ⊥) → Contains new (node, word)
+
 -- the first so many pairs whose node is outside the set are there too
 pub record AreKept (known : List (ℕ × ℕ)) (inside : List ℕ) (old new : List (ℕ × ℕ)) (many : ℕ) : Type 0 where
   pub longer : IsLonger old new
@@ -140,3 +154,30 @@ pub record AreKept (known : List (ℕ × ℕ)) (inside : List ℕ) (old new : Li
       → Contains old (n, w) ⊎ (Contains known (n, w) × (Contains inside n → ⊥))
   pub here : (k : ℕ) (d : ℕ × ℕ) → k < many → (Contains inside (slice_index_or known k d).0 → ⊥)
       → Contains new (slice_index_or known k d)
+
+-- each next hop of a node of the set is there
+abbrev pub HaveAllInside : List Row → ℕ → List Label → List ℕ → List (ℕ × ℕ) → Type 0
+HaveAllInside rows root labels inside found =
+    (target hop : ℕ) → Contains inside target → IsHopByLabels rows root labels target hop
+    → Contains found (target, hop)
+
+-- the ends of rows of least walks from a node are there, if that is the root or a pseudonode
+pub record IsGoneOn (rows : List Row) (root : ℕ) (labels : List Label) (node : ℕ)
+    (old new : List (ℕ × ℕ)) : Type 0 where
+  pub longer : IsLonger old new
+  pub from : (n w : ℕ) → Contains new (n, w) → Contains old (n, w)
+      ⊎ ((goes_on false root node ≡ true) × IsAcross rows root labels node n)
+  pub here : (row : Row) → Contains rows row → start row ≡ node → goes_on false root node ≡ true
+      → IsOfWalks root labels row → Contains new (end row, 0)
+
+-- the same of each of the first so many nodes
+pub record AreGoneOn (rows : List Row) (root : ℕ) (labels : List Label) (found : List (ℕ × ℕ))
+    (many : ℕ) : Type 0 where
+  pub on : (k : ℕ) (d : ℕ × ℕ) (row : Row) → k < many → Contains rows row
+      → start row ≡ (slice_index_or found k d).0 → goes_on false root (start row) ≡ true
+      → IsOfWalks root labels row → Contains found (end row, 0)
+
+-- to each node rows of least walks lead over the root and pseudonodes alone
+abbrev pub ArePlain : List Row → ℕ → List Label → List (ℕ × ℕ) → Type 0
+ArePlain rows root labels found =
+    (n w : ℕ) → Contains found (n, w) → (walk : List Row) × Leads rows root labels false root walk n

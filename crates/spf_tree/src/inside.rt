@@ -13,7 +13,7 @@ ghost use Rattle.spf_tree.specs.Local.{AreExchanged, IsClosed};
 ghost use Rattle.spf_tree.specs.Passing.{IsLonger, IsOfWalks, IsSpread, first};
 
 use crate::labels::Labels;
-use crate::passing::{add_ends, add_nodes, pass_on};
+use crate::passing::{add_ends, add_nodes, nodes_of, pass_on};
 use crate::row::Row;
 use isis_base::OutOfMemory;
 use std::alloc::Global;
@@ -88,20 +88,6 @@ fn spread(
         }
     }
     Ok(false)
-}
-
-/// The node of each pair.
-fn nodes_of(alloc: Global, pairs: &[(u64, u64)]) -> Result<Vec<u64>, OutOfMemory>
-    ensures { IfOk result (λ nodes. nodes.items ≡ map first pairs.now) }
-{
-    let mut nodes = Vec::new(alloc);
-    for pair in pairs {
-        match nodes.push(pair.0) {
-            Ok(()) => {}
-            Err(_) => return Err(OutOfMemory),
-        }
-    }
-    Ok(nodes)
 }
 
 /// The nodes whose next hops may be others. `None` where they are too many to look for.

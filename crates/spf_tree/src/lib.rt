@@ -14,15 +14,20 @@
 //! - `label.rt`, `labels.rt`: costs known so far; `queue.rt`: offers that wait; `search.rt`: the search
 //! - `distances.rt`: what a search ends with; `scratch.rt`: distances from scratch
 //! - `reach.rt`: what least walks lead to; `next.rt`: next hops of one target; `table.rt`: of all targets at once
+//! - `inside.rt`: the nodes whose next hops a change may change; `passing.rt`: what rows of least walks pass on; `plain.rt`: to
+//!   which nodes they lead over no system; `entering.rt`: the hops of a set of nodes, by those outside; `after.rt`: the table
+//!   of all hops after a change
 //! - `hops.rt`: lists of systems
 //! - `offers.rt`: offers by numbers of nodes, for the crate that repairs distances
 //! - `laws.rt`: what follows for all rows
 #![tactic(auto)]
 
+mod after;
 mod choice;
 mod distances;
 mod edge;
 mod edges;
+mod entering;
 mod graph;
 mod hops;
 mod indexed;
@@ -35,6 +40,7 @@ mod node;
 mod nodes;
 mod offers;
 mod passing;
+mod plain;
 mod queue;
 mod reach;
 mod row;
@@ -56,6 +62,7 @@ pub mod parts {
     pub use crate::reach::is_step;
 }
 
+pub use after::{Change, HopsAfter, hops_after};
 pub use choice::usable;
 pub use distances::Distances;
 pub use graph::Graph;

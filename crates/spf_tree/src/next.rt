@@ -58,7 +58,7 @@ fn leads_on(
 }
 
 /// Whether the node is in the list.
-fn has(nodes: &[u64], node: u64) -> bool
+pub fn has(nodes: &[u64], node: u64) -> bool
     ensures { MatchBool result (Contains nodes.now node) (Contains nodes.now node → ⊥) }
 {
     nodes.contains(&node)

@@ -1,11 +1,11 @@
 //! Nodes beside a word, which rows of least walks pass on from node to node: a hop, or 0 where being in a set is passed on.
 
-ghost use Rattle.std.specs.Prelude.{◌≡◌, ℕ, length, OnOk};
+ghost use Rattle.std.specs.Prelude.{◌≡◌, ℕ, length, map, IfOk, OnOk};
 ghost use Rattle.std.specs.Bool.{OnTrue};
 ghost use Rattle.std.specs.List.{Contains};
 ghost use Rattle.std.specs.List.Sorted.{IsNonDecreasingBy};
 ghost use Rattle.spf_tree.specs.Walks.{start};
-ghost use Rattle.spf_tree.specs.Passing.{IsPut, IsPassed, ArePassed, AreEnds, AreMarked};
+ghost use Rattle.spf_tree.specs.Passing.{IsPut, IsPassed, ArePassed, AreEnds, AreMarked, first};
 
 use crate::labels::Labels;
 use crate::node::number;
@@ -13,6 +13,7 @@ use crate::offers::first_row;
 use crate::reach::is_step;
 use crate::row::Row;
 use isis_base::OutOfMemory;
+use std::alloc::Global;
 
 /// Whether the pair is in the list.
 fn holds(pairs: &[(u64, u64)], node: u64, word: u64) -> bool
@@ -115,4 +116,18 @@ pub fn add_nodes(nodes: &[u64], found: &mut Vec<(u64, u64)>) -> Result<(), OutOf
         }
     }
     Ok(())
+}
+
+/// The node of each pair.
+pub fn nodes_of(alloc: Global, pairs: &[(u64, u64)]) -> Result<Vec<u64>, OutOfMemory>
+    ensures { IfOk result (λ nodes. nodes.items ≡ map first pairs.now) }
+{
+    let mut nodes = Vec::new(alloc);
+    for pair in pairs {
+        match nodes.push(pair.0) {
+            Ok(()) => {}
+            Err(_) => return Err(OutOfMemory),
+        }
+    }
+    Ok(nodes)
 }

@@ -134,7 +134,7 @@ fn visit(
 }
 
 /// Whether a node is gone on from: every one, or the root and pseudonodes alone.
-fn goes_on(all: bool, root: u64, node: u64) -> bool
+pub fn goes_on(all: bool, root: u64, node: u64) -> bool
     ensures { result ≡ goes_on all root node }
 {
     all || node == root || !is_system(node)

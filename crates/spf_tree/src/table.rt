@@ -1,6 +1,7 @@
 //! Next hops of all targets at once: each first system is explored from once, whatever the number of targets.
 
 ghost use Rattle.std.specs.Prelude.{◌≡◌, ◌≤◌, ◌<◌, ◌++◌, ◌↔◌, ℕ, length, map, slice_index_or, IfOk, OnOk};
+ghost use Rattle.std.specs.Bool.{OnTrue};
 ghost use Rattle.std.specs.List.{Contains};
 ghost use Rattle.std.specs.List.Sorted.{IsStrictlyIncreasing, IsStrictlySortedBy};
 ghost use Rattle.spf_tree.specs.Nodes.{node_number};
@@ -107,7 +108,7 @@ fn table_all(
 }
 
 /// The pairs in order, each once.
-fn pairs_in_order(mut pairs: Vec<(u64, u64)>) -> Vec<(u64, u64)>
+pub fn pairs_in_order(mut pairs: Vec<(u64, u64)>) -> Vec<(u64, u64)>
     ensures rising { IsStrictlySortedBy pair_cmp result.items }
     ensures all { (pair : ℕ × ℕ) → Contains pairs.items pair → Contains result.items pair }
     ensures none { (pair : ℕ × ℕ) → Contains result.items pair → Contains pairs.items pair }
@@ -118,7 +119,7 @@ fn pairs_in_order(mut pairs: Vec<(u64, u64)>) -> Vec<(u64, u64)>
 }
 
 /// The place of the first pair whose target isn't below this one.
-fn first_pair(pairs: &[(u64, u64)], target: u64) -> usize
+pub fn first_pair(pairs: &[(u64, u64)], target: u64) -> usize
     requires { IsTable pairs.now }
     ensures within { result ≤ length pairs.now }
     ensures below { (k : ℕ) (d : ℕ × ℕ) → k < result → (slice_index_or pairs.now k d).0 < target }
@@ -163,6 +164,104 @@ impl HopTable {
     {
         hops_beside(alloc, self.pairs.as_slice(), number(target))
     }
+
+    /// The nodes whose next hops aren't those of another table: some of either may be told that are the same.
+    pub fn apart(&self, alloc: Global, other: &HopTable) -> Result<Vec<u64>, OutOfMemory>
+        ensures { IfOk result (λ nodes. (target hop : ℕ) → (Contains nodes.items target → ⊥)
+            → Contains self.now (target, hop) ↔ Contains other.now (target, hop)) }
+    {
+        let (old, new) = (self.pairs.as_slice(), other.pairs.as_slice());
+        let mut nodes = Vec::new(alloc);
+        match add_lacking(old, new, &mut nodes) {
+            Ok(()) => {}
+            Err(error) => return Err(error),
+        }
+        match add_lacking(new, old, &mut nodes) {
+            Ok(()) => Ok(nodes),
+            Err(error) => Err(error),
+        }
+    }
+}
+
+/// Whether the pair is found in a table.
+fn is_found(table: &[(u64, u64)], pair: (u64, u64)) -> bool
+    ensures { OnTrue result (Contains table.now pair) }
+{
+    if let Ok(_) = table.binary_search(&pair) {
+        return true;
+    }
+    false
+}
+
+/// Adds a node, unless it is the last.
+fn add_once(nodes: &mut Vec<u64>, node: u64) -> Result<(), OutOfMemory>
+    ensures kept { OnOk result ((other : ℕ) → Contains nodes.old.items other
+        → Contains nodes.new.items other) }
+    ensures there { OnOk result (Contains nodes.new.items node) }
+{
+    if nodes.last() == Some(&node) {
+        return Ok(());
+    }
+    match nodes.push(node) {
+        Ok(()) => Ok(()),
+        Err(_) => Err(OutOfMemory),
+    }
+}
+
+/// Adds the target of a pair that another table lacks.
+fn add_if_lacking(
+    pair: (u64, u64),
+    other: &[(u64, u64)],
+    nodes: &mut Vec<u64>,
+) -> Result<(), OutOfMemory>
+    ensures kept { OnOk result ((node : ℕ) → Contains nodes.old.items node
+        → Contains nodes.new.items node) }
+    ensures lacking { OnOk result ((Contains nodes.new.items pair.0 → ⊥)
+        → Contains other.now pair) }
+{
+    if is_found(other, pair) {
+        return Ok(());
+    }
+    match add_once(nodes, pair.0) {
+        Ok(()) => Ok(()),
+        Err(error) => Err(error),
+    }
+}
+
+/// Adds the targets of pairs that another table lacks.
+fn add_lacking(
+    table: &[(u64, u64)],
+    other: &[(u64, u64)],
+    nodes: &mut Vec<u64>,
+) -> Result<(), OutOfMemory>
+    ensures kept { OnOk result ((node : ℕ) → Contains nodes.old.items node
+        → Contains nodes.new.items node) }
+    ensures lacking { OnOk result ((pair : ℕ × ℕ) → Contains table.now pair
+        → (Contains nodes.new.items pair.0 → ⊥) → Contains other.now pair) }
+{
+    for place in 0..table.len() {
+        match add_if_lacking(table[place], other, nodes) {
+            Ok(()) => {}
+            Err(error) => return Err(error),
+        }
+    }
+    Ok(())
+}
+
+/// The pairs of a table.
+pub fn pairs_of(table: &HopTable) -> &[(u64, u64)]
+    ensures same { result.now ≡ table.now }
+    ensures table { IsTable result.now }
+{
+    table.pairs.as_slice()
+}
+
+/// The table of pairs.
+pub fn table_of(pairs: Vec<(u64, u64)>) -> HopTable
+    requires { IsTable pairs.items }
+    ensures { result ≡ pairs.items }
+{
+    HopTable { pairs }
 }
 
 /// The hops beside a target.

@@ -85,26 +85,27 @@ fn costs(following: &Following, cost: u64) -> bool {
 
 /// Whether the only route costs so much once system 2 tells what is aside and nothing else.
 fn costs_then(
-    following: &Following,
+    following: &mut Following,
     lent: &Lent<'_>,
     aside: &Store,
     cost: u64,
 ) -> Result<bool, OutOfMemory>
-    requires { IsFollowing (outlook_in lent.now) following.now }
+    requires { IsFollowing (outlook_in lent.now) following.old }
 {
     match following.ahead(lent, Level::One, node(2), aside) {
-        Ok(Some(next)) => Ok(costs(&next, cost)),
-        Ok(None) => Ok(costs(following, cost)),
-        Err(error) => Err(error),
+        Ok(Some(next)) => following.put(next),
+        Ok(None) => {}
+        Err(error) => return Err(error),
     }
+    Ok(costs(following, cost))
 }
 
 /// The same of what follows a database.
 fn told_then(alloc: Global, one: &Store, aside: &Store, cost: u64) -> Result<bool, OutOfMemory> {
     let none = Store::new(alloc);
     let lent = lent(one, &none);
-    let following = Following::new(alloc, &lent)?;
-    costs_then(&following, &lent, aside, cost)
+    let mut following = Following::new(alloc, &lent)?;
+    costs_then(&mut following, &lent, aside, cost)
 }
 
 /// The same where system 2 tells this.

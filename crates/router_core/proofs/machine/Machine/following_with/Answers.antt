@@ -9,4 +9,4 @@ pub returns : goal.returns
 returns c =
     let lent = c.in_ok-lent.lent in
     IfOk-weaker c.with_prefixes.result _ _ (λ next follows. λ o is.
-    follows o (is ∙ lent-with (outlook_of c.args.self.now) (outlook_in lent) c.args.own.now c.as_slice.result.now c.in_ok-lent.ensures c.as_slice.ensures.pairs)) c.with_prefixes.ensures
+    follows o (is ∙ lent-with (outlook_of c.args.self.now) (outlook_in lent) c.args.own.now c.as_slice.result.now c.in_ok-lent.ensures c.as_slice.ensures.pairs)) c.with_prefixes.ensures.moves

@@ -5,8 +5,15 @@ use Rattle.router_routes.specs.Following.{IsFollowing}
 use Rattle.router_core.specs.Plans.{AreTold, committed}
 use Rattle.router_core.specs.Reached.{IsReached}
 use Rattle.router_core.specs.Settled.{AreTrue}
-use Rattle.router_core.proofs.MovedLemmas.{follows-next}
+use Rattle.router_core.proofs.MovedLemmas.{follows-next, next-fits}
 use Rattle.router_core.proofs.router.Router.follow.Goals as goal
+
+-- src/router.rt
+pub put_next-requires : goal.put_next-requires
+put_next-requires c =
+    let m = c.self.inside.machine in
+    let told = subst (λ (r : Router). AreTold (outlook_of r) (outlook_of (committed r c.args.deed)) c.args.told) (sym c.self.view_is) c.requires.told in
+    next-fits (outlook_of (committed m c.args.deed)) c.in-Ok.next c.self.inside.following (c.in-Ok.ensures (outlook_of (committed m c.args.deed)) told)
 
 -- src/router.rt
 pub invariant_of-self-2 : goal.invariant_of-self-2

@@ -3,6 +3,9 @@ use Rattle.std.specs.Prelude.{MatchOption}
 use Rattle.std.proofs.lemmas.Result.{IfOk-weaker}
 use Rattle.router_routes.specs.Outlooks.{Outlook}
 use Rattle.router_routes.specs.Following.{FollowingOf, IsFollowing}
+use Rattle.router_routes.specs.Coming.{IsComing}
+use Rattle.router_routes.specs.Moved.{outlook_at}
+use Rattle.router_routes.proofs.ComingLemmas.{next-fits}
 use Rattle.router_routes.proofs.AheadLemmas.{before-one, before-two, after-one, after-two}
 use Rattle.router_routes.proofs.following.Following.after.Goals as goal
 
@@ -22,7 +25,10 @@ pub with_levels-requires-clause-two : goal.with_levels-requires-clause-two
 with_levels-requires-clause-two c =
     after-two c.args.lent.now c.args.told.now c.as_told-view.result c.as_told-view.ensures.viewed c.args.self.now c.requires.follows c.runs_two.result c.runs_two.ensures c.self.inside.two (ap (λ (f : FollowingOf). f.levels.two) c.self.view_is) c.in-Ok.two c.in-Ok.ensures
 
-pub returns-in-Ok : goal.returns-in-Ok
-returns-in-Ok c =
+pub returns-in-Ok-clause-fits : goal.returns-in-Ok-clause-fits
+returns-in-Ok-clause-fits c = IfOk-weaker c.with_levels.result _ _ (λ next m. next-fits (outlook_at c.as_told-view.result) c.args.self.now next m) c.with_levels.ensures
+
+pub returns-in-Ok-clause-moves : goal.returns-in-Ok-clause-moves
+returns-in-Ok-clause-moves c =
     IfOk-weaker c.with_levels.result _ _ (λ next m. λ o is.
-    subst (λ (q : Outlook). MatchOption next (IsFollowing q c.args.self.now) (λ f. IsFollowing q f)) (sym (c.as_told-view.ensures.same o is)) m) c.with_levels.ensures
+    subst (λ (q : Outlook). MatchOption next (IsFollowing q c.args.self.now) (λ f. IsComing q c.args.self.now f)) (sym (c.as_told-view.ensures.same o is)) m) c.with_levels.ensures

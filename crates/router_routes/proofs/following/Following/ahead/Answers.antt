@@ -3,5 +3,8 @@ use Rattle.std.proofs.lemmas.Result.{IfOk-weaker}
 use Rattle.router_routes.specs.Outlooks.{outlook_in}
 use Rattle.router_routes.proofs.following.Following.ahead.Goals as goal
 
-pub returns : goal.returns
-returns c = IfOk-weaker c.after.result _ _ (λ next f. λ o is. f o (c.told_by-told.ensures.moved (outlook_in c.args.lent.now) o c.args.node refl is)) c.after.ensures
+pub returns-clause-fits : goal.returns-clause-fits
+returns-clause-fits c = c.after.ensures.fits
+
+pub returns-clause-moves : goal.returns-clause-moves
+returns-clause-moves c = IfOk-weaker c.after.result _ _ (λ next f. λ o is. f o (c.told_by-told.ensures.moved (outlook_in c.args.lent.now) o c.args.node refl is)) c.after.ensures.moves

@@ -1,11 +1,12 @@
 use Rattle.std.proofs.Common.{List, sym, subst}
-use Rattle.std.proofs.lemmas.Result.{IfOk-weaker}
+use Rattle.isis_base.specs.declared.level.Level.TheVariants as level
 use Rattle.route_table.specs.declared.candidate.Candidate.{Candidate}
 use Rattle.router_routes.specs.Candidates.{candidates_of, defaults}
 use Rattle.router_routes.specs.Kept.{AreSame, told_candidates}
 use Rattle.router_routes.specs.Moved.{outlook_at}
-use Rattle.router_routes.proofs.SameLemmas.{routes-of}
-use Rattle.router_routes.proofs.following.table.Goals as goal
+use Rattle.router_routes.proofs.ComingLemmas.{level-root}
+use Rattle.router_routes.proofs.PatchLemmas.{routes-listed}
+use Rattle.router_routes.proofs.following.tables_of.Goals as goal
 
 pub all_candidates-requires : goal.all_candidates-requires
 all_candidates-requires c =
@@ -17,9 +18,14 @@ all_candidates-requires c =
       attached = r.attached;
     }
 
-pub returns : goal.returns
-returns c =
+pub hops_from-requires : goal.hops_from-requires
+hops_from-requires c = level-root (outlook_at c.args.view.now) level.One c.args.one.now c.requires.one
+
+pub hops_from-requires-2 : goal.hops_from-requires-2
+hops_from-requires-2 c = level-root (outlook_at c.args.view.now) level.Two c.args.two.now c.requires.two
+
+pub returns-clause-routes : goal.returns-clause-routes
+returns-clause-routes c =
     let o = outlook_at c.args.view.now in
     let same = subst (λ (l : List Candidate). AreSame l (candidates_of o)) (sym c.as_slice-3.ensures.value) c.in_ok-candidates.ensures in
-    IfOk-weaker c.routes.result _ _ (λ routes are.
-    routes-of o c.args.one.now c.args.two.now c.graph.result.now c.graph-2.result.now c.as_slice-3.result.now routes c.requires.one c.requires.two c.graph.ensures c.graph-2.ensures same are) c.routes.ensures
+    routes-listed o c.args.one.now c.args.two.now c.in_ok-hops_one.hops_one c.in_ok-hops_two.hops_two c.as_slice-3.result.now c.in_ok-routes.routes c.requires.one c.requires.two c.in_ok-hops_one.ensures c.in_ok-hops_two.ensures same c.in_ok-routes.ensures

@@ -1,0 +1,112 @@
+-- What will follow a router, by its parts.
+use Rattle.std.proofs.Common.{◌≡◌, ◌∙◌, ◌↔◌, ℕ, List, Option, None, Some, sym, ap, subst}
+use Rattle.std.specs.Prelude.{IfSome, MatchOption}
+use Rattle.std.specs.List.{Contains}
+use Rattle.isis_base.specs.declared.identifiers.NodeId.{NodeId}
+use Rattle.isis_base.specs.declared.level.Level.{Level}
+use Rattle.isis_base.specs.declared.level.Level.TheVariants as level
+use Rattle.spf_tree.specs.Graphs.{GraphOf}
+use Rattle.spf_tree.specs.NextHops.{IsNextHop}
+use Rattle.spf_tree.specs.Nodes.{node_number}
+use Rattle.spf_repair.specs.Changes.{RepairedOf}
+use Rattle.route_table.specs.declared.candidate.Candidate.{Candidate}
+use Rattle.router_routes.specs.declared.coming.Coming.{Coming}
+use Rattle.router_routes.specs.declared.coming.LevelAfter.{LevelAfter}
+use Rattle.router_routes.specs.declared.coming.LevelsAfter.{LevelsAfter}
+use Rattle.router_routes.specs.Outlooks.{Outlook}
+use Rattle.router_routes.specs.Candidates.{defaults}
+use Rattle.router_routes.specs.Following.{AreHopsOf, FollowingOf, IsFollowing, IsLevel}
+use Rattle.router_routes.specs.Kept.{AreSame, AreReached, AreAmong, AreBeside, CostBeside, told_candidates}
+use Rattle.router_routes.specs.Moved.{AreNodes, or_old}
+use Rattle.router_routes.specs.Coming.{AreLevels, AreLevelsBeside, AreLevelsOf, AreOfOneRoot, AreRoutesAfter, FitsIn, IsComing, costs_after, hops_after}
+use Rattle.router_routes.proofs.SameLemmas.{beside-more, cost-refl}
+
+hops-of : (a b : RepairedOf) (s t : List (ℕ × ℕ)) → a ≡ b → s ≡ t → AreHopsOf b t → AreHopsOf a s
+hops-of a b s t e g are = subst (λ (r : RepairedOf). AreHopsOf r s) (sym e) (subst (λ (l : List (ℕ × ℕ)). AreHopsOf b l) (sym g) are)
+
+pub coming-is : (o : Outlook) (f : FollowingOf) (c : Coming) → AreLevels o f (record { one = c.one; two = c.two }) → AreReached o c.told.items c.defaults.items c.attached → AreRoutesAfter o f.routes c.routes → IsComing o f c
+coming-is o f c are reached routes =
+    record {
+      fits = routes.fits;
+      follows = λ g put. record {
+        one = subst (λ (r : RepairedOf). IsLevel o level.One r) (sym put.one) are.one;
+        two = subst (λ (r : RepairedOf). IsLevel o level.Two r) (sym put.two) are.two;
+        hops_one = hops-of g.levels.one (costs_after c.one f.levels.one) g.hops.one (hops_after c.one f.hops.one) put.one put.hops_one are.hops_one;
+        hops_two = hops-of g.levels.two (costs_after c.two f.levels.two) g.hops.two (hops_after c.two f.hops.two) put.two put.hops_two are.hops_two;
+        routes = routes.right g.routes put.routes;
+        attached = put.attached ∙ reached.attached;
+        told = subst (λ (l : List Candidate). AreSame l (told_candidates o)) (sym put.told) reached.told;
+        defaults = subst (λ (l : List Candidate). AreSame l (defaults o.told.one o.root)) (sym put.defaults) reached.ways;
+      };
+    }
+
+-- there is room for what comes
+pub next-fits : (o : Outlook) (f : FollowingOf) (next : Option Coming) → MatchOption next (IsFollowing o f) (λ c. IsComing o f c) → IfSome next (λ c. FitsIn f.routes c.routes)
+next-fits o f None follows = tt
+next-fits o f (Some c) comes = comes.fits
+
+-- ---- levels
+
+-- a level's costs and graph are from one node
+pub level-root : (o : Outlook) (l : Level) (r : RepairedOf) → IsLevel o l r → r.graph.root ≡ r.root
+level-root o l r is = is.graph.from ∙ sym is.root
+
+-- costs of two outlooks with one root
+pub of-one-root : (o p : Outlook) (l : Level) (old new : RepairedOf) → IsLevel o l old → IsLevel p l new → p.root ≡ o.root → AreOfOneRoot old new
+of-one-root o p l old new a b e = record { old_root = level-root o l old a; new_root = level-root p l new b; same = b.root ∙ e ∙ sym a.root }
+
+pub levels-are : (o : Outlook) (f : FollowingOf) (ones twos : Option RepairedOf) (levels : LevelsAfter) → IsLevel o level.One (or_old ones f.levels.one) → IsLevel o level.Two (or_old twos f.levels.two) → AreLevelsOf f ones twos levels → AreLevels o f levels
+levels-are o f ones twos levels a b are =
+    record {
+      one = subst (λ (r : RepairedOf). IsLevel o level.One r) (sym are.one) a;
+      two = subst (λ (r : RepairedOf). IsLevel o level.Two r) (sym are.two) b;
+      hops_one = are.hops_one;
+      hops_two = are.hops_two;
+    }
+
+-- where no level has new costs
+pub levels-stay : (o p : Outlook) (f : FollowingOf) (nodes : List NodeId) (levels : LevelsAfter) → levels.one ≡ None → levels.two ≡ None → IsFollowing o f → AreNodes nodes → AreBeside nodes o p → IsLevel p level.One f.levels.one → IsLevel p level.Two f.levels.two → AreLevelsBeside nodes o p f levels
+levels-stay o p f nodes levels a b is ids beside one two =
+    let first : costs_after levels.one f.levels.one ≡ f.levels.one = ap (λ (q : Option LevelAfter). costs_after q f.levels.one) a in
+    let second : costs_after levels.two f.levels.two ≡ f.levels.two = ap (λ (q : Option LevelAfter). costs_after q f.levels.two) b in
+    record {
+      beside = beside;
+      ids = ids;
+      costs_one = subst (λ (r : RepairedOf). CostBeside nodes f.levels.one.distances r.distances) (sym first) (cost-refl nodes f.levels.one.distances);
+      costs_two = subst (λ (r : RepairedOf). CostBeside nodes f.levels.two.distances r.distances) (sym second) (cost-refl nodes f.levels.two.distances);
+      right = record {
+        one = subst (λ (r : RepairedOf). IsLevel p level.One r) (sym first) one;
+        two = subst (λ (r : RepairedOf). IsLevel p level.Two r) (sym second) two;
+        hops_one = hops-of _ f.levels.one _ f.hops.one first (ap (λ (q : Option LevelAfter). hops_after q f.hops.one) a) is.hops_one;
+        hops_two = hops-of _ f.levels.two _ f.hops.two second (ap (λ (q : Option LevelAfter). hops_after q f.hops.two) b) is.hops_two;
+      };
+    }
+
+-- the nodes that moved, as they are told apart
+pub levels-beside : (some nodes all : List NodeId) (o p : Outlook) (f : FollowingOf) (one two : RepairedOf) (levels : LevelsAfter) → all ≡ nodes → one ≡ f.levels.one → two ≡ f.levels.two → AreAmong some nodes → AreNodes nodes → AreBeside some o p
+    → CostBeside nodes one.distances (costs_after levels.one one).distances → CostBeside nodes two.distances (costs_after levels.two two).distances → AreLevels p f levels → AreLevelsBeside all o p f levels
+levels-beside some nodes all o p f one two levels e a b more ids beside c d are =
+    subst (λ (l : List NodeId). AreLevelsBeside l o p f levels) (sym e) (record {
+      beside = beside-more some nodes o p more beside;
+      ids = ids;
+      costs_one = subst (λ (r : RepairedOf). CostBeside nodes r.distances (costs_after levels.one r).distances) a c;
+      costs_two = subst (λ (r : RepairedOf). CostBeside nodes r.distances (costs_after levels.two r).distances) b d;
+      right = are;
+    })
+
+-- ---- the newest costs and hops
+
+pub newest-level : (o : Outlook) (l : Level) (old now new : RepairedOf) (answer : Option LevelAfter) → new ≡ costs_after answer old → old ≡ now → IsLevel o l (costs_after answer now) → IsLevel o l new
+newest-level o l old now new answer e g is = subst (λ (r : RepairedOf). IsLevel o l r) (sym (e ∙ ap (costs_after answer) g)) is
+
+pub newest-costs : (nodes : List NodeId) (old now new : RepairedOf) (answer : Option LevelAfter) → new ≡ costs_after answer old → old ≡ now → CostBeside nodes now.distances (costs_after answer now).distances → CostBeside nodes now.distances new.distances
+newest-costs nodes old now new answer e g is = subst (λ (r : RepairedOf). CostBeside nodes now.distances r.distances) (sym (e ∙ ap (costs_after answer) g)) is
+
+-- the table of next hops of a level's costs
+pub hops-by : (r : RepairedOf) (g : GraphOf) (root : NodeId) (pairs : List (ℕ × ℕ)) → g ≡ r.graph → root ≡ g.root → ((target hop : ℕ) → Contains pairs (target, hop) ↔ IsNextHop g.rows (node_number root) target hop) → AreHopsOf r pairs
+hops-by r g root pairs e at-root are =
+    record {
+      each =
+          subst (λ (h : GraphOf). (target hop : ℕ) → Contains pairs (target, hop) ↔ IsNextHop h.rows (node_number h.root) target hop) e
+          (subst (λ (n : NodeId). (target hop : ℕ) → Contains pairs (target, hop) ↔ IsNextHop g.rows (node_number n) target hop) at-root are);
+    }

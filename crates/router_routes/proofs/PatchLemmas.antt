@@ -1,0 +1,389 @@
+-- Routes of which some prefixes are looked at anew, once some nodes moved.
+use Rattle.std.proofs.Common.{◌≡◌, ◌∙◌, ◌↔◌, ℕ, ◌+◌, ◌≤◌, Bool, true, false, not, List, [], ◌∷◌, ◌++◌, ◌⊎◌, length, map, filter, Option, None, Some, refl, sym, ap, subst, arith, inl, inr, if◌then◌else◌}
+use Rattle.std.specs.List.{Contains, flat_map}
+use Rattle.std.specs.List.Sorted.{IsStrictlyIncreasing}
+use Rattle.std.proofs.lemmas.List.Elements.{Contains-append_left, Contains-append_right, Contains-append_cases}
+use Rattle.isis_base.specs.declared.identifiers.NodeId.{NodeId}
+use Rattle.isis_base.specs.declared.identifiers.SystemId.{SystemId}
+use Rattle.isis_base.specs.declared.identifiers.LspId.{LspId}
+use Rattle.isis_base.specs.declared.prefix.Prefix.{Prefix}
+use Rattle.isis_base.specs.declared.level.Level.TheVariants as level
+use Rattle.isis_base.specs.Prefixes.{prefix_from}
+use Rattle.isis_base.proofs.PrefixValues.{prefix_from-prefix}
+use Rattle.lsp_store.specs.declared.entry.Entry.{Entry}
+use Rattle.spf_tree.specs.Nodes.{node_number}
+use Rattle.spf_tree.specs.Distances.{cost_at}
+use Rattle.spf_tree.proofs.SearchLemmas.{contains_first, contains_rest, contains_cases, contains_none}
+use Rattle.spf_repair.specs.Changes.{RepairedOf}
+use Rattle.route_table.specs.declared.candidate.Candidate.{Candidate}
+use Rattle.route_table.specs.declared.patch.Patch.{Patch}
+use Rattle.route_table.specs.declared.rank.Rank.{Rank}
+use Rattle.route_table.specs.declared.rank.Rank.TheVariants.{Own, One, Two, OneDown, Default}
+use Rattle.route_table.specs.declared.route.Route.{Route}
+use Rattle.route_table.specs.Ranks.{prefix_number}
+use Rattle.route_table.specs.Order.{IsListedBy, IsListedHop}
+use Rattle.route_table.specs.Routes.{IsHopTo, AreRoutes}
+use Rattle.route_table.specs.Patches.{AreClean, ArePatches, IsListed, IsPart, PatchesOf, is_moved, is_touched}
+use Rattle.route_table.proofs.HopLemmas.{tabled_is}
+use Rattle.route_table.proofs.OrderLemmas.{routes_by}
+use Rattle.route_table.proofs.PatchLemmas.{by_hops, of_part, routes_are}
+use Rattle.router_routes.specs.declared.lent.Lent.{Lent}
+use Rattle.router_routes.specs.declared.told.Told.{Told}
+use Rattle.router_routes.specs.declared.view.View.{View}
+use Rattle.router_routes.specs.declared.coming.LevelsAfter.{LevelsAfter}
+use Rattle.router_routes.specs.declared.coming.RoutesAfter.{RoutesAfter}
+use Rattle.router_routes.specs.declared.coming.RoutesAfter.TheVariants.{Made, Patched}
+use Rattle.router_routes.specs.Outlooks.{Outlook, graph_in, outlook_in}
+use Rattle.router_routes.specs.Candidates.{reached_in, has_bit, has_defaults, default_by, default_of, defaults, own_candidate, system_candidates, firm_candidates, candidates_of, AreRoutesOf}
+use Rattle.router_routes.specs.Following.{AreHopsOf, FollowingOf, IsFollowing, IsLevel}
+use Rattle.router_routes.specs.Kept.{AreBeside, AreReached, AreSame, CostBeside, HaveToldIds, stays, systems_among, told_candidates}
+use Rattle.router_routes.specs.Moved.{AreNodes, AreViewed, is_among, outlook_at}
+use Rattle.router_routes.specs.Coming.{AreLevels, AreLevelsBeside, AreRoutesAfter, costs_after, hops_after}
+use Rattle.router_routes.specs.Touched.{AreMovedNumbers, ArePatchesFor, AreRoutesFor, AreStill, AreTouched, HaveOwn, IsStill, is_by, is_for, prefix_of, prefixes_via}
+use Rattle.router_routes.proofs.GraphLemmas.{hop-by}
+use Rattle.router_routes.proofs.KeptLemmas.{among-in, filter-in, flat-in, in-filter}
+use Rattle.router_routes.proofs.NumberLemmas.{in-map, moved-none, there-moved}
+use Rattle.router_routes.proofs.AheadLemmas.{prefixes-stay}
+use Rattle.router_routes.proofs.BesideLemmas.{same-refl}
+use Rattle.router_routes.proofs.SameLemmas.{AreCostsOf, firm-told, told-after}
+
+-- ---- next hops
+
+-- tables of next hops are those of the levels' graphs
+pub listed-hop : (o : Outlook) (one two : RepairedOf) (t u : List (ℕ × ℕ)) → IsLevel o level.One one → IsLevel o level.Two two → AreHopsOf one t → AreHopsOf two u → (c : Candidate) (hop : ℕ) → IsListedHop t u c hop ↔ IsHopTo (graph_in o.told.one o.root) (graph_in o.told.two o.root) c hop
+listed-hop o one two t u a b h k c hop =
+    let listed = tabled_is one.graph two.graph t u h.each k.each c hop in
+    let graph = hop-by o.told.one o.told.two o.root one.graph two.graph a.graph b.graph c.rank (node_number c.origin) hop in
+    ((λ x. graph.0 (listed.0 x)), (λ x. listed.1 (graph.1 x)))
+
+-- routes by tables of next hops are the outlook's
+pub routes-listed : (o : Outlook) (one two : RepairedOf) (t u : List (ℕ × ℕ)) (cs : List Candidate) (routes : List Route) → IsLevel o level.One one → IsLevel o level.Two two → AreHopsOf one t → AreHopsOf two u → AreSame cs (candidates_of o) → AreRoutes (IsListedHop t u) cs routes → AreRoutesOf o routes
+routes-listed o one two t u cs routes a b h k same are =
+    routes_by (IsListedHop t u) (IsHopTo (graph_in o.told.one o.root) (graph_in o.told.two o.root)) cs (candidates_of o) routes (λ c. (same c).1) (λ c. (same c).0) (listed-hop o one two t u a b h k) are
+
+-- tables that agree on a node
+still-by : (t u v w : List (ℕ × ℕ)) (rank : Rank) (origin : ℕ) → ((hop : ℕ) → Contains t (origin, hop) ↔ Contains v (origin, hop)) → ((hop : ℕ) → Contains u (origin, hop) ↔ Contains w (origin, hop)) → (hop : ℕ) → IsListedBy t u rank origin hop ↔ IsListedBy v w rank origin hop
+still-by t u v w Own origin one two hop = ((λ h. h), (λ h. h))
+still-by t u v w One origin one two hop = one hop
+still-by t u v w Two origin one two hop = two hop
+still-by t u v w OneDown origin one two hop = one hop
+still-by t u v w Default origin one two hop = one hop
+
+-- ---- what other nodes tell
+
+beside-back : (nodes : List NodeId) (o p : Outlook) → AreBeside nodes o p → AreBeside nodes p o
+beside-back nodes o p is = record { root = sym is.root; areas = sym is.areas; runs = sym is.runs; one = sym is.one; two = sym is.two }
+
+cost-back : (nodes : List NodeId) (d e : List (ℕ × ℕ)) → CostBeside nodes d e → CostBeside nodes e d
+cost-back nodes d e same m id none = sym (same m id none)
+
+module _ (o p : Outlook) (nodes : List NodeId) (ids : AreNodes nodes) (beside : AreBeside nodes o p) (old-ids : HaveToldIds o) (new-ids : HaveToldIds p) (o1 o2 n1 n2 : RepairedOf) (lo1 : IsLevel o level.One o1) (lo2 : IsLevel o level.Two o2) (ln1 : IsLevel p level.One n1) (ln2 : IsLevel p level.Two n2) (a1 : AreCostsOf o1) (a2 : AreCostsOf o2) (b1 : AreCostsOf n1) (b2 : AreCostsOf n2) (c1 : CostBeside nodes o1.distances n1.distances) (c2 : CostBeside nodes o2.distances n2.distances) where
+  abbrev Kept : List Candidate
+  Kept = filter (stays nodes) (told_candidates o)
+
+  abbrev Come : List Candidate
+  Come = flat_map (system_candidates level.One p.told.one) (systems_among (cost_at n1.distances) (node_number n1.graph.root) nodes) ++ flat_map (system_candidates level.Two p.told.two) (systems_among (cost_at n2.distances) (node_number n2.graph.root) nodes)
+
+  pub still-told : (c : Candidate) → stays nodes c ≡ true → Contains (told_candidates o) c → Contains (told_candidates p) c
+  still-told c stay there =
+      (told-after o p nodes ids beside old-ids new-ids o1 o2 n1 n2 lo1 lo2 ln1 ln2 a1 b1 c1 a2 b2 c2 (told_candidates o) (Kept ++ Come) (same-refl (told_candidates o) (told_candidates o) refl) refl c).0
+      (Contains-append_left Kept Come c (in-filter (stays nodes) (told_candidates o) c there stay))
+
+pub still-of : (o p : Outlook) (f : FollowingOf) (nodes : List NodeId) (levels : LevelsAfter) → HaveToldIds o → HaveToldIds p → IsFollowing o f → AreLevelsBeside nodes o p f levels → AreCostsOf f.levels.one → AreCostsOf f.levels.two → AreCostsOf (costs_after levels.one f.levels.one) → AreCostsOf (costs_after levels.two f.levels.two) → AreStill nodes o p
+still-of o p f nodes levels old-ids new-ids is are a1 a2 b1 b2 =
+    let n1 = costs_after levels.one f.levels.one in
+    let n2 = costs_after levels.two f.levels.two in
+    record {
+      root = are.beside.root;
+      told = λ c stay. (
+        still-told o p nodes are.ids are.beside old-ids new-ids f.levels.one f.levels.two n1 n2 is.one is.two are.right.one are.right.two a1 a2 b1 b2 are.costs_one are.costs_two c stay,
+        still-told p o nodes are.ids (beside-back nodes o p are.beside) new-ids old-ids n1 n2 f.levels.one f.levels.two are.right.one are.right.two is.one is.two b1 b2 a1 a2
+            (cost-back nodes f.levels.one.distances n1.distances are.costs_one) (cost-back nodes f.levels.two.distances n2.distances are.costs_two) c stay,
+      );
+    }
+
+-- ---- the candidates of an outlook
+
+where-cases : (t : Bool) (firm ways : List Candidate) (c : Candidate) → Contains (firm ++ (if t then ways else [])) c → Contains firm c ⊎ Contains ways c
+where-cases true firm ways c there = Contains-append_cases firm ways c there
+where-cases false firm ways c there =
+    elim (Contains-append_cases firm [] c there) [
+      | inl here ↦ inl here
+      | inr none ↦ absurd (contains_none c none)
+    ]
+
+own-in : (root : NodeId) (prefixes : List (Prefix × ℕ)) (c : Candidate) → Contains (map (own_candidate root) prefixes) c → (own : Prefix × ℕ) × Contains prefixes own × (own_candidate root own ≡ c)
+own-in root [] c there = absurd (contains_none c there)
+own-in root (own ∷ prefixes) c there =
+    elim (contains_cases (own_candidate root own) c (map (own_candidate root) prefixes) there) [
+      | inl same ↦ (own, contains_first own prefixes, same)
+      | inr more ↦ let o = own-in root prefixes c more in (o.0, contains_rest own o.0 prefixes o.1, o.2)
+    ]
+
+abbrev IsOwn : Outlook → Candidate → Type 0
+IsOwn o c = (own : Prefix × ℕ) × Contains o.prefixes own × (own_candidate o.root own ≡ c)
+
+cases : (o : Outlook) (c : Candidate) → Contains (candidates_of o) c → IsOwn o c ⊎ (Contains (told_candidates o) c ⊎ Contains (defaults o.told.one o.root) c)
+unfolding candidates_of
+cases o c there =
+    elim (where-cases (has_defaults o) (firm_candidates o) (defaults o.told.one o.root) c there) [
+      | inl firm ↦
+          elim (Contains-append_cases (map (own_candidate o.root) o.prefixes) (told_candidates o) c (subst (λ (l : List Candidate). Contains l c) (firm-told o) firm)) [
+            | inl own ↦ inl (own-in o.root o.prefixes c own)
+            | inr told ↦ inr (inl told)
+          ]
+      | inr way ↦ inr (inr way)
+    ]
+
+firm-in : (o : Outlook) (c : Candidate) → Contains (map (own_candidate o.root) o.prefixes ++ told_candidates o) c → Contains (candidates_of o) c
+unfolding candidates_of
+firm-in o c there = Contains-append_left (firm_candidates o) _ c (subst (λ (l : List Candidate). Contains l c) (sym (firm-told o)) there)
+
+own-there : (o : Outlook) (own : Prefix × ℕ) → Contains o.prefixes own → Contains (candidates_of o) (own_candidate o.root own)
+own-there o own there = firm-in o (own_candidate o.root own) (Contains-append_left (map (own_candidate o.root) o.prefixes) (told_candidates o) (own_candidate o.root own) (in-map (own_candidate o.root) o.prefixes own there))
+
+told-there : (o : Outlook) (c : Candidate) → Contains (told_candidates o) c → Contains (candidates_of o) c
+told-there o c there = firm-in o c (Contains-append_right (map (own_candidate o.root) o.prefixes) (told_candidates o) c there)
+
+-- a way by default is for 0.0.0.0/0
+whole : Prefix
+whole = record { address = 0; length = 0; fits = omega arith; clear = refl }
+
+default-number : (s : SystemId × ℕ) (p : Option Prefix) (c : Candidate) → p ≡ Some whole → Contains (default_by p s) c → prefix_number c.prefix ≡ 0
+unfolding whole
+default-number s None c e there = absurd (contains_none c there)
+default-number s (Some all) c e there =
+    elim (contains_cases _ c [] there) [
+      | inl same ↦ ap (λ (x : Candidate). prefix_number x.prefix) (sym same) ∙ number-by (Some all) all refl e
+      | inr none ↦ absurd (contains_none c none)
+    ]
+  where
+    prefix-or : Option Prefix → ℕ
+    prefix-or None = 0
+    prefix-or (Some q) = prefix_number q
+
+    number-by : (p : Option Prefix) (q : Prefix) → p ≡ Some q → p ≡ Some whole → prefix_number q ≡ 0
+    number-by p q a b = sym (ap prefix-or a) ∙ ap prefix-or b
+
+default-step : (told : List (LspId × Entry)) (s : SystemId × ℕ) (c : Candidate) (t : Bool) → Contains (if t then default_by (prefix_from 0 0) s else []) c → prefix_number c.prefix ≡ 0
+unfolding whole
+default-step told s c true there = default-number s (prefix_from 0 0) c (prefix_from-prefix whole 0 0 refl refl) there
+default-step told s c false there = absurd (contains_none c there)
+
+default-zero : (told : List (LspId × Entry)) (root : NodeId) (c : Candidate) → Contains (defaults told root) c → prefix_number c.prefix ≡ 0
+unfolding defaults
+default-zero told root c there = let o = flat-in (default_of told) (reached_in told root) c there in default-step told o.0 c (has_bit told o.0) o.2
+
+-- ---- what stays where no prefix is touched
+
+module _ (o p : Outlook) (f : FollowingOf) (is : IsFollowing o f) (nodes : List NodeId) (levels : LevelsAfter) (still : AreStill nodes o p) (after : AreLevels p f levels) (told ways : List Candidate) (bit : Bool) (reached : AreReached p told ways bit) (prefixes : List Prefix) (touch : AreTouched nodes f levels o.prefixes p.prefixes told prefixes) where
+  abbrev Old : Candidate → ℕ → Type 0
+  Old = IsHopTo (graph_in o.told.one o.root) (graph_in o.told.two o.root)
+
+  abbrev New : Candidate → ℕ → Type 0
+  New = IsHopTo (graph_in p.told.one p.root) (graph_in p.told.two p.root)
+
+  abbrev Listed : Candidate → ℕ → Type 0
+  Listed = IsListedHop (hops_after levels.one f.hops.one) (hops_after levels.two f.hops.two)
+
+  new-hop : (c : Candidate) (hop : ℕ) → Listed c hop ↔ New c hop
+  new-hop = listed-hop p (costs_after levels.one f.levels.one) (costs_after levels.two f.levels.two) (hops_after levels.one f.hops.one) (hops_after levels.two f.hops.two) after.one after.two after.hops_one after.hops_two
+
+  still-hop : (c : Candidate) → IsStill nodes f levels (node_number c.origin) → (hop : ℕ) → Old c hop ↔ New c hop
+  still-hop c stay hop =
+      let old = listed-hop o f.levels.one f.levels.two f.hops.one f.hops.two is.one is.two is.hops_one is.hops_two c hop in
+      let same = still-by f.hops.one f.hops.two (hops_after levels.one f.hops.one) (hops_after levels.two f.hops.two) c.rank (node_number c.origin) stay.one stay.two hop in
+      let new = new-hop c hop in
+      ((λ h. new.0 (same.0 (old.1 h))), (λ h. old.0 (same.1 (new.1 h))))
+
+  module _ (patches : List Patch) (has : (n : ℕ) → IsListed prefixes n → is_touched patches n ≡ true) where
+    abbrev IsFree : Candidate → Type 0
+    IsFree c = is_touched patches (prefix_number c.prefix) ≡ false
+
+    listed-free : (n : ℕ) → IsListed prefixes n → is_touched patches n ≡ false → ⊥
+    listed-free n there free = (let e : true ≡ false = sym (has n there) ∙ free in cc)
+
+    prefix-free : (c : Candidate) → IsFree c → Contains prefixes c.prefix → ⊥
+    prefix-free c free there = listed-free (prefix_number c.prefix) (c.prefix, there, refl) free
+
+    zero-free : (c : Candidate) → IsFree c → prefix_number c.prefix ≡ 0 → ⊥
+    zero-free c free zero = listed-free (prefix_number c.prefix) (subst (λ (n : ℕ). IsListed prefixes n) (sym zero) touch.all) free
+
+    own-free : (c : Candidate) (own : Prefix × ℕ) → IsFree c → own.0 ≡ c.prefix → Contains o.prefixes own ⊎ Contains p.prefixes own → p.prefixes ≡ o.prefixes
+    own-free c own free e there =
+        elim touch.own [
+          | inl same ↦ same
+          | inr all ↦ absurd (prefix-free c free (subst (λ (q : Prefix). Contains prefixes q) e (all own there)))
+        ]
+
+    old-still : (c : Candidate) → IsFree c → Contains (told_candidates o) c → IsStill nodes f levels (node_number c.origin)
+    old-still c free there =
+        elim (touch.before c ((is.told c).1 there)) [
+          | inl listed ↦ absurd (prefix-free c free listed)
+          | inr stay ↦ stay
+        ]
+
+    new-still : (c : Candidate) → IsFree c → Contains (told_candidates p) c → IsStill nodes f levels (node_number c.origin)
+    new-still c free there =
+        elim (touch.after c ((reached.told c).1 there)) [
+          | inl listed ↦ absurd (prefix-free c free listed)
+          | inr stay ↦ stay
+        ]
+
+    out : (c : Candidate) → IsFree c → Contains (candidates_of o) c → Contains (candidates_of p) c
+    out c free there =
+        elim (cases o c there) [
+          | inl own ↦
+              let same = own-free c own.0 free (ap (λ (x : Candidate). x.prefix) own.2) (inl own.1) in
+              subst (λ (x : Candidate). Contains (candidates_of p) x) (ap (λ (n : NodeId). own_candidate n own.0) still.root ∙ own.2)
+              (own-there p own.0 (subst (λ (l : List (Prefix × ℕ)). Contains l own.0) (sym same) own.1))
+          | inr other ↦
+              elim other [
+                | inl tells ↦ told-there p c ((still.told c (ap not (old-still c free tells).beside)).0 tells)
+                | inr way ↦ absurd (zero-free c free (default-zero o.told.one o.root c way))
+              ]
+        ]
+
+    into : (c : Candidate) → IsFree c → Contains (candidates_of p) c → Contains (candidates_of o) c
+    into c free there =
+        elim (cases p c there) [
+          | inl own ↦
+              let same = own-free c own.0 free (ap (λ (x : Candidate). x.prefix) own.2) (inr own.1) in
+              subst (λ (x : Candidate). Contains (candidates_of o) x) (ap (λ (n : NodeId). own_candidate n own.0) (sym still.root) ∙ own.2)
+              (own-there o own.0 (subst (λ (l : List (Prefix × ℕ)). Contains l own.0) same own.1))
+          | inr other ↦
+              elim other [
+                | inl tells ↦ told-there o c ((still.told c (ap not (new-still c free tells).beside)).1 tells)
+                | inr way ↦ absurd (zero-free c free (default-zero p.told.one p.root c way))
+              ]
+        ]
+
+    own-hop : (own : Prefix × ℕ) (hop : ℕ) → Old (own_candidate p.root own) hop ↔ New (own_candidate p.root own) hop
+    own-hop own hop = ((λ h. h), (λ h. h))
+
+    hops : (c : Candidate) (hop : ℕ) → IsFree c → Contains (candidates_of p) c → Old c hop ↔ New c hop
+    hops c hop free there =
+        elim (cases p c there) [
+          | inl own ↦ subst (λ (x : Candidate). Old x hop ↔ New x hop) own.2 (own-hop own.0 hop)
+          | inr other ↦
+              elim other [
+                | inl tells ↦ still-hop c (new-still c free tells) hop
+                | inr way ↦ absurd (zero-free c free (default-zero p.told.one p.root c way))
+              ]
+        ]
+
+    clean : AreClean Old New (candidates_of o) (candidates_of p) patches
+    clean = record { out = out; into = into; hops = hops }
+
+  -- ---- the routes
+
+  pub routes-after : (all : List Candidate) (held : ℕ) (routes : RoutesAfter) → AreSame all (candidates_of p) → held ≡ length f.routes → AreRoutesFor Listed all prefixes held routes → AreRoutesAfter p f.routes routes
+  routes-after all held (Made made) same e are =
+      record {
+        fits = tt;
+        right = λ new put. subst (λ (l : List Route). AreRoutesOf p l) (sym put)
+            (routes-listed p (costs_after levels.one f.levels.one) (costs_after levels.two f.levels.two) (hops_after levels.one f.hops.one) (hops_after levels.two f.hops.two) all made after.one after.two after.hops_one after.hops_two same are);
+      }
+  routes-after all held (Patched patches) same e are =
+      let part : IsPart (candidates_of p) all patches.list = record { some = λ c. (same c).0; whole = λ c there is-touched. (same c).1 there } in
+      let right = of_part New (candidates_of p) all patches.list (by_hops Listed New all patches.list new-hop are.right) part in
+      let room = are.room in
+      record {
+        fits = omega (arith, room, e);
+        right = λ new put. routes_are Old New (candidates_of o) (candidates_of p) f.routes new patches.list is.routes right (clean patches.list are.touched) put;
+      }
+
+-- ---- as they are made
+
+-- patches by a part that has all for these prefixes
+pub patches-for : (HopTo : Candidate → ℕ → Type 0) (candidates part some : List Candidate) (prefixes : List Prefix) (numbers in-order : List ℕ) (held : ℕ) (patches : PatchesOf) → numbers ≡ map prefix_number prefixes → ((n : ℕ) → Contains numbers n → Contains in-order n) → part ≡ filter (is_for in-order) candidates → some ≡ part
+    → ArePatches HopTo some patches.list → ((n : ℕ) → is_touched patches.list n ≡ true ↔ IsListed prefixes n) → held + length patches.list ≤ patches.room → ArePatchesFor HopTo candidates prefixes held patches
+patches-for HopTo candidates part some prefixes numbers in-order held patches are all is-part is-some right touched room =
+    let is : some ≡ filter (is_for in-order) candidates = is-some ∙ is-part in
+    let number : (n : ℕ) → IsListed prefixes n → is_moved in-order n ≡ true =
+    λ n listed. there-moved in-order n (all n (subst (λ (l : List ℕ). Contains l n) (sym are) (subst (λ (m : ℕ). Contains (map prefix_number prefixes) m) listed.2 (in-map prefix_number prefixes listed.0 listed.1)))) in
+    record {
+      right = of_part HopTo candidates some patches.list right (record {
+        some = λ c there. (filter-in (is_for in-order) candidates c (subst (λ (l : List Candidate). Contains l c) is there)).0;
+        whole = λ c there free. subst (λ (l : List Candidate). Contains l c) (sym is) (in-filter (is_for in-order) candidates c there (number (prefix_number c.prefix) ((touched (prefix_number c.prefix)).0 free)));
+      });
+      touched = λ n listed. (touched n).1 listed;
+      room = room;
+    }
+
+-- ---- the nodes that moved
+
+among-false : (t : Bool) → (t ≡ true → ⊥) → t ≡ false
+among-false true h = absurd (h refl)
+among-false false h = refl
+
+pub moved-are : (nodes : List NodeId) (f : FollowingOf) (levels : LevelsAfter) (ones twos : List (ℕ × ℕ)) (n0 n1 n2 sorted : List ℕ) → ones ≡ f.hops.one → twos ≡ f.hops.two → n0 ≡ map node_number nodes → ((n : ℕ) → Contains n0 n → Contains n1 n) → ((n : ℕ) → Contains n1 n → Contains n2 n) → ((n : ℕ) → Contains n2 n → Contains sorted n) → IsStrictlyIncreasing sorted
+    → ((target hop : ℕ) → (Contains n1 target → ⊥) → Contains ones (target, hop) ↔ Contains (hops_after levels.one ones) (target, hop)) → ((target hop : ℕ) → (Contains n2 target → ⊥) → Contains twos (target, hop) ↔ Contains (hops_after levels.two twos) (target, hop)) → AreMovedNumbers nodes f levels sorted
+moved-are nodes f levels ones twos n0 n1 n2 sorted a b e k0 k1 k2 up apart1 apart2 =
+    record {
+      rising = up;
+      still = λ n none. let out = moved-none sorted n none in record {
+        beside = among-false (is_among nodes n) (λ among. (
+            let m = among-in nodes n among in
+            out (k2 n (k1 n (k0 n (subst (λ (l : List ℕ). Contains l n) (sym e) (subst (λ (x : ℕ). Contains (map node_number nodes) x) m.2 (in-map node_number nodes m.0 m.1))))))));
+        one = λ hop. subst (λ (l : List (ℕ × ℕ)). Contains l (n, hop) ↔ Contains (hops_after levels.one l) (n, hop)) a (apart1 n hop (λ there. out (k2 n (k1 n there))));
+        two = λ hop. subst (λ (l : List (ℕ × ℕ)). Contains l (n, hop) ↔ Contains (hops_after levels.two l) (n, hop)) b (apart2 n hop (λ there. out (k2 n there)));
+      };
+    }
+
+-- ---- the prefixes that are touched
+
+via-step : (nodes : List NodeId) (f : FollowingOf) (levels : LevelsAfter) (numbers : List ℕ) (cs : List Candidate) (c : Candidate) → AreMovedNumbers nodes f levels numbers → Contains cs c → (t : Bool) → is_by numbers c ≡ t → Contains (prefixes_via numbers cs) c.prefix ⊎ IsStill nodes f levels (node_number c.origin)
+via-step nodes f levels numbers cs c are there true is = inl (in-map prefix_of (filter (is_by numbers) cs) c (in-filter (is_by numbers) cs c there is))
+via-step nodes f levels numbers cs c are there false is = inr (are.still (node_number c.origin) is)
+
+pub touched-are : (nodes : List NodeId) (f : FollowingOf) (levels : LevelsAfter) (numbers some more : List ℕ) (old new : List (Prefix × ℕ)) (held later told : List Candidate) (p0 p1 p2 : List Prefix) → AreMovedNumbers nodes f levels numbers → some ≡ numbers → more ≡ numbers → held ≡ f.told → later ≡ told → IsListed p0 0 → HaveOwn old new p0 → p1 ≡ p0 ++ prefixes_via some held → p2 ≡ p1 ++ prefixes_via more later
+    → AreTouched nodes f levels old new told p2
+touched-are nodes f levels numbers some more old new held later told p0 p1 p2 are s m h l all own e1 e2 =
+    let from0 : (q : Prefix) → Contains p0 q → Contains p2 q =
+    λ q there. subst (λ (ps : List Prefix). Contains ps q) (sym e2) (Contains-append_left p1 (prefixes_via more later) q (subst (λ (ps : List Prefix). Contains ps q) (sym e1) (Contains-append_left p0 (prefixes_via some held) q there))) in
+    let via1 : (q : Prefix) → Contains (prefixes_via numbers f.told) q → Contains p2 q =
+    λ q there. subst (λ (ps : List Prefix). Contains ps q) (sym e2) (Contains-append_left p1 (prefixes_via more later) q (subst (λ (ps : List Prefix). Contains ps q) (sym e1) (Contains-append_right p0 (prefixes_via some held) q
+    (subst (λ (ns : List ℕ). Contains (prefixes_via ns held) q) (sym s) (subst (λ (cs : List Candidate). Contains (prefixes_via numbers cs) q) (sym h) there))))) in
+    let via2 : (q : Prefix) → Contains (prefixes_via numbers told) q → Contains p2 q =
+    λ q there. subst (λ (ps : List Prefix). Contains ps q) (sym e2) (Contains-append_right p1 (prefixes_via more later) q
+    (subst (λ (ns : List ℕ). Contains (prefixes_via ns later) q) (sym m) (subst (λ (cs : List Candidate). Contains (prefixes_via numbers cs) q) (sym l) there))) in
+    record {
+      all = (all.0, from0 all.0 all.1, all.2);
+      own = own-more old new p0 p2 from0 own;
+      before = λ c there. either c.prefix _ _ _ (via1 c.prefix) (via-step nodes f levels numbers f.told c are there (is_by numbers c) refl);
+      after = λ c there. either c.prefix _ _ _ (via2 c.prefix) (via-step nodes f levels numbers told c are there (is_by numbers c) refl);
+    }
+  where
+    own-more : (old new : List (Prefix × ℕ)) (xs ys : List Prefix) → ((q : Prefix) → Contains xs q → Contains ys q) → HaveOwn old new xs → HaveOwn old new ys
+    own-more old new xs ys from (inl same) = inl same
+    own-more old new xs ys from (inr all) = inr (λ own there. from own.0 (all own there))
+
+    either : (q : Prefix) (A B C : Type 0) → (A → B) → A ⊎ C → B ⊎ C
+    either q A B C g (inl a) = inl (g a)
+    either q A B C g (inr c) = inr c
+
+-- one's own prefixes, where others are told
+own-map : (own : Prefix × ℕ) (list : List (Prefix × ℕ)) → Contains list own → Contains (map (λ (one : Prefix × ℕ). one.0) list) own.0
+own-map own list there = in-map (λ (one : Prefix × ℕ). one.0) list own there
+
+pub own-listed : (old new : List (Prefix × ℕ)) (p0 p1 p2 : List Prefix) → p1 ≡ p0 ++ map (λ (one : Prefix × ℕ). one.0) old → p2 ≡ p1 ++ map (λ (one : Prefix × ℕ). one.0) new → HaveOwn old new p2
+own-listed old new p0 p1 p2 e1 e2 = inr (λ own there. subst (λ (ps : List Prefix). Contains ps own.0) (sym e2) (elim there [
+  | inl is-old ↦ Contains-append_left p1 _ own.0 (subst (λ (ps : List Prefix). Contains ps own.0) (sym e1) (Contains-append_right p0 _ own.0 (own-map own old is-old)))
+  | inr is-new ↦ Contains-append_right p1 _ own.0 (own-map own new is-new)
+]))
+
+pub all-listed : (p0 p1 p2 : List Prefix) (r s : List Prefix) → p1 ≡ p0 ++ r → p2 ≡ p1 ++ s → IsListed p0 0 → IsListed p2 0
+all-listed p0 p1 p2 r s e1 e2 all =
+    (all.0, subst (λ (ps : List Prefix). Contains ps all.0) (sym e2) (Contains-append_left p1 s all.0 (subst (λ (ps : List Prefix). Contains ps all.0) (sym e1) (Contains-append_left p0 r all.0 all.1))), all.2)
+
+pub first-listed : (p0 p1 : List Prefix) (q : Prefix) → p0 ≡ [] → p1 ≡ p0 ++ q ∷ [] → prefix_number q ≡ 0 → IsListed p1 0
+first-listed p0 p1 q none e zero = (q, subst (λ (ps : List Prefix). Contains ps q) (sym e) (Contains-append_right p0 (q ∷ []) q (contains_first q [])), zero)
+
+-- as a view and what is lent have them
+pub own-stay : (lent : Lent) (told : Told) (view : View) (prefixes : List Prefix) → AreViewed lent told view → told.prefixes ≡ None → HaveOwn (outlook_in lent).prefixes (outlook_at view).prefixes prefixes
+own-stay lent told view prefixes viewed none = inl (prefixes-stay lent told view viewed none)
+
+pub own-of : (lent : Lent) (view : View) (prefixes : List Prefix) → HaveOwn lent.prefixes.now view.prefixes.now prefixes → HaveOwn (outlook_in lent).prefixes (outlook_at view).prefixes prefixes
+unfolding outlook_in outlook_at
+own-of lent view prefixes have = have

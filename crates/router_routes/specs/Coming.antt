@@ -1,0 +1,93 @@
+-- What will follow a router, before it stands in the place of what does. All of it own.
+use Rattle.std.specs.Prelude.{◌≡◌, ℕ, ◌+◌, ◌≤◌, List, length, Option, Some, None}
+use Rattle.isis_base.specs.declared.identifiers.NodeId.{NodeId}
+use Rattle.isis_base.specs.declared.level.Level.TheVariants as level
+use Rattle.spf_repair.specs.Changes.{RepairedOf}
+use Rattle.route_table.specs.declared.route.Route.{Route}
+use Rattle.route_table.specs.Patches.{IsPatched}
+use Rattle.router_routes.specs.declared.coming.Coming.{Coming}
+use Rattle.router_routes.specs.declared.coming.LevelAfter.{LevelAfter}
+use Rattle.router_routes.specs.declared.coming.LevelsAfter.{LevelsAfter}
+use Rattle.router_routes.specs.declared.coming.RoutesAfter.{RoutesAfter}
+use Rattle.router_routes.specs.declared.coming.RoutesAfter.TheVariants.{Made, Patched}
+use Rattle.router_routes.specs.Outlooks.{Outlook}
+use Rattle.router_routes.specs.Candidates.{AreRoutesOf}
+use Rattle.router_routes.specs.Kept.{AreBeside, CostBeside}
+use Rattle.router_routes.specs.Moved.{AreNodes, or_old}
+use Rattle.router_routes.specs.Following.{AreHopsOf, FollowingOf, IsFollowing, IsLevel}
+
+-- ---- levels
+
+-- old and new costs of a level are from one node, and so are their graphs
+pub record AreOfOneRoot (old new : RepairedOf) : Type 0 where
+  pub old_root : old.graph.root ≡ old.root
+  pub new_root : new.graph.root ≡ new.root
+  pub same : new.root ≡ old.root
+
+-- a level's new costs, or else the old ones
+abbrev pub costs_after : Option LevelAfter → RepairedOf → RepairedOf
+costs_after None old = old
+costs_after (Some new) old = new.costs
+
+-- its new next hops, or else the old ones
+abbrev pub hops_after : Option LevelAfter → List (ℕ × ℕ) → List (ℕ × ℕ)
+hops_after None old = old
+hops_after (Some new) old = new.hops
+
+-- both levels will be right by these
+pub record AreLevels (o : Outlook) (f : FollowingOf) (levels : LevelsAfter) : Type 0 where
+  pub one : IsLevel o level.One (costs_after levels.one f.levels.one)
+  pub two : IsLevel o level.Two (costs_after levels.two f.levels.two)
+  pub hops_one : AreHopsOf (costs_after levels.one f.levels.one) (hops_after levels.one f.hops.one)
+  pub hops_two : AreHopsOf (costs_after levels.two f.levels.two) (hops_after levels.two f.hops.two)
+
+-- levels by these costs, each where it has new ones, with the next hops that follow of them
+pub record AreLevelsOf (f : FollowingOf) (ones twos : Option RepairedOf) (levels : LevelsAfter) : Type 0 where
+  pub one : costs_after levels.one f.levels.one ≡ or_old ones f.levels.one
+  pub two : costs_after levels.two f.levels.two ≡ or_old twos f.levels.two
+  pub hops_one : AreHopsOf (costs_after levels.one f.levels.one) (hops_after levels.one f.hops.one)
+  pub hops_two : AreHopsOf (costs_after levels.two f.levels.two) (hops_after levels.two f.hops.two)
+
+-- where these nodes moved, both levels will be right by these, and other nodes cost what they did
+pub record AreLevelsBeside (nodes : List NodeId) (o p : Outlook) (f : FollowingOf)
+    (levels : LevelsAfter) : Type 0 where
+  pub beside : AreBeside nodes o p
+  pub ids : AreNodes nodes
+  pub costs_one : CostBeside nodes f.levels.one.distances (costs_after levels.one f.levels.one).distances
+  pub costs_two : CostBeside nodes f.levels.two.distances (costs_after levels.two f.levels.two).distances
+  pub right : AreLevels p f levels
+
+-- ---- routes
+
+-- a table made anew, or patches with room for a table of so many routes
+abbrev pub FitsIn : List Route → RoutesAfter → Type 0
+FitsIn old (Made routes) = Unit {0}
+FitsIn old (Patched patches) = length old + length patches.list ≤ patches.room
+
+-- the routes once these have come
+abbrev pub ArePut : List Route → RoutesAfter → List Route → Type 0
+ArePut old (Made routes) new = new ≡ routes
+ArePut old (Patched patches) new = IsPatched old patches.list new
+
+-- routes that are right once they have come
+pub record AreRoutesAfter (o : Outlook) (old : List Route) (routes : RoutesAfter) : Type 0 where
+  pub fits : FitsIn old routes
+  pub right : (new : List Route) → ArePut old routes new → AreRoutesOf o new
+
+-- ---- all of it
+
+-- what follows a router once this has come
+pub record IsPut (old : FollowingOf) (c : Coming) (new : FollowingOf) : Type 0 where
+  pub one : new.levels.one ≡ costs_after c.one old.levels.one
+  pub two : new.levels.two ≡ costs_after c.two old.levels.two
+  pub hops_one : new.hops.one ≡ hops_after c.one old.hops.one
+  pub hops_two : new.hops.two ≡ hops_after c.two old.hops.two
+  pub routes : ArePut old.routes c.routes new.routes
+  pub attached : new.attached ≡ c.attached
+  pub told : new.told ≡ c.told.items
+  pub defaults : new.defaults ≡ c.defaults.items
+
+-- once this has come, what follows a router follows what routes look at
+pub record IsComing (o : Outlook) (f : FollowingOf) (c : Coming) : Type 0 where
+  pub fits : FitsIn f.routes c.routes
+  pub follows : (g : FollowingOf) → IsPut f c g → IsFollowing o g

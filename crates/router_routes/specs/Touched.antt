@@ -1,0 +1,87 @@
+-- The prefixes whose routes are looked at anew once some nodes moved, and those routes. All of it own.
+use Rattle.std.specs.Prelude.{◌≡◌, ◌↔◌, ℕ, ◌+◌, ◌≤◌, ◌⊎◌, Bool, true, false, List, length, map, filter}
+use Rattle.std.specs.List.{Contains}
+use Rattle.std.specs.List.Sorted.{IsStrictlyIncreasing}
+use Rattle.isis_base.specs.declared.identifiers.NodeId.{NodeId}
+use Rattle.isis_base.specs.declared.prefix.Prefix.{Prefix}
+use Rattle.spf_tree.specs.Nodes.{node_number}
+use Rattle.route_table.specs.declared.candidate.Candidate.{Candidate}
+use Rattle.route_table.specs.Ranks.{prefix_number}
+use Rattle.route_table.specs.Routes.{AreRoutes}
+use Rattle.route_table.specs.Patches.{ArePatches, IsListed, PatchesOf, is_moved, is_touched}
+use Rattle.router_routes.specs.declared.coming.LevelsAfter.{LevelsAfter}
+use Rattle.router_routes.specs.declared.coming.RoutesAfter.{RoutesAfter}
+use Rattle.router_routes.specs.declared.coming.RoutesAfter.TheVariants.{Made, Patched}
+use Rattle.router_routes.specs.Outlooks.{Outlook}
+use Rattle.router_routes.specs.Following.{FollowingOf}
+use Rattle.router_routes.specs.Moved.{is_among}
+use Rattle.router_routes.specs.Kept.{stays, told_candidates}
+use Rattle.router_routes.specs.Coming.{hops_after}
+
+-- ---- what stays
+
+-- what systems tell by way of other nodes stays
+pub record AreStill (nodes : List NodeId) (old new : Outlook) : Type 0 where
+  pub root : new.root ≡ old.root
+  pub told : (c : Candidate) → stays nodes c ≡ true
+      → Contains (told_candidates old) c ↔ Contains (told_candidates new) c
+
+-- a node is none of those that moved, and its next hops stay in both levels
+pub record IsStill (nodes : List NodeId) (f : FollowingOf) (levels : LevelsAfter) (n : ℕ) : Type 0 where
+  pub beside : is_among nodes n ≡ false
+  pub one : (hop : ℕ) → Contains f.hops.one (n, hop) ↔ Contains (hops_after levels.one f.hops.one) (n, hop)
+  pub two : (hop : ℕ) → Contains f.hops.two (n, hop) ↔ Contains (hops_after levels.two f.hops.two) (n, hop)
+
+-- numbers in order: of these nodes, and of all whose next hops are others in a level
+pub record AreMovedNumbers (nodes : List NodeId) (f : FollowingOf) (levels : LevelsAfter)
+    (numbers : List ℕ) : Type 0 where
+  pub rising : IsStrictlyIncreasing numbers
+  pub still : (n : ℕ) → is_moved numbers n ≡ false → IsStill nodes f levels n
+
+-- ---- the prefixes that are looked at
+
+-- whether a candidate is by way of a node of these numbers, and whether it is for a prefix of these numbers
+abbrev pub is_by : List ℕ → Candidate → Bool
+is_by numbers c = is_moved numbers (node_number c.origin)
+
+abbrev pub is_for : List ℕ → Candidate → Bool
+is_for numbers c = is_moved numbers (prefix_number c.prefix)
+
+abbrev pub prefix_of : Candidate → Prefix
+prefix_of c = c.prefix
+
+-- the prefixes of candidates by way of these nodes
+abbrev pub prefixes_via : List ℕ → List Candidate → List Prefix
+prefixes_via numbers candidates = map prefix_of (filter (is_by numbers) candidates)
+
+-- one's own prefixes stay, or all of them, old and new, are there
+abbrev pub HaveOwn : List (Prefix × ℕ) → List (Prefix × ℕ) → List Prefix → Type 0
+HaveOwn old new prefixes = (new ≡ old)
+    ⊎ ((own : Prefix × ℕ) → Contains old own ⊎ Contains new own → Contains prefixes own.0)
+
+-- each candidate's prefix is there, or the node that it is by way of stays
+abbrev pub HaveMoved : List NodeId → FollowingOf → LevelsAfter → List Candidate → List Prefix → Type 0
+HaveMoved nodes f levels candidates prefixes = (c : Candidate) → Contains candidates c
+    → Contains prefixes c.prefix ⊎ IsStill nodes f levels (node_number c.origin)
+
+-- 0.0.0.0/0 is there, one's own prefixes are where they don't stay, and what moved nodes told and tell
+pub record AreTouched (nodes : List NodeId) (f : FollowingOf) (levels : LevelsAfter)
+    (old new : List (Prefix × ℕ)) (told : List Candidate) (prefixes : List Prefix) : Type 0 where
+  pub all : IsListed prefixes 0
+  pub own : HaveOwn old new prefixes
+  pub before : HaveMoved nodes f levels f.told prefixes
+  pub after : HaveMoved nodes f levels told prefixes
+
+-- ---- their routes
+
+-- patches for these prefixes, with room for a table of so many routes
+pub record ArePatchesFor (HopTo : Candidate → ℕ → Type 0) (candidates : List Candidate)
+    (prefixes : List Prefix) (held : ℕ) (patches : PatchesOf) : Type 0 where
+  pub right : ArePatches HopTo candidates patches.list
+  pub touched : (n : ℕ) → IsListed prefixes n → is_touched patches.list n ≡ true
+  pub room : held + length patches.list ≤ patches.room
+
+-- a table made anew, or patches for these prefixes
+abbrev pub AreRoutesFor : (Candidate → ℕ → Type 0) → List Candidate → List Prefix → ℕ → RoutesAfter → Type 0
+AreRoutesFor HopTo candidates prefixes held (Made routes) = AreRoutes HopTo candidates routes
+AreRoutesFor HopTo candidates prefixes held (Patched patches) = ArePatchesFor HopTo candidates prefixes held patches

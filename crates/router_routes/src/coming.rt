@@ -1,0 +1,151 @@
+//! What will follow a router, and that put in the place of what does (own).
+ghost use Rattle.std.specs.Prelude.{◌≡◌, ℕ, List, IfOk};
+ghost use Rattle.spf_repair.specs.Changes.{RepairedOf};
+ghost use Rattle.router_routes.specs.Following.{AreHopsOf};
+ghost use Rattle.router_routes.specs.Moved.{or_old};
+ghost use Rattle.router_routes.specs.Coming.{AreOfOneRoot, ArePut, FitsIn, IsPut, costs_after, hops_after};
+
+use crate::following::Following;
+use crate::hops_moved::hops_moved;
+use isis_base::OutOfMemory;
+use route_table::{Candidate, Patches, Routes};
+use spf_repair::Repaired;
+use spf_tree::{HopTable, all_next_hops};
+use std::alloc::Global;
+
+/// What of a router's graphs and routes will be others: each level's costs and next hops, where they don't stay; the routes;
+/// whether it is attached; what its levels tell of prefixes, and the ways by default. `Following::put` puts it in.
+#[derive(Drop)]
+pub struct Coming {
+    pub(crate) one: Option<LevelAfter>,
+    pub(crate) two: Option<LevelAfter>,
+    pub(crate) routes: RoutesAfter,
+    pub(crate) attached: bool,
+    pub(crate) told: Vec<Candidate>,
+    pub(crate) defaults: Vec<Candidate>,
+}
+
+/// A level's costs, and its nodes beside their next hops, as they will be.
+#[derive(Drop)]
+pub(crate) struct LevelAfter {
+    pub costs: Repaired,
+    pub hops: HopTable,
+}
+
+/// Both levels as they will be; `None` where costs and hops stay.
+#[derive(Drop)]
+pub(crate) struct LevelsAfter {
+    pub one: Option<LevelAfter>,
+    pub two: Option<LevelAfter>,
+}
+
+/// The routes as they will be: made anew, or what some prefixes' routes become.
+#[derive(Drop)]
+pub(crate) enum RoutesAfter {
+    Made(Routes),
+    Patched(Patches),
+}
+
+impl Following {
+    /// Puts in what comes. It takes no memory, and can't fail.
+    pub fn put(&mut self, coming: Coming)
+        requires { FitsIn self.old.routes coming.routes }
+        ensures { IsPut self.old coming self.new }
+    {
+        let Coming {
+            one,
+            two,
+            routes,
+            attached,
+            told,
+            defaults,
+        } = coming;
+        put_level(&mut self.one, &mut self.hops_one, one);
+        put_level(&mut self.two, &mut self.hops_two, two);
+        put_routes(&mut self.routes, routes);
+        self.attached = attached;
+        self.told = told;
+        self.defaults = defaults;
+    }
+}
+
+/// Puts in a level's costs and hops, where they come.
+fn put_level(costs: &mut Repaired, hops: &mut HopTable, new: Option<LevelAfter>)
+    ensures costs { costs.new ≡ costs_after new costs.old }
+    ensures hops { hops.new ≡ hops_after new hops.old }
+{
+    match new {
+        Some(level) => {
+            *costs = level.costs;
+            *hops = level.hops;
+        }
+        None => {}
+    }
+}
+
+/// Puts in the routes.
+fn put_routes(routes: &mut Routes, new: RoutesAfter)
+    requires { FitsIn routes.old new }
+    ensures { ArePut routes.old new routes.new }
+{
+    match new {
+        RoutesAfter::Made(made) => *routes = made,
+        RoutesAfter::Patched(patches) => routes.put(patches),
+    }
+}
+
+/// A level's new costs with the next hops that follow of them.
+pub(crate) fn level_of(
+    alloc: Global,
+    costs: Option<Repaired>,
+    old: &Repaired,
+    known: &HopTable,
+) -> Result<Option<LevelAfter>, OutOfMemory>
+    requires known { AreHopsOf old.now known.now }
+    requires root { AreOfOneRoot old.now (or_old costs old.now) }
+    ensures costs { IfOk result (λ level. costs_after level old.now ≡ or_old costs old.now) }
+    ensures hops { IfOk result (λ level.
+        AreHopsOf (costs_after level old.now) (hops_after level known.now)) }
+{
+    let costs = match costs {
+        Some(costs) => costs,
+        None => return Ok(None),
+    };
+    let hops = hops_moved(alloc, old, known, &costs);
+    match hops {
+        Ok(hops) => Ok(Some(LevelAfter { costs, hops })),
+        Err(error) => {
+            drop(costs);
+            Err(error)
+        }
+    }
+}
+
+/// The nodes of a level beside their next hops, by its costs.
+pub(crate) fn hops_from(alloc: Global, costs: &Repaired) -> Result<HopTable, OutOfMemory>
+    requires { costs.now.graph.root ≡ costs.now.root }
+    ensures { IfOk result (λ hops. AreHopsOf costs.now hops) }
+{
+    let graph = costs.graph();
+    all_next_hops(alloc, graph, costs.distances(), graph.root())
+}
+
+/// The new costs, or else the old ones.
+pub(crate) fn newest_costs<'a>(new: &'a Option<LevelAfter>, old: &'a Repaired) -> &'a Repaired
+    ensures { result.now ≡ costs_after new.now old.now }
+{
+    match new {
+        Some(new) => &new.costs,
+        None => old,
+    }
+}
+
+/// The new next hops, or else the old ones.
+pub(crate) fn newest_hops<'a>(new: &'a Option<LevelAfter>, old: &'a HopTable) -> &'a HopTable
+    ensures { result.now ≡ hops_after new.now old.now }
+{
+    match new {
+        Some(new) => &new.hops,
+        None => old,
+    }
+}

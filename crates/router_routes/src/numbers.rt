@@ -1,0 +1,27 @@
+//! Numbers in order, among which one is looked for (own).
+ghost use Rattle.std.specs.Prelude.{◌≡◌, ℕ};
+ghost use Rattle.std.specs.List.{Contains};
+ghost use Rattle.std.specs.List.Sorted.{IsStrictlyIncreasing};
+ghost use Rattle.route_table.specs.Patches.{is_moved};
+
+/// The numbers in order, each once.
+pub(crate) fn in_order(mut numbers: Vec<u64>) -> Vec<u64>
+    ensures rising { IsStrictlyIncreasing result.items }
+    ensures all { (n : ℕ) → Contains numbers.items n → Contains result.items n }
+    ensures none { (n : ℕ) → Contains result.items n → Contains numbers.items n }
+{
+    numbers.sort_unstable();
+    numbers.dedup();
+    numbers
+}
+
+/// Whether a number is one of these.
+pub(crate) fn is_one_of(numbers: &[u64], number: u64) -> bool
+    requires { IsStrictlyIncreasing numbers.now }
+    ensures { result ≡ is_moved numbers.now number }
+{
+    match numbers.binary_search(&number) {
+        Ok(_) => true,
+        Err(_) => false,
+    }
+}
