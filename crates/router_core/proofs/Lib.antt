@@ -23,6 +23,7 @@ mod LastLemmas
 pub mod RouteLemmas
 mod LeakedUpLemmas
 mod MovedLemmas
+mod OutbidLemmas
 mod RefreshLemmas
 mod FaceLemmas
 mod KeepLemmas

@@ -53,9 +53,10 @@ use Rattle.router_routes.specs.declared.coming.Coming.{Coming}
 use Rattle.router_routes.specs.Coming.{FitsIn, IsComing, IsPut as IsNextPut}
 use Rattle.router_routes.specs.Outlooks.{Outlook, outlook_of, prefixes_by, where_run}
 use Rattle.router_routes.specs.Moved.{told_at, told_beside, beside, IsMovedAt}
-use Rattle.router_core.proofs.RouteLemmas.{live-is, told-cells, SameConfig, step-config}
+use Rattle.router_core.proofs.RouteLemmas.{live-is, told-cells, SameConfig, config-same, take-config}
 use Rattle.router_core.specs.Givens.{given}
 use Rattle.router_core.specs.Plans.{IsTeller, is_moving}
+use Rattle.router_core.specs.Puts.{IsWith, Tells}
 
 abbrev pub Entries : Type 0
 Entries = List (LspId × Entry)
@@ -70,11 +71,6 @@ put-behind id v xs below = ap (λ l. put l id v) (sym (append-nil xs)) ∙ put-b
 
 -- ---- what is told of a cell and of an entry
 
--- a cell tells what an entry tells
-pub record Tells (cell : Cell) (e : Entry) : Type 0 where
-  pub live : is_live cell.rank ≡ store.is_live e
-  pub says : store.is_live e ≡ true → told cell.flags cell.octets ≡ told e.flags e.octets
-
 one-told : (id : LspId) (cell : Cell) (e : Entry) (cells : List (ℕ × Cell)) (entries : Entries) → IsId id → Tells cell e → told_by cells ≡ told_in entries → told_by ((lsp_number id, cell) ∷ cells) ≡ told_in ((id, e) ∷ entries)
 one-told id cell e cells entries is tells rest = by-test (store.is_live e) refl
   where
@@ -88,7 +84,7 @@ one-told id cell e cells entries is tells rest = by-test (store.is_live e) refl
         let live : is_live cell.rank ≡ false = tells.live ∙ h in
         rw (live, h) rest
 
-own-tells : (e : Entry) (row : FlagRow) → Tells (cell_of e row) e
+pub own-tells : (e : Entry) (row : FlagRow) → Tells (cell_of e row) e
 own-tells e row = record { live = live-is e.key; says = λ _. refl }
 
 module _ (id : LspId) (cell : Cell) (e : Entry) (is : IsId id) (tells : Tells cell e) (x : LspId × Entry) (xs : Entries) (rs : List (LspId × FlagRow)) (row : LspId × FlagRow) (long : length rs ≡ length xs) (own : IsId x.0) (ids : AllByRecursion (λ (p : LspId × Entry). IsId p.0) xs) (rest : told_by (model.put (cells_of xs rs) (lsp_number id) cell) ≡ told_in (put xs id e)) where
@@ -298,7 +294,7 @@ put-book : (scene : Scene) (state : LevelState) (place : ℕ) (w : Whose) (h : H
 unfolding take_lsp
 put-book scene state place w h cell apart e = taken-heard scene state place w h (met state.book w h) apart ∙ put-heard state.book place w h cell e
 
-set-cells : (book : Book) (id : ℕ) (cell : Cell) → (set_cell book id (Some cell)).cells ≡ model.put book.cells id cell
+pub set-cells : (book : Book) (id : ℕ) (cell : Cell) → (set_cell book id (Some cell)).cells ≡ model.put book.cells id cell
 unfolding set_cell
 set-cells book id cell = refl
 
@@ -306,11 +302,11 @@ pub record IsPut (r t : Router) (l : Level) (id : ℕ) (cell : Cell) : Type 0 wh
   pub cells : (book_of t l).cells ≡ model.put (book_of r l).cells id cell
   pub other : book_of t (beside l) ≡ book_of r (beside l)
 
-put-level : (r : Router) (l : Level) (id : ℕ) (cell : Cell) (s : LevelState) → s.book ≡ set_cell (book_of r l) id (Some cell) → IsPut r (with_level r l s) l id cell
+pub put-level : (r : Router) (l : Level) (id : ℕ) (cell : Cell) (s : LevelState) → s.book ≡ set_cell (book_of r l) id (Some cell) → IsPut r (with_level r l s) l id cell
 put-level r level.One id cell s e = record { cells = ap (λ (b : Book). b.cells) e ∙ set-cells (book_of r level.One) id cell; other = refl }
 put-level r level.Two id cell s e = record { cells = ap (λ (b : Book). b.cells) e ∙ set-cells (book_of r level.Two) id cell; other = refl }
 
-settled-put : (r : Router) (o : Outcome) (l : Level) (id : ℕ) (cell : Cell) → IsPut r o.router l id cell → IsPut r (settled o).router l id cell
+pub settled-put : (r : Router) (o : Outcome) (l : Level) (id : ℕ) (cell : Cell) → IsPut r o.router l id cell → IsPut r (settled o).router l id cell
 settled-put r o level.One id cell s = record { cells = s.cells; other = s.other }
 settled-put r o level.Two id cell s = record { cells = s.cells; other = s.other }
 
@@ -356,6 +352,26 @@ moved-at r t same level.Two runs node here other others at_node rises =
       rises = rw still rises;
     }
 
+-- an entry takes the place of what is held of an LSP ID
+module _ (r t : Router) (l : Level) (runs : at r.config.runs l ≡ true) (id : LspId) (e : Entry) (w : IsWith r t l id e) (v : BookState) (of_book : sync.book_of v ≡ book_of r l) (long : length v.rows ≡ length v.store.entries)
+    (is : IsId id) (ids : AllByRecursion (λ (p : LspId × Entry). IsId p.0) v.store.entries) (rises : RisesFrom 0 v.store.entries) where
+  pub put-moves : IsMovedAt (outlook_of r) (outlook_of t) l id.node (told_in (put (between (number_of id.node 0) (number_of id.node 255) v.store.entries) id e))
+  put-moves =
+      let entries = v.store.entries in
+      let b = book_of r l in
+      let cells : b.cells ≡ cells_of entries v.rows = ap (λ (x : Book). x.cells) (sym of_book) in
+      let later : told_by (book_of t l).cells ≡ told_in (put entries id e) =
+      ap told_by w.cells ∙ ap (λ (m : List (ℕ × Cell)). told_by (model.put m (lsp_number id) w.cell)) cells ∙ put-told id w.cell e entries v.rows is w.tells long ids in
+      let before : told_by b.cells ≡ told_in entries = ap told_by cells ∙ told-cells entries v.rows long ids in
+      moved-at r t (config-same r t w.config) l runs id.node (told_in (put (between (number_of id.node 0) (number_of id.node 255) entries) id e))
+      (ap (λ (x : Book). told_by x.cells) w.other)
+      (ap (told_beside id.node) later ∙ beside-put id e entries is ids ∙ sym (ap (told_beside id.node) before))
+      (ap (told_at id.node) later ∙ here-put id e entries is (put-ids id e entries is ids) rises)
+      (subst (RisesFrom 0) (sym later) (told-rises 0 (put entries id e) (put-rises entries 0 id e (omega arith) rises)))
+
+  pub put-moves-in : (db : Database) → db ≡ v.store → IsMovedAt (outlook_of r) (outlook_of t) l id.node (told_in (put (between (number_of id.node 0) (number_of id.node 255) db.entries) id e))
+  put-moves-in db at = subst (λ (d : Database). IsMovedAt (outlook_of r) (outlook_of t) l id.node (told_in (put (between (number_of id.node 0) (number_of id.node 255) d.entries) id e))) (sym at) put-moves
+
 -- ---- the cell of a row, and what tells what it does
 
 pub live-whole : (rank : ℕ) → is_live rank ≡ true → is_purge rank ≡ false
@@ -371,7 +387,7 @@ stored-tells h e srm ssn key flags octets = record {
     live : is_live h.rank ≡ store.is_live e
     live = ap is_live (sym key) ∙ live-is e.key
 
-not-live : (n : ℕ) → is_live (purge_rank n) ≡ false
+pub not-live : (n : ℕ) → is_live (purge_rank n) ≡ false
 not-live n = grind (arith, nat_tests)
 
 -- a purge tells nothing, nor does an empty entry
@@ -440,39 +456,18 @@ row-puts lsp.Older l w opened p2p place held e moving tells is = absurd (cc)
 
 -- ---- an LSP that met a row
 
-module _ (r : Router) (place : ℕ) (l : Level) (from : Envelope) (lsp_in : heard.LspHeard) (c : Circuit) (v : BookState) (e : Entry)
+module _ (r : Router) (place : ℕ) (l : Level) (from : Envelope) (lsp_in : heard.LspHeard) (c : Circuit) (e : Entry)
     (there : nth r.circuits place ≡ Some c) (kept : lsp_drop r place c l from (heard_of lsp_in) ≡ None)
     (moving : is_moving (answer_of (met (book_of r l) (whose_of r.config.system (level_of r l) (lsp_number lsp_in.entry.id)) (heard_of lsp_in)) lsp_in) ≡ true)
-    (teller : IsTeller (answer_of (met (book_of r l) (whose_of r.config.system (level_of r l) (lsp_number lsp_in.entry.id)) (heard_of lsp_in)) lsp_in) lsp_in e)
-    (runs : at r.config.runs l ≡ true) (of_book : sync.book_of v ≡ book_of r l) (long : length v.rows ≡ length v.store.entries)
-    (is : IsId lsp_in.entry.id) (ids : AllByRecursion (λ (p : LspId × Entry). IsId p.0) v.store.entries) (rises : RisesFrom 0 v.store.entries) where
-  abbrev pub event-of : Event
-  event-of = Take place (LspHeard l from (heard_of lsp_in))
-
-  abbrev id : LspId
-  id = lsp_in.entry.id
-
-  pub heard-moves : IsMovedAt (outlook_of r) (outlook_of (step given r event-of).router) l lsp_in.entry.id.node (told_in (put (between (number_of lsp_in.entry.id.node 0) (number_of lsp_in.entry.id.node 255) v.store.entries) lsp_in.entry.id e))
-  heard-moves =
-      let t = (step given r event-of).router in
+    (teller : IsTeller (answer_of (met (book_of r l) (whose_of r.config.system (level_of r l) (lsp_number lsp_in.entry.id)) (heard_of lsp_in)) lsp_in) lsp_in e) where
+  pub heard-with : IsWith r (step given r (Take place (LspHeard l from (heard_of lsp_in)))).router l lsp_in.entry.id e
+  heard-with =
       let h = heard_of lsp_in in
-      let entries = v.store.entries in
       let b = book_of r l in
-      let w = whose_of r.config.system (level_of r l) (lsp_number id) in
+      let w = whose_of r.config.system (level_of r l) h.id in
       let puts = row-puts (met b w h) lsp_in w b.opened b.p2p place (cell_at b h.id) e moving teller refl in
       let s = step-put given r place l from h c puts.cell there kept puts.apart puts.is in
-      let cells : b.cells ≡ cells_of entries v.rows = ap (λ (x : Book). x.cells) (sym of_book) in
-      let later : told_by (book_of t l).cells ≡ told_in (put entries id e) =
-      ap told_by s.cells ∙ ap (λ (m : List (ℕ × Cell)). told_by (model.put m (lsp_number id) puts.cell)) cells ∙ put-told id puts.cell e entries v.rows is puts.tells long ids in
-      let before : told_by b.cells ≡ told_in entries = ap told_by cells ∙ told-cells entries v.rows long ids in
-      moved-at r t (step-config given r event-of tt) l runs id.node (told_in (put (between (number_of id.node 0) (number_of id.node 255) entries) id e))
-      (ap (λ (x : Book). told_by x.cells) s.other)
-      (ap (told_beside id.node) later ∙ beside-put id e entries is ids ∙ sym (ap (told_beside id.node) before))
-      (ap (told_at id.node) later ∙ here-put id e entries is (put-ids id e entries is ids) rises)
-      (subst (RisesFrom 0) (sym later) (told-rises 0 (put entries id e) (put-rises entries 0 id e (omega arith) rises)))
-
-  pub heard-moves-in : (db : Database) → db ≡ v.store → IsMovedAt (outlook_of r) (outlook_of (step given r event-of).router) l lsp_in.entry.id.node (told_in (put (between (number_of lsp_in.entry.id.node 0) (number_of lsp_in.entry.id.node 255) db.entries) lsp_in.entry.id e))
-  heard-moves-in db same = subst (λ (d : Database). IsMovedAt (outlook_of r) (outlook_of (step given r event-of).router) l lsp_in.entry.id.node (told_in (put (between (number_of lsp_in.entry.id.node 0) (number_of lsp_in.entry.id.node 255) d.entries) lsp_in.entry.id e))) (sym same) heard-moves
+      record { cell = puts.cell; config = take-config given r place (LspHeard l from h); cells = s.cells; other = s.other; tells = puts.tells }
 
 -- ---- what follows then
 

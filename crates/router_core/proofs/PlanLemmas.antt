@@ -90,6 +90,11 @@ kept-room r circuit l from h here kept =
 no : false ≡ true → ⊥
 no e = cc
 
+-- of the rows by which no own LSP is outbid, those by which a key changes
+pub moving-of : (row : LspAnswer) → (is_calm_answer row ≡ true) ⊎ (is_moving row ≡ true) → is_calm_answer row ≡ false → is_moving row ≡ true
+moving-of row (inl calm) not-calm = absurd (no (sym not-calm ∙ calm))
+moving-of row (inr moving) not-calm = moving
+
 -- what is planned outbids nothing
 pub no-bid : (row : LspAnswer) (met : LspCase) (lsp : LspHeard) → row ≡ answer_of met lsp → (is_calm_answer row ≡ true) ⊎ (is_moving row ≡ true) → met ≡ case.Outbid → ⊥
 no-bid row met lsp is (inl calm) e = no (sym (ap is_calm_answer (is ∙ ap (λ (m : LspCase). answer_of m lsp) e)) ∙ calm)

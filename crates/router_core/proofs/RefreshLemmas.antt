@@ -37,8 +37,9 @@ use Rattle.router_routes.specs.Moved.{beside}
 use Rattle.router_routes.specs.Outlooks.{outlook_of}
 use Rattle.router_routes.specs.Told.{live_key, shown, told, told_by, told_in}
 use Rattle.router_core.specs.Givens.{given}
+use Rattle.router_core.specs.Puts.{Tells}
 use Rattle.router_core.specs.Refreshes.{IsRefresh, TellsAgain}
-use Rattle.router_core.proofs.MovedLemmas.{Entries, Tells, live-whole, put-told, step-put}
+use Rattle.router_core.proofs.MovedLemmas.{Entries, live-whole, put-told, step-put}
 use Rattle.router_core.proofs.RouteLemmas.{SameConfig, outlook-steady, step-config, told-cells}
 
 -- ---- an entry that is put where it was

@@ -24,7 +24,7 @@ use Rattle.model_router.specs.Places.{nth}
 use Rattle.model_router.specs.Routers.{Circuit, Router, book_of}
 use Rattle.model_router.specs.Deeds.{Content, content_of}
 use Rattle.model_router.specs.ContentLaws.{SameKey, TellsBoth}
-use Rattle.model_router.specs.Events.{Event, Second, Take, Pull, Metric, Overload, Prefix as ChangePrefix, Done, settled}
+use Rattle.model_router.specs.Events.{Event, Message, Second, Take, Pull, Metric, Overload, Prefix as ChangePrefix, Done, settled}
 use Rattle.model_router.specs.Steps.{step, with_prefix, with_metric as set_metric}
 use Rattle.model_router.specs.Givens.{Given}
 use Rattle.model_router.specs.Numbers.{lsp_id, system_id, system_number}
@@ -44,6 +44,7 @@ use Rattle.router_routes.specs.declared.lent.Lent.{Lent}
 use Rattle.router_routes.specs.Told.{told, told_pair, told_in, told_by}
 use Rattle.router_routes.specs.Outlooks.{Outlook, where_run, with_metric, prefixes_by, outlook_of, outlook_in}
 use Rattle.router_routes.specs.Following.{FollowingOf, IsFollowing, IsLevel, IsRooted}
+use Rattle.router_routes.specs.Moved.{beside}
 use Rattle.router_routes.proofs.LeakLemmas.{maps-same}
 use Rattle.router_core.specs.Calm.{AreBelow, SameCounts, Stands, KeepsPrefixes}
 use Rattle.router_core.proofs.RestLemmas.{Rests, second-rests, take-rests, pull-rests, metric-rests}
@@ -241,6 +242,35 @@ outlook-steady r t same one two =
     outlook-same _ _ _ _ _ _ _ _ _ _ _ _ (ap (λ (n : ℕ). own_node (system_id n)) same.system) same.areas same.runs (ap prefixes_by same.prefixes)
     (ap (λ (b : Both Bool). where_run b.one (told_by (book_of t level.One).cells)) same.runs ∙ ap (where_run r.config.runs.one) one)
     (ap (λ (b : Both Bool). where_run b.two (told_by (book_of t level.Two).cells)) same.runs ∙ ap (where_run r.config.runs.two) two)
+
+pub config-same : (r t : Router) → t.config ≡ r.config → SameConfig r t
+config-same r t e = record {
+  system = ap (λ (c : Config). c.system) e;
+  areas = ap (λ (c : Config). c.areas) e;
+  runs = ap (λ (c : Config). c.runs) e;
+  prefixes = ap (λ (c : Config). c.prefixes) e;
+}
+
+pub take-config : (given : Given) (r : Router) (place : ℕ) (m : Message) → (step given r (Take place m)).router.config ≡ r.config
+unfolding step
+take-config given r place m = let p = take-rests given r place m (nth r.circuits place) in p.config
+
+-- a level that isn't run tells nothing
+unrun : (b : Bool) (xs ys : List (LspId × Entry)) → b ≡ false → where_run b xs ≡ where_run b ys
+unrun b xs ys off = rw off refl
+
+pub unrun-outlook : (r t : Router) (l : Level) → t.config ≡ r.config → at r.config.runs l ≡ false → book_of t (beside l) ≡ book_of r (beside l) → outlook_of t ≡ outlook_of r
+unfolding outlook_of
+unrun-outlook r t level.One e off other =
+    let same = config-same r t e in
+    outlook-same _ _ _ _ _ _ _ _ _ _ _ _ (ap (λ (n : ℕ). own_node (system_id n)) same.system) same.areas same.runs (ap prefixes_by same.prefixes)
+    (ap (λ (b : Both Bool). where_run b.one (told_by (book_of t level.One).cells)) same.runs ∙ unrun r.config.runs.one (told_by (book_of t level.One).cells) (told_by (book_of r level.One).cells) off)
+    (ap (λ (b : Both Bool). where_run b.two (told_by (book_of t level.Two).cells)) same.runs ∙ ap (λ (b : Book). where_run r.config.runs.two (told_by b.cells)) other)
+unrun-outlook r t level.Two e off other =
+    let same = config-same r t e in
+    outlook-same _ _ _ _ _ _ _ _ _ _ _ _ (ap (λ (n : ℕ). own_node (system_id n)) same.system) same.areas same.runs (ap prefixes_by same.prefixes)
+    (ap (λ (b : Both Bool). where_run b.one (told_by (book_of t level.One).cells)) same.runs ∙ ap (λ (b : Book). where_run r.config.runs.one (told_by b.cells)) other)
+    (ap (λ (b : Both Bool). where_run b.two (told_by (book_of t level.Two).cells)) same.runs ∙ unrun r.config.runs.two (told_by (book_of t level.Two).cells) (told_by (book_of r level.Two).cells) off)
 
 pub step-told : (given : Given) (r : Router) (event : Event) → IsSorted r → IsSorted (step given r event).router → ((l : Level) (id : ℕ) → SameKey (cell_at (book_of r l) id) (cell_at (book_of (step given r event).router l) id)) → KeepsPrefixes event → outlook_of (step given r event).router ≡ outlook_of r
 step-told given r event sorted sorted-then kept keeps =

@@ -16,5 +16,6 @@ pub mod NamedBoots
 pub mod LeakedUp
 pub mod Settled
 pub mod Reads
+pub mod Puts
 pub mod Plans
 pub mod Refreshes

@@ -1,6 +1,7 @@
 -- What committing a plan makes of a router, what nodes tell then, and when a plan is an event's (own).
-use Rattle.std.specs.Prelude.{◌≡◌, ℕ, ◌-◌, ◌<◌, ◌≤◌, Bool, true, false, List, length, map, Option, None, is_some}
+use Rattle.std.specs.Prelude.{◌≡◌, ℕ, ◌+◌, ◌-◌, ◌<◌, ◌≤◌, ◌⊎◌, Bool, true, false, List, length, map, Option, None, IfSome, IsSome, is_some}
 use Rattle.isis_base.specs.declared.entry.LspEntry.{LspEntry}
+use Rattle.isis_base.specs.declared.identifiers.LspId.{LspId}
 use Rattle.isis_base.specs.declared.level.Level.{Level}
 use Rattle.isis_base.specs.declared.level.Level.TheVariants as level
 use Rattle.isis_base.specs.Identifiers.{lsp_number}
@@ -13,18 +14,21 @@ use Rattle.model_router.specs.Both.{at}
 use Rattle.model_router.specs.Drops.{count_drop}
 use Rattle.model_router.specs.Events as model
 use Rattle.model_router.specs.LspTable.{met}
-use Rattle.model_router.specs.OwnLsps.{renew}
+use Rattle.model_router.specs.OwnLsps.{issue_cell, last_number, renew}
 use Rattle.model_router.specs.Receiving.{no_room, scene_of}
 use Rattle.model_router.specs.Routers.{Circuit, Router, level_of, with_level}
 use Rattle.model_router.specs.Steps.{step}
-use Rattle.model_router.specs.Takes.{whose_of, take_lsp, take_snp}
+use Rattle.model_router.specs.Takes.{answer_of, whose_of, take_lsp, take_snp}
 use Rattle.model_router.specs.Wanted.{wanted}
+use Rattle.flag_sync.specs.declared.flag_row.FlagRow.{FlagRow}
+use Rattle.flag_sync.specs.Entries.{with_row}
+use Rattle.flag_sync.specs.FlagRows.{cell_of}
 use Rattle.flag_sync.specs.Heard.{entries_of, heard_of}
 use Rattle.flag_sync.specs.declared.heard.LspAnswer.{LspAnswer}
 use Rattle.flag_sync.specs.declared.heard.LspAnswer.TheVariants as answer
 use Rattle.flag_sync.specs.declared.heard.LspHeard.{LspHeard}
 use Rattle.router_sending.specs.Drafts.{DraftView}
-use Rattle.router_levels.specs.Drafts.{AreAnswers, AreReady, range_of}
+use Rattle.router_levels.specs.Drafts.{AreAnswers, AreReady, IsAnswer, range_of}
 use Rattle.router_desk.specs.declared.envelope.Envelope.{Envelope}
 use Rattle.router_desk.specs.Causes.{name_of}
 use Rattle.router_desk.specs.Opening.{envelope_of}
@@ -76,11 +80,23 @@ IsTeller (answer.Outbid above) lsp e = e.key ≡ None
 IsTeller answer.PurgedOwn lsp e = e.key ≡ None
 IsTeller answer.AckPurge lsp e = e.key ≡ None
 
+-- beside whichever row of flags, an entry is an own LSP that is issued at a number with what is wanted of it (7.3.16.1)
+abbrev pub IsIssuedAt : Router → Level → LspId → ℕ → Entry → Type 0
+IsIssuedAt r level id number e = (row : FlagRow) → cell_of e row
+    ≡ with_row (issue_cell given r level (lsp_number id) number
+    (answer_of (scene_of given r level) (lsp_number id))) row
+
+-- an entry tells routes what an own LSP does that is outbid at a number: the one that is issued above it, and nothing at the
+-- last number, since what is kept then is purged (7.3.16.1; the form: own)
+abbrev pub IsAbove : Router → Level → LspId → ℕ → Entry → Type 0
+IsAbove r level id above e = ((above ≡ last_number) × (e.key ≡ None))
+    ⊎ ((above ≡ last_number → ⊥) × IsIssuedAt r level id (above + 1) e)
+
 -- what a deed makes of a router (own)
 abbrev pub committed : Router → Deed → Router
 committed r (deed.Dropped cause) = record r { drops = count_drop r.drops (name_of cause) }
 committed r (deed.Change change) = (step given r (change_of change)).router
-committed r (deed.Lsp circuit level lsp) =
+committed r (deed.Lsp circuit level lsp answer) =
     with_level r level (take_lsp (scene_of given r level) (level_of r level) (circuit - 1)
     (whose_of r.config.system (level_of r level) (lsp_number lsp.entry.id)) (heard_of lsp))
 committed r (deed.Snp circuit level range entries drafts) =
@@ -89,13 +105,18 @@ committed r (deed.Snp circuit level range entries drafts) =
 committed r (deed.Pull circuit) = (step given r (model.Pull (circuit - 1))).router
 committed r (deed.Second circuits) = (step given r model.Second).router
 
--- an LSP has room, and outbids none of one's own (own)
-pub record IsLspReady (r : Router) (circuit : ℕ) (level : Level) (lsp : LspHeard) : Type 0 where
+-- an LSP has room, and where it outbids one's own a draft of the answer is there (own)
+pub record IsLspReady (r : Router) (circuit : ℕ) (level : Level) (lsp : LspHeard)
+    (draft : Option DraftView) : Type 0 where
   pub there : IsThere r circuit
   pub number : 0 < lsp.entry.number
   pub octets : 27 ≤ length lsp.octets.now
   pub room : no_room (level_of r level) r.config.system (heard_of lsp) ≡ false
-  pub other : row_met r level lsp ≡ case.Outbid → ⊥
+  pub answer : row_met r level lsp ≡ case.Outbid → IsSome draft
+  pub named : IfSome draft (λ d. d.id ≡ lsp.entry.id)
+  pub said : IfSome draft
+      (IsAnswer (at r.config.keys level) (scene_of given r level) (lsp_number lsp.entry.id))
+  pub keyed : IfSome draft (λ d. is_some (at r.config.keys level) ≡ d.keyed)
 
 -- drafts of own LSPs are there for the entries of a sequence number PDU (own)
 pub record IsSnpReady (r : Router) (circuit : ℕ) (level : Level) (entries : List LspEntry)
@@ -122,7 +143,7 @@ pub record IsSecondReady (r : Router) (circuits : List Circuit) : Type 0 where
 abbrev pub IsReady : Router → Deed → Type 0
 IsReady r (deed.Dropped cause) = Unit {0}
 IsReady r (deed.Change change) = FitsChange r change × IsReached r
-IsReady r (deed.Lsp circuit level lsp) = IsLspReady r circuit level lsp
+IsReady r (deed.Lsp circuit level lsp answer) = IsLspReady r circuit level lsp answer
 IsReady r (deed.Snp circuit level range entries drafts) =
     IsSnpReady r circuit level entries.now drafts.items
 IsReady r (deed.Pull circuit) = IsThere r circuit × IsReached r

@@ -1,5 +1,5 @@
 //! The LSPs of one node as a database of its own (own).
-ghost use Rattle.std.specs.Prelude.{◌≡◌, ◌++◌, ◌∷◌, [], IfOk, OnOk};
+ghost use Rattle.std.specs.Prelude.{◌≡◌, ◌++◌, ◌∷◌, [], None, IfOk, OnOk};
 ghost use Rattle.isis_base.specs.Identifiers.{lsp_number};
 ghost use Rattle.isis_base.specs.Keys.{entry_rank, rank};
 ghost use Rattle.lsp_store.specs.Maps.{between, put};
@@ -78,13 +78,20 @@ pub(crate) fn teller(
 {
     match row {
         LspAnswer::Stored => entry_heard(alloc, lsp),
-        _ => Ok(Entry {
-            key: None,
-            checksum: 0,
-            flags: 0,
-            left: 0,
-            octets: Octets::new(alloc),
-        }),
+        _ => Ok(no_entry(alloc)),
+    }
+}
+
+/// An entry that tells nothing. It takes no memory.
+pub(crate) fn no_entry(alloc: Global) -> Entry
+    ensures { result.key ≡ None }
+{
+    Entry {
+        key: None,
+        checksum: 0,
+        flags: 0,
+        left: 0,
+        octets: Octets::new(alloc),
     }
 }
 

@@ -23,7 +23,8 @@ impl Machine {
                 circuit,
                 level,
                 lsp,
-            } => self.hear_lsp(circuit, level, &lsp, None),
+                answer,
+            } => self.hear_lsp(circuit, level, &lsp, answer),
             Deed::Snp {
                 circuit,
                 level,

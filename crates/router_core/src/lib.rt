@@ -7,8 +7,9 @@
 //!
 //! - `router.rt`: the router; `event.rt`, `reply.rt`, `datagrams.rt`: events and answers
 //! - `machine.rt`: its parts, and what they have in common
-//! - `read.rt`: an event as what it says; `plan.rt`, `plan_lsp.rt`, `plan_snp.rt`, `plan_change.rt`, `plan_second.rt`: what
-//!   will be done; `told.rt`, `aside.rt`, `refresh.rt`: what routes look at then; `commit.rt`: that is done
+//! - `read.rt`: an event as what it says; `plan.rt`, `plan_lsp.rt`, `plan_outbid.rt`, `plan_snp.rt`, `plan_change.rt`,
+//!   `plan_second.rt`: what will be done; `told.rt`, `aside.rt`, `refresh.rt`: what routes look at then; `commit.rt`: that is
+//!   done
 //! - `stepping.rt`, `routes.rt`: events without a plan, hellos in place, and the routes after others
 //! - `making.rt`, `changes.rt`, `asked.rt`: how it starts, changes of its configuration, and what is
 //!   asked of it; `together.rt`: parts made together; `prefixes.rt`, `prefix_list.rt`: its own prefixes, in order
@@ -41,6 +42,7 @@ mod own;
 mod plan;
 mod plan_change;
 mod plan_lsp;
+mod plan_outbid;
 mod plan_second;
 mod plan_snp;
 mod prefix_list;

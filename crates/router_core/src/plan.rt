@@ -25,9 +25,9 @@ use router_desk::{Change, DropCause, Heard};
 use router_routes::Following;
 use router_sending::Draft;
 
-/// What is done: a datagram that is dropped is counted; the configuration changes; an LSP that outbids none of one's own is
-/// taken; a sequence number PDU is taken that changes no key, with drafts of the own LSPs that it names; what was due on a
-/// circuit was sent; or a second passes in which no key changes, by copies of the circuits as they are then.
+/// What is done: a datagram that is dropped is counted; the configuration changes; an LSP is taken, with a draft of the answer
+/// where it outbids one's own; a sequence number PDU is taken that changes no key, with drafts of the own LSPs that it names;
+/// what was due on a circuit was sent; or a second passes in which no key changes, by copies of the circuits as they are then.
 #[derive(Drop)]
 pub(crate) enum Deed<'a> {
     Dropped(DropCause),
@@ -36,6 +36,7 @@ pub(crate) enum Deed<'a> {
         circuit: u8,
         level: Level,
         lsp: LspHeard<'a>,
+        answer: Option<Draft>,
     },
     Snp {
         circuit: u8,
@@ -63,8 +64,7 @@ pub(crate) struct Plan<'a> {
 
 impl Machine {
     /// The plan of an event that was read; `None` where there is none. Planned are changes, pulls, what is dropped, but for
-    /// hellos, LSPs that meet a row of which it is known what it changes, and sequence number PDUs and seconds in which no
-    /// key changes.
+    /// hellos, LSPs, and sequence number PDUs and seconds in which no key changes.
     pub(crate) fn plan<'a>(
         &self,
         read: &'a Read<'a>,
@@ -110,7 +110,8 @@ impl Machine {
         match heard {
             Heard::PointHello(_) | Heard::LanHello(_, _) => Ok(None),
             Heard::Lsp { level, from, lsp } => {
-                self.plan_lsp(circuit, (*level, *from), lsp, marks)
+                let plan = self.plan_lsp(circuit, (*level, *from), lsp, following, marks)?;
+                Ok(Some(plan))
             }
             Heard::Snp {
                 level,

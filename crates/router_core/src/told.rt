@@ -1,14 +1,19 @@
 //! What routes will look at once an event is done.
 ghost use Rattle.std.specs.Prelude.{◌≡◌, IfOk, MatchOption};
+ghost use Rattle.model_router.specs.Routers.{Router};
 ghost use Rattle.router_routes.specs.Outlooks.{Outlook, outlook_of, prefixes_by};
 ghost use Rattle.router_routes.specs.Following.{IsFollowing};
 ghost use Rattle.router_routes.specs.Coming.{IsComing};
 ghost use Rattle.router_core.specs.Plans.{AreTold};
+ghost use Rattle.router_core.specs.Puts.{IsWith};
 
+use crate::aside::node_with;
 use crate::machine::Machine;
 use crate::prefixes::OwnPrefixes;
-use isis_base::{Level, NodeId, OutOfMemory};
-use lsp_store::Store;
+use crate::routes::has_rows;
+use isis_base::laws::lsp_id_law;
+use isis_base::{Level, LspId, NodeId, OutOfMemory};
+use lsp_store::{Entry, Store};
 use router_routes::{Coming, Following};
 
 /// What an event changes of what routes look at: nothing, what one node tells, or one's own prefixes.
@@ -28,6 +33,36 @@ pub(crate) struct Moving {
 }
 
 impl Machine {
+    /// What is told once an entry takes the place of what is held of an LSP ID; nothing in a level that isn't run. That each
+    /// entry of a database has its row of flags is looked at, since the databases don't tell it; where one had none, that would
+    /// count as a want of memory.
+    pub(crate) fn told_with(
+        &self,
+        level: Level,
+        id: LspId,
+        entry: Entry,
+    ) -> Result<Told, OutOfMemory>
+        ensures { IfOk result (λ told. (t : Router) → IsWith self.now t level id entry
+            → AreTold (outlook_of self.now) (outlook_of t) told) }
+    {
+        if !self.runs(level) {
+            return Ok(Told::Nothing);
+        }
+        let book = self.level(level).book();
+        if !has_rows(book) {
+            return Err(OutOfMemory);
+        }
+        let store = book.store();
+        let _entries = store.len();
+        lsp_id_law(id);
+        let aside = node_with(self.alloc, store, id, entry)?;
+        Ok(Told::Node(Moving {
+            level,
+            node: id.node,
+            aside,
+        }))
+    }
+
     /// What will follow the router once it tells this; `None` where that is what follows it now.
     pub(crate) fn following_told(
         &self,

@@ -66,7 +66,12 @@ impl Machine {
 
     /// A draft of what this list of what is wanted says of an own LSP ID; one that isn't wanted says
     /// its IS type alone (own).
-    fn draft_in(&self, wanted: &[Wanted], level: Level, id: LspId) -> Result<Draft, OutOfMemory>
+    pub(crate) fn draft_in(
+        &self,
+        wanted: &[Wanted],
+        level: Level,
+        id: LspId,
+    ) -> Result<Draft, OutOfMemory>
         requires wanted { map wanted_of wanted.now ≡ model.wanted given self.now self.now level }
         requires issuable { AllByRecursion
             (λ w. IsIssuable (at self.now.config.keys level) (contents_of w)) wanted.now }

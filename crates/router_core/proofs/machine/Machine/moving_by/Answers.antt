@@ -1,27 +1,16 @@
-use Rattle.std.proofs.Common.{◌≡◌, ◌∙◌, ◌-◌, true, List, None, sym, ap, subst, arith}
-use Rattle.std.specs.List.{AllByRecursion}
-use Rattle.isis_base.specs.Identifiers.{IsId}
-use Rattle.lsp_store.specs.Maps.{RisesFrom}
-use Rattle.model_router.specs.Both.{at}
+use Rattle.std.proofs.Common.{◌≡◌, ◌-◌, true, None, subst, arith}
+use Rattle.std.proofs.lemmas.Result.{IfOk-weaker}
 use Rattle.model_router.specs.Places.{nth}
 use Rattle.model_router.specs.Receiving.{lsp_drop}
-use Rattle.model_router.specs.Routers.{Circuit, LevelState, book_of, level_of}
+use Rattle.model_router.specs.Routers.{Circuit}
+use Rattle.model_router.specs.Steps.{step}
 use Rattle.router_desk.specs.Opening.{envelope_of}
-use Rattle.flag_sync.specs.BookStates as sync
 use Rattle.flag_sync.specs.declared.heard.LspAnswer.{LspAnswer}
 use Rattle.flag_sync.specs.Heard.{heard_of}
-use Rattle.router_levels.specs.Views.{state_of}
-use Rattle.router_routes.specs.Outlooks.{outlook_of}
-use Rattle.router_routes.specs.Told.{told_in}
-use Rattle.router_routes.specs.Moved.{IsMovedAt}
-use Rattle.lsp_store.specs.Databases.{Database}
-use Rattle.lsp_store.specs.declared.entry.Entry.{Entry}
-use Rattle.isis_base.specs.declared.identifiers.LspId.{LspId}
-use Rattle.model_router.specs.Steps.{step}
 use Rattle.router_core.specs.Givens.{given}
 use Rattle.router_core.specs.Plans.{IsTeller, is_moving, lsp_event}
 use Rattle.router_core.proofs.IdleLemmas.{from-some}
-use Rattle.router_core.proofs.MovedLemmas.{heard-moves-in}
+use Rattle.router_core.proofs.MovedLemmas.{heard-with}
 use Rattle.router_core.proofs.OpenLemmas.{there}
 use Rattle.router_core.proofs.machine.Machine.moving_by.Goals as goal
 
@@ -38,13 +27,7 @@ returns c =
     let is = there r.circuits place (omega (arith, low, high)) in
     let kept : lsp_drop r place is.0 l from (heard_of heard) ≡ None =
     from-some (λ (x : Circuit). lsp_drop r place x l from (heard_of heard) ≡ None) (nth r.circuits place) is.0 is.1 c.requires.kept in
-    let state : state_of c.level.result.now ≡ level_of r l = c.level.ensures.state in
     let moving = subst (λ (a : LspAnswer). is_moving a ≡ true) c.requires.row c.requires.moving in
     let teller = subst (λ (a : LspAnswer). IsTeller a heard c.in_ok-entry.entry) c.requires.row c.in_ok-entry.ensures in
-    let v = c.book-book.result.now in
-    let of_book : sync.book_of v ≡ book_of r l = ap sync.book_of c.book-book.ensures ∙ ap (λ (s : LevelState). s.book) state in
-    let runs : at r.config.runs l ≡ true = sym c.runs.ensures ∙ c.if-not-runs.false in
-    let ids = subst (λ (d : Database). AllByRecursion (λ (p : LspId × Entry). IsId p.0) d.entries) c.store-store.ensures c.len-entries.ensures.ids in
-    let rises = subst (λ (d : Database). RisesFrom 0 d.entries) c.store-store.ensures c.len-entries.ensures.rises in
-    subst (λ (es : List (LspId × Entry)). IsMovedAt (outlook_of r) (outlook_of (step given r (lsp_event c.args.circuit l c.args.from.1 heard)).router) l heard.entry.id.node (told_in es)) (sym c.in_ok-aside.ensures)
-    (heard-moves-in r place l from heard is.0 v c.in_ok-entry.entry is.1 kept moving teller runs of_book (c.has_rows.ensures c.if-not-has_rows.false) c.lsp_id_law.ensures ids rises c.store-store.result.now c.store-store.ensures)
+    let t = (step given r (lsp_event c.args.circuit l c.args.from.1 heard)).router in
+    IfOk-weaker c.told_with.result _ _ (λ told tells. tells t (heard-with r place l from heard is.0 c.in_ok-entry.entry is.1 kept moving teller)) c.told_with.ensures
