@@ -24,6 +24,8 @@ pub mod RouteLemmas
 mod LeakedUpLemmas
 mod MovedLemmas
 mod OutbidLemmas
+mod AsideLemmas
+mod NodesLemmas
 mod RefreshLemmas
 mod FaceLemmas
 mod KeepLemmas

@@ -167,13 +167,13 @@ last-small (a ∷ b ∷ c ∷ d ∷ e ∷ []) p k six all = absurd (omega (arith
 last-small (a ∷ b ∷ c ∷ d ∷ e ∷ f ∷ g ∷ xs) p k six all = absurd (omega (arith, six))
 
 -- an LSP ID's number is its node's and its own
-record IsSplit (id : LspId) : Type 0 where
+pub record IsSplit (id : LspId) : Type 0 where
   pub number : lsp_number id ≡ node_number id.node + id.number
   pub last : number_of id.node 255 ≡ node_number id.node + 255
   pub whole : node_number id.node % 256 ≡ 0
   pub small : id.number < 256
 
-split : (id : LspId) → IsId id → IsSplit id
+pub split : (id : LspId) → IsId id → IsSplit id
 unfolding lsp_number node_number
 split id is =
     let small = last-small id.node.system.0 id.node.pseudonode id.number is.six is.small in
@@ -184,11 +184,11 @@ split id is =
       small = small.1;
     }
 
-first-is : (node : NodeId) → number_of node 0 ≡ node_number node
+pub first-is : (node : NodeId) → number_of node 0 ≡ node_number node
 unfolding node_number
 first-is node = refl
 
-within : (a b k : ℕ) → a % 256 ≡ 0 → b % 256 ≡ 0 → k < 256 → (nat_le a (b + k) && nat_le (b + k) (a + 255)) ≡ (b == a)
+pub within : (a b k : ℕ) → a % 256 ≡ 0 → b % 256 ≡ 0 → k < 256 → (nat_le a (b + k) && nat_le (b + k) (a + 255)) ≡ (b == a)
 within a b k whole_a whole_b small =
     elim (cases_eq b a) [
       | inl same ↦ rw (eq-eqb b a same) (let e : b ≡ a = same in grind (arith, nat_tests, small, e))

@@ -1,43 +1,50 @@
 -- Plans that are the machine's step.
-use Rattle.std.proofs.Common.{◌≡◌, ℕ, Bool, true, false, not, Option, Some, None, IfSome, ◌-◌, if◌then◌else◌, refl, sym, ap, subst, ◌∙◌, ◌⊎◌, inl, inr, arith}
-use Rattle.std.specs.Prelude.{◌&&◌, is_some}
+use Rattle.std.proofs.Common.{◌≡◌, ℕ, Bool, true, false, not, List, Option, Some, None, IfSome, ◌-◌, if◌then◌else◌, refl, sym, ap, subst, ◌∙◌, ◌⊎◌, inl, inr, arith}
+use Rattle.std.specs.Prelude.{◌&&◌, is_none, is_some}
+use Rattle.isis_base.specs.declared.identifiers.LspId.{LspId}
 use Rattle.isis_base.specs.declared.level.Level.{Level}
 use Rattle.std.specs.Option.{option_map}
 use Rattle.model_router.specs.declared.drop_name.DropName.{DropName}
 use Rattle.model_router.specs.declared.drop_name.DropName.TheVariants.{NoAdjacency, StoreFull}
 use Rattle.model_router.specs.declared.lsp_case.LspCase.{LspCase}
 use Rattle.model_router.specs.declared.lsp_case.LspCase.TheVariants as case
-use Rattle.model_router.specs.AdjacencyLaws.{place_of}
+use Rattle.model_router.specs.AdjacencyLaws.{AreIdle, place_of}
 use Rattle.model_router.specs.Cells.{Heard}
 use Rattle.model_router.specs.Events as model
 use Rattle.model_router.specs.Places.{nth}
-use Rattle.model_router.specs.Receiving.{drop_of, lsp_drop, no_room, sender_of}
-use Rattle.model_router.specs.Routers.{Circuit, Router, level_of, book_of}
+use Rattle.model_router.specs.Receiving.{drop_of, lsp_drop, no_room, scene_of, sender_of, snp_drop}
+use Rattle.model_router.specs.Routers.{Circuit, Router, level_of, book_of, with_level}
 use Rattle.model_router.specs.Sets.{has}
+use Rattle.model_router.specs.SnpTable.{SnpEntry}
 use Rattle.model_router.specs.Steps.{step}
+use Rattle.model_router.specs.Takes.{take_snp}
 use Rattle.flag_sync.specs.declared.heard.LspAnswer.{LspAnswer}
 use Rattle.flag_sync.specs.declared.heard.LspHeard.{LspHeard}
 use Rattle.flag_sync.specs.Heard.{answer_of}
 use Rattle.router_desk.specs.declared.cause.DropCause.{DropCause}
 use Rattle.router_desk.specs.Causes.{name_of}
-use Rattle.router_routes.specs.Outlooks.{outlook_of}
+use Rattle.router_desk.specs.Heard as reading
+use Rattle.router_levels.specs.Drafts as levels
+use Rattle.router_routes.specs.Outlooks.{Outlook, outlook_of}
 use Rattle.router_core.specs.declared.marks.Marks.{Marks}
 use Rattle.router_core.specs.declared.plan.Plan.{Plan}
 use Rattle.router_core.specs.declared.plan.Deed.TheVariants as deed
 use Rattle.router_core.specs.declared.reply.Reply.{Reply}
 use Rattle.router_core.specs.declared.reply.Reply.TheVariants as reply
+use Rattle.router_core.specs.declared.told.Told.{Told}
 use Rattle.router_core.specs.declared.told.Told.TheVariants as told
 use Rattle.router_core.specs.Calm.{is_calm_answer}
 use Rattle.router_core.specs.Events.{IsThere}
 use Rattle.router_core.specs.Givens.{given}
-use Rattle.router_core.specs.Plans.{AreTold, committed, IsPlan, IsSound, is_moving}
+use Rattle.router_core.specs.Plans.{AreInOrder, AreTold, committed, IsPlan, IsSound, is_moving}
 use Rattle.router_core.specs.Reached.{IsReached}
-use Rattle.router_core.specs.Replies.{Answers}
+use Rattle.router_core.specs.Replies.{Answers, outcome}
 use Rattle.router_core.specs.Settled.{AreTrue}
-use Rattle.router_core.proofs.IdleLemmas.{from-some}
+use Rattle.router_core.proofs.IdleLemmas.{each-some, from-some}
 use Rattle.router_core.proofs.OpenLemmas.{there}
 use Rattle.router_core.proofs.SettledLemmas.{marks-keep}
-use Rattle.router_core.proofs.StepLemmas.{counted, dropped-step}
+use Rattle.router_core.proofs.StepLemmas.{counted, dropped-step, taken-step}
+use Rattle.router_core.proofs.TakenLemmas.{level-taken, range-same}
 
 -- the parts of a plan, by the outcome
 record Parts (r : Router) (place : ℕ) (plan : Plan) (o : model.Outcome) : Type 0 where
@@ -100,7 +107,35 @@ pub no-bid : (row : LspAnswer) (met : LspCase) (lsp : LspHeard) → row ≡ answ
 no-bid row met lsp is (inl calm) e = no (sym (ap is_calm_answer (is ∙ ap (λ (m : LspCase). answer_of m lsp) e)) ∙ calm)
 no-bid row met lsp is (inr moving) e = no (sym (ap is_moving (is ∙ ap (λ (m : LspCase). answer_of m lsp) e)) ∙ moving)
 
+-- ---- a sequence number PDU
+
+module _ (r : Router) (circuit : ℕ) (l : Level) (from : model.Envelope) (source : ℕ) (range : Option (LspId × LspId)) (entries : List SnpEntry) (here : IsThere r circuit) (idle : AreIdle r) where
+  abbrev pub snp-event : model.Message
+  snp-event = model.SnpHeard l from source (reading.range_of range) entries
+
+  abbrev pub snp-done : Router
+  snp-done = with_level r l (take_snp (scene_of given r l) (level_of r l) r.config.system (circuit - 1) (levels.range_of range) entries)
+
+  pub snp-planned : IfSome (nth r.circuits (circuit - 1)) (λ x. None ≡ snp_drop r (circuit - 1) x l from source (is_none (reading.range_of range)))
+      → (snp-done ≡ (step given r (model.Take (circuit - 1) snp-event)).router) × Answers snp-done (circuit - 1) (step given r (model.Take (circuit - 1) snp-event)).reply reply.Done
+  snp-planned kept =
+      let place = circuit - 1 in
+      let low = here.0 in
+      let high = here.1 in
+      let heard = λ (range : Option (ℕ × ℕ)). take_snp (scene_of given r l) (level_of r l) r.config.system place range entries in
+      taken-step r snp-done place snp-event reply.Done (omega (arith, low, high))
+      (each-some (nth r.circuits place) (λ x. (snp-done ≡ (outcome r place x snp-event).router) × Answers snp-done place (outcome r place x snp-event).reply reply.Done)
+      (λ x e. level-taken r snp-done place x snp-event l (heard (reading.range_of range)) model.Done reply.Done idle
+      (sym (from-some (λ y. None ≡ snp_drop r place y l from source (is_none (reading.range_of range))) (nth r.circuits place) x e kept)) refl
+      (ap (λ (range : Option (ℕ × ℕ)). with_level r l (heard range)) (range-same range)) refl))
+
 -- ---- the plan of an event is sound, and what comes of it is the event's
+
+pub told-ordered : (old new : Outlook) (t : Told) → AreTold old new t → AreInOrder t
+told-ordered old new told.Nothing is = tt
+told-ordered old new (told.Node m) is = tt
+told-ordered old new (told.Nodes m) is = is.each
+told-ordered old new (told.Prefixes own) is = tt
 
 pub sound-of : (r : Router) (event : model.Event) (plan : Plan) → IsPlan r event plan → IsReached (step given r event).router → IsSound r plan
 sound-of r event plan is reached =

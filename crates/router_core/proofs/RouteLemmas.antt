@@ -91,7 +91,7 @@ prefixes-again (p ∷ own) = ap (λ (o : Option Prefix). with_metric o p.1 ++ pr
 
 -- ---- all of it
 
-outlook-same : (root lent-root : NodeId) (areas lent-areas : List (List ℕ)) (runs lent-runs : Both Bool) (own lent-own : List (Prefix × ℕ)) (one two lent-one lent-two : List (LspId × Entry)) → root ≡ lent-root → areas ≡ lent-areas → runs ≡ lent-runs → own ≡ lent-own → one ≡ lent-one → two ≡ lent-two
+pub outlook-same : (root lent-root : NodeId) (areas lent-areas : List (List ℕ)) (runs lent-runs : Both Bool) (own lent-own : List (Prefix × ℕ)) (one two lent-one lent-two : List (LspId × Entry)) → root ≡ lent-root → areas ≡ lent-areas → runs ≡ lent-runs → own ≡ lent-own → one ≡ lent-one → two ≡ lent-two
     → ◌≡◌ {A = Outlook} (record { root = root; areas = areas; runs = runs; prefixes = own; told = record { one = one; two = two } }) (record { root = lent-root; areas = lent-areas; runs = lent-runs; prefixes = lent-own; told = record { one = lent-one; two = lent-two } })
 outlook-same root lent-root areas lent-areas runs lent-runs own lent-own one two lent-one lent-two e f g h k l = λ i. record { root = e i; areas = f i; runs = g i; prefixes = h i; told = record { one = k i; two = l i } }
 
@@ -127,33 +127,33 @@ lent-with o seen own list same pairs =
 
 -- ---- what is told stays where keys and contents stay
 
-abbrev Said : Type 0
+abbrev pub Said : Type 0
 Said = ℕ × List ℕ
 
-abbrev live-by : List (ℕ × Cell) → List (ℕ × Said)
+abbrev pub live-by : List (ℕ × Cell) → List (ℕ × Said)
 live-by [] = []
 live-by (p ∷ cells) = if is_live p.1.rank then (p.0, (p.1.flags, p.1.octets)) ∷ live-by cells else live-by cells
 
-abbrev said-of : Option Cell → Option Said
+abbrev pub said-of : Option Cell → Option Said
 said-of None = None
 said-of (Some c) = if is_live c.rank then Some (c.flags, c.octets) else None
 
-abbrev told-said : ℕ × Said → LspId × Entry
+abbrev pub told-said : ℕ × Said → LspId × Entry
 told-said p = (lsp_id p.0, told p.1.0 p.1.1)
 
 told-live-step : (p : ℕ × Cell) (cells : List (ℕ × Cell)) → told_by cells ≡ map told-said (live-by cells) → (t : Bool) → is_live p.1.rank ≡ t → told_by (p ∷ cells) ≡ map told-said (live-by (p ∷ cells))
 told-live-step p cells rest true is = rw is (ap (λ (l : List (LspId × Entry)). (lsp_id p.0, told p.1.flags p.1.octets) ∷ l) rest)
 told-live-step p cells rest false is = rw is rest
 
-told-live : (cells : List (ℕ × Cell)) → told_by cells ≡ map told-said (live-by cells)
+pub told-live : (cells : List (ℕ × Cell)) → told_by cells ≡ map told-said (live-by cells)
 told-live [] = refl
 told-live (p ∷ cells) = told-live-step p cells (told-live cells) (is_live p.1.rank) refl
 
-weaken : {V : Type 0} → (m : List (ℕ × V)) (least less : ℕ) → less ≤ least → RisesFrom least m → RisesFrom less m
+pub weaken : {V : Type 0} → (m : List (ℕ × V)) (least less : ℕ) → less ≤ least → RisesFrom least m → RisesFrom less m
 weaken [] least less h r = tt
 weaken (p ∷ m) least less h r = let first = r.0 in (omega (arith, h, first), r.1)
 
-live-rises : (m : List (ℕ × Cell)) (least : ℕ) → RisesFrom least m → RisesFrom least (live-by m)
+pub live-rises : (m : List (ℕ × Cell)) (least : ℕ) → RisesFrom least m → RisesFrom least (live-by m)
 live-rises [] least r = tt
 live-rises (p ∷ m) least r = by-test (is_live p.1.rank) r.0 (live-rises m (p.0 + 1) r.1)
   where
@@ -180,7 +180,7 @@ module _ (p : ℕ × Cell) (m : List (ℕ × Cell)) (q : ℕ) (rises : RisesFrom
         | inr other ↦ rw (is, ne_eqb p.0 q other) rest
       ]
 
-live-find : (m : List (ℕ × Cell)) (least q : ℕ) → RisesFrom least m → find (live-by m) q ≡ said-of (find m q)
+pub live-find : (m : List (ℕ × Cell)) (least q : ℕ) → RisesFrom least m → find (live-by m) q ≡ said-of (find m q)
 live-find [] least q r = refl
 live-find (p ∷ m) least q r = live-step p m q r.1 (live-find m (p.0 + 1) q r.1) (is_live p.1.rank) refl
 

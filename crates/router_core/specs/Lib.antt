@@ -18,4 +18,6 @@ pub mod Settled
 pub mod Reads
 pub mod Puts
 pub mod Plans
+pub mod Asides
+pub mod Ways
 pub mod Refreshes

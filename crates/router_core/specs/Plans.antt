@@ -2,6 +2,7 @@
 use Rattle.std.specs.Prelude.{◌≡◌, ℕ, ◌+◌, ◌-◌, ◌<◌, ◌≤◌, ◌⊎◌, Bool, true, false, List, length, map, Option, None, IfSome, IsSome, is_some}
 use Rattle.isis_base.specs.declared.entry.LspEntry.{LspEntry}
 use Rattle.isis_base.specs.declared.identifiers.LspId.{LspId}
+use Rattle.isis_base.specs.declared.identifiers.NodeId.{NodeId}
 use Rattle.isis_base.specs.declared.level.Level.{Level}
 use Rattle.isis_base.specs.declared.level.Level.TheVariants as level
 use Rattle.isis_base.specs.Identifiers.{lsp_number}
@@ -32,7 +33,7 @@ use Rattle.router_levels.specs.Drafts.{AreAnswers, AreReady, IsAnswer, range_of}
 use Rattle.router_desk.specs.declared.envelope.Envelope.{Envelope}
 use Rattle.router_desk.specs.Causes.{name_of}
 use Rattle.router_desk.specs.Opening.{envelope_of}
-use Rattle.router_routes.specs.Moved.{IsMovedAt}
+use Rattle.router_routes.specs.Moved.{AreMovedTo, IsMovedAt, NodesRise, beside}
 use Rattle.router_routes.specs.Outlooks.{Outlook, outlook_of, prefixes_by}
 use Rattle.router_routes.specs.Told.{told_in}
 use Rattle.router_core.specs.declared.plan.Deed.{Deed}
@@ -149,11 +150,32 @@ IsReady r (deed.Snp circuit level range entries drafts) =
 IsReady r (deed.Pull circuit) = IsThere r circuit × IsReached r
 IsReady r (deed.Second circuits) = IsSecondReady r circuits.items
 
--- nothing changes; or one node of one level tells these LSPs, or own prefixes are these, and all else stays (own)
+-- in one level, which is run, these nodes tell this, all others what they told, and all else stays (own)
+pub record AreMovedIn (old new : Outlook) (level : Level) (nodes : List NodeId)
+    (told : List (LspId × Entry)) : Type 0 where
+  pub root : new.root ≡ old.root
+  pub areas : new.areas ≡ old.areas
+  pub runs : new.runs ≡ old.runs
+  pub prefixes : new.prefixes ≡ old.prefixes
+  pub run : at old.runs level ≡ true
+  pub other : at new.told (beside level) ≡ at old.told (beside level)
+  pub each : NodesRise 0 nodes
+  pub moved : AreMovedTo nodes told (at old.told level) (at new.told level)
+
+-- nothing changes; or one node of one level, or some, tell these LSPs, or own prefixes are these, and all else stays (own)
 abbrev pub AreTold : Outlook → Outlook → Told → Type 0
 AreTold old new told.Nothing = new ≡ old
 AreTold old new (told.Node m) = IsMovedAt old new m.level m.node (told_in m.aside.entries)
+AreTold old new (told.Nodes m) =
+    AreMovedIn old new m.level m.nodes.items (told_in m.aside.entries)
 AreTold old new (told.Prefixes own) = new ≡ record old { prefixes = prefixes_by own }
+
+-- nodes that are told stand in order, each once (own)
+abbrev pub AreInOrder : Told → Type 0
+AreInOrder told.Nothing = Unit {0}
+AreInOrder (told.Node m) = Unit {0}
+AreInOrder (told.Nodes m) = NodesRise 0 m.nodes.items
+AreInOrder (told.Prefixes own) = Unit {0}
 
 -- what a plan says is the machine's step (own)
 pub record IsPlan (r : Router) (event : model.Event) (plan : Plan) : Type 0 where

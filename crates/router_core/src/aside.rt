@@ -5,10 +5,11 @@ ghost use Rattle.isis_base.specs.Keys.{entry_rank, rank};
 ghost use Rattle.lsp_store.specs.Maps.{between, put};
 ghost use Rattle.lsp_store.specs.Places.{AllBelow};
 ghost use Rattle.lsp_view.specs.Views.{number_of};
+ghost use Rattle.router_core.specs.Asides.{put_all};
 ghost use Rattle.router_core.specs.Plans.{IsTeller};
 
 use flag_sync::{LspAnswer, LspHeard};
-use isis_base::{LspId, Octets, OutOfMemory};
+use isis_base::{LspId, NodeId, Octets, OutOfMemory};
 use lsp_store::{Entry, Store, TryCopy};
 use std::alloc::Global;
 
@@ -50,6 +51,28 @@ fn add(part: &mut Store, id: LspId, entry: &Entry) -> Result<(), OutOfMemory>
     requires { AllBelow (lsp_number id) part.old.entries }
     ensures { OnOk result (part.new.entries ≡ part.old.entries ++ (id, entry.now) ∷ []) }
 {
+    put_copy(part, id, entry)
+}
+
+/// The LSPs that are held of a node are put in.
+pub(crate) fn put_part(part: &mut Store, store: &Store, node: NodeId) -> Result<(), OutOfMemory>
+    ensures { OnOk result (part.new.entries ≡ put_all part.old.entries
+        (between (number_of node 0) (number_of node 255) store.now.entries)) }
+{
+    let (first, last) = (LspId { node, number: 0 }, LspId { node, number: 255 });
+    for (id, entry) in store.range(first, last) {
+        match put_copy(part, id, entry) {
+            Ok(()) => {}
+            Err(error) => return Err(error),
+        }
+    }
+    Ok(())
+}
+
+/// Sets an LSP ID's entry to a copy.
+fn put_copy(part: &mut Store, id: LspId, entry: &Entry) -> Result<(), OutOfMemory>
+    ensures { OnOk result (part.new.entries ≡ put part.old.entries id entry.now) }
+{
     let copy = match entry.try_copy() {
         Ok(copy) => copy,
         Err(error) => return Err(error),
@@ -58,7 +81,7 @@ fn add(part: &mut Store, id: LspId, entry: &Entry) -> Result<(), OutOfMemory>
 }
 
 /// Sets an LSP ID's entry.
-fn put_in(store: &mut Store, id: LspId, entry: Entry) -> Result<(), OutOfMemory>
+pub(crate) fn put_in(store: &mut Store, id: LspId, entry: Entry) -> Result<(), OutOfMemory>
     ensures { OnOk result (store.new.entries ≡ put store.old.entries id entry) }
 {
     match store.put(id, entry) {

@@ -7,14 +7,14 @@
 //!
 //! - `router.rt`: the router; `event.rt`, `reply.rt`, `datagrams.rt`: events and answers
 //! - `machine.rt`: its parts, and what they have in common
-//! - `read.rt`: an event as what it says; `plan.rt`, `plan_lsp.rt`, `plan_outbid.rt`, `plan_snp.rt`, `plan_change.rt`,
-//!   `plan_second.rt`: what will be done; `told.rt`, `aside.rt`, `refresh.rt`: what routes look at then; `commit.rt`: that is
-//!   done
-//! - `stepping.rt`, `routes.rt`: events without a plan, hellos in place, and the routes after others
+//! - `read.rt`: an event as what it says; `way.rt`, `plan.rt`, `plan_lsp.rt`, `plan_outbid.rt`, `plan_snp.rt`, `plan_change.rt`,
+//!   `plan_second.rt`: what will be done; `told.rt`, `snp_told.rt`, `aside.rt`, `refresh.rt`: what routes look at then;
+//!   `commit.rt`: that is done
+//! - `stepping.rt`, `routes.rt`: events without a plan: hellos in place, seconds on a copy, and the routes after those
 //! - `making.rt`, `changes.rt`, `asked.rt`: how it starts, changes of its configuration, and what is
 //!   asked of it; `together.rt`: parts made together; `prefixes.rt`, `prefix_list.rt`: its own prefixes, in order
-//! - `taking.rt`: what is heard is taken, or dropped; `hellos.rt`, `own.rt`: hellos; `levels.rt`, `take.rt`: LSPs;
-//!   `snps.rt`: sequence number PDUs
+//! - `taking.rt`: a hello is taken, or dropped; `hellos.rt`, `own.rt`: hellos; `levels.rt`, `take.rt`: LSPs; `snps.rt`: sequence
+//!   number PDUs
 //! - `wanted.rt`: drafts of own LSPs that are wanted
 //! - `second.rt`, `renewal.rt`, `quiet.rt`: a second; `marks.rt`, `faces.rt`: levels of which it is known that a
 //!   second issues nothing but for age
@@ -59,6 +59,7 @@ mod router;
 mod routes;
 mod second;
 mod sending;
+mod snp_told;
 mod snps;
 mod stepping;
 mod take;
@@ -66,6 +67,7 @@ mod taking;
 mod together;
 mod told;
 mod wanted;
+mod way;
 
 pub use datagrams::Datagrams;
 pub use event::NodeEvent;

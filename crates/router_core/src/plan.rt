@@ -12,12 +12,14 @@ ghost use Rattle.router_core.specs.Plans.{IsPlan};
 ghost use Rattle.router_core.specs.Reached.{IsReached};
 ghost use Rattle.router_core.specs.Reads.{event_in, FitsHeard, FitsRead};
 ghost use Rattle.router_core.specs.Settled.{AreTrue};
+ghost use Rattle.router_core.specs.Ways.{IsWay};
 
 use crate::machine::Machine;
 use crate::marks::Marks;
 use crate::read::Read;
 use crate::reply::Reply;
 use crate::told::Told;
+use crate::way::{Hello, Way};
 use flag_sync::LspHeard;
 use isis_base::{Level, LspEntry, LspId, OutOfMemory};
 use router_circuits::Circuit;
@@ -26,8 +28,8 @@ use router_routes::Following;
 use router_sending::Draft;
 
 /// What is done: a datagram that is dropped is counted; the configuration changes; an LSP is taken, with a draft of the answer
-/// where it outbids one's own; a sequence number PDU is taken that changes no key, with drafts of the own LSPs that it names;
-/// what was due on a circuit was sent; or a second passes in which no key changes, by copies of the circuits as they are then.
+/// where it outbids one's own; a sequence number PDU is taken, with drafts of the own LSPs that it names; what was due on a circuit
+/// was sent; or a second passes in which no key changes, by copies of the circuits as they are then.
 #[derive(Drop)]
 pub(crate) enum Deed<'a> {
     Dropped(DropCause),
@@ -63,55 +65,75 @@ pub(crate) struct Plan<'a> {
 }
 
 impl Machine {
-    /// The plan of an event that was read; `None` where there is none. Planned are changes, pulls, what is dropped, but for
-    /// hellos, LSPs, and sequence number PDUs and seconds in which no key changes.
+    /// How an event that was read is done. Planned are changes, pulls, what is dropped, but for hellos, LSPs, sequence number
+    /// PDUs, and seconds in which no key changes.
     pub(crate) fn plan<'a>(
         &self,
         read: &'a Read<'a>,
         following: &Following,
         marks: Marks,
-    ) -> Result<Option<Plan<'a>>, OutOfMemory>
+    ) -> Result<Way<'a>, OutOfMemory>
         requires fits { FitsRead self.now read.now }
         requires reached { IsReached self.now }
         requires following { IsFollowing (outlook_of self.now) following.now }
         requires marks { AreTrue marks self.now }
-        ensures { IfOk result (λ o. IfSome o (IsPlan self.now (event_in read.now))) }
+        ensures { IfOk result (IsWay self.now (event_in read.now)) }
     {
         match read {
-            Read::Second => self.plan_second(following, marks),
+            Read::Second => self.way_of_second(following, marks),
             Read::Pull { circuit } => {
                 let plan = self.plan_pull(*circuit, marks)?;
-                Ok(Some(plan))
+                Ok(Way::Planned(plan))
             }
             Read::Change(change) => {
                 let plan = self.plan_change(*change)?;
-                Ok(Some(plan))
+                Ok(Way::Planned(plan))
             }
-            Read::Refused { circuit: _, cause } => Ok(Some(self.plan_drop(*cause, marks))),
+            Read::Refused { circuit: _, cause } => Ok(Way::Planned(self.plan_drop(*cause, marks))),
             Read::Heard { circuit, heard } => self.plan_heard(*circuit, heard, following, marks),
         }
     }
 
-    /// The plan of what was heard.
+    /// How a second is done.
+    fn way_of_second<'a>(&self, following: &Following, marks: Marks) -> Result<Way<'a>, OutOfMemory>
+        requires reached { IsReached self.now }
+        requires following { IsFollowing (outlook_of self.now) following.now }
+        requires marks { AreTrue marks self.now }
+        ensures { IfOk result (IsWay self.now model.Second) }
+    {
+        match self.plan_second(following, marks) {
+            Ok(Some(plan)) => Ok(Way::Planned(plan)),
+            Ok(None) => Ok(Way::Second),
+            Err(error) => Err(error),
+        }
+    }
+
+    /// How what was heard is done.
     fn plan_heard<'a>(
         &self,
         circuit: u8,
         heard: &'a Heard<'a>,
         following: &Following,
         marks: Marks,
-    ) -> Result<Option<Plan<'a>>, OutOfMemory>
+    ) -> Result<Way<'a>, OutOfMemory>
         requires fits { FitsHeard self.now circuit heard.now }
         requires reached { IsReached self.now }
         requires following { IsFollowing (outlook_of self.now) following.now }
         requires marks { AreTrue marks self.now }
-        ensures { IfOk result (λ o. IfSome o
-            (IsPlan self.now (model.Take (circuit - 1) (message_of heard.now)))) }
+        ensures { IfOk result (IsWay self.now (model.Take (circuit - 1) (message_of heard.now))) }
     {
         match heard {
-            Heard::PointHello(_) | Heard::LanHello(_, _) => Ok(None),
+            Heard::PointHello(hello) => Ok(Way::Hello {
+                circuit,
+                hello: Hello::Point(hello),
+            }),
+            Heard::LanHello(level, hello) => Ok(Way::Hello {
+                circuit,
+                hello: Hello::Lan(*level, hello),
+            }),
             Heard::Lsp { level, from, lsp } => {
                 let plan = self.plan_lsp(circuit, (*level, *from), lsp, following, marks)?;
-                Ok(Some(plan))
+                Ok(Way::Planned(plan))
             }
             Heard::Snp {
                 level,
@@ -121,7 +143,8 @@ impl Machine {
                 entries,
             } => {
                 let from = (*from, *source);
-                self.plan_snp(circuit, *level, from, *range, entries, following, marks)
+                let plan = self.plan_snp(circuit, *level, from, *range, entries, following, marks)?;
+                Ok(Way::Planned(plan))
             }
         }
     }

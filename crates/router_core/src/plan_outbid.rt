@@ -100,7 +100,7 @@ impl Machine {
     }
 
     /// The entry of an own LSP once it is outbid at a number; an empty one at the last, since what is kept then is purged.
-    fn entry_above(
+    pub(crate) fn entry_above(
         &self,
         wanted: &[Wanted],
         level: Level,

@@ -1,12 +1,15 @@
-//! The plan of a sequence number PDU: whether it is dropped, and else whether none of its entries changes a key.
-ghost use Rattle.std.specs.Prelude.{◌≡◌, ◌-◌, true, IfOk, IfSome};
+//! The plan of a sequence number PDU: whether it is dropped, and else what its entries change of what nodes tell.
+ghost use Rattle.std.specs.Prelude.{◌≡◌, ◌-◌, true, None, is_none, IfOk, IfSome};
 ghost use Rattle.isis_base.specs.Identifiers.{lsp_number};
 ghost use Rattle.model_router.specs.declared.whose.Whose.{Whose};
 ghost use Rattle.model_router.specs.Books.{cell_at};
 ghost use Rattle.model_router.specs.Events as model;
 ghost use Rattle.model_router.specs.Numbers.{system_number};
+ghost use Rattle.model_router.specs.Places.{nth};
+ghost use Rattle.model_router.specs.Receiving.{snp_drop};
 ghost use Rattle.model_router.specs.Routers.{book_of};
 ghost use Rattle.model_router.specs.SnpTable.{snp_case};
+ghost use Rattle.model_router.specs.Steps.{step};
 ghost use Rattle.flag_sync.specs.BookStates.{book_of as state_of};
 ghost use Rattle.flag_sync.specs.Heard.{entries_of, entry_of};
 ghost use Rattle.router_desk.specs.Opening.{envelope_of};
@@ -15,7 +18,8 @@ ghost use Rattle.router_routes.specs.Outlooks.{outlook_of};
 ghost use Rattle.router_routes.specs.Following.{IsFollowing};
 ghost use Rattle.router_core.specs.Calm.{AreClear, is_calm_entry};
 ghost use Rattle.router_core.specs.Events.{IsThere};
-ghost use Rattle.router_core.specs.Plans.{IsPlan};
+ghost use Rattle.router_core.specs.Givens.{given};
+ghost use Rattle.router_core.specs.Plans.{AreTold, IsPlan};
 ghost use Rattle.router_core.specs.Reached.{IsReached};
 ghost use Rattle.router_core.specs.Settled.{AreTrue};
 
@@ -31,7 +35,7 @@ use router_desk::Envelope;
 use router_routes::Following;
 
 impl Machine {
-    /// The plan of a sequence number PDU that came (ISO 10589 7.3.15.2); `None` where one of its entries may change a key.
+    /// The plan of a sequence number PDU that came (ISO 10589 7.3.15.2).
     pub(crate) fn plan_snp<'a>(
         &self,
         circuit: u8,
@@ -41,26 +45,31 @@ impl Machine {
         entries: &'a [LspEntry],
         following: &Following,
         marks: Marks,
-    ) -> Result<Option<Plan<'a>>, OutOfMemory>
+    ) -> Result<Plan<'a>, OutOfMemory>
         requires there { IsThere self.now circuit }
         requires reached { IsReached self.now }
         requires following { IsFollowing (outlook_of self.now) following.now }
         requires marks { AreTrue marks self.now }
-        ensures { IfOk result (λ o. IfSome o (IsPlan self.now (model.Take (circuit - 1)
+        ensures { IfOk result (IsPlan self.now (model.Take (circuit - 1)
             (model.SnpHeard level (envelope_of from.0) (system_number from.1) (range_of range)
-            (entries_of entries.now))))) }
+            (entries_of entries.now)))) }
     {
-        outlook_laws();
         let (envelope, source) = from;
         match self.snp_cause(circuit, level, envelope, source, range.is_none()) {
-            Some(cause) => return Ok(Some(self.plan_drop(cause, marks))),
+            Some(cause) => return Ok(self.plan_drop(cause, marks)),
             None => {}
         }
-        if !self.are_clear(level, entries) {
-            return Ok(None);
-        }
-        let drafts = self.answers(level, entries, following)?;
-        Ok(Some(Plan {
+        let (told, marks) = self.told_by_snp(
+            circuit, level, from, range, entries, following, marks,
+        )?;
+        let drafts = match self.answers(level, entries, following) {
+            Ok(drafts) => drafts,
+            Err(error) => {
+                drop(told);
+                return Err(error);
+            }
+        };
+        Ok(Plan {
             deed: Deed::Snp {
                 circuit,
                 level,
@@ -69,9 +78,46 @@ impl Machine {
                 drafts,
             },
             reply: Reply::Done,
-            told: Told::Nothing,
-            marks: marks.after(),
-        }))
+            told,
+            marks,
+        })
+    }
+
+    /// What changes of what routes look at once a sequence number PDU is taken, and the marks as they will be.
+    fn told_by_snp(
+        &self,
+        circuit: u8,
+        level: Level,
+        from: (Envelope, SystemId),
+        range: Option<(LspId, LspId)>,
+        entries: &[LspEntry],
+        following: &Following,
+        marks: Marks,
+    ) -> Result<(Told, Marks), OutOfMemory>
+        requires there { IsThere self.now circuit }
+        requires reached { IsReached self.now }
+        requires following { IsFollowing (outlook_of self.now) following.now }
+        requires kept { IfSome (nth self.now.circuits (circuit - 1)) (λ c. None
+            ≡ snp_drop self.now (circuit - 1) c level (envelope_of from.0) (system_number from.1)
+            (is_none (range_of range))) }
+        requires marks { AreTrue marks self.now }
+        ensures told { IfOk result (λ both. AreTold (outlook_of self.now)
+            (outlook_of (step given self.now (model.Take (circuit - 1)
+            (model.SnpHeard level (envelope_of from.0) (system_number from.1) (range_of range)
+            (entries_of entries.now)))).router) both.0) }
+        ensures marks { IfOk result (λ both. AreTrue both.1
+            (step given self.now (model.Take (circuit - 1)
+            (model.SnpHeard level (envelope_of from.0) (system_number from.1) (range_of range)
+            (entries_of entries.now)))).router) }
+    {
+        outlook_laws();
+        if self.are_clear(level, entries) {
+            return Ok((Told::Nothing, marks.after()));
+        }
+        match self.told_by_entries(level, entries, following) {
+            Ok(told) => Ok((told, Marks::none())),
+            Err(error) => Err(error),
+        }
     }
 
     /// Whether no entry of a sequence number PDU changes a key.

@@ -8,6 +8,7 @@ ghost use Rattle.model_router.specs.Numbers.{system_number};
 ghost use Rattle.router_core.specs.Designated.{designated_system};
 ghost use Rattle.router_core.specs.NamedBoots.{named_boot};
 ghost use Rattle.model_router.specs.AdjacencyLaws.{opens, place_of};
+ghost use Rattle.model_router.specs.Events as model_event;
 ghost use Rattle.model_router.specs.Steps.{step};
 ghost use Rattle.model_router.specs.Starts.{start};
 ghost use Rattle.flag_sync.specs.BookStates.{book_of as book_in};
@@ -27,16 +28,16 @@ ghost use Rattle.router_core.specs.Plans.{AreTold, committed, IsReady, IsSound};
 ghost use Rattle.router_core.specs.Settled.{AreTrue};
 ghost use Rattle.router_core.specs.Replies.{Answers};
 ghost use Rattle.router_core.specs.Reached.{IsReached};
-ghost use Rattle.router_core.specs.Reads.{event_in, FitsRead};
+ghost use Rattle.router_core.specs.Ways.{FitsHello, hello_event};
 
 use crate::event::NodeEvent;
 use crate::machine::Machine;
 use crate::marks::Marks;
 use crate::plan::{Deed, Plan};
 use crate::reached::{event_octets, reached_laws, start_reached};
-use crate::read::Read;
 use crate::reply::Reply;
 use crate::told::Told;
+use crate::way::{Hello, Way};
 use flag_sync::Book;
 use isis_base::{Level, OutOfMemory, Prefix, SystemId};
 use purge_ageing::LetGo;
@@ -135,8 +136,9 @@ impl Router {
         event_octets(&event);
         let read = self.machine.read(&event)?;
         match self.machine.plan(&read, &self.following, self.marks)? {
-            Some(plan) => self.step_planned(plan),
-            None => self.step_unplanned(&read),
+            Way::Planned(plan) => self.step_planned(plan),
+            Way::Hello { circuit, hello } => self.step_hello(circuit, &hello),
+            Way::Second => self.step_second(),
         }
     }
 
@@ -192,35 +194,41 @@ impl Router {
         Ok(())
     }
 
-    /// An event that has no plan: a hello is taken in place. Else a copy has it, so that nothing is lost where the routes want
-    /// memory.
-    fn step_unplanned(&mut self, read: &Read<'_>) -> Result<Reply, OutOfMemory>
-        requires fits { FitsRead self.old read.now }
-        requires reached { IsReached (step given self.old (event_in read.now)).router }
-        ensures state { OnOk result (self.new ≡ (step given self.old (event_in read.now)).router) }
-        ensures reply { IfOk result (λ reply. Answers self.new (place_of (event_in read.now))
-            (step given self.old (event_in read.now)).reply reply) }
+    /// A hello is taken in place. At `OutOfMemory` the router is as it was.
+    fn step_hello(&mut self, circuit: u8, hello: &Hello<'_>) -> Result<Reply, OutOfMemory>
+        requires fits { FitsHello self.old circuit hello.now }
+        requires reached { IsReached (step given self.old (hello_event circuit hello.now)).router }
+        ensures state { OnOk result (self.new
+            ≡ (step given self.old (hello_event circuit hello.now)).router) }
+        ensures reply { IfOk result (λ reply. Answers self.new (circuit - 1)
+            (step given self.old (hello_event circuit hello.now)).reply reply) }
         ensures reached { OnOk result (IsReached self.new) }
         ensures err { OnErr result (self.new ≡ self.old) }
     {
-        match self
-            .machine
-            .step_hello(read, &self.following, &mut self.marks)
-        {
-            Ok(Some(reply)) => return Ok(reply),
-            Ok(None) => {}
-            Err(error) => return Err(error),
+        match self.machine.step_hello(circuit, hello, &mut self.marks) {
+            Ok(reply) => Ok(reply),
+            Err(error) => Err(error),
         }
-        let (machine, reply) = self.machine.copy_after(read, &self.following)?;
-        match machine.follow_routes(&mut self.following, &self.machine, read) {
+    }
+
+    /// A second of which there is no plan passes on a copy, so that nothing is lost where the routes want memory.
+    fn step_second(&mut self) -> Result<Reply, OutOfMemory>
+        requires { IsReached (step given self.old model_event.Second).router }
+        ensures state { OnOk result (self.new ≡ (step given self.old model_event.Second).router) }
+        ensures reply { IfOk result (λ reply. Answers self.new (place_of model_event.Second)
+            (step given self.old model_event.Second).reply reply) }
+        ensures reached { OnOk result (IsReached self.new) }
+        ensures err { OnErr result (self.new ≡ self.old) }
+    {
+        let machine = self.machine.second_later(&self.following)?;
+        match machine.follow_routes(&mut self.following, &self.machine) {
             Ok(()) => {
                 put_machine(&mut self.machine, machine);
                 self.marks = Marks::none();
-                Ok(reply)
+                Ok(Reply::Done)
             }
             Err(error) => {
                 drop(machine);
-                drop(reply);
                 Err(error)
             }
         }

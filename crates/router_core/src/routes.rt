@@ -1,20 +1,18 @@
 //! What routes look at of a router, and that routes follow it.
-ghost use Rattle.std.specs.Prelude.{◌≡◌, true, false, length, IfOk, OnOk, OnErr};
+ghost use Rattle.std.specs.Prelude.{◌≡◌, true, length, IfOk, OnOk, OnErr};
+ghost use Rattle.model_router.specs.Events as model;
 ghost use Rattle.model_router.specs.Steps.{step};
 ghost use Rattle.router_routes.specs.Outlooks.{outlook_in, outlook_of};
 ghost use Rattle.router_routes.specs.Following.{IsFollowing};
-ghost use Rattle.router_core.specs.Calm.{AreBelow, KeepsPrefixes, SameCounts, Stands};
+ghost use Rattle.router_core.specs.Calm.{AreBelow, SameCounts, Stands};
 ghost use Rattle.router_core.specs.Givens.{given};
 ghost use Rattle.router_core.specs.Reached.{IsReached};
-ghost use Rattle.router_core.specs.Reads.{event_in};
 
 use crate::machine::Machine;
 use crate::reached::outlook_laws;
-use crate::read::Read;
 use flag_sync::Book;
 use isis_base::{Level, OutOfMemory};
 use model_router::laws::identifiers::system_law;
-use router_desk::Change;
 use router_routes::{Following, Lent};
 
 impl Machine {
@@ -59,22 +57,21 @@ impl Machine {
             && two.store().changes() == old.two.book().store().changes()
     }
 
-    /// The routes follow this router after an event, where it was as that one is before. They stay as
+    /// The routes follow this router after a second, where it was as that one is before. They stay as
     /// they are where nothing changed that they look at. At `OutOfMemory` all is as it was.
     pub(crate) fn follow_routes(
         &self,
         following: &mut Following,
         old: &Machine,
-        read: &Read<'_>,
     ) -> Result<(), OutOfMemory>
         requires reached { IsReached old.now }
-        requires step { self.now ≡ (step given old.now (event_in read.now)).router }
+        requires step { self.now ≡ (step given old.now model.Second).router }
         requires follows { IsFollowing (outlook_of old.now) following.old }
         ensures follows { OnOk result (IsFollowing (outlook_of self.now) following.new) }
         ensures err { OnErr result (following.new ≡ following.old) }
     {
         outlook_laws();
-        if keeps_prefixes(read) && old.counts_below() && self.has_counts_of(old) {
+        if old.counts_below() && self.has_counts_of(old) {
             return Ok(());
         }
         let (one, two) = (self.stands(old, Level::One), self.stands(old, Level::Two));
@@ -88,21 +85,6 @@ impl Machine {
     {
         let before = old.book(level).store().changes();
         before < u64::MAX && self.book(level).store().changes() == before
-    }
-}
-
-/// Whether an event leaves one's own prefixes.
-fn keeps_prefixes(read: &Read<'_>) -> bool
-    ensures { result ≡ true → KeepsPrefixes (event_in read.now) }
-{
-    match read {
-        Read::Change(
-            Change::Prefix {
-                prefix: _,
-                metric: _,
-            },
-        ) => false,
-        _ => true,
     }
 }
 

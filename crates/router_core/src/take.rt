@@ -1,33 +1,27 @@
 //! Datagrams that are taken.
-ghost use Rattle.std.specs.Prelude.{◌≡◌, ◌<◌, ◌-◌, ◌∷◌, [], not, IfSome, IfOk, OnOk, OnErr};
+ghost use Rattle.std.specs.Prelude.{◌≡◌, ◌<◌, ◌-◌, ◌∷◌, [], not, IfSome, IfOk};
 ghost use Rattle.isis_base.specs.Identifiers.{lsp_number};
 ghost use Rattle.isis_base.specs.Keys.{entry_rank};
 ghost use Rattle.model_router.specs.Datagrams as sent;
 ghost use Rattle.model_router.specs.Drops.{count_drop};
 ghost use Rattle.model_router.specs.LspTable as table;
 ghost use Rattle.model_router.specs.Places.{nth};
-ghost use Rattle.model_router.specs.Routers.{level_of, with_level};
-ghost use Rattle.model_router.specs.Takes as takes;
+ghost use Rattle.model_router.specs.Routers.{level_of};
 ghost use Rattle.model_router.specs.Takes.{whose_of};
-ghost use Rattle.model_router.specs.Receiving.{acks, scene_of};
-ghost use Rattle.flag_sync.specs.Heard.{answer_of, entries_of, heard_of};
+ghost use Rattle.model_router.specs.Receiving.{acks};
+ghost use Rattle.flag_sync.specs.Heard.{answer_of, heard_of};
 ghost use Rattle.router_sending.specs.Sends.{Sends};
 ghost use Rattle.router_desk.specs.Causes.{name_of};
-ghost use Rattle.router_levels.specs.Drafts.{range_of};
 ghost use Rattle.router_core.specs.declared.reply.Reply.TheVariants as reply;
 ghost use Rattle.router_core.specs.Events.{IsThere};
-ghost use Rattle.router_routes.specs.Outlooks.{outlook_of};
-ghost use Rattle.router_routes.specs.Following.{IsFollowing};
-ghost use Rattle.router_core.specs.Givens.{given};
 ghost use Rattle.router_core.specs.Replies.{Answers, datagrams_of};
 
 use crate::datagrams::Datagrams;
 use crate::machine::Machine;
 use crate::reply::Reply;
 use flag_sync::{LspAnswer, LspHeard};
-use isis_base::{Level, LspEntry, LspId, OutOfMemory};
+use isis_base::{Level, LspEntry, OutOfMemory};
 use router_desk::DropCause;
-use router_routes::Following;
 use router_sending::{Sender, psnp};
 
 impl Machine {
@@ -121,25 +115,5 @@ impl Machine {
             address: on.address(),
             key: on.key(),
         }
-    }
-
-    /// A sequence number PDU that isn't dropped is taken (ISO 10589 7.3.15.2).
-    pub(crate) fn take_snp(
-        &mut self,
-        circuit: u8,
-        level: Level,
-        range: Option<(LspId, LspId)>,
-        entries: &[LspEntry],
-        following: &Following,
-    ) -> Result<(), OutOfMemory>
-        requires there { IsThere self.old circuit }
-        requires following { IsFollowing (outlook_of self.old) following.now }
-        ensures state { OnOk result (self.new ≡ with_level self.old level
-            (takes.take_snp (scene_of given self.old level) (level_of self.old level)
-            self.old.config.system (circuit - 1) (range_of range) (entries_of entries.now))) }
-        ensures err { OnErr result (self.new ≡ self.old) }
-    {
-        let drafts = self.answers(level, entries, following)?;
-        self.hear_snp(circuit, level, range, entries, drafts)
     }
 }

@@ -4,7 +4,9 @@ ghost use Rattle.model_router.specs.Routers.{Router};
 ghost use Rattle.router_routes.specs.Outlooks.{Outlook, outlook_of, prefixes_by};
 ghost use Rattle.router_routes.specs.Following.{IsFollowing};
 ghost use Rattle.router_routes.specs.Coming.{IsComing};
-ghost use Rattle.router_core.specs.Plans.{AreTold};
+ghost use Rattle.router_routes.specs.Moved.{AreMoved, IsInOrder, NodesRise};
+ghost use Rattle.router_core.specs.declared.told.Told.TheVariants as told;
+ghost use Rattle.router_core.specs.Plans.{AreTold, AreInOrder};
 ghost use Rattle.router_core.specs.Puts.{IsWith};
 
 use crate::aside::node_with;
@@ -14,13 +16,14 @@ use crate::routes::has_rows;
 use isis_base::laws::lsp_id_law;
 use isis_base::{Level, LspId, NodeId, OutOfMemory};
 use lsp_store::{Entry, Store};
-use router_routes::{Coming, Following};
+use router_routes::{Coming, Following, Moved};
 
-/// What an event changes of what routes look at: nothing, what one node tells, or one's own prefixes.
+/// What an event changes of what routes look at: nothing, what one node tells in a level, or some do, or one's own prefixes.
 #[derive(Drop)]
 pub(crate) enum Told {
     Nothing,
     Node(Moving),
+    Nodes(MovingNodes),
     Prefixes(OwnPrefixes),
 }
 
@@ -29,6 +32,14 @@ pub(crate) enum Told {
 pub(crate) struct Moving {
     pub(crate) level: Level,
     pub(crate) node: NodeId,
+    pub(crate) aside: Store,
+}
+
+/// Nodes, in order and each once, that will tell other LSPs in a level: these, and no others.
+#[derive(Drop)]
+pub(crate) struct MovingNodes {
+    pub(crate) level: Level,
+    pub(crate) nodes: Vec<NodeId>,
     pub(crate) aside: Store,
 }
 
@@ -69,7 +80,8 @@ impl Machine {
         following: &Following,
         told: &Told,
     ) -> Result<Option<Coming>, OutOfMemory>
-        requires { IsFollowing (outlook_of self.now) following.now }
+        requires follows { IsFollowing (outlook_of self.now) following.now }
+        requires order { AreInOrder told.now }
         ensures { IfOk result (λ next. (o : Outlook) → AreTold (outlook_of self.now) o told.now
             → MatchOption next (IsFollowing o following.now) (λ c. IsComing o following.now c)) }
     {
@@ -78,6 +90,10 @@ impl Machine {
             Told::Node(moving) => {
                 let lent = self.lent()?;
                 following.ahead(&lent, moving.level, moving.node, &moving.aside)
+            }
+            Told::Nodes(moving) => {
+                let lent = self.lent()?;
+                following.after(&lent, &told_by(moving))
             }
             Told::Prefixes(own) => self.following_with(following, own),
         }
@@ -96,5 +112,30 @@ impl Machine {
     {
         let lent = self.lent()?;
         following.with_prefixes(&lent, own.as_slice())
+    }
+}
+
+/// The same in the routes' words.
+fn told_by<'a>(moving: &'a MovingNodes) -> router_routes::Told<'a>
+    ensures moved { (old new : Outlook) → AreTold old new (told.Nodes moving.now)
+        → AreMoved old new result }
+    ensures one { NodesRise 0 moving.now.nodes.items → IsInOrder result.one }
+    ensures two { NodesRise 0 moving.now.nodes.items → IsInOrder result.two }
+{
+    let moved = Some(Moved {
+        nodes: moving.nodes.as_slice(),
+        aside: &moving.aside,
+    });
+    match moving.level {
+        Level::One => router_routes::Told {
+            one: moved,
+            two: None,
+            prefixes: None,
+        },
+        Level::Two => router_routes::Told {
+            one: None,
+            two: moved,
+            prefixes: None,
+        },
     }
 }

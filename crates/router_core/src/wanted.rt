@@ -50,22 +50,8 @@ impl Machine {
         self.wanted_with(&self.circuits, level, following)
     }
 
-    /// A draft of what is wanted of an own LSP ID (ISO 10589 7.3.16.1).
-    pub(crate) fn draft(
-        &self,
-        level: Level,
-        id: LspId,
-        following: &Following,
-    ) -> Result<Draft, OutOfMemory>
-        requires { IsFollowing (outlook_of self.now) following.now }
-        ensures { IfOk result (λ draft. draft ≡ draft_at self.now level id) }
-    {
-        let wanted = self.wanted(level, following)?;
-        self.draft_in(&wanted, level, id)
-    }
-
-    /// A draft of what this list of what is wanted says of an own LSP ID; one that isn't wanted says
-    /// its IS type alone (own).
+    /// A draft of what this list of what is wanted says of an own LSP ID (ISO 10589 7.3.16.1); one that isn't
+    /// wanted says its IS type alone (own).
     pub(crate) fn draft_in(
         &self,
         wanted: &[Wanted],
@@ -114,7 +100,7 @@ impl Machine {
 
     /// The own LSPs that a level wants, where one of these entries is of an issued one; else none, since nothing is asked
     /// of them.
-    fn wanted_of(
+    pub(crate) fn wanted_of(
         &self,
         level: Level,
         entries: &[LspEntry],

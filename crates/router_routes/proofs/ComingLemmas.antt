@@ -1,13 +1,16 @@
 -- What will follow a router, by its parts.
-use Rattle.std.proofs.Common.{◌≡◌, ◌∙◌, ◌↔◌, ℕ, List, Option, None, Some, sym, ap, subst}
+use Rattle.std.proofs.Common.{◌≡◌, ◌∙◌, ◌↔◌, ℕ, List, [], Option, None, Some, refl, sym, ap, subst}
 use Rattle.std.specs.Prelude.{IfSome, MatchOption}
 use Rattle.std.specs.List.{Contains}
 use Rattle.isis_base.specs.declared.identifiers.NodeId.{NodeId}
 use Rattle.isis_base.specs.declared.level.Level.{Level}
 use Rattle.isis_base.specs.declared.level.Level.TheVariants as level
+use Rattle.spf_tree.specs.Distances.{cost_at}
 use Rattle.spf_tree.specs.Graphs.{GraphOf}
 use Rattle.spf_tree.specs.NextHops.{IsNextHop}
 use Rattle.spf_tree.specs.Nodes.{node_number}
+use Rattle.spf_tree.proofs.SearchLemmas.{contains_none}
+use Rattle.spf_tree.specs.Local.{AreHopsSame}
 use Rattle.spf_repair.specs.Changes.{RepairedOf}
 use Rattle.route_table.specs.declared.candidate.Candidate.{Candidate}
 use Rattle.router_routes.specs.declared.coming.Coming.{Coming}
@@ -18,8 +21,8 @@ use Rattle.router_routes.specs.Candidates.{defaults}
 use Rattle.router_routes.specs.Following.{AreHopsOf, FollowingOf, IsFollowing, IsLevel}
 use Rattle.router_routes.specs.Kept.{AreSame, AreReached, AreAmong, AreBeside, CostBeside, told_candidates}
 use Rattle.router_routes.specs.Moved.{AreNodes, or_old}
-use Rattle.router_routes.specs.Coming.{AreLevels, AreLevelsBeside, AreLevelsOf, AreOfOneRoot, AreRoutesAfter, FitsIn, IsComing, costs_after, hops_after}
-use Rattle.router_routes.proofs.SameLemmas.{beside-more, cost-refl}
+use Rattle.router_routes.specs.Coming.{AreLevels, AreLevelsBeside, AreLevelsOf, AreOfOneRoot, AreRoutesAfter, CostsStay, FitsIn, HaveNumbers, HopsStay, IsComing, IsLevelAfter, costs_after, hops_after, moved_in}
+use Rattle.router_routes.proofs.SameLemmas.{beside-more, cost-apart, cost-refl}
 
 hops-of : (a b : RepairedOf) (s t : List (ℕ × ℕ)) → a ≡ b → s ≡ t → AreHopsOf b t → AreHopsOf a s
 hops-of a b s t e g are = subst (λ (r : RepairedOf). AreHopsOf r s) (sym e) (subst (λ (l : List (ℕ × ℕ)). AreHopsOf b l) (sym g) are)
@@ -31,8 +34,8 @@ coming-is o f c are reached routes =
       follows = λ g put. record {
         one = subst (λ (r : RepairedOf). IsLevel o level.One r) (sym put.one) are.one;
         two = subst (λ (r : RepairedOf). IsLevel o level.Two r) (sym put.two) are.two;
-        hops_one = hops-of g.levels.one (costs_after c.one f.levels.one) g.hops.one (hops_after c.one f.hops.one) put.one put.hops_one are.hops_one;
-        hops_two = hops-of g.levels.two (costs_after c.two f.levels.two) g.hops.two (hops_after c.two f.hops.two) put.two put.hops_two are.hops_two;
+        hops_one = hops-of g.levels.one (costs_after c.one f.levels.one) g.hops.one (hops_after c.one f.hops.one) put.one put.hops_one are.hops_one.right;
+        hops_two = hops-of g.levels.two (costs_after c.two f.levels.two) g.hops.two (hops_after c.two f.hops.two) put.two put.hops_two are.hops_two.right;
         routes = routes.right g.routes put.routes;
         attached = put.attached ∙ reached.attached;
         told = subst (λ (l : List Candidate). AreSame l (told_candidates o)) (sym put.told) reached.told;
@@ -64,6 +67,15 @@ levels-are o f ones twos levels a b are =
       hops_two = are.hops_two;
     }
 
+-- a level that stays
+pub level-stays : (old : RepairedOf) (known : List (ℕ × ℕ)) → AreHopsOf old known → IsLevelAfter old known None
+level-stays old known are =
+    record {
+      right = are;
+      moved = record { each = λ node out. refl };
+      apart = record { each = λ target hop out. ((λ h. h), (λ h. h)) };
+    }
+
 -- where no level has new costs
 pub levels-stay : (o p : Outlook) (f : FollowingOf) (nodes : List NodeId) (levels : LevelsAfter) → levels.one ≡ None → levels.two ≡ None → IsFollowing o f → AreNodes nodes → AreBeside nodes o p → IsLevel p level.One f.levels.one → IsLevel p level.Two f.levels.two → AreLevelsBeside nodes o p f levels
 levels-stay o p f nodes levels a b is ids beside one two =
@@ -77,20 +89,20 @@ levels-stay o p f nodes levels a b is ids beside one two =
       right = record {
         one = subst (λ (r : RepairedOf). IsLevel p level.One r) (sym first) one;
         two = subst (λ (r : RepairedOf). IsLevel p level.Two r) (sym second) two;
-        hops_one = hops-of _ f.levels.one _ f.hops.one first (ap (λ (q : Option LevelAfter). hops_after q f.hops.one) a) is.hops_one;
-        hops_two = hops-of _ f.levels.two _ f.hops.two second (ap (λ (q : Option LevelAfter). hops_after q f.hops.two) b) is.hops_two;
+        hops_one = subst (λ (q : Option LevelAfter). IsLevelAfter f.levels.one f.hops.one q) (sym a) (level-stays f.levels.one f.hops.one is.hops_one);
+        hops_two = subst (λ (q : Option LevelAfter). IsLevelAfter f.levels.two f.hops.two q) (sym b) (level-stays f.levels.two f.hops.two is.hops_two);
       };
     }
 
 -- the nodes that moved, as they are told apart
-pub levels-beside : (some nodes all : List NodeId) (o p : Outlook) (f : FollowingOf) (one two : RepairedOf) (levels : LevelsAfter) → all ≡ nodes → one ≡ f.levels.one → two ≡ f.levels.two → AreAmong some nodes → AreNodes nodes → AreBeside some o p
-    → CostBeside nodes one.distances (costs_after levels.one one).distances → CostBeside nodes two.distances (costs_after levels.two two).distances → AreLevels p f levels → AreLevelsBeside all o p f levels
-levels-beside some nodes all o p f one two levels e a b more ids beside c d are =
+pub levels-beside : (some nodes all : List NodeId) (o p : Outlook) (f : FollowingOf) (levels : LevelsAfter) → all ≡ nodes → AreAmong some nodes → AreNodes nodes → AreBeside some o p
+    → HaveNumbers (moved_in levels.one) nodes → HaveNumbers (moved_in levels.two) nodes → AreLevels p f levels → AreLevelsBeside all o p f levels
+levels-beside some nodes all o p f levels e more ids beside one two are =
     subst (λ (l : List NodeId). AreLevelsBeside l o p f levels) (sym e) (record {
       beside = beside-more some nodes o p more beside;
       ids = ids;
-      costs_one = subst (λ (r : RepairedOf). CostBeside nodes r.distances (costs_after levels.one r).distances) a c;
-      costs_two = subst (λ (r : RepairedOf). CostBeside nodes r.distances (costs_after levels.two r).distances) b d;
+      costs_one = cost-apart nodes f.levels.one.distances (costs_after levels.one f.levels.one).distances (moved_in levels.one) are.hops_one.moved.each one;
+      costs_two = cost-apart nodes f.levels.two.distances (costs_after levels.two f.levels.two).distances (moved_in levels.two) are.hops_two.moved.each two;
       right = are;
     })
 
@@ -110,3 +122,32 @@ hops-by r g root pairs e at-root are =
           subst (λ (h : GraphOf). (target hop : ℕ) → Contains pairs (target, hop) ↔ IsNextHop h.rows (node_number h.root) target hop) e
           (subst (λ (n : NodeId). (target hop : ℕ) → Contains pairs (target, hop) ↔ IsNextHop g.rows (node_number n) target hop) at-root are);
     }
+
+-- tables of next hops of two graphs that have the same beside some nodes
+pub hops-beside : (old new : RepairedOf) (g h : GraphOf) (root : NodeId) (known table : List (ℕ × ℕ)) (inside : List ℕ) → AreOfOneRoot old new → g ≡ old.graph → h ≡ new.graph → root ≡ h.root → AreHopsOf old known → AreHopsOf new table → AreHopsSame g.rows h.rows (node_number root) inside → HopsStay inside known table
+hops-beside old new g h root known table inside one e k at-root before after same =
+    let roots : old.graph.root ≡ new.graph.root = one.old_root ∙ sym one.same ∙ sym one.new_root in
+    let at-new : AreHopsSame g.rows h.rows (node_number h.root) inside = subst (λ (n : NodeId). AreHopsSame g.rows h.rows (node_number n) inside) at-root same in
+    let of-new : AreHopsSame g.rows new.graph.rows (node_number new.graph.root) inside = subst (λ (x : GraphOf). AreHopsSame g.rows x.rows (node_number x.root) inside) k at-new in
+    let of-both : AreHopsSame old.graph.rows new.graph.rows (node_number new.graph.root) inside = subst (λ (x : GraphOf). AreHopsSame x.rows new.graph.rows (node_number new.graph.root) inside) e of-new in
+    record {
+      each = λ target hop out.
+          let was : Contains known (target, hop) ↔ IsNextHop old.graph.rows (node_number new.graph.root) target hop = subst (λ (n : NodeId). Contains known (target, hop) ↔ IsNextHop old.graph.rows (node_number n) target hop) roots (before.each target hop) in
+          let stays = of-both target hop out in
+          let is = after.each target hop in
+          ((λ x. is.1 (stays.0 (was.0 x))), (λ x. was.1 (stays.1 (is.0 x))));
+    }
+
+-- the nodes of no numbers, and those that are there among more
+pub numbers-none : (nodes : List NodeId) → HaveNumbers [] nodes
+numbers-none nodes m id there = absurd (contains_none (node_number m) there)
+
+pub numbers-more : (numbers : List ℕ) (some all : List NodeId) → AreAmong some all → HaveNumbers numbers some → HaveNumbers numbers all
+numbers-more numbers some all more have m id there = more (node_number m) (have m id there)
+
+-- costs, as they are told apart
+pub costs-apart : (old new d e : List (ℕ × ℕ)) (slice numbers : List ℕ) → d ≡ old → e ≡ new → slice ≡ numbers → ((node : ℕ) → (Contains numbers node → ⊥) → cost_at d node ≡ cost_at e node) → CostsStay slice old new
+costs-apart old new d e slice numbers was is same apart =
+    subst (λ (l : List ℕ). CostsStay l old new) (sym same) (record {
+      each = λ node out. ap (λ (x : List (ℕ × ℕ)). cost_at x node) (sym was) ∙ apart node out ∙ ap (λ (x : List (ℕ × ℕ)). cost_at x node) is;
+    })

@@ -20,9 +20,7 @@ use Rattle.spf_repair.proofs.ReplaceLemmas.{times_in, in_times}
 use Rattle.route_table.specs.declared.rank.Rank.{Rank}
 use Rattle.route_table.specs.declared.rank.Rank.TheVariants.{Own, One, Two, OneDown, Default}
 use Rattle.route_table.specs.declared.candidate.Candidate.{Candidate}
-use Rattle.route_table.specs.declared.route.Route.{Route}
-use Rattle.route_table.specs.Routes.{IsHopBy, IsHopTo, AreRoutes}
-use Rattle.route_table.proofs.OrderLemmas.{routes_by}
+use Rattle.route_table.specs.Routes.{IsHopBy, IsHopTo}
 use Rattle.router_routes.specs.Costs.{cost_of}
 use Rattle.isis_base.specs.declared.identifiers.SystemId.{SystemId}
 use Rattle.isis_base.specs.declared.level.Level.TheVariants as level
@@ -150,7 +148,7 @@ costs-same told later root graph is then-is =
     let same = least_same (usable_rows later root) (node_number root) (cost_of (usable_rows told root) (node_number root)) (cost_of (usable_rows later root) (node_number root)) (least-to (usable_rows told root) (usable_rows later root) (node_number root) (cost_of (usable_rows told root) (node_number root)) into-later out-of (costs-least (usable_rows told root) (node_number root))) (costs-least (usable_rows later root) (node_number root)) in
     λ i node. same node i
 
--- ---- routes over graphs are those over the levels' graphs
+-- ---- hops by graphs are those by the levels' graphs
 
 module _ (ones twos : Told) (root : NodeId) (one two : GraphOf) (is-one : IsGraphOf ones root one) (is-two : IsGraphOf twos root two) where
   pub hop-by : (rank : Rank) (origin hop : ℕ) → IsHopBy one two rank origin hop ↔ IsHopBy (graph_in ones root) (graph_in twos root) rank origin hop
@@ -159,10 +157,6 @@ module _ (ones twos : Told) (root : NodeId) (one two : GraphOf) (is-one : IsGrap
   hop-by Two origin hop = hops-are twos root two is-two origin hop
   hop-by OneDown origin hop = hops-are ones root one is-one origin hop
   hop-by Default origin hop = hops-are ones root one is-one origin hop
-
-  pub routes-are : (candidates : List Candidate) (routes : List Route) → AreRoutes (IsHopTo one two) candidates routes → AreRoutes (IsHopTo (graph_in ones root) (graph_in twos root)) candidates routes
-  routes-are candidates routes are =
-      routes_by (IsHopTo one two) (IsHopTo (graph_in ones root) (graph_in twos root)) candidates candidates routes (λ c h. h) (λ c h. h) (λ c hop. hop-by c.rank (node_number c.origin) hop) are
 
 -- ---- as contracts have them
 

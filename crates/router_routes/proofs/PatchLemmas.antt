@@ -38,7 +38,7 @@ use Rattle.router_routes.specs.Candidates.{reached_in, has_bit, has_defaults, de
 use Rattle.router_routes.specs.Following.{AreHopsOf, FollowingOf, IsFollowing, IsLevel}
 use Rattle.router_routes.specs.Kept.{AreBeside, AreReached, AreSame, CostBeside, HaveToldIds, stays, systems_among, told_candidates}
 use Rattle.router_routes.specs.Moved.{AreNodes, AreViewed, is_among, outlook_at}
-use Rattle.router_routes.specs.Coming.{AreLevels, AreLevelsBeside, AreRoutesAfter, costs_after, hops_after}
+use Rattle.router_routes.specs.Coming.{AreLevels, AreLevelsBeside, AreRoutesAfter, HopsStay, apart_in, costs_after, hops_after}
 use Rattle.router_routes.specs.Touched.{AreMovedNumbers, ArePatchesFor, AreRoutesFor, AreStill, AreTouched, HaveOwn, IsStill, is_by, is_for, prefix_of, prefixes_via}
 use Rattle.router_routes.proofs.GraphLemmas.{hop-by}
 use Rattle.router_routes.proofs.KeptLemmas.{among-in, filter-in, flat-in, in-filter}
@@ -187,7 +187,7 @@ module _ (o p : Outlook) (f : FollowingOf) (is : IsFollowing o f) (nodes : List 
   Listed = IsListedHop (hops_after levels.one f.hops.one) (hops_after levels.two f.hops.two)
 
   new-hop : (c : Candidate) (hop : ℕ) → Listed c hop ↔ New c hop
-  new-hop = listed-hop p (costs_after levels.one f.levels.one) (costs_after levels.two f.levels.two) (hops_after levels.one f.hops.one) (hops_after levels.two f.hops.two) after.one after.two after.hops_one after.hops_two
+  new-hop = listed-hop p (costs_after levels.one f.levels.one) (costs_after levels.two f.levels.two) (hops_after levels.one f.hops.one) (hops_after levels.two f.hops.two) after.one after.two after.hops_one.right after.hops_two.right
 
   still-hop : (c : Candidate) → IsStill nodes f levels (node_number c.origin) → (hop : ℕ) → Old c hop ↔ New c hop
   still-hop c stay hop =
@@ -282,7 +282,7 @@ module _ (o p : Outlook) (f : FollowingOf) (is : IsFollowing o f) (nodes : List 
       record {
         fits = tt;
         right = λ new put. subst (λ (l : List Route). AreRoutesOf p l) (sym put)
-            (routes-listed p (costs_after levels.one f.levels.one) (costs_after levels.two f.levels.two) (hops_after levels.one f.hops.one) (hops_after levels.two f.hops.two) all made after.one after.two after.hops_one after.hops_two same are);
+            (routes-listed p (costs_after levels.one f.levels.one) (costs_after levels.two f.levels.two) (hops_after levels.one f.hops.one) (hops_after levels.two f.hops.two) all made after.one after.two after.hops_one.right after.hops_two.right same are);
       }
   routes-after all held (Patched patches) same e are =
       let part : IsPart (candidates_of p) all patches.list = record { some = λ c. (same c).0; whole = λ c there is-touched. (same c).1 there } in
@@ -317,17 +317,23 @@ among-false : (t : Bool) → (t ≡ true → ⊥) → t ≡ false
 among-false true h = absurd (h refl)
 among-false false h = refl
 
-pub moved-are : (nodes : List NodeId) (f : FollowingOf) (levels : LevelsAfter) (ones twos : List (ℕ × ℕ)) (n0 n1 n2 sorted : List ℕ) → ones ≡ f.hops.one → twos ≡ f.hops.two → n0 ≡ map node_number nodes → ((n : ℕ) → Contains n0 n → Contains n1 n) → ((n : ℕ) → Contains n1 n → Contains n2 n) → ((n : ℕ) → Contains n2 n → Contains sorted n) → IsStrictlyIncreasing sorted
-    → ((target hop : ℕ) → (Contains n1 target → ⊥) → Contains ones (target, hop) ↔ Contains (hops_after levels.one ones) (target, hop)) → ((target hop : ℕ) → (Contains n2 target → ⊥) → Contains twos (target, hop) ↔ Contains (hops_after levels.two twos) (target, hop)) → AreMovedNumbers nodes f levels sorted
-moved-are nodes f levels ones twos n0 n1 n2 sorted a b e k0 k1 k2 up apart1 apart2 =
+pub moved-are : (nodes : List NodeId) (f : FollowingOf) (levels : LevelsAfter) (n0 n1 n2 sorted : List ℕ) → n0 ≡ map node_number nodes → n1 ≡ n0 ++ apart_in levels.one → n2 ≡ n1 ++ apart_in levels.two → ((n : ℕ) → Contains n2 n → Contains sorted n) → IsStrictlyIncreasing sorted
+    → HopsStay (apart_in levels.one) f.hops.one (hops_after levels.one f.hops.one) → HopsStay (apart_in levels.two) f.hops.two (hops_after levels.two f.hops.two) → AreMovedNumbers nodes f levels sorted
+moved-are nodes f levels n0 n1 n2 sorted e0 e1 e2 all up one two =
+    let ones = apart_in levels.one in
+    let twos = apart_in levels.two in
+    let from1 : (n : ℕ) → Contains n1 n → Contains sorted n = λ n there. all n (subst (λ (l : List ℕ). Contains l n) (sym e2) (Contains-append_left n1 twos n there)) in
+    let of-two : (n : ℕ) → Contains twos n → Contains sorted n = λ n there. all n (subst (λ (l : List ℕ). Contains l n) (sym e2) (Contains-append_right n1 twos n there)) in
+    let of-one : (n : ℕ) → Contains ones n → Contains sorted n = λ n there. from1 n (subst (λ (l : List ℕ). Contains l n) (sym e1) (Contains-append_right n0 ones n there)) in
+    let of-nodes : (n : ℕ) → Contains n0 n → Contains sorted n = λ n there. from1 n (subst (λ (l : List ℕ). Contains l n) (sym e1) (Contains-append_left n0 ones n there)) in
     record {
       rising = up;
       still = λ n none. let out = moved-none sorted n none in record {
         beside = among-false (is_among nodes n) (λ among. (
             let m = among-in nodes n among in
-            out (k2 n (k1 n (k0 n (subst (λ (l : List ℕ). Contains l n) (sym e) (subst (λ (x : ℕ). Contains (map node_number nodes) x) m.2 (in-map node_number nodes m.0 m.1))))))));
-        one = λ hop. subst (λ (l : List (ℕ × ℕ)). Contains l (n, hop) ↔ Contains (hops_after levels.one l) (n, hop)) a (apart1 n hop (λ there. out (k2 n (k1 n there))));
-        two = λ hop. subst (λ (l : List (ℕ × ℕ)). Contains l (n, hop) ↔ Contains (hops_after levels.two l) (n, hop)) b (apart2 n hop (λ there. out (k2 n there)));
+            out (of-nodes n (subst (λ (l : List ℕ). Contains l n) (sym e0) (subst (λ (x : ℕ). Contains (map node_number nodes) x) m.2 (in-map node_number nodes m.0 m.1))))));
+        one = λ hop. one.each n hop (λ there. out (of-one n there));
+        two = λ hop. two.each n hop (λ there. out (of-two n there));
       };
     }
 

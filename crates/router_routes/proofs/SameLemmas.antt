@@ -14,21 +14,19 @@ use Rattle.model_datagram.specs.Reading.{runs_of}
 use Rattle.lsp_store.specs.declared.entry.Entry.{Entry}
 use Rattle.lsp_view.specs.Views.{own_node}
 use Rattle.spf_tree.specs.Nodes.{node_number}
-use Rattle.spf_tree.specs.Graphs.{GraphOf}
 use Rattle.spf_tree.specs.Distances.{cost_at, AreDistances}
 use Rattle.spf_repair.specs.Changes.{RepairedOf}
 use Rattle.route_table.specs.declared.candidate.Candidate.{Candidate}
-use Rattle.route_table.specs.declared.route.Route.{Route}
-use Rattle.route_table.specs.Routes.{IsHopTo, AreRoutes}
+use Rattle.route_table.specs.Routes.{IsHopTo}
 use Rattle.route_table.proofs.OrderLemmas.{routes_by}
 use Rattle.router_routes.specs.declared.lent.Lent.{Lent}
 use Rattle.router_routes.specs.declared.view.View.{View}
 use Rattle.router_routes.specs.Outlooks.{Outlook, graph_in, outlook_in, where_run}
-use Rattle.router_routes.specs.Candidates.{reached_in, reached_by, system_candidates, level_candidates, default_of, defaults, own_candidate, attached_of, is_for_all, firm_candidates, has_defaults, candidates_of, AreRoutesOf}
+use Rattle.router_routes.specs.Candidates.{reached_in, reached_by, system_candidates, level_candidates, default_of, defaults, own_candidate, attached_of, is_for_all, firm_candidates, has_defaults, candidates_of}
 use Rattle.router_routes.specs.Following.{FollowingOf, IsFollowing, IsLevel}
 use Rattle.router_routes.specs.Kept.{AreSame, AreAmong, AreBeside, AreReached, CostBeside, HaveToldIds, stays, systems_among, told_candidates}
 use Rattle.router_routes.specs.Moved.{AreFit, HaveIds, outlook_at, told_of, AreNodes, is_among}
-use Rattle.router_routes.proofs.GraphLemmas.{IsGraphOf, reached-are, routes-are, hop-same}
+use Rattle.router_routes.proofs.GraphLemmas.{reached-are, hop-same}
 use Rattle.spf_tree.proofs.SearchLemmas.{contains_cases, contains_none}
 use Rattle.router_routes.proofs.IdLemmas.{number-0}
 use Rattle.router_routes.proofs.MovedLemmas.{told-ids}
@@ -87,18 +85,6 @@ candidates-same o p told ways root runs prefixes attached a b c d =
     (subst (λ (cs : List Candidate). AreSame (cs ++ (if has_defaults o then ways else [])) (candidates_of p)) (sym firm) two)
 
 -- ---- routes
-
--- routes of other candidates with the same members
-pub routes-same : (o : Outlook) (cs : List Candidate) (routes : List Route) → AreSame cs (candidates_of o) → AreRoutes (IsHopTo (graph_in o.told.one o.root) (graph_in o.told.two o.root)) cs routes → AreRoutesOf o routes
-routes-same o cs routes same are =
-    let hop = IsHopTo (graph_in o.told.one o.root) (graph_in o.told.two o.root) in
-    routes_by hop hop cs (candidates_of o) routes (λ c. (same c).1) (λ c. (same c).0) (λ c h. ((λ x. x), (λ x. x))) are
-
-pub routes-of : (o : Outlook) (one two : RepairedOf) (g h : GraphOf) (cs : List Candidate) (routes : List Route) → IsLevel o level.One one → IsLevel o level.Two two → g ≡ one.graph → h ≡ two.graph → AreSame cs (candidates_of o) → AreRoutes (IsHopTo g h) cs routes → AreRoutesOf o routes
-routes-of o one two g h cs routes is-one is-two e f same are =
-    let of-g : IsGraphOf o.told.one o.root g = subst (IsGraphOf o.told.one o.root) (sym e) is-one.graph in
-    let of-h : IsGraphOf o.told.two o.root h = subst (IsGraphOf o.told.two o.root) (sym f) is-two.graph in
-    routes-same o cs routes same (routes-are o.told.one o.told.two o.root g h of-g of-h cs routes are)
 
 -- what follows a router follows it where its costs are right still and it reaches the same
 pub stays-following : (o p : Outlook) (f : FollowingOf) → IsFollowing o f → p.root ≡ o.root → p.runs ≡ o.runs → p.prefixes ≡ o.prefixes → IsLevel p level.One f.levels.one → IsLevel p level.Two f.levels.two → AreSame f.told (told_candidates p) → AreSame f.defaults (defaults p.told.one p.root) → f.attached ≡ attached_of p → IsFollowing p f
@@ -315,11 +301,3 @@ ways-by-nodes view s t l n run none e same =
 
 pub among-trans : (a b c : List NodeId) → AreAmong a b → AreAmong b c → AreAmong a c
 among-trans a b c f g n is = g n (f n is)
-
-not-among : (t u : Bool) → (t ≡ true → u ≡ true) → u ≡ false → t ≡ false
-not-among true u more none = absurd (let e : true ≡ false = sym (more refl) ∙ none in cc)
-not-among false u more none = refl
-
--- costs are the same beside more nodes
-pub cost-more : (some all : List NodeId) (d e : List (ℕ × ℕ)) → AreAmong some all → CostBeside some d e → CostBeside all d e
-cost-more some all d e more same m id none = same m id (not-among (is_among some (node_number m)) (is_among all (node_number m)) (more (node_number m)) none)

@@ -1,7 +1,11 @@
 -- What will follow a router, before it stands in the place of what does. All of it own.
-use Rattle.std.specs.Prelude.{◌≡◌, ℕ, ◌+◌, ◌≤◌, List, length, Option, Some, None}
+use Rattle.std.specs.Prelude.{◌≡◌, ◌↔◌, ℕ, ◌+◌, ◌≤◌, true, List, [], length, Option, Some, None}
+use Rattle.std.specs.List.{Contains}
 use Rattle.isis_base.specs.declared.identifiers.NodeId.{NodeId}
 use Rattle.isis_base.specs.declared.level.Level.TheVariants as level
+use Rattle.isis_base.specs.Identifiers.{IsId}
+use Rattle.spf_tree.specs.Nodes.{node_number}
+use Rattle.spf_tree.specs.Distances.{cost_at}
 use Rattle.spf_repair.specs.Changes.{RepairedOf}
 use Rattle.route_table.specs.declared.route.Route.{Route}
 use Rattle.route_table.specs.Patches.{IsPatched}
@@ -13,7 +17,7 @@ use Rattle.router_routes.specs.declared.coming.RoutesAfter.TheVariants.{Made, Pa
 use Rattle.router_routes.specs.Outlooks.{Outlook}
 use Rattle.router_routes.specs.Candidates.{AreRoutesOf}
 use Rattle.router_routes.specs.Kept.{AreBeside, CostBeside}
-use Rattle.router_routes.specs.Moved.{AreNodes, or_old}
+use Rattle.router_routes.specs.Moved.{AreNodes, is_among, or_old}
 use Rattle.router_routes.specs.Following.{AreHopsOf, FollowingOf, IsFollowing, IsLevel}
 
 -- ---- levels
@@ -34,19 +38,48 @@ abbrev pub hops_after : Option LevelAfter → List (ℕ × ℕ) → List (ℕ ×
 hops_after None old = old
 hops_after (Some new) old = new.hops
 
+-- the nodes whose costs may be others, and those whose next hops may be; none where a level stays
+abbrev pub moved_in : Option LevelAfter → List ℕ
+moved_in None = []
+moved_in (Some new) = new.moved.items
+
+abbrev pub apart_in : Option LevelAfter → List ℕ
+apart_in None = []
+apart_in (Some new) = new.apart.items
+
+-- the nodes of these numbers are there
+abbrev pub HaveNumbers : List ℕ → List NodeId → Type 0
+HaveNumbers numbers nodes = (m : NodeId) → IsId (record { node = m; number = 0 })
+    → Contains numbers (node_number m) → is_among nodes (node_number m) ≡ true
+
+-- nodes of other numbers cost the same
+pub record CostsStay (beside : List ℕ) (old new : List (ℕ × ℕ)) : Type 0 where
+  pub each : (node : ℕ) → (Contains beside node → ⊥) → cost_at old node ≡ cost_at new node
+
+-- nodes of other numbers have the same next hops in two tables
+pub record HopsStay (beside : List ℕ) (old new : List (ℕ × ℕ)) : Type 0 where
+  pub each : (target hop : ℕ) → (Contains beside target → ⊥)
+      → Contains old (target, hop) ↔ Contains new (target, hop)
+
+-- a level's next hops follow of its costs, and what is other of both is told
+pub record IsLevelAfter (old : RepairedOf) (known : List (ℕ × ℕ)) (level : Option LevelAfter) : Type 0 where
+  pub right : AreHopsOf (costs_after level old) (hops_after level known)
+  pub moved : CostsStay (moved_in level) old.distances (costs_after level old).distances
+  pub apart : HopsStay (apart_in level) known (hops_after level known)
+
 -- both levels will be right by these
 pub record AreLevels (o : Outlook) (f : FollowingOf) (levels : LevelsAfter) : Type 0 where
   pub one : IsLevel o level.One (costs_after levels.one f.levels.one)
   pub two : IsLevel o level.Two (costs_after levels.two f.levels.two)
-  pub hops_one : AreHopsOf (costs_after levels.one f.levels.one) (hops_after levels.one f.hops.one)
-  pub hops_two : AreHopsOf (costs_after levels.two f.levels.two) (hops_after levels.two f.hops.two)
+  pub hops_one : IsLevelAfter f.levels.one f.hops.one levels.one
+  pub hops_two : IsLevelAfter f.levels.two f.hops.two levels.two
 
 -- levels by these costs, each where it has new ones, with the next hops that follow of them
 pub record AreLevelsOf (f : FollowingOf) (ones twos : Option RepairedOf) (levels : LevelsAfter) : Type 0 where
   pub one : costs_after levels.one f.levels.one ≡ or_old ones f.levels.one
   pub two : costs_after levels.two f.levels.two ≡ or_old twos f.levels.two
-  pub hops_one : AreHopsOf (costs_after levels.one f.levels.one) (hops_after levels.one f.hops.one)
-  pub hops_two : AreHopsOf (costs_after levels.two f.levels.two) (hops_after levels.two f.hops.two)
+  pub hops_one : IsLevelAfter f.levels.one f.hops.one levels.one
+  pub hops_two : IsLevelAfter f.levels.two f.hops.two levels.two
 
 -- where these nodes moved, both levels will be right by these, and other nodes cost what they did
 pub record AreLevelsBeside (nodes : List NodeId) (o p : Outlook) (f : FollowingOf)

@@ -156,7 +156,7 @@ impl Following {
             (IsFollowing (outlook_at view.now) self.now)
             (λ c. IsComing (outlook_at view.now) self.now c)) }
     {
-        let nodes = moved(self.alloc, told, (&self.one, &self.two), &levels);
+        let nodes = moved(self.alloc, told, &levels);
         match nodes {
             Ok(nodes) => self.with_moved(lent, told, view, nodes.as_slice(), levels),
             Err(error) => {

@@ -3,10 +3,10 @@ ghost use Rattle.std.specs.Prelude.{◌≡◌, ℕ, List, IfOk};
 ghost use Rattle.spf_repair.specs.Changes.{RepairedOf};
 ghost use Rattle.router_routes.specs.Following.{AreHopsOf};
 ghost use Rattle.router_routes.specs.Moved.{or_old};
-ghost use Rattle.router_routes.specs.Coming.{AreOfOneRoot, ArePut, FitsIn, IsPut, costs_after, hops_after};
+ghost use Rattle.router_routes.specs.Coming.{AreOfOneRoot, ArePut, FitsIn, IsLevelAfter, IsPut, costs_after, hops_after};
 
 use crate::following::Following;
-use crate::hops_moved::hops_moved;
+use crate::hops_moved::{HopsMoved, hops_moved};
 use isis_base::OutOfMemory;
 use route_table::{Candidate, Patches, Routes};
 use spf_repair::Repaired;
@@ -25,11 +25,14 @@ pub struct Coming {
     pub(crate) defaults: Vec<Candidate>,
 }
 
-/// A level's costs, and its nodes beside their next hops, as they will be.
+/// A level's costs, and its nodes beside their next hops, as they will be; the nodes whose next hops may be others then, and those
+/// whose costs may be.
 #[derive(Drop)]
 pub(crate) struct LevelAfter {
     pub costs: Repaired,
     pub hops: HopTable,
+    pub apart: Vec<u64>,
+    pub moved: Vec<u64>,
 }
 
 /// Both levels as they will be; `None` where costs and hops stay.
@@ -76,8 +79,14 @@ fn put_level(costs: &mut Repaired, hops: &mut HopTable, new: Option<LevelAfter>)
 {
     match new {
         Some(level) => {
-            *costs = level.costs;
-            *hops = level.hops;
+            let LevelAfter {
+                costs: later,
+                hops: table,
+                apart: _,
+                moved: _,
+            } = level;
+            *costs = later;
+            *hops = table;
         }
         None => {}
     }
@@ -94,7 +103,7 @@ fn put_routes(routes: &mut Routes, new: RoutesAfter)
     }
 }
 
-/// A level's new costs with the next hops that follow of them.
+/// A level's new costs with the next hops that follow of them, and what is other of both.
 pub(crate) fn level_of(
     alloc: Global,
     costs: Option<Repaired>,
@@ -104,8 +113,7 @@ pub(crate) fn level_of(
     requires known { AreHopsOf old.now known.now }
     requires root { AreOfOneRoot old.now (or_old costs old.now) }
     ensures costs { IfOk result (λ level. costs_after level old.now ≡ or_old costs old.now) }
-    ensures hops { IfOk result (λ level.
-        AreHopsOf (costs_after level old.now) (hops_after level known.now)) }
+    ensures hops { IfOk result (λ level. IsLevelAfter old.now known.now level) }
 {
     let costs = match costs {
         Some(costs) => costs,
@@ -113,7 +121,19 @@ pub(crate) fn level_of(
     };
     let hops = hops_moved(alloc, old, known, &costs);
     match hops {
-        Ok(hops) => Ok(Some(LevelAfter { costs, hops })),
+        Ok(hops) => {
+            let HopsMoved {
+                table,
+                apart,
+                moved,
+            } = hops;
+            Ok(Some(LevelAfter {
+                costs,
+                hops: table,
+                apart,
+                moved,
+            }))
+        }
         Err(error) => {
             drop(costs);
             Err(error)

@@ -1,6 +1,6 @@
 //! What a router keeps where some nodes moved: candidates by way of others stay (own).
 ghost use Rattle.std.specs.Prelude.{◌≡◌, ◌++◌, true, not, filter, IfOk, OnOk, MatchOption};
-ghost use Rattle.std.specs.List.{Contains, flat_map};
+ghost use Rattle.std.specs.List.{flat_map};
 ghost use Rattle.isis_base.specs.declared.identifiers.NodeId.{NodeId};
 ghost use Rattle.isis_base.specs.declared.level.Level.TheVariants as level;
 ghost use Rattle.isis_base.specs.Identifiers.{IsId};
@@ -11,7 +11,7 @@ ghost use Rattle.router_routes.specs.Following.{IsFollowing, IsLevel};
 ghost use Rattle.router_routes.specs.Kept.{AreAmong, AreBeside, AreReached, CostBeside, HaveToldIds, stays, systems_among};
 ghost use Rattle.router_routes.specs.Moved.{AreFit, AreNodes, IsFit, is_among, nodes_in, nodes_of, outlook_at, told_of};
 ghost use Rattle.router_routes.specs.Outlooks.{outlook_in, where_run};
-ghost use Rattle.router_routes.specs.Coming.{AreLevelsBeside, costs_after};
+ghost use Rattle.router_routes.specs.Coming.{AreLevelsBeside, HaveNumbers, moved_in};
 ghost use Rattle.router_routes.specs.Touched.{AreStill};
 
 use crate::candidates::{add_all, add_defaults, add_told, runs_one, runs_two};
@@ -199,24 +199,21 @@ impl Following {
 /// How many nodes may move before all that is reached is made anew.
 const MOST: usize = 16;
 
-/// The nodes that tell other things, and those whose costs in a level aren't what they were; some may be there twice.
+/// The nodes that tell other things, and those whose costs in a level may be others; some may be there twice.
 pub(crate) fn moved(
     alloc: Global,
     told: &Told<'_>,
-    old: (&Repaired, &Repaired),
     levels: &LevelsAfter,
 ) -> Result<Vec<NodeId>, OutOfMemory>
     ensures ids { IfOk result (λ moved. AreNodes moved.items) }
     ensures kept { IfOk result (λ moved. AreAmong (nodes_of told.now) moved.items) }
-    ensures one { IfOk result (λ moved. CostBeside moved.items old.entry.0.now.distances
-        (costs_after levels.now.one old.entry.0.now).distances) }
-    ensures two { IfOk result (λ moved. CostBeside moved.items old.entry.1.now.distances
-        (costs_after levels.now.two old.entry.1.now).distances) }
+    ensures one { IfOk result (λ moved. HaveNumbers (moved_in levels.now.one) moved.items) }
+    ensures two { IfOk result (λ moved. HaveNumbers (moved_in levels.now.two) moved.items) }
 {
     let mut nodes = told_nodes(alloc, told)?;
     nodes_law(nodes.as_slice());
-    add_apart(alloc, &mut nodes, old.0, &levels.one)?;
-    add_apart(alloc, &mut nodes, old.1, &levels.two)?;
+    add_costs(&mut nodes, &levels.one)?;
+    add_costs(&mut nodes, &levels.two)?;
     Ok(nodes)
 }
 
@@ -243,44 +240,16 @@ fn add_moved(nodes: &mut Vec<NodeId>, moved: Option<Moved<'_>>) -> Result<(), Ou
     }
 }
 
-/// Adds the nodes whose costs aren't what they were, where there are new ones.
-fn add_apart(
-    alloc: Global,
-    nodes: &mut Vec<NodeId>,
-    old: &Repaired,
-    new: &Option<LevelAfter>,
-) -> Result<(), OutOfMemory>
+/// Adds the nodes whose costs may be others, where there are new ones.
+fn add_costs(nodes: &mut Vec<NodeId>, level: &Option<LevelAfter>) -> Result<(), OutOfMemory>
     requires { AreNodes nodes.old.items }
     ensures ids { OnOk result (AreNodes nodes.new.items) }
     ensures kept { OnOk result (AreAmong nodes.old.items nodes.new.items) }
-    ensures apart { OnOk result (CostBeside nodes.new.items old.now.distances
-        (costs_after new.now old.now).distances) }
+    ensures named { OnOk result (HaveNumbers (moved_in level.now) nodes.new.items) }
 {
-    match new {
+    match level {
         None => Ok(()),
-        Some(new) => add_changed(alloc, nodes, old, &new.costs),
-    }
-}
-
-/// Adds the nodes whose costs aren't what they were.
-fn add_changed(
-    alloc: Global,
-    nodes: &mut Vec<NodeId>,
-    old: &Repaired,
-    new: &Repaired,
-) -> Result<(), OutOfMemory>
-    requires { AreNodes nodes.old.items }
-    ensures ids { OnOk result (AreNodes nodes.new.items) }
-    ensures kept { OnOk result (AreAmong nodes.old.items nodes.new.items) }
-    ensures apart { OnOk result (CostBeside nodes.new.items old.now.distances new.now.distances) }
-{
-    let numbers = match old.distances().apart(alloc, new.distances()) {
-        Ok(numbers) => numbers,
-        Err(error) => return Err(error),
-    };
-    match add_nodes(nodes, numbers.as_slice()) {
-        Ok(()) => Ok(()),
-        Err(error) => Err(error),
+        Some(level) => add_nodes(nodes, level.moved.as_slice()),
     }
 }
 
@@ -321,8 +290,7 @@ fn add_nodes(nodes: &mut Vec<NodeId>, numbers: &[u64]) -> Result<(), OutOfMemory
     requires { AreNodes nodes.old.items }
     ensures ids { OnOk result (AreNodes nodes.new.items) }
     ensures kept { OnOk result (AreAmong nodes.old.items nodes.new.items) }
-    ensures named { OnOk result ((m : NodeId) → IsId (record { node = m; number = 0 })
-        → Contains numbers.now (node_number m) → is_among nodes.new.items (node_number m) ≡ true) }
+    ensures named { OnOk result (HaveNumbers numbers.now nodes.new.items) }
 {
     let mut left = numbers;
     while let [first, more @ ..] = left {

@@ -1,6 +1,5 @@
 //! The prefixes whose routes are looked at anew once some nodes moved (own).
-ghost use Rattle.std.specs.Prelude.{◌≡◌, ◌++◌, ◌↔◌, ℕ, map, IfOk, OnOk};
-ghost use Rattle.std.specs.List.{Contains};
+ghost use Rattle.std.specs.Prelude.{◌≡◌, ◌++◌, ℕ, map, IfOk, OnOk};
 ghost use Rattle.std.specs.List.Sorted.{IsStrictlyIncreasing};
 ghost use Rattle.isis_base.specs.declared.prefix.Prefix.{Prefix};
 ghost use Rattle.spf_tree.specs.Nodes.{node_number};
@@ -8,7 +7,7 @@ ghost use Rattle.route_table.specs.Ranks.{prefix_number};
 ghost use Rattle.route_table.specs.Patches.{IsListed};
 ghost use Rattle.router_routes.specs.Outlooks.{outlook_in};
 ghost use Rattle.router_routes.specs.Moved.{AreViewed, is_among, outlook_at};
-ghost use Rattle.router_routes.specs.Coming.{hops_after};
+ghost use Rattle.router_routes.specs.Coming.{HopsStay, apart_in, hops_after};
 ghost use Rattle.router_routes.specs.Touched.{AreMovedNumbers, AreTouched, HaveOwn, prefixes_via};
 
 use crate::coming::{LevelAfter, LevelsAfter};
@@ -19,7 +18,6 @@ use crate::told::Told;
 use crate::view::View;
 use isis_base::{NodeId, OutOfMemory, Prefix};
 use route_table::Candidate;
-use spf_tree::HopTable;
 use spf_tree::parts::number;
 use std::alloc::Global;
 
@@ -36,6 +34,10 @@ impl Following {
         reached: &Reached,
     ) -> Result<Vec<Prefix>, OutOfMemory>
         requires viewed { AreViewed lent.now told.now view.now }
+        requires one { HopsStay (apart_in levels.now.one) self.now.hops.one
+            (hops_after levels.now.one self.now.hops.one) }
+        requires two { HopsStay (apart_in levels.now.two) self.now.hops.two
+            (hops_after levels.now.two self.now.hops.two) }
         ensures { IfOk result (λ prefixes. AreTouched nodes.now self.now levels.now
             (outlook_in lent.now).prefixes (outlook_at view.now).prefixes
             reached.now.told.items prefixes.items) }
@@ -47,14 +49,18 @@ impl Following {
         Ok(prefixes)
     }
 
-    /// The numbers of these nodes, and of those whose next hops are others in a level, in order.
+    /// The numbers of these nodes, and of those whose next hops may be others in a level, in order.
     fn moved_numbers(&self, nodes: &[NodeId], levels: &LevelsAfter) -> Result<Vec<u64>, OutOfMemory>
+        requires one { HopsStay (apart_in levels.now.one) self.now.hops.one
+            (hops_after levels.now.one self.now.hops.one) }
+        requires two { HopsStay (apart_in levels.now.two) self.now.hops.two
+            (hops_after levels.now.two self.now.hops.two) }
         ensures { IfOk result (λ numbers.
             AreMovedNumbers nodes.now self.now levels.now numbers.items) }
     {
         let mut numbers = node_numbers(self.alloc, nodes)?;
-        add_others(self.alloc, &mut numbers, &self.hops_one, &levels.one)?;
-        add_others(self.alloc, &mut numbers, &self.hops_two, &levels.two)?;
+        add_apart(&mut numbers, &levels.one)?;
+        add_apart(&mut numbers, &levels.two)?;
         Ok(in_order(numbers))
     }
 }
@@ -73,39 +79,21 @@ fn node_numbers(alloc: Global, nodes: &[NodeId]) -> Result<Vec<u64>, OutOfMemory
     Ok(numbers)
 }
 
-/// Adds the nodes whose next hops are others, where a level has new ones.
-fn add_others(
-    alloc: Global,
-    numbers: &mut Vec<u64>,
-    old: &HopTable,
-    new: &Option<LevelAfter>,
-) -> Result<(), OutOfMemory>
-    ensures kept { OnOk result ((n : ℕ) → Contains numbers.old.items n → Contains numbers.new.items n) }
-    ensures apart { OnOk result ((target hop : ℕ) → (Contains numbers.new.items target → ⊥)
-        → Contains old.now (target, hop) ↔ Contains (hops_after new.now old.now) (target, hop)) }
+/// Adds the nodes whose next hops may be others, where a level has new ones.
+fn add_apart(numbers: &mut Vec<u64>, level: &Option<LevelAfter>) -> Result<(), OutOfMemory>
+    ensures { OnOk result (numbers.new.items ≡ numbers.old.items ++ apart_in level.now) }
 {
-    match new {
+    match level {
         None => Ok(()),
-        Some(level) => add_apart(alloc, numbers, old, &level.hops),
+        Some(level) => add_numbers(numbers, level.apart.as_slice()),
     }
 }
 
-/// Adds the nodes whose next hops are others in two tables.
-fn add_apart(
-    alloc: Global,
-    numbers: &mut Vec<u64>,
-    old: &HopTable,
-    new: &HopTable,
-) -> Result<(), OutOfMemory>
-    ensures kept { OnOk result ((n : ℕ) → Contains numbers.old.items n → Contains numbers.new.items n) }
-    ensures apart { OnOk result ((target hop : ℕ) → (Contains numbers.new.items target → ⊥)
-        → Contains old.now (target, hop) ↔ Contains new.now (target, hop)) }
+/// Adds these numbers.
+fn add_numbers(numbers: &mut Vec<u64>, more: &[u64]) -> Result<(), OutOfMemory>
+    ensures { OnOk result (numbers.new.items ≡ numbers.old.items ++ more.now) }
 {
-    let others = match old.apart(alloc, new) {
-        Ok(others) => others,
-        Err(error) => return Err(error),
-    };
-    match numbers.extend_from_slice(others.as_slice()) {
+    match numbers.extend_from_slice(more) {
         Ok(()) => Ok(()),
         Err(_) => Err(OutOfMemory),
     }

@@ -9,7 +9,7 @@ use Rattle.spf_tree.specs.declared.label.Label.{Label}
 use Rattle.spf_tree.specs.Walks.{start, end, IsWalk, cost, IsWithin, AreLeast}
 use Rattle.spf_tree.specs.Labels.{at}
 use Rattle.spf_tree.specs.Labels.{names}
-use Rattle.spf_tree.specs.Search.{IsCovered, AreNamed}
+use Rattle.spf_tree.specs.Search.{IsCovered, AreNamed, IsSearchKept}
 use Rattle.spf_tree.specs.Exploring.{IsTight, Leads}
 use Rattle.spf_repair.specs.Erase.{IsMarked, RowHangs, HasParallel, IsStruck, IsClosed}
 use Rattle.spf_repair.specs.Feed.{IsFed, IsOfferedOn}
@@ -82,6 +82,13 @@ new_walk before rows removed added root old marks differ struck closed (row ∷ 
     ]
 
 -- ---- the labels carried over, with what was offered, cover all rows
+
+pub named_by : (rows : List Row) (nodes : List ℕ) (root : ℕ) (labels : List Label) → IsSearchKept rows nodes → Contains nodes root → names labels ≡ nodes → AreNamed rows root (names labels)
+named_by rows nodes root labels kept among same =
+    record {
+      first = subst (λ (ns : List ℕ). Contains ns root) (sym same) among;
+      ends = λ row h. subst (λ (ns : List ℕ). Contains ns (end row)) (sym same) (kept.ends row h);
+    }
 
 pub loose_start : (before rows removed added : List Row) (root : ℕ) (old marks labels : List Label) (first queue : List (ℕ × ℕ))
     → AreLeast before root (at old) → AreChanged before rows removed added → ((row : Row) → Contains removed row → IsStruck rows root old marks row) → IsClosed rows root old marks

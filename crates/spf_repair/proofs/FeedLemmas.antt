@@ -1,7 +1,8 @@
 -- What rows offer.
 
-use Rattle.std.proofs.Common.{◌≡◌, ◌∙◌, ℕ, ◌+◌, List, ◌∷◌, refl, sym, ap, subst, arith, inl, inr}
+use Rattle.std.proofs.Common.{◌≡◌, ◌∙◌, ℕ, ◌+◌, Bool, true, false, Option, Some, None, List, ◌∷◌, refl, sym, ap, subst, arith, inl, inr}
 use Rattle.std.specs.List.{Contains}
+use Rattle.std.specs.Option.{is_some}
 use Rattle.std.proofs.lemmas.Bool.{false≢true}
 use Rattle.std.proofs.lemmas.List.Sorted.{Contains-permutation, IsPermutation-sym}
 use Rattle.spf_tree.specs.declared.row.Row.{Row}
@@ -11,7 +12,7 @@ use Rattle.spf_tree.specs.Labels.{at}
 use Rattle.spf_tree.specs.Search.{IsCovered}
 use Rattle.spf_repair.specs.Erase.{IsMarked}
 use Rattle.spf_repair.specs.Change.{IsAlike}
-use Rattle.spf_repair.specs.Feed.{IsGiven, IsGivenIf, IsFed, IsOfferedOn}
+use Rattle.spf_repair.specs.Feed.{IsOpen, IsGiven, IsGivenIf, IsFed, IsOfferedOn}
 use Rattle.spf_tree.proofs.SearchLemmas.{news, cover_kept, some_same, contains_first, contains_rest, contains_cases}
 
 -- ---- rows alike
@@ -67,16 +68,24 @@ given_covers root labels row old new h c e ne small =
 pub covers_kept : (root : ℕ) (labels : List Label) (row : Row) (old new : List (ℕ × ℕ)) → ((o : ℕ × ℕ) → Contains old o → Contains new o) → IsOfferedOn labels root old row → IsOfferedOn labels root new row
 covers_kept root labels row old new kept h c e ne small = cover_kept labels old new (end row) (c + row.metric) kept (h c e ne small)
 
--- ---- where its end is marked
+-- ---- where its end has no label
 
-pub if_kept : (labels : List Label) (root : ℕ) (marks : List Label) (row : Row) (old new : List (ℕ × ℕ)) → IsGivenIf labels root marks row old new → (o : ℕ × ℕ) → Contains old o → Contains new o
-if_kept labels root marks row old new h o there =
+pub if_kept : (labels : List Label) (root : ℕ) (row : Row) (old new : List (ℕ × ℕ)) → IsGivenIf labels root row old new → (o : ℕ × ℕ) → Contains old o → Contains new o
+if_kept labels root row old new h o there =
     elim h [ inl on ↦ given_kept labels root row old new on.1 o there | inr off ↦ subst (λ (q : List (ℕ × ℕ)). Contains q o) (sym off.1) there ]
 
-pub if_fed : (rows : List Row) (root : ℕ) (labels marks : List Label) (row : Row) (old new : List (ℕ × ℕ)) → IsAlike rows row → IsFed rows root labels old → IsGivenIf labels root marks row old new → IsFed rows root labels new
-if_fed rows root labels marks row old new in_rows fed h =
+pub if_fed : (rows : List Row) (root : ℕ) (labels : List Label) (row : Row) (old new : List (ℕ × ℕ)) → IsAlike rows row → IsFed rows root labels old → IsGivenIf labels root row old new → IsFed rows root labels new
+if_fed rows root labels row old new in_rows fed h =
     elim h [ inl on ↦ given_fed rows root labels row old new in_rows fed on.1 | inr off ↦ (λ o there. fed o (subst (λ (q : List (ℕ × ℕ)). Contains q o) off.1 there)) ]
 
-pub if_covers : (root : ℕ) (labels marks : List Label) (row : Row) (old new : List (ℕ × ℕ)) → IsGivenIf labels root marks row old new → IsMarked marks (end row) → IsOfferedOn labels root new row
-if_covers root labels marks row old new h m =
-    elim h [ inl on ↦ given_covers root labels row old new on.1 | inr off ↦ absurd (false≢true (sym off.0 ∙ m)) ]
+pub if_covers : (root : ℕ) (labels : List Label) (row : Row) (old new : List (ℕ × ℕ)) → IsGivenIf labels root row old new → IsOpen labels (end row) → IsOfferedOn labels root new row
+if_covers root labels row old new h free =
+    elim h [ inl on ↦ given_covers root labels row old new on.1 | inr off ↦ absurd (false≢true (sym free ∙ off.0)) ]
+
+-- a cost is carried over only where there is no mark
+open_by : (o : Option ℕ) (marked : Bool) → ((c : ℕ) → o ≡ Some c → marked ≡ false) → marked ≡ true → is_some o ≡ false
+open_by None marked from h = refl
+open_by (Some c) marked from h = absurd (false≢true (sym (from c refl) ∙ h))
+
+pub marked_open : (old marks labels : List Label) → ((n c : ℕ) → at labels n ≡ Some c → (at old n ≡ Some c) × (is_some (at marks n) ≡ false)) → (n : ℕ) → IsMarked marks n → IsOpen labels n
+marked_open old marks labels from n h = open_by (at labels n) (is_some (at marks n)) (λ c e. (from n c e).1) h

@@ -15,11 +15,15 @@ IsGiven labels root row old new =
     ⊎ ((c : ℕ) × (at labels (start row) ≡ Some c)
     × IsOffered labels root (end row) (c + row.metric) old new)
 
--- it has where its end is marked
-abbrev pub IsGivenIf : List Label → ℕ → List Label → Row → List (ℕ × ℕ) → List (ℕ × ℕ) → Type 0
-IsGivenIf labels root marks row old new =
-    ((is_some (at marks (end row)) ≡ true) × IsGiven labels root row old new)
-    ⊎ ((is_some (at marks (end row)) ≡ false) × (new ≡ old))
+-- the node has no label
+abbrev pub IsOpen : List Label → ℕ → Type 0
+IsOpen labels node = is_some (at labels node) ≡ false
+
+-- it has where its end has no label
+abbrev pub IsGivenIf : List Label → ℕ → Row → List (ℕ × ℕ) → List (ℕ × ℕ) → Type 0
+IsGivenIf labels root row old new =
+    (IsOpen labels (end row) × IsGiven labels root row old new)
+    ⊎ ((is_some (at labels (end row)) ≡ true) × (new ≡ old))
 
 -- each offer comes from a row whose start has a label
 abbrev pub IsFed : List Row → ℕ → List Label → List (ℕ × ℕ) → Type 0

@@ -2,20 +2,18 @@
 
 ghost use Rattle.std.specs.Prelude.{◌≡◌, ◌+◌, ℕ, false, length, is_some, Some, IfOk};
 ghost use Rattle.std.specs.List.{Contains};
-ghost use Rattle.std.specs.List.Sorted.{IsStrictlyIncreasing};
 ghost use Rattle.spf_tree.specs.declared.row.Row.{Row};
 ghost use Rattle.spf_tree.specs.Walks.{start, end, AreLeast};
 ghost use Rattle.spf_tree.specs.Labels.{at, names};
-ghost use Rattle.spf_tree.specs.Search.{AreNamed};
 ghost use Rattle.spf_repair.specs.Erase.{HasParallel};
 ghost use Rattle.spf_repair.specs.Change.{AreChanged, IsBound};
 
 use crate::erase::{erase, strike_all};
-use crate::feed::{feed_added, feed_if_marked};
+use crate::feed::{feed_added, feed_given_up};
 use crate::settling::relabel;
 use crate::steps::Steps;
 use isis_base::OutOfMemory;
-use spf_tree::parts::{Labels, Queue, nodes_in_order, rows_in_order, with_node};
+use spf_tree::parts::{IndexedRows, Labels, Queue, indexed, is_among};
 use spf_tree::{Graph, Row};
 use std::alloc::Global;
 use std::sync::ledger::Ledger;
@@ -40,7 +38,46 @@ pub fn repair<L: Ledger>(
         → IsBound (at old.now) (at labels) (length removed.now
         + length added.now) steps.old steps.new) }
 {
-    let rows = rows_in_order(graph);
+    let rows = indexed(graph);
+    if is_among(rows.nodes(), root) {
+        return match repair_among(alloc, before, rows, root, old, removed, added, steps) {
+            Ok(labels) => Ok(labels),
+            Err(error) => Err(error),
+        };
+    }
+    let rows = match rows.with_node(alloc, root) {
+        Ok(rows) => rows,
+        Err(error) => return Err(error),
+    };
+    match repair_among(alloc, before, &rows, root, old, removed, added, steps) {
+        Ok(labels) => Ok(labels),
+        Err(error) => Err(error),
+    }
+}
+
+/// The same over rows with their nodes, of which the root is one.
+fn repair_among<L: Ledger>(
+    alloc: Global,
+    before: &[Row],
+    indexed: &IndexedRows,
+    root: u64,
+    old: &Labels,
+    removed: &[Row],
+    added: &[Row],
+    steps: &mut Steps<L>,
+) -> Result<Labels, OutOfMemory>
+    requires among { Contains indexed.now.nodes root }
+    requires least { AreLeast before.now root (at old.now) }
+    requires differ { AreChanged before.now indexed.now.rows removed.now added.now }
+    ensures least { IfOk result (λ labels. AreLeast indexed.now.rows root (at labels)) }
+    ensures bound { IfOk result
+        (λ labels. ((row : Row) → Contains removed.now row
+        → HasParallel indexed.now.rows (start row) (end row) row.metric)
+        → IsBound (at old.now) (at labels) (length removed.now
+        + length added.now) steps.old steps.new) }
+{
+    indexed.kept();
+    let rows = indexed.rows();
     let mut marks = match old.blank(alloc) {
         Ok(marks) => marks,
         Err(error) => return Err(error),
@@ -54,12 +91,12 @@ pub fn repair<L: Ledger>(
         Ok(()) => {}
         Err(error) => return Err(error),
     }
-    let mut labels = match carried(alloc, rows, nodes_in_order(graph), root, old, &marks) {
+    let mut labels = match carried(alloc, indexed, old, &marks) {
         Ok(labels) => labels,
         Err(error) => return Err(error),
     };
     let mut queue = Queue::new(alloc);
-    match feed_if_marked(rows, root, &labels, &marks, nodes.as_slice(), &mut queue) {
+    match feed_given_up(indexed, root, &labels, nodes.as_slice(), &mut queue) {
         Ok(()) => {}
         Err(error) => return Err(error),
     }
@@ -73,29 +110,22 @@ pub fn repair<L: Ledger>(
     }
 }
 
-/// The old cost of the root and of each node where a row ends, unless it is marked.
+/// The old cost of each node, unless it is marked.
 fn carried(
     alloc: Global,
-    rows: &[Row],
-    nodes: &[u64],
-    root: u64,
+    indexed: &IndexedRows,
     old: &Labels,
     marks: &Labels,
 ) -> Result<Labels, OutOfMemory>
-    requires rising { IsStrictlyIncreasing nodes.now }
-    requires ends { (row : Row) → Contains rows.now row → Contains nodes.now (end row) }
-    requires marks { names marks.now ≡ names old.now }
-    ensures named { IfOk result (λ labels. AreNamed rows.now root (names labels)) }
+    requires { names marks.now ≡ names old.now }
+    ensures names { IfOk result (λ labels. names labels ≡ indexed.now.nodes) }
     ensures from { IfOk result (λ labels. (n c : ℕ) → at labels n ≡ Some c
         → (at old.now n ≡ Some c) × (is_some (at marks.now n) ≡ false)) }
     ensures into { IfOk result (λ labels. (n : ℕ) → Contains (names labels) n
         → is_some (at marks.now n) ≡ false → at labels n ≡ at old.now n) }
 {
-    let all = match with_node(alloc, nodes, root) {
-        Ok(all) => all,
-        Err(error) => return Err(error),
-    };
-    match Labels::carried(alloc, all.as_slice(), old, marks) {
+    indexed.kept();
+    match Labels::carried(alloc, indexed.nodes(), old, marks) {
         Ok(labels) => Ok(labels),
         Err(error) => Err(error),
     }

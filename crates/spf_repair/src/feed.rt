@@ -1,17 +1,19 @@
-//! Offers of the rows that came, and of all rows to nodes whose cost was given up.
+//! Offers of the rows that came, and of all rows to nodes without a label. Where a row ends is told by the place of that
+//! node, so that labels aren't searched.
 
 ghost use Rattle.std.specs.Prelude.{◌≡◌, ◌<◌, ◌+◌, ℕ, length, OnOk};
 ghost use Rattle.std.specs.List.{Contains};
 ghost use Rattle.spf_tree.specs.declared.row.Row.{Row};
 ghost use Rattle.spf_tree.specs.Walks.{start, end};
-ghost use Rattle.spf_repair.specs.Erase.{IsMarked};
+ghost use Rattle.spf_tree.specs.Labels.{names};
+ghost use Rattle.spf_tree.specs.Places.{IsEdge};
 ghost use Rattle.spf_repair.specs.Change.{IsAlike};
-ghost use Rattle.spf_repair.specs.Feed.{IsGiven, IsGivenIf, IsFed, IsOfferedOn};
+ghost use Rattle.spf_repair.specs.Feed.{IsOpen, IsGiven, IsGivenIf, IsFed, IsOfferedOn};
 
 use crate::steps::Steps;
 use isis_base::OutOfMemory;
 use spf_tree::Row;
-use spf_tree::parts::{Labels, Queue, number, offer};
+use spf_tree::parts::{Edge, IndexedRows, Labels, Queue, number, offer};
 use std::sync::ledger::Ledger;
 
 /// Offers what a row gives from its start's label.
@@ -27,17 +29,18 @@ fn give(labels: &Labels, root: u64, row: &Row, queue: &mut Queue) -> Result<(), 
     }
 }
 
-/// Offers what a row gives where its end is marked.
-fn give_marked(
+/// Offers what a row gives where its end has no label.
+fn give_open(
     labels: &Labels,
     root: u64,
-    marks: &Labels,
     row: &Row,
+    edge: Edge,
     queue: &mut Queue,
 ) -> Result<(), OutOfMemory>
-    ensures { OnOk result (IsGivenIf labels.now root marks.now row.now queue.old queue.new) }
+    requires { IsEdge (names labels.now) row.now edge }
+    ensures { OnOk result (IsGivenIf labels.now root row.now queue.old queue.new) }
 {
-    if marks.get(number(row.to)).is_none() {
+    if labels.get_at_place(edge.place).is_some() {
         return Ok(());
     }
     match give(labels, root, row, queue) {
@@ -46,21 +49,22 @@ fn give_marked(
     }
 }
 
-/// Offers what the rows give whose ends are marked.
-pub fn feed_marked(
-    rows: &[Row],
+/// Offers what the rows give whose ends have no label.
+fn feed_open(
+    indexed: &IndexedRows,
     root: u64,
     labels: &Labels,
-    marks: &Labels,
     queue: &mut Queue,
 ) -> Result<(), OutOfMemory>
-    requires { IsFed rows.now root labels.now queue.old }
-    ensures fed { OnOk result (IsFed rows.now root labels.now queue.new) }
-    ensures covers { OnOk result ((row : Row) → Contains rows.now row → IsMarked marks.now (end row)
-        → IsOfferedOn labels.now root queue.new row) }
+    requires names { names labels.now ≡ indexed.now.nodes }
+    requires fed { IsFed indexed.now.rows root labels.now queue.old }
+    ensures fed { OnOk result (IsFed indexed.now.rows root labels.now queue.new) }
+    ensures covers { OnOk result ((row : Row) → Contains indexed.now.rows row
+        → IsOpen labels.now (end row) → IsOfferedOn labels.now root queue.new row) }
 {
+    let rows = indexed.rows();
     for place in 0..rows.len() {
-        match give_marked(labels, root, marks, &rows[place], queue) {
+        match give_open(labels, root, &rows[place], indexed.edge(place), queue) {
             Ok(()) => {}
             Err(error) => return Err(error),
         }
@@ -96,25 +100,25 @@ pub fn feed_added<L: Ledger>(
     Ok(())
 }
 
-/// The same, in no time where no node is marked.
-pub fn feed_if_marked(
-    rows: &[Row],
+/// Offers what the rows give that end at a node of a list and without a label, in no time where the list is empty.
+pub fn feed_given_up(
+    indexed: &IndexedRows,
     root: u64,
     labels: &Labels,
-    marks: &Labels,
     nodes: &[u64],
     queue: &mut Queue,
 ) -> Result<(), OutOfMemory>
-    requires fed { IsFed rows.now root labels.now queue.old }
-    requires inside { (node : ℕ) → IsMarked marks.now node → Contains nodes.now node }
-    ensures fed { OnOk result (IsFed rows.now root labels.now queue.new) }
-    ensures covers { OnOk result ((row : Row) → Contains rows.now row → IsMarked marks.now (end row)
+    requires names { names labels.now ≡ indexed.now.nodes }
+    requires fed { IsFed indexed.now.rows root labels.now queue.old }
+    ensures fed { OnOk result (IsFed indexed.now.rows root labels.now queue.new) }
+    ensures covers { OnOk result ((row : Row) → Contains indexed.now.rows row
+        → Contains nodes.now (end row) → IsOpen labels.now (end row)
         → IsOfferedOn labels.now root queue.new row) }
 {
     if nodes.len() == 0 {
         return Ok(());
     }
-    match feed_marked(rows, root, labels, marks, queue) {
+    match feed_open(indexed, root, labels, queue) {
         Ok(()) => Ok(()),
         Err(error) => Err(error),
     }

@@ -1,19 +1,18 @@
 -- Next hops of the nodes of a set, by what is known outside of it.
 
-use Rattle.std.proofs.Common.{◌≡◌, ◌≢◌, ◌∙◌, ℕ, ◌+◌, ◌≤◌, ◌<◌, Bool, true, false, List, [], ◌∷◌, ◌++◌, ◌↔◌, ◌⊎◌, length, get_or, Option, Some, IfSome, refl, sym, ap, subst, arith, inl, inr}
-use Rattle.std.specs.List.{All, Contains}
+use Rattle.std.proofs.Common.{◌≡◌, ◌≢◌, ◌∙◌, ℕ, ◌+◌, ◌≤◌, ◌<◌, true, false, List, [], ◌∷◌, ◌++◌, ◌↔◌, length, get_or, Option, Some, IfSome, refl, sym, ap, subst, arith, inl, inr}
+use Rattle.std.specs.List.{Contains}
 use Rattle.std.specs.List.Sorted.{IsStrictlySortedBy}
 use Rattle.std.proofs.lemmas.Bool.{cases_lt}
-use Rattle.std.proofs.lemmas.List.Elements.{Contains-get_or, Contains-push, Contains-push_cases}
+use Rattle.std.proofs.lemmas.List.Elements.{Contains-get_or}
 use Rattle.spf_tree.specs.declared.row.Row.{Row}
 use Rattle.spf_tree.specs.declared.label.Label.{Label}
 use Rattle.spf_tree.specs.Labels.{at}
 use Rattle.spf_tree.specs.Walks.{start, end, AreLeast}
-use Rattle.spf_tree.specs.Nodes.{is_system}
 use Rattle.spf_tree.specs.Pairs.{pair_cmp}
 use Rattle.spf_tree.specs.NextHops.{IsNextHop}
 use Rattle.spf_tree.specs.Exploring.{AreReached, IsHopByLabels, IsTable, Leads}
-use Rattle.spf_tree.specs.Passing.{IsLonger, IsPut, IsOfWalks, IsSpread, AreHops, AreHanded, IsGate, IsEntered, IsLet, AreEntered, IsOther, IsOwn, AreOwn, IsKept, AreKept}
+use Rattle.spf_tree.specs.Passing.{IsLonger, IsPut, IsSpread, AreHops, AreHanded, IsGate, IsEntered, AreEntered, IsOther, IsOwn, AreOwn, IsKept, AreKept}
 use Rattle.spf_tree.proofs.HopLemmas.{IsSplit, found_is, join, labels_by_next, next_by_labels, part, root_zero}
 use Rattle.spf_tree.proofs.PassingLemmas.{decide, hop-on, longer-kept, longer-on, longer-same, put-push, up-all, up-more}
 

@@ -1,6 +1,6 @@
 -- Words that rows of least walks pass on, and the pairs of nodes and hops that come of it.
 
-use Rattle.std.proofs.Common.{◌≡◌, ◌≢◌, ◌∙◌, ℕ, zero, suc, ◌+◌, ◌≤◌, ◌<◌, Bool, true, false, List, [], ◌∷◌, ◌++◌, ◌↔◌, ◌⊎◌, length, map, get_or, Option, Some, None, refl, sym, ap, subst, arith, inl, inr}
+use Rattle.std.proofs.Common.{◌≡◌, ◌∙◌, ℕ, ◌+◌, ◌≤◌, ◌<◌, List, [], ◌∷◌, ◌++◌, ◌⊎◌, length, map, get_or, Some, refl, sym, ap, subst, arith, inl, inr}
 use Rattle.std.specs.List.{Contains}
 use Rattle.std.specs.List.Sorted.{IsNonDecreasingBy}
 use Rattle.std.proofs.lemmas.Bool.{cases_eq, cases_lt}
@@ -10,7 +10,7 @@ use Rattle.spf_tree.specs.declared.row.Row.{Row}
 use Rattle.spf_tree.specs.declared.label.Label.{Label}
 use Rattle.spf_tree.specs.Labels.{at}
 use Rattle.spf_tree.specs.Walks.{start, end, cost}
-use Rattle.spf_tree.specs.Exploring.{IsTight, IsHopByLabels}
+use Rattle.spf_tree.specs.Exploring.{IsHopByLabels}
 use Rattle.spf_tree.specs.Local.{HasAlike, IsClosed}
 use Rattle.spf_tree.specs.Passing.{IsLonger, IsPut, IsOfWalks, IsPassed, IsAcross, ArePassed, AreEnds, AreSpread, IsSpread, AreMarked, AreHops, first}
 use Rattle.spf_tree.proofs.SearchLemmas.{contains_cases, contains_first, contains_none, contains_rest, some_same}

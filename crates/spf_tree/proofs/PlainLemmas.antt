@@ -6,7 +6,7 @@ use Rattle.spf_tree.specs.declared.row.Row.{Row}
 use Rattle.spf_tree.specs.declared.label.Label.{Label}
 use Rattle.spf_tree.specs.Walks.{start, end}
 use Rattle.spf_tree.specs.Exploring.{AreReached, Leads, goes_on}
-use Rattle.spf_tree.specs.Passing.{IsLonger, IsPut, IsOfWalks, ArePassed, ArePlain, IsGoneOn, AreGoneOn, first}
+use Rattle.spf_tree.specs.Passing.{IsPut, IsOfWalks, ArePassed, ArePlain, IsGoneOn, AreGoneOn, first}
 use Rattle.spf_tree.proofs.PassingLemmas.{from-first, into-first, longer-at, longer-kept, longer-length, longer-same, passed-all, up-all, up-more}
 
 module _ (rows : List Row) (root : ℕ) (labels : List Label) where

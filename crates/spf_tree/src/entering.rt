@@ -53,13 +53,14 @@ fn leads_in(labels: &Labels, root: u64, inside: &[u64], row: &Row) -> bool
     ensures { MatchBool result (IsGate root labels.now inside.now row.now)
         (IsGate root labels.now inside.now row.now → ⊥) }
 {
-    let (from, to) = (number(row.from), number(row.to));
+    let to = number(row.to);
     if to == root {
         return false;
     }
     if !has(inside, to) {
         return false;
     }
+    let from = number(row.from);
     if has(inside, from) {
         return false;
     }

@@ -52,11 +52,13 @@ mod table;
 /// Parts of the search, for the crate that repairs distances.
 pub mod parts {
     pub use crate::choice::{by_start, whole};
-    pub use crate::graph::{nodes_in_order, rows_in_order, with_rows};
+    pub use crate::edge::Edge;
+    pub use crate::graph::{indexed, nodes_in_order, rows_in_order, with_rows};
+    pub use crate::indexed::IndexedRows;
     pub use crate::label::Label;
     pub use crate::labels::Labels;
     pub use crate::node::number;
-    pub use crate::nodes::with_node;
+    pub use crate::nodes::is_among;
     pub use crate::offers::{first_row, offer, offer_rows};
     pub use crate::queue::Queue;
     pub use crate::reach::is_step;

@@ -93,28 +93,6 @@ pub fn have_ends(nodes: &[u64], rows: &[Row]) -> bool
     true
 }
 
-/// The nodes, and one more unless it is among them.
-pub fn with_node(alloc: Global, nodes: &[u64], node: u64) -> Result<Vec<u64>, OutOfMemory>
-    requires { IsStrictlyIncreasing nodes.now }
-    ensures rising { IfOk result (λ all. IsStrictlyIncreasing all.items) }
-    ensures node { IfOk result (λ all. Contains all.items node) }
-    ensures rest { IfOk result (λ all. (other : ℕ) → Contains nodes.now other
-        → Contains all.items other) }
-{
-    let mut all = Vec::new(alloc);
-    match all.extend_from_slice(nodes) {
-        Ok(()) => {}
-        Err(_) => return Err(OutOfMemory),
-    }
-    if is_among(nodes, node) {
-        return Ok(all);
-    }
-    match all.push(node) {
-        Ok(()) => Ok(in_order(all)),
-        Err(_) => Err(OutOfMemory),
-    }
-}
-
 /// A label without cost for each node.
 pub fn unknown_labels(alloc: Global, nodes: &[u64]) -> Result<Vec<Label>, OutOfMemory>
     ensures { IfOk result (λ v. v.items ≡ map unknown nodes.now) }

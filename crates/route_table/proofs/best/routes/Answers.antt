@@ -1,4 +1,4 @@
-use Rattle.std.proofs.Common.{◌≡◌, ◌↔◌, ℕ, List, subst}
+use Rattle.std.proofs.Common.{◌↔◌, ℕ, subst}
 use Rattle.std.specs.List.{Contains}
 use Rattle.isis_base.specs.declared.identifiers.NodeId.{NodeId}
 use Rattle.spf_tree.specs.Nodes.{node_number}

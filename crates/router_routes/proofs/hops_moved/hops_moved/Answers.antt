@@ -1,27 +1,11 @@
-use Rattle.std.proofs.Common.{◌∙◌, ℕ, List, Option, ap, sym, subst}
-use Rattle.std.specs.Option.{IfSome}
-use Rattle.isis_base.specs.declared.identifiers.NodeId.{NodeId}
-use Rattle.spf_tree.specs.declared.after.HopsAfter.{HopsAfter}
-use Rattle.spf_tree.specs.declared.row.Row.{Row}
-use Rattle.spf_tree.specs.Graphs.{GraphOf}
-use Rattle.spf_tree.specs.Local.{AreNextHops}
-use Rattle.spf_tree.specs.Nodes.{node_number}
-use Rattle.router_routes.proofs.ComingLemmas.{hops-by}
-use Rattle.router_routes.proofs.DifferenceLemmas.{differences-of}
+use Rattle.std.proofs.Common.{refl}
+use Rattle.router_routes.proofs.ComingLemmas.{costs-apart}
 use Rattle.router_routes.proofs.hops_moved.hops_moved.Goals as goal
 
-pub hops_after-requires-clause-table : goal.hops_after-requires-clause-table
-hops_after-requires-clause-table c =
-    let root = c.root.ensures ∙ ap (λ (g : GraphOf). g.root) c.graph-after.ensures ∙ c.requires.root.new_root ∙ c.requires.root.same ∙ sym c.requires.root.old_root in
-    subst (λ (n : NodeId). AreNextHops c.graph-before.result.now.rows (node_number n) c.args.known.now) (sym root)
-    (subst (λ (g : GraphOf). AreNextHops g.rows (node_number c.args.old.now.graph.root) c.args.known.now) (sym c.graph-before.ensures) c.requires.known.each)
+pub hops_beside-hops-requires-clause-moved : goal.hops_beside-hops-requires-clause-moved
+hops_beside-hops-requires-clause-moved c =
+    costs-apart c.args.old.now.distances c.args.new.now.distances c.distances-before.result.now c.distances-after.result.now c.as_slice.result.now c.in_ok-moved.moved.items c.distances-before.ensures.same c.distances-after.ensures.same c.as_slice.ensures.value c.in_ok-moved.ensures
 
-pub hops_after-requires-clause-exchanged : goal.hops_after-requires-clause-exchanged
-hops_after-requires-clause-exchanged c =
-    let apart = differences-of c.rows_in_order.result.now c.rows_in_order-2.result.now c.in_ok-removed.removed.items c.in_ok-removed.added.items c.graph-before.result.now.rows c.graph-after.result.now.rows c.as_slice-2.result.now c.as_slice-3.result.now c.rows_in_order.ensures.same c.rows_in_order-2.ensures.same (sym c.as_slice-2.ensures.value) (sym c.as_slice-3.ensures.value) c.in_ok-removed.ensures in
-    λ row. sym (apart.counts row)
-
-pub returns-in-Some : goal.returns-in-Some
-returns-in-Some c =
-    hops-by c.args.new.now c.graph-after.result.now c.root.result c.in-Some.after.table c.graph-after.ensures c.root.ensures
-    (subst (λ (o : Option HopsAfter). IfSome o (λ after. AreNextHops c.graph-after.result.now.rows (node_number c.root.result) after.table)) c.in-Some.is c.in_ok-after.ensures.hops)
+pub returns-in-Ok-clause-moved : goal.returns-in-Ok-clause-moved
+returns-in-Ok-clause-moved c =
+    costs-apart c.args.old.now.distances c.args.new.now.distances c.distances-before.result.now c.distances-after.result.now c.in_ok-moved.moved.items c.in_ok-moved.moved.items c.distances-before.ensures.same c.distances-after.ensures.same refl c.in_ok-moved.ensures

@@ -1,4 +1,4 @@
-use Rattle.std.proofs.Common.{◌∙◌, ◌<◌, length, sym, arith}
+use Rattle.std.proofs.Common.{◌<◌, length, sym, arith}
 use Rattle.spf_tree.specs.Walks.{end}
 use Rattle.spf_tree.proofs.PassingLemmas.{longer-kept, longer-length, longer-on, passed-all, spread-more}
 use Rattle.spf_tree.proofs.inside.spread.Goals as goal

@@ -1,4 +1,4 @@
-use Rattle.std.proofs.Common.{◌≡◌, ◌∙◌, ℕ, sym, subst}
+use Rattle.std.proofs.Common.{◌∙◌, ℕ, sym, subst}
 use Rattle.spf_tree.specs.Walks.{start, end}
 use Rattle.spf_tree.specs.Exploring.{IsStep, IsTight}
 use Rattle.spf_tree.specs.Passing.{IsPut}

@@ -1,6 +1,6 @@
 use Rattle.std.proofs.Common.{◌<◌, length, sym, arith}
 use Rattle.spf_tree.proofs.PassingLemmas.{longer-kept, longer-length}
-use Rattle.spf_tree.proofs.PlainLemmas.{gone-more, gone-none, plain-gone, plain-reached}
+use Rattle.spf_tree.proofs.PlainLemmas.{gone-more, plain-gone, plain-reached}
 use Rattle.spf_tree.proofs.plain.go_on_all.Goals as goal
 
 pub loop-place-preserved : goal.loop-place-preserved

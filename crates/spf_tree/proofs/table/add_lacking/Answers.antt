@@ -1,4 +1,4 @@
-use Rattle.std.proofs.Common.{ℕ, arith, get_or}
+use Rattle.std.proofs.Common.{ℕ, get_or}
 use Rattle.std.specs.List.{Contains}
 use Rattle.spf_tree.proofs.PassingLemmas.{up-all, up-more}
 use Rattle.spf_tree.proofs.table.add_lacking.Goals as goal

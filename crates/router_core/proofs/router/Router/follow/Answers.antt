@@ -6,7 +6,12 @@ use Rattle.router_core.specs.Plans.{AreTold, committed}
 use Rattle.router_core.specs.Reached.{IsReached}
 use Rattle.router_core.specs.Settled.{AreTrue}
 use Rattle.router_core.proofs.MovedLemmas.{follows-next, next-fits}
+use Rattle.router_core.proofs.PlanLemmas.{told-ordered}
 use Rattle.router_core.proofs.router.Router.follow.Goals as goal
+
+-- src/router.rt
+pub following_told-requires-clause-order : goal.following_told-requires-clause-order
+following_told-requires-clause-order c = told-ordered _ _ c.args.told c.requires.told
 
 -- src/router.rt
 pub put_next-requires : goal.put_next-requires

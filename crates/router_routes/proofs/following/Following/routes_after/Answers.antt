@@ -12,6 +12,12 @@ use Rattle.router_routes.specs.Touched.{AreRoutesFor}
 use Rattle.router_routes.proofs.PatchLemmas.{routes-after}
 use Rattle.router_routes.proofs.following.Following.routes_after.Goals as goal
 
+pub touched-requires-clause-one : goal.touched-requires-clause-one
+touched-requires-clause-one c = c.requires.levels.hops_one.apart
+
+pub touched-requires-clause-two : goal.touched-requires-clause-two
+touched-requires-clause-two c = c.requires.levels.hops_two.apart
+
 pub returns : goal.returns
 returns c =
     let f = c.args.self.now in
