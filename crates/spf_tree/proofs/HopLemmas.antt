@@ -62,7 +62,7 @@ first_none None false n h = (refl, refl)
 first_none None true n h = cc
 first_none (Some m) b n h = cc
 
-first_some : (o : Option ℕ) (b : Bool) (n hop : ℕ) → (if is_some o then o else (if b then Some n else None)) ≡ Some hop → (o ≡ Some hop) ⊎ ((o ≡ None) × (b ≡ true) × (n ≡ hop))
+pub first_some : (o : Option ℕ) (b : Bool) (n hop : ℕ) → (if is_some o then o else (if b then Some n else None)) ≡ Some hop → (o ≡ Some hop) ⊎ ((o ≡ None) × (b ≡ true) × (n ≡ hop))
 first_some None false n hop h = cc
 first_some None true n hop h = inr (refl, refl, cc)
 first_some (Some m) b n hop h = inl h

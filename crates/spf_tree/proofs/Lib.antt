@@ -15,4 +15,10 @@ pub mod ApartLemmas
 pub mod LocalLemmas
 pub mod PassingLemmas
 pub mod PlainLemmas
-pub mod EnteringLemmas
+pub mod EquationLemmas
+pub mod TellingLemmas
+pub mod WaitingLemmas
+pub mod SettlingLemmas
+pub mod IncomingLemmas
+pub mod MergingLemmas
+pub mod AfterLemmas

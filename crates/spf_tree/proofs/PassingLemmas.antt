@@ -11,8 +11,8 @@ use Rattle.spf_tree.specs.declared.label.Label.{Label}
 use Rattle.spf_tree.specs.Labels.{at}
 use Rattle.spf_tree.specs.Walks.{start, end, cost}
 use Rattle.spf_tree.specs.Exploring.{IsHopByLabels}
-use Rattle.spf_tree.specs.Local.{HasAlike, IsClosed}
-use Rattle.spf_tree.specs.Passing.{IsLonger, IsPut, IsOfWalks, IsPassed, IsAcross, ArePassed, AreEnds, AreSpread, IsSpread, AreMarked, AreHops, first}
+use Rattle.spf_tree.specs.Local.{HasAlike}
+use Rattle.spf_tree.specs.Passing.{IsLonger, IsPut, IsOfWalks, IsPassed, ArePassed, first}
 use Rattle.spf_tree.proofs.SearchLemmas.{contains_cases, contains_first, contains_none, contains_rest, some_same}
 use Rattle.spf_tree.proofs.PlaceLemmas.{above_by}
 
@@ -82,14 +82,6 @@ pass-put root labels row word old new is put =
 
 -- ---- over the rows from a node
 
-pub passed-none : (rows : List Row) (root : ℕ) (labels : List Label) (node word : ℕ) (old : List (ℕ × ℕ)) (m : ℕ) → ((k : ℕ) (d : Row) → k < m → start (get_or rows k d) < node) → ArePassed rows root labels node word old old m
-passed-none rows root labels node word old m below =
-    record {
-      longer = longer-same old;
-      from = λ n w h. inl h;
-      here = λ k d l st. let less = below k d l in absurd (omega arith);
-    }
-
 pub passed-more : (rows : List Row) (root : ℕ) (labels : List Label) (node word : ℕ) (old mid new : List (ℕ × ℕ)) (m : ℕ) (e : Row) → m < length rows → start (get_or rows m e) ≡ node → ArePassed rows root labels node word old mid m → IsPassed root labels (get_or rows m e) word mid new → ArePassed rows root labels node word old new (m + 1)
 passed-more rows root labels node word old mid new m e in' starts so_far one =
     let row = get_or rows m e in
@@ -117,73 +109,8 @@ passed-done rows root labels node word old new m e sorted in' past so_far =
           ];
     }
 
-pub passed-end : (rows : List Row) (root : ℕ) (labels : List Label) (node word : ℕ) (old new : List (ℕ × ℕ)) (m : ℕ) → length rows ≤ m → ArePassed rows root labels node word old new m → ArePassed rows root labels node word old new (length rows)
-passed-end rows root labels node word old new m past so_far =
-    record { longer = so_far.longer; from = so_far.from; here = λ k d l. so_far.here k d (omega arith) }
-
 pub passed-all : (rows : List Row) (root : ℕ) (labels : List Label) (node word : ℕ) (old new : List (ℕ × ℕ)) → ArePassed rows root labels node word old new (length rows) → (row : Row) → Contains rows row → start row ≡ node → IsOfWalks root labels row → Contains new (end row, word)
 passed-all rows root labels node word old new passed = up-all rows (λ (r : Row). start r ≡ node → IsOfWalks root labels r → Contains new (end r, word)) (length rows) (omega arith) passed.here
-
--- ---- the ends of rows, and nodes
-
-pub ends-none : (rows : List Row) (root : ℕ) (labels : List Label) (word : ℕ) (old : List (ℕ × ℕ)) → AreEnds rows root labels word old old 0
-ends-none rows root labels word old = record { longer = longer-same old; here = λ k d l. absurd (omega arith) }
-
-pub ends-more : (rows : List Row) (root : ℕ) (labels : List Label) (word : ℕ) (old mid new : List (ℕ × ℕ)) (m : ℕ) (e : Row) → m < length rows → AreEnds rows root labels word old mid m → IsPassed root labels (get_or rows m e) word mid new → AreEnds rows root labels word old new (m + 1)
-ends-more rows root labels word old mid new m e in' so_far one =
-    record {
-      longer = longer-on old mid new so_far.longer one.longer;
-      here = up-more rows (λ (r : Row). IsOfWalks root labels r → Contains new (end r, word)) m e in'
-          (λ k d l is. longer-kept mid new one.longer (end (get_or rows k d)) word (so_far.here k d l is))
-          one.there;
-    }
-
-pub ends-end : (rows : List Row) (root : ℕ) (labels : List Label) (word : ℕ) (old new : List (ℕ × ℕ)) (m : ℕ) → length rows ≤ m → AreEnds rows root labels word old new m → AreEnds rows root labels word old new (length rows)
-ends-end rows root labels word old new m past so_far = record { longer = so_far.longer; here = λ k d l. so_far.here k d (omega arith) }
-
-pub ends-all : (rows : List Row) (root : ℕ) (labels : List Label) (word : ℕ) (old new : List (ℕ × ℕ)) → AreEnds rows root labels word old new (length rows) → (row : Row) → Contains rows row → IsOfWalks root labels row → Contains new (end row, word)
-ends-all rows root labels word old new ends = up-all rows (λ (r : Row). IsOfWalks root labels r → Contains new (end r, word)) (length rows) (omega arith) ends.here
-
-pub marked-none : (nodes : List ℕ) (word : ℕ) (old : List (ℕ × ℕ)) → AreMarked nodes word old old 0
-marked-none nodes word old = record { longer = longer-same old; here = λ k d l. absurd (omega arith) }
-
-pub marked-more : (nodes : List ℕ) (word : ℕ) (old mid new : List (ℕ × ℕ)) (m e : ℕ) → m < length nodes → AreMarked nodes word old mid m → IsPut mid new (get_or nodes m e) word → AreMarked nodes word old new (m + 1)
-marked-more nodes word old mid new m e in' so_far one =
-    record {
-      longer = longer-on old mid new so_far.longer one.longer;
-      here = up-more nodes (λ (n : ℕ). Contains new (n, word)) m e in'
-          (λ k d l. longer-kept mid new one.longer (get_or nodes k d) word (so_far.here k d l))
-          one.there;
-    }
-
-pub marked-end : (nodes : List ℕ) (word : ℕ) (old new : List (ℕ × ℕ)) (m : ℕ) → length nodes ≤ m → AreMarked nodes word old new m → AreMarked nodes word old new (length nodes)
-marked-end nodes word old new m past so_far = record { longer = so_far.longer; here = λ k d l. so_far.here k d (omega arith) }
-
-pub marked-all : (nodes : List ℕ) (word : ℕ) (old new : List (ℕ × ℕ)) → AreMarked nodes word old new (length nodes) → (node : ℕ) → Contains nodes node → Contains new (node, word)
-marked-all nodes word old new marked = up-all nodes (λ (n : ℕ). Contains new (n, word)) (length nodes) (omega arith) marked.here
-
--- ---- on from each pair
-
-pub spread-none : (rows : List Row) (root : ℕ) (labels : List Label) (found : List (ℕ × ℕ)) → AreSpread rows root labels found 0
-spread-none rows root labels found = record { on = λ k d row l. absurd (omega arith) }
-
-pub spread-more : (rows : List Row) (root : ℕ) (labels : List Label) (node word : ℕ) (old new : List (ℕ × ℕ)) (m : ℕ) (e : ℕ × ℕ) → m < length old → get_or old m e ≡ (node, word) → AreSpread rows root labels old m → IsLonger old new
-    → ((row : Row) → Contains rows row → start row ≡ node → IsOfWalks root labels row → Contains new (end row, word)) → AreSpread rows root labels new (m + 1)
-spread-more rows root labels node word old new m e in' is so_far longer here =
-    let P : ℕ × ℕ → Type 0 = λ p. (row : Row) → Contains rows row → start row ≡ p.0 → IsOfWalks root labels row → Contains new (end row, p.1) in
-    let long = longer-length old new longer in
-    let before : (k : ℕ) (d : ℕ × ℕ) → k < m → P (get_or new k d) = λ k d l.
-    subst P (sym (longer-at old new longer k d (omega (arith, l, in'))))
-    (λ row there st w. longer-kept old new longer (end row) (get_or old k d).1 (so_far.on k d row l there st w))
-    in
-    let now : P (get_or new m e) = subst P (sym (longer-at old new longer m e in' ∙ is)) here in
-    record { on = λ k d row l. up-more new P m e (omega (arith, long, in')) before now k d l row }
-
-pub spread-end : (rows : List Row) (root : ℕ) (labels : List Label) (found : List (ℕ × ℕ)) (m : ℕ) → length found ≤ m → AreSpread rows root labels found m → IsSpread rows root labels found
-spread-end rows root labels found m past so_far row word there w h =
-    up-all found (λ (p : ℕ × ℕ). (r : Row) → Contains rows r → start r ≡ p.0 → IsOfWalks root labels r → Contains found (end r, p.1)) m past
-    (λ k d l r c st of. so_far.on k d r l c st of)
-    (start row, word) h row there refl w
 
 -- ---- the nodes of pairs
 
@@ -199,29 +126,15 @@ from-first found n h =
     let pair : p ≡ (n, p.1) = ap (λ (m : ℕ). (m, p.1)) here in
     (p.1, subst (λ (q : ℕ × ℕ). Contains found q) pair (Contains-get_or found h.0 d in'))
 
--- ---- a set that was spread over is closed
+-- ---- alike rows
 
-alike-of : (root : ℕ) (labels : List Label) (rows : List Row) (row : Row) → (a : HasAlike rows row) → IsOfWalks root labels row → IsOfWalks root labels a.other
+pub alike-of : (root : ℕ) (labels : List Label) (rows : List Row) (row : Row) → (a : HasAlike rows row) → IsOfWalks root labels row → IsOfWalks root labels a.other
 alike-of root labels rows row a w = (
   (λ e. w.0 (sym a.ends ∙ e)),
   (w.1.0, ap (at labels) a.starts ∙ w.1.1, ap (at labels) a.ends ∙ w.1.2 ∙ ap (λ (m : ℕ). Some (w.1.0 + m)) (sym a.metric)),
 )
 
-pub spread-closed : (rows others changed : List Row) (root : ℕ) (labels : List Label) (found : List (ℕ × ℕ)) (inside : List ℕ) → ((row : Row) → Contains rows row → HasAlike others row ⊎ HasAlike changed row)
-    → ((row : Row) → Contains changed row → IsOfWalks root labels row → Contains found (end row, 0)) → IsSpread rows root labels found → inside ≡ map first found → IsClosed rows others root (at labels) inside
-spread-closed rows others changed root labels found inside parts seeds spread is =
-    subst (λ (ns : List ℕ). IsClosed rows others root (at labels) ns) (sym is) (record {
-      seeds = λ row has ne leads.
-          elim (parts row has) [
-            | inl alike ↦ inl alike
-            | inr went ↦ inr (into-first found (end row) 0 (subst (λ (n : ℕ). Contains found (n, 0)) went.ends (seeds went.other went.there (alike-of root labels changed row went (ne, leads)))))
-          ];
-      goes_on = λ row has ne leads in-set.
-          let from = from-first found (start row) in-set in
-          into-first found (end row) from.0 (spread row from.0 has (ne, leads) from.1);
-    })
-
--- ---- soundness
+-- ---- a hop goes on over a row
 
 pub hop-on : (rows : List Row) (root : ℕ) (labels : List Label) (row : Row) (hop : ℕ) → Contains rows row → IsOfWalks root labels row → IsHopByLabels rows root labels (start row) hop → IsHopByLabels rows root labels (end row) hop
 hop-on rows root labels row hop there w is =
@@ -230,17 +143,7 @@ hop-on rows root labels row hop there w is =
     let sum : tight.0 + row.metric ≡ row.metric + cost is.0 = omega arith in
     (row ∷ is.0, (there, refl, w.0, is.1), tight.2 ∙ ap (λ (c : ℕ). Some c) sum, rw is.3 refl)
 
-pub hop-across : (rows : List Row) (root : ℕ) (labels : List Label) (node to hop : ℕ) → IsAcross rows root labels node to → IsHopByLabels rows root labels node hop → IsHopByLabels rows root labels to hop
-hop-across rows root labels node to hop across is =
-    subst (λ (n : ℕ). IsHopByLabels rows root labels n hop) across.4
-    (hop-on rows root labels across.0 hop across.1 across.2 (subst (λ (n : ℕ). IsHopByLabels rows root labels n hop) (sym across.3) is))
-
-pub hops-passed : (rows : List Row) (root : ℕ) (labels : List Label) (node word : ℕ) (old new : List (ℕ × ℕ)) (m : ℕ) → AreHops rows root labels old → Contains old (node, word) → ArePassed rows root labels node word old new m → AreHops rows root labels new
-hops-passed rows root labels node word old new m are there passed t h c =
-    elim (passed.from t h c) [
-      | inl was ↦ are t h was
-      | inr now ↦ subst (λ (w : ℕ). IsHopByLabels rows root labels t w) (sym now.1) (hop-across rows root labels node t word now.0 (are node word there))
-    ]
+-- ---- whether a node is in a list
 
 pub decide : (xs : List ℕ) (n : ℕ) → Contains xs n ⊎ (Contains xs n → ⊥)
 decide [] n = inr (contains_none n)

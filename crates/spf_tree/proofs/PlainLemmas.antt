@@ -51,9 +51,6 @@ module _ (rows : List Row) (root : ℕ) (labels : List Label) where
 
   -- ---- and they are all
 
-  pub gone-none : (found : List (ℕ × ℕ)) → AreGoneOn rows root labels found 0
-  gone-none found = record { on = λ k d row l. absurd (omega arith) }
-
   pub gone-more : (node word : ℕ) (old new : List (ℕ × ℕ)) (m : ℕ) (e : ℕ × ℕ) → m < length old → get_or old m e ≡ (node, word) → AreGoneOn rows root labels old m → IsGoneOn rows root labels node old new → AreGoneOn rows root labels new (m + 1)
   gone-more node word old new m e in' is so_far gone =
       let P : ℕ × ℕ → Type 0 = λ p. (row : Row) → Contains rows row → start row ≡ p.0 → goes_on false root (start row) ≡ true → IsOfWalks root labels row → Contains new (end row, 0) in

@@ -11,3 +11,4 @@ pub mod Pairs
 pub mod Exploring
 pub mod Local
 pub mod Passing
+pub mod Settling

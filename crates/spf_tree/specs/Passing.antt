@@ -1,5 +1,4 @@
--- Nodes beside a word, which tight rows pass on from node to node: a hop, or 0 where being in a set is passed on. All of
--- it own.
+-- Nodes beside a word, each pair once: a hop, or 0 where tight rows pass on that a node is led to. All of it own.
 
 use Rattle.std.specs.Prelude.{◌≡◌, ◌≢◌, ℕ, ◌<◌, ◌⊎◌, true, false, List, ◌++◌, slice_index_or}
 use Rattle.std.specs.List.{Contains}
@@ -7,7 +6,7 @@ use Rattle.spf_tree.specs.declared.row.Row.{Row}
 use Rattle.spf_tree.specs.declared.label.Label.{Label}
 use Rattle.spf_tree.specs.Walks.{start, end}
 use Rattle.spf_tree.specs.Nodes.{is_system}
-use Rattle.spf_tree.specs.Exploring.{IsTight, IsHopByLabels, Leads, goes_on}
+use Rattle.spf_tree.specs.Exploring.{IsTight, Leads, goes_on}
 
 -- the node of a pair
 abbrev pub first : ℕ × ℕ → ℕ
@@ -51,36 +50,6 @@ pub record ArePassed (rows : List Row) (root : ℕ) (labels : List Label) (node 
       → IsOfWalks root labels (slice_index_or rows k d)
       → Contains new (end (slice_index_or rows k d), word)
 
--- the ends of the first so many rows are there, if these belong to least walks
-pub record AreEnds (rows : List Row) (root : ℕ) (labels : List Label) (word : ℕ)
-    (old new : List (ℕ × ℕ)) (many : ℕ) : Type 0 where
-  pub longer : IsLonger old new
-  pub here : (k : ℕ) (d : Row) → k < many → IsOfWalks root labels (slice_index_or rows k d)
-      → Contains new (end (slice_index_or rows k d), word)
-
--- from each of the first so many pairs the word was passed on
-pub record AreSpread (rows : List Row) (root : ℕ) (labels : List Label) (found : List (ℕ × ℕ))
-    (many : ℕ) : Type 0 where
-  pub on : (k : ℕ) (d : ℕ × ℕ) (row : Row) → k < many → Contains rows row
-      → start row ≡ (slice_index_or found k d).0 → IsOfWalks root labels row
-      → Contains found (end row, (slice_index_or found k d).1)
-
--- from each pair
-abbrev pub IsSpread : List Row → ℕ → List Label → List (ℕ × ℕ) → Type 0
-IsSpread rows root labels found =
-    (row : Row) (word : ℕ) → Contains rows row → IsOfWalks root labels row
-    → Contains found (start row, word) → Contains found (end row, word)
-
--- each node is there beside the word
-pub record AreMarked (nodes : List ℕ) (word : ℕ) (old new : List (ℕ × ℕ)) (many : ℕ) : Type 0 where
-  pub longer : IsLonger old new
-  pub here : (k d : ℕ) → k < many → Contains new (slice_index_or nodes k d, word)
-
--- each pair tells a next hop
-abbrev pub AreHops : List Row → ℕ → List Label → List (ℕ × ℕ) → Type 0
-AreHops rows root labels found =
-    (target hop : ℕ) → Contains found (target, hop) → IsHopByLabels rows root labels target hop
-
 -- the hops beside one node among the first so many pairs stand beside the other
 pub record AreHanded (known : List (ℕ × ℕ)) (node to : ℕ) (old new : List (ℕ × ℕ)) (many : ℕ) : Type 0 where
   pub longer : IsLonger old new
@@ -89,56 +58,9 @@ pub record AreHanded (known : List (ℕ × ℕ)) (node to : ℕ) (old new : List
   pub here : (k : ℕ) (d : ℕ × ℕ) → k < many → (slice_index_or known k d).0 ≡ node
       → Contains new (to, (slice_index_or known k d).1)
 
--- the row leads into the set over least walks
-abbrev pub IsGate : ℕ → List Label → List ℕ → Row → Type 0
-IsGate root labels inside row =
-    Contains inside (end row) × (Contains inside (start row) → ⊥) × IsOfWalks root labels row
-
--- what is known of the start of a row into the set is told of its end
-pub record IsEntered (known : List (ℕ × ℕ)) (root : ℕ) (labels : List Label) (inside : List ℕ)
-    (row : Row) (old new : List (ℕ × ℕ)) : Type 0 where
-  pub longer : IsLonger old new
-  pub from : (n w : ℕ) → Contains new (n, w) → Contains old (n, w)
-      ⊎ (IsGate root labels inside row × (n ≡ end row) × Contains known (start row, w))
-  pub there : (w : ℕ) → IsGate root labels inside row → Contains known (start row, w)
-      → Contains new (end row, w)
-
--- a row of the list leads into the set at the node, and this is known of its start
-abbrev pub IsLet : List Row → List (ℕ × ℕ) → ℕ → List Label → List ℕ → ℕ → ℕ → Type 0
-IsLet rows known root labels inside node word =
-    (row : Row) × Contains rows row × IsGate root labels inside row × (node ≡ end row)
-    × Contains known (start row, word)
-
--- the same of the first so many rows
-pub record AreEntered (rows : List Row) (known : List (ℕ × ℕ)) (root : ℕ) (labels : List Label)
-    (inside : List ℕ) (old new : List (ℕ × ℕ)) (many : ℕ) : Type 0 where
-  pub longer : IsLonger old new
-  pub from : (n w : ℕ) → Contains new (n, w)
-      → Contains old (n, w) ⊎ IsLet rows known root labels inside n w
-  pub here : (k : ℕ) (d : Row) (w : ℕ) → k < many → IsGate root labels inside (slice_index_or rows k d)
-      → Contains known (start (slice_index_or rows k d), w)
-      → Contains new (end (slice_index_or rows k d), w)
-
 -- a system other than the root
 abbrev pub IsOther : ℕ → ℕ → Type 0
 IsOther root node = (node ≢ root) × (is_system node ≡ true)
-
--- a system of the set that isn't the root is there as its own hop
-pub record IsOwn (node root : ℕ) (inside : List ℕ) (old new : List (ℕ × ℕ)) : Type 0 where
-  pub longer : IsLonger old new
-  pub from : (n w : ℕ) → Contains new (n, w)
-      → Contains old (n, w) ⊎ (IsOther root node × (n ≡ node) × (w ≡ node))
-  pub there : IsOther root node → Contains inside node → Contains new (node, node)
-
--- each system of the first so many nodes that is in the set and isn't the root is there as its own hop
-pub record AreOwn (nodes : List ℕ) (root : ℕ) (inside : List ℕ) (old new : List (ℕ × ℕ))
-    (many : ℕ) : Type 0 where
-  pub longer : IsLonger old new
-  pub from : (n w : ℕ) → Contains new (n, w)
-      → Contains old (n, w) ⊎ (Contains nodes n × IsOther root n × (w ≡ n))
-  pub here : (k d : ℕ) → k < many → IsOther root (slice_index_or nodes k d)
-      → Contains inside (slice_index_or nodes k d)
-      → Contains new (slice_index_or nodes k d, slice_index_or nodes k d)
 
 -- the pair is there if its node is outside the set
 pub record IsKept (node word : ℕ) (inside : List ℕ) (old new : List (ℕ × ℕ)) : Type 0 where
@@ -154,12 +76,6 @@ pub record AreKept (known : List (ℕ × ℕ)) (inside : List ℕ) (old new : Li
       → Contains old (n, w) ⊎ (Contains known (n, w) × (Contains inside n → ⊥))
   pub here : (k : ℕ) (d : ℕ × ℕ) → k < many → (Contains inside (slice_index_or known k d).0 → ⊥)
       → Contains new (slice_index_or known k d)
-
--- each next hop of a node of the set is there
-abbrev pub HaveAllInside : List Row → ℕ → List Label → List ℕ → List (ℕ × ℕ) → Type 0
-HaveAllInside rows root labels inside found =
-    (target hop : ℕ) → Contains inside target → IsHopByLabels rows root labels target hop
-    → Contains found (target, hop)
 
 -- the ends of rows of least walks from a node are there, if that is the root or a pseudonode
 pub record IsGoneOn (rows : List Row) (root : ℕ) (labels : List Label) (node : ℕ)

@@ -1,18 +1,21 @@
-//! What a table of next hops becomes in another graph, where little is other: only what is inside a small set of nodes is
-//! looked for anew.
+//! What a table of next hops becomes in another graph: hops are made anew from the nodes on where the change begins, and only
+//! as far as they are others.
 
-ghost use Rattle.std.specs.Prelude.{◌≡◌, ℕ, IfOk};
+ghost use Rattle.std.specs.Prelude.{◌≡◌, ◌↔◌, ℕ, IfOk};
 ghost use Rattle.std.specs.Option.{IfSome};
 ghost use Rattle.std.specs.List.{Contains};
 ghost use Rattle.spf_tree.specs.Nodes.{node_number};
 ghost use Rattle.spf_tree.specs.Distances.{cost_at, AreDistances};
+ghost use Rattle.spf_tree.specs.NextHops.{IsNextHop};
 ghost use Rattle.spf_tree.specs.Local.{AreExchanged, AreHopsSame, AreNextHops};
+ghost use Rattle.spf_tree.specs.Settling.{AreOfDone, Tells};
 
+use crate::changes::{Changes, changed_hops};
 use crate::distances::Distances;
-use crate::entering::pairs_after;
-use crate::graph::{Graph, rows_in_order};
-use crate::inside::inside;
+use crate::graph::{Graph, indexed, rows_in_order};
+use crate::merging::merged;
 use crate::node::number;
+use crate::nodes::in_order;
 use crate::row::Row;
 use crate::table::{HopTable, pairs_of, table_of};
 use isis_base::{NodeId, OutOfMemory};
@@ -42,8 +45,10 @@ pub struct HopsAfter {
     pub inside: Vec<u64>,
 }
 
-/// The nodes whose hops may be others in the new graph.
-fn nodes_inside(alloc: Global, change: &Change<'_>) -> Result<Option<Vec<u64>>, OutOfMemory>
+/// The nodes that have other hops in the new graph, and these hops.
+fn changes_of(alloc: Global, change: &Change<'_>) -> Result<Option<Changes>, OutOfMemory>
+    requires table { AreNextHops change.now.old.now.rows (node_number change.now.root)
+        change.now.table.now }
     requires old { AreDistances change.now.old.now.rows (node_number change.now.root)
         change.now.old_distances.now }
     requires new { AreDistances change.now.new.now.rows (node_number change.now.root)
@@ -52,22 +57,35 @@ fn nodes_inside(alloc: Global, change: &Change<'_>) -> Result<Option<Vec<u64>>, 
         → cost_at change.now.old_distances.now node ≡ cost_at change.now.new_distances.now node }
     requires exchanged { AreExchanged change.now.old.now.rows change.now.new.now.rows
         change.now.removed.now change.now.added.now }
-    ensures moved { IfOk result (λ some. IfSome some (λ nodes. (node : ℕ)
-        → Contains change.now.moved.now node → Contains nodes.items node)) }
-    ensures same { IfOk result (λ some. IfSome some (λ nodes.
-        AreHopsSame change.now.old.now.rows change.now.new.now.rows (node_number change.now.root)
-        nodes.items)) }
+    ensures of_done { IfOk result (λ some. IfSome some (λ changes.
+        AreOfDone changes.done.items changes.found.items)) }
+    ensures hops { IfOk result (λ some. IfSome some (λ changes. (node hop : ℕ)
+        → Tells change.now.table.now changes.done.items changes.found.items node hop
+        ↔ IsNextHop change.now.new.now.rows (node_number change.now.root) node hop)) }
 {
-    let root = number(change.root);
-    let (old_rows, new_rows) = (rows_in_order(change.old), rows_in_order(change.new));
+    let (root, known) = (number(change.root), pairs_of(change.table));
+    let (old_rows, new) = (rows_in_order(change.old), indexed(change.new));
     let (before, after) = (change.old_distances.labels(), change.new_distances.labels());
     let (moved, removed, added) = (change.moved, change.removed, change.added);
-    match inside(
-        alloc, old_rows, before, new_rows, after, root, moved, removed, added,
+    match changed_hops(
+        alloc, old_rows, before, new, after, root, moved, removed, added, known,
     ) {
-        Ok(Some(nodes)) => Ok(Some(nodes)),
+        Ok(Some(changes)) => Ok(Some(changes)),
         Ok(None) => Ok(None),
         Err(error) => Err(error),
+    }
+}
+
+/// The nodes and others, in order, each once.
+fn with_nodes(mut nodes: Vec<u64>, others: &[u64]) -> Result<Vec<u64>, OutOfMemory>
+    ensures nodes { IfOk result (λ all. (node : ℕ) → Contains nodes.items node
+        → Contains all.items node) }
+    ensures others { IfOk result (λ all. (node : ℕ) → Contains others.now node
+        → Contains all.items node) }
+{
+    match nodes.extend_from_slice(others) {
+        Ok(()) => Ok(in_order(nodes)),
+        Err(_) => Err(OutOfMemory),
     }
 }
 
@@ -92,19 +110,19 @@ pub fn hops_after(alloc: Global, change: &Change<'_>) -> Result<Option<HopsAfter
         AreHopsSame change.now.old.now.rows change.now.new.now.rows (node_number change.now.root)
         after.inside.items)) }
 {
-    let inside = match nodes_inside(alloc, change) {
-        Ok(Some(inside)) => inside,
+    let changes = match changes_of(alloc, change) {
+        Ok(Some(changes)) => changes,
         Ok(None) => return Ok(None),
         Err(error) => return Err(error),
     };
-    let (rows, labels) = (rows_in_order(change.new), change.new_distances.labels());
-    let (root, known) = (number(change.root), pairs_of(change.table));
-    match pairs_after(alloc, rows, labels, root, inside.as_slice(), known) {
-        Ok(Some(pairs)) => Ok(Some(HopsAfter {
-            table: table_of(pairs),
-            inside,
-        })),
-        Ok(None) => Ok(None),
+    let Changes { done, found } = changes;
+    let pairs = match merged(alloc, pairs_of(change.table), done.as_slice(), found) {
+        Ok(pairs) => pairs,
+        Err(error) => return Err(error),
+    };
+    let table = table_of(pairs);
+    match with_nodes(done, change.moved) {
+        Ok(inside) => Ok(Some(HopsAfter { table, inside })),
         Err(error) => Err(error),
     }
 }

@@ -1,12 +1,15 @@
 //! What follows for all rows: functions without a body, whose contracts are the laws.
 
-ghost use Rattle.std.specs.Prelude.{◌≡◌, ◌↔◌, ℕ, List, Option};
+ghost use Rattle.std.specs.Prelude.{◌≡◌, ℕ, List, false};
 ghost use Rattle.std.specs.List.{Contains};
 ghost use Rattle.spf_tree.specs.declared.row.Row.{Row};
 ghost use Rattle.spf_tree.specs.Distances.{AreDistances};
 ghost use Rattle.spf_tree.specs.Walks.{AreLeast};
-ghost use Rattle.spf_tree.specs.NextHops.{IsNextHop};
-ghost use Rattle.spf_tree.specs.Local.{IsClosed, IsOutside};
+ghost use Rattle.spf_tree.specs.declared.label.Label.{Label};
+ghost use Rattle.spf_tree.specs.Labels.{at};
+ghost use Rattle.spf_tree.specs.Exploring.{AreReached};
+ghost use Rattle.spf_tree.specs.Local.{AreNextHops};
+ghost use Rattle.spf_tree.specs.Settling.{AreClimbing, IsRightAt};
 
 /// Rows have one list of distances from a root. So distances that were kept up equal those from scratch.
 pub fn distances_law()
@@ -14,18 +17,12 @@ pub fn distances_law()
         → AreDistances rows root b → a ≡ b }
 {}
 
-/// Where costs outside a set of nodes stay, and least walks to nodes outside it lie outside it and over rows that both
-/// lists have, nodes outside have the same next hops.
+/// Where rows of metric 0 lead from pseudonodes to systems alone, the table in which each node has the hops of those before
+/// it is the one of next hops: those of the starts of rows of least walks into it, and its own where such rows lead to it
+/// over no system.
 pub fn hops_law()
-    ensures { (old new : List Row) (root : ℕ) (f g : ℕ → Option ℕ) (inside : List ℕ) → AreLeast old root f
-        → AreLeast new root g → ((m : ℕ) → (Contains inside m → ⊥) → f m ≡ g m)
-        → IsOutside old new root f inside → IsOutside new old root g inside
-        → (target hop : ℕ) → (Contains inside target → ⊥)
-        → IsNextHop old root target hop ↔ IsNextHop new root target hop }
-{}
-
-/// A set that is closed so has least walks to nodes outside it outside.
-pub fn closed_law()
-    ensures { (rows others : List Row) (root : ℕ) (costs : ℕ → Option ℕ) (inside : List ℕ)
-        → IsClosed rows others root costs inside → IsOutside rows others root costs inside }
+    ensures { (rows : List Row) (root : ℕ) (labels : List Label) (plain : List ℕ) (pairs : List (ℕ × ℕ))
+        → AreClimbing rows → AreLeast rows root (at labels) → AreReached rows root labels false root plain
+        → ((node : ℕ) → IsRightAt rows root labels plain (λ target hop. Contains pairs (target, hop)) node)
+        → AreNextHops rows root pairs }
 {}

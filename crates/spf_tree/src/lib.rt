@@ -14,27 +14,31 @@
 //! - `label.rt`, `labels.rt`: costs known so far; `queue.rt`: offers that wait; `search.rt`: the search
 //! - `distances.rt`: what a search ends with; `scratch.rt`: distances from scratch
 //! - `reach.rt`: what least walks lead to; `next.rt`: next hops of one target; `table.rt`: of all targets at once
-//! - `inside.rt`: the nodes whose next hops a change may change; `passing.rt`: what rows of least walks pass on; `plain.rt`: to
-//!   which nodes they lead over no system; `entering.rt`: the hops of a set of nodes, by those outside; `after.rt`: the table
-//!   of all hops after a change
+//! - `plain.rt`: to which nodes rows of least walks lead over no system; `passing.rt`: what these rows pass on
+//! - `waiting.rt`: nodes that wait for their hops; `seeds.rt`: those at which a change begins; `telling.rt`: what a table tells
+//!   of a node; `incoming.rt`: the rows that end at each node; `making.rt`: the hops of a node by those before it;
+//!   `settling.rt`: node by node until none waits; `changes.rt`: the nodes that have other hops, and these; `merging.rt`,
+//!   `after.rt`: the table of all hops after a change
 //! - `hops.rt`: lists of systems
 //! - `offers.rt`: offers by numbers of nodes, for the crate that repairs distances
 //! - `laws.rt`: what follows for all rows
 #![tactic(auto)]
 
 mod after;
+mod changes;
 mod choice;
 mod distances;
 mod edge;
 mod edges;
-mod entering;
 mod graph;
 mod hops;
+mod incoming;
 mod indexed;
-mod inside;
 mod label;
 mod labels;
 pub mod laws;
+mod making;
+mod merging;
 mod next;
 mod node;
 mod nodes;
@@ -46,8 +50,12 @@ mod reach;
 mod row;
 mod scratch;
 mod search;
+mod seeds;
+mod settling;
 mod spans;
 mod table;
+mod telling;
+mod waiting;
 
 /// Parts of the search, for the crate that repairs distances.
 pub mod parts {

@@ -1,11 +1,11 @@
-//! Nodes beside a word, which rows of least walks pass on from node to node: a hop, or 0 where being in a set is passed on.
+//! Nodes beside a word, each pair once: a hop, or 0 where rows of least walks pass on that a node is led to.
 
 ghost use Rattle.std.specs.Prelude.{◌≡◌, ℕ, length, map, IfOk, OnOk};
 ghost use Rattle.std.specs.Bool.{OnTrue};
 ghost use Rattle.std.specs.List.{Contains};
 ghost use Rattle.std.specs.List.Sorted.{IsNonDecreasingBy};
 ghost use Rattle.spf_tree.specs.Walks.{start};
-ghost use Rattle.spf_tree.specs.Passing.{IsPut, IsPassed, ArePassed, AreEnds, AreMarked, first};
+ghost use Rattle.spf_tree.specs.Passing.{IsPut, IsPassed, ArePassed, first};
 
 use crate::labels::Labels;
 use crate::node::number;
@@ -16,7 +16,7 @@ use isis_base::OutOfMemory;
 use std::alloc::Global;
 
 /// Whether the pair is in the list.
-fn holds(pairs: &[(u64, u64)], node: u64, word: u64) -> bool
+pub fn holds(pairs: &[(u64, u64)], node: u64, word: u64) -> bool
     ensures { OnTrue result (Contains pairs.now (node, word)) }
 {
     pairs.contains(&(node, word))
@@ -78,39 +78,6 @@ pub fn pass_on(
             return Ok(());
         }
         match pass(labels, root, row, word, found) {
-            Ok(()) => {}
-            Err(error) => return Err(error),
-        }
-    }
-    Ok(())
-}
-
-/// Adds the ends of rows that belong to least walks, beside 0.
-pub fn add_ends(
-    rows: &[Row],
-    labels: &Labels,
-    root: u64,
-    found: &mut Vec<(u64, u64)>,
-) -> Result<(), OutOfMemory>
-    ensures { OnOk result (AreEnds rows.now root labels.now 0 found.old.items found.new.items
-        (length rows.now)) }
-{
-    for place in 0..rows.len() {
-        match pass(labels, root, &rows[place], 0, found) {
-            Ok(()) => {}
-            Err(error) => return Err(error),
-        }
-    }
-    Ok(())
-}
-
-/// Adds nodes beside 0.
-pub fn add_nodes(nodes: &[u64], found: &mut Vec<(u64, u64)>) -> Result<(), OutOfMemory>
-    ensures { OnOk result (AreMarked nodes.now 0 found.old.items found.new.items
-        (length nodes.now)) }
-{
-    for place in 0..nodes.len() {
-        match add_pair(found, nodes[place], 0) {
             Ok(()) => {}
             Err(error) => return Err(error),
         }

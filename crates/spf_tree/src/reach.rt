@@ -252,7 +252,7 @@ pub fn is_step(labels: &Labels, node: u64, to: u64, metric: u32) -> bool
 }
 
 /// Whether the metric is the difference of two costs.
-fn leads_by(first: Option<u64>, second: Option<u64>, metric: u32) -> bool
+pub fn leads_by(first: Option<u64>, second: Option<u64>, metric: u32) -> bool
     ensures { MatchBool result (LeadsBy first second metric) (LeadsBy first second metric → ⊥) }
 {
     let (Some(first), Some(second)) = (first, second) else {

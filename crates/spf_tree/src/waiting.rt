@@ -1,0 +1,280 @@
+//! Nodes that wait for their hops to be made: in a queue, beside their costs, so that those of least cost come first.
+
+ghost use Rattle.std.specs.Prelude.{◌≡◌, ◌≢◌, ◌⊎◌, ℕ, length, MatchOption, OnOk};
+ghost use Rattle.std.specs.List.Sorted.{IsNonDecreasingBy};
+ghost use Rattle.std.specs.Bool.{OnTrue};
+ghost use Rattle.spf_tree.specs.Walks.{start};
+ghost use Rattle.spf_tree.specs.Exploring.{LeadsBy};
+ghost use Rattle.spf_tree.specs.Labels.{at};
+ghost use Rattle.spf_tree.specs.Settling.{AreEitherCalled, AreEndsCalled, AreLackingCalled, AreMovedCalled, AreNextCalled, IsCalled, IsEitherCalled, IsEndCalled, IsLackingCalled, IsMovedCalled, Waits};
+
+use crate::labels::Labels;
+use crate::next::has;
+use crate::node::number;
+use crate::offers::first_row;
+use crate::queue::Queue;
+use crate::reach::leads_by;
+use crate::row::Row;
+use isis_base::OutOfMemory;
+
+/// Lets a node wait, beside its cost.
+pub fn call(costs: &Labels, node: u64, queue: &mut Queue) -> Result<(), OutOfMemory>
+    ensures { OnOk result (IsCalled node queue.old queue.new) }
+{
+    let cost = costs.get(node).unwrap_or(0);
+    match queue.push(cost, node) {
+        Ok(()) => Ok(()),
+        Err(error) => Err(error),
+    }
+}
+
+/// Lets the end of a row wait, if the row belongs to least walks.
+fn call_end(
+    costs: &Labels,
+    labels: &Labels,
+    root: u64,
+    row: &Row,
+    from: Option<u64>,
+    queue: &mut Queue,
+) -> Result<(), OutOfMemory>
+    requires { from ≡ at labels.now (start row.now) }
+    ensures { OnOk result (IsEndCalled root labels.now row.now queue.old queue.new) }
+{
+    let to = number(row.to);
+    if to == root {
+        return Ok(());
+    }
+    if !leads_by(from, labels.get(to), row.metric) {
+        return Ok(());
+    }
+    match call(costs, to, queue) {
+        Ok(()) => Ok(()),
+        Err(error) => Err(error),
+    }
+}
+
+/// Lets the ends of rows of least walks wait.
+pub fn call_ends(
+    costs: &Labels,
+    rows: &[Row],
+    labels: &Labels,
+    root: u64,
+    queue: &mut Queue,
+) -> Result<(), OutOfMemory>
+    ensures { OnOk result
+        (AreEndsCalled rows.now root labels.now queue.old queue.new (length rows.now)) }
+{
+    for place in 0..rows.len() {
+        let row = &rows[place];
+        let from = labels.get(number(row.from));
+        match call_end(costs, labels, root, row, from, queue) {
+            Ok(()) => {}
+            Err(error) => return Err(error),
+        }
+    }
+    Ok(())
+}
+
+/// Lets the ends of rows of least walks from a node wait.
+pub fn call_next(
+    costs: &Labels,
+    rows: &[Row],
+    labels: &Labels,
+    root: u64,
+    node: u64,
+    queue: &mut Queue,
+) -> Result<(), OutOfMemory>
+    requires { IsNonDecreasingBy start rows.now }
+    ensures { OnOk result
+        (AreNextCalled rows.now root labels.now node queue.old queue.new (length rows.now)) }
+{
+    let from = labels.get(node);
+    for place in first_row(rows, node)..rows.len() {
+        let row = &rows[place];
+        if number(row.from) != node {
+            return Ok(());
+        }
+        match call_end(costs, labels, root, row, from, queue) {
+            Ok(()) => {}
+            Err(error) => return Err(error),
+        }
+    }
+    Ok(())
+}
+
+/// Whether a metric leads to a cost from neither of two others.
+fn leads_from_neither(first: Option<u64>, second: Option<u64>, to: Option<u64>, metric: u32) -> bool
+    ensures { OnTrue result ((LeadsBy first to metric → ⊥) × (LeadsBy second to metric → ⊥)) }
+{
+    if leads_by(first, to, metric) {
+        return false;
+    }
+    if leads_by(second, to, metric) {
+        return false;
+    }
+    true
+}
+
+/// Whether two costs are others.
+fn are_others(first: Option<u64>, second: Option<u64>) -> bool
+    ensures { OnTrue result (first ≢ second) }
+{
+    first != second
+}
+
+/// Lets the end of a row wait, if its cost stayed and the row belongs to least walks by old or new costs.
+fn call_either(
+    before: &Labels,
+    after: &Labels,
+    root: u64,
+    row: &Row,
+    first: Option<u64>,
+    second: Option<u64>,
+    queue: &mut Queue,
+) -> Result<(), OutOfMemory>
+    requires first { first ≡ at before.now (start row.now) }
+    requires second { second ≡ at after.now (start row.now) }
+    ensures { OnOk result
+        (IsEitherCalled root before.now after.now row.now queue.old queue.new) }
+{
+    let to = number(row.to);
+    if to == root {
+        return Ok(());
+    }
+    let cost = after.get(to);
+    if are_others(before.get(to), cost) {
+        return Ok(());
+    }
+    if leads_from_neither(first, second, cost, row.metric) {
+        return Ok(());
+    }
+    match call(after, to, queue) {
+        Ok(()) => Ok(()),
+        Err(error) => Err(error),
+    }
+}
+
+/// Lets the ends of rows from a node wait, if their costs stayed and the rows belong to least walks by old or new costs.
+fn call_from(
+    rows: &[Row],
+    before: &Labels,
+    after: &Labels,
+    root: u64,
+    node: u64,
+    queue: &mut Queue,
+) -> Result<(), OutOfMemory>
+    requires { IsNonDecreasingBy start rows.now }
+    ensures { OnOk result (AreEitherCalled rows.now root before.now after.now node queue.old
+        queue.new (length rows.now)) }
+{
+    let (first, second) = (before.get(node), after.get(node));
+    for place in first_row(rows, node)..rows.len() {
+        let row = &rows[place];
+        if number(row.from) != node {
+            return Ok(());
+        }
+        match call_either(before, after, root, row, first, second, queue) {
+            Ok(()) => {}
+            Err(error) => return Err(error),
+        }
+    }
+    Ok(())
+}
+
+/// Lets a node wait whose cost moved, and the ends of rows from it.
+fn call_moved(
+    rows: &[Row],
+    before: &Labels,
+    after: &Labels,
+    root: u64,
+    node: u64,
+    queue: &mut Queue,
+) -> Result<(), OutOfMemory>
+    requires { IsNonDecreasingBy start rows.now }
+    ensures { OnOk result
+        (IsMovedCalled rows.now root before.now after.now node queue.old queue.new) }
+{
+    match call(after, node, queue) {
+        Ok(()) => {}
+        Err(error) => return Err(error),
+    }
+    match call_from(rows, before, after, root, node, queue) {
+        Ok(()) => Ok(()),
+        Err(error) => Err(error),
+    }
+}
+
+/// Lets the nodes wait whose costs moved, and the ends of rows from them. Rows that the new graph lacks aren't looked at.
+pub fn call_all_moved(
+    rows: &[Row],
+    before: &Labels,
+    after: &Labels,
+    root: u64,
+    moved: &[u64],
+    queue: &mut Queue,
+) -> Result<(), OutOfMemory>
+    requires { IsNonDecreasingBy start rows.now }
+    ensures { OnOk result (AreMovedCalled rows.now root before.now after.now moved.now queue.old
+        queue.new (length moved.now)) }
+{
+    for place in 0..moved.len() {
+        match call_moved(rows, before, after, root, moved[place], queue) {
+            Ok(()) => {}
+            Err(error) => return Err(error),
+        }
+    }
+    Ok(())
+}
+
+/// Lets a node wait that isn't among the others.
+fn call_if_lacking(
+    costs: &Labels,
+    node: u64,
+    others: &[u64],
+    queue: &mut Queue,
+) -> Result<(), OutOfMemory>
+    ensures { OnOk result (IsLackingCalled node others.now queue.old queue.new) }
+{
+    if has(others, node) {
+        return Ok(());
+    }
+    match call(costs, node, queue) {
+        Ok(()) => Ok(()),
+        Err(error) => Err(error),
+    }
+}
+
+/// Lets the nodes wait that aren't among the others.
+pub fn call_lacking(
+    costs: &Labels,
+    nodes: &[u64],
+    others: &[u64],
+    queue: &mut Queue,
+) -> Result<(), OutOfMemory>
+    ensures { OnOk result
+        (AreLackingCalled nodes.now others.now queue.old queue.new (length nodes.now)) }
+{
+    for place in 0..nodes.len() {
+        match call_if_lacking(costs, nodes[place], others, queue) {
+            Ok(()) => {}
+            Err(error) => return Err(error),
+        }
+    }
+    Ok(())
+}
+
+/// Takes nodes out until one is another. `None` where no other waits.
+pub fn next_other(queue: &mut Queue, node: u64) -> Option<u64>
+    ensures { MatchOption result ((other : ℕ) → Waits queue.old other → node ≡ other)
+        (λ next. (other : ℕ) → Waits queue.old other
+        → (node ≡ other) ⊎ ((next ≡ other) ⊎ Waits queue.new other)) }
+{
+    loop {
+        let Some((_cost, next)) = queue.pop() else {
+            return None;
+        };
+        if next != node {
+            return Some(next);
+        }
+    }
+}
