@@ -1,7 +1,7 @@
 -- What is aside of some nodes while a level takes entries of a sequence number PDU.
-use Rattle.std.proofs.Common.{◌≡◌, ◌∙◌, ℕ, ◌+◌, ◌*◌, ◌/◌, ◌%◌, ◌<◌, ◌≤◌, ◌⊎◌, ◌==◌, ◌&&◌, nat_lt, Bool, true, false, not, List, [], ◌∷◌, length, Option, Some, None, is_some, refl, sym, ap, subst, arith, if◌then◌else◌, inl, inr, eqb, option_map}
+use Rattle.std.proofs.Common.{◌≡◌, ◌∙◌, ℕ, ◌+◌, ◌*◌, ◌/◌, ◌%◌, ◌<◌, ◌==◌, ◌&&◌, nat_lt, Bool, true, false, not, List, [], ◌∷◌, length, Option, Some, None, is_some, refl, sym, ap, subst, arith, if◌then◌else◌, inl, inr, eqb, option_map}
 use Rattle.std.specs.List.{AllByRecursion}
-use Rattle.std.proofs.lemmas.Bool.{and_parts, cases_eq, eq-eqb, eqb-true, ne_eqb}
+use Rattle.std.proofs.lemmas.Bool.{and_parts, eq-eqb, eqb-true}
 use Rattle.std.proofs.lemmas.Bool.Decides.{nat_tests}
 use Rattle.isis_base.specs.declared.entry.LspEntry.{LspEntry}
 use Rattle.isis_base.specs.declared.identifiers.LspId.{LspId}
@@ -22,13 +22,12 @@ use Rattle.model_router.specs.declared.snp_case.SnpCase.{SnpCase}
 use Rattle.model_router.specs.declared.snp_case.SnpCase.TheVariants as snp
 use Rattle.model_router.specs.declared.whose.Whose.{Whose}
 use Rattle.model_router.specs.declared.whose.Whose.TheVariants as whose
-use Rattle.model_router.specs.Books.{Book, cell_at, is_full, rank_of, set_cell}
+use Rattle.model_router.specs.Books.{cell_at, is_full, rank_of, set_cell}
 use Rattle.model_router.specs.Cells.{Cell, flagged, purged, srm_on}
 use Rattle.model_router.specs.ContentLaws.{SameKey}
 use Rattle.model_router.specs.Deeds.{Content, content_of}
 use Rattle.model_router.specs.LspTable.{differs, is_issued}
 use Rattle.model_router.specs.Maps.{each, erase, find, put, set_at}
-use Rattle.model_router.specs.Numbers.{lsp_id}
 use Rattle.model_router.specs.OwnLsps.{install, issue_cell, last_number, outbid, retire}
 use Rattle.model_router.specs.Ranks.{is_live, number_of}
 use Rattle.model_router.specs.Receiving.{scene_of}
@@ -42,7 +41,7 @@ use Rattle.router_sending.proofs.DraftLemmas.{id-again}
 use Rattle.spf_tree.specs.Nodes.{node_number}
 use Rattle.router_routes.specs.Moved.{is_among}
 use Rattle.router_core.specs.Calm.{is_calm_entry}
-use Rattle.router_core.specs.Asides.{AreNamed, IsAnswered, IsHeldAside, IsCovered, IsNamed, IsShown, TellsAnswer, content_in, is_apart, node_of, seen, seen_in}
+use Rattle.router_core.specs.Asides.{AreNamed, IsAnswered, IsHeldAside, IsCovered, IsNamed, TellsAnswer, content_in, is_apart, node_of, seen, seen_in}
 use Rattle.router_core.specs.Givens.{given}
 use Rattle.router_core.specs.Plans.{IsAbove}
 use Rattle.router_core.proofs.CalmLemmas.{take-face}

@@ -9,6 +9,7 @@ mod SendingLemmas
 mod PullLemmas
 mod GreetingLemmas
 mod SentLemmas
+mod DueLemmas
 mod StepLemmas
 mod PrefixLemmas
 mod StartLemmas
@@ -31,4 +32,5 @@ mod FaceLemmas
 mod KeepLemmas
 mod SettledLemmas
 mod PlanLemmas
-mod CalmSecondLemmas
+mod ShiftLemmas
+mod PassedLemmas

@@ -28,7 +28,7 @@ use Rattle.model_router.specs.Takes.{Scene, whose_of, lsp_taken, take_lsp}
 use Rattle.model_router.specs.Routers.{Circuit, LevelState, Router, book_of, level_of, with_level}
 use Rattle.model_router.specs.Givens.{Given}
 use Rattle.model_router.specs.Receiving.{scene_of, lsp_drop, taken}
-use Rattle.model_router.specs.Events.{Envelope, Event, LspHeard, Take, Outcome, settled}
+use Rattle.model_router.specs.Events.{Envelope, LspHeard, Take, Outcome, settled}
 use Rattle.model_router.specs.Steps.{step}
 use Rattle.model_router.specs.Maps as model
 use Rattle.model_router.specs.Numbers.{system_id}

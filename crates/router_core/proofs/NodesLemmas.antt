@@ -1,5 +1,5 @@
 -- Nodes in order, their LSPs aside, and what routes see of them then.
-use Rattle.std.proofs.Common.{◌≡◌, ◌∙◌, ℕ, ◌+◌, ◌-◌, ◌*◌, ◌/◌, ◌%◌, ◌<◌, ◌≤◌, ◌⊎◌, ◌==◌, ◌&&◌, nat_le, nat_lt, Bool, true, false, not, List, [], ◌∷◌, ◌++◌, map, filter, length, take, drop, get_or, Option, Some, None, refl, sym, ap, subst, arith, if◌then◌else◌, inl, inr}
+use Rattle.std.proofs.Common.{◌≡◌, ◌∙◌, ℕ, ◌+◌, ◌-◌, ◌%◌, ◌<◌, ◌≤◌, ◌==◌, ◌&&◌, nat_le, nat_lt, Bool, true, false, not, List, [], ◌∷◌, ◌++◌, map, filter, length, take, drop, get_or, Option, Some, None, refl, sym, ap, subst, arith, if◌then◌else◌, inl, inr}
 use Rattle.std.specs.Prelude.{◌||◌}
 use Rattle.std.specs.List.{AllByRecursion}
 use Rattle.std.proofs.lemmas.Bool.{cases_eq, eq-eqb, eqb-true, ne_eqb}
@@ -11,23 +11,21 @@ use Rattle.isis_base.specs.declared.identifiers.NodeId.{NodeId}
 use Rattle.isis_base.specs.declared.level.Level.{Level}
 use Rattle.isis_base.specs.declared.level.Level.TheVariants as level
 use Rattle.isis_base.specs.Identifiers.{IsId, lsp_number}
-use Rattle.isis_base.specs.Keys.{entry_rank, rank}
+use Rattle.isis_base.specs.Keys.{rank}
 use Rattle.lsp_store.specs.declared.entry.Entry.{Entry}
 use Rattle.lsp_store.specs.Databases as store
 use Rattle.lsp_store.specs.Maps as maps
 use Rattle.lsp_store.specs.Maps.{pair_number}
-use Rattle.lsp_store.specs.Places.{AllAbove}
 use Rattle.lsp_store.proofs.MapLemmas.{find-above, rises-above, rises-less}
-use Rattle.lsp_view.specs.Views.{number_of, own_node}
+use Rattle.lsp_view.specs.Views.{number_of}
 use Rattle.flag_sync.specs.BookStates as sync
 use Rattle.flag_sync.specs.BookStates.{BookState, cells_of}
 use Rattle.flag_sync.specs.Heard.{entries_of, entry_of}
-use Rattle.model_router.specs.Both.{Both, at}
+use Rattle.model_router.specs.Both.{at}
 use Rattle.model_router.specs.Books.{Book, cell_at}
 use Rattle.model_router.specs.Cells.{Cell}
 use Rattle.model_router.specs.Deeds.{Content}
 use Rattle.model_router.specs.Maps.{find}
-use Rattle.model_router.specs.Numbers.{lsp_id, system_id}
 use Rattle.model_router.specs.Ranks.{is_live}
 use Rattle.model_router.specs.Routers.{LevelState, Router, book_of, level_of, with_level}
 use Rattle.model_router.specs.Receiving.{scene_of}
@@ -37,15 +35,15 @@ use Rattle.router_sending.proofs.DraftLemmas.{id-again}
 use Rattle.spf_tree.specs.Nodes.{node_number}
 use Rattle.router_routes.proofs.LeakLemmas.{maps-same}
 use Rattle.router_routes.specs.Moved.{AreMovedTo, NodesRise, beside, is_among, is_beside, told_by_nodes}
-use Rattle.router_routes.specs.Outlooks.{outlook_of, prefixes_by, where_run}
-use Rattle.router_routes.specs.Told.{told, told_by, told_in, told_pair}
+use Rattle.router_routes.specs.Outlooks.{outlook_of}
+use Rattle.router_routes.specs.Told.{told, told_by, told_in}
 use Rattle.router_core.specs.Asides.{AreNamed, AreSeven, IsHeldAside, IsCovered, IsNamed, IsShown, is_apart, node_of, put_all, seen, seen_in, with_node, with_parts}
 use Rattle.router_core.specs.Givens.{given}
 use Rattle.router_core.specs.Plans.{AreMovedIn}
 use Rattle.router_core.proofs.AsideLemmas.{Entries, apart-same, named-cells, seen-cells}
 use Rattle.router_core.proofs.MovedLemmas.{first-is, split, within}
 use Rattle.router_core.proofs.WantedLemmas.{opens}
-use Rattle.router_core.proofs.RouteLemmas.{Said, SameConfig, config-same, live-by, live-find, live-rises, said-of, told-live, told-said}
+use Rattle.router_core.proofs.RouteLemmas.{Said, live-by, live-find, live-rises, said-of, told-live, told-said}
 
 clash : {A : Type 0} → true ≡ false → A
 clash e = absurd (cc)
@@ -106,7 +104,7 @@ among-new nodes node = with-among nodes node (node_number node) ∙ ap (λ (t : 
 
 -- ---- the LSPs of some nodes
 
-abbrev or_else : Option Entry → Option Entry → Option Entry
+abbrev pub or_else : Option Entry → Option Entry → Option Entry
 or_else None o = o
 or_else (Some e) o = Some e
 
@@ -172,7 +170,7 @@ in-node node n is =
     rw (first-is node, s.last)
     (ap (λ (k : ℕ). nat_le (node_number node) k && nat_le k (node_number node + 255)) parts ∙ within (node_number node) (node_of n) (n % 256) s.whole whole small ∙ turned (node_of n) (node_number node))
 
-parts-found : (held xs : Entries) (nodes : List NodeId) (n : ℕ) → maps.RisesFrom 0 held → AreSeven nodes → maps.find (with_parts held xs nodes) n ≡ (if is_among nodes (node_of n) then or_else (maps.find held n) (maps.find xs n) else maps.find xs n)
+pub parts-found : (held xs : Entries) (nodes : List NodeId) (n : ℕ) → maps.RisesFrom 0 held → AreSeven nodes → maps.find (with_parts held xs nodes) n ≡ (if is_among nodes (node_of n) then or_else (maps.find held n) (maps.find xs n) else maps.find xs n)
 parts-found held xs [] n rises seven = refl
 parts-found held xs (m ∷ nodes) n rises seven =
     let part = maps.between (number_of m 0) (number_of m 255) held in
@@ -190,7 +188,7 @@ parts-found held xs (m ∷ nodes) n rises seven =
     by false true h o = refl
     by false false h o = refl
 
-or-none : (o : Option Entry) → or_else o None ≡ o
+pub or-none : (o : Option Entry) → or_else o None ≡ o
 or-none None = refl
 or-none (Some e) = refl
 
@@ -236,7 +234,7 @@ zero-small : (xs : List ℕ) (p k : ℕ) → AllByRecursion (λ octet. octet < 2
 zero-small [] p k all = (all.0, (omega arith, tt))
 zero-small (x ∷ xs) p k all = (all.0, zero-small xs p k all.1)
 
-node-of-id : (id : LspId) → IsId id → IsId (record { node = id.node; number = 0 })
+pub node-of-id : (id : LspId) → IsId id → IsId (record { node = id.node; number = 0 })
 node-of-id id is = record { six = is.six; small = zero-small id.node.system.0 id.node.pseudonode id.number is.small }
 
 -- these are the nodes of all entries but those that are left
@@ -350,11 +348,11 @@ live_in-find (p ∷ es) least n rises = by (store.is_live p.1) refl (pair_number
     by false is false at rest = rw (is, at) rest
 
 -- what is said of what is seen
-abbrev said-by : Option (ℕ × Content) → Option Said
+abbrev pub said-by : Option (ℕ × Content) → Option Said
 said-by None = None
 said-by (Some x) = Some (x.1.flags, x.1.octets)
 
-said-seen : (o : Option Cell) → said-of o ≡ said-by (seen o)
+pub said-seen : (o : Option Cell) → said-of o ≡ said-by (seen o)
 said-seen None = refl
 said-seen (Some c) = by (is_live c.rank)
   where

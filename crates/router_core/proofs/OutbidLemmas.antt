@@ -1,5 +1,5 @@
 -- What a node tells once an own LSP of it is outbid.
-use Rattle.std.proofs.Common.{◌≡◌, ◌∙◌, ◌⊎◌, ◌+◌, ◌*◌, ◌/◌, ◌<◌, ◌≤◌, ◌==◌, ℕ, nat_lt, Bool, true, false, List, Option, Some, None, refl, sym, ap, subst, inl, inr, if◌then◌else◌, arith}
+use Rattle.std.proofs.Common.{◌≡◌, ◌∙◌, ◌+◌, ◌*◌, ◌/◌, ◌<◌, ◌≤◌, ◌==◌, ℕ, nat_lt, Bool, true, false, Option, Some, None, refl, sym, ap, subst, inl, inr, if◌then◌else◌, arith}
 use Rattle.std.specs.Prelude.{IfSome}
 use Rattle.std.proofs.lemmas.Bool.{eq-eqb, ne_eqb}
 use Rattle.std.proofs.lemmas.Bool.Decides.{nat_tests}
@@ -24,7 +24,7 @@ use Rattle.model_router.specs.Routers.{Circuit, Contents, LevelState, Router, bo
 use Rattle.model_router.specs.Receiving.{scene_of, lsp_drop, taken}
 use Rattle.model_router.specs.Events.{Envelope, LspHeard, Take}
 use Rattle.model_router.specs.Steps.{step}
-use Rattle.flag_sync.specs.FlagRows.{cell_of, no_flags}
+use Rattle.flag_sync.specs.FlagRows.{no_flags}
 use Rattle.flag_sync.specs.Heard.{answer_of as row_answer, heard_of}
 use Rattle.flag_sync.specs.declared.heard.LspHeard as heard
 use Rattle.flag_sync.specs.declared.heard.LspAnswer.TheVariants as answer

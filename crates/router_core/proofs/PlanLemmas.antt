@@ -135,6 +135,7 @@ pub told-ordered : (old new : Outlook) (t : Told) → AreTold old new t → AreI
 told-ordered old new told.Nothing is = tt
 told-ordered old new (told.Node m) is = tt
 told-ordered old new (told.Nodes m) is = is.each
+told-ordered old new (told.Levels one two) is = (is.rise_one, is.rise_two)
 told-ordered old new (told.Prefixes own) is = tt
 
 pub sound-of : (r : Router) (event : model.Event) (plan : Plan) → IsPlan r event plan → IsReached (step given r event).router → IsSound r plan

@@ -5,7 +5,6 @@ use Rattle.isis_base.specs.declared.level.LevelSet.{LevelSet}
 use Rattle.isis_base.specs.declared.level.LevelSet.TheVariants as levels
 use Rattle.isis_base.specs.declared.level.Level.{Level}
 use Rattle.isis_base.specs.declared.level.Level.TheVariants as level
-use Rattle.spf_repair.specs.Changes.{RepairedOf}
 use Rattle.isis_base.specs.declared.prefix.Prefix as base
 use Rattle.isis_tlv.specs.Fits.{IsArea}
 use Rattle.isis_tlv.specs.Spelling.{area_value, area_octets}
@@ -17,7 +16,7 @@ use Rattle.model_router.specs.Good.{IsGoodEvent}
 use Rattle.model_router.specs.Maps.{find, put}
 use Rattle.model_router.specs.Places.{nth}
 use Rattle.model_router.specs.Books.{cell_at}
-use Rattle.model_router.specs.Routers.{Circuit, Router, book_of, level_of}
+use Rattle.model_router.specs.Routers.{Circuit, Router, book_of}
 use Rattle.model_router.specs.Sorted.{RisesFrom, IsSorted}
 use Rattle.model_router.specs.Starts.{start, started}
 use Rattle.model_router.specs.Steps.{step}
@@ -47,13 +46,10 @@ use Rattle.router_desk.proofs.ReadingLemmas.{finds-reads}
 use Rattle.router_core.specs.declared.event.NodeEvent.{NodeEvent}
 use Rattle.router_core.specs.declared.event.NodeEvent.TheVariants as event
 use Rattle.router_core.specs.Events.{event_of, Fits, IsThere}
-use Rattle.model_router.specs.Hearings.{hearing}
-use Rattle.model_router.specs.ContentLaws.{SameKey, TellsBoth}
-use Rattle.model_router.proofs.TellLemmas.{course-tells}
+use Rattle.model_router.specs.ContentLaws.{SameKey}
 use Rattle.router_routes.specs.Outlooks.{outlook_of}
-use Rattle.router_routes.specs.Following.{IsLevel}
-use Rattle.router_core.specs.Calm.{AreBelow, SameCounts, Stands, KeepsPrefixes}
-use Rattle.router_core.proofs.RouteLemmas.{step-told, step-outlook, step-level}
+use Rattle.router_core.specs.Calm.{KeepsPrefixes}
+use Rattle.router_core.proofs.RouteLemmas.{step-told}
 use Rattle.router_core.specs.Givens.{given, leaks_of, is_attached}
 use Rattle.router_core.specs.Heard.{HasOctets}
 use Rattle.router_core.specs.Reached.{IsReached}
@@ -168,7 +164,7 @@ sender-after r t system areas runs s = record {
   fits = subst (λ (a : List (List ℕ)). length (area_value a) ≤ 255) (sym areas) s.fits;
 }
 
-sorted-after : (r : Router) (event : Event) → IsSorted r → IsSorted (step given r event).router
+pub sorted-after : (r : Router) (event : Event) → IsSorted r → IsSorted (step given r event).router
 sorted-after r event sorted = record { on = λ level. course-rises _ _ _ ((step-course given r event).on level) (sorted.on level) }
 
 pub step-holds : (r : Router) (event : Event) → IsReached r → IsGoodEvent event → TellsEvent r.config event → NamesEvent event → FitsEvent r event → IsReached (step given r event).router
@@ -222,23 +218,8 @@ step-reached r (event.Change (change.Metric circuit metric)) h fits octets = ste
 step-reached r (event.Change (change.Prefix prefix metric)) h fits octets = step-holds r (Prefix (prefix_number prefix) metric) h tt tt tt fits
 step-reached r (event.Change (change.Overload on)) h fits octets = step-holds r (Overload on) h tt tt tt tt
 
-tells : (r : Router) (event : Event) → TellsBoth given event r (step given r event).router
-tells r event = record { on = λ level. course-tells (hearing given r event level) (level_of r level) (level_of (step given r event).router level) ((step-course given r event).on level) }
-
--- what routes look at stays where no key and no own prefix changes
-pub outlook-stays : (r : Router) (event : Event) → IsReached r → AreBelow r → SameCounts r (step given r event).router → KeepsPrefixes event → outlook_of (step given r event).router ≡ outlook_of r
-outlook-stays r event h below counts keeps =
-    let s = h.speaking in
-    step-outlook given r event s.sorted (sorted-after r event s.sorted) (tells r event) below counts keeps
-
--- and where all that is held keeps its key and content
+-- what routes look at stays where all that is held keeps its key and content
 pub outlook-kept : (r : Router) (event : Event) → IsReached r → ((l : Level) (id : ℕ) → SameKey (cell_at (book_of r l) id) (cell_at (book_of (step given r event).router l) id)) → KeepsPrefixes event → outlook_of (step given r event).router ≡ outlook_of r
 outlook-kept r event h kept keeps =
     let s = h.speaking in
     step-told given r event s.sorted (sorted-after r event s.sorted) kept keeps
-
--- so do a level's distances where none of its keys changes
-pub level-stays : (r : Router) (event : Event) (l : Level) (d : RepairedOf) → IsReached r → Stands r (step given r event).router l → IsLevel (outlook_of r) l d → IsLevel (outlook_of (step given r event).router) l d
-level-stays r event l d h stands is =
-    let s = h.speaking in
-    step-level given r event l d s.sorted (sorted-after r event s.sorted) (tells r event) stands is

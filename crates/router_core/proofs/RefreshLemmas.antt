@@ -79,7 +79,7 @@ shown-alike : (octets os : List ℕ) → drop 27 octets ≡ drop 27 os → shown
 unfolding shown
 shown-alike octets os d = ap (λ (l : List ℕ). replicate 27 0 ++ l) d
 
-told-alike : (flags fs : ℕ) (octets os : List ℕ) → flags ≡ fs → drop 27 octets ≡ drop 27 os → told flags octets ≡ told fs os
+pub told-alike : (flags fs : ℕ) (octets os : List ℕ) → flags ≡ fs → drop 27 octets ≡ drop 27 os → told flags octets ≡ told fs os
 told-alike flags fs octets os e d = let same = shown-alike octets os d in λ i. record { key = Some live_key; checksum = 0; flags = e i; left = 0; octets = same i }
 
 again-tells : (l : heard.LspHeard) (held : Entry) (srm ssn : ℕ) → TellsAgain held l → Tells (flagged (kept (heard_of l)) srm ssn) held

@@ -1,5 +1,5 @@
 -- What routes look at of a router as it lies, and that it stays where no key changes.
-use Rattle.std.proofs.Common.{◌≡◌, ◌∙◌, ℕ, ◌+◌, ◌-◌, ◌*◌, ◌/◌, ◌%◌, ◌^◌, ◌<◌, ◌≤◌, Bool, true, false, not, cond, List, [], ◌∷◌, ◌++◌, length, map, Option, Some, None, refl, sym, ap, subst, arith, if◌then◌else◌, inl, inr}
+use Rattle.std.proofs.Common.{◌≡◌, ◌∙◌, ℕ, ◌+◌, ◌*◌, ◌/◌, ◌%◌, ◌<◌, ◌≤◌, Bool, true, false, not, cond, List, [], ◌∷◌, ◌++◌, length, map, Option, Some, None, refl, sym, ap, subst, arith, if◌then◌else◌, inl, inr}
 use Rattle.std.specs.List.{AllByRecursion}
 use Rattle.std.proofs.lemmas.Bool.{cases_eq, eq-eqb, ne_eqb}
 use Rattle.std.proofs.lemmas.Bool.Decides.{nat_tests}
@@ -23,9 +23,9 @@ use Rattle.model_router.specs.Books.{Book, cell_at}
 use Rattle.model_router.specs.Places.{nth}
 use Rattle.model_router.specs.Routers.{Circuit, Router, book_of}
 use Rattle.model_router.specs.Deeds.{Content, content_of}
-use Rattle.model_router.specs.ContentLaws.{SameKey, TellsBoth}
+use Rattle.model_router.specs.ContentLaws.{SameKey}
 use Rattle.model_router.specs.Events.{Event, Message, Second, Take, Pull, Metric, Overload, Prefix as ChangePrefix, Done, settled}
-use Rattle.model_router.specs.Steps.{step, with_prefix, with_metric as set_metric}
+use Rattle.model_router.specs.Steps.{step, with_metric as set_metric}
 use Rattle.model_router.specs.Givens.{Given}
 use Rattle.model_router.specs.Numbers.{lsp_id, system_id, system_number}
 use Rattle.model_datagram.specs.Reading.{runs_of}
@@ -36,17 +36,14 @@ use Rattle.flag_sync.specs.declared.flag_row.FlagRow.{FlagRow}
 use Rattle.flag_sync.specs.BookStates as sync
 use Rattle.flag_sync.specs.BookStates.{BookState, cells_of}
 use Rattle.router_sending.proofs.DraftLemmas.{id-again}
-use Rattle.lsp_view.specs.Views.{own_node, rows_in, overloaded_in}
-use Rattle.spf_tree.specs.Graphs.{AreUsable}
-use Rattle.spf_repair.specs.Changes.{RepairedOf}
+use Rattle.lsp_view.specs.Views.{own_node}
 use Rattle.router_wanted.specs.Views.{prefix_pair}
 use Rattle.router_routes.specs.declared.lent.Lent.{Lent}
 use Rattle.router_routes.specs.Told.{told, told_pair, told_in, told_by}
 use Rattle.router_routes.specs.Outlooks.{Outlook, where_run, with_metric, prefixes_by, outlook_of, outlook_in}
-use Rattle.router_routes.specs.Following.{FollowingOf, IsFollowing, IsLevel, IsRooted}
 use Rattle.router_routes.specs.Moved.{beside}
 use Rattle.router_routes.proofs.LeakLemmas.{maps-same}
-use Rattle.router_core.specs.Calm.{AreBelow, SameCounts, Stands, KeepsPrefixes}
+use Rattle.router_core.specs.Calm.{KeepsPrefixes}
 use Rattle.router_core.proofs.RestLemmas.{Rests, second-rests, take-rests, pull-rests, metric-rests}
 
 -- ---- what the databases tell
@@ -278,76 +275,3 @@ step-told given r event sorted sorted-then kept keeps =
     let on : (l : Level) → told_by (book_of t l).cells ≡ told_by (book_of r l).cells =
     λ l. told-same (book_of r l) (book_of t l) (sorted.on l) (sorted-then.on l) (kept l) in
     outlook-steady r t (step-config given r event keeps) (on level.One) (on level.Two)
-
-pub step-outlook : (given : Given) (r : Router) (event : Event) → IsSorted r → IsSorted (step given r event).router → TellsBoth given event r (step given r event).router → AreBelow r → SameCounts r (step given r event).router → KeepsPrefixes event → outlook_of (step given r event).router ≡ outlook_of r
-step-outlook given r event sorted sorted-then tells below counts keeps =
-    step-told given r event sorted sorted-then
-    (λ l. (tells.on l).same (counts.on l) (subst (λ (n : ℕ). n < 2 ^ 64 - 1) (sym (counts.on l)) (below.on l))) keeps
-
--- ---- roots
-
-root-is : (r : Router) → (outlook_of r).root ≡ own_node (system_id r.config.system)
-unfolding outlook_of
-root-is r = refl
-
-lent-root : (lent : Lent) → (outlook_in lent).root ≡ own_node lent.system
-unfolding outlook_in
-lent-root lent = refl
-
-pub step-rooted : (given : Given) (r : Router) (event : Event) (t : Router) (lent : Lent) (f : FollowingOf) → t.config.system ≡ r.config.system → outlook_in lent ≡ outlook_of t → IsFollowing (outlook_of r) f → IsRooted (own_node lent.system) f
-step-rooted given r event t lent f system same is =
-    let root : (outlook_of r).root ≡ own_node lent.system = root-is r ∙ ap (λ (n : ℕ). own_node (system_id n)) (sym system) ∙ sym (root-is t) ∙ ap (λ (o : Outlook). o.root) (sym same) ∙ lent-root lent in
-    record {
-      one = is.one.root ∙ root;
-      two = is.two.root ∙ root;
-      graph_one = is.one.graph.from ∙ root;
-      graph_two = is.two.graph.from ∙ root;
-    }
-
--- ---- a level whose keys stay
-
-record SameFrame (r t : Router) : Type 0 where
-  pub system : t.config.system ≡ r.config.system
-  pub runs : t.config.runs ≡ r.config.runs
-
-frame-of : (r t : Router) → SameConfig r t → SameFrame r t
-frame-of r t s = record { system = s.system; runs = s.runs }
-
-prefix-frame : (r : Router) (prefix : ℕ) (metric : Option ℕ) → SameFrame r (with_prefix r prefix metric)
-prefix-frame r prefix None = record { system = refl; runs = refl }
-prefix-frame r prefix (Some metric) = record { system = refl; runs = refl }
-
-step-frame : (given : Given) (r : Router) (event : Event) → SameFrame r (step given r event).router
-unfolding step
-step-frame given r Second = frame-of r (step given r Second).router (step-config given r Second tt)
-step-frame given r (Take place m) = frame-of r (step given r (Take place m)).router (step-config given r (Take place m) tt)
-step-frame given r (Pull place) = frame-of r (step given r (Pull place)).router (step-config given r (Pull place) tt)
-step-frame given r (Metric place metric) = frame-of r (step given r (Metric place metric)).router (step-config given r (Metric place metric) tt)
-step-frame given r (Overload on) = frame-of r (step given r (Overload on)).router (step-config given r (Overload on) tt)
-step-frame given r (ChangePrefix prefix metric) = let p = prefix-frame r prefix metric in record { system = p.system; runs = p.runs }
-
-told-level : (r t : Router) (l : Level) → t.config.runs ≡ r.config.runs → told_by (book_of t l).cells ≡ told_by (book_of r l).cells → at (outlook_of t).told l ≡ at (outlook_of r).told l
-unfolding outlook_of
-told-level r t level.One runs told = ap (λ (b : Both Bool). where_run b.one (told_by (book_of t level.One).cells)) runs ∙ ap (where_run r.config.runs.one) told
-told-level r t level.Two runs told = ap (λ (b : Both Bool). where_run b.two (told_by (book_of t level.Two).cells)) runs ∙ ap (where_run r.config.runs.two) told
-
-is-level : (o p : Outlook) (l : Level) (d : RepairedOf) → p.root ≡ o.root → at p.told l ≡ at o.told l → IsLevel o l d → IsLevel p l d
-is-level o p l d root same is = record {
-  root = is.root ∙ sym root;
-  graph = subst (λ (n : NodeId). AreUsable (rows_in (at p.told l)) (overloaded_in (at p.told l)) n d.graph) (sym root)
-      (subst (λ (ts : List (LspId × Entry)). AreUsable (rows_in ts) (overloaded_in ts) o.root d.graph) (sym same) is.graph);
-}
-
-pub step-level : (given : Given) (r : Router) (event : Event) (l : Level) (d : RepairedOf) → IsSorted r → IsSorted (step given r event).router → TellsBoth given event r (step given r event).router → Stands r (step given r event).router l → IsLevel (outlook_of r) l d → IsLevel (outlook_of (step given r event).router) l d
-step-level given r event l d sorted sorted-then tells stands is =
-    let t = (step given r event).router in
-    let frame = step-frame given r event in
-    let less : (book_of t l).changes < 2 ^ 64 - 1 = subst (λ (n : ℕ). n < 2 ^ 64 - 1) (sym stands.same) stands.below in
-    let same : told_by (book_of t l).cells ≡ told_by (book_of r l).cells = told-same (book_of r l) (book_of t l) (sorted.on l) (sorted-then.on l) ((tells.on l).same stands.same less) in
-    is-level (outlook_of r) (outlook_of t) l d (root-is t ∙ ap (λ (n : ℕ). own_node (system_id n)) frame.system ∙ sym (root-is r)) (told-level r t l frame.runs same) is
-
--- the same of what is lent
-pub lent-level : (r s t : Router) (lent : Lent) (l : Level) (d : RepairedOf) (stands : Bool) → t ≡ s → outlook_in lent ≡ outlook_of t → (stands ≡ true → Stands r t l) → (Stands r s l → IsLevel (outlook_of r) l d → IsLevel (outlook_of s) l d) → IsLevel (outlook_of r) l d → not stands ≡ false → IsLevel (outlook_in lent) l d
-lent-level r s t lent l d true e same stood law is open-not =
-    subst (λ (o : Outlook). IsLevel o l d) (sym (same ∙ ap outlook_of e)) (law (subst (λ (q : Router). Stands r q l) e (stood refl)) is)
-lent-level r s t lent l d false e same stood law is open-not = absurd (let f : true ≡ false = open-not in cc)

@@ -82,17 +82,17 @@ owed-sent place book = owed-each book.p2p place book.cells
 
 -- ---- one level's part of a circuit, and its book
 
-abbrev csnp_part : Config → ℕ → Circuit → Level → CircuitLevel
+abbrev pub csnp_part : Config → ℕ → Circuit → Level → CircuitLevel
 csnp_part config place c l = if is_csnp_due config place c l then csnp_sent c.lan (at c.levels l) else at c.levels l
 
-csnp-psnp : (config : Config) (place : ℕ) (c : Circuit) (l : Level) → (csnp_part config place c l).psnp ≡ (at c.levels l).psnp
+pub csnp-psnp : (config : Config) (place : ℕ) (c : Circuit) (l : Level) → (csnp_part config place c l).psnp ≡ (at c.levels l).psnp
 csnp-psnp config place c l = of (is_csnp_due config place c l) (at c.levels l) c.lan
   where
     of : (b : Bool) (part : CircuitLevel) (lan : Bool) → (if b then csnp_sent lan part else part).psnp ≡ part.psnp
     of true part lan = refl
     of false part lan = refl
 
-abbrev psnp_due : ℕ → Circuit → Level → Book → Bool
+abbrev pub psnp_due : ℕ → Circuit → Level → Book → Bool
 psnp_due place c l book = nat_lt 0 (length (owed place book)) && (at c.levels l).psnp == 0
 
 abbrev psnp_part : Bool → CircuitLevel → CircuitLevel
@@ -101,7 +101,7 @@ psnp_part b part = if b then record part { psnp = 2 } else part
 abbrev psnp_book : Bool → Book → ℕ → Book
 psnp_book b book place = if b then answered book place else book
 
-abbrev hello_c : Circuit → Circuit
+abbrev pub hello_c : Circuit → Circuit
 hello_c c = record c { hello = if c.hello == 0 then 10 else c.hello }
 
 pub hello-is : (r : Router) (place : ℕ) (c : Circuit) → nth r.circuits place ≡ Some c → after_hello r place ≡ with_circuit r place (hello_c c)
@@ -112,7 +112,7 @@ hello-is r place c n = subst (λ (o : Option Circuit). on_place o r (hello_gone 
     of true = refl
     of false = sym (circuit-same r place c n)
 
-csnps-is : (r : Router) (place : ℕ) (l : Level) (c : Circuit) → nth r.circuits place ≡ Some c → after_csnps r place l ≡ with_circuit r place (with_part c l (csnp_part r.config place c l))
+pub csnps-is : (r : Router) (place : ℕ) (l : Level) (c : Circuit) → nth r.circuits place ≡ Some c → after_csnps r place l ≡ with_circuit r place (with_part c l (csnp_part r.config place c l))
 unfolding after_csnps
 csnps-is r place l c n = subst (λ (o : Option Circuit). on_place o r (csnps_gone r place l) ≡ with_circuit r place (with_part c l (csnp_part r.config place c l))) (sym n) (of (is_csnp_due r.config place c l))
   where
@@ -201,11 +201,11 @@ psnps-same place l c d book new e f =
     ap (λ (xs : List SnpEntry). if nat_lt 0 (length xs) && (at d.levels l).psnp == 0 then psnps l (pieces (length xs) xs) else []) e
     ∙ ap (λ (n : ℕ). if nat_lt 0 (length (owed place book)) && n == 0 then psnps l (pieces (length (owed place book)) (owed place book)) else []) f
 
-book-of : (q : Router) (k : Level) (b : Book) → book_of (with_book q k b) k ≡ b
+pub book-of : (q : Router) (k : Level) (b : Book) → book_of (with_book q k b) k ≡ b
 book-of q level.One b = refl
 book-of q level.Two b = refl
 
-at-part : (c : Circuit) (k : Level) (x : CircuitLevel) → at (with_part c k x).levels k ≡ x
+pub at-part : (c : Circuit) (k : Level) (x : CircuitLevel) → at (with_part c k x).levels k ≡ x
 at-part c level.One x = refl
 at-part c level.Two x = refl
 

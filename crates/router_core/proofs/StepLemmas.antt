@@ -1,5 +1,5 @@
 -- An event is the model's step.
-use Rattle.std.proofs.Common.{◌≡◌, ℕ, ◌<◌, ◌-◌, List, Option, Some, length, refl, sym, ap, ◌∙◌, subst}
+use Rattle.std.proofs.Common.{◌≡◌, ℕ, ◌<◌, List, Option, Some, length, refl, sym, ap, ◌∙◌, subst}
 use Rattle.model_router.specs.Events as model
 use Rattle.model_router.specs.Places.{nth}
 use Rattle.model_router.specs.Pulls as pulls

@@ -1,7 +1,6 @@
 -- Events of which is known beforehand that no key changes, so that routes stay (own).
-use Rattle.std.specs.Prelude.{◌≡◌, ℕ, ◌-◌, ◌^◌, ◌<◌, ◌≤◌, nat_le, Bool, true, false, ◌&&◌, List, [], ◌∷◌}
+use Rattle.std.specs.Prelude.{◌≡◌, ℕ, nat_lt, Bool, true, false, ◌&&◌, not, List, [], ◌∷◌}
 use Rattle.std.specs.List.{AllByRecursion}
-use Rattle.isis_base.specs.declared.level.Level.{Level}
 use Rattle.model_router.specs.declared.lsp_case.LspCase.{LspCase}
 use Rattle.model_router.specs.declared.lsp_case.LspCase.TheVariants as lsp
 use Rattle.model_router.specs.declared.snp_case.SnpCase.{SnpCase}
@@ -11,7 +10,9 @@ use Rattle.flag_sync.specs.declared.heard.LspAnswer.{LspAnswer}
 use Rattle.flag_sync.specs.declared.heard.LspAnswer.TheVariants as answer
 use Rattle.isis_base.specs.declared.identifiers.LspId.{LspId}
 use Rattle.lsp_store.specs.declared.entry.Entry.{Entry}
+use Rattle.lsp_store.specs.Databases as store
 use Rattle.model_router.specs.Cells.{Cell}
+use Rattle.model_router.specs.Ranks.{is_live}
 use Rattle.model_router.specs.Sorted.{RisesFrom}
 use Rattle.model_router.specs.Books.{Book, cell_at}
 use Rattle.model_router.specs.LspTable.{met}
@@ -64,19 +65,6 @@ IsCalm r (Metric place metric) = Unit {0}
 IsCalm r (Overload on) = Unit {0}
 IsCalm r (Prefix prefix metric) = ⊥
 
--- the counts of changes of both levels are below their end
-pub record AreBelow (r : Router) : Type 0 where
-  pub on : (level : Level) → (book_of r level).changes < 2 ^ 64 - 1
-
--- no key of either level changed from one router to the other
-pub record SameCounts (r t : Router) : Type 0 where
-  pub on : (level : Level) → (book_of t level).changes ≡ (book_of r level).changes
-
--- no key of a level changed, and its count is below its end
-pub record Stands (r t : Router) (level : Level) : Type 0 where
-  pub below : (book_of r level).changes < 2 ^ 64 - 1
-  pub same : (book_of t level).changes ≡ (book_of r level).changes
-
 -- whether an event leaves one's own prefixes
 abbrev pub KeepsPrefixes : Event → Type 0
 KeepsPrefixes Second = Unit {0}
@@ -98,12 +86,20 @@ is_calm_answer answer.AckPurge = true
 
 -- ---- seconds
 
--- no entry's time ends within a second (ISO 10589 7.3.16.3)
+-- whether an entry is live, and its time ends within a second (ISO 10589 7.3.16.3)
+abbrev pub is_ending : Entry → Bool
+is_ending e = store.is_live e && nat_lt e.left 2
+
+-- the same of a cell
+abbrev pub is_ended : Cell → Bool
+is_ended cell = is_live cell.rank && nat_lt cell.left 2
+
+-- no live entry's time ends within a second (7.3.16.3)
 abbrev pub all_last : List (LspId × Entry) → Bool
 all_last [] = true
-all_last (pair ∷ entries) = nat_le 2 pair.1.left && all_last entries
+all_last (pair ∷ entries) = not (is_ending pair.1) && all_last entries
 
 -- the same of a book's cells, which are in order
 pub record AreLasting (book : Book) : Type 0 where
   pub rises : RisesFrom 0 book.cells
-  pub last : AllByRecursion (λ (pair : ℕ × Cell). 2 ≤ pair.1.left) book.cells
+  pub last : AllByRecursion (λ (pair : ℕ × Cell). is_ended pair.1 ≡ false) book.cells

@@ -7,6 +7,7 @@ pub mod Replies
 pub mod Reached
 pub mod Machines
 pub mod Sending
+pub mod Due
 pub mod Pulled
 pub mod PrefixLists
 pub mod Heard
@@ -17,7 +18,9 @@ pub mod LeakedUp
 pub mod Settled
 pub mod Reads
 pub mod Puts
+pub mod Shifts
 pub mod Plans
+pub mod LevelSeconds
 pub mod Asides
 pub mod Ways
 pub mod Refreshes

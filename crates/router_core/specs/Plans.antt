@@ -30,6 +30,7 @@ use Rattle.flag_sync.specs.declared.heard.LspAnswer.TheVariants as answer
 use Rattle.flag_sync.specs.declared.heard.LspHeard.{LspHeard}
 use Rattle.router_sending.specs.Drafts.{DraftView}
 use Rattle.router_levels.specs.Drafts.{AreAnswers, AreReady, IsAnswer, range_of}
+use Rattle.router_levels.specs.Views.{LevelView}
 use Rattle.router_desk.specs.declared.envelope.Envelope.{Envelope}
 use Rattle.router_desk.specs.Causes.{name_of}
 use Rattle.router_desk.specs.Opening.{envelope_of}
@@ -41,12 +42,14 @@ use Rattle.router_core.specs.declared.plan.Deed.TheVariants as deed
 use Rattle.router_core.specs.declared.plan.Plan.{Plan}
 use Rattle.router_core.specs.declared.told.Told.{Told}
 use Rattle.router_core.specs.declared.told.Told.TheVariants as told
+use Rattle.router_core.specs.Due.{IsDue}
 use Rattle.router_core.specs.Events.{change_of, FitsChange, IsThere}
 use Rattle.router_core.specs.Givens.{given}
 use Rattle.router_core.specs.Reached.{IsReached}
 use Rattle.router_core.specs.Replies.{Answers}
-use Rattle.router_core.specs.Seconds.{bare_later, level_later}
+use Rattle.router_core.specs.Seconds.{bare_later, later_or, level_later}
 use Rattle.router_core.specs.Settled.{AreTrue, faces}
+use Rattle.router_core.specs.Shifts.{AreMovedOn, AreRising}
 
 -- the row that an LSP meets (ISO 10589 7.3.15.1)
 abbrev pub row_met : Router → Level → LspHeard → LspCase
@@ -103,8 +106,8 @@ committed r (deed.Lsp circuit level lsp answer) =
 committed r (deed.Snp circuit level range entries drafts) =
     with_level r level (take_snp (scene_of given r level) (level_of r level) r.config.system
     (circuit - 1) (range_of range) (entries_of entries.now))
-committed r (deed.Pull circuit) = (step given r (model.Pull (circuit - 1))).router
-committed r (deed.Second circuits) = (step given r model.Second).router
+committed r (deed.Pull circuit due) = (step given r (model.Pull (circuit - 1))).router
+committed r (deed.Second circuits one two) = (step given r model.Second).router
 
 -- an LSP has room, and where it outbids one's own a draft of the answer is there (own)
 pub record IsLspReady (r : Router) (circuit : ℕ) (level : Level) (lsp : LspHeard)
@@ -126,19 +129,22 @@ pub record IsSnpReady (r : Router) (circuit : ℕ) (level : Level) (entries : Li
   pub ready : AreReady (is_some (at r.config.keys level)) (level_of r level).own entries drafts
   pub said : AreAnswers (at r.config.keys level) (scene_of given r level) entries drafts
 
--- a second of a level issues and purges none of its own LSPs, where these are copies of the circuits as they then are (own)
-abbrev pub IsCalmAt : Router → Level → List Circuit → Type 0
-IsCalmAt r level circuits =
+-- a level that was made anew, or else what a second makes of it in place, has issued and purged its own LSPs as they are wanted,
+-- where these are copies of the circuits as they then are (own)
+abbrev pub IsLaterAt : Router → Level → Option LevelView → List Circuit → Type 0
+IsLaterAt r level later circuits =
     (q : Router) → q.config ≡ r.config → faces q.circuits ≡ faces circuits
-    → level_later (level_of r level) level circuits
+    → later_or later (level_later (level_of r level) level circuits)
     ≡ renew given q level (level_later (level_of r level) level circuits) (wanted given r q level)
 
--- these are copies of the circuits a second later, and neither level issues or purges an own LSP then (own)
-pub record IsSecondReady (r : Router) (circuits : List Circuit) : Type 0 where
+-- these are copies of the circuits a second later, and each level that was made anew, of as many circuits, is what it is then (own)
+pub record IsSecondReady (r : Router) (circuits : List Circuit) (ones twos : Option LevelView) : Type 0 where
   pub later : circuits ≡ map bare_later r.circuits
   pub count : length circuits ≡ length r.circuits
-  pub one : IsCalmAt r level.One circuits
-  pub two : IsCalmAt r level.Two circuits
+  pub one : IsLaterAt r level.One ones circuits
+  pub two : IsLaterAt r level.Two twos circuits
+  pub fit_one : IfSome ones (λ on. on.book.circuits ≡ length r.circuits)
+  pub fit_two : IfSome twos (λ on. on.book.circuits ≡ length r.circuits)
 
 -- what a deed has is what it needs (own)
 abbrev pub IsReady : Router → Deed → Type 0
@@ -147,8 +153,8 @@ IsReady r (deed.Change change) = FitsChange r change × IsReached r
 IsReady r (deed.Lsp circuit level lsp answer) = IsLspReady r circuit level lsp answer
 IsReady r (deed.Snp circuit level range entries drafts) =
     IsSnpReady r circuit level entries.now drafts.items
-IsReady r (deed.Pull circuit) = IsThere r circuit × IsReached r
-IsReady r (deed.Second circuits) = IsSecondReady r circuits.items
+IsReady r (deed.Pull circuit due) = IsThere r circuit × IsReached r × IsDue r (circuit - 1) due
+IsReady r (deed.Second circuits one two) = IsSecondReady r circuits.items one two
 
 -- in one level, which is run, these nodes tell this, all others what they told, and all else stays (own)
 pub record AreMovedIn (old new : Outlook) (level : Level) (nodes : List NodeId)
@@ -162,12 +168,14 @@ pub record AreMovedIn (old new : Outlook) (level : Level) (nodes : List NodeId)
   pub each : NodesRise 0 nodes
   pub moved : AreMovedTo nodes told (at old.told level) (at new.told level)
 
--- nothing changes; or one node of one level, or some, tell these LSPs, or own prefixes are these, and all else stays (own)
+-- nothing changes; or one node of one level, or some, or some of both levels tell these LSPs, or own prefixes are these, and all
+-- else stays (own)
 abbrev pub AreTold : Outlook → Outlook → Told → Type 0
 AreTold old new told.Nothing = new ≡ old
 AreTold old new (told.Node m) = IsMovedAt old new m.level m.node (told_in m.aside.entries)
 AreTold old new (told.Nodes m) =
     AreMovedIn old new m.level m.nodes.items (told_in m.aside.entries)
+AreTold old new (told.Levels one two) = AreMovedOn old new one two
 AreTold old new (told.Prefixes own) = new ≡ record old { prefixes = prefixes_by own }
 
 -- nodes that are told stand in order, each once (own)
@@ -175,6 +183,7 @@ abbrev pub AreInOrder : Told → Type 0
 AreInOrder told.Nothing = Unit {0}
 AreInOrder (told.Node m) = Unit {0}
 AreInOrder (told.Nodes m) = NodesRise 0 m.nodes.items
+AreInOrder (told.Levels one two) = AreRising one × AreRising two
 AreInOrder (told.Prefixes own) = Unit {0}
 
 -- what a plan says is the machine's step (own)

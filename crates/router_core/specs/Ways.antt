@@ -26,8 +26,7 @@ pub record FitsHello (r : Router) (circuit : ℕ) (h : Hello) : Type 0 where
   pub there : IsThere r circuit
   pub kind : IfSome (nth r.circuits (circuit - 1)) (λ c. FitsKind c (hello_in h))
 
--- a plan is the event's; or the event is a hello that fits, or a second (own)
+-- a plan is the event's, or the event is a hello that fits (own)
 abbrev pub IsWay : Router → model.Event → Way → Type 0
 IsWay r event (way.Planned plan) = IsPlan r event plan
 IsWay r event (way.Hello circuit h) = (event ≡ hello_event circuit h) × FitsHello r circuit h
-IsWay r event way.Second = event ≡ model.Second

@@ -32,12 +32,12 @@ impl Machine {
                 entries,
                 drafts,
             } => self.hear_snp(circuit, level, range, entries, drafts),
-            Deed::Pull { circuit } => {
-                self.pulled(circuit);
+            Deed::Pull { circuit, due } => {
+                self.pulled(circuit, due);
                 Ok(())
             }
-            Deed::Second { circuits } => {
-                self.second_passed(&circuits);
+            Deed::Second { circuits, one, two } => {
+                self.second_passed(&circuits, one, two);
                 Ok(())
             }
         }

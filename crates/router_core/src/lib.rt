@@ -8,9 +8,9 @@
 //! - `router.rt`: the router; `event.rt`, `reply.rt`, `datagrams.rt`: events and answers
 //! - `machine.rt`: its parts, and what they have in common
 //! - `read.rt`: an event as what it says; `way.rt`, `plan.rt`, `plan_lsp.rt`, `plan_outbid.rt`, `plan_snp.rt`, `plan_change.rt`,
-//!   `plan_second.rt`: what will be done; `told.rt`, `snp_told.rt`, `aside.rt`, `refresh.rt`: what routes look at then;
-//!   `commit.rt`: that is done
-//! - `stepping.rt`, `routes.rt`: events without a plan: hellos in place, seconds on a copy, and the routes after those
+//!   `plan_second.rt`: what will be done; `told.rt`, `snp_told.rt`, `movers.rt`, `aside.rt`, `refresh.rt`: what routes look
+//!   at then; `commit.rt`: that is done
+//! - `stepping.rt`: hellos, which have no plan, in place; `routes.rt`: what routes look at
 //! - `making.rt`, `changes.rt`, `asked.rt`: how it starts, changes of its configuration, and what is
 //!   asked of it; `together.rt`: parts made together; `prefixes.rt`, `prefix_list.rt`: its own prefixes, in order
 //! - `taking.rt`: a hello is taken, or dropped; `hellos.rt`, `own.rt`: hellos; `levels.rt`, `take.rt`: LSPs; `snps.rt`: sequence
@@ -18,7 +18,7 @@
 //! - `wanted.rt`: drafts of own LSPs that are wanted
 //! - `second.rt`, `renewal.rt`, `quiet.rt`: a second; `marks.rt`, `faces.rt`: levels of which it is known that a
 //!   second issues nothing but for age
-//! - `pull.rt`, `pull_parts.rt`, `hello_sending.rt`, `sending.rt`: what is due is sent, planned too
+//! - `due.rt`: what is due on a circuit; `pull.rt`, `pull_parts.rt`, `hello_sending.rt`, `sending.rt`: what is due is sent, planned too
 //! - `at.rt`: one circuit of a list changes
 //! - `reached.rt`: what always holds, as laws; `laws.rt`: what follows for all routers
 #![tactic(auto)]
@@ -29,6 +29,7 @@ mod at;
 mod changes;
 mod commit;
 mod datagrams;
+mod due;
 mod event;
 mod faces;
 mod hello_sending;
@@ -38,6 +39,7 @@ mod levels;
 mod machine;
 mod making;
 mod marks;
+mod movers;
 mod own;
 mod plan;
 mod plan_change;

@@ -81,51 +81,6 @@ impl Machine {
     }
 }
 
-impl Machine {
-    /// An equal router.
-    pub(crate) fn copy(&self) -> Result<Machine, OutOfMemory>
-        ensures { IfOk result (λ machine. machine ≡ self.now) }
-    {
-        let levels = both(self.one.copy(), self.two.copy());
-        let parts = both(copies_of(self.alloc, &self.circuits), levels);
-        let own = both(
-            both(self.desk.copy(), self.areas.copy()),
-            self.prefixes.copy(),
-        );
-        match both(own, parts) {
-            Ok((((desk, areas), prefixes), (circuits, (one, two)))) => Ok(Machine {
-                alloc: self.alloc,
-                desk,
-                areas,
-                leak: self.leak,
-                overload: self.overload,
-                prefixes,
-                boot: self.boot,
-                circuits,
-                one,
-                two,
-                drops: self.drops,
-            }),
-            Err(error) => Err(error),
-        }
-    }
-}
-
-/// Equal circuits.
-fn copies_of(alloc: Global, circuits: &[Circuit]) -> Result<Vec<Circuit>, OutOfMemory>
-    ensures { IfOk result (λ list. list.items ≡ circuits.now) }
-{
-    let mut list = Vec::with_capacity(alloc, circuits.len())?;
-    for place in 0..circuits.len() {
-        let circuit = match circuits[place].copy() {
-            Ok(circuit) => circuit,
-            Err(error) => return Err(error),
-        };
-        list.push(circuit)?;
-    }
-    Ok(list)
-}
-
 /// The circuits of a configuration.
 fn circuits_of(alloc: Global, configs: &[CircuitConfig]) -> Result<Vec<Circuit>, OutOfMemory>
     ensures { IfOk result (λ list. list.items ≡ map circuit_of configs.now) }

@@ -14,6 +14,7 @@ ghost use Rattle.router_core.specs.Reads.{event_in, FitsHeard, FitsRead};
 ghost use Rattle.router_core.specs.Settled.{AreTrue};
 ghost use Rattle.router_core.specs.Ways.{IsWay};
 
+use crate::due::Due;
 use crate::machine::Machine;
 use crate::marks::Marks;
 use crate::read::Read;
@@ -24,12 +25,13 @@ use flag_sync::LspHeard;
 use isis_base::{Level, LspEntry, LspId, OutOfMemory};
 use router_circuits::Circuit;
 use router_desk::{Change, DropCause, Heard};
+use router_levels::LevelParts;
 use router_routes::Following;
 use router_sending::Draft;
 
 /// What is done: a datagram that is dropped is counted; the configuration changes; an LSP is taken, with a draft of the answer
 /// where it outbids one's own; a sequence number PDU is taken, with drafts of the own LSPs that it names; what was due on a circuit
-/// was sent; or a second passes in which no key changes, by copies of the circuits as they are then.
+/// was sent; or a second passes, by copies of the circuits as they are then, and each level as it is then where it was made anew.
 #[derive(Drop)]
 pub(crate) enum Deed<'a> {
     Dropped(DropCause),
@@ -49,9 +51,12 @@ pub(crate) enum Deed<'a> {
     },
     Pull {
         circuit: u8,
+        due: Due,
     },
     Second {
         circuits: Vec<Circuit>,
+        one: Option<LevelParts>,
+        two: Option<LevelParts>,
     },
 }
 
@@ -65,8 +70,7 @@ pub(crate) struct Plan<'a> {
 }
 
 impl Machine {
-    /// How an event that was read is done. Planned are changes, pulls, what is dropped, but for hellos, LSPs, sequence number
-    /// PDUs, and seconds in which no key changes.
+    /// How an event that was read is done. All is planned but hellos that aren't dropped.
     pub(crate) fn plan<'a>(
         &self,
         read: &'a Read<'a>,
@@ -80,7 +84,10 @@ impl Machine {
         ensures { IfOk result (IsWay self.now (event_in read.now)) }
     {
         match read {
-            Read::Second => self.way_of_second(following, marks),
+            Read::Second => {
+                let plan = self.plan_second(following, marks)?;
+                Ok(Way::Planned(plan))
+            }
             Read::Pull { circuit } => {
                 let plan = self.plan_pull(*circuit, marks)?;
                 Ok(Way::Planned(plan))
@@ -91,20 +98,6 @@ impl Machine {
             }
             Read::Refused { circuit: _, cause } => Ok(Way::Planned(self.plan_drop(*cause, marks))),
             Read::Heard { circuit, heard } => self.plan_heard(*circuit, heard, following, marks),
-        }
-    }
-
-    /// How a second is done.
-    fn way_of_second<'a>(&self, following: &Following, marks: Marks) -> Result<Way<'a>, OutOfMemory>
-        requires reached { IsReached self.now }
-        requires following { IsFollowing (outlook_of self.now) following.now }
-        requires marks { AreTrue marks self.now }
-        ensures { IfOk result (IsWay self.now model.Second) }
-    {
-        match self.plan_second(following, marks) {
-            Ok(Some(plan)) => Ok(Way::Planned(plan)),
-            Ok(None) => Ok(Way::Second),
-            Err(error) => Err(error),
         }
     }
 

@@ -1,84 +1,133 @@
-//! The plan of a second in which no key changes (own).
-ghost use Rattle.std.specs.Prelude.{◌≡◌, ◌≤◌, ℕ, true, List, Some, length, IfOk, IfSome};
+//! The plan of a second (own).
+ghost use Rattle.std.specs.Prelude.{◌≡◌, ◌≤◌, ℕ, true, List, None, Some, length, IfOk, IfSome};
 ghost use Rattle.std.specs.List.{AllByRecursion};
 ghost use Rattle.model_router.specs.Books.{cell_at};
-ghost use Rattle.model_router.specs.ContentLaws.{SameKey};
 ghost use Rattle.model_router.specs.Events as model;
 ghost use Rattle.model_router.specs.OwnLsps as own;
 ghost use Rattle.model_router.specs.Routers.{Circuit, Router, book_of, level_of};
-ghost use Rattle.model_router.specs.Steps.{step};
 ghost use Rattle.model_router.specs.Wanted as wants;
 ghost use Rattle.flag_sync.specs.BookStates as books;
-ghost use Rattle.router_routes.specs.Outlooks.{outlook_of};
+ghost use Rattle.router_routes.specs.Outlooks.{Outlook, outlook_of};
 ghost use Rattle.router_routes.specs.Following.{IsFollowing};
-ghost use Rattle.router_core.specs.Calm.{all_last, AreLasting};
+ghost use Rattle.router_core.specs.Asides.{seen};
+ghost use Rattle.router_core.specs.Calm.{all_last, AreLasting, is_ending};
 ghost use Rattle.router_core.specs.Givens.{given};
 ghost use Rattle.router_core.specs.Machines.{IsFit};
-ghost use Rattle.router_core.specs.Plans.{IsPlan, IsSecondReady};
+ghost use Rattle.router_core.specs.LevelSeconds.{IsLevelSecond};
+ghost use Rattle.router_core.specs.Plans.{AreTold, IsPlan};
 ghost use Rattle.router_core.specs.Reached.{IsReached};
 ghost use Rattle.router_core.specs.Seconds.{level_later};
 ghost use Rattle.router_core.specs.Settled.{AreTrue, IsSettled, IsSettledAt, faces};
+ghost use Rattle.router_core.specs.Shifts.{AreMovedOn};
 
 use crate::faces::keep_faces;
 use crate::machine::Machine;
 use crate::marks::Marks;
+use crate::movers::Movers;
 use crate::plan::{Deed, Plan};
 use crate::quiet::{is_quiet, is_settled};
-use crate::renewal::pass_in_place;
 use crate::reply::Reply;
-use crate::second::{circuits_later, idle_all, pass_circuits};
+use crate::second::circuits_later;
 use crate::told::Told;
 use flag_sync::Book;
 use isis_base::{Level, OutOfMemory};
-use lsp_store::{Entry, Pairs};
+use lsp_store::{Entry, Pairs, is_live};
 use router_circuits::Circuit;
+use router_levels::LevelParts;
 use router_routes::Following;
 
+/// What a second makes of a level: it passes in place, or else `later` stands in the level's place; these nodes tell other things
+/// then; and where it is `settled`, its own LSPs say what is then wanted.
+#[derive(Drop)]
+struct LevelSecond {
+    later: Option<LevelParts>,
+    movers: Option<Movers>,
+    settled: bool,
+}
+
 impl Machine {
-    /// The plan of a second; `None` where an own LSP is to be issued or purged in it, or an entry's time ends. What is wanted
-    /// is made only for levels that aren't marked (own).
+    /// The plan of a second. What is wanted is made only for levels that aren't marked, and a level is copied only where one
+    /// of its own LSPs is to be issued or purged, or a live entry's time ends (own).
     pub(crate) fn plan_second<'a>(
         &self,
         following: &Following,
         marks: Marks,
-    ) -> Result<Option<Plan<'a>>, OutOfMemory>
+    ) -> Result<Plan<'a>, OutOfMemory>
         requires reached { IsReached self.now }
         requires following { IsFollowing (outlook_of self.now) following.now }
         requires marks { AreTrue marks self.now }
-        ensures { IfOk result (λ o. IfSome o (IsPlan self.now model.Second)) }
+        ensures { IfOk result (IsPlan self.now model.Second) }
     {
         let circuits = circuits_later(self.alloc, &self.circuits)?;
         let keeps = keep_faces(&self.circuits, &circuits);
-        let one = match self.calm_level(&circuits, Level::One, following, keeps && marks.one) {
-            Ok(Some(one)) => one,
-            Ok(None) => return Ok(None),
-            Err(error) => return Err(error),
+        let one = self.level_second(&circuits, Level::One, following, keeps && marks.one)?;
+        let two = match self.level_second(&circuits, Level::Two, following, keeps && marks.two) {
+            Ok(two) => two,
+            Err(error) => {
+                drop(one);
+                return Err(error);
+            }
         };
-        let two = match self.calm_level(&circuits, Level::Two, following, keeps && marks.two) {
-            Ok(Some(two)) => two,
-            Ok(None) => return Ok(None),
-            Err(error) => return Err(error),
+        let settled = Marks {
+            one: one.settled,
+            two: two.settled,
         };
-        Ok(Some(Plan {
-            deed: Deed::Second { circuits },
+        let (told, marks) = told_of(one.movers, two.movers, settled);
+        Ok(Plan {
+            deed: Deed::Second {
+                circuits,
+                one: one.later,
+                two: two.later,
+            },
             reply: Reply::Done,
-            told: Told::Nothing,
-            marks: Marks { one, two },
-        }))
+            told,
+            marks,
+        })
     }
 
-    /// A second passes, as it was planned by these copies of the circuits.
-    pub(crate) fn second_passed(&mut self, circuits: &[Circuit])
-        requires { IsSecondReady self.old circuits.now }
-        ensures { self.new ≡ (step given self.old model.Second).router }
+    /// What a second makes of a level, with the circuits as they then are. Where it is marked and the circuits say what they
+    /// said, only ages are looked at.
+    fn level_second(
+        &self,
+        circuits: &[Circuit],
+        level: Level,
+        following: &Following,
+        marked: bool,
+    ) -> Result<LevelSecond, OutOfMemory>
+        requires few { length circuits.now ≤ 64 }
+        requires fit { AllByRecursion IsFit circuits.now }
+        requires same { length circuits.now ≡ length self.now.circuits }
+        requires following { IsFollowing (outlook_of self.now) following.now }
+        requires marked { marked ≡ true
+            → IsSettledAt self.now level × (faces circuits.now ≡ faces self.now.circuits) }
+        ensures { IfOk result (IsLevelSecond self.now level circuits.now) }
     {
-        pass_in_place(&mut self.one, circuits, Level::One);
-        pass_in_place(&mut self.two, circuits, Level::Two);
-        pass_circuits(&mut self.circuits);
-        idle_all(&mut self.circuits, self.desk.system());
+        match self.calm_level(circuits, level, following, marked) {
+            Ok(Some(settled)) => {
+                return Ok(LevelSecond {
+                    later: None,
+                    movers: None,
+                    settled,
+                });
+            }
+            Ok(None) => {}
+            Err(error) => return Err(error),
+        }
+        let later = self.level_renewed(circuits, level, following)?;
+        match self.movers_to(level, &later) {
+            Ok(movers) => Ok(LevelSecond {
+                later: Some(later),
+                movers,
+                settled: false,
+            }),
+            Err(error) => {
+                drop(later);
+                Err(error)
+            }
+        }
     }
 
-    /// Whether none of a level's own LSPs is to be issued or purged within a second, and no entry's time
+    /// Whether none of a level's own LSPs is to be issued or purged within a second, and no live entry's time
     /// ends, with the circuits as they then are: then whether its own LSPs say what is then wanted, and
     /// else `None`. Where it is marked and the circuits say what they said, only ages are looked at.
     fn calm_level(
@@ -99,9 +148,9 @@ impl Machine {
             level_later (level_of self.now level) level circuits.now ≡ own.renew given r
             level (level_later (level_of self.now level) level circuits.now)
             (wants.wanted given self.now r level))) }
-        ensures keys { IfOk result (λ o. IfSome o (λ settled. (list : List Circuit) (id : ℕ)
-            → SameKey (cell_at (book_of self.now level) id)
-            (cell_at (level_later (level_of self.now level) level list).book id))) }
+        ensures seen { IfOk result (λ o. IfSome o (λ settled. (list : List Circuit) (id : ℕ)
+            → seen (cell_at (level_later (level_of self.now level) level list).book id)
+            ≡ seen (cell_at (book_of self.now level) id))) }
         ensures settled { (r : Router) → r.config ≡ self.now.config
             → faces r.circuits ≡ faces circuits.now → IfOk result (λ o. o ≡ Some true
             → IsSettled (level_of self.now level).own (wants.wanted given self.now r level)) }
@@ -127,7 +176,19 @@ impl Machine {
     }
 }
 
-/// Whether no entry's time ends within a second (ISO 10589 7.3.16.3).
+/// What is told once these nodes of both levels tell other things, and the marks as they will be: none where any does.
+fn told_of(one: Option<Movers>, two: Option<Movers>, marks: Marks) -> (Told, Marks)
+    ensures told { (old new : Outlook) → AreMovedOn old new one two → AreTold old new result.0 }
+    ensures marks { (r : Router) → (one ≡ None → two ≡ None → AreTrue marks r)
+        → AreTrue result.1 r }
+{
+    match (one, two) {
+        (None, None) => (Told::Nothing, marks),
+        (one, two) => (Told::Levels { one, two }, Marks::none()),
+    }
+}
+
+/// Whether no live entry's time ends within a second (ISO 10589 7.3.16.3).
 fn lasts(book: &Book) -> bool
     ensures { result ≡ true → AreLasting (books.book_of book.now) }
 {
@@ -140,9 +201,16 @@ fn all_last(mut entries: Pairs<'_, Entry>) -> bool
     ensures { result ≡ all_last entries.entry }
 {
     while let Some((_, entry)) = entries.next() {
-        if entry.left < 2 {
+        if is_ending(entry) {
             return false;
         }
     }
     true
+}
+
+/// Whether an entry is live, and its time ends within a second (ISO 10589 7.3.16.3).
+fn is_ending(entry: &Entry) -> bool
+    ensures { result ≡ is_ending entry.now }
+{
+    is_live(entry) && entry.left < 2
 }

@@ -6,10 +6,12 @@ ghost use Rattle.model_router.specs.Pulls as pulls;
 ghost use Rattle.model_router.specs.Routers.{book_of, with_book, with_circuit};
 ghost use Rattle.model_router.specs.SnpLists.{owed};
 ghost use Rattle.flag_sync.specs.BookStates as books;
+ghost use Rattle.router_core.specs.Due.{IsDueAt};
 ghost use Rattle.router_core.specs.Events.{IsThere};
 ghost use Rattle.router_core.specs.Pulled as pulled;
 
 use crate::at::{answer_sent_at, csnp_sent_at, hello_sent_at};
+use crate::due::LevelDue;
 use crate::machine::Machine;
 use flag_sync::Book;
 use isis_base::Level;
@@ -79,87 +81,58 @@ impl Machine {
         }
     }
 
-    /// Whether PSNPs of a level are due on a circuit (ISO 10589 7.3.15.4).
-    pub(crate) fn psnps_are_due(&self, circuit: u8, level: Level) -> bool
-        requires { IsThere self.now circuit }
-        ensures { IfSome (nth self.now.circuits (circuit - 1)) (λ c. result
-            ≡ (nat_lt 0 (length (owed (circuit - 1) (book_of self.now level)))
-            && (at c.levels level).psnp == 0)) }
-    {
-        is_owed(self.book(level), circuit)
-            && self.circuits[usize::from(circuit) - 1].may_answer(level)
-    }
-
-    /// Whether a CSNP set of a level is due on a circuit (ISO 10589 7.3.15.3, 7.3.17).
-    pub(crate) fn csnps_are_due(&self, circuit: u8, level: Level) -> bool
-        requires { IsThere self.now circuit }
-        ensures { IfSome (nth self.now.circuits (circuit - 1)) (λ c. result
-            ≡ pulls.is_csnp_due self.now.config (circuit - 1) c level) }
-    {
-        let system = self.desk.system();
-        self.circuits[usize::from(circuit) - 1].is_csnp_due(system, circuit, level)
-    }
-
-    /// Whether a hello is due on a circuit (ISO 10589 8.2.3, 8.4.1).
-    pub(crate) fn hello_is_due(&self, circuit: u8) -> bool
-        requires { IsThere self.now circuit }
-        ensures { IfSome (nth self.now.circuits (circuit - 1)) (λ c. result ≡ (c.hello == 0)) }
-    {
-        self.circuits[usize::from(circuit) - 1].hello_is_due()
-    }
-
     /// A hello was sent, where one was due.
-    pub(crate) fn hello_gone(&mut self, circuit: u8)
-        requires { IsThere self.old circuit }
+    pub(crate) fn hello_gone(&mut self, circuit: u8, due: bool)
+        requires there { IsThere self.old circuit }
+        requires due { IfSome (nth self.old.circuits (circuit - 1)) (λ c. due ≡ (c.hello == 0)) }
         ensures { self.new ≡ pulled.after_hello self.old (circuit - 1) }
     {
-        if self.hello_is_due(circuit) {
+        if due {
             self.hello_sent(circuit);
         }
     }
 
     /// A level's CSNP set was sent, where it was due.
-    fn csnps_gone(&mut self, circuit: u8, level: Level)
-        requires { IsThere self.old circuit }
+    fn csnps_gone(&mut self, circuit: u8, level: Level, due: bool)
+        requires there { IsThere self.old circuit }
+        requires due { IfSome (nth self.old.circuits (circuit - 1))
+            (λ c. due ≡ pulls.is_csnp_due self.old.config (circuit - 1) c level) }
         ensures { self.new ≡ pulled.after_csnps self.old (circuit - 1) level }
     {
-        if self.csnps_are_due(circuit, level) {
+        if due {
             self.csnps_sent(circuit, level);
         }
     }
 
     /// A level's PSNPs were sent, where they were due.
-    fn psnps_gone(&mut self, circuit: u8, level: Level)
-        requires { IsThere self.old circuit }
+    fn psnps_gone(&mut self, circuit: u8, level: Level, due: bool)
+        requires there { IsThere self.old circuit }
+        requires due { IfSome (nth self.old.circuits (circuit - 1)) (λ c. due
+            ≡ (nat_lt 0 (length (owed (circuit - 1) (book_of self.old level)))
+            && (at c.levels level).psnp == 0)) }
         ensures { self.new ≡ pulled.after_psnps self.old (circuit - 1) level }
     {
-        if self.psnps_are_due(circuit, level) {
+        if due {
             self.answer_sent(circuit, level);
             self.answered(circuit, level);
         }
     }
 
     /// What was due of a level on a circuit was sent, where the circuit is open on it.
-    pub(crate) fn level_gone(&mut self, circuit: u8, level: Level)
-        requires { IsThere self.old circuit }
+    pub(crate) fn level_gone(&mut self, circuit: u8, level: Level, due: LevelDue)
+        requires there { IsThere self.old circuit }
+        requires due { IsDueAt self.old (circuit - 1) level due }
         ensures { self.new ≡ pulled.after_level self.old (circuit - 1) level }
     {
-        if self.book(level).is_open(circuit) {
-            self.csnps_gone(circuit, level);
+        let LevelDue {
+            opened,
+            csnps,
+            psnps,
+        } = due;
+        if opened {
+            self.csnps_gone(circuit, level, csnps);
             self.lsps_sent(circuit, level);
-            self.psnps_gone(circuit, level);
+            self.psnps_gone(circuit, level, psnps);
         }
-    }
-}
-
-/// Whether something is owed on a circuit.
-fn is_owed(book: &Book, circuit: u8) -> bool
-    requires { books.IsCircuit circuit book.now.circuits }
-    ensures { result ≡ nat_lt 0 (length (owed (circuit - 1) (books.book_of book.now))) }
-{
-    let mut owed = book.said_owed(circuit);
-    match owed.next() {
-        Some(_) => true,
-        None => false,
     }
 }

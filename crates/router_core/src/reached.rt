@@ -10,11 +10,8 @@ ghost use Rattle.router_desk.specs.Configs.{config_of, circuits_of};
 ghost use Rattle.router_desk.specs.Limits.{IsValid};
 ghost use Rattle.router_core.specs.declared.event.NodeEvent as node;
 ghost use Rattle.model_router.specs.Events.{Event};
-ghost use Rattle.isis_base.specs.declared.level.Level as level;
-ghost use Rattle.spf_repair.specs.Changes.{RepairedOf};
 ghost use Rattle.router_routes.specs.Outlooks.{outlook_of};
-ghost use Rattle.router_routes.specs.Following.{IsLevel};
-ghost use Rattle.router_core.specs.Calm.{AreBelow, IsCalm, KeepsPrefixes, SameCounts, Stands};
+ghost use Rattle.router_core.specs.Calm.{IsCalm};
 ghost use Rattle.router_core.specs.Events.{event_of, Fits};
 ghost use Rattle.router_core.specs.Givens.{given};
 ghost use Rattle.router_core.specs.Heard.{HasOctets};
@@ -43,19 +40,10 @@ pub(crate) fn reached_laws()
         → HasOctets event → IsReached (step given r (event_of r event)).router }
 {}
 
-/// What routes look at stays where no key and no own prefix changes, and an event that is calm changes
-/// none.
+/// What routes look at stays at an event that is calm: it changes no key and no own prefix.
 pub(crate) fn outlook_laws()
-    ensures stays { (r : model.Router) (event : Event) → IsReached r → AreBelow r
-        → SameCounts r (step given r event).router → KeepsPrefixes event
-        → outlook_of (step given r event).router ≡ outlook_of r }
     ensures calm { (r : model.Router) (event : Event) → IsReached r → IsCalm r event
         → outlook_of (step given r event).router ≡ outlook_of r }
-    ensures level { (r : model.Router) (event : Event) (l : level.Level) (d : RepairedOf)
-        → IsReached r → Stands r (step given r event).router l → IsLevel (outlook_of r) l d
-        → IsLevel (outlook_of (step given r event).router) l d }
-    ensures system { (r : model.Router) (event : Event)
-        → (step given r event).router.config.system ≡ r.config.system }
 {}
 
 /// The octets of what is taken are octets.

@@ -18,7 +18,6 @@ ghost use Rattle.router_core.specs.Settled.{faces};
 ghost use Rattle.router_core.specs.Seconds.{follow_first, later_or, level_later, IsMade};
 
 use crate::machine::Machine;
-use crate::quiet::is_quiet;
 use isis_base::{Level, OutOfMemory};
 use router_circuits::Circuit;
 use router_levels::{LevelParts, Wants};
@@ -67,35 +66,28 @@ impl Machine {
         )
     }
 
-    /// A level a second later, with the circuits as they then are, where one of its own LSPs is to
-    /// be issued or purged; `None` where none is. So a level is copied in such seconds alone (own).
+    /// A copy of a level a second later, with the circuits as they then are, once its own LSPs are issued and purged as they
+    /// are wanted then.
     pub(crate) fn level_renewed(
         &self,
         circuits: &[Circuit],
         level: Level,
         following: &Following,
-    ) -> Result<Option<LevelParts>, OutOfMemory>
+    ) -> Result<LevelParts, OutOfMemory>
         requires few { length circuits.now ≤ 64 }
         requires fit { AllByRecursion IsFit circuits.now }
         requires same { length circuits.now ≡ length self.now.circuits }
         ensures state { (before r : Router) → IsFollowing (outlook_of before) following.now
             → r.config ≡ self.now.config
-            → faces r.circuits ≡ faces circuits.now → IfOk result (λ later. later_or later
-            (level_later (level_of self.now level) level circuits.now) ≡ own.renew given r
-            level (level_later (level_of self.now level) level circuits.now)
+            → faces r.circuits ≡ faces circuits.now → IfOk result (λ later. state_of later
+            ≡ own.renew given r level (level_later (level_of self.now level) level circuits.now)
             (model.wanted given before r level)) }
-        ensures circuits { IfOk result (λ later. IfSome later
-            (λ on. on.book.circuits ≡ length self.now.circuits)) }
+        ensures circuits { IfOk result
+            (λ later. later.book.circuits ≡ length self.now.circuits) }
     {
         let wanted = self.wanted_with(circuits, level, following)?;
-        let mut own = self.level(level).own().copy()?;
-        own.second();
-        if is_quiet(&own, &wanted) {
-            return Ok(None);
-        }
         let wants = drafts_of(self.alloc, self.level_key(level), level, wanted)?;
-        let later = self.level_later(circuits, level, wants)?;
-        Ok(Some(later))
+        self.level_later(circuits, level, wants)
     }
 
     /// A copy of a level a second later, with the circuits as they then are and by these drafts of
@@ -146,7 +138,7 @@ pub(crate) fn pass(
 }
 
 /// A second of a level, with the circuits as they then are, before its own LSPs are followed.
-pub(crate) fn pass_in_place(on: &mut LevelParts, circuits: &[Circuit], level: Level)
+fn pass_in_place(on: &mut LevelParts, circuits: &[Circuit], level: Level)
     requires few { length circuits.now ≤ 64 }
     requires same { on.old.book.circuits ≡ length circuits.now }
     ensures state { state_of on.new ≡ level_later (state_of on.old) level circuits.now }

@@ -8,7 +8,6 @@ ghost use Rattle.model_router.specs.Numbers.{system_number};
 ghost use Rattle.router_core.specs.Designated.{designated_system};
 ghost use Rattle.router_core.specs.NamedBoots.{named_boot};
 ghost use Rattle.model_router.specs.AdjacencyLaws.{opens, place_of};
-ghost use Rattle.model_router.specs.Events as model_event;
 ghost use Rattle.model_router.specs.Steps.{step};
 ghost use Rattle.model_router.specs.Starts.{start};
 ghost use Rattle.flag_sync.specs.BookStates.{book_of as book_in};
@@ -138,7 +137,6 @@ impl Router {
         match self.machine.plan(&read, &self.following, self.marks)? {
             Way::Planned(plan) => self.step_planned(plan),
             Way::Hello { circuit, hello } => self.step_hello(circuit, &hello),
-            Way::Second => self.step_second(),
         }
     }
 
@@ -208,29 +206,6 @@ impl Router {
         match self.machine.step_hello(circuit, hello, &mut self.marks) {
             Ok(reply) => Ok(reply),
             Err(error) => Err(error),
-        }
-    }
-
-    /// A second of which there is no plan passes on a copy, so that nothing is lost where the routes want memory.
-    fn step_second(&mut self) -> Result<Reply, OutOfMemory>
-        requires { IsReached (step given self.old model_event.Second).router }
-        ensures state { OnOk result (self.new ≡ (step given self.old model_event.Second).router) }
-        ensures reply { IfOk result (λ reply. Answers self.new (place_of model_event.Second)
-            (step given self.old model_event.Second).reply reply) }
-        ensures reached { OnOk result (IsReached self.new) }
-        ensures err { OnErr result (self.new ≡ self.old) }
-    {
-        let machine = self.machine.second_later(&self.following)?;
-        match machine.follow_routes(&mut self.following, &self.machine) {
-            Ok(()) => {
-                put_machine(&mut self.machine, machine);
-                self.marks = Marks::none();
-                Ok(Reply::Done)
-            }
-            Err(error) => {
-                drop(machine);
-                Err(error)
-            }
         }
     }
 
@@ -350,13 +325,6 @@ impl Router {
     {
         self.machine.prefix_count()
     }
-}
-
-/// Another machine takes a machine's place.
-fn put_machine(machine: &mut Machine, next: Machine)
-    ensures { machine.new ≡ next }
-{
-    *machine = next;
 }
 
 /// What comes stands in the place of what follows the router, where anything comes.

@@ -1,17 +1,15 @@
 //! A second of a router.
-ghost use Rattle.std.specs.Prelude.{◌≡◌, ◌≤◌, length, map, IfOk, OnOk, OnErr};
+ghost use Rattle.std.specs.Prelude.{◌≡◌, ◌≤◌, length, map, IfOk};
 ghost use Rattle.std.specs.List.{AllByRecursion};
 ghost use Rattle.model_router.specs.Configs.{Config};
 ghost use Rattle.model_router.specs.Elections as elections;
-ghost use Rattle.model_router.specs.Events.{Done, settled};
-ghost use Rattle.model_router.specs.Seconds.{second};
+ghost use Rattle.model_router.specs.Events as model;
+ghost use Rattle.model_router.specs.Steps.{step};
 ghost use Rattle.model_router.specs.Numbers.{system_number};
 ghost use Rattle.router_desk.specs.Desks.{desk_circuit};
-ghost use Rattle.router_routes.specs.Outlooks.{outlook_of};
-ghost use Rattle.router_routes.specs.Following.{IsFollowing};
 ghost use Rattle.router_core.specs.Givens.{given};
 ghost use Rattle.router_core.specs.Machines.{IsFit};
-ghost use Rattle.router_core.specs.Reached.{IsReached};
+ghost use Rattle.router_core.specs.Plans.{IsSecondReady};
 ghost use Rattle.router_core.specs.Seconds.{bare_later, later};
 
 use crate::at::{idle_at, second_at};
@@ -19,27 +17,25 @@ use crate::machine::Machine;
 use crate::renewal::pass;
 use isis_base::{Level, OutOfMemory, SystemId};
 use router_circuits::Circuit;
-use router_routes::Following;
+use router_levels::LevelParts;
 use std::alloc::Global;
 
 impl Machine {
-    /// A second (ISO 10589 7.3.5, 7.3.15.3 to 7.3.15.5, 7.3.16.3, 8.2.3 to 8.2.5, 8.4.1, 8.4.2). At
-    /// `OutOfMemory` the router is as it was.
-    pub(crate) fn second(&mut self, following: &Following) -> Result<(), OutOfMemory>
-        requires reached { IsReached self.old }
-        requires following { IsFollowing (outlook_of self.old) following.now }
-        ensures state { OnOk result (self.new ≡ (settled
-            (record { router = second given self.old; reply = Done })).router) }
-        ensures err { OnErr result (self.new ≡ self.old) }
+    /// A second passes (ISO 10589 7.3.5, 7.3.15.3 to 7.3.15.5, 7.3.16.3, 8.2.3 to 8.2.5, 8.4.1, 8.4.2), as it was planned by
+    /// these copies of the circuits, and of each level where it was made anew.
+    pub(crate) fn second_passed(
+        &mut self,
+        circuits: &[Circuit],
+        one: Option<LevelParts>,
+        two: Option<LevelParts>,
+    )
+        requires { IsSecondReady self.old circuits.now one two }
+        ensures { self.new ≡ (step given self.old model.Second).router }
     {
-        let circuits = circuits_later(self.alloc, &self.circuits)?;
-        let one = self.level_renewed(&circuits, Level::One, following)?;
-        let two = self.level_renewed(&circuits, Level::Two, following)?;
-        pass(&mut self.one, one, &circuits, Level::One);
-        pass(&mut self.two, two, &circuits, Level::Two);
+        pass(&mut self.one, one, circuits, Level::One);
+        pass(&mut self.two, two, circuits, Level::Two);
         pass_circuits(&mut self.circuits);
         idle_all(&mut self.circuits, self.desk.system());
-        Ok(())
     }
 }
 

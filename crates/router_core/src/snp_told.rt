@@ -209,7 +209,11 @@ fn nodes_apart(
 }
 
 /// These nodes in order, with one more.
-fn with_node(alloc: Global, nodes: &[NodeId], node: NodeId) -> Result<Vec<NodeId>, OutOfMemory>
+pub(crate) fn with_node(
+    alloc: Global,
+    nodes: &[NodeId],
+    node: NodeId,
+) -> Result<Vec<NodeId>, OutOfMemory>
     ensures { IfOk result (λ list. list.items ≡ with_node nodes.now node) }
 {
     let mut list = match Vec::with_capacity(alloc, nodes.len() + 1) {
@@ -258,7 +262,7 @@ fn with_all(mut list: Vec<NodeId>, nodes: &[NodeId]) -> Result<Vec<NodeId>, OutO
 }
 
 /// The LSPs that are held of these nodes.
-fn parts_of(alloc: Global, store: &Store, nodes: &[NodeId]) -> Result<Store, OutOfMemory>
+pub(crate) fn parts_of(alloc: Global, store: &Store, nodes: &[NodeId]) -> Result<Store, OutOfMemory>
     ensures { IfOk result (λ parts. parts.entries ≡ with_parts store.now.entries [] nodes.now) }
 {
     let mut parts = Store::new(alloc);

@@ -1,10 +1,8 @@
-//! Events that have no plan: hellos, in place, and seconds, on a copy.
+//! Hellos, which have no plan, in place.
 ghost use Rattle.std.specs.Prelude.{◌≡◌, ◌-◌, true, Some, IfOk, IfSome, OnOk, OnErr};
-ghost use Rattle.model_router.specs.Events as model;
 ghost use Rattle.model_router.specs.Steps.{step};
 ghost use Rattle.adjacency.specs.Views.{point_of};
 ghost use Rattle.router_routes.specs.Outlooks.{outlook_of};
-ghost use Rattle.router_routes.specs.Following.{IsFollowing};
 ghost use Rattle.router_core.specs.Givens.{given};
 ghost use Rattle.router_core.specs.Reached.{IsReached};
 ghost use Rattle.router_core.specs.Replies.{Answers};
@@ -19,7 +17,6 @@ use crate::reply::Reply;
 use crate::way::Hello;
 use adjacency::P2pAdj;
 use isis_base::OutOfMemory;
-use router_routes::Following;
 
 impl Machine {
     /// A hello is taken in place: none changes what routes look at. At `OutOfMemory` the router is as it was. Marks stay true.
@@ -61,22 +58,6 @@ impl Machine {
         match self.circuits.get(place) {
             Some(circuit) => circuit.point().copied(),
             None => None,
-        }
-    }
-
-    /// A copy after a second.
-    pub(crate) fn second_later(&self, following: &Following) -> Result<Machine, OutOfMemory>
-        requires reached { IsReached self.now }
-        requires following { IsFollowing (outlook_of self.now) following.now }
-        ensures { IfOk result (λ machine. machine ≡ (step given self.now model.Second).router) }
-    {
-        let mut machine = self.copy()?;
-        match machine.second(following) {
-            Ok(()) => Ok(machine),
-            Err(error) => {
-                drop(machine);
-                Err(error)
-            }
         }
     }
 }

@@ -1,16 +1,20 @@
 //! What routes will look at once an event is done.
-ghost use Rattle.std.specs.Prelude.{◌≡◌, IfOk, MatchOption};
+ghost use Rattle.std.specs.Prelude.{◌≡◌, Bool, List, IfOk, MatchOption};
+ghost use Rattle.isis_base.specs.declared.identifiers.LspId as ids;
+ghost use Rattle.lsp_store.specs.declared.entry.Entry as entries;
 ghost use Rattle.model_router.specs.Routers.{Router};
 ghost use Rattle.router_routes.specs.Outlooks.{Outlook, outlook_of, prefixes_by};
 ghost use Rattle.router_routes.specs.Following.{IsFollowing};
 ghost use Rattle.router_routes.specs.Coming.{IsComing};
-ghost use Rattle.router_routes.specs.Moved.{AreMoved, IsInOrder, NodesRise};
+ghost use Rattle.router_routes.specs.Moved.{AreMoved, IsInOrder, IsMovedBy, NodesRise};
 ghost use Rattle.router_core.specs.declared.told.Told.TheVariants as told;
 ghost use Rattle.router_core.specs.Plans.{AreTold, AreInOrder};
 ghost use Rattle.router_core.specs.Puts.{IsWith};
+ghost use Rattle.router_core.specs.Shifts.{AreRising, IsMovedOn};
 
 use crate::aside::node_with;
 use crate::machine::Machine;
+use crate::movers::Movers;
 use crate::prefixes::OwnPrefixes;
 use crate::routes::has_rows;
 use isis_base::laws::lsp_id_law;
@@ -18,12 +22,17 @@ use isis_base::{Level, LspId, NodeId, OutOfMemory};
 use lsp_store::{Entry, Store};
 use router_routes::{Coming, Following, Moved};
 
-/// What an event changes of what routes look at: nothing, what one node tells in a level, or some do, or one's own prefixes.
+/// What an event changes of what routes look at: nothing, what one node tells in a level, or some do in a level, or in both, or
+/// one's own prefixes.
 #[derive(Drop)]
 pub(crate) enum Told {
     Nothing,
     Node(Moving),
     Nodes(MovingNodes),
+    Levels {
+        one: Option<Movers>,
+        two: Option<Movers>,
+    },
     Prefixes(OwnPrefixes),
 }
 
@@ -95,6 +104,10 @@ impl Machine {
                 let lent = self.lent()?;
                 following.after(&lent, &told_by(moving))
             }
+            Told::Levels { one, two } => {
+                let lent = self.lent()?;
+                following.after(&lent, &told_by_both(one, two))
+            }
             Told::Prefixes(own) => self.following_with(following, own),
         }
     }
@@ -137,5 +150,34 @@ fn told_by<'a>(moving: &'a MovingNodes) -> router_routes::Told<'a>
             two: moved,
             prefixes: None,
         },
+    }
+}
+
+/// What nodes of both levels will tell, in the routes' words.
+fn told_by_both<'a>(one: &'a Option<Movers>, two: &'a Option<Movers>) -> router_routes::Told<'a>
+    ensures moved { (old new : Outlook) → AreTold old new (told.Levels one.now two.now)
+        → AreMoved old new result }
+    ensures one { AreRising one.now → IsInOrder result.one }
+    ensures two { AreRising two.now → IsInOrder result.two }
+{
+    router_routes::Told {
+        one: moved_by(one),
+        two: moved_by(two),
+        prefixes: None,
+    }
+}
+
+/// The same of a level.
+fn moved_by(movers: &Option<Movers>) -> Option<Moved<'_>>
+    ensures moved { (runs : Bool) (old new : List (ids.LspId × entries.Entry))
+        → IsMovedOn movers.now runs old new → IsMovedBy result runs old new }
+    ensures order { AreRising movers.now → IsInOrder result }
+{
+    match movers {
+        None => None,
+        Some(movers) => Some(Moved {
+            nodes: movers.nodes.as_slice(),
+            aside: &movers.aside,
+        }),
     }
 }

@@ -1,4 +1,4 @@
-//! How an event is done: by a plan, in place, or on a copy (own).
+//! How an event is done: by a plan, or in place (own).
 use crate::plan::Plan;
 use isis_base::Level;
 use router_desk::HelloHeard;
@@ -10,11 +10,9 @@ pub(crate) enum Hello<'a> {
     Lan(Level, &'a HelloHeard),
 }
 
-/// How an event is done: as it was planned; a hello that came on a circuit, in place; or a second of which there is no plan, on a
-/// copy.
+/// How an event is done: as it was planned, or a hello that came on a circuit, in place.
 #[derive(Drop)]
 pub(crate) enum Way<'a> {
     Planned(Plan<'a>),
     Hello { circuit: u8, hello: Hello<'a> },
-    Second,
 }

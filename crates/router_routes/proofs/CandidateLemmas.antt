@@ -19,7 +19,7 @@ use Rattle.router_routes.specs.declared.lent.Lent.{Lent}
 use Rattle.router_routes.specs.declared.view.View.{View}
 use Rattle.router_routes.specs.Moved.{told_of, outlook_at}
 use Rattle.spf_repair.specs.Changes.{RepairedOf}
-use Rattle.router_routes.specs.Following.{FollowingOf, IsLevel, IsFollowing, IsRooted}
+use Rattle.router_routes.specs.Following.{IsLevel}
 use Rattle.router_routes.proofs.GraphLemmas.{IsGraphOf}
 use Rattle.router_routes.specs.Told.{told_in}
 use Rattle.router_routes.specs.Outlooks.{where_run, outlook_in}
@@ -166,8 +166,3 @@ module _ (lent : Lent) where
         subst (λ (n : NodeId). IsGraphOf (where_run (runs_of lent.levels).two (told_in lent.two.now.entries)) n repaired.graph) at-root
         (subst (λ (r : Bool). IsGraphOf (where_run r (told_in lent.two.now.entries)) root repaired.graph) e is);
   }
-
--- what follows what is lent has its root
-pub lent-rooted : (lent : Lent) (f : FollowingOf) → IsFollowing (outlook_in lent) f → IsRooted (own_node lent.system) f
-unfolding outlook_in
-lent-rooted lent f is = record { one = is.one.root; two = is.two.root; graph_one = is.one.graph.from; graph_two = is.two.graph.from }

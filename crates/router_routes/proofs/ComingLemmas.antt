@@ -5,19 +5,22 @@ use Rattle.std.specs.List.{Contains}
 use Rattle.isis_base.specs.declared.identifiers.NodeId.{NodeId}
 use Rattle.isis_base.specs.declared.level.Level.{Level}
 use Rattle.isis_base.specs.declared.level.Level.TheVariants as level
+use Rattle.spf_tree.specs.declared.row.Row.{Row}
 use Rattle.spf_tree.specs.Distances.{cost_at}
 use Rattle.spf_tree.specs.Graphs.{GraphOf}
 use Rattle.spf_tree.specs.NextHops.{IsNextHop}
 use Rattle.spf_tree.specs.Nodes.{node_number}
 use Rattle.spf_tree.proofs.SearchLemmas.{contains_none}
-use Rattle.spf_tree.specs.Local.{AreHopsSame}
+use Rattle.spf_tree.specs.Local.{AreExchanged, AreHopsSame}
 use Rattle.spf_repair.specs.Changes.{RepairedOf}
 use Rattle.route_table.specs.declared.candidate.Candidate.{Candidate}
 use Rattle.router_routes.specs.declared.coming.Coming.{Coming}
 use Rattle.router_routes.specs.declared.coming.LevelAfter.{LevelAfter}
 use Rattle.router_routes.specs.declared.coming.LevelsAfter.{LevelsAfter}
+use Rattle.router_routes.specs.declared.moving.CostsMoved.{CostsMoved}
 use Rattle.router_routes.specs.Outlooks.{Outlook}
 use Rattle.router_routes.specs.Candidates.{defaults}
+use Rattle.router_routes.specs.Counts.{Counts}
 use Rattle.router_routes.specs.Following.{AreHopsOf, FollowingOf, IsFollowing, IsLevel}
 use Rattle.router_routes.specs.Kept.{AreSame, AreReached, AreAmong, AreBeside, CostBeside, told_candidates}
 use Rattle.router_routes.specs.Moved.{AreNodes, or_old}
@@ -41,6 +44,8 @@ coming-is o f c are reached routes =
         told = subst (λ (l : List Candidate). AreSame l (told_candidates o)) (sym put.told) reached.told;
         defaults = subst (λ (l : List Candidate). AreSame l (defaults o.told.one o.root)) (sym put.defaults) reached.ways;
       };
+      count_one = are.hops_one.counts;
+      count_two = are.hops_two.counts;
     }
 
 -- there is room for what comes
@@ -58,7 +63,7 @@ level-root o l r is = is.graph.from ∙ sym is.root
 pub of-one-root : (o p : Outlook) (l : Level) (old new : RepairedOf) → IsLevel o l old → IsLevel p l new → p.root ≡ o.root → AreOfOneRoot old new
 of-one-root o p l old new a b e = record { old_root = level-root o l old a; new_root = level-root p l new b; same = b.root ∙ e ∙ sym a.root }
 
-pub levels-are : (o : Outlook) (f : FollowingOf) (ones twos : Option RepairedOf) (levels : LevelsAfter) → IsLevel o level.One (or_old ones f.levels.one) → IsLevel o level.Two (or_old twos f.levels.two) → AreLevelsOf f ones twos levels → AreLevels o f levels
+pub levels-are : (o : Outlook) (f : FollowingOf) (ones twos : Option CostsMoved) (levels : LevelsAfter) → IsLevel o level.One (or_old ones f.levels.one) → IsLevel o level.Two (or_old twos f.levels.two) → AreLevelsOf f ones twos levels → AreLevels o f levels
 levels-are o f ones twos levels a b are =
     record {
       one = subst (λ (r : RepairedOf). IsLevel o level.One r) (sym are.one) a;
@@ -74,6 +79,17 @@ level-stays old known are =
       right = are;
       moved = record { each = λ node out. refl };
       apart = record { each = λ target hop out. ((λ h. h), (λ h. h)) };
+      counts = tt;
+    }
+
+-- a level of new costs and hops, as it is put together
+pub level-with : (old new : RepairedOf) (known table : List (ℕ × ℕ)) (apart moved : List ℕ) (level : LevelAfter) → level.costs ≡ new → level.hops ≡ table → level.apart.items ≡ apart → level.moved.items ≡ moved → AreHopsOf new table → HopsStay apart known table → CostsStay moved old.distances new.distances → Counts old new → IsLevelAfter old known (Some level)
+level-with old new known table apart moved level costs hops inside others right stay same counts =
+    record {
+      right = hops-of level.costs new level.hops table costs hops right;
+      moved = subst (λ (l : List ℕ). CostsStay l old.distances level.costs.distances) (sym others) (subst (λ (r : RepairedOf). CostsStay moved old.distances r.distances) (sym costs) same);
+      apart = subst (λ (l : List ℕ). HopsStay l known level.hops) (sym inside) (subst (λ (t : List (ℕ × ℕ)). HopsStay apart known t) (sym hops) stay);
+      counts = subst (Counts old) (sym costs) counts;
     }
 
 -- where no level has new costs
@@ -137,6 +153,12 @@ hops-beside old new g h root known table inside one e k at-root before after sam
           let is = after.each target hop in
           ((λ x. is.1 (stays.0 (was.0 x))), (λ x. was.1 (stays.1 (is.0 x))));
     }
+
+-- the rows that two graphs of a level don't share, as they are lent
+pub exchanged-by : (old new : RepairedOf) (g h : GraphOf) (r a removed added : List Row) → g ≡ old.graph → h ≡ new.graph → r ≡ removed → a ≡ added → AreExchanged old.graph.rows new.graph.rows removed added → AreExchanged g.rows h.rows r a
+exchanged-by old new g h r a removed added e k is-removed is-added are =
+    subst (λ (x : GraphOf). AreExchanged x.rows h.rows r a) (sym e) (subst (λ (x : GraphOf). AreExchanged old.graph.rows x.rows r a) (sym k)
+    (subst (λ (l : List Row). AreExchanged old.graph.rows new.graph.rows l a) (sym is-removed) (subst (λ (l : List Row). AreExchanged old.graph.rows new.graph.rows removed l) (sym is-added) are)))
 
 -- the nodes of no numbers, and those that are there among more
 pub numbers-none : (nodes : List NodeId) → HaveNumbers [] nodes

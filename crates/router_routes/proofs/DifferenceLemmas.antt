@@ -15,7 +15,7 @@ use Rattle.spf_repair.specs.Changes.{RepairedOf}
 use Rattle.spf_repair.proofs.ReplaceLemmas.{more_times, times_all}
 use Rattle.router_routes.specs.declared.differences.Side.TheVariants.{Old, New, Both}
 use Rattle.router_routes.specs.Differences.{AreDifferences, IsBefore, IsNotAfter, IsSame, AreInOrder, IsNext, IsParting}
-use Rattle.router_routes.specs.Following.{Counts}
+use Rattle.router_routes.specs.Counts.{Counts}
 
 -- ---- rows in order
 
@@ -304,7 +304,7 @@ first-once x rows =
     let one = one-of (same_row x x) same in
     omega (arith, split, one)
 
-module _ (old now : RepairedOf) (new removed added : List Row) (is : AreDifferences old.graph.rows new removed added) (rows : (x : Row) → times now.graph.rows x + times removed x ≡ times old.graph.rows x + times added x) (changed : 0 < length removed + length added → now.changes ≡ min (old.changes + 1) (2 ^ 64 - 1)) (none : length removed + length added ≡ 0 → now ≡ old) where
+module _ (old now : RepairedOf) (removed added : List Row) (apart : (x : Row) → (times removed x ≡ 0) ⊎ (times added x ≡ 0)) (rows : (x : Row) → times now.graph.rows x + times removed x ≡ times old.graph.rows x + times added x) (changed : 0 < length removed + length added → now.changes ≡ min (old.changes + 1) (2 ^ 64 - 1)) (none : length removed + length added ≡ 0 → now ≡ old) where
   nothing-differs : (xs ys : List Row) → ((x : Row) → times now.graph.rows x ≡ times old.graph.rows x) → xs ≡ removed → ys ≡ added → length removed + length added ≡ 0
   nothing-differs [] [] same e f = let a = ap length e in let b = ap length f in omega (arith, a, b)
   nothing-differs [] (x ∷ ys) same e f =
@@ -317,7 +317,7 @@ module _ (old now : RepairedOf) (new removed added : List Row) (is : AreDifferen
       let once : 1 ≤ times removed x = subst (λ (l : List Row). 1 ≤ times l x) e (first-once x xs) in
       let r = rows x in
       let s = same x in
-      elim (is.apart x) [
+      elim (apart x) [
         | inl zero-removed ↦ absurd (omega (arith, once, zero-removed))
         | inr zero-added ↦ absurd (omega (arith, once, zero-added, r, s))
       ]

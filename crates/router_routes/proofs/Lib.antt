@@ -20,6 +20,10 @@ pub mod KeptLemmas
 pub mod BesideLemmas
 pub mod SameLemmas
 pub mod SystemLemmas
+pub mod AttachedLemmas
+pub mod GoneLemmas
 pub mod NumberLemmas
 pub mod ComingLemmas
+pub mod OwnLemmas
 pub mod PatchLemmas
+pub mod PartLemmas

@@ -1,5 +1,5 @@
 -- A level's costs once nodes tell something else, one after another.
-use Rattle.std.proofs.Common.{◌≡◌, ◌∙◌, ℕ, ◌+◌, ◌-◌, ◌≤◌, ◌<◌, Bool, true, false, List, [], ◌∷◌, Option, Some, None, length, take, drop, refl, sym, ap, subst, arith}
+use Rattle.std.proofs.Common.{◌≡◌, ◌∙◌, ℕ, ◌+◌, ◌-◌, ◌^◌, ◌≤◌, ◌<◌, min, Bool, true, false, List, [], ◌∷◌, Option, Some, None, length, take, drop, refl, sym, ap, subst, arith}
 use Rattle.std.specs.Prelude.{slice_index_or}
 use Rattle.std.proofs.Math.Seq.{take-length}
 use Rattle.isis_base.specs.declared.identifiers.NodeId.{NodeId}
@@ -16,7 +16,10 @@ use Rattle.router_routes.specs.declared.told.Moved.{Moved}
 use Rattle.router_routes.specs.declared.view.LevelView.{LevelView}
 use Rattle.router_routes.specs.Outlooks.{where_run}
 use Rattle.router_routes.specs.Told.{told_in}
-use Rattle.router_routes.specs.Moved.{AreChanged, AreCosts, AreNodes, HaveIds, IsReadable, NodesRise, told_after, told_moved, told_of, told_with}
+use Rattle.router_routes.specs.declared.moving.CostsMoved.{CostsMoved}
+use Rattle.router_routes.specs.Differences.{ArePartedRows}
+use Rattle.router_routes.specs.Moved.{AreChanged, AreCosts, AreNodes, HaveIds, IsOneChange, IsReadable, NodesRise, told_after, told_moved, told_of, told_with}
+use Rattle.router_routes.proofs.DifferenceLemmas.{counts-are}
 use Rattle.router_routes.proofs.NearGraphLemmas.{no-times-of}
 
 abbrev Pair : Type 0
@@ -24,16 +27,35 @@ Pair = LspId × Entry
 
 -- ---- one more node
 
-pub node-costs : (told later : List Pair) (root : NodeId) (now new : RepairedOf) (removed added r a : List Row) → AreCosts told root now → AreChanged now new r a → r ≡ removed → a ≡ added
+pub node-costs : (told later : List Pair) (root : NodeId) (now new : RepairedOf) (removed added : List Row) → AreCosts told root now → AreChanged now new removed added
     → ((next : GraphOf) → ((x : Row) → times next.rows x + times removed x ≡ times now.graph.rows x + times added x) → next.root ≡ now.root → AreUsable (rows_in later) (overloaded_in later) now.root next) → AreCosts later root new
-node-costs told later root now new removed added r a are change e f then =
-    let rows = subst (λ (l : List Row). (x : Row) → times new.graph.rows x + times l x ≡ times now.graph.rows x + times added x) e
-    (subst (λ (l : List Row). (x : Row) → times new.graph.rows x + times r x ≡ times now.graph.rows x + times l x) f change.rows) in
-    let graph = then new.graph rows (change.graph_root ∙ are.graph.from ∙ sym are.root) in
+node-costs told later root now new removed added are change then =
+    let graph = then new.graph change.rows (change.graph_root ∙ are.graph.from ∙ sym are.root) in
     record { root = change.root ∙ are.root; graph = subst (λ (n : NodeId). AreUsable (rows_in later) (overloaded_in later) n new.graph) are.root graph }
 
 pub unchanged : (r : RepairedOf) (removed added : List Row) → length removed ≡ 0 → length added ≡ 0 → AreChanged r r removed added
 unchanged r removed added none nothing = record { rows = λ x. ap (λ (k : ℕ). times r.graph.rows x + k) (no-times-of x removed none ∙ sym (no-times-of x added nothing)); graph_root = refl; root = refl }
+
+-- a change by lists that are these
+pub listed-changed : (old new : RepairedOf) (r a removed added : List Row) → r ≡ removed → a ≡ added → AreChanged old new r a → AreChanged old new removed added
+listed-changed old new r a removed added e f is = subst (λ (l : List Row). AreChanged old new l added) e (subst (λ (l : List Row). AreChanged old new r l) f is)
+
+-- one change, where rows go or come and none is in both lists
+pub moved-by : (old : RepairedOf) (new : CostsMoved) → ArePartedRows new.removed.items new.added.items → 0 < length new.removed.items + length new.added.items → AreChanged old new.costs new.removed.items new.added.items → new.costs.changes ≡ min (old.changes + 1) (2 ^ 64 - 1) → IsOneChange old new
+moved-by old new apart some is count = record {
+  exchanged = is.rows;
+  counts = counts-are old new.costs new.removed.items new.added.items apart is.rows (λ h. count) (λ none. absurd (omega (arith, some, none)));
+  graph_root = is.graph_root;
+  root = is.root;
+}
+
+-- the same rows and roots, by a change of the old costs in place of one more change
+pub again-changed : (old so-far next : RepairedOf) (new : CostsMoved) (removed added : List Row) → so-far.graph.root ≡ old.graph.root → so-far.root ≡ old.root → AreChanged so-far next removed added → ((x : Row) → times new.costs.graph.rows x ≡ times next.graph.rows x) → IsOneChange old new → AreChanged so-far new.costs removed added
+again-changed old so-far next new removed added at-root is-root change same by = record {
+  rows = λ x. ap (λ (n : ℕ). n + times removed x) (same x) ∙ change.rows x;
+  graph_root = by.graph_root ∙ sym at-root;
+  root = by.root ∙ sym is-root;
+}
 
 -- ---- the first node and the rest
 

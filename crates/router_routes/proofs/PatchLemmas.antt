@@ -1,5 +1,5 @@
 -- Routes of which some prefixes are looked at anew, once some nodes moved.
-use Rattle.std.proofs.Common.{◌≡◌, ◌∙◌, ◌↔◌, ℕ, ◌+◌, ◌≤◌, Bool, true, false, not, List, [], ◌∷◌, ◌++◌, ◌⊎◌, length, map, filter, Option, None, Some, refl, sym, ap, subst, arith, inl, inr, if◌then◌else◌}
+use Rattle.std.proofs.Common.{◌≡◌, ◌∙◌, ◌↔◌, ℕ, ◌+◌, ◌≤◌, Bool, true, false, not, List, [], ◌∷◌, ◌++◌, ◌⊎◌, length, map, filter, Option, None, Some, Result, Ok, Err, IfOk, refl, sym, ap, subst, arith, inl, inr, if◌then◌else◌}
 use Rattle.std.specs.List.{Contains, flat_map}
 use Rattle.std.specs.List.Sorted.{IsStrictlyIncreasing}
 use Rattle.std.proofs.lemmas.List.Elements.{Contains-append_left, Contains-append_right, Contains-append_cases}
@@ -8,6 +8,7 @@ use Rattle.isis_base.specs.declared.identifiers.SystemId.{SystemId}
 use Rattle.isis_base.specs.declared.identifiers.LspId.{LspId}
 use Rattle.isis_base.specs.declared.prefix.Prefix.{Prefix}
 use Rattle.isis_base.specs.declared.level.Level.TheVariants as level
+use Rattle.isis_base.specs.Prefixes as base
 use Rattle.isis_base.specs.Prefixes.{prefix_from}
 use Rattle.isis_base.proofs.PrefixValues.{prefix_from-prefix}
 use Rattle.lsp_store.specs.declared.entry.Entry.{Entry}
@@ -23,27 +24,24 @@ use Rattle.route_table.specs.declared.route.Route.{Route}
 use Rattle.route_table.specs.Ranks.{prefix_number}
 use Rattle.route_table.specs.Order.{IsListedBy, IsListedHop}
 use Rattle.route_table.specs.Routes.{IsHopTo, AreRoutes}
-use Rattle.route_table.specs.Patches.{AreClean, ArePatches, IsListed, IsPart, PatchesOf, is_moved, is_touched}
+use Rattle.route_table.specs.Patches.{AreClean, ArePatches, IsListed, PatchesOf, is_moved, is_touched}
 use Rattle.route_table.proofs.HopLemmas.{tabled_is}
 use Rattle.route_table.proofs.OrderLemmas.{routes_by}
 use Rattle.route_table.proofs.PatchLemmas.{by_hops, of_part, routes_are}
-use Rattle.router_routes.specs.declared.lent.Lent.{Lent}
-use Rattle.router_routes.specs.declared.told.Told.{Told}
-use Rattle.router_routes.specs.declared.view.View.{View}
 use Rattle.router_routes.specs.declared.coming.LevelsAfter.{LevelsAfter}
 use Rattle.router_routes.specs.declared.coming.RoutesAfter.{RoutesAfter}
 use Rattle.router_routes.specs.declared.coming.RoutesAfter.TheVariants.{Made, Patched}
-use Rattle.router_routes.specs.Outlooks.{Outlook, graph_in, outlook_in}
+use Rattle.router_routes.specs.Outlooks.{Outlook, graph_in}
 use Rattle.router_routes.specs.Candidates.{reached_in, has_bit, has_defaults, default_by, default_of, defaults, own_candidate, system_candidates, firm_candidates, candidates_of, AreRoutesOf}
 use Rattle.router_routes.specs.Following.{AreHopsOf, FollowingOf, IsFollowing, IsLevel}
 use Rattle.router_routes.specs.Kept.{AreBeside, AreReached, AreSame, CostBeside, HaveToldIds, stays, systems_among, told_candidates}
-use Rattle.router_routes.specs.Moved.{AreNodes, AreViewed, is_among, outlook_at}
+use Rattle.router_routes.specs.Moved.{AreNodes, is_among}
 use Rattle.router_routes.specs.Coming.{AreLevels, AreLevelsBeside, AreRoutesAfter, HopsStay, apart_in, costs_after, hops_after}
 use Rattle.router_routes.specs.Touched.{AreMovedNumbers, ArePatchesFor, AreRoutesFor, AreStill, AreTouched, HaveOwn, IsStill, is_by, is_for, prefix_of, prefixes_via}
 use Rattle.router_routes.proofs.GraphLemmas.{hop-by}
 use Rattle.router_routes.proofs.KeptLemmas.{among-in, filter-in, flat-in, in-filter}
 use Rattle.router_routes.proofs.NumberLemmas.{in-map, moved-none, there-moved}
-use Rattle.router_routes.proofs.AheadLemmas.{prefixes-stay}
+use Rattle.router_routes.proofs.OwnLemmas.{own-more}
 use Rattle.router_routes.proofs.BesideLemmas.{same-refl}
 use Rattle.router_routes.proofs.SameLemmas.{AreCostsOf, firm-told, told-after}
 
@@ -170,7 +168,7 @@ unfolding whole
 default-step told s c true there = default-number s (prefix_from 0 0) c (prefix_from-prefix whole 0 0 refl refl) there
 default-step told s c false there = absurd (contains_none c there)
 
-default-zero : (told : List (LspId × Entry)) (root : NodeId) (c : Candidate) → Contains (defaults told root) c → prefix_number c.prefix ≡ 0
+pub default-zero : (told : List (LspId × Entry)) (root : NodeId) (c : Candidate) → Contains (defaults told root) c → prefix_number c.prefix ≡ 0
 unfolding defaults
 default-zero told root c there = let o = flat-in (default_of told) (reached_in told root) c there in default-step told o.0 c (has_bit told o.0) o.2
 
@@ -209,12 +207,9 @@ module _ (o p : Outlook) (f : FollowingOf) (is : IsFollowing o f) (nodes : List 
     zero-free : (c : Candidate) → IsFree c → prefix_number c.prefix ≡ 0 → ⊥
     zero-free c free zero = listed-free (prefix_number c.prefix) (subst (λ (n : ℕ). IsListed prefixes n) (sym zero) touch.all) free
 
-    own-free : (c : Candidate) (own : Prefix × ℕ) → IsFree c → own.0 ≡ c.prefix → Contains o.prefixes own ⊎ Contains p.prefixes own → p.prefixes ≡ o.prefixes
-    own-free c own free e there =
-        elim touch.own [
-          | inl same ↦ same
-          | inr all ↦ absurd (prefix-free c free (subst (λ (q : Prefix). Contains prefixes q) e (all own there)))
-        ]
+    own-free : (c : Candidate) (own : Prefix × ℕ) (others : List (Prefix × ℕ)) → IsFree c → own.0 ≡ c.prefix → Contains others own ⊎ Contains prefixes own.0 → Contains others own
+    own-free c own others free e (inl there) = there
+    own-free c own others free e (inr listed) = absurd (prefix-free c free (subst (λ (q : Prefix). Contains prefixes q) e listed))
 
     old-still : (c : Candidate) → IsFree c → Contains (told_candidates o) c → IsStill nodes f levels (node_number c.origin)
     old-still c free there =
@@ -234,9 +229,8 @@ module _ (o p : Outlook) (f : FollowingOf) (is : IsFollowing o f) (nodes : List 
     out c free there =
         elim (cases o c there) [
           | inl own ↦
-              let same = own-free c own.0 free (ap (λ (x : Candidate). x.prefix) own.2) (inl own.1) in
-              subst (λ (x : Candidate). Contains (candidates_of p) x) (ap (λ (n : NodeId). own_candidate n own.0) still.root ∙ own.2)
-              (own-there p own.0 (subst (λ (l : List (Prefix × ℕ)). Contains l own.0) (sym same) own.1))
+              let stays = own-free c own.0 p.prefixes free (ap (λ (x : Candidate). x.prefix) own.2) (touch.own.before own.0 own.1) in
+              subst (λ (x : Candidate). Contains (candidates_of p) x) (ap (λ (n : NodeId). own_candidate n own.0) still.root ∙ own.2) (own-there p own.0 stays)
           | inr other ↦
               elim other [
                 | inl tells ↦ told-there p c ((still.told c (ap not (old-still c free tells).beside)).0 tells)
@@ -248,9 +242,8 @@ module _ (o p : Outlook) (f : FollowingOf) (is : IsFollowing o f) (nodes : List 
     into c free there =
         elim (cases p c there) [
           | inl own ↦
-              let same = own-free c own.0 free (ap (λ (x : Candidate). x.prefix) own.2) (inr own.1) in
-              subst (λ (x : Candidate). Contains (candidates_of o) x) (ap (λ (n : NodeId). own_candidate n own.0) (sym still.root) ∙ own.2)
-              (own-there o own.0 (subst (λ (l : List (Prefix × ℕ)). Contains l own.0) same own.1))
+              let stays = own-free c own.0 o.prefixes free (ap (λ (x : Candidate). x.prefix) own.2) (touch.own.after own.0 own.1) in
+              subst (λ (x : Candidate). Contains (candidates_of o) x) (ap (λ (n : NodeId). own_candidate n own.0) (sym still.root) ∙ own.2) (own-there o own.0 stays)
           | inr other ↦
               elim other [
                 | inl tells ↦ told-there o c ((still.told c (ap not (new-still c free tells).beside)).1 tells)
@@ -277,16 +270,14 @@ module _ (o p : Outlook) (f : FollowingOf) (is : IsFollowing o f) (nodes : List 
 
   -- ---- the routes
 
-  pub routes-after : (all : List Candidate) (held : ℕ) (routes : RoutesAfter) → AreSame all (candidates_of p) → held ≡ length f.routes → AreRoutesFor Listed all prefixes held routes → AreRoutesAfter p f.routes routes
-  routes-after all held (Made made) same e are =
+  pub routes-after : (held : ℕ) (routes : RoutesAfter) → held ≡ length f.routes → AreRoutesFor Listed (candidates_of p) prefixes held routes → AreRoutesAfter p f.routes routes
+  routes-after held (Made made) e are =
       record {
         fits = tt;
-        right = λ new put. subst (λ (l : List Route). AreRoutesOf p l) (sym put)
-            (routes-listed p (costs_after levels.one f.levels.one) (costs_after levels.two f.levels.two) (hops_after levels.one f.hops.one) (hops_after levels.two f.hops.two) all made after.one after.two after.hops_one.right after.hops_two.right same are);
+        right = λ new put. subst (λ (l : List Route). AreRoutesOf p l) (sym put) (routes_by Listed New (candidates_of p) (candidates_of p) made (λ c there. there) (λ c there. there) new-hop are);
       }
-  routes-after all held (Patched patches) same e are =
-      let part : IsPart (candidates_of p) all patches.list = record { some = λ c. (same c).0; whole = λ c there is-touched. (same c).1 there } in
-      let right = of_part New (candidates_of p) all patches.list (by_hops Listed New all patches.list new-hop are.right) part in
+  routes-after held (Patched patches) e are =
+      let right = by_hops Listed New (candidates_of p) patches.list new-hop are.right in
       let room = are.room in
       record {
         fits = omega (arith, room, e);
@@ -295,17 +286,37 @@ module _ (o p : Outlook) (f : FollowingOf) (is : IsFollowing o f) (nodes : List 
 
 -- ---- as they are made
 
--- patches by a part that has all for these prefixes
-pub patches-for : (HopTo : Candidate → ℕ → Type 0) (candidates part some : List Candidate) (prefixes : List Prefix) (numbers in-order : List ℕ) (held : ℕ) (patches : PatchesOf) → numbers ≡ map prefix_number prefixes → ((n : ℕ) → Contains numbers n → Contains in-order n) → part ≡ filter (is_for in-order) candidates → some ≡ part
+-- a prefix has one number in both words
+pub number-is : (p : Prefix) → base.prefix_number p ≡ prefix_number p
+number-is p = omega arith
+
+-- the numbers of prefixes, in order
+pub listed-moved : (prefixes : List Prefix) (unsorted in-order : List ℕ) → unsorted ≡ map base.prefix_number prefixes → ((n : ℕ) → Contains unsorted n → Contains in-order n) → (n : ℕ) → IsListed prefixes n → is_moved in-order n ≡ true
+listed-moved prefixes unsorted in-order are all n listed =
+    let number = base.prefix_number listed.0 in
+    let there = there-moved in-order number (all number (subst (λ (l : List ℕ). Contains l number) (sym are) (in-map base.prefix_number prefixes listed.0 listed.1))) in
+    subst (λ (m : ℕ). is_moved in-order m ≡ true) (number-is listed.0 ∙ listed.2) there
+
+-- all routes, by a list of all candidates
+pub made-by : (HopTo : Candidate → ℕ → Type 0) (cs ds some : List Candidate) (routes : List Route) → AreSame cs ds → some ≡ cs → AreRoutes HopTo some routes → AreRoutes HopTo ds routes
+made-by HopTo cs ds some routes same e are =
+    routes_by HopTo HopTo cs ds routes (λ c. (same c).1) (λ c. (same c).0) (λ c hop. ((λ h. h), (λ h. h))) (subst (λ (l : List Candidate). AreRoutes HopTo l routes) e are)
+
+-- three clauses of one answer
+pub all-three : {X E : Type 0} (r : Result X E) (P Q R S : X → Type 0) → ((x : X) → P x → Q x → R x → S x) → IfOk r P → IfOk r Q → IfOk r R → IfOk r S
+all-three (Ok x) P Q R S f p q t = f x p q t
+all-three (Err e) P Q R S f p q t = tt
+
+-- patches by a list of all candidates for these prefixes
+pub patches-for : (HopTo : Candidate → ℕ → Type 0) (candidates part some : List Candidate) (prefixes : List Prefix) (numbers : List ℕ) (held : ℕ) (patches : PatchesOf) → ((n : ℕ) → IsListed prefixes n → is_moved numbers n ≡ true) → AreSame part (filter (is_for numbers) candidates) → some ≡ part
     → ArePatches HopTo some patches.list → ((n : ℕ) → is_touched patches.list n ≡ true ↔ IsListed prefixes n) → held + length patches.list ≤ patches.room → ArePatchesFor HopTo candidates prefixes held patches
-patches-for HopTo candidates part some prefixes numbers in-order held patches are all is-part is-some right touched room =
-    let is : some ≡ filter (is_for in-order) candidates = is-some ∙ is-part in
-    let number : (n : ℕ) → IsListed prefixes n → is_moved in-order n ≡ true =
-    λ n listed. there-moved in-order n (all n (subst (λ (l : List ℕ). Contains l n) (sym are) (subst (λ (m : ℕ). Contains (map prefix_number prefixes) m) listed.2 (in-map prefix_number prefixes listed.0 listed.1)))) in
+patches-for HopTo candidates part some prefixes numbers held patches moved same e right touched room =
+    let number : (c : Candidate) → IsListed prefixes (prefix_number c.prefix) → is_for numbers c ≡ true =
+    λ c listed. subst (λ (n : ℕ). is_moved numbers n ≡ true) (sym (number-is c.prefix)) (moved (prefix_number c.prefix) listed) in
     record {
-      right = of_part HopTo candidates some patches.list right (record {
-        some = λ c there. (filter-in (is_for in-order) candidates c (subst (λ (l : List Candidate). Contains l c) is there)).0;
-        whole = λ c there free. subst (λ (l : List Candidate). Contains l c) (sym is) (in-filter (is_for in-order) candidates c there (number (prefix_number c.prefix) ((touched (prefix_number c.prefix)).0 free)));
+      right = of_part HopTo candidates part patches.list (subst (λ (l : List Candidate). ArePatches HopTo l patches.list) e right) (record {
+        some = λ c within. (filter-in (is_for numbers) candidates c ((same c).0 within)).0;
+        whole = λ c within free. (same c).1 (in-filter (is_for numbers) candidates c within (number c ((touched (prefix_number c.prefix)).0 free)));
       });
       touched = λ n listed. (touched n).1 listed;
       room = room;
@@ -361,23 +372,9 @@ touched-are nodes f levels numbers some more old new held later told p0 p1 p2 ar
       after = λ c there. either c.prefix _ _ _ (via2 c.prefix) (via-step nodes f levels numbers told c are there (is_by numbers c) refl);
     }
   where
-    own-more : (old new : List (Prefix × ℕ)) (xs ys : List Prefix) → ((q : Prefix) → Contains xs q → Contains ys q) → HaveOwn old new xs → HaveOwn old new ys
-    own-more old new xs ys from (inl same) = inl same
-    own-more old new xs ys from (inr all) = inr (λ own there. from own.0 (all own there))
-
     either : (q : Prefix) (A B C : Type 0) → (A → B) → A ⊎ C → B ⊎ C
     either q A B C g (inl a) = inl (g a)
     either q A B C g (inr c) = inr c
-
--- one's own prefixes, where others are told
-own-map : (own : Prefix × ℕ) (list : List (Prefix × ℕ)) → Contains list own → Contains (map (λ (one : Prefix × ℕ). one.0) list) own.0
-own-map own list there = in-map (λ (one : Prefix × ℕ). one.0) list own there
-
-pub own-listed : (old new : List (Prefix × ℕ)) (p0 p1 p2 : List Prefix) → p1 ≡ p0 ++ map (λ (one : Prefix × ℕ). one.0) old → p2 ≡ p1 ++ map (λ (one : Prefix × ℕ). one.0) new → HaveOwn old new p2
-own-listed old new p0 p1 p2 e1 e2 = inr (λ own there. subst (λ (ps : List Prefix). Contains ps own.0) (sym e2) (elim there [
-  | inl is-old ↦ Contains-append_left p1 _ own.0 (subst (λ (ps : List Prefix). Contains ps own.0) (sym e1) (Contains-append_right p0 _ own.0 (own-map own old is-old)))
-  | inr is-new ↦ Contains-append_right p1 _ own.0 (own-map own new is-new)
-]))
 
 pub all-listed : (p0 p1 p2 : List Prefix) (r s : List Prefix) → p1 ≡ p0 ++ r → p2 ≡ p1 ++ s → IsListed p0 0 → IsListed p2 0
 all-listed p0 p1 p2 r s e1 e2 all =
@@ -385,11 +382,3 @@ all-listed p0 p1 p2 r s e1 e2 all =
 
 pub first-listed : (p0 p1 : List Prefix) (q : Prefix) → p0 ≡ [] → p1 ≡ p0 ++ q ∷ [] → prefix_number q ≡ 0 → IsListed p1 0
 first-listed p0 p1 q none e zero = (q, subst (λ (ps : List Prefix). Contains ps q) (sym e) (Contains-append_right p0 (q ∷ []) q (contains_first q [])), zero)
-
--- as a view and what is lent have them
-pub own-stay : (lent : Lent) (told : Told) (view : View) (prefixes : List Prefix) → AreViewed lent told view → told.prefixes ≡ None → HaveOwn (outlook_in lent).prefixes (outlook_at view).prefixes prefixes
-own-stay lent told view prefixes viewed none = inl (prefixes-stay lent told view viewed none)
-
-pub own-of : (lent : Lent) (view : View) (prefixes : List Prefix) → HaveOwn lent.prefixes.now view.prefixes.now prefixes → HaveOwn (outlook_in lent).prefixes (outlook_at view).prefixes prefixes
-unfolding outlook_in outlook_at
-own-of lent view prefixes have = have

@@ -14,10 +14,12 @@ use Rattle.router_routes.specs.declared.coming.LevelAfter.{LevelAfter}
 use Rattle.router_routes.specs.declared.coming.LevelsAfter.{LevelsAfter}
 use Rattle.router_routes.specs.declared.coming.RoutesAfter.{RoutesAfter}
 use Rattle.router_routes.specs.declared.coming.RoutesAfter.TheVariants.{Made, Patched}
+use Rattle.router_routes.specs.declared.moving.CostsMoved.{CostsMoved}
 use Rattle.router_routes.specs.Outlooks.{Outlook}
 use Rattle.router_routes.specs.Candidates.{AreRoutesOf}
 use Rattle.router_routes.specs.Kept.{AreBeside, CostBeside}
 use Rattle.router_routes.specs.Moved.{AreNodes, is_among, or_old}
+use Rattle.router_routes.specs.Counts.{Counts}
 use Rattle.router_routes.specs.Following.{AreHopsOf, FollowingOf, IsFollowing, IsLevel}
 
 -- ---- levels
@@ -61,11 +63,17 @@ pub record HopsStay (beside : List ℕ) (old new : List (ℕ × ℕ)) : Type 0 w
   pub each : (target hop : ℕ) → (Contains beside target → ⊥)
       → Contains old (target, hop) ↔ Contains new (target, hop)
 
+-- where costs are new, they had one change if rows are others, and else none
+abbrev pub HasCount : RepairedOf → Option LevelAfter → Type 0
+HasCount old None = Unit {0}
+HasCount old (Some new) = Counts old new.costs
+
 -- a level's next hops follow of its costs, and what is other of both is told
 pub record IsLevelAfter (old : RepairedOf) (known : List (ℕ × ℕ)) (level : Option LevelAfter) : Type 0 where
   pub right : AreHopsOf (costs_after level old) (hops_after level known)
   pub moved : CostsStay (moved_in level) old.distances (costs_after level old).distances
   pub apart : HopsStay (apart_in level) known (hops_after level known)
+  pub counts : HasCount old level
 
 -- both levels will be right by these
 pub record AreLevels (o : Outlook) (f : FollowingOf) (levels : LevelsAfter) : Type 0 where
@@ -75,7 +83,7 @@ pub record AreLevels (o : Outlook) (f : FollowingOf) (levels : LevelsAfter) : Ty
   pub hops_two : IsLevelAfter f.levels.two f.hops.two levels.two
 
 -- levels by these costs, each where it has new ones, with the next hops that follow of them
-pub record AreLevelsOf (f : FollowingOf) (ones twos : Option RepairedOf) (levels : LevelsAfter) : Type 0 where
+pub record AreLevelsOf (f : FollowingOf) (ones twos : Option CostsMoved) (levels : LevelsAfter) : Type 0 where
   pub one : costs_after levels.one f.levels.one ≡ or_old ones f.levels.one
   pub two : costs_after levels.two f.levels.two ≡ or_old twos f.levels.two
   pub hops_one : IsLevelAfter f.levels.one f.hops.one levels.one
@@ -124,3 +132,5 @@ pub record IsPut (old : FollowingOf) (c : Coming) (new : FollowingOf) : Type 0 w
 pub record IsComing (o : Outlook) (f : FollowingOf) (c : Coming) : Type 0 where
   pub fits : FitsIn f.routes c.routes
   pub follows : (g : FollowingOf) → IsPut f c g → IsFollowing o g
+  pub count_one : HasCount f.levels.one c.one
+  pub count_two : HasCount f.levels.two c.two

@@ -6,6 +6,10 @@ use Rattle.spf_tree.specs.Graphs.{same_row, times}
 use Rattle.router_routes.specs.declared.differences.Side.{Side}
 use Rattle.router_routes.specs.declared.differences.Side.TheVariants.{Old, New, Both}
 
+-- no row is in both lists
+abbrev pub ArePartedRows : List Row → List Row → Type 0
+ArePartedRows removed added = (row : Row) → (times removed row ≡ 0) ⊎ (times added row ≡ 0)
+
 -- each row is removed as often as the old rows have it more often than the new ones, and added as
 -- often as they have it less often
 pub record AreDifferences (old new removed added : List Row) : Type 0 where

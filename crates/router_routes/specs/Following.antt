@@ -1,11 +1,8 @@
 -- What a router keeps of its graphs and routes, and when that is right (own).
-use Rattle.std.specs.Prelude.{◌≡◌, ◌↔◌, ℕ, ◌+◌, ◌-◌, ◌^◌, min, Bool, List}
+use Rattle.std.specs.Prelude.{◌≡◌, ◌↔◌, ℕ, Bool, List}
 use Rattle.std.specs.List.{Contains}
-use Rattle.isis_base.specs.declared.identifiers.NodeId.{NodeId}
 use Rattle.isis_base.specs.declared.level.Level.{Level}
 use Rattle.isis_base.specs.declared.level.Level.TheVariants as level
-use Rattle.spf_tree.specs.declared.row.Row.{Row}
-use Rattle.spf_tree.specs.Graphs.{times}
 use Rattle.spf_tree.specs.Nodes.{node_number}
 use Rattle.spf_tree.specs.NextHops.{IsNextHop}
 use Rattle.spf_repair.specs.Changes.{RepairedOf}
@@ -46,18 +43,3 @@ pub record IsFollowing (o : Outlook) (f : FollowingOf) : Type 0 where
   pub attached : f.attached ≡ attached_of o
   pub told : AreSame f.told (told_candidates o)
   pub defaults : AreSame f.defaults (defaults o.told.one o.root)
-
--- distances and graphs of both levels are from this node
-pub record IsRooted (root : NodeId) (f : FollowingOf) : Type 0 where
-  pub one : f.levels.one.root ≡ root
-  pub two : f.levels.two.root ≡ root
-  pub graph_one : f.levels.one.graph.root ≡ root
-  pub graph_two : f.levels.two.graph.root ≡ root
-
--- the count of changes rises by one exactly where some row is there another number of times; it stays
--- at its last value
-pub record Counts (old new : RepairedOf) : Type 0 where
-  pub same : ((row : Row) → times new.graph.rows row ≡ times old.graph.rows row)
-      → new.changes ≡ old.changes
-  pub changed : (row : Row) → (times new.graph.rows row ≡ times old.graph.rows row → ⊥)
-      → new.changes ≡ min (old.changes + 1) (2 ^ 64 - 1)

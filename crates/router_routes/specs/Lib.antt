@@ -6,6 +6,7 @@ pub mod Outlooks
 pub mod Candidates
 pub mod Leaks
 pub mod Differences
+pub mod Counts
 pub mod Following
 pub mod Moved
 pub mod Near

@@ -4,9 +4,9 @@ use Rattle.std.specs.List.{Contains}
 use Rattle.std.specs.List.Sorted.{IsStrictlyIncreasing}
 use Rattle.isis_base.specs.declared.identifiers.NodeId.{NodeId}
 use Rattle.isis_base.specs.declared.prefix.Prefix.{Prefix}
+use Rattle.isis_base.specs.Prefixes.{prefix_number}
 use Rattle.spf_tree.specs.Nodes.{node_number}
 use Rattle.route_table.specs.declared.candidate.Candidate.{Candidate}
-use Rattle.route_table.specs.Ranks.{prefix_number}
 use Rattle.route_table.specs.Routes.{AreRoutes}
 use Rattle.route_table.specs.Patches.{ArePatches, IsListed, PatchesOf, is_moved, is_touched}
 use Rattle.router_routes.specs.declared.coming.LevelsAfter.{LevelsAfter}
@@ -54,17 +54,22 @@ prefix_of c = c.prefix
 abbrev pub prefixes_via : List ℕ → List Candidate → List Prefix
 prefixes_via numbers candidates = map prefix_of (filter (is_by numbers) candidates)
 
--- one's own prefixes stay, or all of them, old and new, are there
-abbrev pub HaveOwn : List (Prefix × ℕ) → List (Prefix × ℕ) → List Prefix → Type 0
-HaveOwn old new prefixes = (new ≡ old)
-    ⊎ ((own : Prefix × ℕ) → Contains old own ⊎ Contains new own → Contains prefixes own.0)
+-- each of some own prefixes with its metric is among others too, or its prefix is there
+abbrev pub AreOwnIn : List (Prefix × ℕ) → List (Prefix × ℕ) → List Prefix → Type 0
+AreOwnIn some others prefixes =
+    (own : Prefix × ℕ) → Contains some own → Contains others own ⊎ Contains prefixes own.0
+
+-- each own prefix, old or new, is in both lists with its metric, or it is there
+pub record HaveOwn (old new : List (Prefix × ℕ)) (prefixes : List Prefix) : Type 0 where
+  pub before : AreOwnIn old new prefixes
+  pub after : AreOwnIn new old prefixes
 
 -- each candidate's prefix is there, or the node that it is by way of stays
 abbrev pub HaveMoved : List NodeId → FollowingOf → LevelsAfter → List Candidate → List Prefix → Type 0
 HaveMoved nodes f levels candidates prefixes = (c : Candidate) → Contains candidates c
     → Contains prefixes c.prefix ⊎ IsStill nodes f levels (node_number c.origin)
 
--- 0.0.0.0/0 is there, one's own prefixes are where they don't stay, and what moved nodes told and tell
+-- 0.0.0.0/0 is there, one's own prefixes that don't stay, and what moved nodes told and tell
 pub record AreTouched (nodes : List NodeId) (f : FollowingOf) (levels : LevelsAfter)
     (old new : List (Prefix × ℕ)) (told : List Candidate) (prefixes : List Prefix) : Type 0 where
   pub all : IsListed prefixes 0

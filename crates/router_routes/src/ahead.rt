@@ -7,19 +7,18 @@ ghost use Rattle.router_routes.specs.Outlooks.{Outlook, outlook_in};
 ghost use Rattle.router_routes.specs.Following.{AreHopsOf, FollowingOf, IsFollowing, IsLevel};
 ghost use Rattle.router_routes.specs.Coming.{AreLevels, AreLevelsBeside, AreLevelsOf, AreOfOneRoot, AreRoutesAfter, FitsIn, IsComing};
 ghost use Rattle.router_routes.specs.Kept.{AreBeside, AreReached};
-ghost use Rattle.router_routes.specs.Moved.{AreFit, AreMoved, AreViewed, IsInOrder, IsMovedAt, NodesRise, nodes_of, or_old, outlook_at};
+ghost use Rattle.router_routes.specs.Moved.{AreFit, AreMoved, AreRowsMoved, AreViewed, IsInOrder, IsMovedAt, NodesRise, nodes_of, or_old, outlook_at};
 
 use crate::candidates::{runs_one, runs_two};
 use crate::coming::{Coming, LevelsAfter, RoutesAfter, level_of};
 use crate::following::{Following, Reached};
 use crate::kept::{moved, told_nodes};
 use crate::lent::Lent;
-use crate::moving::level_after;
+use crate::moving::{CostsMoved, level_after};
 use crate::told::{Moved, Told};
 use crate::view::{View, as_told, nodes_law};
 use isis_base::{Level, NodeId, OutOfMemory, Prefix};
 use lsp_store::Store;
-use spf_repair::Repaired;
 use std::alloc::Global;
 
 impl Following {
@@ -89,8 +88,8 @@ impl Following {
         lent: &Lent<'_>,
         told: &Told<'_>,
         view: &View<'_>,
-        one: Option<Repaired>,
-        two: Option<Repaired>,
+        one: Option<CostsMoved>,
+        two: Option<CostsMoved>,
     ) -> Result<Option<Coming>, OutOfMemory>
         requires follows { IsFollowing (outlook_in lent.now) self.now }
         requires viewed { AreViewed lent.now told.now view.now }
@@ -98,6 +97,8 @@ impl Following {
         requires beside { AreBeside (nodes_of told.now) (outlook_in lent.now) (outlook_at view.now) }
         requires one { IsLevel (outlook_at view.now) level.One (or_old one self.now.levels.one) }
         requires two { IsLevel (outlook_at view.now) level.Two (or_old two self.now.levels.two) }
+        requires rows_one { AreRowsMoved self.now.levels.one one }
+        requires rows_two { AreRowsMoved self.now.levels.two two }
         ensures { IfOk result (λ next. MatchOption next
             (IsFollowing (outlook_at view.now) self.now)
             (λ c. IsComing (outlook_at view.now) self.now c)) }
@@ -114,11 +115,13 @@ impl Following {
     /// Both levels with next hops that follow of their costs, where these are new.
     fn levels_of(
         &self,
-        one: Option<Repaired>,
-        two: Option<Repaired>,
+        one: Option<CostsMoved>,
+        two: Option<CostsMoved>,
     ) -> Result<LevelsAfter, OutOfMemory>
         requires one { AreOfOneRoot self.now.levels.one (or_old one self.now.levels.one) }
         requires two { AreOfOneRoot self.now.levels.two (or_old two self.now.levels.two) }
+        requires rows_one { AreRowsMoved self.now.levels.one one }
+        requires rows_two { AreRowsMoved self.now.levels.two two }
         requires hops_one { AreHopsOf self.now.levels.one self.now.hops.one }
         requires hops_two { AreHopsOf self.now.levels.two self.now.hops.two }
         ensures { IfOk result (λ levels. AreLevelsOf self.now one two levels) }
@@ -337,7 +340,7 @@ fn told_by<'a>(level: Level, nodes: &'a [NodeId], aside: &'a Store) -> Told<'a>
 }
 
 /// Whether both levels' costs stay, and own prefixes too.
-fn none_of(one: &Option<Repaired>, two: &Option<Repaired>, told: &Told<'_>) -> bool
+fn none_of(one: &Option<CostsMoved>, two: &Option<CostsMoved>, told: &Told<'_>) -> bool
     ensures one { result ≡ true → one.now ≡ None }
     ensures two { result ≡ true → two.now ≡ None }
     ensures prefixes { result ≡ true → told.now.prefixes ≡ None }

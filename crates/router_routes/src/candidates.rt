@@ -1,12 +1,16 @@
 //! What prefixes may be reached by (RFC 5302 3.2).
-ghost use Rattle.std.specs.Prelude.{[], ◌≡◌, ◌++◌, ◌&&◌, not, map, IfOk, OnOk, IfSome};
+ghost use Rattle.std.specs.Prelude.{[], ◌≡◌, ◌++◌, ◌&&◌, true, not, map, filter, IfOk, OnOk, IfSome};
 ghost use Rattle.std.specs.List.{flat_map, list_any};
+ghost use Rattle.std.specs.List.Sorted.{IsStrictlyIncreasing};
 ghost use Rattle.model_datagram.specs.Reading.{runs_of};
 ghost use Rattle.lsp_view.specs.Views.{own_node};
+ghost use Rattle.route_table.specs.Patches.{is_moved};
 ghost use Rattle.router_routes.specs.Moved.{IsFit, AreFit, told_of, outlook_at};
 ghost use Rattle.router_routes.specs.Candidates.{reached_in, rank_in, told_candidate, system_candidates, own_candidate, defaults, default_of, is_for_all, candidates_of};
 ghost use Rattle.router_routes.specs.Kept.{AreReached, AreSame, told_candidates};
+ghost use Rattle.router_routes.specs.Touched.{is_for};
 
+use crate::numbers::is_one_of;
 use crate::view::{LevelView, View, store_of};
 use isis_base::{Level, LevelSet, NodeId, OutOfMemory, Prefix, SystemId};
 use isis_tlv::PrefixItem;
@@ -46,6 +50,92 @@ fn firm_candidates(
     add_own(&mut list, own_node(view.system), view.prefixes)?;
     add_all(&mut list, told)?;
     Ok(list)
+}
+
+/// Those of a router's candidates that are for prefixes of these numbers, of which one is that of
+/// 0.0.0.0/0.
+pub(crate) fn candidates_for(
+    alloc: Global,
+    view: &View<'_>,
+    told: &[Candidate],
+    ways: &[Candidate],
+    attached: bool,
+    numbers: &[u64],
+) -> Result<Vec<Candidate>, OutOfMemory>
+    requires reached { AreReached (outlook_at view.now) told.now ways.now attached }
+    requires rising { IsStrictlyIncreasing numbers.now }
+    requires all { is_moved numbers.now 0 ≡ true }
+    ensures { IfOk result (λ list. AreSame list.items
+        (filter (is_for numbers.now) (candidates_of (outlook_at view.now)))) }
+{
+    let mut list = firm_for(alloc, view, told, numbers)?;
+    if has_defaults(view.levels, attached, list.as_slice()) {
+        add_all(&mut list, ways)?;
+    }
+    Ok(list)
+}
+
+/// Those of all but the ways by default.
+fn firm_for(
+    alloc: Global,
+    view: &View<'_>,
+    told: &[Candidate],
+    numbers: &[u64],
+) -> Result<Vec<Candidate>, OutOfMemory>
+    requires { IsStrictlyIncreasing numbers.now }
+    ensures { IfOk result (λ list. list.items
+        ≡ filter (is_for numbers.now) (map (own_candidate (outlook_at view.now).root)
+        (outlook_at view.now).prefixes ++ told.now)) }
+{
+    let mut list = Vec::new(alloc);
+    add_own_for(&mut list, own_node(view.system), view.prefixes, numbers)?;
+    add_for(&mut list, told, numbers)?;
+    Ok(list)
+}
+
+/// Adds those of one's own prefixes that are of these numbers.
+fn add_own_for(
+    list: &mut Vec<Candidate>,
+    root: NodeId,
+    prefixes: &[(Prefix, u32)],
+    numbers: &[u64],
+) -> Result<(), OutOfMemory>
+    requires { IsStrictlyIncreasing numbers.now }
+    ensures { OnOk result (list.new.items ≡ list.old.items
+        ++ filter (is_for numbers.now) (map (own_candidate root) prefixes.now)) }
+{
+    for own in prefixes {
+        if is_one_of(numbers, own.0.to_number()) {
+            match list.push(own_candidate(root, *own)) {
+                Ok(()) => {}
+                Err(_) => return Err(OutOfMemory),
+            }
+        }
+    }
+    Ok(())
+}
+
+/// Adds those of some candidates that are for prefixes of these numbers.
+fn add_for(
+    list: &mut Vec<Candidate>,
+    candidates: &[Candidate],
+    numbers: &[u64],
+) -> Result<(), OutOfMemory>
+    requires { IsStrictlyIncreasing numbers.now }
+    ensures { OnOk result (list.new.items ≡ list.old.items
+        ++ filter (is_for numbers.now) candidates.now) }
+{
+    let mut left = candidates;
+    while let [first, more @ ..] = left {
+        if is_one_of(numbers, first.prefix.to_number()) {
+            match list.push(*first) {
+                Ok(()) => {}
+                Err(_) => return Err(OutOfMemory),
+            }
+        }
+        left = more;
+    }
+    Ok(())
 }
 
 /// What the levels tell, where these are the systems that they reach.

@@ -2,11 +2,12 @@
 ghost use Rattle.std.specs.Prelude.{◌≡◌, ℕ, List, IfOk};
 ghost use Rattle.spf_repair.specs.Changes.{RepairedOf};
 ghost use Rattle.router_routes.specs.Following.{AreHopsOf};
-ghost use Rattle.router_routes.specs.Moved.{or_old};
+ghost use Rattle.router_routes.specs.Moved.{AreRowsMoved, or_old};
 ghost use Rattle.router_routes.specs.Coming.{AreOfOneRoot, ArePut, FitsIn, IsLevelAfter, IsPut, costs_after, hops_after};
 
 use crate::following::Following;
 use crate::hops_moved::{HopsMoved, hops_moved};
+use crate::moving::CostsMoved;
 use isis_base::OutOfMemory;
 use route_table::{Candidate, Patches, Routes};
 use spf_repair::Repaired;
@@ -106,38 +107,52 @@ fn put_routes(routes: &mut Routes, new: RoutesAfter)
 /// A level's new costs with the next hops that follow of them, and what is other of both.
 pub(crate) fn level_of(
     alloc: Global,
-    costs: Option<Repaired>,
+    new: Option<CostsMoved>,
     old: &Repaired,
     known: &HopTable,
 ) -> Result<Option<LevelAfter>, OutOfMemory>
     requires known { AreHopsOf old.now known.now }
-    requires root { AreOfOneRoot old.now (or_old costs old.now) }
-    ensures costs { IfOk result (λ level. costs_after level old.now ≡ or_old costs old.now) }
+    requires root { AreOfOneRoot old.now (or_old new old.now) }
+    requires rows { AreRowsMoved old.now new }
+    ensures costs { IfOk result (λ level. costs_after level old.now ≡ or_old new old.now) }
     ensures hops { IfOk result (λ level. IsLevelAfter old.now known.now level) }
 {
-    let costs = match costs {
-        Some(costs) => costs,
+    let new = match new {
+        Some(new) => new,
         None => return Ok(None),
     };
-    let hops = hops_moved(alloc, old, known, &costs);
+    let hops = hops_moved(alloc, old, known, &new);
     match hops {
-        Ok(hops) => {
-            let HopsMoved {
-                table,
-                apart,
-                moved,
-            } = hops;
-            Ok(Some(LevelAfter {
-                costs,
-                hops: table,
-                apart,
-                moved,
-            }))
-        }
+        Ok(hops) => Ok(Some(level_with(new, hops))),
         Err(error) => {
-            drop(costs);
+            drop(new);
             Err(error)
         }
+    }
+}
+
+/// A level of these costs and next hops.
+fn level_with(new: CostsMoved, hops: HopsMoved) -> LevelAfter
+    ensures costs { result.costs ≡ new.costs }
+    ensures hops { result.hops ≡ hops.table }
+    ensures apart { result.apart.items ≡ hops.apart.items }
+    ensures moved { result.moved.items ≡ hops.moved.items }
+{
+    let CostsMoved {
+        costs,
+        removed: _,
+        added: _,
+    } = new;
+    let HopsMoved {
+        table,
+        apart,
+        moved,
+    } = hops;
+    LevelAfter {
+        costs,
+        hops: table,
+        apart,
+        moved,
     }
 }
 

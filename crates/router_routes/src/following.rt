@@ -5,29 +5,28 @@ ghost use Rattle.model_router.specs.Both.{at};
 ghost use Rattle.lsp_view.specs.Views.{own_node, rows_in, overloaded_in};
 ghost use Rattle.spf_tree.specs.declared.row.Row as row;
 ghost use Rattle.spf_tree.specs.Graphs.{AreUsable, times};
+ghost use Rattle.spf_tree.specs.Local.{AreExchanged};
 ghost use Rattle.router_routes.specs.Told.{told_in};
 ghost use Rattle.router_routes.specs.Outlooks.{outlook_in, where_run};
 ghost use Rattle.router_routes.specs.Candidates.{AreRoutesOf, attached_of, reached_in};
-ghost use Rattle.router_routes.specs.Following.{AreHopsOf, IsFollowing, IsRooted, IsLevel, Counts};
-ghost use Rattle.router_routes.specs.Moved.{AreFit, IsFit, outlook_at, told_of};
+ghost use Rattle.router_routes.specs.Following.{AreHopsOf, IsFollowing, IsLevel};
+ghost use Rattle.router_routes.specs.Moved.{AreFit, IsFit, IsOneChange, outlook_at, told_of};
 ghost use Rattle.router_routes.specs.Kept.{AreReached, AreSame};
 
 use crate::candidates::{all_candidates, defaults_by, own_node, runs_one, runs_two, told_by};
 use crate::coming::hops_from;
-use crate::differences::rows_apart;
 use crate::lent::Lent;
 use crate::level_graph::graph_of;
+use crate::moving::{CostsMoved, changed_to};
 use crate::systems::{is_attached, level_systems};
 use crate::view::{LevelView, View, as_lent};
 use isis_base::{Level, LevelSet, NodeId, OutOfMemory, SystemId};
 use lsp_store::Store;
 use route_table::{Candidate, Routes, routes_by};
-use spf_repair::{Repaired, Steps};
-use spf_tree::parts::rows_in_order;
-use spf_tree::{HopTable, Row};
+use spf_repair::Repaired;
+use spf_tree::HopTable;
 use std::alloc::Global;
-use std::marker::{Brand, Model};
-use std::sync::ledger::{Blank, Ledger};
+use std::marker::Model;
 
 /// What a router keeps of its graphs and routes: for each level the least costs from its own node, repaired when rows change, and
 /// its nodes beside their next hops; the routes; whether it is attached; and, in no order, what its levels tell of prefixes, and
@@ -73,47 +72,6 @@ impl Following {
         assembled(alloc, &as_lent(lent), one, two)
     }
 
-    /// Follows what is lent of the router as it is now. For each level it is told whether its rows may
-    /// have changed; where they may not, its distances stay. A level's distances have one change more
-    /// exactly where some row may be walked another number of times. At `OutOfMemory` all is as it
-    /// was.
-    pub fn follow(&mut self, lent: &Lent<'_>, one: bool, two: bool) -> Result<(), OutOfMemory>
-        requires rooted { IsRooted (own_node lent.now.system) self.old }
-        requires one { one ≡ false → IsLevel (outlook_in lent.now) level.One self.old.levels.one }
-        requires two { two ≡ false → IsLevel (outlook_in lent.now) level.Two self.old.levels.two }
-        ensures follows { OnOk result (IsFollowing (outlook_in lent.now) self.new) }
-        ensures one { OnOk result (Counts self.old.levels.one self.new.levels.one) }
-        ensures two { OnOk result (Counts self.old.levels.two self.new.levels.two) }
-        ensures err { OnErr result (self.new ≡ self.old) }
-    {
-        match self.later(lent, one, two) {
-            Ok(next) => {
-                *self = next;
-                Ok(())
-            }
-            Err(error) => Err(error),
-        }
-    }
-
-    /// The value that follows what is lent, where these levels' rows may have changed.
-    fn later(&self, lent: &Lent<'_>, one: bool, two: bool) -> Result<Following, OutOfMemory>
-        requires rooted { IsRooted (own_node lent.now.system) self.now }
-        requires one { one ≡ false → IsLevel (outlook_in lent.now) level.One self.now.levels.one }
-        requires two { two ≡ false → IsLevel (outlook_in lent.now) level.Two self.now.levels.two }
-        ensures follows { IfOk result (λ f. IsFollowing (outlook_in lent.now) f) }
-        ensures one { IfOk result (λ f. Counts self.now.levels.one f.levels.one) }
-        ensures two { IfOk result (λ f. Counts self.now.levels.two f.levels.two) }
-    {
-        let one = if_moved(self.alloc, one, &self.one, runs_one(lent.levels), lent.one)?;
-        match if_moved(self.alloc, two, &self.two, runs_two(lent.levels), lent.two) {
-            Ok(two) => assembled(self.alloc, &as_lent(lent), one, two),
-            Err(error) => {
-                drop(one);
-                Err(error)
-            }
-        }
-    }
-
     /// The routes, in order of prefix.
     pub fn routes(&self) -> &Routes
         ensures { result.now ≡ self.now.routes }
@@ -153,77 +111,25 @@ fn fresh(alloc: Global, runs: bool, store: &Store, root: NodeId) -> Result<Repai
     Repaired::new(alloc, &graph, root)
 }
 
-/// The distances of a level, repaired where its rows may have changed.
-fn if_moved(
-    alloc: Global,
-    moved: bool,
-    old: &Repaired,
-    runs: bool,
-    store: &Store,
-) -> Result<Repaired, OutOfMemory>
-    requires root { old.now.graph.root ≡ old.now.root }
-    requires stays { moved ≡ false → AreUsable (rows_in (where_run runs (told_in store.now.entries)))
-        (overloaded_in (where_run runs (told_in store.now.entries))) old.now.root old.now.graph }
-    ensures graph { IfOk result (λ new.
-        AreUsable (rows_in (where_run runs (told_in store.now.entries)))
-        (overloaded_in (where_run runs (told_in store.now.entries))) old.now.root new.graph) }
-    ensures root { IfOk result (λ new. new.root ≡ old.now.root) }
-    ensures counts { IfOk result (λ new. Counts old.now new) }
-{
-    if !moved {
-        return old.copy();
-    }
-    let level = LevelView { store, moved: None };
-    followed(alloc, old, runs, &level)
-}
-
-/// The distances of a level, repaired for its rows as they are read.
+/// The distances of a level, repaired for its rows as they are read, and the rows that go and come.
 pub(crate) fn followed(
     alloc: Global,
     old: &Repaired,
     runs: bool,
     level: &LevelView<'_>,
-) -> Result<Repaired, OutOfMemory>
+) -> Result<CostsMoved, OutOfMemory>
     requires fit { IsFit level.now }
     requires root { old.now.graph.root ≡ old.now.root }
     ensures graph { IfOk result (λ new.
         AreUsable (rows_in (where_run runs (told_of level.now)))
-        (overloaded_in (where_run runs (told_of level.now))) old.now.root new.graph) }
-    ensures root { IfOk result (λ new. new.root ≡ old.now.root) }
-    ensures counts { IfOk result (λ new. Counts old.now new) }
+        (overloaded_in (where_run runs (told_of level.now))) old.now.root new.costs.graph) }
+    ensures moved { IfOk result (IsOneChange old.now) }
 {
     let graph = graph_of(alloc, runs, level, old.graph().root())?;
-    let (removed, added) = rows_apart(alloc, old.graph().rows(), rows_in_order(&graph))?;
-    let mut new = old.copy()?;
-    let blank = Blank::new(1);
-    change::<Brand>(&mut new, removed.as_slice(), added.as_slice(), blank)?;
-    Ok(new)
-}
-
-/// Changes rows. Its steps aren't counted further.
-pub(crate) fn change<L: Ledger>(
-    repaired: &mut Repaired,
-    removed: &[Row],
-    added: &[Row],
-    blank: Blank,
-) -> Result<(), OutOfMemory>
-    requires name { blank.name ≡ L.name }
-    requires parts { blank.parts ≡ L.parts }
-    requires some { 0 < blank.parts }
-    requires there { (x : row.Row) → times removed.now x ≤ times repaired.old.graph.rows x }
-    requires few { length repaired.old.graph.rows + length added.now
-        < 2 ^ 32 + length removed.now }
-    ensures rows { OnOk result ((x : row.Row)
-        → times repaired.new.graph.rows x + times removed.now x
-        ≡ times repaired.old.graph.rows x + times added.now x) }
-    ensures graph_root { repaired.new.graph.root ≡ repaired.old.graph.root }
-    ensures root { repaired.new.root ≡ repaired.old.root }
-    ensures changes { OnOk result (0 < length removed.now + length added.now
-        → repaired.new.changes ≡ min (repaired.old.changes + 1) (2 ^ 64 - 1)) }
-    ensures none { length removed.now + length added.now ≡ 0 → repaired.new ≡ repaired.old }
-{
-    let mut steps = Steps::<L>::new(blank);
-    repaired.change(removed, added, &mut steps)
+    match changed_to(alloc, old, &graph) {
+        Ok(new) => Ok(new),
+        Err(error) => Err(error),
+    }
 }
 
 /// The value of these distances.

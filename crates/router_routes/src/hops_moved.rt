@@ -1,13 +1,13 @@
 //! A level's next hops once its costs are others: where little is, they are made of what they were (own).
 ghost use Rattle.std.specs.Prelude.{◌≡◌, IfOk};
+ghost use Rattle.spf_tree.specs.Local.{AreExchanged};
 ghost use Rattle.router_routes.specs.Following.{AreHopsOf};
 ghost use Rattle.router_routes.specs.Coming.{AreOfOneRoot, CostsStay, HopsStay};
 
 use crate::coming::hops_from;
-use crate::differences::rows_apart;
+use crate::moving::CostsMoved;
 use isis_base::OutOfMemory;
 use spf_repair::Repaired;
-use spf_tree::parts::rows_in_order;
 use spf_tree::{Change, HopTable, HopsAfter, hops_after};
 use std::alloc::Global;
 
@@ -25,16 +25,18 @@ pub(crate) fn hops_moved(
     alloc: Global,
     old: &Repaired,
     known: &HopTable,
-    new: &Repaired,
+    new: &CostsMoved,
 ) -> Result<HopsMoved, OutOfMemory>
     requires known { AreHopsOf old.now known.now }
-    requires root { AreOfOneRoot old.now new.now }
-    ensures right { IfOk result (λ hops. AreHopsOf new.now hops.table) }
+    requires root { AreOfOneRoot old.now new.now.costs }
+    requires rows { AreExchanged old.now.graph.rows new.now.costs.graph.rows
+        new.now.removed.items new.now.added.items }
+    ensures right { IfOk result (λ hops. AreHopsOf new.now.costs hops.table) }
     ensures apart { IfOk result (λ hops. HopsStay hops.apart.items known.now hops.table) }
     ensures moved { IfOk result (λ hops.
-        CostsStay hops.moved.items old.now.distances new.now.distances) }
+        CostsStay hops.moved.items old.now.distances new.now.costs.distances) }
 {
-    let (before, after) = (old.distances(), new.distances());
+    let (before, after) = (old.distances(), new.costs.distances());
     let moved = before.apart(alloc, after)?;
     let hops = hops_beside(alloc, old, known, new, moved.as_slice());
     match hops {
@@ -55,18 +57,19 @@ fn hops_beside(
     alloc: Global,
     old: &Repaired,
     known: &HopTable,
-    new: &Repaired,
+    new: &CostsMoved,
     moved: &[u64],
 ) -> Result<HopsAfter, OutOfMemory>
     requires known { AreHopsOf old.now known.now }
-    requires root { AreOfOneRoot old.now new.now }
-    requires moved { CostsStay moved.now old.now.distances new.now.distances }
-    ensures right { IfOk result (λ hops. AreHopsOf new.now hops.table) }
+    requires root { AreOfOneRoot old.now new.now.costs }
+    requires rows { AreExchanged old.now.graph.rows new.now.costs.graph.rows
+        new.now.removed.items new.now.added.items }
+    requires moved { CostsStay moved.now old.now.distances new.now.costs.distances }
+    ensures right { IfOk result (λ hops. AreHopsOf new.now.costs hops.table) }
     ensures apart { IfOk result (λ hops. HopsStay hops.inside.items known.now hops.table) }
 {
-    let (before, after) = (old.graph(), new.graph());
-    let (old_distances, new_distances) = (old.distances(), new.distances());
-    let (removed, added) = rows_apart(alloc, rows_in_order(before), rows_in_order(after))?;
+    let (before, after) = (old.graph(), new.costs.graph());
+    let (old_distances, new_distances) = (old.distances(), new.costs.distances());
     let change = Change {
         table: known,
         old: before,
@@ -75,12 +78,12 @@ fn hops_beside(
         new_distances,
         root: after.root(),
         moved,
-        removed: removed.as_slice(),
-        added: added.as_slice(),
+        removed: new.removed.as_slice(),
+        added: new.added.as_slice(),
     };
     match hops_after(alloc, &change)? {
         Some(after) => Ok(after),
-        None => hops_anew(alloc, known, new),
+        None => hops_anew(alloc, known, &new.costs),
     }
 }
 

@@ -6,13 +6,14 @@ ghost use Rattle.isis_base.specs.declared.level.Level.TheVariants as level;
 ghost use Rattle.isis_base.specs.Identifiers.{IsId};
 ghost use Rattle.spf_tree.specs.Nodes.{node_number};
 ghost use Rattle.spf_tree.specs.Distances.{cost_at};
+ghost use Rattle.route_table.specs.Patches.{is_moved};
 ghost use Rattle.router_routes.specs.Candidates.{attached_of, default_of, system_candidates};
 ghost use Rattle.router_routes.specs.Following.{IsFollowing, IsLevel};
-ghost use Rattle.router_routes.specs.Kept.{AreAmong, AreBeside, AreReached, CostBeside, HaveToldIds, stays, systems_among};
+ghost use Rattle.router_routes.specs.Kept.{AreAmong, AreBeside, AreReached, CostBeside, HaveToldIds, systems_among};
 ghost use Rattle.router_routes.specs.Moved.{AreFit, AreNodes, IsFit, is_among, nodes_in, nodes_of, outlook_at, told_of};
 ghost use Rattle.router_routes.specs.Outlooks.{outlook_in, where_run};
 ghost use Rattle.router_routes.specs.Coming.{AreLevelsBeside, HaveNumbers, moved_in};
-ghost use Rattle.router_routes.specs.Touched.{AreStill};
+ghost use Rattle.router_routes.specs.Touched.{AreStill, is_by};
 
 use crate::candidates::{add_all, add_defaults, add_told, runs_one, runs_two};
 use crate::coming::{LevelAfter, LevelsAfter, newest_costs};
@@ -21,6 +22,7 @@ use crate::lent::Lent;
 use crate::same::same_candidate;
 use crate::systems::{level_systems, systems_among};
 use crate::told::{Moved, Told};
+use crate::touched::node_numbers;
 use crate::view::{LevelView, View, nodes_law};
 use isis_base::laws::lsp_id_law;
 use isis_base::{Level, LevelSet, LspId, NodeId, OutOfMemory};
@@ -44,6 +46,7 @@ impl Following {
         requires nodes { AreNodes nodes.now }
         requires costs_one { CostBeside nodes.now self.now.levels.one.distances one.now.distances }
         requires costs_two { CostBeside nodes.now self.now.levels.two.distances two.now.distances }
+        requires store { view.now.two.store ≡ lent.now.two }
         requires fit { AreFit view.now }
         requires one { IsLevel (outlook_at view.now) level.One one.now }
         requires two { IsLevel (outlook_at view.now) level.Two two.now }
@@ -72,6 +75,7 @@ impl Following {
         requires nodes { AreNodes nodes.now }
         requires costs_one { CostBeside nodes.now self.now.levels.one.distances one.now.distances }
         requires costs_two { CostBeside nodes.now self.now.levels.two.distances two.now.distances }
+        requires store { view.now.two.store ≡ lent.now.two }
         requires fit { AreFit view.now }
         requires one { IsLevel (outlook_at view.now) level.One one.now }
         requires two { IsLevel (outlook_at view.now) level.Two two.now }
@@ -103,6 +107,7 @@ impl Following {
         requires nodes { AreNodes nodes.now }
         requires costs_one { CostBeside nodes.now self.now.levels.one.distances one.now.distances }
         requires costs_two { CostBeside nodes.now self.now.levels.two.distances two.now.distances }
+        requires store { view.now.two.store ≡ lent.now.two }
         requires fit { AreFit view.now }
         requires one { IsLevel (outlook_at view.now) level.One one.now }
         requires two { IsLevel (outlook_at view.now) level.Two two.now }
@@ -117,21 +122,45 @@ impl Following {
         let _old_two = self.two.distances();
         let _new_one = one.distances();
         let _new_two = two.distances();
-        let attached = attached_now(self.alloc, view, two)?;
+        let attached = self.attached_after(lent, view, nodes, two)?;
         let told = told_of_nodes(self.alloc, view, nodes, one, two)?;
         let ways = ways_of_nodes(self.alloc, view, nodes, one)?;
-        let gone = is_gone(self.told.as_slice(), nodes, told.as_slice());
-        let barred = is_gone(self.defaults.as_slice(), nodes, ways.as_slice());
+        let numbers = node_numbers(self.alloc, nodes)?;
+        let moved = numbers.as_slice();
+        let gone = is_gone(self.told.as_slice(), moved, told.as_slice());
+        let barred = is_gone(self.defaults.as_slice(), moved, ways.as_slice());
         if gone && barred && are_same(attached, self.attached) {
             return Ok(None);
         }
-        let told = kept_with(self.alloc, self.told.as_slice(), nodes, told.as_slice())?;
-        let defaults = kept_with(self.alloc, self.defaults.as_slice(), nodes, ways.as_slice())?;
+        let told = kept_with(self.alloc, self.told.as_slice(), moved, told.as_slice())?;
+        let defaults = kept_with(self.alloc, self.defaults.as_slice(), moved, ways.as_slice())?;
         Ok(Some(Reached {
             told,
             defaults,
             attached,
         }))
+    }
+
+    /// Whether the router is attached, where these nodes moved and these are the costs of level 2: as
+    /// before, where level 2 is told nothing else.
+    fn attached_after(
+        &self,
+        lent: &Lent<'_>,
+        view: &View<'_>,
+        nodes: &[NodeId],
+        two: &Repaired,
+    ) -> Result<bool, OutOfMemory>
+        requires follows { IsFollowing (outlook_in lent.now) self.now }
+        requires beside { AreBeside nodes.now (outlook_in lent.now) (outlook_at view.now) }
+        requires store { view.now.two.store ≡ lent.now.two }
+        requires fit { AreFit view.now }
+        requires two { IsLevel (outlook_at view.now) level.Two two.now }
+        ensures { IfOk result (λ attached. attached ≡ attached_of (outlook_at view.now)) }
+    {
+        match view.two.moved {
+            None => Ok(self.attached),
+            Some(_) => attached_now(self.alloc, view, two),
+        }
     }
 
     /// What is reached where these nodes moved, at these levels' costs.
@@ -143,6 +172,7 @@ impl Following {
         levels: &LevelsAfter,
     ) -> Result<Reached, OutOfMemory>
         requires follows { IsFollowing (outlook_in lent.now) self.now }
+        requires store { view.now.two.store ≡ lent.now.two }
         requires fit { AreFit view.now }
         requires levels { AreLevelsBeside nodes.now (outlook_in lent.now) (outlook_at view.now)
             self.now levels.now }
@@ -412,13 +442,13 @@ fn are_same(a: bool, b: bool) -> bool
     a == b
 }
 
-/// Whether the candidates by way of these nodes are these, in this order.
-fn is_gone(old: &[Candidate], nodes: &[NodeId], gone: &[Candidate]) -> bool
-    ensures { result ≡ true → filter (λ c. not (stays nodes.now c)) old.now ≡ gone.now }
+/// Whether the candidates by way of nodes of these numbers are these, in this order.
+fn is_gone(old: &[Candidate], numbers: &[u64], gone: &[Candidate]) -> bool
+    ensures { result ≡ true → filter (is_by numbers.now) old.now ≡ gone.now }
 {
     let (mut left, mut rest) = (old, gone);
     while let [first, more @ ..] = left {
-        if !stays(nodes, first) {
+        if is_by(numbers, first) {
             let [next, others @ ..] = rest else {
                 return false;
             };
@@ -432,33 +462,34 @@ fn is_gone(old: &[Candidate], nodes: &[NodeId], gone: &[Candidate]) -> bool
     rest.is_empty()
 }
 
-/// Whether a candidate is by way of another node.
-fn stays(nodes: &[NodeId], candidate: &Candidate) -> bool
-    ensures { result ≡ stays nodes.now candidate.now }
+/// Whether a candidate is by way of a node of these numbers.
+fn is_by(numbers: &[u64], candidate: &Candidate) -> bool
+    ensures { result ≡ is_by numbers.now candidate.now }
 {
-    !is_among(nodes, number(candidate.origin))
+    is_among(numbers, number(candidate.origin))
 }
 
-/// Whether a node of this number is one of these.
-fn is_among(nodes: &[NodeId], node: u64) -> bool
-    ensures { result ≡ is_among nodes.now node }
+/// Whether a number is one of these.
+fn is_among(numbers: &[u64], number: u64) -> bool
+    ensures { result ≡ is_moved numbers.now number }
 {
-    for one in nodes {
-        if number(*one) == node {
+    for one in numbers {
+        if *one == number {
             return true;
         }
     }
     false
 }
 
-/// The candidates by way of other nodes, and these.
+/// The candidates by way of nodes of other numbers, and these.
 fn kept_with(
     alloc: Global,
     old: &[Candidate],
-    nodes: &[NodeId],
+    numbers: &[u64],
     come: &[Candidate],
 ) -> Result<Vec<Candidate>, OutOfMemory>
-    ensures { IfOk result (λ list. list.items ≡ filter (stays nodes.now) old.now ++ come.now) }
+    ensures { IfOk result (λ list. list.items
+        ≡ filter (λ c. not (is_by numbers.now c)) old.now ++ come.now) }
 {
     let mut list = match Vec::with_capacity(alloc, old.len()) {
         Ok(list) => list,
@@ -466,7 +497,7 @@ fn kept_with(
     };
     let mut left = old;
     while let [first, more @ ..] = left {
-        if stays(nodes, first) {
+        if !is_by(numbers, first) {
             match list.push(*first) {
                 Ok(()) => {}
                 Err(_) => return Err(OutOfMemory),

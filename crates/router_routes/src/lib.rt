@@ -13,9 +13,11 @@
 //! - `told.rt`: what will be told by some nodes; `view.rt`: the same where their LSPs are read aside
 //! - `near.rt`: the rows that start or end at a node; `moving.rt`: a level's costs once some nodes tell other LSPs
 //! - `following.rt`: the value that follows a router's databases; `leaks.rt`: what it leaks
-//! - `ahead.rt`: what will follow once this is told; `coming.rt`: that put in the place of what follows; `hops_moved.rt`: a
-//!   level's next hops then; `kept.rt`: what stays where some nodes moved; `same.rt`: candidates compared
-//! - `touched.rt`: the prefixes whose routes are looked at anew; `patched.rt`: the routes then; `numbers.rt`: numbers in order
+//! - `ahead.rt`: what will follow once this is told; `coming.rt`: that put in the place of what follows
+//! - `hops_moved.rt`: a level's next hops then; `kept.rt`: what stays where some nodes moved
+//! - `same.rt`: candidates and prefixes compared; `numbers.rt`: numbers in order
+//! - `touched.rt`: the prefixes whose routes are looked at anew; `own.rt`: which of one's own these are
+//! - `patched.rt`: the routes then
 //! - `laws.rt`: the plain programs of the definitions are what the routes say
 #![tactic(auto)]
 
@@ -33,6 +35,7 @@ mod level_graph;
 mod moving;
 mod near;
 mod numbers;
+mod own;
 mod patched;
 mod same;
 mod systems;

@@ -1,28 +1,38 @@
 //! A level's costs once some nodes tell other LSPs (own).
-ghost use Rattle.std.specs.Prelude.{◌≡◌, ◌+◌, ◌^◌, ◌<◌, ◌≤◌, false, IfOk};
+ghost use Rattle.std.specs.Prelude.{◌≡◌, ◌+◌, ◌-◌, ◌^◌, ◌<◌, ◌≤◌, false, length, min, IfOk};
 ghost use Rattle.spf_tree.specs.declared.row.Row as row;
 ghost use Rattle.spf_tree.specs.Graphs.{GraphOf, AreUsable, times};
 ghost use Rattle.lsp_view.specs.Views.{rows_in, overloaded_in};
+ghost use Rattle.router_routes.specs.Differences.{ArePartedRows};
 ghost use Rattle.router_routes.specs.Told.{told_in};
 ghost use Rattle.router_routes.specs.Outlooks.{where_run};
-ghost use Rattle.router_routes.specs.Moved.{AreChanged, AreCosts, IsFit, IsListing, IsReadable, or_old, told_after, told_of, told_with};
+ghost use Rattle.router_routes.specs.Moved.{AreChanged, AreCosts, AreRowsMoved, IsFit, IsOneChange, IsListing, IsReadable, or_old, told_after, told_of, told_with};
 
 use crate::differences::rows_apart;
-use crate::following::{change, followed};
+use crate::following::followed;
 use crate::near::{graph_near, touching};
 use crate::told::Moved;
 use crate::view::LevelView;
 use isis_base::{NodeId, OutOfMemory};
 use lsp_store::Store;
-use spf_repair::Repaired;
-use spf_tree::Row;
+use spf_repair::{Repaired, Steps};
 use spf_tree::parts::{number, rows_in_order};
+use spf_tree::{Graph, Row};
 use std::alloc::Global;
 use std::marker::Brand;
-use std::sync::ledger::Blank;
+use std::sync::ledger::{Blank, Ledger};
 
 /// How many nodes of a level may tell other LSPs before its graph is made anew.
 const MOST: usize = 16;
+
+/// A level's costs as they will be, and the rows that its graph loses and gains, each as often as it
+/// is other.
+#[derive(Drop)]
+pub(crate) struct CostsMoved {
+    pub costs: Repaired,
+    pub removed: Vec<Row>,
+    pub added: Vec<Row>,
+}
 
 /// A level's costs as it is read; `None` where its rows stay.
 pub(crate) fn level_after(
@@ -30,12 +40,13 @@ pub(crate) fn level_after(
     runs: bool,
     old: &Repaired,
     level: &LevelView<'_>,
-) -> Result<Option<Repaired>, OutOfMemory>
+) -> Result<Option<CostsMoved>, OutOfMemory>
     requires costs { AreCosts (where_run runs (told_in level.now.store.now.entries)) old.now.root
         old.now }
     requires fit { IsFit level.now }
-    ensures { IfOk result (λ new. AreCosts (where_run runs (told_of level.now)) old.now.root
+    ensures costs { IfOk result (λ new. AreCosts (where_run runs (told_of level.now)) old.now.root
         (or_old new old.now)) }
+    ensures rows { IfOk result (λ new. AreRowsMoved old.now new) }
 {
     let moved = match level.moved {
         Some(moved) => moved,
@@ -59,12 +70,13 @@ fn nodes_after(
     old: &Repaired,
     store: &Store,
     moved: Moved<'_>,
-) -> Result<Option<Repaired>, OutOfMemory>
+) -> Result<Option<CostsMoved>, OutOfMemory>
     requires costs { AreCosts (told_in store.now.entries) old.now.root old.now }
     requires fit { IsReadable store.now.entries moved }
-    ensures { IfOk result (λ new. AreCosts
+    ensures costs { IfOk result (λ new. AreCosts
         (told_after moved.entry.nodes.now (told_in store.now.entries)
         (told_in moved.entry.aside.now.entries)) old.now.root (or_old new old.now)) }
+    ensures rows { IfOk result (λ new. AreRowsMoved old.now new) }
 {
     let Moved { nodes, aside } = moved;
     match nodes {
@@ -88,20 +100,22 @@ fn nodes_after(
 fn node_after(
     alloc: Global,
     old: &Repaired,
-    so_far: Option<Repaired>,
+    so_far: Option<CostsMoved>,
     before: &LevelView<'_>,
     node: NodeId,
     aside: &Store,
-) -> Result<Option<Repaired>, OutOfMemory>
+) -> Result<Option<CostsMoved>, OutOfMemory>
     requires costs { AreCosts (told_of before.now) old.now.root (or_old so_far old.now) }
+    requires rows { AreRowsMoved old.now so_far }
     requires fit { IsFit before.now }
     requires told { IsListing (told_of before.now) }
-    ensures { IfOk result (λ new. AreCosts
+    ensures costs { IfOk result (λ new. AreCosts
         (told_with node (told_of before.now) (told_in aside.now.entries)) old.now.root
         (or_old new old.now)) }
+    ensures rows { IfOk result (λ new. AreRowsMoved old.now new) }
 {
     match differences(alloc, newest(&so_far, old), before, node, aside) {
-        Ok(both) => changed_by(so_far, old, both.0.as_slice(), both.1.as_slice()),
+        Ok((removed, added)) => changed_by(alloc, so_far, old, removed, added),
         Err(error) => {
             drop(so_far);
             Err(error)
@@ -111,45 +125,117 @@ fn node_after(
 
 /// The costs with rows taken out and rows put in; as they are where there are none of either.
 fn changed_by(
-    so_far: Option<Repaired>,
+    alloc: Global,
+    so_far: Option<CostsMoved>,
     old: &Repaired,
-    removed: &[Row],
-    added: &[Row],
-) -> Result<Option<Repaired>, OutOfMemory>
-    requires { (x : row.Row) → times removed.now x ≤ times (or_old so_far old.now).graph.rows x }
-    ensures { IfOk result (λ new. AreChanged (or_old so_far old.now) (or_old new old.now)
-        removed.now added.now) }
+    removed: Vec<Row>,
+    added: Vec<Row>,
+) -> Result<Option<CostsMoved>, OutOfMemory>
+    requires there { (x : row.Row) → times removed.items x
+        ≤ times (or_old so_far old.now).graph.rows x }
+    requires apart { ArePartedRows removed.items added.items }
+    requires rows { AreRowsMoved old.now so_far }
+    ensures changed { IfOk result (λ new. AreChanged (or_old so_far old.now) (or_old new old.now)
+        removed.items added.items) }
+    ensures rows { IfOk result (λ new. AreRowsMoved old.now new) }
 {
     if removed.is_empty() && added.is_empty() {
         return Ok(so_far);
     }
-    let new = match owned(so_far, old) {
-        Ok(new) => new,
-        Err(error) => return Err(error),
-    };
-    match changed(new, removed, added) {
-        Ok(new) => Ok(Some(new)),
-        Err(error) => Err(error),
+    match so_far {
+        Some(so_far) => {
+            let (gone, come) = (removed.as_slice(), added.as_slice());
+            match changed_again(alloc, old, so_far, gone, come) {
+                Ok(new) => Ok(Some(new)),
+                Err(error) => Err(error),
+            }
+        }
+        None => match changed_first(old, removed, added) {
+            Ok(new) => Ok(Some(new)),
+            Err(error) => Err(error),
+        },
     }
 }
 
 /// The new costs, or else the old ones.
-pub(crate) fn newest<'a>(new: &'a Option<Repaired>, old: &'a Repaired) -> &'a Repaired
+fn newest<'a>(new: &'a Option<CostsMoved>, old: &'a Repaired) -> &'a Repaired
     ensures { result.now ≡ or_old new.now old.now }
 {
     match new {
-        Some(new) => new,
+        Some(new) => &new.costs,
         None => old,
     }
 }
 
-/// The new costs, or else a copy of the old ones.
-pub(crate) fn owned(new: Option<Repaired>, old: &Repaired) -> Result<Repaired, OutOfMemory>
-    ensures { IfOk result (λ costs. costs ≡ or_old new old.now) }
+/// The old costs with rows taken out and rows put in.
+fn changed_first(
+    old: &Repaired,
+    removed: Vec<Row>,
+    added: Vec<Row>,
+) -> Result<CostsMoved, OutOfMemory>
+    requires there { (x : row.Row) → times removed.items x ≤ times old.now.graph.rows x }
+    requires apart { ArePartedRows removed.items added.items }
+    requires some { 0 < length removed.items + length added.items }
+    ensures changed { IfOk result (λ new.
+        AreChanged old.now new.costs removed.items added.items) }
+    ensures moved { IfOk result (IsOneChange old.now) }
 {
-    match new {
-        Some(new) => Ok(new),
-        None => old.copy(),
+    let costs = rows_changed(old, removed.as_slice(), added.as_slice())?;
+    Ok(CostsMoved {
+        costs,
+        removed,
+        added,
+    })
+}
+
+/// New costs with more rows taken out and more rows put in: one change of the old ones in all, so that a second search makes
+/// them of these.
+fn changed_again(
+    alloc: Global,
+    old: &Repaired,
+    so_far: CostsMoved,
+    removed: &[Row],
+    added: &[Row],
+) -> Result<CostsMoved, OutOfMemory>
+    requires there { (x : row.Row) → times removed.now x ≤ times so_far.costs.graph.rows x }
+    requires rows { IsOneChange old.now so_far }
+    ensures changed { IfOk result (λ new.
+        AreChanged so_far.costs new.costs removed.now added.now) }
+    ensures moved { IfOk result (IsOneChange old.now) }
+{
+    let next = rows_changed(&so_far.costs, removed, added);
+    drop(so_far);
+    match next {
+        Ok(next) => match changed_to(alloc, old, next.graph()) {
+            Ok(new) => Ok(new),
+            Err(error) => Err(error),
+        },
+        Err(error) => Err(error),
+    }
+}
+
+/// The old costs once their rows are those of another graph: with one change where rows are others, and else with none.
+pub(crate) fn changed_to(
+    alloc: Global,
+    old: &Repaired,
+    graph: &Graph,
+) -> Result<CostsMoved, OutOfMemory>
+    ensures same { IfOk result (λ new. (x : row.Row)
+        → times new.costs.graph.rows x ≡ times graph.now.rows x) }
+    ensures moved { IfOk result (IsOneChange old.now) }
+{
+    let (removed, added) = rows_apart(alloc, rows_in_order(old.graph()), rows_in_order(graph))?;
+    if removed.len() == 0 && added.len() == 0 {
+        let costs = old.copy()?;
+        return Ok(CostsMoved {
+            costs,
+            removed,
+            added,
+        });
+    }
+    match changed_first(old, removed, added) {
+        Ok(new) => Ok(new),
+        Err(error) => Err(error),
     }
 }
 
@@ -166,6 +252,7 @@ fn differences(
     requires told { IsListing (told_of before.now) }
     ensures there { IfOk result (λ both. (x : row.Row)
         → times both.0.items x ≤ times now.now.graph.rows x) }
+    ensures apart { IfOk result (λ both. ArePartedRows both.0.items both.1.items) }
     ensures then { IfOk result (λ both. (next : GraphOf)
         → ((x : row.Row) → times next.rows x + times both.0.items x
         ≡ times now.now.graph.rows x + times both.1.items x) → next.root ≡ now.now.root
@@ -179,17 +266,40 @@ fn differences(
     rows_apart(alloc, old.as_slice(), rows_in_order(&near))
 }
 
-/// The costs with rows taken out and rows put in.
-fn changed(mut new: Repaired, removed: &[Row], added: &[Row]) -> Result<Repaired, OutOfMemory>
-    requires { (x : row.Row) → times removed.now x ≤ times new.graph.rows x }
-    ensures { IfOk result (λ next. AreChanged new next removed.now added.now) }
+/// The costs with rows taken out and rows put in. Its steps aren't counted further.
+fn rows_changed(now: &Repaired, removed: &[Row], added: &[Row]) -> Result<Repaired, OutOfMemory>
+    requires { (x : row.Row) → times removed.now x ≤ times now.now.graph.rows x }
+    ensures changed { IfOk result (λ next. AreChanged now.now next removed.now added.now) }
+    ensures count { IfOk result (λ next. next.changes ≡ min (now.now.changes + 1) (2 ^ 64 - 1)) }
 {
-    if is_too_many(new.graph().rows().len(), removed.len(), added.len()) {
+    if is_too_many(now.graph().rows().len(), removed.len(), added.len()) {
         return Err(OutOfMemory);
     }
     let blank = Blank::new(1);
-    match change::<Brand>(&mut new, removed, added, blank) {
-        Ok(()) => Ok(new),
+    match counted::<Brand>(now, removed, added, blank) {
+        Ok(next) => Ok(next),
+        Err(error) => Err(error),
+    }
+}
+
+/// The same with a counter of its own.
+fn counted<L: Ledger>(
+    now: &Repaired,
+    removed: &[Row],
+    added: &[Row],
+    blank: Blank,
+) -> Result<Repaired, OutOfMemory>
+    requires name { blank.name ≡ L.name }
+    requires parts { blank.parts ≡ L.parts }
+    requires some { 0 < blank.parts }
+    requires there { (x : row.Row) → times removed.now x ≤ times now.now.graph.rows x }
+    requires few { length now.now.graph.rows + length added.now < 2 ^ 32 + length removed.now }
+    ensures changed { IfOk result (λ next. AreChanged now.now next removed.now added.now) }
+    ensures count { IfOk result (λ next. next.changes ≡ min (now.now.changes + 1) (2 ^ 64 - 1)) }
+{
+    let mut steps = Steps::<L>::new(blank);
+    match now.changed(removed, added, &mut steps) {
+        Ok(next) => Ok(next),
         Err(error) => Err(error),
     }
 }

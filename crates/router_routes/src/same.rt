@@ -1,4 +1,4 @@
-//! Whether two lists of candidates are one (own).
+//! Whether two candidates are one, or two prefixes (own).
 ghost use Rattle.std.specs.Prelude.{◌≡◌, true};
 
 use isis_base::laws::lsp_number_law;
@@ -16,7 +16,7 @@ pub(crate) fn same_candidate(old: &Candidate, new: &Candidate) -> bool
 }
 
 /// Whether two prefixes are one.
-fn same_prefix(old: Prefix, new: Prefix) -> bool
+pub(crate) fn same_prefix(old: Prefix, new: Prefix) -> bool
     ensures { result ≡ true → old ≡ new }
 {
     old.address() == new.address() && old.length() == new.length()

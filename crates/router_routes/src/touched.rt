@@ -14,6 +14,7 @@ use crate::coming::{LevelAfter, LevelsAfter};
 use crate::following::{Following, Reached};
 use crate::lent::Lent;
 use crate::numbers::{in_order, is_one_of};
+use crate::own::own_apart;
 use crate::told::Told;
 use crate::view::View;
 use isis_base::{NodeId, OutOfMemory, Prefix};
@@ -22,8 +23,9 @@ use spf_tree::parts::number;
 use std::alloc::Global;
 
 impl Following {
-    /// The prefixes that are looked at anew, where these nodes moved and levels are these: 0.0.0.0/0, one's own where others are
-    /// told, and those of what moved nodes told and tell, in any order; some may be there twice.
+    /// The prefixes that are looked at anew, where these nodes moved and levels are these: 0.0.0.0/0,
+    /// one's own that come, go or have another metric, and those of what moved nodes told and tell, in
+    /// any order; some may be there twice.
     pub(crate) fn touched(
         &self,
         lent: &Lent<'_>,
@@ -66,7 +68,7 @@ impl Following {
 }
 
 /// The numbers of nodes.
-fn node_numbers(alloc: Global, nodes: &[NodeId]) -> Result<Vec<u64>, OutOfMemory>
+pub(crate) fn node_numbers(alloc: Global, nodes: &[NodeId]) -> Result<Vec<u64>, OutOfMemory>
     ensures { IfOk result (λ numbers. numbers.items ≡ map node_number nodes.now) }
 {
     let mut numbers = Vec::new(alloc);
@@ -99,7 +101,7 @@ fn add_numbers(numbers: &mut Vec<u64>, more: &[u64]) -> Result<(), OutOfMemory>
     }
 }
 
-/// 0.0.0.0/0, and one's own prefixes, old and new, where others are told.
+/// 0.0.0.0/0, and where others are told of one's own prefixes, those that aren't in both lists.
 fn own_touched(
     alloc: Global,
     lent: &Lent<'_>,
@@ -119,8 +121,9 @@ fn own_touched(
     match told.prefixes {
         None => Ok(prefixes),
         Some(_) => {
-            add_own(&mut prefixes, lent.prefixes)?;
-            add_own(&mut prefixes, view.prefixes)?;
+            let (old, new) = own_apart(lent.prefixes, view.prefixes);
+            add_own(&mut prefixes, old)?;
+            add_own(&mut prefixes, new)?;
             Ok(prefixes)
         }
     }

@@ -88,6 +88,33 @@ impl Repaired {
         if removed.len() == 0 && added.len() == 0 {
             return Ok(());
         }
+        match self.changed(removed, added, steps) {
+            Ok(changed) => {
+                *self = changed;
+                Ok(())
+            }
+            Err(error) => Err(error),
+        }
+    }
+
+    /// What it becomes once rows are taken out and put in, in a value of its own, with one change more.
+    pub fn changed<L: Ledger>(
+        &self,
+        removed: &[Row],
+        added: &[Row],
+        steps: &mut Steps<L>,
+    ) -> Result<Repaired, OutOfMemory>
+        requires there { (x : Row) → times removed.now x ≤ times self.now.graph.rows x }
+        requires few { length self.now.graph.rows + length added.now < 2 ^ 32 + length removed.now }
+        ensures rows { IfOk result (λ r. (x : Row) → times r.graph.rows x + times removed.now x
+            ≡ times self.now.graph.rows x + times added.now x) }
+        ensures graph_root { IfOk result (λ r. r.graph.root ≡ self.now.graph.root) }
+        ensures root { IfOk result (λ r. r.root ≡ self.now.root) }
+        ensures changes { IfOk result (λ r. r.changes ≡ min (self.now.changes + 1) (2 ^ 64 - 1)) }
+        ensures bound { IfOk result (λ r. OnlyFalls removed.now added.now
+            → IsBound (cost_at self.now.distances) (cost_at r.distances) (length removed.now
+            + length added.now) steps.old steps.new) }
+    {
         let alloc = self.alloc;
         let graph = match exchanged(alloc, &self.graph, removed, added) {
             Ok(graph) => graph,
@@ -100,10 +127,13 @@ impl Repaired {
             Ok(labels) => labels,
             Err(error) => return Err(error),
         };
-        self.graph = graph;
-        self.distances = Distances::of(labels);
-        self.changes = self.changes.saturating_add(1);
-        Ok(())
+        Ok(Repaired {
+            alloc,
+            graph,
+            root: self.root,
+            distances: Distances::of(labels),
+            changes: self.changes.saturating_add(1),
+        })
     }
 
     /// The distances.

@@ -4,8 +4,8 @@ use Rattle.router_core.proofs.SendingLemmas.{level-out}
 use Rattle.router_core.proofs.pull.put_level.Goals as goal
 
 -- src/pull.rt
-pub returns-then-is_open : goal.returns-then-is_open
-returns-then-is_open c config boot sends =
+pub returns-then-opened : goal.returns-then-opened
+returns-then-opened c config boot sends due =
     level-out c.put_due_psnps.result c.args.sender.now config (c.args.sender.now.circuit - 1) c.args.on.now c.args.level (book_of c.args.book.now)
     c.args.out.now c.put_due_csnps.new.out c.put_lsps.new.out c.put_due_psnps.new.out
-    (sym c.is_open.ensures ∙ c.if-is_open.true) (c.in_ok-put_due_csnps.ensures config boot sends) c.in_ok-put_lsps.ensures c.put_due_psnps.ensures
+    (sym due.opened ∙ c.if-opened.true) (c.in_ok-put_due_csnps.ensures config boot sends due.csnps) c.in_ok-put_lsps.ensures (c.put_due_psnps.ensures due.psnps)

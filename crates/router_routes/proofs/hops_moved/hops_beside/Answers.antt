@@ -6,8 +6,7 @@ use Rattle.spf_tree.specs.Distances.{cost_at}
 use Rattle.spf_tree.specs.Graphs.{GraphOf}
 use Rattle.spf_tree.specs.Local.{AreHopsSame, AreNextHops}
 use Rattle.spf_tree.specs.Nodes.{node_number}
-use Rattle.router_routes.proofs.ComingLemmas.{hops-beside, hops-by}
-use Rattle.router_routes.proofs.DifferenceLemmas.{differences-of}
+use Rattle.router_routes.proofs.ComingLemmas.{exchanged-by, hops-beside, hops-by}
 use Rattle.router_routes.proofs.hops_moved.hops_beside.Goals as goal
 
 pub hops_after-requires-clause-table : goal.hops_after-requires-clause-table
@@ -23,17 +22,17 @@ hops_after-requires-clause-moved c =
 
 pub hops_after-requires-clause-exchanged : goal.hops_after-requires-clause-exchanged
 hops_after-requires-clause-exchanged c =
-    let apart = differences-of c.rows_in_order.result.now c.rows_in_order-2.result.now c.in_ok-removed.removed.items c.in_ok-removed.added.items c.graph-before.result.now.rows c.graph-after.result.now.rows c.as_slice.result.now c.as_slice-2.result.now c.rows_in_order.ensures.same c.rows_in_order-2.ensures.same (sym c.as_slice.ensures.value) (sym c.as_slice-2.ensures.value) c.in_ok-removed.ensures in
-    λ row. sym (apart.counts row)
+    exchanged-by c.args.old.now c.args.new.now.costs c.graph-before.result.now c.graph-after.result.now c.as_slice.result.now c.as_slice-2.result.now c.args.new.now.removed.items c.args.new.now.added.items
+    c.graph-before.ensures c.graph-after.ensures c.as_slice.ensures.value c.as_slice-2.ensures.value c.requires.rows
 
 pub returns-in-Some-clause-right : goal.returns-in-Some-clause-right
 returns-in-Some-clause-right c =
-    hops-by c.args.new.now c.graph-after.result.now c.root.result c.in-Some.after.table c.graph-after.ensures c.root.ensures
+    hops-by c.args.new.now.costs c.graph-after.result.now c.root.result c.in-Some.after.table c.graph-after.ensures c.root.ensures
     (subst (λ (o : Option HopsAfter). IfSome o (λ after. AreNextHops c.graph-after.result.now.rows (node_number c.root.result) after.table)) c.in-Some.is c.in_ok-after.ensures.hops)
 
 pub returns-in-Some-clause-apart : goal.returns-in-Some-clause-apart
 returns-in-Some-clause-apart c =
-    hops-beside c.args.old.now c.args.new.now c.graph-before.result.now c.graph-after.result.now c.root.result c.args.known.now c.in-Some.after.table c.in-Some.after.inside.items c.requires.root c.graph-before.ensures c.graph-after.ensures c.root.ensures c.requires.known
-    (hops-by c.args.new.now c.graph-after.result.now c.root.result c.in-Some.after.table c.graph-after.ensures c.root.ensures
+    hops-beside c.args.old.now c.args.new.now.costs c.graph-before.result.now c.graph-after.result.now c.root.result c.args.known.now c.in-Some.after.table c.in-Some.after.inside.items c.requires.root c.graph-before.ensures c.graph-after.ensures c.root.ensures c.requires.known
+    (hops-by c.args.new.now.costs c.graph-after.result.now c.root.result c.in-Some.after.table c.graph-after.ensures c.root.ensures
     (subst (λ (o : Option HopsAfter). IfSome o (λ after. AreNextHops c.graph-after.result.now.rows (node_number c.root.result) after.table)) c.in-Some.is c.in_ok-after.ensures.hops))
     (subst (λ (o : Option HopsAfter). IfSome o (λ after. AreHopsSame c.graph-before.result.now.rows c.graph-after.result.now.rows (node_number c.root.result) after.inside.items)) c.in-Some.is c.in_ok-after.ensures.same)

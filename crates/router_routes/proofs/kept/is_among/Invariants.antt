@@ -1,7 +1,7 @@
 use Rattle.std.proofs.Common.{◌≡◌, drop}
-use Rattle.router_routes.specs.Moved.{is_among}
+use Rattle.route_table.specs.Patches.{is_moved}
 use Rattle.router_routes.proofs.kept.is_among.Given as goal
 
 -- what is left decides
 abbrev pub invariant-loop-one : goal.invariant-loop-one
-invariant-loop-one l = is_among l.nodes l.node ≡ is_among (drop l.one-index l.nodes) l.node
+invariant-loop-one l = is_moved l.numbers l.number ≡ is_moved (drop l.one-index l.numbers) l.number

@@ -1,10 +1,13 @@
-use Rattle.std.proofs.Common.{◌≡◌, ◌++◌, filter, length}
-use Rattle.router_routes.specs.Kept.{stays}
+use Rattle.std.proofs.Common.{◌≡◌, ◌++◌, not, filter, length}
+use Rattle.route_table.specs.declared.candidate.Candidate.{Candidate}
+use Rattle.router_routes.specs.Touched.{is_by}
 use Rattle.router_routes.proofs.kept.kept_with.Given as goal
 
 -- those so far, and those of what is left
 abbrev pub invariant-loop-left : goal.invariant-loop-left
-invariant-loop-left l = l.list.items ++ filter (stays l.nodes) l.left ≡ filter (stays l.nodes) l.old
+invariant-loop-left l =
+    l.list.items ++ filter (λ (c : Candidate). not (is_by l.numbers c)) l.left
+    ≡ filter (λ (c : Candidate). not (is_by l.numbers c)) l.old
 
 abbrev pub decreases-loop-left : goal.decreases-loop-left
 decreases-loop-left l = length l.left

@@ -23,6 +23,9 @@ returns-clause-there c =
     let most = touched-few (node_number node) now.graph.rows x in
     omega (arith, few, most)) c.rows_apart.ensures
 
+pub returns-clause-apart : goal.returns-clause-apart
+returns-clause-apart c = IfOk-weaker c.rows_apart.result _ _ (λ both apart. apart.apart) c.rows_apart.ensures
+
 pub returns-clause-then : goal.returns-clause-then
 returns-clause-then c =
     let node = c.args.node in

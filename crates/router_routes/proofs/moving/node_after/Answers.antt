@@ -1,4 +1,4 @@
-use Rattle.std.proofs.Common.{◌≡◌, ◌+◌, ◌≤◌, List, sym, subst}
+use Rattle.std.proofs.Common.{◌≡◌, ◌+◌, ◌≤◌, subst}
 use Rattle.std.proofs.lemmas.Result.{IfOk-weaker}
 use Rattle.lsp_view.specs.Views.{rows_in, overloaded_in}
 use Rattle.spf_tree.specs.declared.row.Row.{Row}
@@ -9,14 +9,12 @@ use Rattle.router_routes.specs.Moved.{or_old, told_of, told_with}
 use Rattle.router_routes.proofs.MovingLemmas.{node-costs}
 use Rattle.router_routes.proofs.moving.node_after.Goals as goal
 
-pub changed_by-requires : goal.changed_by-requires
-changed_by-requires c = λ x.
-    subst (λ (l : List Row). times l x ≤ times (or_old c.args.so_far c.args.old.now).graph.rows x) (sym c.as_slice.ensures.value)
-    (subst (λ (r : RepairedOf). times c.in-Ok.both.0.items x ≤ times r.graph.rows x) c.newest.ensures (c.in-Ok.ensures.there x))
+pub changed_by-requires-clause-there : goal.changed_by-requires-clause-there
+changed_by-requires-clause-there c = λ x. subst (λ (r : RepairedOf). times c.in-Ok.removed.items x ≤ times r.graph.rows x) c.newest.ensures (c.in-Ok.ensures.there x)
 
-pub returns-in-Ok : goal.returns-in-Ok
-returns-in-Ok c =
+pub returns-in-Ok-clause-costs : goal.returns-in-Ok-clause-costs
+returns-in-Ok-clause-costs c =
     let later = told_with c.args.node (told_of c.args.before.now) (told_in c.args.aside.now.entries) in
     IfOk-weaker c.changed_by.result _ _ (λ new change.
-    node-costs (told_of c.args.before.now) later c.args.old.now.root (or_old c.args.so_far c.args.old.now) (or_old new c.args.old.now) c.in-Ok.both.0.items c.in-Ok.both.1.items c.as_slice.result.now c.as_slice-in-Ok.result.now c.requires.costs change c.as_slice.ensures.value c.as_slice-in-Ok.ensures.value
-    (subst (λ (r : RepairedOf). (next : GraphOf) → ((x : Row) → times next.rows x + times c.in-Ok.both.0.items x ≡ times r.graph.rows x + times c.in-Ok.both.1.items x) → next.root ≡ r.root → AreUsable (rows_in later) (overloaded_in later) r.root next) c.newest.ensures c.in-Ok.ensures.then)) c.changed_by.ensures
+    node-costs (told_of c.args.before.now) later c.args.old.now.root (or_old c.args.so_far c.args.old.now) (or_old new c.args.old.now) c.in-Ok.removed.items c.in-Ok.added.items c.requires.costs change
+    (subst (λ (r : RepairedOf). (next : GraphOf) → ((x : Row) → times next.rows x + times c.in-Ok.removed.items x ≡ times r.graph.rows x + times c.in-Ok.added.items x) → next.root ≡ r.root → AreUsable (rows_in later) (overloaded_in later) r.root next) c.newest.ensures c.in-Ok.ensures.then)) c.changed_by.ensures.changed

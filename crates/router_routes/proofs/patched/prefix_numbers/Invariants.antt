@@ -1,5 +1,5 @@
 use Rattle.std.proofs.Common.{◌≡◌, map, take}
-use Rattle.route_table.specs.Ranks.{prefix_number}
+use Rattle.isis_base.specs.Prefixes.{prefix_number}
 use Rattle.router_routes.proofs.patched.prefix_numbers.Given as goal
 
 -- the numbers of the prefixes so far

@@ -1,4 +1,5 @@
-use Rattle.router_routes.proofs.PatchLemmas.{all-listed, first-listed, own-listed, own-of, own-stay}
+use Rattle.router_routes.proofs.OwnLemmas.{own-listed, own-of, own-stay}
+use Rattle.router_routes.proofs.PatchLemmas.{all-listed, first-listed}
 use Rattle.router_routes.proofs.touched.own_touched.Goals as goal
 
 pub returns-in-None-clause-all : goal.returns-in-None-clause-all
@@ -13,4 +14,5 @@ returns-in_ok-add_own-in-Some-2-clause-all c =
 
 pub returns-in_ok-add_own-in-Some-2-clause-own : goal.returns-in_ok-add_own-in-Some-2-clause-own
 returns-in_ok-add_own-in-Some-2-clause-own c =
-    own-of c.args.lent.now c.args.view.now c.add_own-in-Some.new.prefixes.items (own-listed c.args.lent.now.prefixes.now c.args.view.now.prefixes.now c.push.new.self.items c.add_own.new.prefixes.items c.add_own-in-Some.new.prefixes.items c.in_ok-add_own-in-Some.ensures c.in_ok-add_own-in-Some-2.ensures)
+    own-of c.args.lent.now c.args.view.now c.add_own-in-Some.new.prefixes.items (c.own_apart.ensures c.add_own-in-Some.new.prefixes.items
+    (own-listed c.own_apart.result.0.now c.own_apart.result.1.now c.push.new.self.items c.add_own.new.prefixes.items c.add_own-in-Some.new.prefixes.items c.in_ok-add_own-in-Some.ensures c.in_ok-add_own-in-Some-2.ensures))

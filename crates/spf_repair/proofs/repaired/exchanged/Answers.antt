@@ -1,4 +1,4 @@
-use Rattle.std.proofs.Common.{◌≡◌, ◌≤◌, ◌+◌, ◌∙◌, List, sym, ap, subst}
+use Rattle.std.proofs.Common.{◌≤◌, ◌+◌, ◌∙◌, List, sym, ap, subst}
 use Rattle.spf_tree.specs.declared.row.Row.{Row}
 use Rattle.spf_tree.specs.Graphs.{times}
 use Rattle.spf_repair.specs.Change.{AreChanged}

@@ -6,7 +6,7 @@ use Rattle.router_wanted.specs.declared.wanted.Wanted.{Wanted}
 use Rattle.router_wanted.specs.Views.{wanted_of}
 use Rattle.router_core.specs.Givens.{given}
 use Rattle.router_core.specs.Settled.{IsSettled, faces}
-use Rattle.router_core.proofs.LastLemmas.{later-kept}
+use Rattle.router_core.proofs.LastLemmas.{later-seen}
 use Rattle.router_core.proofs.QuietLemmas.{later-same}
 use Rattle.router_core.proofs.SettledLemmas.{own-is, lasting-is, settled-later, marked-wants, told-wants, aged}
 use Rattle.router_core.proofs.machine.Machine.calm_level.Goals as goal
@@ -21,9 +21,9 @@ returns-then-rests-clause-calm c = λ r e f.
     (marked-wants q r c.args.level c.args.circuits.now (c.requires.marked c.if-marked.true) e f)
 
 -- src/plan_second.rt
-pub returns-then-rests-clause-keys : goal.returns-then-rests-clause-keys
-returns-then-rests-clause-keys c = λ list.
-    later-kept (level_of c.args.self.now c.args.level) c.args.level list
+pub returns-then-rests-clause-seen : goal.returns-then-rests-clause-seen
+returns-then-rests-clause-seen c = λ list.
+    later-seen (level_of c.args.self.now c.args.level) c.args.level list
     (lasting-is c.level-on.result.now c.book.result.now (level_of c.args.self.now c.args.level) c.book.ensures c.level-on.ensures.state (c.lasts.ensures c.if-not-lasts.false))
 
 -- src/plan_second.rt
@@ -51,9 +51,9 @@ returns-then-rests-2-clause-calm c = λ r e f.
     (subst (λ (xs : List _). IsSettled xs (map wanted_of c.deref.result.now)) own (c.is_settled.ensures c.if-is_settled.true)) e f)
 
 -- src/plan_second.rt
-pub returns-then-rests-2-clause-keys : goal.returns-then-rests-2-clause-keys
-returns-then-rests-2-clause-keys c = λ list.
-    later-kept (level_of c.args.self.now c.args.level) c.args.level list
+pub returns-then-rests-2-clause-seen : goal.returns-then-rests-2-clause-seen
+returns-then-rests-2-clause-seen c = λ list.
+    later-seen (level_of c.args.self.now c.args.level) c.args.level list
     (lasting-is c.level-on.result.now c.book.result.now (level_of c.args.self.now c.args.level) c.book.ensures c.level-on.ensures.state (c.lasts.ensures c.if-not-lasts.false))
 
 -- src/plan_second.rt
@@ -67,7 +67,7 @@ returns-then-is_quiet-clause-calm c = λ r e f.
     (c.is_quiet.ensures c.if-is_quiet.true)
 
 -- src/plan_second.rt
-pub returns-then-is_quiet-clause-keys : goal.returns-then-is_quiet-clause-keys
-returns-then-is_quiet-clause-keys c = λ list.
-    later-kept (level_of c.args.self.now c.args.level) c.args.level list
+pub returns-then-is_quiet-clause-seen : goal.returns-then-is_quiet-clause-seen
+returns-then-is_quiet-clause-seen c = λ list.
+    later-seen (level_of c.args.self.now c.args.level) c.args.level list
     (lasting-is c.level-on.result.now c.book.result.now (level_of c.args.self.now c.args.level) c.book.ensures c.level-on.ensures.state (c.lasts.ensures c.if-not-lasts.false))

@@ -5,20 +5,20 @@ use Rattle.router_core.proofs.PullLemmas.{gone-then, gone-else}
 use Rattle.router_core.proofs.machine.Machine.hello_gone.Goals as goal
 
 -- src/pull_parts.rt
-pub returns-then-hello_is_due : goal.returns-then-hello_is_due
+pub returns-then-due : goal.returns-then-due
 unfolding after_hello
-returns-then-hello_is_due c =
-    gone-then c.args.self.now c.hello_sent.new.self (c.args.circuit - 1) c.hello_is_due.result
+returns-then-due c =
+    gone-then c.args.self.now c.hello_sent.new.self (c.args.circuit - 1) c.args.due
     (λ x. x.hello == 0)
     (λ x. with_circuit c.args.self.now (c.args.circuit - 1) (record x { hello = 10 }))
-    (omega (arith, c.requires)) c.if-hello_is_due.true c.hello_is_due.ensures
+    (omega (arith, c.requires.there)) c.if-due.true c.requires.due
     c.hello_sent.ensures
 
 -- src/pull_parts.rt
-pub returns-else-hello_is_due : goal.returns-else-hello_is_due
+pub returns-else-due : goal.returns-else-due
 unfolding after_hello
-returns-else-hello_is_due c =
-    gone-else c.args.self.now (c.args.circuit - 1) c.hello_is_due.result
+returns-else-due c =
+    gone-else c.args.self.now (c.args.circuit - 1) c.args.due
     (λ x. x.hello == 0)
     (λ x. with_circuit c.args.self.now (c.args.circuit - 1) (record x { hello = 10 }))
-    (omega (arith, c.requires)) c.if-hello_is_due.false c.hello_is_due.ensures
+    (omega (arith, c.requires.there)) c.if-due.false c.requires.due

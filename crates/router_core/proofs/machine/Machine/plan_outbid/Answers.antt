@@ -1,4 +1,4 @@
-use Rattle.std.proofs.Common.{◌≡◌, ◌∙◌, ◌-◌, None, IfSome, Ok, refl, ap, sym, subst, arith}
+use Rattle.std.proofs.Common.{◌≡◌, ◌-◌, None, IfSome, Ok, refl, ap, sym, subst, arith}
 use Rattle.isis_base.specs.Identifiers.{lsp_number}
 use Rattle.model_router.specs.Events as model
 use Rattle.model_router.specs.Places.{nth}

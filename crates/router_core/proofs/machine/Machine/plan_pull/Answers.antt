@@ -24,7 +24,7 @@ returns c =
     let out = c.in_ok-out.out in
     let stays = c.outlook_laws.ensures.calm r pulls c.requires.reached tt in
     record {
-      ready = (c.requires.there, c.requires.reached);
+      ready = (c.requires.there, c.requires.reached, c.due-due.ensures);
       state = refl;
       reply = pull-reply r (step given r pulls).router place out
           (due-sent r place is.0 out c.requires.reached.idle is.1

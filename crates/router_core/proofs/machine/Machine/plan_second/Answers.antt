@@ -1,14 +1,13 @@
-use Rattle.std.proofs.Common.{◌≡◌, ◌∙◌, List, Some, map, length, refl, sym, ap, subst}
+use Rattle.std.proofs.Common.{◌≡◌, ◌∙◌, List, map, length, refl, ap, subst}
 use Rattle.isis_base.specs.declared.level.Level.TheVariants as level
 use Rattle.model_router.specs.Events as model
 use Rattle.model_router.specs.Routers.{Circuit, Router}
 use Rattle.model_router.specs.Steps.{step}
+use Rattle.router_routes.specs.Outlooks.{outlook_of}
 use Rattle.router_core.specs.Givens.{given}
-use Rattle.router_core.specs.Plans.{IsCalmAt}
+use Rattle.router_core.specs.LevelSeconds.{IsLevelSecond}
 use Rattle.router_core.specs.Seconds.{bare_later}
-use Rattle.router_core.specs.Settled.{faces}
-use Rattle.router_core.proofs.CalmSecondLemmas.{passed-is, passed-outlook, passed-marks}
-use Rattle.router_core.proofs.SettledLemmas.{some-told}
+use Rattle.router_core.proofs.PassedLemmas.{passed-is, passed-marks, passed-moved, unmoved}
 use Rattle.router_core.proofs.StepLemmas.{second-done}
 use Rattle.router_core.proofs.machine.Machine.plan_second.Goals as goal
 
@@ -16,24 +15,23 @@ use Rattle.router_core.proofs.machine.Machine.plan_second.Goals as goal
 pub returns : goal.returns
 returns c =
     let r = c.args.self.now in
+    let t = (step given r model.Second).router in
     let list = c.in_ok-circuits.circuits.items in
+    let one = c.in_ok-one.one in
+    let two = c.in-Ok.two in
     let later : list ≡ map bare_later r.circuits =
     c.in_ok-circuits.ensures.state ∙ (ap (λ (cs : List Circuit). map bare_later cs) c.deref.ensures.value ∙ ap (λ (q : Router). map bare_later q.circuits) c.self.view_is) in
     let count : length list ≡ length r.circuits =
     c.in_ok-circuits.ensures.count ∙ (ap (λ (cs : List Circuit). length cs) c.deref.ensures.value ∙ ap (λ (q : Router). length q.circuits) c.self.view_is) in
-    let one : IsCalmAt r level.One list =
-    subst (λ (cs : List Circuit). IsCalmAt r level.One cs) c.deref-4.ensures.value (λ q a b. some-told _ _ _ c.in-Ok-Some.field-0-is (c.in-Ok-Some.ensures.calm q a b)) in
-    let two : IsCalmAt r level.Two list =
-    subst (λ (cs : List Circuit). IsCalmAt r level.Two cs) c.deref-5.ensures.value (λ q a b. some-told _ _ _ c.in-Ok-Some-calm_level.field-0-is (c.in-Ok-Some-calm_level.ensures.calm q a b)) in
-    let is = passed-is r list later one two in
-    let stays = passed-outlook r list c.requires.reached is
-    (some-told _ _ _ c.in-Ok-Some.field-0-is c.in-Ok-Some.ensures.keys list) (some-told _ _ _ c.in-Ok-Some-calm_level.field-0-is c.in-Ok-Some-calm_level.ensures.keys list) in
+    let first : IsLevelSecond r level.One list one = subst (λ (cs : List Circuit). IsLevelSecond r level.One cs one) c.deref-4.ensures.value c.in_ok-one.ensures in
+    let second : IsLevelSecond r level.Two list two = subst (λ (cs : List Circuit). IsLevelSecond r level.Two cs two) c.deref-5.ensures.value c.in-Ok.ensures in
+    let is = passed-is r one.later two.later list later first.is_later second.is_later in
+    let moved = passed-moved r one.later two.later list one.movers two.movers c.requires.reached is first.shifted second.shifted in
     record {
-      ready = record { later = later; count = count; one = one; two = two };
+      ready = record { later = later; count = count; one = first.is_later; two = second.is_later; fit_one = first.fits; fit_two = second.fits };
       state = refl;
-      reply = second-done r (step given r model.Second).router;
-      told = stays;
-      marks = passed-marks r list _ later is stays
-          (λ q a b h. c.in-Ok-Some.ensures.settled q a (b ∙ ap faces (sym c.deref-4.ensures.value)) (c.in-Ok-Some.field-0-is ∙ ap Some h))
-          (λ q a b h. c.in-Ok-Some-calm_level.ensures.settled q a (b ∙ ap faces (sym c.deref-5.ensures.value)) (c.in-Ok-Some-calm_level.field-0-is ∙ ap Some h));
+      reply = second-done r t;
+      told = c.told_of-told.ensures.told (outlook_of r) (outlook_of t) moved;
+      marks = c.told_of-told.ensures.marks t (λ none-one none-two.
+          passed-marks r one.later two.later list _ later is (unmoved (outlook_of r) (outlook_of t) one.movers two.movers none-one none-two moved) first.still first.says second.still second.says);
     }

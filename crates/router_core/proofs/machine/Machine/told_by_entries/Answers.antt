@@ -1,4 +1,4 @@
-use Rattle.std.proofs.Common.{◌≡◌, ◌∙◌, true, List, sym, ap, subst}
+use Rattle.std.proofs.Common.{◌≡◌, ◌∙◌, List, sym, ap, subst}
 use Rattle.std.specs.List.{AllByRecursion}
 use Rattle.isis_base.specs.Identifiers.{IsId}
 use Rattle.isis_base.specs.declared.identifiers.LspId.{LspId}
@@ -6,7 +6,6 @@ use Rattle.isis_base.specs.declared.identifiers.NodeId.{NodeId}
 use Rattle.lsp_store.specs.Databases.{Database}
 use Rattle.lsp_store.specs.Maps.{RisesFrom}
 use Rattle.lsp_store.specs.declared.entry.Entry.{Entry}
-use Rattle.model_router.specs.Both.{at}
 use Rattle.model_router.specs.Receiving.{scene_of}
 use Rattle.model_router.specs.Routers.{LevelState, book_of, level_of}
 use Rattle.model_router.specs.Takes.{take_entries, take_snp}

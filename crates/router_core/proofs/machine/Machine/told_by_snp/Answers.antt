@@ -1,4 +1,4 @@
-use Rattle.std.proofs.Common.{◌≡◌, ◌∙◌, ◌-◌, sym, subst}
+use Rattle.std.proofs.Common.{◌-◌, subst}
 use Rattle.model_router.specs.Events as model
 use Rattle.model_router.specs.Numbers.{system_number}
 use Rattle.model_router.specs.Routers.{Router}

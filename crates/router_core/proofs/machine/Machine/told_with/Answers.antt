@@ -1,4 +1,4 @@
-use Rattle.std.proofs.Common.{◌≡◌, ◌∙◌, true, false, List, sym, ap, subst}
+use Rattle.std.proofs.Common.{◌≡◌, ◌∙◌, true, List, sym, ap, subst}
 use Rattle.std.specs.List.{AllByRecursion}
 use Rattle.isis_base.specs.Identifiers.{IsId}
 use Rattle.isis_base.specs.declared.identifiers.LspId.{LspId}

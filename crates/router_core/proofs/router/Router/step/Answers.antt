@@ -1,5 +1,4 @@
-use Rattle.std.proofs.Common.{◌≡◌, sym, subst}
-use Rattle.model_router.specs.Events as model
+use Rattle.std.proofs.Common.{sym, subst}
 use Rattle.model_router.specs.Events.{Event}
 use Rattle.model_router.specs.Routers.{Router}
 use Rattle.model_router.specs.Steps.{step}
@@ -36,12 +35,3 @@ step_hello-requires-clause-reached c =
     let fits = subst (λ (r : Router). Fits r c.args.event) (sym c.self.view_is) c.requires in
     subst (λ (r : Router). IsReached (step given r (hello_event c.in-Hello.circuit c.in-Hello.hello)).router) c.self.view_is
     (subst (λ (e : Event). IsReached (step given m e).router) way.0 (c.reached_laws.ensures.step m c.args.event c.self.invariant.reached fits c.event_octets.ensures))
-
--- src/router.rt
-pub step_second-requires : goal.step_second-requires
-step_second-requires c =
-    let m = c.self.inside.machine in
-    let way : event_of m c.args.event ≡ model.Second = subst (IsWay m (event_of m c.args.event)) c.in-Second.is (subst (λ (e : Event). IsWay m e c.in_ok-plan.field-0) c.in_ok-read.ensures.says c.in_ok-plan.ensures) in
-    let fits = subst (λ (r : Router). Fits r c.args.event) (sym c.self.view_is) c.requires in
-    subst (λ (r : Router). IsReached (step given r model.Second).router) c.self.view_is
-    (subst (λ (e : Event). IsReached (step given m e).router) way (c.reached_laws.ensures.step m c.args.event c.self.invariant.reached fits c.event_octets.ensures))

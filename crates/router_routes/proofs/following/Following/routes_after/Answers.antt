@@ -1,11 +1,9 @@
-use Rattle.std.proofs.Common.{◌∙◌, ℕ, List, length, ap, sym, subst}
+use Rattle.std.proofs.Common.{◌∙◌, ℕ, List, length, ap, subst}
 use Rattle.std.proofs.lemmas.Result.{IfOk-weaker}
-use Rattle.route_table.specs.declared.candidate.Candidate.{Candidate}
 use Rattle.route_table.specs.Order.{IsListedHop}
 use Rattle.router_routes.specs.Candidates.{candidates_of}
 use Rattle.router_routes.specs.Coming.{hops_after}
 use Rattle.router_routes.specs.Following.{FollowingOf}
-use Rattle.router_routes.specs.Kept.{AreSame}
 use Rattle.router_routes.specs.Moved.{outlook_at}
 use Rattle.router_routes.specs.Outlooks.{outlook_in}
 use Rattle.router_routes.specs.Touched.{AreRoutesFor}
@@ -18,19 +16,21 @@ touched-requires-clause-one c = c.requires.levels.hops_one.apart
 pub touched-requires-clause-two : goal.touched-requires-clause-two
 touched-requires-clause-two c = c.requires.levels.hops_two.apart
 
+pub routes_for-requires-clause-all : goal.routes_for-requires-clause-all
+routes_for-requires-clause-all c = c.in_ok-prefixes.ensures.all
+
 pub returns : goal.returns
 returns c =
     let f = c.args.self.now in
     let levels = c.args.levels.now in
     let reached = c.args.reached.now in
-    let all = c.as_slice-3.result.now in
+    let o = outlook_at c.args.view.now in
     let prefixes = c.in_ok-prefixes.prefixes.items in
     let held = length c.list-held.result.now in
     let one = c.newest_hops-one.ensures ∙ ap (λ (g : FollowingOf). hops_after levels.one g.hops.one) c.self.view_is in
     let two = c.newest_hops-two.ensures ∙ ap (λ (g : FollowingOf). hops_after levels.two g.hops.two) c.self.view_is in
-    let same = subst (λ (l : List Candidate). AreSame l (candidates_of (outlook_at c.args.view.now))) (sym c.as_slice-3.ensures.value) c.in_ok-candidates.ensures in
     IfOk-weaker c.routes_for.result _ _ (λ routes are.
-    routes-after (outlook_in c.args.lent.now) (outlook_at c.args.view.now) f c.requires.follows c.args.nodes.now levels c.requires.still c.requires.levels reached.told.items reached.defaults.items reached.attached c.requires.reached prefixes c.in_ok-prefixes.ensures all held routes same
+    routes-after (outlook_in c.args.lent.now) o f c.requires.follows c.args.nodes.now levels c.requires.still c.requires.levels reached.told.items reached.defaults.items reached.attached c.requires.reached prefixes c.in_ok-prefixes.ensures held routes
     (ap length (c.list-held.ensures.same ∙ ap (λ (g : FollowingOf). g.routes) c.self.view_is))
-    (subst (λ (t : List (ℕ × ℕ)). AreRoutesFor (IsListedHop (hops_after levels.one f.hops.one) t) all prefixes held routes) two
-    (subst (λ (t : List (ℕ × ℕ)). AreRoutesFor (IsListedHop t c.newest_hops-two.result.now) all prefixes held routes) one are))) c.routes_for.ensures
+    (subst (λ (t : List (ℕ × ℕ)). AreRoutesFor (IsListedHop (hops_after levels.one f.hops.one) t) (candidates_of o) prefixes held routes) two
+    (subst (λ (t : List (ℕ × ℕ)). AreRoutesFor (IsListedHop t c.newest_hops-two.result.now) (candidates_of o) prefixes held routes) one are))) c.routes_for.ensures
