@@ -173,7 +173,3 @@ costs-apart old new d e slice numbers was is same apart =
     subst (λ (l : List ℕ). CostsStay l old new) (sym same) (record {
       each = λ node out. ap (λ (x : List (ℕ × ℕ)). cost_at x node) (sym was) ∙ apart node out ∙ ap (λ (x : List (ℕ × ℕ)). cost_at x node) is;
     })
-
--- the same of numbers put in order
-pub costs-ordered : (old new d e : List (ℕ × ℕ)) (slice unsorted numbers : List ℕ) → d ≡ old → e ≡ new → slice ≡ numbers → ((n : ℕ) → Contains unsorted n → Contains numbers n) → ((node : ℕ) → (Contains unsorted node → ⊥) → cost_at d node ≡ cost_at e node) → CostsStay slice old new
-costs-ordered old new d e slice unsorted numbers was is same all apart = costs-apart old new d e slice numbers was is same (λ node out. apart node (λ there. out (all node there)))

@@ -1,12 +1,12 @@
 //! What a router keeps where some nodes moved: candidates by way of others stay (own).
 ghost use Rattle.std.specs.Prelude.{◌≡◌, ◌++◌, true, not, filter, IfOk, OnOk, MatchOption};
 ghost use Rattle.std.specs.List.{flat_map};
-ghost use Rattle.std.specs.List.Sorted.{IsStrictlyIncreasing};
 ghost use Rattle.isis_base.specs.declared.identifiers.NodeId.{NodeId};
 ghost use Rattle.isis_base.specs.declared.level.Level.TheVariants as level;
 ghost use Rattle.isis_base.specs.Identifiers.{IsId};
 ghost use Rattle.spf_tree.specs.Nodes.{node_number};
 ghost use Rattle.spf_tree.specs.Distances.{cost_at};
+ghost use Rattle.route_table.specs.Patches.{is_moved};
 ghost use Rattle.router_routes.specs.Candidates.{attached_of, default_of, system_candidates};
 ghost use Rattle.router_routes.specs.Following.{IsFollowing, IsLevel};
 ghost use Rattle.router_routes.specs.Kept.{AreAmong, AreBeside, AreReached, CostBeside, HaveToldIds, systems_among};
@@ -19,7 +19,6 @@ use crate::candidates::{add_all, add_defaults, add_told, runs_one, runs_two};
 use crate::coming::{LevelAfter, LevelsAfter, newest_costs};
 use crate::following::{Following, Reached, all_reached, attached};
 use crate::lent::Lent;
-use crate::numbers::{in_order, is_one_of};
 use crate::same::same_candidate;
 use crate::systems::{level_systems, systems_among};
 use crate::told::{Moved, Told};
@@ -126,8 +125,7 @@ impl Following {
         let attached = self.attached_after(lent, view, nodes, two)?;
         let told = told_of_nodes(self.alloc, view, nodes, one, two)?;
         let ways = ways_of_nodes(self.alloc, view, nodes, one)?;
-        let unsorted = node_numbers(self.alloc, nodes)?;
-        let numbers = in_order(unsorted);
+        let numbers = node_numbers(self.alloc, nodes)?;
         let moved = numbers.as_slice();
         let gone = is_gone(self.told.as_slice(), moved, told.as_slice());
         let barred = is_gone(self.defaults.as_slice(), moved, ways.as_slice());
@@ -229,7 +227,7 @@ impl Following {
 }
 
 /// How many nodes may move before all that is reached is made anew.
-const MOST: usize = 512;
+const MOST: usize = 16;
 
 /// The nodes that tell other things, and those whose costs in a level may be others; some may be there twice.
 pub(crate) fn moved(
@@ -446,7 +444,6 @@ fn are_same(a: bool, b: bool) -> bool
 
 /// Whether the candidates by way of nodes of these numbers are these, in this order.
 fn is_gone(old: &[Candidate], numbers: &[u64], gone: &[Candidate]) -> bool
-    requires { IsStrictlyIncreasing numbers.now }
     ensures { result ≡ true → filter (is_by numbers.now) old.now ≡ gone.now }
 {
     let (mut left, mut rest) = (old, gone);
@@ -467,10 +464,21 @@ fn is_gone(old: &[Candidate], numbers: &[u64], gone: &[Candidate]) -> bool
 
 /// Whether a candidate is by way of a node of these numbers.
 fn is_by(numbers: &[u64], candidate: &Candidate) -> bool
-    requires { IsStrictlyIncreasing numbers.now }
     ensures { result ≡ is_by numbers.now candidate.now }
 {
-    is_one_of(numbers, number(candidate.origin))
+    is_among(numbers, number(candidate.origin))
+}
+
+/// Whether a number is one of these.
+fn is_among(numbers: &[u64], number: u64) -> bool
+    ensures { result ≡ is_moved numbers.now number }
+{
+    for one in numbers {
+        if *one == number {
+            return true;
+        }
+    }
+    false
 }
 
 /// The candidates by way of nodes of other numbers, and these.
@@ -480,7 +488,6 @@ fn kept_with(
     numbers: &[u64],
     come: &[Candidate],
 ) -> Result<Vec<Candidate>, OutOfMemory>
-    requires { IsStrictlyIncreasing numbers.now }
     ensures { IfOk result (λ list. list.items
         ≡ filter (λ c. not (is_by numbers.now c)) old.now ++ come.now) }
 {

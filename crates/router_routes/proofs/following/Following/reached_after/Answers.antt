@@ -1,11 +1,10 @@
-use Rattle.std.proofs.Common.{◌≡◌, ℕ, ◌∙◌, ◌++◌, not, List, filter, ap, sym, subst}
+use Rattle.std.proofs.Common.{◌≡◌, ◌∙◌, ◌++◌, not, List, filter, ap, sym, subst}
 use Rattle.route_table.specs.declared.candidate.Candidate.{Candidate}
 use Rattle.router_routes.specs.Following.{FollowingOf}
 use Rattle.router_routes.specs.Kept.{stays}
-use Rattle.route_table.specs.Patches.{is_moved}
-use Rattle.router_routes.specs.Moved.{is_among, outlook_at}
+use Rattle.router_routes.specs.Moved.{outlook_at}
 use Rattle.router_routes.specs.Outlooks.{outlook_in}
-use Rattle.router_routes.proofs.GoneLemmas.{kept-by, members, out-by}
+use Rattle.router_routes.proofs.GoneLemmas.{kept-by, out-by}
 use Rattle.router_routes.proofs.SameLemmas.{AreCostsOf, costs-of, kept-list, reached-now, reached-still}
 use Rattle.router_routes.proofs.following.Following.reached_after.Goals as goal
 
@@ -15,7 +14,7 @@ returns-then-are_same c =
     let out = λ (x : Candidate). not (stays c.args.nodes.now x) in
     let told : c.self.inside.told.items ≡ f.told = ap (λ (g : FollowingOf). g.told) c.self.view_is in
     let ways : c.self.inside.defaults.items ≡ f.defaults = ap (λ (g : FollowingOf). g.defaults) c.self.view_is in
-    let moved = subst (λ (l : List ℕ). (n : ℕ) → is_moved l n ≡ is_among c.args.nodes.now n) (sym c.as_slice-moved.ensures.value) (members c.args.nodes.now c.in_ok-unsorted.unsorted.items c.in_order-numbers.result.items c.in_ok-unsorted.ensures c.in_order-numbers.ensures.all c.in_order-numbers.ensures.none) in
+    let moved = c.as_slice-moved.ensures.value ∙ c.in_ok-numbers.ensures in
     let gone = ap (filter out) (sym (c.as_slice.ensures.value ∙ told)) ∙ out-by c.args.nodes.now c.as_slice-moved.result.now moved c.as_slice.result.now ∙ c.is_gone-gone.ensures c.if-gone.true ∙ c.as_slice-2.ensures.value in
     let barred = ap (filter out) (sym (c.as_slice-3.ensures.value ∙ ways)) ∙ out-by c.args.nodes.now c.as_slice-moved.result.now moved c.as_slice-3.result.now ∙ c.is_gone-barred.ensures c.if-barred.true ∙ c.as_slice-4.ensures.value in
     reached-still (outlook_in c.args.lent.now) (outlook_at c.args.view.now) f c.requires.follows c.args.nodes.now c.requires.nodes c.requires.beside c.lent_ids.ensures c.view_ids.ensures c.args.one.now c.args.two.now c.requires.one c.requires.two
@@ -31,7 +30,7 @@ returns c =
     let f = c.args.self.now in
     let told : c.self.inside.told.items ≡ f.told = ap (λ (g : FollowingOf). g.told) c.self.view_is in
     let ways : c.self.inside.defaults.items ≡ f.defaults = ap (λ (g : FollowingOf). g.defaults) c.self.view_is in
-    let moved = subst (λ (l : List ℕ). (n : ℕ) → is_moved l n ≡ is_among c.args.nodes.now n) (sym c.as_slice-moved.ensures.value) (members c.args.nodes.now c.in_ok-unsorted.unsorted.items c.in_order-numbers.result.items c.in_ok-unsorted.ensures c.in_order-numbers.ensures.all c.in_order-numbers.ensures.none) in
+    let moved = c.as_slice-moved.ensures.value ∙ c.in_ok-numbers.ensures in
     let told-list = c.in_ok-told-2.ensures ∙ ap (λ (l : List Candidate). l ++ c.as_slice-6.result.now) (kept-by c.args.nodes.now c.as_slice-moved.result.now moved c.as_slice-5.result.now) in
     let ways-list = c.in_ok-defaults.ensures ∙ ap (λ (l : List Candidate). l ++ c.as_slice-8.result.now) (kept-by c.args.nodes.now c.as_slice-moved.result.now moved c.as_slice-7.result.now) in
     reached-now (outlook_in c.args.lent.now) (outlook_at c.args.view.now) f c.requires.follows c.args.nodes.now c.requires.nodes c.requires.beside c.lent_ids.ensures c.view_ids.ensures c.args.one.now c.args.two.now c.requires.one c.requires.two
