@@ -10,7 +10,8 @@ use Rattle.isis_base.specs.declared.prefix.Prefix.{Prefix}
 use Rattle.route_table.specs.declared.route.Route.{Route}
 use Rattle.route_table.specs.Ranks.{prefix_number}
 use Rattle.route_table.specs.Routes.{AreRising}
-use Rattle.route_table.specs.Lookups.{Has, IsLongest, HasNone, IsBefore, IsLeft, IsLast, AreLinked, IsCut}
+use Rattle.route_table.specs.Lookups.{Has, HasAt, IsLongest, HasNone, IsBefore, IsLeft, IsLast, AreClimbable, AreLinked, IsCut}
+use Rattle.route_table.specs.Putting.{HaveSamePrefixes}
 
 -- ---- prefixes and addresses
 
@@ -195,3 +196,50 @@ cut_left routes address m e rising in' low k d l = let up = addresses_rise route
 
 pub cut_right : (routes : List Route) (address m : ℕ) (e : Route) → AreRising routes → m < length routes → address < (get_or routes m e).prefix.address → (k : ℕ) (d : Route) → m ≤ k → k < length routes → address < (get_or routes k d).prefix.address
 cut_right routes address m e rising in' high k d le l = let up = addresses_rise routes m k e d rising le l in omega arith
+
+-- ---- other routes for the same prefixes
+
+lengths-same : (p q : Prefix) → prefix_number p ≡ prefix_number q → p.length ≡ q.length
+lengths-same p q e =
+    let fits_p : p.length ≤ 32 = p.fits in
+    let fits_q : q.length ≤ 32 = q.fits in
+    omega arith
+
+starts-same : (p q : Prefix) → prefix_number p ≡ prefix_number q → p.address ≡ q.address
+starts-same p q e =
+    let fits_p : p.length ≤ 32 = p.fits in
+    let fits_q : q.length ≤ 32 = q.fits in
+    omega arith
+
+has-same : (p q : Prefix) (a : ℕ) → prefix_number p ≡ prefix_number q → Has p a → Has q a
+has-same p q a e has =
+    subst (λ (n : ℕ). a / 2 ^ (32 - n) ≡ q.address / 2 ^ (32 - n)) (lengths-same p q e)
+    (subst (λ (m : ℕ). a / 2 ^ (32 - p.length) ≡ m / 2 ^ (32 - p.length)) (starts-same p q e) has)
+
+module _ (old new : List Route) (same : HaveSamePrefixes old new) where
+  at-same : (a : ℕ) (place : Option ℕ) → HasAt old a place → HasAt new a place
+  at-same a None has = tt
+  at-same a (Some place) has = λ d. has-same (get_or old place d).prefix (get_or new place d).prefix a (sym (same.each place d)) (has d)
+
+  last-same : (many a : ℕ) (place : Option ℕ) → IsLast old many a place → IsLast new many a place
+  last-same many a place last = record {
+    left = record {
+      before = last.left.before;
+      rest = λ k d less has. last.left.rest k d less (has-same (get_or new k d).prefix (get_or old k d).prefix a (same.each k d) has);
+    };
+    has = at-same a place last.has;
+  }
+
+  pub climbable-same : (links : List (Option ℕ)) → AreRising new → AreClimbable old links → AreClimbable new links
+  climbable-same links rising climbable = record {
+    rising = rising;
+    linked =
+        let count = same.count in
+        let enough = climbable.linked.enough in
+        record {
+          enough = omega arith;
+          link = λ k d e less.
+              subst (λ (a : ℕ). IsLast new k a (get_or links k e)) (starts-same (get_or old k d).prefix (get_or new k d).prefix (sym (same.each k d)))
+              (last-same k (get_or old k d).prefix.address (get_or links k e) (climbable.linked.link k d e (omega arith)));
+        };
+  }

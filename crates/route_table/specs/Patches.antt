@@ -1,13 +1,16 @@
 -- Routes of which some prefixes are looked at anew. All of it own.
 
-use Rattle.std.specs.Prelude.{◌≡◌, ℕ, ◌==◌, ◌≤◌, ◌<◌, ◌-◌, ◌⊎◌, ◌↔◌, Bool, true, false, List, [], length, slice_index_or, Option, Some, None}
+use Rattle.std.specs.Prelude.{◌≡◌, ℕ, ◌==◌, ◌+◌, ◌≤◌, ◌<◌, ◌-◌, ◌⊎◌, ◌↔◌, Bool, true, false, List, [], length, slice_index_or, Option, Some, None, IfSome}
 use Rattle.std.specs.List.{Contains, list_any}
+use Rattle.std.specs.Option.{MatchOption}
 use Rattle.spf_tree.specs.Nodes.{node_number}
 use Rattle.route_table.specs.declared.candidate.Candidate.{Candidate}
 use Rattle.route_table.specs.declared.route.Route.{Route}
 use Rattle.route_table.specs.Ranks.{prefix_number}
 use Rattle.route_table.specs.Routes.{IsRoute, AreRising}
+use Rattle.route_table.specs.Putting.{Stays}
 use Rattle.route_table.specs.declared.patch.Patch.{Patch}
+use Rattle.route_table.specs.declared.patch.Room.{Room}
 use Rattle.isis_base.specs.declared.prefix.Prefix.{Prefix}
 
 -- whether a prefix has a patch
@@ -26,17 +29,26 @@ pub record AreInTurn (patches : List Patch) : Type 0 where
   pub own : (p : Patch) (r : Route) → Contains patches p → p.route ≡ Some r
       → prefix_number r.prefix ≡ prefix_number p.prefix
 
--- patches, with how many routes there is room for
+-- patches, with how many routes there is room for where room is taken
 pub record PatchesOf : Type 0 where
   pub list : List Patch
-  pub room : ℕ
+  pub room : Option ℕ
 
--- the room is empty
-pub record ArePatchesWithRoom (list : List Patch) (rest : List Route)
-    (others : List (Option ℕ)) : Type 0 where
+-- each patch leaves whether its prefix has a route
+pub record AreStaying (routes : List Route) (patches : List Patch) : Type 0 where
+  pub each : (k : ℕ) (d : Patch) → k < length patches
+      → Stays routes (prefix_number (slice_index_or patches k d).prefix) (slice_index_or patches k d).route
+
+-- there is room for the routes with one more for each patch, or none is wanted
+abbrev pub Fits : List Route → PatchesOf → Type 0
+Fits routes patches = MatchOption patches.room (AreStaying routes patches.list)
+    (λ room. length routes + length patches.list ≤ room)
+
+-- the room, if any, is empty
+pub record ArePatchesWithRoom (list : List Patch) (room : Option Room) : Type 0 where
   pub turn : AreInTurn list
-  pub routes : rest ≡ []
-  pub links : others ≡ []
+  pub routes : IfSome room (λ r. r.routes.items ≡ [])
+  pub links : IfSome room (λ r. r.links.items ≡ [])
 
 -- the routes of the patches, and the old ones for other prefixes, in order
 pub record IsPatched (old : List Route) (patches : List Patch) (routes : List Route) : Type 0 where

@@ -1,17 +1,20 @@
 //! What some prefixes' routes become.
 
-ghost use Rattle.std.specs.Prelude.{◌≡◌, ◌≤◌, ◌<◌, ◌↔◌, ◌+◌, [], ℕ, true, false, length, slice_index_or, vec_len, vec_capacity, IfOk};
+ghost use Rattle.std.specs.Prelude.{◌≡◌, ◌≤◌, ◌<◌, ◌↔◌, [], ℕ, true, false, length, slice_index_or, vec_capacity, IfOk};
 ghost use Rattle.std.specs.Bool.{MatchBool};
 ghost use Rattle.route_table.specs.declared.candidate.Candidate.{Candidate};
 ghost use Rattle.route_table.specs.Ranks.{prefix_number};
 ghost use Rattle.route_table.specs.Order.{IsListedHop, AreInOrder};
-ghost use Rattle.route_table.specs.Patches.{ArePrefixesInOrder, AreInTurn, ArePatches, HavePatches, IsAgain, IsListed, IsPatchOf, is_touched};
-ghost use Rattle.route_table.specs.Putting.{IsFirstFor};
+ghost use Rattle.route_table.specs.Patches.{ArePrefixesInOrder, AreInTurn, ArePatches, AreStaying, Fits, HavePatches, IsAgain, IsListed, IsPatchOf, is_touched};
+ghost use Rattle.route_table.specs.Putting.{IsFirstFor, Stays};
+ghost use Rattle.route_table.specs.Routes.{AreRising};
 
 use crate::best::route_at;
 use crate::candidate::Candidate;
 use crate::order::{in_order, prefix_number};
+use crate::putting::{is_held, place_of};
 use crate::route::Route;
+use crate::table::Routes;
 use isis_base::{OutOfMemory, Prefix};
 use spf_tree::HopTable;
 use std::alloc::Global;
@@ -24,33 +27,41 @@ pub struct Patch {
     pub route: Option<Route>,
 }
 
-/// What some prefixes' routes become, in order of prefix, with the room that putting them in takes (own).
+/// Room for routes, and for their links (own).
 #[derive(Drop, Debug)]
-pub struct Patches {
-    pub(crate) list: Vec<Patch>,
+pub struct Room {
     pub(crate) routes: Vec<Route>,
     pub(crate) links: Vec<Option<usize>>,
 }
 
+/// What some prefixes' routes become, in order of prefix, with the room that putting them in takes: none where each of them has a
+/// route before and after, or has none (own).
+#[derive(Drop, Debug)]
+pub struct Patches {
+    pub(crate) list: Vec<Patch>,
+    pub(crate) room: Option<Room>,
+}
+
 impl Model for Patches {
-    ghost use Rattle.std.specs.Prelude.{◌≡◌, ◌≤◌, [], vec_capacity, min};
+    ghost use Rattle.std.specs.Prelude.{vec_capacity, min};
+    ghost use Rattle.std.specs.Option.{option_map};
     ghost use Rattle.route_table.specs.Patches.{PatchesOf, AreInTurn, ArePatchesWithRoom};
 
     ghost Value = { PatchesOf };
 
     ghost view = { λ p. record {
       list = p.list.items;
-      room = min (vec_capacity p.routes) (vec_capacity p.links);
+      room = option_map (λ r. min (vec_capacity r.routes) (vec_capacity r.links)) p.room;
     } };
 
-    ghost invariant = { λ p. ArePatchesWithRoom p.list.items p.routes.items p.links.items };
+    ghost invariant = { λ p. ArePatchesWithRoom p.list.items p.room };
 }
 
-/// What the routes of some prefixes become, by candidates that have all that are for these, and next hops, with room for a
-/// table of so many routes. The prefixes are in any order.
+/// What the routes of some prefixes become, by candidates that have all that are for these, and next hops, as it fits a table.
+/// The prefixes are in any order.
 pub fn patches_for(
     alloc: Global,
-    held: usize,
+    held: &Routes,
     prefixes: Vec<Prefix>,
     candidates: &[Candidate],
     one: &HopTable,
@@ -59,12 +70,12 @@ pub fn patches_for(
     ensures patches { IfOk result (λ p. ArePatches (IsListedHop one.now two.now) candidates.now p.list) }
     ensures touched { IfOk result (λ p. (n : ℕ)
         → is_touched p.list n ≡ true ↔ IsListed prefixes.items n) }
-    ensures room { IfOk result (λ p. held + length p.list ≤ p.room) }
+    ensures room { IfOk result (Fits held.now) }
 {
     let prefixes = prefixes_in_order(prefixes);
     let sorted = in_order(alloc, candidates)?;
     let list = all_patches(alloc, prefixes.as_slice(), sorted.as_slice(), one, two)?;
-    with_room(alloc, held, list)
+    with_room(alloc, held.list(), list)
 }
 
 /// The prefixes in order.
@@ -173,35 +184,65 @@ fn is_for(sorted: &[Candidate], place: usize, prefix: Prefix) -> bool
     prefix_number(sorted[place].prefix) == prefix_number(prefix)
 }
 
-/// Patches with room for a table of so many routes, and one more for each.
-fn with_room(alloc: Global, held: usize, list: Vec<Patch>) -> Result<Patches, OutOfMemory>
-    requires { AreInTurn list.items }
+/// Patches as they fit these routes: with room for them and one more for each patch, or without where none is wanted.
+fn with_room(alloc: Global, held: &[Route], list: Vec<Patch>) -> Result<Patches, OutOfMemory>
+    requires rising { AreRising held.now }
+    requires turn { AreInTurn list.items }
     ensures list { IfOk result (λ p. p.list ≡ list.items) }
-    ensures room { IfOk result (λ p. held + length list.items ≤ p.room) }
+    ensures room { IfOk result (Fits held.now) }
 {
-    let Some(many) = held.checked_add(list.len()) else {
+    if are_staying(held, list.as_slice()) {
+        return Ok(Patches { list, room: None });
+    }
+    let Some(many) = held.len().checked_add(list.len()) else {
         return Err(OutOfMemory);
     };
-    match rooms(alloc, many) {
-        Ok((routes, links)) => Ok(Patches {
+    match room_for(alloc, many) {
+        Ok(room) => Ok(Patches {
             list,
-            routes,
-            links,
+            room: Some(room),
         }),
         Err(error) => Err(error),
     }
 }
 
 /// Room for so many routes, and for their links.
-fn rooms(alloc: Global, many: usize) -> Result<(Vec<Route>, Vec<Option<usize>>), OutOfMemory>
-    ensures routes { IfOk result (λ both. (both.0.items ≡ []) × (many ≤ vec_capacity both.0)) }
-    ensures links { IfOk result (λ both. (both.1.items ≡ []) × (many ≤ vec_capacity both.1)) }
+fn room_for(alloc: Global, many: usize) -> Result<Room, OutOfMemory>
+    ensures routes { IfOk result (λ r. (r.routes.items ≡ []) × (many ≤ vec_capacity r.routes)) }
+    ensures links { IfOk result (λ r. (r.links.items ≡ []) × (many ≤ vec_capacity r.links)) }
 {
     match Vec::with_capacity(alloc, many) {
         Ok(routes) => match Vec::with_capacity(alloc, many) {
-            Ok(links) => Ok((routes, links)),
+            Ok(links) => Ok(Room { routes, links }),
             Err(_) => Err(OutOfMemory),
         },
         Err(_) => Err(OutOfMemory),
+    }
+}
+
+/// Whether patches leave which prefixes have a route.
+fn are_staying(routes: &[Route], list: &[Patch]) -> bool
+    requires { AreRising routes.now }
+    ensures { result ≡ true → AreStaying routes.now list.now }
+{
+    for place in 0..list.len() {
+        if !stays(routes, &list[place]) {
+            return false;
+        }
+    }
+    true
+}
+
+/// Whether a patch leaves whether its prefix has a route.
+fn stays(routes: &[Route], patch: &Patch) -> bool
+    requires { AreRising routes.now }
+    ensures { result ≡ true → Stays routes.now (prefix_number patch.now.prefix) patch.now.route }
+{
+    let wanted = prefix_number(patch.prefix);
+    let place = place_of(routes, wanted);
+    let held = is_held(routes, wanted, place);
+    match patch.route {
+        Some(_) => held,
+        None => !held,
     }
 }

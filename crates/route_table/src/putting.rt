@@ -1,11 +1,11 @@
 //! Patches put into a table's routes, in place.
 
-ghost use Rattle.std.specs.Prelude.{◌≡◌, ◌≤◌, ◌<◌, ◌+◌, Some, None, length, vec_len, vec_capacity, IfSome};
+ghost use Rattle.std.specs.Prelude.{◌≡◌, ◌≤◌, ◌<◌, ◌+◌, ℕ, Some, None, length, vec_len, vec_capacity, IfSome};
 ghost use Rattle.std.specs.Bool.{MatchBool};
 ghost use Rattle.route_table.specs.Ranks.{prefix_number};
 ghost use Rattle.route_table.specs.Routes.{AreRising};
-ghost use Rattle.route_table.specs.Patches.{AreInTurn, IsPatched};
-ghost use Rattle.route_table.specs.Putting.{IsFree, IsHeld, IsPlaceOf, IsPutIn};
+ghost use Rattle.route_table.specs.Patches.{AreInTurn, AreStaying, IsPatched};
+ghost use Rattle.route_table.specs.Putting.{HaveSamePrefixes, IsFree, IsHeld, IsPlaceOf, IsPutIn, Stays};
 
 use crate::order::prefix_number;
 use crate::patch::Patch;
@@ -23,6 +23,46 @@ pub fn put_all(routes: &mut Vec<Route>, list: Vec<Patch>)
     for patch in list {
         put_in(routes, patch);
     }
+}
+
+/// Puts patches in that leave which prefixes have a route.
+pub fn put_over(routes: &mut Vec<Route>, list: Vec<Patch>)
+    requires rising { AreRising routes.old.items }
+    requires turn { AreInTurn list.items }
+    requires stay { AreStaying routes.old.items list.items }
+    ensures patched { IsPatched routes.old.items list.items routes.new.items }
+    ensures same { HaveSamePrefixes routes.old.items routes.new.items }
+{
+    for patch in list {
+        put_same(routes, patch);
+    }
+}
+
+/// A prefix that has a route has another one, or one that has none has none.
+fn put_same(routes: &mut Vec<Route>, patch: Patch)
+    requires old { AreRising routes.old.items }
+    requires own { IfSome patch.route (λ r. prefix_number r.prefix ≡ prefix_number patch.prefix) }
+    requires stay { Stays routes.old.items (prefix_number patch.prefix) patch.route }
+    ensures put { IsPutIn routes.old.items (prefix_number patch.prefix) patch.route routes.new.items }
+    ensures same { HaveSamePrefixes routes.old.items routes.new.items }
+{
+    let wanted = prefix_number(patch.prefix);
+    match patch.route {
+        Some(route) => set_route(routes, wanted, route),
+        None => {}
+    }
+}
+
+/// A prefix that has a route has this one.
+fn set_route(routes: &mut Vec<Route>, wanted: u64, route: Route)
+    requires old { AreRising routes.old.items }
+    requires held { (place : ℕ) × IsHeld routes.old.items wanted place }
+    requires own { prefix_number route.prefix ≡ wanted }
+    ensures put { IsPutIn routes.old.items wanted (Some route) routes.new.items }
+    ensures same { HaveSamePrefixes routes.old.items routes.new.items }
+{
+    let place = place_of(routes.as_slice(), wanted);
+    routes[place] = route;
 }
 
 /// A prefix's route becomes what a patch says.
@@ -73,7 +113,7 @@ fn take_out(routes: &mut Vec<Route>, wanted: u64, place: usize)
 }
 
 /// Whether the prefix has a route.
-fn is_held(routes: &[Route], wanted: u64, place: usize) -> bool
+pub fn is_held(routes: &[Route], wanted: u64, place: usize) -> bool
     requires old { AreRising routes.now }
     requires at { IsPlaceOf routes.now wanted place }
     ensures { MatchBool result (IsHeld routes.now wanted place) (IsFree routes.now wanted) }
@@ -85,7 +125,7 @@ fn is_held(routes: &[Route], wanted: u64, place: usize) -> bool
 }
 
 /// The place of the first route whose prefix isn't below this one.
-fn place_of(routes: &[Route], wanted: u64) -> usize
+pub fn place_of(routes: &[Route], wanted: u64) -> usize
     requires { AreRising routes.now }
     ensures { IsPlaceOf routes.now wanted result }
 {

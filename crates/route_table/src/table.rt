@@ -1,14 +1,14 @@
 //! The table of routes, and the longest prefix of an address.
 
-ghost use Rattle.std.specs.Prelude.{◌≡◌, ◌≤◌, ◌+◌, length, vec_len, IfOk};
+ghost use Rattle.std.specs.Prelude.{◌≡◌, ◌≤◌, ◌+◌, [], length, min, vec_capacity, vec_len, IfOk};
 ghost use Rattle.std.specs.Option.{MatchOption};
 ghost use Rattle.route_table.specs.Routes.{AreRising};
 ghost use Rattle.route_table.specs.Lookups.{IsLongest, HasNone, IsCut, AreClimbable};
-ghost use Rattle.route_table.specs.Patches.{IsPatched};
+ghost use Rattle.route_table.specs.Patches.{AreInTurn, Fits, IsPatched};
 
 use crate::links::{last_of, links, links_in};
-use crate::patch::Patches;
-use crate::putting::put_all;
+use crate::patch::{Patch, Patches, Room};
+use crate::putting::{put_all, put_over};
 use crate::route::Route;
 use isis_base::OutOfMemory;
 use std::alloc::Global;
@@ -58,7 +58,7 @@ impl Routes {
 
     /// Puts in what some prefixes' routes become. It takes no memory.
     pub fn put(&mut self, patches: Patches)
-        requires { length self.old + length patches.list ≤ patches.room }
+        requires { Fits self.old patches }
         ensures { IsPatched self.old patches.list self.new }
     {
         exchange(&mut self.routes, &mut self.links, patches);
@@ -89,19 +89,36 @@ impl Routes {
 
 /// Routes with patches put in, and their links.
 fn exchange(routes: &mut Vec<Route>, links: &mut Vec<Option<usize>>, patches: Patches)
-    requires rising { AreRising routes.old.items }
-    requires room { vec_len routes.old + length patches.list ≤ patches.room }
+    requires climbable { AreClimbable routes.old.items links.old.items }
+    requires fits { Fits routes.old.items patches }
     ensures patched { IsPatched routes.old.items patches.list routes.new.items }
     ensures climbable { AreClimbable routes.new.items links.new.items }
 {
-    let Patches {
-        list,
+    let Patches { list, room } = patches;
+    match room {
+        Some(room) => put_with(routes, links, list, room),
+        None => put_over(routes, list),
+    }
+}
+
+/// Routes with patches put in, for which there is room, and their links.
+fn put_with(routes: &mut Vec<Route>, links: &mut Vec<Option<usize>>, list: Vec<Patch>, room: Room)
+    requires rising { AreRising routes.old.items }
+    requires turn { AreInTurn list.items }
+    requires few { vec_len routes.old + length list.items
+        ≤ min (vec_capacity room.routes) (vec_capacity room.links) }
+    requires routes { room.routes.items ≡ [] }
+    requires links { room.links.items ≡ [] }
+    ensures patched { IsPatched routes.old.items list.items routes.new.items }
+    ensures climbable { AreClimbable routes.new.items links.new.items }
+{
+    let Room {
         routes: mut later,
-        links: room,
-    } = patches;
+        links: empty,
+    } = room;
     later.append(routes).unwrap();
     put_all(&mut later, list);
-    *links = links_in(room, later.as_slice());
+    *links = links_in(empty, later.as_slice());
     *routes = later;
 }
 

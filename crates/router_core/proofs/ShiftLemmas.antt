@@ -128,9 +128,6 @@ pub record Collected (start : List NodeId) (there here left : Entries) (nodes : 
   pub more : (n : ℕ) → is_among start n ≡ true → is_among nodes n ≡ true
   pub matched : (wide : List NodeId) → ((n : ℕ) → is_among nodes n ≡ true → is_among wide n ≡ true) → AllByRecursion (IsMatched wide there) left → AllByRecursion (IsMatched wide there) here
 
-pub collected-first : (start : List NodeId) (there here : Entries) → NodesRise 0 start → AreSeven start → Collected start there here here start
-collected-first start there here rises ids = record { rises = rises; ids = ids; more = λ n in'. in'; matched = λ wide wider all. all }
-
 pub collected-node : (start : List NodeId) (there here left rest : Entries) (id : LspId) (e : Entry) (old lent new : List NodeId) → left ≡ (id, e) ∷ rest → IsId id → new ≡ with_node lent id.node → lent ≡ old → Collected start there here left old → Collected start there here rest new
 collected-node start there here left rest id e old lent new opened is made slice g =
     let same : new ≡ with_node old id.node = made ∙ ap (λ (ns : List NodeId). with_node ns id.node) slice in
@@ -143,14 +140,6 @@ collected-node start there here left rest id e old lent new opened is made slice
           g.matched wide (λ n in'. wider n (within n in'))
           (subst (AllByRecursion (IsMatched wide there)) (sym opened) (inr (wider (node_number id.node) (ap (λ (ns : List NodeId). is_among ns (node_number id.node)) same ∙ among-new old id.node)), all));
     }
-
-pub collected-same : (start : List NodeId) (there here left rest : Entries) (id : LspId) (e : Entry) (nodes : List NodeId) → left ≡ (id, e) ∷ rest → tells_in (maps.find there (lsp_number id)) ≡ tells_in (Some e) → Collected start there here left nodes → Collected start there here rest nodes
-collected-same start there here left rest id e nodes opened same g = record {
-  rises = g.rises;
-  ids = g.ids;
-  more = g.more;
-  matched = λ wide wider all. g.matched wide wider (subst (AllByRecursion (IsMatched wide there)) (sym opened) (inl same, all));
-}
 
 pub collected-end : (start : List NodeId) (there here left : Entries) (nodes : List NodeId) → left ≡ [] → Collected start there here left nodes → AllByRecursion (IsMatched nodes there) here
 collected-end start there here left nodes none g = g.matched nodes (λ n in'. in') (subst (AllByRecursion (IsMatched nodes there)) (sym none) tt)

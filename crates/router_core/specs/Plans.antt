@@ -168,13 +168,11 @@ pub record AreMovedIn (old new : Outlook) (level : Level) (nodes : List NodeId)
   pub each : NodesRise 0 nodes
   pub moved : AreMovedTo nodes told (at old.told level) (at new.told level)
 
--- nothing changes; or one node of one level, or some, or some of both levels tell these LSPs, or own prefixes are these, and all
--- else stays (own)
+-- nothing changes; or one node of one level, or some of both levels tell these LSPs, or own prefixes are these, and all else
+-- stays (own)
 abbrev pub AreTold : Outlook → Outlook → Told → Type 0
 AreTold old new told.Nothing = new ≡ old
 AreTold old new (told.Node m) = IsMovedAt old new m.level m.node (told_in m.aside.entries)
-AreTold old new (told.Nodes m) =
-    AreMovedIn old new m.level m.nodes.items (told_in m.aside.entries)
 AreTold old new (told.Levels one two) = AreMovedOn old new one two
 AreTold old new (told.Prefixes own) = new ≡ record old { prefixes = prefixes_by own }
 
@@ -182,7 +180,6 @@ AreTold old new (told.Prefixes own) = new ≡ record old { prefixes = prefixes_b
 abbrev pub AreInOrder : Told → Type 0
 AreInOrder told.Nothing = Unit {0}
 AreInOrder (told.Node m) = Unit {0}
-AreInOrder (told.Nodes m) = NodesRise 0 m.nodes.items
 AreInOrder (told.Levels one two) = AreRising one × AreRising two
 AreInOrder (told.Prefixes own) = Unit {0}
 

@@ -40,7 +40,7 @@ impl Machine {
 }
 
 /// A second of all circuits: their counters, then their holding times.
-pub(crate) fn pass_circuits(circuits: &mut Vec<Circuit>)
+fn pass_circuits(circuits: &mut Vec<Circuit>)
     requires { length circuits.old.items ≤ 64 }
     ensures state { circuits.new.items ≡ map later circuits.old.items }
     ensures count { length circuits.new.items ≡ length circuits.old.items }
@@ -89,7 +89,7 @@ fn circuit_later(circuit: &Circuit) -> Result<Circuit, OutOfMemory>
 }
 
 /// The CSNP counters of all circuits stand at 0 where the router isn't designated.
-pub(crate) fn idle_all(circuits: &mut Vec<Circuit>, system: SystemId)
+fn idle_all(circuits: &mut Vec<Circuit>, system: SystemId)
     requires { length circuits.old.items ≤ 64 }
     ensures state { (config : Config) → config.system ≡ system_number system
         → circuits.new.items ≡ elections.idle_all config 0 circuits.old.items }

@@ -23,8 +23,9 @@ ghost use Rattle.router_core.specs.Reached.{IsReached};
 
 use crate::aside::{no_entry, put_in, put_part};
 use crate::machine::Machine;
+use crate::movers::Movers;
 use crate::routes::has_rows;
-use crate::told::{MovingNodes, Told};
+use crate::told::{Told, told_at};
 use flag_sync::Whose;
 use isis_base::laws::lsp_id_law;
 use isis_base::{Level, LspEntry, NodeId, Order3, OutOfMemory, newer};
@@ -64,11 +65,7 @@ impl Machine {
         match self.aside_after(level, store, &nodes, entries, following) {
             Ok(aside) => {
                 let _told = aside.len();
-                Ok(Told::Nodes(MovingNodes {
-                    level,
-                    nodes,
-                    aside,
-                }))
+                Ok(told_at(level, Movers { nodes, aside }))
             }
             Err(error) => {
                 drop(nodes);

@@ -6,9 +6,10 @@ ghost use Rattle.model_router.specs.Routers.{Router};
 ghost use Rattle.router_routes.specs.Outlooks.{Outlook, outlook_of, prefixes_by};
 ghost use Rattle.router_routes.specs.Following.{IsFollowing};
 ghost use Rattle.router_routes.specs.Coming.{IsComing};
-ghost use Rattle.router_routes.specs.Moved.{AreMoved, IsInOrder, IsMovedBy, NodesRise};
+ghost use Rattle.router_routes.specs.Moved.{AreMoved, IsInOrder, IsMovedBy};
+ghost use Rattle.router_routes.specs.Told.{told_in};
 ghost use Rattle.router_core.specs.declared.told.Told.TheVariants as told;
-ghost use Rattle.router_core.specs.Plans.{AreTold, AreInOrder};
+ghost use Rattle.router_core.specs.Plans.{AreInOrder, AreMovedIn, AreTold};
 ghost use Rattle.router_core.specs.Puts.{IsWith};
 ghost use Rattle.router_core.specs.Shifts.{AreRising, IsMovedOn};
 
@@ -22,13 +23,12 @@ use isis_base::{Level, LspId, NodeId, OutOfMemory};
 use lsp_store::{Entry, Store};
 use router_routes::{Coming, Following, Moved};
 
-/// What an event changes of what routes look at: nothing, what one node tells in a level, or some do in a level, or in both, or
-/// one's own prefixes.
+/// What an event changes of what routes look at: nothing, what one node tells in a level, what some of both levels do, or one's
+/// own prefixes.
 #[derive(Drop)]
 pub(crate) enum Told {
     Nothing,
     Node(Moving),
-    Nodes(MovingNodes),
     Levels {
         one: Option<Movers>,
         two: Option<Movers>,
@@ -41,14 +41,6 @@ pub(crate) enum Told {
 pub(crate) struct Moving {
     pub(crate) level: Level,
     pub(crate) node: NodeId,
-    pub(crate) aside: Store,
-}
-
-/// Nodes, in order and each once, that will tell other LSPs in a level: these, and no others.
-#[derive(Drop)]
-pub(crate) struct MovingNodes {
-    pub(crate) level: Level,
-    pub(crate) nodes: Vec<NodeId>,
     pub(crate) aside: Store,
 }
 
@@ -100,13 +92,9 @@ impl Machine {
                 let lent = self.lent()?;
                 following.ahead(&lent, moving.level, moving.node, &moving.aside)
             }
-            Told::Nodes(moving) => {
-                let lent = self.lent()?;
-                following.after(&lent, &told_by(moving))
-            }
             Told::Levels { one, two } => {
                 let lent = self.lent()?;
-                following.after(&lent, &told_by_both(one, two))
+                following.after(&lent, &told_by(one, two))
             }
             Told::Prefixes(own) => self.following_with(following, own),
         }
@@ -128,33 +116,25 @@ impl Machine {
     }
 }
 
-/// The same in the routes' words.
-fn told_by<'a>(moving: &'a MovingNodes) -> router_routes::Told<'a>
-    ensures moved { (old new : Outlook) → AreTold old new (told.Nodes moving.now)
-        → AreMoved old new result }
-    ensures one { NodesRise 0 moving.now.nodes.items → IsInOrder result.one }
-    ensures two { NodesRise 0 moving.now.nodes.items → IsInOrder result.two }
+/// What is told where nodes of one level alone tell other things.
+pub(crate) fn told_at(level: Level, movers: Movers) -> Told
+    ensures { (old new : Outlook) → AreMovedIn old new level movers.nodes.items
+        (told_in movers.aside.entries) → AreTold old new result }
 {
-    let moved = Some(Moved {
-        nodes: moving.nodes.as_slice(),
-        aside: &moving.aside,
-    });
-    match moving.level {
-        Level::One => router_routes::Told {
-            one: moved,
+    match level {
+        Level::One => Told::Levels {
+            one: Some(movers),
             two: None,
-            prefixes: None,
         },
-        Level::Two => router_routes::Told {
+        Level::Two => Told::Levels {
             one: None,
-            two: moved,
-            prefixes: None,
+            two: Some(movers),
         },
     }
 }
 
 /// What nodes of both levels will tell, in the routes' words.
-fn told_by_both<'a>(one: &'a Option<Movers>, two: &'a Option<Movers>) -> router_routes::Told<'a>
+fn told_by<'a>(one: &'a Option<Movers>, two: &'a Option<Movers>) -> router_routes::Told<'a>
     ensures moved { (old new : Outlook) → AreTold old new (told.Levels one.now two.now)
         → AreMoved old new result }
     ensures one { AreRising one.now → IsInOrder result.one }

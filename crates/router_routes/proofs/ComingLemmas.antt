@@ -1,5 +1,5 @@
 -- What will follow a router, by its parts.
-use Rattle.std.proofs.Common.{◌≡◌, ◌∙◌, ◌↔◌, ℕ, List, [], Option, None, Some, refl, sym, ap, subst}
+use Rattle.std.proofs.Common.{◌≡◌, ◌∙◌, ◌↔◌, ℕ, Bool, List, [], Option, None, Some, refl, sym, ap, subst}
 use Rattle.std.specs.Prelude.{IfSome, MatchOption}
 use Rattle.std.specs.List.{Contains}
 use Rattle.isis_base.specs.declared.identifiers.NodeId.{NodeId}
@@ -17,6 +17,7 @@ use Rattle.route_table.specs.declared.candidate.Candidate.{Candidate}
 use Rattle.router_routes.specs.declared.coming.Coming.{Coming}
 use Rattle.router_routes.specs.declared.coming.LevelAfter.{LevelAfter}
 use Rattle.router_routes.specs.declared.coming.LevelsAfter.{LevelsAfter}
+use Rattle.router_routes.specs.declared.coming.ReachedAfter.{ReachedAfter}
 use Rattle.router_routes.specs.declared.moving.CostsMoved.{CostsMoved}
 use Rattle.router_routes.specs.Outlooks.{Outlook}
 use Rattle.router_routes.specs.Candidates.{defaults}
@@ -24,13 +25,13 @@ use Rattle.router_routes.specs.Counts.{Counts}
 use Rattle.router_routes.specs.Following.{AreHopsOf, FollowingOf, IsFollowing, IsLevel}
 use Rattle.router_routes.specs.Kept.{AreSame, AreReached, AreAmong, AreBeside, CostBeside, told_candidates}
 use Rattle.router_routes.specs.Moved.{AreNodes, or_old}
-use Rattle.router_routes.specs.Coming.{AreLevels, AreLevelsBeside, AreLevelsOf, AreOfOneRoot, AreRoutesAfter, CostsStay, FitsIn, HaveNumbers, HopsStay, IsComing, IsLevelAfter, costs_after, hops_after, moved_in}
+use Rattle.router_routes.specs.Coming.{AreLevels, AreLevelsBeside, AreLevelsOf, AreOfOneRoot, AreRoutesAfter, CostsStay, FitsIn, HaveNumbers, HopsStay, IsComing, IsLevelAfter, costs_after, hops_after, list_after, moved_in, AreReachedAfter}
 use Rattle.router_routes.proofs.SameLemmas.{beside-more, cost-apart, cost-refl}
 
 hops-of : (a b : RepairedOf) (s t : List (ℕ × ℕ)) → a ≡ b → s ≡ t → AreHopsOf b t → AreHopsOf a s
 hops-of a b s t e g are = subst (λ (r : RepairedOf). AreHopsOf r s) (sym e) (subst (λ (l : List (ℕ × ℕ)). AreHopsOf b l) (sym g) are)
 
-pub coming-is : (o : Outlook) (f : FollowingOf) (c : Coming) → AreLevels o f (record { one = c.one; two = c.two }) → AreReached o c.told.items c.defaults.items c.attached → AreRoutesAfter o f.routes c.routes → IsComing o f c
+pub coming-is : (o : Outlook) (f : FollowingOf) (c : Coming) → AreLevels o f (record { one = c.one; two = c.two }) → AreReached o (list_after c.told f.told) (list_after c.defaults f.defaults) c.attached → AreRoutesAfter o f.routes c.routes → IsComing o f c
 coming-is o f c are reached routes =
     record {
       fits = routes.fits;
@@ -46,6 +47,24 @@ coming-is o f c are reached routes =
       };
       count_one = are.hops_one.counts;
       count_two = are.hops_two.counts;
+    }
+
+-- all that is reached stays
+pub all-stays : (o : Outlook) (f : FollowingOf) (reached : ReachedAfter) → reached.told ≡ None → reached.defaults ≡ None → reached.attached ≡ f.attached → AreReachedAfter o f reached → AreReached o f.told f.defaults f.attached
+all-stays o f reached none barred same are =
+    record {
+      told = subst (λ (q : _). AreSame (list_after q f.told) (told_candidates o)) none are.told;
+      ways = subst (λ (q : _). AreSame (list_after q f.defaults) (defaults o.told.one o.root)) barred are.ways;
+      attached = sym same ∙ are.attached;
+    }
+
+-- the same, as it is read
+pub reached-seen : (o : Outlook) (f : FollowingOf) (reached : ReachedAfter) (told ways : List Candidate) (bit : Bool) → told ≡ list_after reached.told f.told → ways ≡ list_after reached.defaults f.defaults → bit ≡ reached.attached → AreReachedAfter o f reached → AreReached o told ways bit
+reached-seen o f reached told ways bit e g h are =
+    record {
+      told = subst (λ (l : List Candidate). AreSame l (told_candidates o)) (sym e) are.told;
+      ways = subst (λ (l : List Candidate). AreSame l (defaults o.told.one o.root)) (sym g) are.ways;
+      attached = h ∙ are.attached;
     }
 
 -- there is room for what comes
@@ -173,3 +192,7 @@ costs-apart old new d e slice numbers was is same apart =
     subst (λ (l : List ℕ). CostsStay l old new) (sym same) (record {
       each = λ node out. ap (λ (x : List (ℕ × ℕ)). cost_at x node) (sym was) ∙ apart node out ∙ ap (λ (x : List (ℕ × ℕ)). cost_at x node) is;
     })
+
+-- the same of numbers put in order
+pub costs-ordered : (old new d e : List (ℕ × ℕ)) (slice unsorted numbers : List ℕ) → d ≡ old → e ≡ new → slice ≡ numbers → ((n : ℕ) → Contains unsorted n → Contains numbers n) → ((node : ℕ) → (Contains unsorted node → ⊥) → cost_at d node ≡ cost_at e node) → CostsStay slice old new
+costs-ordered old new d e slice unsorted numbers was is same all apart = costs-apart old new d e slice numbers was is same (λ node out. apart node (λ there. out (all node there)))

@@ -4,7 +4,7 @@ use Rattle.std.specs.Ordering.{nat_cmp, ordering_then, is_lt}
 use Rattle.std.specs.List.Sorted.{IsSortedByKey}
 use Rattle.std.proofs.lemmas.Bool.{cases_lt, cases_Bool, and_parts, eqb-true, eq-eqb}
 use Rattle.std.proofs.lemmas.Bool.Decides.{nat_tests}
-use Rattle.std.proofs.lemmas.List.{length_push, get_or_default}
+use Rattle.std.proofs.lemmas.List.{get_or_default}
 use Rattle.std.proofs.lemmas.List.Sums.{sum_by_push, sum_by-cons}
 use Rattle.spf_tree.specs.declared.row.Row.{Row}
 use Rattle.spf_tree.specs.Walks.{start, end}
@@ -150,7 +150,6 @@ swap old new removed added here there is = record {
   within_new = is.within_old;
   counts = λ row. sym (is.counts row);
   apart = λ row. elim (is.apart row) [ inl e ↦ inr e | inr e ↦ inl e ];
-  long = sym is.long;
   past_new = is.past_old;
   past_old = is.past_new;
 }
@@ -195,7 +194,6 @@ module _ (old new removed added : List Row) (here there : ℕ) (row : Row) (is :
                   let none = none-of (same_row x row) other in
                   elim (is.apart x) [ inl e ↦ inl (omega (arith, put, none, e)) | inr e ↦ inr e ]
             ];
-        long = let l = length_push removed row in let so-far = is.long in omega (arith, l, so-far);
         past_new = λ x some k d from l.
             elim (cases_Bool (same_row x row)) [
               | inl same ↦ before-not x row (get_or new k d) (row-before k d from l) same
@@ -226,7 +224,6 @@ turn-both old new removed added here there is in-old in-new same = record {
       let so-far = is.counts x in
       omega (arith, more-old, more-new, both, so-far);
   apart = is.apart;
-  long = let so-far = is.long in omega (arith, so-far);
   past_new = λ x some k d from l. is.past_new x some k d (omega (arith, from)) l;
   past_old = λ x some k d from l. is.past_old x some k d (omega (arith, from)) l;
 }
@@ -252,7 +249,6 @@ parting-begins old new = record {
   within_new = omega arith;
   counts = λ x. refl;
   apart = λ x. inl refl;
-  long = refl;
   past_new = λ x some k d from l. absurd (omega (arith, some));
   past_old = λ x some k d from l. absurd (omega (arith, some));
 }
@@ -265,16 +261,14 @@ parting-ends old new removed added here there is end-old end-new = record {
       let so-far = is.counts x in
       omega (arith, all-old, all-new, so-far);
   apart = is.apart;
-  long = let so-far = is.long in let a = is.within_old in let b = is.within_new in omega (arith, so-far, a, b, end-old, end-new);
 }
 
 -- ---- rows in any order
 
-pub differences-by : (old new as-old as-new removed added : List Row) → ((x : Row) → times as-old x ≡ times old x) → ((x : Row) → times as-new x ≡ times new x) → length as-old ≡ length old → length as-new ≡ length new → AreDifferences as-old as-new removed added → AreDifferences old new removed added
-differences-by old new as-old as-new removed added of-old of-new long-old long-new is = record {
+pub differences-by : (old new as-old as-new removed added : List Row) → ((x : Row) → times as-old x ≡ times old x) → ((x : Row) → times as-new x ≡ times new x) → AreDifferences as-old as-new removed added → AreDifferences old new removed added
+differences-by old new as-old as-new removed added of-old of-new is = record {
   counts = λ x. let c = is.counts x in let a = of-old x in let b = of-new x in omega (arith, c, a, b);
   apart = is.apart;
-  long = let l = is.long in omega (arith, l, long-old, long-new);
 }
 
 pub differences-of : (a b c d x y z w : List Row) → a ≡ x → b ≡ y → c ≡ z → d ≡ w → AreDifferences a b c d → AreDifferences x y z w
@@ -351,11 +345,6 @@ dropped [] k x d l = absurd (omega (arith, l))
 dropped (row ∷ rows) zero x d l = consed row rows x
 dropped (row ∷ rows) (suc k) x d l = dropped rows k x d (omega (arith, l))
 
-drop-length : (rows : List Row) (k : ℕ) → k < length rows → length (drop k rows) ≡ length (drop (suc k) rows) + 1
-drop-length [] k l = absurd (omega (arith, l))
-drop-length (row ∷ rows) zero l = omega arith
-drop-length (row ∷ rows) (suc k) l = drop-length rows k (omega (arith, l))
-
 -- what both lists begin with
 pub past-one : (old new removed added : List Row) (k : ℕ) → k < length old → k < length new → ((d : Row) → IsSame (get_or old k d) (get_or new k d)) → AreDifferences (drop (k + 1) old) (drop (k + 1) new) removed added → AreDifferences (drop k old) (drop k new) removed added
 past-one old new removed added k in-old in-new same is =
@@ -369,7 +358,6 @@ past-one old new removed added k in-old in-new same is =
           let both = same-rows x (get_or old k x) (get_or new k x) (same x) in
           omega (arith, c, a, b, both);
       apart = from.apart;
-      long = let l = from.long in let a = drop-length old k in-old in let b = drop-length new k in-new in omega (arith, l, a, b);
     }
 
 -- what both lists end with
@@ -383,19 +371,7 @@ before-one old new removed added i j in-old in-new same is =
           let both = same-rows x (get_or old i x) (get_or new j x) (same x) in
           omega (arith, c, a, b, both);
       apart = is.apart;
-      long =
-          let l = is.long in
-          let a : length (take i old) ≡ i = length-take i old (omega (arith, in-old)) in
-          let b : length (take j new) ≡ j = length-take j new (omega (arith, in-new)) in
-          let p : length (take (i + 1) old) ≡ i + 1 = length-take (i + 1) old (omega (arith, in-old)) in
-          let q : length (take (j + 1) new) ≡ j + 1 = length-take (j + 1) new (omega (arith, in-new)) in
-          omega (arith, l, a, b, p, q);
     }
-  where
-    length-take : (n : ℕ) (rows : List Row) → n ≤ length rows → length (take n rows) ≡ n
-    length-take zero rows h = refl
-    length-take (suc n) [] h = absurd (omega (arith, h))
-    length-take (suc n) (row ∷ rows) h = let so-far = length-take n rows (omega (arith, h)) in omega (arith, so-far)
 
 all-same : (old new : List Row) (i j : ℕ) (d e : Row) → i < length old → j < length new → IsSame (get_or old i d) (get_or new j e) → (x : Row) → IsSame (get_or old i x) (get_or new j x)
 all-same old new i j d e in-old in-new same x =

@@ -230,6 +230,12 @@ module _ (node : NodeId) (old here : List Pair) where
     unfolding told_with
     with-beside = beside-three here ∙ sym (ap (told_beside node) whole ∙ beside-three old)
 
+-- a list in which a node tells what it told is the same
+pub with-same : (node : NodeId) (told here : List Pair) → RisesFrom 0 told → HaveIds told → told_at node here ≡ told_at node told → told_with node told here ≡ told
+unfolding told_with
+with-same node told here rises ids same =
+    ap (λ (l : List Pair). told_before node told ++ (l ++ told_past node told)) same ∙ sym (split (node_number node) 0 told rises ids)
+
 -- an outlook's list that moves so is what is told with the node's
 pub is-with : (node : NodeId) (old new here : List Pair) → RisesFrom 0 new → HaveIds old → HaveIds here → told_beside node new ≡ told_beside node old → told_at node new ≡ here → new ≡ told_with node old here
 unfolding told_with

@@ -414,7 +414,14 @@ module _ (node : NodeId) (old here : List Pair) (rises : RisesFrom 0 old) (ids :
         (λ far. apart-times row (not-start (start row == n) (end row == n) far));
   }
 
-  pub same-graph : (root : NodeId) (before near' : GraphOf) (removed added : List Row) → AreUsable (rows_in old) (overloaded_in old) root before → IsNear new root node near' → AreDifferences (filter (touches n) before.rows) near'.rows removed added → length removed ≡ 0 → length added ≡ 0
-      → AreUsable (rows_in new) (overloaded_in new) root before
-  same-graph root before near' removed added is near-is apart none nothing =
-      changed-graph root before before near' removed added is near-is apart (λ x. ap (λ (k : ℕ). times before.rows x + k) (no-times-of x removed none ∙ sym (no-times-of x added nothing))) is.from
+-- the rows of a graph that touch a node are those of a graph near it, each as often
+pub near-touched : (node : NodeId) (told : List Pair) (root : NodeId) (graph near' : GraphOf) → AreUsable (rows_in told) (overloaded_in told) root graph → IsNear told root node near' → (x : Row) → times near'.rows x ≡ times (filter (touches (node_number node)) graph.rows) x
+near-touched node told root graph near' is near-is x =
+    near-is x
+    ∙ both (touches (node_number node) x) (is_usable (rows_in told) (overloaded_in told) (node_number root) (start x) (end x) x.metric) (times (rows_in told) x)
+    ∙ ap (λ (k : ℕ). if touches (node_number node) x then k else 0) (sym (is.rows_are x))
+    ∙ sym (kept-times (λ s e m. s == node_number node || e == node_number node) graph.rows x)
+  where
+    both : (t u : Bool) (k : ℕ) → (if t && u then k else 0) ≡ (if t then (if u then k else 0) else 0)
+    both true u k = refl
+    both false u k = refl

@@ -1,5 +1,5 @@
 -- Numbers in order, among which a binary search looks for one.
-use Rattle.std.proofs.Common.{◌≡◌, ◌∙◌, ℕ, ◌==◌, Bool, true, false, List, [], ◌∷◌, map, Ok, Err, refl, sym, subst, inl, inr}
+use Rattle.std.proofs.Common.{◌≡◌, ◌∙◌, ℕ, suc, ◌-◌, ◌<◌, ◌≤◌, ◌==◌, ◌||◌, Bool, true, false, List, [], ◌∷◌, length, get_or, map, Ok, Err, refl, sym, ap, subst, arith, inl, inr}
 use Rattle.std.specs.List.{Contains}
 use Rattle.std.specs.List.Sorted.{IsStrictlyIncreasing, IsBinarySearchResult}
 use Rattle.std.specs.Ordering.{nat_cmp}
@@ -7,6 +7,7 @@ use Rattle.std.proofs.lemmas.Bool.{eqb-true, eq-eqb}
 use Rattle.std.proofs.lemmas.List.Sorted.{searched}
 use Rattle.std.proofs.lemmas.List.Folds.{list_any_at}
 use Rattle.spf_tree.proofs.SearchLemmas.{contains_first, contains_rest, contains_cases, contains_none}
+use Rattle.std.proofs.lemmas.List.{get_or_default}
 use Rattle.spf_tree.proofs.PlaceLemmas.{no_place, nodes_rise}
 use Rattle.route_table.specs.Patches.{is_moved}
 use Rattle.router_routes.proofs.BesideLemmas.{any-in, in-any}
@@ -29,6 +30,41 @@ none-step false h = refl
 
 pub found-none : (numbers : List ℕ) (n i : ℕ) → IsStrictlyIncreasing numbers → IsBinarySearchResult (λ y. nat_cmp y n) numbers (Err i) → false ≡ is_moved numbers n
 found-none numbers n i up r = none-step (is_moved numbers n) (λ any. no_place numbers n i up (moved-there numbers n any) r)
+
+-- ---- numbers past the last, and before the second
+
+pub none-of : (numbers : List ℕ) (n : ℕ) → length numbers ≡ 0 → false ≡ is_moved numbers n
+none-of [] n e = refl
+none-of (m ∷ numbers) n e = absurd (omega (arith, e))
+
+pub none-above : (numbers : List ℕ) (n : ℕ) → IsStrictlyIncreasing numbers → get_or numbers (length numbers - 1) 0 < n → false ≡ is_moved numbers n
+none-above numbers n up past =
+    none-step (is_moved numbers n) (λ any.
+    let h = moved-there numbers n any in
+    let in' = h.1 in
+    let is : get_or numbers h.0 0 ≡ n = get_or_default numbers h.0 0 n in' ∙ h.2 in
+    let le = nodes_rise numbers up h.0 (length numbers - 1) (omega (arith, in')) (omega (arith, in')) in
+    omega (arith, is, le, past))
+
+or-none : (t : Bool) → t ≡ (t || false)
+or-none true = refl
+or-none false = refl
+
+pub first-alone : (numbers : List ℕ) (n d : ℕ) → length numbers ≡ 1 → (get_or numbers 0 d == n) ≡ is_moved numbers n
+first-alone [] n d e = absurd (omega (arith, e))
+first-alone (m ∷ []) n d e = or-none (m == n)
+first-alone (m ∷ k ∷ numbers) n d e = absurd (omega (arith, e))
+
+pub first-below : (numbers : List ℕ) (n d : ℕ) → IsStrictlyIncreasing numbers → 1 < length numbers → n < get_or numbers 1 0 → (get_or numbers 0 d == n) ≡ is_moved numbers n
+first-below [] n d up many below = absurd (omega (arith, many))
+first-below (m ∷ numbers) n d up many below =
+    or-none (m == n) ∙ ap (λ (t : Bool). (m == n) || t)
+    (none-step (is_moved numbers n) (λ any.
+    let h = moved-there numbers n any in
+    let in' = h.1 in
+    let is : get_or numbers h.0 0 ≡ n = get_or_default numbers h.0 0 n in' ∙ h.2 in
+    let le : get_or (m ∷ numbers) 1 0 ≤ get_or numbers h.0 0 = nodes_rise (m ∷ numbers) up 1 (suc h.0) (omega arith) (omega (arith, in')) in
+    omega (arith, is, le, below)))
 
 -- ---- members of a map
 

@@ -1,5 +1,5 @@
 -- Routes of which some prefixes are looked at anew, once some nodes moved.
-use Rattle.std.proofs.Common.{◌≡◌, ◌∙◌, ◌↔◌, ℕ, ◌+◌, ◌≤◌, Bool, true, false, not, List, [], ◌∷◌, ◌++◌, ◌⊎◌, length, map, filter, Option, None, Some, Result, Ok, Err, IfOk, refl, sym, ap, subst, arith, inl, inr, if◌then◌else◌}
+use Rattle.std.proofs.Common.{◌≡◌, ◌∙◌, ◌↔◌, ℕ, ◌+◌, Bool, true, false, not, List, [], ◌∷◌, ◌++◌, ◌⊎◌, length, map, filter, Option, None, Some, Result, Ok, Err, IfOk, refl, sym, ap, subst, arith, inl, inr, append-nil, if◌then◌else◌}
 use Rattle.std.specs.List.{Contains, flat_map}
 use Rattle.std.specs.List.Sorted.{IsStrictlyIncreasing}
 use Rattle.std.proofs.lemmas.List.Elements.{Contains-append_left, Contains-append_right, Contains-append_cases}
@@ -24,11 +24,12 @@ use Rattle.route_table.specs.declared.route.Route.{Route}
 use Rattle.route_table.specs.Ranks.{prefix_number}
 use Rattle.route_table.specs.Order.{IsListedBy, IsListedHop}
 use Rattle.route_table.specs.Routes.{IsHopTo, AreRoutes}
-use Rattle.route_table.specs.Patches.{AreClean, ArePatches, IsListed, PatchesOf, is_moved, is_touched}
+use Rattle.route_table.specs.Patches.{AreClean, ArePatches, Fits, IsListed, PatchesOf, is_moved, is_touched}
 use Rattle.route_table.proofs.HopLemmas.{tabled_is}
 use Rattle.route_table.proofs.OrderLemmas.{routes_by}
 use Rattle.route_table.proofs.PatchLemmas.{by_hops, of_part, routes_are}
 use Rattle.router_routes.specs.declared.coming.LevelsAfter.{LevelsAfter}
+use Rattle.router_routes.specs.declared.coming.ReachedAfter.{ReachedAfter}
 use Rattle.router_routes.specs.declared.coming.RoutesAfter.{RoutesAfter}
 use Rattle.router_routes.specs.declared.coming.RoutesAfter.TheVariants.{Made, Patched}
 use Rattle.router_routes.specs.Outlooks.{Outlook, graph_in}
@@ -36,10 +37,10 @@ use Rattle.router_routes.specs.Candidates.{reached_in, has_bit, has_defaults, de
 use Rattle.router_routes.specs.Following.{AreHopsOf, FollowingOf, IsFollowing, IsLevel}
 use Rattle.router_routes.specs.Kept.{AreBeside, AreReached, AreSame, CostBeside, HaveToldIds, stays, systems_among, told_candidates}
 use Rattle.router_routes.specs.Moved.{AreNodes, is_among}
-use Rattle.router_routes.specs.Coming.{AreLevels, AreLevelsBeside, AreRoutesAfter, HopsStay, apart_in, costs_after, hops_after}
-use Rattle.router_routes.specs.Touched.{AreMovedNumbers, ArePatchesFor, AreRoutesFor, AreStill, AreTouched, HaveOwn, IsStill, is_by, is_for, prefix_of, prefixes_via}
+use Rattle.router_routes.specs.Coming.{AreLevels, AreLevelsBeside, AreRoutesAfter, HopsStay, apart_in, costs_after, hops_after, list_after}
+use Rattle.router_routes.specs.Touched.{AreApartBeside, ArePatchesFor, AreRoutesFor, AreStill, AreTouched, HaveOwn, IsReachedAfter, IsStill, is_by, is_for, prefix_of, prefixes_via}
 use Rattle.router_routes.proofs.GraphLemmas.{hop-by}
-use Rattle.router_routes.proofs.KeptLemmas.{among-in, filter-in, flat-in, in-filter}
+use Rattle.router_routes.proofs.KeptLemmas.{filter-in, flat-in, in-filter}
 use Rattle.router_routes.proofs.NumberLemmas.{in-map, moved-none, there-moved}
 use Rattle.router_routes.proofs.OwnLemmas.{own-more}
 use Rattle.router_routes.proofs.BesideLemmas.{same-refl}
@@ -270,7 +271,7 @@ module _ (o p : Outlook) (f : FollowingOf) (is : IsFollowing o f) (nodes : List 
 
   -- ---- the routes
 
-  pub routes-after : (held : ℕ) (routes : RoutesAfter) → held ≡ length f.routes → AreRoutesFor Listed (candidates_of p) prefixes held routes → AreRoutesAfter p f.routes routes
+  pub routes-after : (held : List Route) (routes : RoutesAfter) → held ≡ f.routes → AreRoutesFor Listed (candidates_of p) prefixes held routes → AreRoutesAfter p f.routes routes
   routes-after held (Made made) e are =
       record {
         fits = tt;
@@ -280,7 +281,7 @@ module _ (o p : Outlook) (f : FollowingOf) (is : IsFollowing o f) (nodes : List 
       let right = by_hops Listed New (candidates_of p) patches.list new-hop are.right in
       let room = are.room in
       record {
-        fits = omega (arith, room, e);
+        fits = subst (λ (l : List Route). Fits l patches) e room;
         right = λ new put. routes_are Old New (candidates_of o) (candidates_of p) f.routes new patches.list is.routes right (clean patches.list are.touched) put;
       }
 
@@ -308,8 +309,8 @@ all-three (Ok x) P Q R S f p q t = f x p q t
 all-three (Err e) P Q R S f p q t = tt
 
 -- patches by a list of all candidates for these prefixes
-pub patches-for : (HopTo : Candidate → ℕ → Type 0) (candidates part some : List Candidate) (prefixes : List Prefix) (numbers : List ℕ) (held : ℕ) (patches : PatchesOf) → ((n : ℕ) → IsListed prefixes n → is_moved numbers n ≡ true) → AreSame part (filter (is_for numbers) candidates) → some ≡ part
-    → ArePatches HopTo some patches.list → ((n : ℕ) → is_touched patches.list n ≡ true ↔ IsListed prefixes n) → held + length patches.list ≤ patches.room → ArePatchesFor HopTo candidates prefixes held patches
+pub patches-for : (HopTo : Candidate → ℕ → Type 0) (candidates part some : List Candidate) (prefixes : List Prefix) (numbers : List ℕ) (held : List Route) (patches : PatchesOf) → ((n : ℕ) → IsListed prefixes n → is_moved numbers n ≡ true) → AreSame part (filter (is_for numbers) candidates) → some ≡ part
+    → ArePatches HopTo some patches.list → ((n : ℕ) → is_touched patches.list n ≡ true ↔ IsListed prefixes n) → Fits held patches → ArePatchesFor HopTo candidates prefixes held patches
 patches-for HopTo candidates part some prefixes numbers held patches moved same e right touched room =
     let number : (c : Candidate) → IsListed prefixes (prefix_number c.prefix) → is_for numbers c ≡ true =
     λ c listed. subst (λ (n : ℕ). is_moved numbers n ≡ true) (sym (number-is c.prefix)) (moved (prefix_number c.prefix) listed) in
@@ -324,57 +325,73 @@ patches-for HopTo candidates part some prefixes numbers held patches moved same 
 
 -- ---- the nodes that moved
 
-among-false : (t : Bool) → (t ≡ true → ⊥) → t ≡ false
-among-false true h = absurd (h refl)
-among-false false h = refl
-
-pub moved-are : (nodes : List NodeId) (f : FollowingOf) (levels : LevelsAfter) (n0 n1 n2 sorted : List ℕ) → n0 ≡ map node_number nodes → n1 ≡ n0 ++ apart_in levels.one → n2 ≡ n1 ++ apart_in levels.two → ((n : ℕ) → Contains n2 n → Contains sorted n) → IsStrictlyIncreasing sorted
-    → HopsStay (apart_in levels.one) f.hops.one (hops_after levels.one f.hops.one) → HopsStay (apart_in levels.two) f.hops.two (hops_after levels.two f.hops.two) → AreMovedNumbers nodes f levels sorted
-moved-are nodes f levels n0 n1 n2 sorted e0 e1 e2 all up one two =
+-- those beside some whose next hops may be others
+pub apart-are : (nodes : List NodeId) (f : FollowingOf) (levels : LevelsAfter) (moved some more n0 n1 n2 sorted : List ℕ) → ((n : ℕ) → is_moved moved n ≡ is_among nodes n) → some ≡ moved → more ≡ moved → n1 ≡ n0 ++ filter (λ n. not (is_moved some n)) (apart_in levels.one) → n2 ≡ n1 ++ filter (λ n. not (is_moved more n)) (apart_in levels.two)
+    → ((n : ℕ) → Contains n2 n → Contains sorted n) → IsStrictlyIncreasing sorted → HopsStay (apart_in levels.one) f.hops.one (hops_after levels.one f.hops.one) → HopsStay (apart_in levels.two) f.hops.two (hops_after levels.two f.hops.two) → AreApartBeside nodes f levels sorted
+apart-are nodes f levels moved some more n0 n1 n2 sorted are s m e1 e2 all up one two =
     let ones = apart_in levels.one in
     let twos = apart_in levels.two in
-    let from1 : (n : ℕ) → Contains n1 n → Contains sorted n = λ n there. all n (subst (λ (l : List ℕ). Contains l n) (sym e2) (Contains-append_left n1 twos n there)) in
-    let of-two : (n : ℕ) → Contains twos n → Contains sorted n = λ n there. all n (subst (λ (l : List ℕ). Contains l n) (sym e2) (Contains-append_right n1 twos n there)) in
-    let of-one : (n : ℕ) → Contains ones n → Contains sorted n = λ n there. from1 n (subst (λ (l : List ℕ). Contains l n) (sym e1) (Contains-append_right n0 ones n there)) in
-    let of-nodes : (n : ℕ) → Contains n0 n → Contains sorted n = λ n there. from1 n (subst (λ (l : List ℕ). Contains l n) (sym e1) (Contains-append_left n0 ones n there)) in
+    let beside = λ (l : List ℕ). filter (λ n. not (is_moved moved n)) l in
+    let e3 : n1 ≡ n0 ++ beside ones = e1 ∙ ap (λ (l : List ℕ). n0 ++ filter (λ n. not (is_moved l n)) ones) s in
+    let e4 : n2 ≡ n1 ++ beside twos = e2 ∙ ap (λ (l : List ℕ). n1 ++ filter (λ n. not (is_moved l n)) twos) m in
+    let of-two : (n : ℕ) → Contains (beside twos) n → Contains sorted n = λ n there. all n (subst (λ (l : List ℕ). Contains l n) (sym e4) (Contains-append_right n1 (beside twos) n there)) in
+    let of-one : (n : ℕ) → Contains (beside ones) n → Contains sorted n = λ n there. all n (subst (λ (l : List ℕ). Contains l n) (sym e4) (Contains-append_left n1 (beside twos) n (subst (λ (l : List ℕ). Contains l n) (sym e3) (Contains-append_right n0 (beside ones) n there)))) in
     record {
       rising = up;
-      still = λ n none. let out = moved-none sorted n none in record {
-        beside = among-false (is_among nodes n) (λ among. (
-            let m = among-in nodes n among in
-            out (of-nodes n (subst (λ (l : List ℕ). Contains l n) (sym e0) (subst (λ (x : ℕ). Contains (map node_number nodes) x) m.2 (in-map node_number nodes m.0 m.1))))));
-        one = λ hop. one.each n hop (λ there. out (of-one n there));
-        two = λ hop. two.each n hop (λ there. out (of-two n there));
-      };
+      still = λ n among none.
+          let out = moved-none sorted n none in
+          let free : not (is_moved moved n) ≡ true = ap not (are n ∙ among) in
+          record {
+            beside = among;
+            one = λ hop. one.each n hop (λ there. out (of-one n (in-filter (λ n. not (is_moved moved n)) ones n there free)));
+            two = λ hop. two.each n hop (λ there. out (of-two n (in-filter (λ n. not (is_moved moved n)) twos n there free)));
+          };
     }
 
 -- ---- the prefixes that are touched
 
-via-step : (nodes : List NodeId) (f : FollowingOf) (levels : LevelsAfter) (numbers : List ℕ) (cs : List Candidate) (c : Candidate) → AreMovedNumbers nodes f levels numbers → Contains cs c → (t : Bool) → is_by numbers c ≡ t → Contains (prefixes_via numbers cs) c.prefix ⊎ IsStill nodes f levels (node_number c.origin)
-via-step nodes f levels numbers cs c are there true is = inl (in-map prefix_of (filter (is_by numbers) cs) c (in-filter (is_by numbers) cs c there is))
-via-step nodes f levels numbers cs c are there false is = inr (are.still (node_number c.origin) is)
+-- candidates by way of no nodes
+none-via : (cs : List Candidate) → prefixes_via [] cs ≡ []
+none-via [] = refl
+none-via (c ∷ cs) = none-via cs
 
-pub touched-are : (nodes : List NodeId) (f : FollowingOf) (levels : LevelsAfter) (numbers some more : List ℕ) (old new : List (Prefix × ℕ)) (held later told : List Candidate) (p0 p1 p2 : List Prefix) → AreMovedNumbers nodes f levels numbers → some ≡ numbers → more ≡ numbers → held ≡ f.told → later ≡ told → IsListed p0 0 → HaveOwn old new p0 → p1 ≡ p0 ++ prefixes_via some held → p2 ≡ p1 ++ prefixes_via more later
-    → AreTouched nodes f levels old new told p2
-touched-are nodes f levels numbers some more old new held later told p0 p1 p2 are s m h l all own e1 e2 =
-    let from0 : (q : Prefix) → Contains p0 q → Contains p2 q =
-    λ q there. subst (λ (ps : List Prefix). Contains ps q) (sym e2) (Contains-append_left p1 (prefixes_via more later) q (subst (λ (ps : List Prefix). Contains ps q) (sym e1) (Contains-append_left p0 (prefixes_via some held) q there))) in
-    let via1 : (q : Prefix) → Contains (prefixes_via numbers f.told) q → Contains p2 q =
-    λ q there. subst (λ (ps : List Prefix). Contains ps q) (sym e2) (Contains-append_left p1 (prefixes_via more later) q (subst (λ (ps : List Prefix). Contains ps q) (sym e1) (Contains-append_right p0 (prefixes_via some held) q
-    (subst (λ (ns : List ℕ). Contains (prefixes_via ns held) q) (sym s) (subst (λ (cs : List Candidate). Contains (prefixes_via numbers cs) q) (sym h) there))))) in
-    let via2 : (q : Prefix) → Contains (prefixes_via numbers told) q → Contains p2 q =
-    λ q there. subst (λ (ps : List Prefix). Contains ps q) (sym e2) (Contains-append_right p1 (prefixes_via more later) q
-    (subst (λ (ns : List ℕ). Contains (prefixes_via ns later) q) (sym m) (subst (λ (cs : List Candidate). Contains (prefixes_via numbers cs) q) (sym l) there))) in
-    record {
-      all = (all.0, from0 all.0 all.1, all.2);
-      own = own-more old new p0 p2 from0 own;
-      before = λ c there. either c.prefix _ _ _ (via1 c.prefix) (via-step nodes f levels numbers f.told c are there (is_by numbers c) refl);
-      after = λ c there. either c.prefix _ _ _ (via2 c.prefix) (via-step nodes f levels numbers told c are there (is_by numbers c) refl);
-    }
-  where
-    either : (q : Prefix) (A B C : Type 0) → (A → B) → A ⊎ C → B ⊎ C
-    either q A B C g (inl a) = inl (g a)
-    either q A B C g (inr c) = inr c
+pub via-none : (numbers : List ℕ) (cs : List Candidate) (ps : List Prefix) → length numbers ≡ 0 → ps ≡ ps ++ prefixes_via numbers cs
+via-none [] cs ps e = sym (ap (λ (l : List Prefix). ps ++ l) (none-via cs) ∙ append-nil ps)
+via-none (n ∷ numbers) cs ps e = absurd (omega (arith, e))
+
+not-false : (t : Bool) → not t ≡ true → t ≡ false
+not-false true e = absurd (let f : false ≡ true = e in cc)
+not-false false e = refl
+
+module _ (o p : Outlook) (f : FollowingOf) (is : IsFollowing o f) (nodes : List NodeId) (levels : LevelsAfter) (still : AreStill nodes o p) (reached : ReachedAfter) (has : IsReachedAfter nodes p f reached) (numbers : List ℕ) (are : AreApartBeside nodes f levels numbers) (prefixes : List Prefix) (listed : (q : Prefix) → Contains reached.prefixes.items q → Contains prefixes q) (via : (q : Prefix) → Contains (prefixes_via numbers f.told) q → Contains prefixes q) where
+  abbrev Touched : Candidate → Type 0
+  Touched c = Contains prefixes c.prefix ⊎ IsStill nodes f levels (node_number c.origin)
+
+  by-hops : (c : Candidate) → Contains f.told c → is_among nodes (node_number c.origin) ≡ false → (t : Bool) → is_by numbers c ≡ t → Touched c
+  by-hops c there none true by = inl (via c.prefix (in-map prefix_of (filter (is_by numbers) f.told) c (in-filter (is_by numbers) f.told c there by)))
+  by-hops c there none false by = inr (are.still (node_number c.origin) none by)
+
+  before-step : (c : Candidate) → Contains f.told c → (t : Bool) → stays nodes c ≡ t → Touched c
+  before-step c there true stay = by-hops c there (not-false (is_among nodes (node_number c.origin)) stay) (is_by numbers c) refl
+  before-step c there false out = inl (listed c.prefix (has.before c there out))
+
+  after-step : (c : Candidate) → Contains (list_after reached.told f.told) c → (t : Bool) → stays nodes c ≡ t → Touched c
+  after-step c there true stay = before-step c ((is.told c).1 ((still.told c stay).1 ((has.right.told c).0 there))) true stay
+  after-step c there false out = inl (listed c.prefix (has.after c there out))
+
+  pub touched-by : (old new : List (Prefix × ℕ)) → IsListed prefixes 0 → HaveOwn old new prefixes → AreTouched nodes f levels old new (list_after reached.told f.told) prefixes
+  touched-by old new all own = record { all = all; own = own; before = λ c there. before-step c there (stays nodes c) refl; after = λ c there. after-step c there (stays nodes c) refl }
+
+pub touched-are : (o p : Outlook) (f : FollowingOf) → IsFollowing o f → (nodes : List NodeId) (levels : LevelsAfter) → AreStill nodes o p → (reached : ReachedAfter) → IsReachedAfter nodes p f reached → (numbers some : List ℕ) → AreApartBeside nodes f levels numbers → some ≡ numbers → (held : List Candidate) → held ≡ f.told → (old new : List (Prefix × ℕ)) (p0 p1 p2 slice : List Prefix) → slice ≡ reached.prefixes.items
+    → IsListed p0 0 → HaveOwn old new p0 → p1 ≡ p0 ++ slice → p2 ≡ p1 ++ prefixes_via some held → AreTouched nodes f levels old new (list_after reached.told f.told) p2
+touched-are o p f is nodes levels still reached has numbers some are s held h old new p0 p1 p2 slice l all own e1 e2 =
+    let last = prefixes_via some held in
+    let from1 : (q : Prefix) → Contains p1 q → Contains p2 q = λ q there. subst (λ (ps : List Prefix). Contains ps q) (sym e2) (Contains-append_left p1 last q there) in
+    let from0 : (q : Prefix) → Contains p0 q → Contains p2 q = λ q there. from1 q (subst (λ (ps : List Prefix). Contains ps q) (sym e1) (Contains-append_left p0 slice q there)) in
+    touched-by o p f is nodes levels still reached has numbers are p2
+    (λ q there. from1 q (subst (λ (ps : List Prefix). Contains ps q) (sym e1) (Contains-append_right p0 slice q (subst (λ (ps : List Prefix). Contains ps q) (sym l) there))))
+    (λ q there. subst (λ (ps : List Prefix). Contains ps q) (sym e2) (Contains-append_right p1 last q (subst (λ (ns : List ℕ). Contains (prefixes_via ns held) q) (sym s) (subst (λ (cs : List Candidate). Contains (prefixes_via numbers cs) q) (sym h) there))))
+    old new (all.0, from0 all.0 all.1, all.2) (own-more old new p0 p2 from0 own)
 
 pub all-listed : (p0 p1 p2 : List Prefix) (r s : List Prefix) → p1 ≡ p0 ++ r → p2 ≡ p1 ++ s → IsListed p0 0 → IsListed p2 0
 all-listed p0 p1 p2 r s e1 e2 all =

@@ -1,6 +1,5 @@
 -- Candidates of two outlooks that reach the same, and what follows a router then.
-use Rattle.std.proofs.Common.{◌≡◌, ◌∙◌, ℕ, ◌<◌, Bool, true, false, ◌&&◌, not, List, [], ◌∷◌, ◌++◌, map, filter, Option, Some, None, refl, sym, ap, subst, arith, inl, inr, if◌then◌else◌}
-use Rattle.std.specs.Prelude.{MatchOption}
+use Rattle.std.proofs.Common.{◌≡◌, ◌∙◌, ℕ, ◌<◌, Bool, true, false, ◌&&◌, not, List, [], ◌∷◌, ◌++◌, map, filter, refl, sym, ap, subst, arith, inl, inr, if◌then◌else◌}
 use Rattle.std.specs.List.{AllByRecursion, Contains, flat_map, list_any}
 use Rattle.std.proofs.lemmas.List.Elements.{Contains-append_left, Contains-push, Contains-push_cases}
 use Rattle.isis_base.specs.declared.identifiers.SystemId.{SystemId}
@@ -33,7 +32,7 @@ use Rattle.router_routes.proofs.MovedLemmas.{told-ids}
 use Rattle.router_routes.proofs.AfterLemmas.{list-more}
 use Rattle.router_routes.proofs.ViewLemmas.{level-ids}
 use Rattle.router_routes.proofs.KeptLemmas.{among-in, in-among, telling-default}
-use Rattle.router_routes.proofs.BesideLemmas.{same-refl, same-both, same-back, same-append, same-parts, any-same, one-kept, both-kept}
+use Rattle.router_routes.proofs.BesideLemmas.{same-refl, same-both, same-back, same-append, any-same, one-kept, both-kept}
 
 abbrev Pair : Type 0
 Pair = LspId × Entry
@@ -192,19 +191,13 @@ module _ (o p : Outlook) (f : FollowingOf) (is : IsFollowing o f) (nodes : List 
   ways-list : (list : List Candidate) → list ≡ filter (stays nodes) f.defaults ++ ways → AreSame list (defaults p.told.one p.root)
   ways-list list e = ways-after o p nodes node-ids beside old-ids new-ids f.levels.one f.levels.two n1 n2 is.one is.two ln1 ln2 a1 b1 c1 f.defaults list is.defaults (e ∙ ap (λ (cs : List Candidate). filter (stays nodes) f.defaults ++ cs) ways-is)
 
-  -- others stand in the place of those that are gone
-  pub reached-now : (list others : List Candidate) (bit : Bool) → list ≡ filter (stays nodes) f.told ++ come → others ≡ filter (stays nodes) f.defaults ++ ways → bit ≡ attached_of p → AreReached p list others bit
-  reached-now list others bit e g h = record { told = told-list list e; ways = ways-list others g; attached = h }
-
-  -- those that are gone are those that come
-  pub reached-still : (bit : Bool) → filter (λ c. not (stays nodes c)) f.told ≡ come → filter (λ c. not (stays nodes c)) f.defaults ≡ ways → bit ≡ attached_of p → bit ≡ f.attached → AreReached p f.told f.defaults f.attached
-  reached-still bit gone barred h same =
-      let told = filter (stays nodes) f.told in
-      let others = filter (stays nodes) f.defaults in
+  -- those that stay, and those that come
+  pub reached-now : (list others : List Candidate) (bit : Bool) → AreSame list (filter (stays nodes) f.told ++ come) → AreSame others (filter (stays nodes) f.defaults ++ ways) → bit ≡ attached_of p → AreReached p list others bit
+  reached-now list others bit e g h =
       record {
-        told = same-both f.told (told ++ come) (told_candidates p) (subst (λ (cs : List Candidate). AreSame f.told (told ++ cs)) gone (same-parts (stays nodes) f.told)) (told-list (told ++ come) refl);
-        ways = same-both f.defaults (others ++ ways) (defaults p.told.one p.root) (subst (λ (cs : List Candidate). AreSame f.defaults (others ++ cs)) barred (same-parts (stays nodes) f.defaults)) (ways-list (others ++ ways) refl);
-        attached = sym same ∙ h;
+        told = same-both list (filter (stays nodes) f.told ++ come) (told_candidates p) e (told-list (filter (stays nodes) f.told ++ come) refl);
+        ways = same-both others (filter (stays nodes) f.defaults ++ ways) (defaults p.told.one p.root) g (ways-list (filter (stays nodes) f.defaults ++ ways) refl);
+        attached = h;
       }
 
 -- what follows a router reaches that
@@ -276,13 +269,6 @@ cost-apart nodes old new numbers apart named m id none =
 
 pub costs-of : (r : RepairedOf) (d : List (ℕ × ℕ)) → d ≡ r.distances → AreDistances r.graph.rows (node_number r.root) d → AreCostsOf r
 costs-of r d same are = subst (AreDistances r.graph.rows (node_number r.root)) same are
-
-pub kept-list : (nodes : List NodeId) (list slice old more come : List Candidate) → list ≡ filter (stays nodes) slice ++ more → slice ≡ old → more ≡ come → list ≡ filter (stays nodes) old ++ come
-kept-list nodes list slice old more come e f g = e ∙ ap (λ (l : List Candidate). filter (stays nodes) l ++ more) f ∙ ap (λ (l : List Candidate). filter (stays nodes) old ++ l) g
-
-pub from-none : {X : Type 0} (P : Type 0) (Q : X → Type 0) (o : Option X) → o ≡ None → MatchOption o P Q → P
-from-none P Q None is m = m
-from-none P Q (Some x) is m = absurd (let e : Some x ≡ None = is in cc)
 
 pub told-by-nodes : (view : View) (s t : List (SystemId × ℕ)) (l m n : List Candidate) (one two : Bool) → one ≡ (runs_of view.levels).one → two ≡ (runs_of view.levels).two → l ≡ []
     → m ≡ l ++ flat_map (system_candidates level.One (where_run one (told_of view.one))) s → n ≡ m ++ flat_map (system_candidates level.Two (where_run two (told_of view.two))) t → n ≡ flat_map (system_candidates level.One (outlook_at view).told.one) s ++ flat_map (system_candidates level.Two (outlook_at view).told.two) t

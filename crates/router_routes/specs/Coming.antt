@@ -1,23 +1,26 @@
 -- What will follow a router, before it stands in the place of what does. All of it own.
-use Rattle.std.specs.Prelude.{◌≡◌, ◌↔◌, ℕ, ◌+◌, ◌≤◌, true, List, [], length, Option, Some, None}
+use Rattle.std.specs.Prelude.{◌≡◌, ◌↔◌, ℕ, true, List, [], Option, Some, None, Vec}
 use Rattle.std.specs.List.{Contains}
+use Rattle.std.specs.declared.alloc.Global.{Global}
 use Rattle.isis_base.specs.declared.identifiers.NodeId.{NodeId}
 use Rattle.isis_base.specs.declared.level.Level.TheVariants as level
 use Rattle.isis_base.specs.Identifiers.{IsId}
 use Rattle.spf_tree.specs.Nodes.{node_number}
 use Rattle.spf_tree.specs.Distances.{cost_at}
 use Rattle.spf_repair.specs.Changes.{RepairedOf}
+use Rattle.route_table.specs.declared.candidate.Candidate.{Candidate}
 use Rattle.route_table.specs.declared.route.Route.{Route}
-use Rattle.route_table.specs.Patches.{IsPatched}
+use Rattle.route_table.specs.Patches.{Fits, IsPatched}
 use Rattle.router_routes.specs.declared.coming.Coming.{Coming}
 use Rattle.router_routes.specs.declared.coming.LevelAfter.{LevelAfter}
 use Rattle.router_routes.specs.declared.coming.LevelsAfter.{LevelsAfter}
+use Rattle.router_routes.specs.declared.coming.ReachedAfter.{ReachedAfter}
 use Rattle.router_routes.specs.declared.coming.RoutesAfter.{RoutesAfter}
 use Rattle.router_routes.specs.declared.coming.RoutesAfter.TheVariants.{Made, Patched}
 use Rattle.router_routes.specs.declared.moving.CostsMoved.{CostsMoved}
 use Rattle.router_routes.specs.Outlooks.{Outlook}
 use Rattle.router_routes.specs.Candidates.{AreRoutesOf}
-use Rattle.router_routes.specs.Kept.{AreBeside, CostBeside}
+use Rattle.router_routes.specs.Kept.{AreBeside, AreReached, CostBeside}
 use Rattle.router_routes.specs.Moved.{AreNodes, is_among, or_old}
 use Rattle.router_routes.specs.Counts.{Counts}
 use Rattle.router_routes.specs.Following.{AreHopsOf, FollowingOf, IsFollowing, IsLevel}
@@ -98,12 +101,24 @@ pub record AreLevelsBeside (nodes : List NodeId) (o p : Outlook) (f : FollowingO
   pub costs_two : CostBeside nodes f.levels.two.distances (costs_after levels.two f.levels.two).distances
   pub right : AreLevels p f levels
 
+-- ---- what is reached
+
+-- new candidates, or else the old ones
+abbrev pub list_after : Option (Vec Candidate Global) → List Candidate → List Candidate
+list_after None old = old
+list_after (Some new) old = new.items
+
+-- these are reached, where the rest stays
+abbrev pub AreReachedAfter : Outlook → FollowingOf → ReachedAfter → Type 0
+AreReachedAfter o f reached =
+    AreReached o (list_after reached.told f.told) (list_after reached.defaults f.defaults) reached.attached
+
 -- ---- routes
 
--- a table made anew, or patches with room for a table of so many routes
+-- a table made anew, or patches that fit the one that is there
 abbrev pub FitsIn : List Route → RoutesAfter → Type 0
 FitsIn old (Made routes) = Unit {0}
-FitsIn old (Patched patches) = length old + length patches.list ≤ patches.room
+FitsIn old (Patched patches) = Fits old patches
 
 -- the routes once these have come
 abbrev pub ArePut : List Route → RoutesAfter → List Route → Type 0
@@ -125,8 +140,8 @@ pub record IsPut (old : FollowingOf) (c : Coming) (new : FollowingOf) : Type 0 w
   pub hops_two : new.hops.two ≡ hops_after c.two old.hops.two
   pub routes : ArePut old.routes c.routes new.routes
   pub attached : new.attached ≡ c.attached
-  pub told : new.told ≡ c.told.items
-  pub defaults : new.defaults ≡ c.defaults.items
+  pub told : new.told ≡ list_after c.told old.told
+  pub defaults : new.defaults ≡ list_after c.defaults old.defaults
 
 -- once this has come, what follows a router follows what routes look at
 pub record IsComing (o : Outlook) (f : FollowingOf) (c : Coming) : Type 0 where

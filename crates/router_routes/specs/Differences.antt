@@ -16,7 +16,6 @@ pub record AreDifferences (old new removed added : List Row) : Type 0 where
   pub counts : (row : Row)
       → times old row + times added row ≡ times new row + times removed row
   pub apart : (row : Row) → (times removed row ≡ 0) ⊎ (times added row ≡ 0)
-  pub long : length old + length added ≡ length new + length removed
 
 -- ---- rows in order: by start, then by end, then by metric
 
@@ -72,6 +71,5 @@ pub record IsParting (old new removed added : List Row) (here there : ℕ) : Typ
   pub counts : (row : Row) → times (take here old) row + times added row
       ≡ times (take there new) row + times removed row
   pub apart : (row : Row) → (times removed row ≡ 0) ⊎ (times added row ≡ 0)
-  pub long : here + length added ≡ there + length removed
   pub past_new : IsPast removed new there
   pub past_old : IsPast added old here

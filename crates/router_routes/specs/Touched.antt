@@ -1,22 +1,25 @@
 -- The prefixes whose routes are looked at anew once some nodes moved, and those routes. All of it own.
-use Rattle.std.specs.Prelude.{◌≡◌, ◌↔◌, ℕ, ◌+◌, ◌≤◌, ◌⊎◌, Bool, true, false, List, length, map, filter}
+use Rattle.std.specs.Prelude.{◌≡◌, ◌↔◌, ℕ, ◌+◌, ◌⊎◌, ◌++◌, Bool, true, false, not, List, map, filter, Option, Some, None, Vec}
 use Rattle.std.specs.List.{Contains}
 use Rattle.std.specs.List.Sorted.{IsStrictlyIncreasing}
+use Rattle.std.specs.declared.alloc.Global.{Global}
 use Rattle.isis_base.specs.declared.identifiers.NodeId.{NodeId}
 use Rattle.isis_base.specs.declared.prefix.Prefix.{Prefix}
 use Rattle.isis_base.specs.Prefixes.{prefix_number}
 use Rattle.spf_tree.specs.Nodes.{node_number}
 use Rattle.route_table.specs.declared.candidate.Candidate.{Candidate}
 use Rattle.route_table.specs.Routes.{AreRoutes}
-use Rattle.route_table.specs.Patches.{ArePatches, IsListed, PatchesOf, is_moved, is_touched}
+use Rattle.route_table.specs.declared.route.Route.{Route}
+use Rattle.route_table.specs.Patches.{ArePatches, Fits, IsListed, PatchesOf, is_moved, is_touched}
 use Rattle.router_routes.specs.declared.coming.LevelsAfter.{LevelsAfter}
+use Rattle.router_routes.specs.declared.coming.ReachedAfter.{ReachedAfter}
 use Rattle.router_routes.specs.declared.coming.RoutesAfter.{RoutesAfter}
 use Rattle.router_routes.specs.declared.coming.RoutesAfter.TheVariants.{Made, Patched}
 use Rattle.router_routes.specs.Outlooks.{Outlook}
 use Rattle.router_routes.specs.Following.{FollowingOf}
 use Rattle.router_routes.specs.Moved.{is_among}
 use Rattle.router_routes.specs.Kept.{stays, told_candidates}
-use Rattle.router_routes.specs.Coming.{hops_after}
+use Rattle.router_routes.specs.Coming.{AreReachedAfter, hops_after, list_after}
 
 -- ---- what stays
 
@@ -32,11 +35,12 @@ pub record IsStill (nodes : List NodeId) (f : FollowingOf) (levels : LevelsAfter
   pub one : (hop : ℕ) → Contains f.hops.one (n, hop) ↔ Contains (hops_after levels.one f.hops.one) (n, hop)
   pub two : (hop : ℕ) → Contains f.hops.two (n, hop) ↔ Contains (hops_after levels.two f.hops.two) (n, hop)
 
--- numbers in order: of these nodes, and of all whose next hops are others in a level
-pub record AreMovedNumbers (nodes : List NodeId) (f : FollowingOf) (levels : LevelsAfter)
+-- numbers in order: of all nodes beside these whose next hops are others in a level
+pub record AreApartBeside (nodes : List NodeId) (f : FollowingOf) (levels : LevelsAfter)
     (numbers : List ℕ) : Type 0 where
   pub rising : IsStrictlyIncreasing numbers
-  pub still : (n : ℕ) → is_moved numbers n ≡ false → IsStill nodes f levels n
+  pub still : (n : ℕ) → is_among nodes n ≡ false → is_moved numbers n ≡ false
+      → IsStill nodes f levels n
 
 -- ---- the prefixes that are looked at
 
@@ -47,12 +51,35 @@ is_by numbers c = is_moved numbers (node_number c.origin)
 abbrev pub is_for : List ℕ → Candidate → Bool
 is_for numbers c = is_moved numbers (prefix_number c.prefix)
 
+-- where these come in the place of those by way of such nodes: they are the same, or all of them then
+abbrev pub AreKeptWith : List ℕ → List Candidate → List Candidate → Option (Vec Candidate Global) → Type 0
+AreKeptWith numbers old come None = filter (is_by numbers) old ≡ come
+AreKeptWith numbers old come (Some new) =
+    new.items ≡ filter (λ (c : Candidate). not (is_by numbers c)) old ++ come
+
 abbrev pub prefix_of : Candidate → Prefix
 prefix_of c = c.prefix
 
 -- the prefixes of candidates by way of these nodes
 abbrev pub prefixes_via : List ℕ → List Candidate → List Prefix
 prefixes_via numbers candidates = map prefix_of (filter (is_by numbers) candidates)
+
+-- some prefixes, and those of candidates that go, by way of such nodes, and that come
+pub record HaveVia (numbers : List ℕ) (old come : List Candidate) (some prefixes : List Prefix) : Type 0 where
+  pub more : (q : Prefix) → Contains some q → Contains prefixes q
+  pub gone : (c : Candidate) → Contains old c → is_by numbers c ≡ true → Contains prefixes c.prefix
+  pub new : (c : Candidate) → Contains come c → Contains prefixes c.prefix
+
+-- the prefix of each candidate by way of these nodes is there
+abbrev pub HaveBy : List NodeId → List Candidate → List Prefix → Type 0
+HaveBy nodes candidates prefixes =
+    (c : Candidate) → Contains candidates c → stays nodes c ≡ false → Contains prefixes c.prefix
+
+-- this is reached once these nodes moved, and prefixes that they told and tell are there
+pub record IsReachedAfter (nodes : List NodeId) (o : Outlook) (f : FollowingOf) (reached : ReachedAfter) : Type 0 where
+  pub right : AreReachedAfter o f reached
+  pub before : HaveBy nodes f.told reached.prefixes.items
+  pub after : HaveBy nodes (list_after reached.told f.told) reached.prefixes.items
 
 -- each of some own prefixes with its metric is among others too, or its prefix is there
 abbrev pub AreOwnIn : List (Prefix × ℕ) → List (Prefix × ℕ) → List Prefix → Type 0
@@ -79,14 +106,15 @@ pub record AreTouched (nodes : List NodeId) (f : FollowingOf) (levels : LevelsAf
 
 -- ---- their routes
 
--- patches for these prefixes, with room for a table of so many routes
+-- patches for these prefixes, as they fit a table of routes
 pub record ArePatchesFor (HopTo : Candidate → ℕ → Type 0) (candidates : List Candidate)
-    (prefixes : List Prefix) (held : ℕ) (patches : PatchesOf) : Type 0 where
+    (prefixes : List Prefix) (held : List Route) (patches : PatchesOf) : Type 0 where
   pub right : ArePatches HopTo candidates patches.list
   pub touched : (n : ℕ) → IsListed prefixes n → is_touched patches.list n ≡ true
-  pub room : held + length patches.list ≤ patches.room
+  pub room : Fits held patches
 
 -- a table made anew, or patches for these prefixes
-abbrev pub AreRoutesFor : (Candidate → ℕ → Type 0) → List Candidate → List Prefix → ℕ → RoutesAfter → Type 0
+abbrev pub AreRoutesFor : (Candidate → ℕ → Type 0) → List Candidate → List Prefix → List Route → RoutesAfter
+    → Type 0
 AreRoutesFor HopTo candidates prefixes held (Made routes) = AreRoutes HopTo candidates routes
 AreRoutesFor HopTo candidates prefixes held (Patched patches) = ArePatchesFor HopTo candidates prefixes held patches

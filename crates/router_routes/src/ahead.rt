@@ -5,13 +5,14 @@ ghost use Rattle.isis_base.specs.declared.level.Level.TheVariants as level;
 ghost use Rattle.router_routes.specs.Told.{told_in};
 ghost use Rattle.router_routes.specs.Outlooks.{Outlook, outlook_in};
 ghost use Rattle.router_routes.specs.Following.{AreHopsOf, FollowingOf, IsFollowing, IsLevel};
-ghost use Rattle.router_routes.specs.Coming.{AreLevels, AreLevelsBeside, AreLevelsOf, AreOfOneRoot, AreRoutesAfter, FitsIn, IsComing};
-ghost use Rattle.router_routes.specs.Kept.{AreBeside, AreReached};
+ghost use Rattle.router_routes.specs.Coming.{AreLevels, AreLevelsBeside, AreLevelsOf, AreOfOneRoot, AreReachedAfter, AreRoutesAfter, FitsIn, IsComing};
+ghost use Rattle.router_routes.specs.Kept.{AreBeside};
+ghost use Rattle.router_routes.specs.Touched.{IsReachedAfter};
 ghost use Rattle.router_routes.specs.Moved.{AreFit, AreMoved, AreRowsMoved, AreViewed, IsInOrder, IsMovedAt, NodesRise, nodes_of, or_old, outlook_at};
 
 use crate::candidates::{runs_one, runs_two};
-use crate::coming::{Coming, LevelsAfter, RoutesAfter, level_of};
-use crate::following::{Following, Reached};
+use crate::coming::{Coming, LevelsAfter, ReachedAfter, RoutesAfter, all_stays, level_of};
+use crate::following::Following;
 use crate::kept::{moved, told_nodes};
 use crate::lent::Lent;
 use crate::moving::{CostsMoved, level_after};
@@ -208,15 +209,14 @@ impl Following {
         view: &View<'_>,
         nodes: &[NodeId],
         levels: LevelsAfter,
-        reached: Reached,
+        reached: ReachedAfter,
     ) -> Result<Coming, OutOfMemory>
         requires follows { IsFollowing (outlook_in lent.now) self.now }
         requires viewed { AreViewed lent.now told.now view.now }
         requires fit { AreFit view.now }
         requires levels { AreLevelsBeside nodes.now (outlook_in lent.now) (outlook_at view.now)
             self.now levels }
-        requires reached { AreReached (outlook_at view.now) reached.told.items
-            reached.defaults.items reached.attached }
+        requires reached { IsReachedAfter nodes.now (outlook_at view.now) self.now reached }
         ensures { IfOk result (λ c. IsComing (outlook_at view.now) self.now c) }
     {
         self.still_law(lent, view, nodes, &levels);
@@ -279,11 +279,13 @@ impl Following {
             (λ c. IsComing (outlook_at view.now) self.now c)) }
     {
         nodes_law(nodes);
-        let reached = match self.reached_if(lent, view, nodes, &self.one, &self.two) {
-            Ok(Some(reached)) => reached,
-            Ok(None) => return Ok(None),
+        let reached = match self.reached_with(lent, view, nodes, &self.one, &self.two) {
+            Ok(reached) => reached,
             Err(error) => return Err(error),
         };
+        if all_stays(&reached, self.attached) {
+            return Ok(None);
+        }
         let levels = LevelsAfter {
             one: None,
             two: None,
@@ -296,16 +298,16 @@ impl Following {
 }
 
 /// What comes by these parts.
-fn coming_of(levels: LevelsAfter, reached: Reached, routes: RoutesAfter) -> Coming
+fn coming_of(levels: LevelsAfter, reached: ReachedAfter, routes: RoutesAfter) -> Coming
     ensures { (o : Outlook) (f : FollowingOf) → AreLevels o f levels
-        → AreReached o reached.told.items reached.defaults.items reached.attached
-        → AreRoutesAfter o f.routes routes → IsComing o f result }
+        → AreReachedAfter o f reached → AreRoutesAfter o f.routes routes → IsComing o f result }
 {
     let LevelsAfter { one, two } = levels;
-    let Reached {
+    let ReachedAfter {
         told,
         defaults,
         attached,
+        prefixes: _,
     } = reached;
     Coming {
         one,

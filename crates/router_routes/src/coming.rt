@@ -1,29 +1,34 @@
 //! What will follow a router, and that put in the place of what does (own).
-ghost use Rattle.std.specs.Prelude.{◌≡◌, ℕ, List, IfOk};
+ghost use Rattle.std.specs.Prelude.{◌≡◌, ℕ, true, List, None, IfOk};
+ghost use Rattle.isis_base.specs.declared.identifiers.NodeId.{NodeId};
 ghost use Rattle.spf_repair.specs.Changes.{RepairedOf};
-ghost use Rattle.router_routes.specs.Following.{AreHopsOf};
+ghost use Rattle.router_routes.specs.Following.{AreHopsOf, FollowingOf};
+ghost use Rattle.router_routes.specs.Kept.{AreReached};
 ghost use Rattle.router_routes.specs.Moved.{AreRowsMoved, or_old};
-ghost use Rattle.router_routes.specs.Coming.{AreOfOneRoot, ArePut, FitsIn, IsLevelAfter, IsPut, costs_after, hops_after};
+ghost use Rattle.router_routes.specs.Outlooks.{Outlook};
+ghost use Rattle.router_routes.specs.Touched.{HaveBy, IsReachedAfter};
+ghost use Rattle.router_routes.specs.Coming.{AreOfOneRoot, ArePut, FitsIn, IsLevelAfter, IsPut, costs_after, hops_after, list_after};
 
-use crate::following::Following;
+use crate::following::{Following, Reached};
 use crate::hops_moved::{HopsMoved, hops_moved};
 use crate::moving::CostsMoved;
-use isis_base::OutOfMemory;
+use isis_base::{OutOfMemory, Prefix};
 use route_table::{Candidate, Patches, Routes};
 use spf_repair::Repaired;
 use spf_tree::{HopTable, all_next_hops};
 use std::alloc::Global;
 
 /// What of a router's graphs and routes will be others: each level's costs and next hops, where they don't stay; the routes;
-/// whether it is attached; what its levels tell of prefixes, and the ways by default. `Following::put` puts it in.
+/// whether it is attached; what its levels tell of prefixes, and the ways by default, each where it doesn't stay. `Following::put`
+/// puts it in.
 #[derive(Drop)]
 pub struct Coming {
     pub(crate) one: Option<LevelAfter>,
     pub(crate) two: Option<LevelAfter>,
     pub(crate) routes: RoutesAfter,
     pub(crate) attached: bool,
-    pub(crate) told: Vec<Candidate>,
-    pub(crate) defaults: Vec<Candidate>,
+    pub(crate) told: Option<Vec<Candidate>>,
+    pub(crate) defaults: Option<Vec<Candidate>>,
 }
 
 /// A level's costs, and its nodes beside their next hops, as they will be; the nodes whose next hops may be others then, and those
@@ -41,6 +46,16 @@ pub(crate) struct LevelAfter {
 pub(crate) struct LevelsAfter {
     pub one: Option<LevelAfter>,
     pub two: Option<LevelAfter>,
+}
+
+/// What is reached once some nodes moved: what levels tell of prefixes and the ways by default, each `None` where it stays;
+/// whether the router is attached; and the prefixes that these nodes told and tell, in any order, of which some may be there twice.
+#[derive(Drop)]
+pub(crate) struct ReachedAfter {
+    pub told: Option<Vec<Candidate>>,
+    pub defaults: Option<Vec<Candidate>>,
+    pub attached: bool,
+    pub prefixes: Vec<Prefix>,
 }
 
 /// The routes as they will be: made anew, or what some prefixes' routes become.
@@ -68,8 +83,8 @@ impl Following {
         put_level(&mut self.two, &mut self.hops_two, two);
         put_routes(&mut self.routes, routes);
         self.attached = attached;
-        self.told = told;
-        self.defaults = defaults;
+        put_list(&mut self.told, told);
+        put_list(&mut self.defaults, defaults);
     }
 }
 
@@ -89,6 +104,16 @@ fn put_level(costs: &mut Repaired, hops: &mut HopTable, new: Option<LevelAfter>)
             *costs = later;
             *hops = table;
         }
+        None => {}
+    }
+}
+
+/// Puts in candidates, where they come.
+fn put_list(list: &mut Vec<Candidate>, new: Option<Vec<Candidate>>)
+    ensures { list.new.items ≡ list_after new list.old.items }
+{
+    match new {
+        Some(new) => *list = new,
         None => {}
     }
 }
@@ -182,5 +207,53 @@ pub(crate) fn newest_hops<'a>(new: &'a Option<LevelAfter>, old: &'a HopTable) ->
     match new {
         Some(new) => &new.hops,
         None => old,
+    }
+}
+
+/// The new candidates, or else the old ones.
+pub(crate) fn newest_list<'a>(
+    new: &'a Option<Vec<Candidate>>,
+    old: &'a [Candidate],
+) -> &'a [Candidate]
+    ensures { result.now ≡ list_after new.now old.now }
+{
+    match new {
+        Some(new) => new.as_slice(),
+        None => old,
+    }
+}
+
+/// What is reached, made anew.
+pub(crate) fn reached_anew(reached: Reached, prefixes: Vec<Prefix>) -> ReachedAfter
+    ensures { (nodes : List NodeId) (o : Outlook) (f : FollowingOf)
+        → AreReached o reached.told.items reached.defaults.items reached.attached
+        → HaveBy nodes f.told prefixes.items → HaveBy nodes reached.told.items prefixes.items
+        → IsReachedAfter nodes o f result }
+{
+    let Reached {
+        told,
+        defaults,
+        attached,
+    } = reached;
+    ReachedAfter {
+        told: Some(told),
+        defaults: Some(defaults),
+        attached,
+        prefixes,
+    }
+}
+
+/// Whether all that is reached stays, where a router was attached or not before.
+pub(crate) fn all_stays(reached: &ReachedAfter, attached: bool) -> bool
+    ensures told { result ≡ true → reached.now.told ≡ None }
+    ensures ways { result ≡ true → reached.now.defaults ≡ None }
+    ensures attached { result ≡ true → reached.now.attached ≡ attached }
+{
+    match &reached.told {
+        Some(_) => false,
+        None => match &reached.defaults {
+            Some(_) => false,
+            None => reached.attached == attached,
+        },
     }
 }

@@ -6,6 +6,7 @@ ghost use Rattle.router_routes.specs.Coming.{AreOfOneRoot, CostsStay, HopsStay};
 
 use crate::coming::hops_from;
 use crate::moving::CostsMoved;
+use crate::numbers::in_order;
 use isis_base::OutOfMemory;
 use spf_repair::Repaired;
 use spf_tree::{Change, HopTable, HopsAfter, hops_after};
@@ -37,7 +38,8 @@ pub(crate) fn hops_moved(
         CostsStay hops.moved.items old.now.distances new.now.costs.distances) }
 {
     let (before, after) = (old.distances(), new.costs.distances());
-    let moved = before.apart(alloc, after)?;
+    let unsorted = before.apart(alloc, after)?;
+    let moved = in_order(unsorted);
     let hops = hops_beside(alloc, old, known, new, moved.as_slice());
     match hops {
         Ok(hops) => {

@@ -1,38 +1,40 @@
 //! What a router keeps where some nodes moved: candidates by way of others stay (own).
-ghost use Rattle.std.specs.Prelude.{◌≡◌, ◌++◌, true, not, filter, IfOk, OnOk, MatchOption};
+ghost use Rattle.std.specs.Prelude.{◌≡◌, ◌++◌, true, not, filter, map, IfOk, OnOk};
 ghost use Rattle.std.specs.List.{flat_map};
+ghost use Rattle.std.specs.List.Sorted.{IsStrictlyIncreasing};
 ghost use Rattle.isis_base.specs.declared.identifiers.NodeId.{NodeId};
 ghost use Rattle.isis_base.specs.declared.level.Level.TheVariants as level;
 ghost use Rattle.isis_base.specs.Identifiers.{IsId};
+ghost use Rattle.route_table.specs.declared.candidate.Candidate.{Candidate};
 ghost use Rattle.spf_tree.specs.Nodes.{node_number};
 ghost use Rattle.spf_tree.specs.Distances.{cost_at};
-ghost use Rattle.route_table.specs.Patches.{is_moved};
 ghost use Rattle.router_routes.specs.Candidates.{attached_of, default_of, system_candidates};
 ghost use Rattle.router_routes.specs.Following.{IsFollowing, IsLevel};
-ghost use Rattle.router_routes.specs.Kept.{AreAmong, AreBeside, AreReached, CostBeside, HaveToldIds, systems_among};
+ghost use Rattle.router_routes.specs.Kept.{AreAmong, AreBeside, CostBeside, HaveToldIds, systems_among};
 ghost use Rattle.router_routes.specs.Moved.{AreFit, AreNodes, IsFit, is_among, nodes_in, nodes_of, outlook_at, told_of};
 ghost use Rattle.router_routes.specs.Outlooks.{outlook_in, where_run};
 ghost use Rattle.router_routes.specs.Coming.{AreLevelsBeside, HaveNumbers, moved_in};
-ghost use Rattle.router_routes.specs.Touched.{AreStill, is_by};
+ghost use Rattle.router_routes.specs.Touched.{AreKeptWith, AreStill, HaveVia, IsReachedAfter, is_by, prefix_of, prefixes_via};
 
 use crate::candidates::{add_all, add_defaults, add_told, runs_one, runs_two};
-use crate::coming::{LevelAfter, LevelsAfter, newest_costs};
-use crate::following::{Following, Reached, all_reached, attached};
+use crate::coming::{LevelAfter, LevelsAfter, ReachedAfter, newest_costs, reached_anew};
+use crate::following::{Following, all_reached, attached};
 use crate::lent::Lent;
+use crate::numbers::{in_order, is_one_of};
 use crate::same::same_candidate;
 use crate::systems::{level_systems, systems_among};
 use crate::told::{Moved, Told};
-use crate::touched::node_numbers;
+use crate::touched::{add_via, node_numbers};
 use crate::view::{LevelView, View, nodes_law};
 use isis_base::laws::lsp_id_law;
-use isis_base::{Level, LevelSet, LspId, NodeId, OutOfMemory};
+use isis_base::{Level, LevelSet, LspId, NodeId, OutOfMemory, Prefix};
 use route_table::Candidate;
 use spf_repair::Repaired;
 use spf_tree::parts::number;
 use std::alloc::Global;
 
 impl Following {
-    /// What is reached where these nodes moved, at these costs.
+    /// What is reached where these nodes moved, at these costs. Where many moved, all is made anew.
     pub(crate) fn reached_with(
         &self,
         lent: &Lent<'_>,
@@ -40,7 +42,7 @@ impl Following {
         nodes: &[NodeId],
         one: &Repaired,
         two: &Repaired,
-    ) -> Result<Reached, OutOfMemory>
+    ) -> Result<ReachedAfter, OutOfMemory>
         requires follows { IsFollowing (outlook_in lent.now) self.now }
         requires beside { AreBeside nodes.now (outlook_in lent.now) (outlook_at view.now) }
         requires nodes { AreNodes nodes.now }
@@ -50,50 +52,44 @@ impl Following {
         requires fit { AreFit view.now }
         requires one { IsLevel (outlook_at view.now) level.One one.now }
         requires two { IsLevel (outlook_at view.now) level.Two two.now }
-        ensures { IfOk result (λ reached. AreReached (outlook_at view.now) reached.told.items
-            reached.defaults.items reached.attached) }
-    {
-        match self.reached_if(lent, view, nodes, one, two) {
-            Ok(Some(reached)) => Ok(reached),
-            Ok(None) => self.reached(),
-            Err(error) => Err(error),
-        }
-    }
-
-    /// What is reached where these nodes moved, at these costs; `None` where it is what was reached before. Where many moved, all
-    /// is made anew.
-    pub(crate) fn reached_if(
-        &self,
-        lent: &Lent<'_>,
-        view: &View<'_>,
-        nodes: &[NodeId],
-        one: &Repaired,
-        two: &Repaired,
-    ) -> Result<Option<Reached>, OutOfMemory>
-        requires follows { IsFollowing (outlook_in lent.now) self.now }
-        requires beside { AreBeside nodes.now (outlook_in lent.now) (outlook_at view.now) }
-        requires nodes { AreNodes nodes.now }
-        requires costs_one { CostBeside nodes.now self.now.levels.one.distances one.now.distances }
-        requires costs_two { CostBeside nodes.now self.now.levels.two.distances two.now.distances }
-        requires store { view.now.two.store ≡ lent.now.two }
-        requires fit { AreFit view.now }
-        requires one { IsLevel (outlook_at view.now) level.One one.now }
-        requires two { IsLevel (outlook_at view.now) level.Two two.now }
-        ensures { IfOk result (λ o. MatchOption o
-            (AreReached (outlook_at view.now) self.now.told self.now.defaults self.now.attached)
-            (λ reached. AreReached (outlook_at view.now) reached.told.items reached.defaults.items
-            reached.attached)) }
+        ensures { IfOk result (λ reached.
+            IsReachedAfter nodes.now (outlook_at view.now) self.now reached) }
     {
         if nodes.len() > MOST {
-            return match all_reached(self.alloc, view, one, two) {
-                Ok(reached) => Ok(Some(reached)),
-                Err(error) => Err(error),
-            };
+            return self.all_after(view, nodes, one, two);
         }
         self.reached_after(lent, view, nodes, one, two)
     }
 
-    /// What is reached where these nodes moved, at these costs; `None` where it is what was reached before.
+    /// The same, made anew.
+    fn all_after(
+        &self,
+        view: &View<'_>,
+        nodes: &[NodeId],
+        one: &Repaired,
+        two: &Repaired,
+    ) -> Result<ReachedAfter, OutOfMemory>
+        requires fit { AreFit view.now }
+        requires one { IsLevel (outlook_at view.now) level.One one.now }
+        requires two { IsLevel (outlook_at view.now) level.Two two.now }
+        ensures { IfOk result (λ reached.
+            IsReachedAfter nodes.now (outlook_at view.now) self.now reached) }
+    {
+        let unsorted = node_numbers(self.alloc, nodes)?;
+        let numbers = in_order(unsorted);
+        let mut prefixes = Vec::new(self.alloc);
+        add_via(&mut prefixes, numbers.as_slice(), self.told.as_slice())?;
+        let reached = all_reached(self.alloc, view, one, two)?;
+        match add_via(&mut prefixes, numbers.as_slice(), reached.told.as_slice()) {
+            Ok(()) => Ok(reached_anew(reached, prefixes)),
+            Err(error) => {
+                drop(reached);
+                Err(error)
+            }
+        }
+    }
+
+    /// What is reached where these nodes moved, at these costs.
     fn reached_after(
         &self,
         lent: &Lent<'_>,
@@ -101,7 +97,7 @@ impl Following {
         nodes: &[NodeId],
         one: &Repaired,
         two: &Repaired,
-    ) -> Result<Option<Reached>, OutOfMemory>
+    ) -> Result<ReachedAfter, OutOfMemory>
         requires follows { IsFollowing (outlook_in lent.now) self.now }
         requires beside { AreBeside nodes.now (outlook_in lent.now) (outlook_at view.now) }
         requires nodes { AreNodes nodes.now }
@@ -111,10 +107,8 @@ impl Following {
         requires fit { AreFit view.now }
         requires one { IsLevel (outlook_at view.now) level.One one.now }
         requires two { IsLevel (outlook_at view.now) level.Two two.now }
-        ensures { IfOk result (λ o. MatchOption o
-            (AreReached (outlook_at view.now) self.now.told self.now.defaults self.now.attached)
-            (λ reached. AreReached (outlook_at view.now) reached.told.items reached.defaults.items
-            reached.attached)) }
+        ensures { IfOk result (λ reached.
+            IsReachedAfter nodes.now (outlook_at view.now) self.now reached) }
     {
         lent_ids(lent);
         view_ids(view);
@@ -123,22 +117,32 @@ impl Following {
         let _new_one = one.distances();
         let _new_two = two.distances();
         let attached = self.attached_after(lent, view, nodes, two)?;
-        let told = told_of_nodes(self.alloc, view, nodes, one, two)?;
+        let come = told_of_nodes(self.alloc, view, nodes, one, two)?;
         let ways = ways_of_nodes(self.alloc, view, nodes, one)?;
-        let numbers = node_numbers(self.alloc, nodes)?;
+        let unsorted = node_numbers(self.alloc, nodes)?;
+        let numbers = in_order(unsorted);
         let moved = numbers.as_slice();
-        let gone = is_gone(self.told.as_slice(), moved, told.as_slice());
-        let barred = is_gone(self.defaults.as_slice(), moved, ways.as_slice());
-        if gone && barred && are_same(attached, self.attached) {
-            return Ok(None);
-        }
-        let told = kept_with(self.alloc, self.told.as_slice(), moved, told.as_slice())?;
-        let defaults = kept_with(self.alloc, self.defaults.as_slice(), moved, ways.as_slice())?;
-        Ok(Some(Reached {
+        let mut apart = Vec::new(self.alloc);
+        let told = kept_with(
+            self.alloc,
+            &mut apart,
+            self.told.as_slice(),
+            moved,
+            come.as_slice(),
+        )?;
+        let defaults = kept_with(
+            self.alloc,
+            &mut apart,
+            self.defaults.as_slice(),
+            moved,
+            ways.as_slice(),
+        )?;
+        Ok(ReachedAfter {
             told,
             defaults,
             attached,
-        }))
+            prefixes: apart,
+        })
     }
 
     /// Whether the router is attached, where these nodes moved and these are the costs of level 2: as
@@ -170,14 +174,14 @@ impl Following {
         view: &View<'_>,
         nodes: &[NodeId],
         levels: &LevelsAfter,
-    ) -> Result<Reached, OutOfMemory>
+    ) -> Result<ReachedAfter, OutOfMemory>
         requires follows { IsFollowing (outlook_in lent.now) self.now }
         requires store { view.now.two.store ≡ lent.now.two }
         requires fit { AreFit view.now }
         requires levels { AreLevelsBeside nodes.now (outlook_in lent.now) (outlook_at view.now)
             self.now levels.now }
-        ensures { IfOk result (λ reached. AreReached (outlook_at view.now) reached.told.items
-            reached.defaults.items reached.attached) }
+        ensures { IfOk result (λ reached.
+            IsReachedAfter nodes.now (outlook_at view.now) self.now reached) }
     {
         let one = newest_costs(&levels.one, &self.one);
         let two = newest_costs(&levels.two, &self.two);
@@ -207,27 +211,10 @@ impl Following {
         let _new_one = one.distances();
         let _new_two = two.distances();
     }
-
-    /// A copy of what was reached.
-    pub(crate) fn reached(&self) -> Result<Reached, OutOfMemory>
-        ensures told { IfOk result (λ reached. reached.told.items ≡ self.now.told) }
-        ensures defaults { IfOk result (λ reached. reached.defaults.items ≡ self.now.defaults) }
-        ensures attached { IfOk result (λ reached. reached.attached ≡ self.now.attached) }
-    {
-        let mut told = Vec::new(self.alloc);
-        add_all(&mut told, self.told.as_slice())?;
-        let mut defaults = Vec::new(self.alloc);
-        add_all(&mut defaults, self.defaults.as_slice())?;
-        Ok(Reached {
-            told,
-            defaults,
-            attached: self.attached,
-        })
-    }
 }
 
 /// How many nodes may move before all that is reached is made anew.
-const MOST: usize = 16;
+const MOST: usize = 512;
 
 /// The nodes that tell other things, and those whose costs in a level may be others; some may be there twice.
 pub(crate) fn moved(
@@ -435,15 +422,9 @@ fn ways_of_nodes(
     Ok(list)
 }
 
-/// Whether two answers are one.
-fn are_same(a: bool, b: bool) -> bool
-    ensures { result ≡ true → a ≡ b }
-{
-    a == b
-}
-
 /// Whether the candidates by way of nodes of these numbers are these, in this order.
 fn is_gone(old: &[Candidate], numbers: &[u64], gone: &[Candidate]) -> bool
+    requires { IsStrictlyIncreasing numbers.now }
     ensures { result ≡ true → filter (is_by numbers.now) old.now ≡ gone.now }
 {
     let (mut left, mut rest) = (old, gone);
@@ -464,32 +445,52 @@ fn is_gone(old: &[Candidate], numbers: &[u64], gone: &[Candidate]) -> bool
 
 /// Whether a candidate is by way of a node of these numbers.
 fn is_by(numbers: &[u64], candidate: &Candidate) -> bool
+    requires { IsStrictlyIncreasing numbers.now }
     ensures { result ≡ is_by numbers.now candidate.now }
 {
-    is_among(numbers, number(candidate.origin))
+    is_one_of(numbers, number(candidate.origin))
 }
 
-/// Whether a number is one of these.
-fn is_among(numbers: &[u64], number: u64) -> bool
-    ensures { result ≡ is_moved numbers.now number }
-{
-    for one in numbers {
-        if *one == number {
-            return true;
-        }
-    }
-    false
-}
-
-/// The candidates by way of nodes of other numbers, and these.
+/// The candidates where these come in the place of those by way of nodes of these numbers; `None` where they are the same ones.
+/// Adds the prefixes of those that go and of those that come.
 fn kept_with(
     alloc: Global,
+    prefixes: &mut Vec<Prefix>,
+    old: &[Candidate],
+    numbers: &[u64],
+    come: &[Candidate],
+) -> Result<Option<Vec<Candidate>>, OutOfMemory>
+    requires { IsStrictlyIncreasing numbers.now }
+    ensures list { IfOk result (λ list. AreKeptWith numbers.now old.now come.now list) }
+    ensures prefixes { OnOk result (HaveVia numbers.now old.now come.now
+        prefixes.old.items prefixes.new.items) }
+{
+    match add_prefixes(prefixes, come) {
+        Ok(()) => {}
+        Err(error) => return Err(error),
+    }
+    if is_gone(old, numbers, come) {
+        return Ok(None);
+    }
+    match others_with(alloc, prefixes, old, numbers, come) {
+        Ok(list) => Ok(Some(list)),
+        Err(error) => Err(error),
+    }
+}
+
+/// The candidates by way of nodes of other numbers, and these. Adds the prefixes of those that are left out.
+fn others_with(
+    alloc: Global,
+    prefixes: &mut Vec<Prefix>,
     old: &[Candidate],
     numbers: &[u64],
     come: &[Candidate],
 ) -> Result<Vec<Candidate>, OutOfMemory>
-    ensures { IfOk result (λ list. list.items
+    requires { IsStrictlyIncreasing numbers.now }
+    ensures list { IfOk result (λ list. list.items
         ≡ filter (λ c. not (is_by numbers.now c)) old.now ++ come.now) }
+    ensures prefixes { OnOk result (prefixes.new.items
+        ≡ prefixes.old.items ++ prefixes_via numbers.now old.now) }
 {
     let mut list = match Vec::with_capacity(alloc, old.len()) {
         Ok(list) => list,
@@ -497,7 +498,12 @@ fn kept_with(
     };
     let mut left = old;
     while let [first, more @ ..] = left {
-        if !is_by(numbers, first) {
+        if is_by(numbers, first) {
+            match prefixes.push(first.prefix) {
+                Ok(()) => {}
+                Err(_) => return Err(OutOfMemory),
+            }
+        } else {
             match list.push(*first) {
                 Ok(()) => {}
                 Err(_) => return Err(OutOfMemory),
@@ -509,4 +515,18 @@ fn kept_with(
         Ok(()) => Ok(list),
         Err(error) => Err(error),
     }
+}
+
+/// Adds the prefixes of candidates.
+fn add_prefixes(prefixes: &mut Vec<Prefix>, candidates: &[Candidate]) -> Result<(), OutOfMemory>
+    ensures { OnOk result (prefixes.new.items
+        ≡ prefixes.old.items ++ map prefix_of candidates.now) }
+{
+    for candidate in candidates {
+        match prefixes.push(candidate.prefix) {
+            Ok(()) => {}
+            Err(_) => return Err(OutOfMemory),
+        }
+    }
+    Ok(())
 }

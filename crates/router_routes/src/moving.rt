@@ -1,9 +1,11 @@
 //! A level's costs once some nodes tell other LSPs (own).
-ghost use Rattle.std.specs.Prelude.{◌≡◌, ◌+◌, ◌-◌, ◌^◌, ◌<◌, ◌≤◌, false, length, min, IfOk};
+ghost use Rattle.std.specs.Prelude.{◌≡◌, ◌+◌, ◌-◌, ◌^◌, ◌<◌, ◌≤◌, false, filter, length, min, IfOk};
 ghost use Rattle.spf_tree.specs.declared.row.Row as row;
 ghost use Rattle.spf_tree.specs.Graphs.{GraphOf, AreUsable, times};
+ghost use Rattle.spf_tree.specs.Nodes.{node_number};
 ghost use Rattle.lsp_view.specs.Views.{rows_in, overloaded_in};
 ghost use Rattle.router_routes.specs.Differences.{ArePartedRows};
+ghost use Rattle.router_routes.specs.Near.{touches};
 ghost use Rattle.router_routes.specs.Told.{told_in};
 ghost use Rattle.router_routes.specs.Outlooks.{where_run};
 ghost use Rattle.router_routes.specs.Moved.{AreChanged, AreCosts, AreRowsMoved, IsFit, IsOneChange, IsListing, IsReadable, or_old, told_after, told_of, told_with};
@@ -12,7 +14,7 @@ use crate::differences::rows_apart;
 use crate::following::followed;
 use crate::near::{graph_near, touching};
 use crate::told::Moved;
-use crate::view::LevelView;
+use crate::view::{LevelView, store_at};
 use isis_base::{NodeId, OutOfMemory};
 use lsp_store::Store;
 use spf_repair::{Repaired, Steps};
@@ -24,6 +26,9 @@ use std::sync::ledger::{Blank, Ledger};
 
 /// How many nodes of a level may tell other LSPs before its graph is made anew.
 const MOST: usize = 16;
+
+/// Up to how many rows of a graph each is looked at.
+const FEW: usize = 512;
 
 /// A level's costs as they will be, and the rows that its graph loses and gains, each as often as it
 /// is other.
@@ -262,8 +267,34 @@ fn differences(
 {
     let _aside = aside.len();
     let near = graph_near(alloc, before, node, aside, now.graph().root())?;
-    let old = touching(alloc, now.graph().rows(), number(node))?;
+    let old = rows_at(alloc, now, before, node)?;
     rows_apart(alloc, old.as_slice(), rows_in_order(&near))
+}
+
+/// The rows of a level's graph that start or end at a node: in a small graph each row is looked at, for another what the node
+/// and its neighbours list is read.
+fn rows_at(
+    alloc: Global,
+    now: &Repaired,
+    before: &LevelView<'_>,
+    node: NodeId,
+) -> Result<Vec<Row>, OutOfMemory>
+    requires costs { AreCosts (told_of before.now) now.now.root now.now }
+    requires fit { IsFit before.now }
+    requires told { IsListing (told_of before.now) }
+    ensures { IfOk result (λ list. (x : row.Row) → times list.items x
+        ≡ times (filter (touches (node_number node)) now.now.graph.rows) x) }
+{
+    let rows = now.graph().rows();
+    if rows.len() <= FEW {
+        return touching(alloc, rows, number(node));
+    }
+    let store = store_at(before, node);
+    let near = graph_near(alloc, before, node, store, now.graph().root())?;
+    match Vec::from_slice(alloc, rows_in_order(&near)) {
+        Ok(list) => Ok(list),
+        Err(_) => Err(OutOfMemory),
+    }
 }
 
 /// The costs with rows taken out and rows put in. Its steps aren't counted further.

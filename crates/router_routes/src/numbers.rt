@@ -15,8 +15,29 @@ pub(crate) fn in_order(mut numbers: Vec<u64>) -> Vec<u64>
     numbers
 }
 
-/// Whether a number is one of these.
+/// Whether a number is one of these. Most aren't, and are past the last or before the second.
 pub(crate) fn is_one_of(numbers: &[u64], number: u64) -> bool
+    requires { IsStrictlyIncreasing numbers.now }
+    ensures { result ≡ is_moved numbers.now number }
+{
+    let many = numbers.len();
+    if many == 0 {
+        return false;
+    }
+    if numbers[many - 1] < number {
+        return false;
+    }
+    if many == 1 {
+        return numbers[0] == number;
+    }
+    if number < numbers[1] {
+        return numbers[0] == number;
+    }
+    is_found(numbers, number)
+}
+
+/// The same, by a binary search.
+fn is_found(numbers: &[u64], number: u64) -> bool
     requires { IsStrictlyIncreasing numbers.now }
     ensures { result ≡ is_moved numbers.now number }
 {

@@ -9,20 +9,28 @@ ghost use Rattle.router_routes.specs.Outlooks.{outlook_in};
 ghost use Rattle.router_routes.specs.Following.{IsFollowing};
 ghost use Rattle.router_routes.specs.Kept.{AreReached};
 ghost use Rattle.router_routes.specs.Moved.{AreViewed, outlook_at};
-ghost use Rattle.router_routes.specs.Coming.{AreLevels, AreRoutesAfter};
-ghost use Rattle.router_routes.specs.Touched.{ArePatchesFor, AreRoutesFor, AreStill};
+ghost use Rattle.router_routes.specs.Coming.{AreLevels, AreRoutesAfter, list_after};
+ghost use Rattle.router_routes.specs.Touched.{ArePatchesFor, AreRoutesFor, AreStill, IsReachedAfter};
 
 use crate::candidates::{all_candidates, candidates_for};
-use crate::coming::{LevelsAfter, RoutesAfter, newest_hops};
-use crate::following::{Following, Reached};
+use crate::coming::{LevelsAfter, ReachedAfter, RoutesAfter, newest_hops, newest_list};
+use crate::following::Following;
 use crate::lent::Lent;
 use crate::numbers::in_order;
 use crate::told::Told;
 use crate::view::View;
 use isis_base::{NodeId, OutOfMemory, Prefix};
-use route_table::{Patches, Routes, patches_for, routes_by};
+use route_table::{Candidate, Patches, Routes, patches_for, routes_by};
 use spf_tree::HopTable;
 use std::alloc::Global;
+
+/// What is reached, as it is read: what levels tell of prefixes, the ways by default, and whether the router is attached.
+#[derive(Clone, Copy)]
+struct ReachedView<'a> {
+    told: &'a [Candidate],
+    ways: &'a [Candidate],
+    attached: bool,
+}
 
 impl Following {
     /// The routes of what is reached, where these nodes moved and levels are these.
@@ -33,42 +41,55 @@ impl Following {
         view: &View<'_>,
         nodes: &[NodeId],
         levels: &LevelsAfter,
-        reached: &Reached,
+        reached: &ReachedAfter,
     ) -> Result<RoutesAfter, OutOfMemory>
         requires follows { IsFollowing (outlook_in lent.now) self.now }
         requires viewed { AreViewed lent.now told.now view.now }
         requires still { AreStill nodes.now (outlook_in lent.now) (outlook_at view.now) }
         requires levels { AreLevels (outlook_at view.now) self.now levels.now }
-        requires reached { AreReached (outlook_at view.now) reached.now.told.items
-            reached.now.defaults.items reached.now.attached }
+        requires reached { IsReachedAfter nodes.now (outlook_at view.now) self.now reached.now }
         ensures { IfOk result (λ routes.
             AreRoutesAfter (outlook_at view.now) self.now.routes routes) }
     {
         let prefixes = self.touched(lent, told, view, nodes, levels, reached)?;
+        let seen = self.reached_view(reached);
         let one = newest_hops(&levels.one, &self.hops_one);
         let two = newest_hops(&levels.two, &self.hops_two);
-        let held = self.routes.list().len();
-        routes_for(self.alloc, held, view, reached, prefixes, one, two)
+        let held = self.routes();
+        routes_for(self.alloc, held, view, &seen, prefixes, one, two)
+    }
+
+    /// What is reached, as it is read.
+    fn reached_view<'a>(&'a self, reached: &'a ReachedAfter) -> ReachedView<'a>
+        ensures told { result.told.now ≡ list_after reached.now.told self.now.told }
+        ensures ways { result.ways.now ≡ list_after reached.now.defaults self.now.defaults }
+        ensures attached { result.attached ≡ reached.now.attached }
+    {
+        ReachedView {
+            told: newest_list(&reached.told, self.told.as_slice()),
+            ways: newest_list(&reached.defaults, self.defaults.as_slice()),
+            attached: reached.attached,
+        }
     }
 }
 
-/// The routes of what is reached, where those of other prefixes stay: patches for a table of so many
-/// routes, or all of them, where the prefixes, of which each may be there twice, are more than all
+/// The routes of what is reached, where those of other prefixes stay: patches for the table that is
+/// there, or all of them, where the prefixes, of which each may be there twice, are more than all
 /// candidates but ways by default.
 fn routes_for(
     alloc: Global,
-    held: usize,
+    held: &Routes,
     view: &View<'_>,
-    reached: &Reached,
+    reached: &ReachedView<'_>,
     prefixes: Vec<Prefix>,
     one: &HopTable,
     two: &HopTable,
 ) -> Result<RoutesAfter, OutOfMemory>
-    requires reached { AreReached (outlook_at view.now) reached.now.told.items
-        reached.now.defaults.items reached.now.attached }
+    requires reached { AreReached (outlook_at view.now) reached.now.told.now
+        reached.now.ways.now reached.now.attached }
     requires all { IsListed prefixes.items 0 }
     ensures { IfOk result (λ routes. AreRoutesFor (IsListedHop one.now two.now)
-        (candidates_of (outlook_at view.now)) prefixes.items held routes) }
+        (candidates_of (outlook_at view.now)) prefixes.items held.now routes) }
 {
     if prefixes.len() > view.prefixes.len().saturating_add(reached.told.len()) {
         return match all_routes(alloc, view, reached, one, two) {
@@ -86,48 +107,42 @@ fn routes_for(
 fn all_routes(
     alloc: Global,
     view: &View<'_>,
-    reached: &Reached,
+    reached: &ReachedView<'_>,
     one: &HopTable,
     two: &HopTable,
 ) -> Result<Routes, OutOfMemory>
-    requires { AreReached (outlook_at view.now) reached.now.told.items
-        reached.now.defaults.items reached.now.attached }
+    requires { AreReached (outlook_at view.now) reached.now.told.now
+        reached.now.ways.now reached.now.attached }
     ensures { IfOk result (λ routes. AreRoutes (IsListedHop one.now two.now)
         (candidates_of (outlook_at view.now)) routes) }
 {
-    let candidates = all_candidates(
-        alloc,
-        view,
-        reached.told.as_slice(),
-        reached.defaults.as_slice(),
-        reached.attached,
-    )?;
+    let candidates = all_candidates(alloc, view, reached.told, reached.ways, reached.attached)?;
     routes_by(alloc, candidates.as_slice(), one, two)
 }
 
-/// Patches for these prefixes, in a table of so many routes.
+/// Patches for these prefixes, as they fit the table that is there.
 fn new_patches(
     alloc: Global,
-    held: usize,
+    held: &Routes,
     view: &View<'_>,
-    reached: &Reached,
+    reached: &ReachedView<'_>,
     prefixes: Vec<Prefix>,
     one: &HopTable,
     two: &HopTable,
 ) -> Result<Patches, OutOfMemory>
-    requires reached { AreReached (outlook_at view.now) reached.now.told.items
-        reached.now.defaults.items reached.now.attached }
+    requires reached { AreReached (outlook_at view.now) reached.now.told.now
+        reached.now.ways.now reached.now.attached }
     requires all { IsListed prefixes.items 0 }
     ensures { IfOk result (λ patches. ArePatchesFor (IsListedHop one.now two.now)
-        (candidates_of (outlook_at view.now)) prefixes.items held patches) }
+        (candidates_of (outlook_at view.now)) prefixes.items held.now patches) }
 {
     let unsorted = prefix_numbers(alloc, prefixes.as_slice())?;
     let numbers = in_order(unsorted);
     let candidates = candidates_for(
         alloc,
         view,
-        reached.told.as_slice(),
-        reached.defaults.as_slice(),
+        reached.told,
+        reached.ways,
         reached.attached,
         numbers.as_slice(),
     )?;

@@ -1,17 +1,18 @@
 //! The prefixes whose routes are looked at anew once some nodes moved (own).
-ghost use Rattle.std.specs.Prelude.{◌≡◌, ◌++◌, ℕ, map, IfOk, OnOk};
+ghost use Rattle.std.specs.Prelude.{◌≡◌, ◌++◌, ℕ, not, filter, map, IfOk, OnOk};
 ghost use Rattle.std.specs.List.Sorted.{IsStrictlyIncreasing};
 ghost use Rattle.isis_base.specs.declared.prefix.Prefix.{Prefix};
 ghost use Rattle.spf_tree.specs.Nodes.{node_number};
 ghost use Rattle.route_table.specs.Ranks.{prefix_number};
-ghost use Rattle.route_table.specs.Patches.{IsListed};
+ghost use Rattle.route_table.specs.Patches.{IsListed, is_moved};
 ghost use Rattle.router_routes.specs.Outlooks.{outlook_in};
 ghost use Rattle.router_routes.specs.Moved.{AreViewed, is_among, outlook_at};
-ghost use Rattle.router_routes.specs.Coming.{HopsStay, apart_in, hops_after};
-ghost use Rattle.router_routes.specs.Touched.{AreMovedNumbers, AreTouched, HaveOwn, prefixes_via};
+ghost use Rattle.router_routes.specs.Following.{IsFollowing};
+ghost use Rattle.router_routes.specs.Coming.{AreLevels, HopsStay, apart_in, hops_after, list_after};
+ghost use Rattle.router_routes.specs.Touched.{AreApartBeside, AreStill, AreTouched, HaveOwn, IsReachedAfter, prefixes_via};
 
-use crate::coming::{LevelAfter, LevelsAfter};
-use crate::following::{Following, Reached};
+use crate::coming::{LevelAfter, LevelsAfter, ReachedAfter};
+use crate::following::Following;
 use crate::lent::Lent;
 use crate::numbers::{in_order, is_one_of};
 use crate::own::own_apart;
@@ -23,9 +24,9 @@ use spf_tree::parts::number;
 use std::alloc::Global;
 
 impl Following {
-    /// The prefixes that are looked at anew, where these nodes moved and levels are these: 0.0.0.0/0,
-    /// one's own that come, go or have another metric, and those of what moved nodes told and tell, in
-    /// any order; some may be there twice.
+    /// The prefixes that are looked at anew, where these nodes moved, levels are these and this is
+    /// reached: 0.0.0.0/0, one's own that come, go or have another metric, those that moved nodes told
+    /// and tell, and those of nodes whose next hops may be others, in any order; some may be there twice.
     pub(crate) fn touched(
         &self,
         lent: &Lent<'_>,
@@ -33,37 +34,39 @@ impl Following {
         view: &View<'_>,
         nodes: &[NodeId],
         levels: &LevelsAfter,
-        reached: &Reached,
+        reached: &ReachedAfter,
     ) -> Result<Vec<Prefix>, OutOfMemory>
+        requires follows { IsFollowing (outlook_in lent.now) self.now }
         requires viewed { AreViewed lent.now told.now view.now }
-        requires one { HopsStay (apart_in levels.now.one) self.now.hops.one
-            (hops_after levels.now.one self.now.hops.one) }
-        requires two { HopsStay (apart_in levels.now.two) self.now.hops.two
-            (hops_after levels.now.two self.now.hops.two) }
+        requires still { AreStill nodes.now (outlook_in lent.now) (outlook_at view.now) }
+        requires levels { AreLevels (outlook_at view.now) self.now levels.now }
+        requires reached { IsReachedAfter nodes.now (outlook_at view.now) self.now reached.now }
         ensures { IfOk result (λ prefixes. AreTouched nodes.now self.now levels.now
             (outlook_in lent.now).prefixes (outlook_at view.now).prefixes
-            reached.now.told.items prefixes.items) }
+            (list_after reached.now.told self.now.told) prefixes.items) }
     {
-        let moved = self.moved_numbers(nodes, levels)?;
+        let beside = self.apart_beside(nodes, levels)?;
         let mut prefixes = own_touched(self.alloc, lent, told, view)?;
-        add_touched(&mut prefixes, moved.as_slice(), self.told.as_slice())?;
-        add_touched(&mut prefixes, moved.as_slice(), reached.told.as_slice())?;
+        add_listed(&mut prefixes, reached.prefixes.as_slice())?;
+        add_via(&mut prefixes, beside.as_slice(), self.told.as_slice())?;
         Ok(prefixes)
     }
 
-    /// The numbers of these nodes, and of those whose next hops may be others in a level, in order.
-    fn moved_numbers(&self, nodes: &[NodeId], levels: &LevelsAfter) -> Result<Vec<u64>, OutOfMemory>
+    /// The numbers of nodes beside these whose next hops may be others in a level, in order.
+    fn apart_beside(&self, nodes: &[NodeId], levels: &LevelsAfter) -> Result<Vec<u64>, OutOfMemory>
         requires one { HopsStay (apart_in levels.now.one) self.now.hops.one
             (hops_after levels.now.one self.now.hops.one) }
         requires two { HopsStay (apart_in levels.now.two) self.now.hops.two
             (hops_after levels.now.two self.now.hops.two) }
         ensures { IfOk result (λ numbers.
-            AreMovedNumbers nodes.now self.now levels.now numbers.items) }
+            AreApartBeside nodes.now self.now levels.now numbers.items) }
     {
-        let mut numbers = node_numbers(self.alloc, nodes)?;
-        add_apart(&mut numbers, &levels.one)?;
-        add_apart(&mut numbers, &levels.two)?;
-        Ok(in_order(numbers))
+        let unsorted = node_numbers(self.alloc, nodes)?;
+        let moved = in_order(unsorted);
+        let mut beside = Vec::new(self.alloc);
+        add_apart(&mut beside, moved.as_slice(), &levels.one)?;
+        add_apart(&mut beside, moved.as_slice(), &levels.two)?;
+        Ok(in_order(beside))
     }
 }
 
@@ -81,24 +84,39 @@ pub(crate) fn node_numbers(alloc: Global, nodes: &[NodeId]) -> Result<Vec<u64>, 
     Ok(numbers)
 }
 
-/// Adds the nodes whose next hops may be others, where a level has new ones.
-fn add_apart(numbers: &mut Vec<u64>, level: &Option<LevelAfter>) -> Result<(), OutOfMemory>
-    ensures { OnOk result (numbers.new.items ≡ numbers.old.items ++ apart_in level.now) }
+/// Adds the nodes beside some whose next hops may be others, where a level has new ones.
+fn add_apart(
+    numbers: &mut Vec<u64>,
+    moved: &[u64],
+    level: &Option<LevelAfter>,
+) -> Result<(), OutOfMemory>
+    requires { IsStrictlyIncreasing moved.now }
+    ensures { OnOk result (numbers.new.items
+        ≡ numbers.old.items ++ filter (λ n. not (is_moved moved.now n)) (apart_in level.now)) }
 {
     match level {
         None => Ok(()),
-        Some(level) => add_numbers(numbers, level.apart.as_slice()),
+        Some(level) => add_others(numbers, moved, level.apart.as_slice()),
     }
 }
 
-/// Adds these numbers.
-fn add_numbers(numbers: &mut Vec<u64>, more: &[u64]) -> Result<(), OutOfMemory>
-    ensures { OnOk result (numbers.new.items ≡ numbers.old.items ++ more.now) }
+/// Adds those of some numbers that aren't among others.
+fn add_others(numbers: &mut Vec<u64>, moved: &[u64], more: &[u64]) -> Result<(), OutOfMemory>
+    requires { IsStrictlyIncreasing moved.now }
+    ensures { OnOk result (numbers.new.items
+        ≡ numbers.old.items ++ filter (λ n. not (is_moved moved.now n)) more.now) }
 {
-    match numbers.extend_from_slice(more) {
-        Ok(()) => Ok(()),
-        Err(_) => Err(OutOfMemory),
+    let mut left = more;
+    while let [first, others @ ..] = left {
+        if !is_one_of(moved, *first) {
+            match numbers.push(*first) {
+                Ok(()) => {}
+                Err(_) => return Err(OutOfMemory),
+            }
+        }
+        left = others;
     }
+    Ok(())
 }
 
 /// 0.0.0.0/0, and where others are told of one's own prefixes, those that aren't in both lists.
@@ -148,6 +166,32 @@ fn add_own(prefixes: &mut Vec<Prefix>, own: &[(Prefix, u32)]) -> Result<(), OutO
         }
     }
     Ok(())
+}
+
+/// Adds prefixes.
+fn add_listed(prefixes: &mut Vec<Prefix>, more: &[Prefix]) -> Result<(), OutOfMemory>
+    ensures { OnOk result (prefixes.new.items ≡ prefixes.old.items ++ more.now) }
+{
+    match prefixes.extend_from_slice(more) {
+        Ok(()) => Ok(()),
+        Err(_) => Err(OutOfMemory),
+    }
+}
+
+/// Adds the prefixes of candidates by way of nodes of these numbers, where there are numbers.
+pub(crate) fn add_via(
+    prefixes: &mut Vec<Prefix>,
+    numbers: &[u64],
+    candidates: &[Candidate],
+) -> Result<(), OutOfMemory>
+    requires { IsStrictlyIncreasing numbers.now }
+    ensures { OnOk result (prefixes.new.items
+        ≡ prefixes.old.items ++ prefixes_via numbers.now candidates.now) }
+{
+    if numbers.is_empty() {
+        return Ok(());
+    }
+    add_touched(prefixes, numbers, candidates)
 }
 
 /// Adds the prefixes of candidates by way of nodes of these numbers.

@@ -1,7 +1,6 @@
 use Rattle.std.proofs.Common.{◌≡◌, List, sym, subst}
 use Rattle.std.proofs.lemmas.Result.{IfOk-weaker}
 use Rattle.std.specs.List.Sorted.{IsPermutation}
-use Rattle.std.proofs.lemmas.List.Sorted.{length_permutation}
 use Rattle.spf_tree.specs.declared.row.Row.{Row}
 use Rattle.spf_repair.proofs.ReplaceLemmas.{moved_times}
 use Rattle.router_routes.proofs.DifferenceLemmas.{differences-by}
@@ -19,4 +18,4 @@ returns c =
     let of-old = moved-is old c.in_ok-copy_of.field-0.items c.in_order-old_rows.result.items old-lent c.in_ok-copy_of.ensures c.in_order-old_rows.ensures.moved c.as_slice.ensures.value in
     let of-new = moved-is new c.in_ok-copy_of-2.field-0.items c.in_order-new_rows.result.items new-lent c.in_ok-copy_of-2.ensures c.in_order-new_rows.ensures.moved c.as_slice-2.ensures.value in
     IfOk-weaker c.parted.result _ _ (λ parts is.
-    differences-by old new old-lent new-lent parts.0.items parts.1.items (λ x. moved_times old old-lent x of-old) (λ x. moved_times new new-lent x of-new) (length_permutation old old-lent of-old) (length_permutation new new-lent of-new) is) c.parted.ensures
+    differences-by old new old-lent new-lent parts.0.items parts.1.items (λ x. moved_times old old-lent x of-old) (λ x. moved_times new new-lent x of-new) is) c.parted.ensures

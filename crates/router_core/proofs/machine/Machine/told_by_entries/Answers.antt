@@ -7,11 +7,12 @@ use Rattle.lsp_store.specs.Databases.{Database}
 use Rattle.lsp_store.specs.Maps.{RisesFrom}
 use Rattle.lsp_store.specs.declared.entry.Entry.{Entry}
 use Rattle.model_router.specs.Receiving.{scene_of}
-use Rattle.model_router.specs.Routers.{LevelState, book_of, level_of}
+use Rattle.model_router.specs.Routers.{LevelState, book_of, level_of, with_level}
 use Rattle.model_router.specs.Takes.{take_entries, take_snp}
 use Rattle.flag_sync.specs.BookStates as sync
 use Rattle.flag_sync.specs.Heard.{entries_of}
 use Rattle.router_levels.specs.Views.{state_of}
+use Rattle.router_routes.specs.Outlooks.{outlook_of}
 use Rattle.router_routes.specs.Told.{told_in}
 use Rattle.router_core.specs.Asides.{IsCovered, IsHeldAside, IsShown}
 use Rattle.router_core.specs.Givens.{given}
@@ -65,5 +66,6 @@ returns-in-Ok c place range =
     let rises = subst (λ (d : Database). RisesFrom 0 d.entries) c.store-store.ensures c.len-entries.ensures.rises in
     let shown = subst (λ (d : Database). IsShown r l d.entries) (sym c.store-store.ensures)
     (shown-in r l v of_book (c.has_rows.ensures c.if-not-has_rows.false) ids rises (c.requires.reached.speaking.sorted.on l)) in
-    moved-in r l s nodes (told_in told) (sym c.runs.ensures ∙ c.if-not-runs.false) c.in_ok-nodes.ensures.rises
-    (aside-moved r l nodes s told c.store-store.result.now.entries held shown c.len-told.ensures.ids c.len-told.ensures.rises)
+    c.told_at.ensures (outlook_of r) (outlook_of (with_level r l s))
+    (moved-in r l s nodes (told_in told) (sym c.runs.ensures ∙ c.if-not-runs.false) c.in_ok-nodes.ensures.rises
+    (aside-moved r l nodes s told c.store-store.result.now.entries held shown c.len-told.ensures.ids c.len-told.ensures.rises))

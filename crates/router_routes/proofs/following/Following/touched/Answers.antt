@@ -6,14 +6,19 @@ use Rattle.router_routes.specs.Outlooks.{outlook_in}
 use Rattle.router_routes.proofs.PatchLemmas.{touched-are}
 use Rattle.router_routes.proofs.following.Following.touched.Goals as goal
 
-pub add_touched-requires : goal.add_touched-requires
-add_touched-requires c = subst IsStrictlyIncreasing (sym c.as_slice.ensures.value) c.in_ok-moved.ensures.rising
+pub apart_beside-requires-clause-one : goal.apart_beside-requires-clause-one
+apart_beside-requires-clause-one c = c.requires.levels.hops_one.apart
 
-pub add_touched-requires-2 : goal.add_touched-requires-2
-add_touched-requires-2 c = subst IsStrictlyIncreasing (sym c.as_slice-3.ensures.value) c.in_ok-moved.ensures.rising
+pub apart_beside-requires-clause-two : goal.apart_beside-requires-clause-two
+apart_beside-requires-clause-two c = c.requires.levels.hops_two.apart
+
+pub add_via-requires : goal.add_via-requires
+add_via-requires c = subst IsStrictlyIncreasing (sym c.as_slice-2.ensures.value) c.in_ok-beside.ensures.rising
 
 pub returns : goal.returns
 returns c =
-    touched-are c.args.nodes.now c.args.self.now c.args.levels.now c.in_ok-moved.moved.items c.as_slice.result.now c.as_slice-3.result.now (outlook_in c.args.lent.now).prefixes (outlook_at c.args.view.now).prefixes c.as_slice-2.result.now c.as_slice-4.result.now c.args.reached.now.told.items
-    c.in_ok-prefixes.prefixes.items c.add_touched.new.prefixes.items c.add_touched-2.new.prefixes.items c.in_ok-moved.ensures c.as_slice.ensures.value c.as_slice-3.ensures.value (c.as_slice-2.ensures.value ∙ ap (λ (f : FollowingOf). f.told) c.self.view_is) c.as_slice-4.ensures.value
-    c.in_ok-prefixes.ensures.all c.in_ok-prefixes.ensures.own c.in_ok-add_touched.ensures c.in_ok-add_touched-2.ensures
+    let o = outlook_in c.args.lent.now in
+    let p = outlook_at c.args.view.now in
+    touched-are o p c.args.self.now c.requires.follows c.args.nodes.now c.args.levels.now c.requires.still c.args.reached.now c.requires.reached c.in_ok-beside.beside.items c.as_slice-2.result.now c.in_ok-beside.ensures c.as_slice-2.ensures.value
+    c.as_slice-3.result.now (c.as_slice-3.ensures.value ∙ ap (λ (f : FollowingOf). f.told) c.self.view_is) o.prefixes p.prefixes c.in_ok-prefixes.prefixes.items c.add_listed.new.prefixes.items c.add_via.new.prefixes.items c.as_slice.result.now c.as_slice.ensures.value
+    c.in_ok-prefixes.ensures.all c.in_ok-prefixes.ensures.own c.in_ok-add_listed.ensures c.in_ok-add_via.ensures
