@@ -65,6 +65,13 @@ impl Boots {
         hear_in(&mut self.list, system, boot)
     }
 
+    /// Whether a system isn't remembered, and 256 are.
+    pub fn is_full(&self, system: SystemId) -> bool
+        ensures { result ≡ is_full self.now (system_number system) }
+    {
+        self.list.len() >= MOST && self.heard(system).is_none()
+    }
+
     /// Equal boots, with the room for 256 systems.
     pub fn copy(&self) -> Result<Boots, OutOfMemory>
         ensures { IfOk result (λ copy. copy ≡ self.now) }

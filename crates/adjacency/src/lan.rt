@@ -10,7 +10,8 @@ ghost use Rattle.model_router.specs.Seconds.{heard_less};
 ghost use Rattle.adjacency.specs.Views.{config_of, hello_of, neighbour_of};
 ghost use Rattle.adjacency.specs.Changes.{IsTested};
 ghost use Rattle.adjacency.specs.Lans.{AreHeard, neighbours, ups, hear_lan, lan_change_of, lan_less_change};
-ghost use Rattle.model_router.specs.Numbers.{snpa_number};
+ghost use Rattle.adjacency.specs.Remembered as remembered;
+ghost use Rattle.model_router.specs.Numbers.{snpa_number, system_number};
 
 use crate::boots::Boots;
 use crate::by_snpa::place_of;
@@ -112,6 +113,32 @@ impl LanAdj {
             neighbour,
             hello.names_me,
         ))
+    }
+
+    /// Whether a hello of this level passes, or the first test that refuses it, by the boot number that is remembered of its
+    /// source; `full` where the source isn't remembered and 256 systems are. Nothing changes.
+    pub fn test_hello(
+        &self,
+        own: &Own<'_>,
+        level: Level,
+        hello: &HelloFields<'_>,
+        greatest: Option<u32>,
+        full: bool,
+    ) -> Result<(), HelloDrop>
+        ensures { (boots : List (ℕ × ℕ)) → greatest ≡ find boots (system_number hello.now.source)
+            → full ≡ remembered.is_full boots (system_number hello.now.source) → IsTested result
+            (lan_drop (config_of own.now) level boots self.now (hello_of hello.now)) }
+    {
+        let place = place_of(&self.heard, hello.snpa);
+        let crowded = is_full(&self.heard, place);
+        match test_lan(own, level, hello, crowded, greatest) {
+            Ok(_) => {}
+            Err(refused) => return Err(refused),
+        }
+        if full {
+            return Err(HelloDrop::TooMany);
+        }
+        Ok(())
     }
 
     /// A second of each holding time: at 1 or 0 the neighbour goes, else it falls by one (ISO 10589

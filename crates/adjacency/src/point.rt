@@ -1,13 +1,16 @@
 //! A point-to-point adjacency.
-ghost use Rattle.std.specs.Prelude.{◌≡◌, ◌↔◌, Bool, true, Option, IsNone, OnErr, IfOk, IfSome};
+ghost use Rattle.std.specs.Prelude.{◌≡◌, ◌↔◌, ℕ, List, Bool, true, Option, IsNone, OnErr, IfOk, IfSome};
 ghost use Rattle.std.specs.Option.{option_map};
 ghost use Rattle.isis_tlv.specs.declared.three_way.Adj.TheVariants as adj;
 ghost use Rattle.model_router.specs.Adjacencies as model;
 ghost use Rattle.model_router.specs.HelloTests.{point_drop};
 ghost use Rattle.model_router.specs.Seconds.{point_less};
 ghost use Rattle.model_router.specs.Hellos.{minded};
+ghost use Rattle.model_router.specs.Maps.{find};
+ghost use Rattle.model_router.specs.Numbers.{system_number};
 ghost use Rattle.adjacency.specs.Views.{runs_of, config_of, hello_of, neighbour_of, point_of, point_down, shake_of};
 ghost use Rattle.adjacency.specs.Changes.{IsTested, change_of, boot_of};
+ghost use Rattle.adjacency.specs.Remembered.{is_full};
 
 use crate::boots::Boots;
 use crate::held::Held;
@@ -102,6 +105,36 @@ impl P2pAdj {
         let new = held_after(old, same, hello, levels, shake);
         self.held = new;
         Ok(change(old, new, same))
+    }
+
+    /// The adjacency as it will be after a hello, or the first test that refuses it, by the boot number that is remembered of
+    /// its source; `full` where the source isn't remembered and 256 systems are. Nothing changes.
+    pub fn after_hello(
+        &self,
+        own: &Own<'_>,
+        hello: &HelloFields<'_>,
+        greatest: Option<u32>,
+        full: bool,
+    ) -> Result<P2pAdj, HelloDrop>
+        ensures tested { (boots : List (ℕ × ℕ))
+            → greatest ≡ find boots (system_number hello.now.source)
+            → full ≡ is_full boots (system_number hello.now.source) → IsTested result
+            (point_drop (config_of own.now) own.now.id boots (hello_of hello.now)) }
+        ensures heard { IfOk result (λ after. IfSome hello.now.three_way (λ shake.
+            point_of after ≡ model.hear_point (point_of self.now)
+            (model.common_of (config_of own.now) (hello_of hello.now))
+            (hello_of hello.now) (shake_of shake))) }
+    {
+        let (levels, shake) = match test_point(own, hello, greatest) {
+            Ok(passed) => passed,
+            Err(refused) => return Err(refused),
+        };
+        if full {
+            return Err(HelloDrop::TooMany);
+        }
+        let same = keeps(self.held, hello, levels, shake.own_id.unwrap_or(0));
+        let held = held_after(self.held, same, hello, levels, shake);
+        Ok(P2pAdj { held })
     }
 
     /// A second of the holding time: at 1 or 0 the adjacency ends, else it falls by one (ISO 10589

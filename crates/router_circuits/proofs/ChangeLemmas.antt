@@ -165,6 +165,14 @@ greeted-words old new common told h said three change g e w heard changed =
     (subst (λ (x : model.Hello). IfSome three (λ shake. change ≡ change_of (point_of old) (point_of new) (model.is_same (point_of old).neighbour common x (views.shake_of shake).extended))) w
     (subst (λ (b : Both Bool). IfSome three (λ shake. change ≡ change_of (point_of old) (point_of new) (model.is_same (point_of old).neighbour b said (views.shake_of shake).extended))) e changed))
 
+-- an adjacency as it will be, in other words
+pub after-words : (old after : Held) (common told : Both Bool) (h said : model.Hello) (three : Option ThreeWay) → told ≡ common → said ≡ h
+    → IfSome three (λ shake. point_of after ≡ model.hear_point (point_of old) told said (views.shake_of shake))
+    → IfSome (shakes_of three) (λ shake. point_of after ≡ model.hear_point (point_of old) common h shake)
+after-words old after common told h said None e w heard = tt
+after-words old after common told h said (Some shake) e w heard =
+    heard ∙ (ap (λ (b : Both Bool). model.hear_point (point_of old) b said (shake_of shake)) e ∙ ap (λ (x : model.Hello). model.hear_point (point_of old) common x (shake_of shake)) w)
+
 abbrev pub of_medium : Circuit → Medium → Timers → Timers → Circuit
 of_medium c m one two = record c { lan = is_lan m; point = point_in m; levels = levels_in (heard_in m) one two }
 

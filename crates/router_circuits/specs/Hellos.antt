@@ -6,6 +6,7 @@ use Rattle.model_router.specs.Both.{Both, same_levels}
 use Rattle.model_router.specs.Configs.{Config}
 use Rattle.model_router.specs.Adjacencies.{Neighbour, Handshake, Hello, PointAdj, is_same, hear_point, point_open}
 use Rattle.model_router.specs.Hellos.{comes_up, is_moved}
+use Rattle.model_router.specs.Maps.{find}
 use Rattle.model_router.specs.Routers.{LanNeighbour}
 use Rattle.model_router.specs.Seconds.{point_over, some_over, heard_less}
 use Rattle.model_router.specs.Numbers.{system_number, snpa_number, node_number}
@@ -14,6 +15,7 @@ use Rattle.adjacency.specs.declared.hello.Own.{Own}
 use Rattle.adjacency.specs.declared.hello.HelloFields.{HelloFields}
 use Rattle.adjacency.specs.declared.hello.AdjChange.{AdjChange}
 use Rattle.adjacency.specs.declared.hello.AdjChange.TheVariants as change
+use Rattle.adjacency.specs.Remembered.{is_full}
 use Rattle.adjacency.specs.Views.{shakes_of}
 use Rattle.router_circuits.specs.declared.greeted.Greeted.{Greeted}
 use Rattle.router_circuits.specs.declared.medium.Medium.{Medium}
@@ -49,6 +51,11 @@ hello_of h = record {
   handshake = shakes_of h.three_way;
   names_me = h.names_me;
 }
+
+-- what is remembered of a system among boots: its boot number, where one is, and whether it isn't remembered where 256 are (own)
+pub record IsKnown (boots : List (ℕ × ℕ)) (system : ℕ) (known : Option ℕ × Bool) : Type 0 where
+  pub greatest : known.0 ≡ find boots system
+  pub full : known.1 ≡ is_full boots system
 
 -- ---- what comes of hellos and of seconds
 

@@ -10,7 +10,7 @@
 //! - `circuit.rt`: a circuit, made and copied, its configuration and what always holds of it
 //! - `medium.rt`: its adjacencies, by its kind; `adjacencies.rt`: their calls
 //! - `hearing.rt`: hellos that are heard; `greeting.rt`, `greeted.rt`: what a point-to-point hello
-//!   does; `sizes.rt`: the sizes of its fields
+//!   does; `tested.rt`: hellos tested beforehand; `sizes.rt`: the sizes of their fields
 //! - `senders.rt`: of whom a datagram may come; `by_snpa.rt`: neighbours by SNPA
 //! - `election.rt`, `candidate.rt`, `designated.rt`: who is designated
 //! - `due.rt`, `timers.rt`: the counters, and what is due
@@ -32,6 +32,7 @@ mod medium;
 mod numbers;
 mod senders;
 mod sizes;
+mod tested;
 mod timers;
 
 pub use circuit::Circuit;

@@ -142,7 +142,7 @@ named-cells [] rs ids = tt
 named-cells (e ∷ es) [] ids = tt
 named-cells (e ∷ es) (r ∷ rs) ids = (named e.0 ids.0, named-cells es rs ids.1)
 
-put-named : (m : List (ℕ × Cell)) (k : ℕ) (v : Cell) → AreNamed m → IsNamed k → AreNamed (put m k v)
+pub put-named : (m : List (ℕ × Cell)) (k : ℕ) (v : Cell) → AreNamed m → IsNamed k → AreNamed (put m k v)
 unfolding put
 put-named [] k v ms is = (is, tt)
 put-named (p ∷ m) k v ms is = by (p.0 == k) (nat_lt k p.0) (put-named m k v ms.1 is)
@@ -271,7 +271,7 @@ calm-aside r l nodes s xs scene system place h aside is d =
 
 -- ---- an entry that is apart
 
-put-found : (xs : Entries) (id : LspId) (e : Entry) (n : ℕ) → maps.find (maps.put xs id e) n ≡ (if lsp_number id == n then Some e else maps.find xs n)
+pub put-found : (xs : Entries) (id : LspId) (e : Entry) (n : ℕ) → maps.find (maps.put xs id e) n ≡ (if lsp_number id == n then Some e else maps.find xs n)
 put-found [] id e n = refl
 put-found (x ∷ xs) id e n = grind (arith, nat_tests, put-found xs id e n)
 
@@ -366,7 +366,7 @@ held-some : (held : Option Cell) (r sum : ℕ) → differs held r sum ≡ true �
 held-some None r sum d = clash (sym d ∙ differs-seen None r sum)
 held-some (Some c) r sum d = (c, refl)
 
-none-shown : (e : Entry) → e.key ≡ None → seen_in (Some e) ≡ None
+pub none-shown : (e : Entry) → e.key ≡ None → seen_in (Some e) ≡ None
 none-shown e key = ap (λ (t : Bool). if t then Some (rank e.key, content_in e) else None) (ap store.is_live_key key)
 
 purge-dead : (held : Option Cell) (opened : ℕ) → is_live (flagged (held_purge held) opened 0).rank ≡ false

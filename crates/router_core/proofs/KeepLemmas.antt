@@ -1,5 +1,5 @@
 -- What leaves all that own LSPs are made from.
-use Rattle.std.proofs.Common.{◌≡◌, ℕ, zero, suc, ◌+◌, ◌==◌, ◌≤◌, nat_lt, Bool, true, false, not, ◌&&◌, List, [], ◌∷◌, length, drop, get_or, ◌<◌, Option, Some, None, if◌then◌else◌, option_map, is_some, refl, sym, ap, ◌∙◌, subst, arith}
+use Rattle.std.proofs.Common.{◌≡◌, ℕ, zero, suc, ◌+◌, ◌==◌, ◌≤◌, nat_lt, Bool, true, false, not, ◌&&◌, List, [], ◌∷◌, length, drop, get_or, ◌<◌, Option, Some, None, IfSome, if◌then◌else◌, option_map, is_some, refl, sym, ap, ◌∙◌, subst, arith}
 use Rattle.isis_tlv.specs.declared.three_way.Adj.TheVariants.{Down}
 use Rattle.isis_base.specs.declared.level.Level.{Level}
 use Rattle.isis_base.specs.declared.level.Level.TheVariants as level
@@ -7,8 +7,7 @@ use Rattle.model_router.specs.Both.{Both, at}
 use Rattle.model_router.specs.Places.{nth, with_nth}
 use Rattle.model_router.specs.Sets.{has}
 use Rattle.model_router.specs.Configs.{Config}
-use Rattle.model_router.specs.Adjacencies.{Handshake, Hello, Neighbour, PointAdj, common_of, is_same}
-use Rattle.model_router.specs.AdjacencyLaws.{place_of}
+use Rattle.model_router.specs.Adjacencies.{Handshake, Hello, Neighbour, PointAdj, common_of, hear_point, is_same}
 use Rattle.model_router.specs.Routers.{Circuit, CircuitLevel, LanNeighbour, LevelState, Router, book_of, with_level, with_circuit, level_of}
 use Rattle.model_router.specs.Elections.{idle_all}
 use Rattle.model_router.specs.Hellos.{follow, point_circuit, take_point}
@@ -35,8 +34,7 @@ use Rattle.adjacency.specs.Lans.{neighbours}
 use Rattle.router_core.specs.Seconds.{bare_later}
 use Rattle.router_core.specs.Calm.{is_calm_row, is_calm_entry, AreClear, IsCalmMessage, IsCalm}
 use Rattle.router_core.proofs.CalmLemmas.{take-face, clear-face}
-use Rattle.router_core.proofs.IdleLemmas.{nth-with}
-use Rattle.router_core.specs.Settled.{lan_face, heard_face, level_face, neighbour_face, point_face, face, faces, IsAside, IsNoHello, IsGreeting, Keeps, point_at}
+use Rattle.router_core.specs.Settled.{lan_face, heard_face, level_face, neighbour_face, point_face, face, faces, IsAside, IsNoHello, Keeps, LeavesFace}
 
 true-false : true ≡ false → ⊥
 true-false e = cc
@@ -317,52 +315,22 @@ step-keeps given r (Prefix prefix metric) calm aside = absurd aside
 
 -- ---- a point-to-point hello
 
-abbrev faced : Option Circuit → Option PointAdj
-faced o = option_map (λ (c : Circuit). point_face c.point) o
-
-idle-point : (config : Config) (k : ℕ) (cs : List Circuit) (i : ℕ) → faced (nth (idle_all config k cs) i) ≡ faced (nth cs i)
-idle-point config k [] i = refl
-idle-point config k (c ∷ cs) zero = refl
-idle-point config k (c ∷ cs) (suc i) = idle-point config (k + 1) cs i
-
-some-same : {A : Type 0} (x y : A) → Some x ≡ Some y → x ≡ y
-some-same x y e = cc
-
 greeted-face : (c : Circuit) (common : Both Bool) (h : Hello) (shake : Handshake) → point_face (point_circuit c common h shake).point ≡ point_face c.point → face (point_circuit c common h shake) ≡ face c
 greeted-face c common h shake e = ap (λ (p : PointAdj). record (face c) { point = p }) e
 
-point-keeps : (r : Router) (place : ℕ) (c : Circuit) (h : Hello) (shake : Handshake) → nth r.circuits place ≡ Some c → faced (nth (take_point r place c h shake).circuits place) ≡ faced (nth r.circuits place) → Keeps r (take_point r place c h shake)
+greeted-keeps : (r : Router) (place : ℕ) (c : Circuit) (h : Hello) (o : Option Handshake) → nth r.circuits place ≡ Some c → IfSome o (λ shake. point_face (hear_point c.point (common_of r.config h) h shake) ≡ point_face c.point) → Keeps r (greeted r place c h o)
 unfolding take_point
-point-keeps r place c h shake n e =
+greeted-keeps r place c h None n e = keeps-refl r
+greeted-keeps r place c h (Some shake) n e =
     let common = common_of r.config h in
     let new = point_circuit c common h shake in
-    let same : point_face new.point ≡ point_face c.point = some-same _ _ (sym (ap faced (nth-with r.circuits place c new n)) ∙ (e ∙ ap faced n)) in
-    keeps-trans r (with_circuit r place new) _ (keeps-circuit r place c new n (greeted-face c common h shake same)) (keeps-follow (with_circuit r place new) (not (is_same c.point.neighbour common h shake.extended)) place new)
+    keeps-trans r (with_circuit r place new) _ (keeps-circuit r place c new n (greeted-face c common h shake e)) (keeps-follow (with_circuit r place new) (not (is_same c.point.neighbour common h shake.extended)) place new)
 
-greeted-keeps : (r : Router) (place : ℕ) (c : Circuit) (h : Hello) (o : Option Handshake) → nth r.circuits place ≡ Some c → faced (nth (greeted r place c h o).circuits place) ≡ faced (nth r.circuits place) → Keeps r (greeted r place c h o)
-greeted-keeps r place c h None n e = keeps-refl r
-greeted-keeps r place c h (Some shake) n e = point-keeps r place c h shake n e
-
--- one that leaves what own LSPs look at of the adjacency leaves all that they are made from
-pub hello-keeps-own : (given : Given) (r : Router) (event : Event) → IsGreeting event → point_at (step given r event).router (place_of event) ≡ point_at r (place_of event) → Keeps r (step given r event).router
+-- one that passes, and leaves what own LSPs look at of the adjacency, leaves all that they are made from
+pub greeting-keeps : (given : Given) (r : Router) (place : ℕ) (c : Circuit) (h : Hello) → nth r.circuits place ≡ Some c → drop_of r place c (PointHelloHeard h) ≡ None → LeavesFace c r.config h → Keeps r (step given r (Take place (PointHelloHeard h))).router
 unfolding step
-hello-keeps-own given r Second is e = absurd is
-hello-keeps-own given r (Take place (Refused cause)) is e = absurd is
-hello-keeps-own given r (Take place (PointHelloHeard h)) is e = of (nth r.circuits place) refl e
-  where
-    by-drop : (c : Circuit) (d : Option DropName) → nth r.circuits place ≡ Some c → faced (nth (take_or_drop given r place c (PointHelloHeard h) d).router.circuits place) ≡ faced (nth r.circuits place) → Keeps r (take_or_drop given r place c (PointHelloHeard h) d).router
-    by-drop c (Some cause) n e = record { config = refl; circuits = refl; one = refl; two = refl }
-    by-drop c None n e =
-        let to = greeted r place c h h.handshake in
-        keeps-trans r to _ (greeted-keeps r place c h h.handshake n (sym (idle-point to.config 0 to.circuits place) ∙ e)) (settled-keeps (record { router = to; reply = Done }))
-
-    of : (o : Option Circuit) → nth r.circuits place ≡ o → faced (nth (take given r place (PointHelloHeard h) o).router.circuits place) ≡ faced (nth r.circuits place) → Keeps r (take given r place (PointHelloHeard h) o).router
-    of None n e = keeps-refl r
-    of (Some c) n e = by-drop c (drop_of r place c (PointHelloHeard h)) n e
-hello-keeps-own given r (Take place (LanHelloHeard l h)) is e = absurd is
-hello-keeps-own given r (Take place (LspHeard l from h)) is e = absurd is
-hello-keeps-own given r (Take place (SnpHeard l from source range entries)) is e = absurd is
-hello-keeps-own given r (Pull place) is e = absurd is
-hello-keeps-own given r (Metric place metric) is e = absurd is
-hello-keeps-own given r (Overload on) is e = absurd is
-hello-keeps-own given r (Prefix prefix metric) is e = absurd is
+greeting-keeps given r place c h n passes leaves =
+    let to = greeted r place c h h.handshake in
+    subst (λ (o : Option Circuit). Keeps r (take given r place (PointHelloHeard h) o).router) (sym n)
+    (subst (λ (d : Option DropName). Keeps r (take_or_drop given r place c (PointHelloHeard h) d).router) (sym passes)
+    (keeps-trans r to _ (greeted-keeps r place c h h.handshake n leaves) (settled-keeps (record { router = to; reply = Done }))))

@@ -1,5 +1,5 @@
 -- What is seen of a level a second later: all that was, but for live entries whose time ends.
-use Rattle.std.proofs.Common.{◌≡◌, ◌∙◌, ℕ, zero, suc, ◌+◌, ◌<◌, ◌==◌, ◌&&◌, nat_le, nat_lt, Bool, true, false, not, List, [], ◌∷◌, length, Option, Some, None, option_map, refl, sym, ap, subst, if◌then◌else◌, arith}
+use Rattle.std.proofs.Common.{◌≡◌, ◌∙◌, ℕ, zero, suc, ◌+◌, ◌<◌, ◌==◌, ◌&&◌, ◌||◌, nat_le, nat_lt, Bool, true, false, not, List, [], ◌∷◌, length, Option, Some, None, option_map, refl, sym, ap, subst, if◌then◌else◌, arith}
 use Rattle.std.specs.List.{AllByRecursion}
 use Rattle.std.proofs.lemmas.Bool.{and_parts, eqb-true, ne_eqb}
 use Rattle.std.proofs.lemmas.Bool.Decides.{nat_tests}
@@ -16,6 +16,7 @@ use Rattle.model_router.specs.Sorted.{RisesFrom}
 use Rattle.model_router.specs.Cells.{Cell, flagged, purged}
 use Rattle.model_router.specs.Books.{Book, cell_at, set_cell}
 use Rattle.model_router.specs.Deeds.{Content}
+use Rattle.model_router.specs.OwnLsps.{is_held}
 use Rattle.model_router.specs.Openings.{close, marked, open_up, set_open}
 use Rattle.model_router.specs.Ageing.{wait_less, less, aged, age_cell, age_one, age_all, age}
 use Rattle.model_router.specs.Seconds.{waited}
@@ -51,7 +52,7 @@ last-cells (pair ∷ entries) (row ∷ rows) e =
 
 -- ---- what leaves what is seen, and the time of entries
 
-abbrev left_of : Option Cell → ℕ
+abbrev pub left_of : Option Cell → ℕ
 left_of None = 0
 left_of (Some c) = c.left
 
@@ -71,17 +72,54 @@ pick-left : (t : Bool) (a b : Cell) (n : ℕ) → a.left ≡ n → b.left ≡ n 
 pick-left true a b n e f = e
 pick-left false a b n e f = f
 
--- a book in order of which the keys, contents and times are kept
-record Still (a b : Book) : Type 0 where
+-- whether a cell is held a second later, be it as a purge
+abbrev pub cell_stays : Cell → Bool
+cell_stays c = nat_le 2 c.left || is_live c.rank
+
+-- how many are
+abbrev pub cells_staying : List (ℕ × Cell) → ℕ
+cells_staying [] = 0
+cells_staying (p ∷ m) = (if cell_stays p.1 then 1 else 0) + cells_staying m
+
+each-held : (f : ℕ → Cell → Cell) (m : List (ℕ × Cell)) (n : ℕ) → is_held (find (each f m) n) ≡ is_held (find m n)
+each-held f m n = ap is_held (find-each f m n) ∙ of (find m n)
+  where
+    of : (o : Option Cell) → is_held (option_map (f n) o) ≡ is_held o
+    of None = refl
+    of (Some c) = refl
+
+each-staying : (f : ℕ → Cell → Cell) → ((id : ℕ) (c : Cell) → (f id c).left ≡ c.left) → ((id : ℕ) (c : Cell) → (f id c).rank ≡ c.rank) → (m : List (ℕ × Cell)) → cells_staying (each f m) ≡ cells_staying m
+unfolding each
+each-staying f left rank [] = refl
+each-staying f left rank (p ∷ m) =
+    let of-left = left p.0 p.1 in
+    let of-rank = rank p.0 p.1 in
+    let rest = each-staying f left rank m in
+    λ i. (if nat_le 2 (of-left i) || is_live (of-rank i) then 1 else 0) + rest i
+
+pick-rank : (t : Bool) (a b : Cell) (n : ℕ) → a.rank ≡ n → b.rank ≡ n → (if t then a else b).rank ≡ n
+pick-rank true a b n e f = e
+pick-rank false a b n e f = f
+
+-- a book in order of which the keys, contents and times are kept, and how many stay
+pub record Still (a b : Book) : Type 0 where
   pub kept : AreKept a b
   pub left : (n : ℕ) → left_of (cell_at b n) ≡ left_of (cell_at a n)
   pub rises : RisesFrom 0 a.cells → RisesFrom 0 b.cells
+  pub held : (n : ℕ) → is_held (cell_at b n) ≡ is_held (cell_at a n)
+  pub staying : cells_staying b.cells ≡ cells_staying a.cells
 
 still-refl : (a : Book) → Still a a
-still-refl a = record { kept = λ id. key-refl (cell_at a id); left = λ n. refl; rises = λ r. r }
+still-refl a = record { kept = λ id. key-refl (cell_at a id); left = λ n. refl; rises = λ r. r; held = λ n. refl; staying = refl }
 
 still-trans : (a b c : Book) → Still a b → Still b c → Still a c
-still-trans a b c p q = record { kept = kept-trans a b c p.kept q.kept; left = λ n. q.left n ∙ p.left n; rises = λ r. q.rises (p.rises r) }
+still-trans a b c p q = record {
+  kept = kept-trans a b c p.kept q.kept;
+  left = λ n. q.left n ∙ p.left n;
+  rises = λ r. q.rises (p.rises r);
+  held = λ n. q.held n ∙ p.held n;
+  staying = q.staying ∙ p.staying;
+}
 
 wait-still : (b : Book) → Still b (wait_less b)
 unfolding wait_less
@@ -89,6 +127,8 @@ wait-still b = record {
   kept = each-kept _ (λ id c. record { rank = refl; content = refl }) b.cells;
   left = each-left _ (λ id c. refl) b.cells;
   rises = each-rises _ b.cells 0;
+  held = each-held _ b.cells;
+  staying = each-staying _ (λ id c. refl) (λ id c. refl) b.cells;
 }
 
 marked-left : (place : ℕ) (c : Cell) → (marked c place).left ≡ c.left
@@ -122,15 +162,46 @@ set-rises : (b : Book) (place : ℕ) (up : Bool) → RisesFrom 0 b.cells → Ris
 set-rises b place true r = pick-of (λ (c : Book). RisesFrom 0 c.cells) (has b.opened place) b (open_up b place) r (open-rises b place r)
 set-rises b place false r = pick-of (λ (c : Book). RisesFrom 0 c.cells) (has b.opened place) (close b place) b (close-rises b place r) r
 
+marked-rank : (place : ℕ) (c : Cell) → (marked c place).rank ≡ c.rank
+marked-rank place c = pick-rank (nat_lt 0 c.rank) _ c c.rank refl refl
+
+close-held : (b : Book) (place n : ℕ) → is_held (cell_at (close b place) n) ≡ is_held (cell_at b n)
+unfolding close
+close-held b place n = each-held _ b.cells n
+
+close-staying : (b : Book) (place : ℕ) → cells_staying (close b place).cells ≡ cells_staying b.cells
+unfolding close
+close-staying b place = each-staying _ (λ id c. refl) (λ id c. refl) b.cells
+
+open-held : (b : Book) (place n : ℕ) → is_held (cell_at (open_up b place) n) ≡ is_held (cell_at b n)
+unfolding open_up
+open-held b place n = each-held _ b.cells n
+
+open-staying : (b : Book) (place : ℕ) → cells_staying (open_up b place).cells ≡ cells_staying b.cells
+unfolding open_up
+open-staying b place =
+    each-staying _ (λ id c. pick-left (has b.p2p place) (marked c place) c c.left (marked-left place c) refl)
+    (λ id c. pick-rank (has b.p2p place) (marked c place) c c.rank (marked-rank place c) refl) b.cells
+
+set-held : (b : Book) (place : ℕ) (up : Bool) (n : ℕ) → is_held (cell_at (set_open b place up) n) ≡ is_held (cell_at b n)
+set-held b place true n = pick-of (λ (c : Book). is_held (cell_at c n) ≡ is_held (cell_at b n)) (has b.opened place) b (open_up b place) refl (open-held b place n)
+set-held b place false n = pick-of (λ (c : Book). is_held (cell_at c n) ≡ is_held (cell_at b n)) (has b.opened place) (close b place) b (close-held b place n) refl
+
+set-staying : (b : Book) (place : ℕ) (up : Bool) → cells_staying (set_open b place up).cells ≡ cells_staying b.cells
+set-staying b place true = pick-of (λ (c : Book). cells_staying c.cells ≡ cells_staying b.cells) (has b.opened place) b (open_up b place) refl (open-staying b place)
+set-staying b place false = pick-of (λ (c : Book). cells_staying c.cells ≡ cells_staying b.cells) (has b.opened place) (close b place) b (close-staying b place) refl
+
 one-still : (s : LevelState) (level : Level) (place : ℕ) (o : Option Circuit) → Still s.book (follow_one s level place o).book
 one-still s level place None = still-refl s.book
 one-still s level place (Some c) = record {
   kept = set_open-kept s.book place (is_open c level);
   left = set-left s.book place (is_open c level);
   rises = set-rises s.book place (is_open c level);
+  held = set-held s.book place (is_open c level);
+  staying = set-staying s.book place (is_open c level);
 }
 
-follow-still : (s : LevelState) (level : Level) (cs : List Circuit) (n : ℕ) → Still s.book (follow_first s level cs n).book
+pub follow-still : (s : LevelState) (level : Level) (cs : List Circuit) (n : ℕ) → Still s.book (follow_first s level cs n).book
 follow-still s level cs zero = still-refl s.book
 follow-still s level cs (suc n) =
     let first = follow_first s level cs n in
@@ -139,7 +210,7 @@ follow-still s level cs (suc n) =
 -- ---- a second of entries
 
 -- what is seen of what is held once its time has ended, or goes on
-abbrev lasting : Option Cell → Option (ℕ × Content)
+abbrev pub lasting : Option Cell → Option (ℕ × Content)
 lasting None = None
 lasting (Some c) = if is_ended c then None else seen (Some c)
 
@@ -188,24 +259,24 @@ aged-seen opened c = by (nat_le 2 c.left) refl (is_live c.rank) refl
     by false h true is = seen-dead (flagged (purged c) opened 0) (not-live (number_of c.rank)) ∙ sym (ap (λ (t : Bool). if t then None else seen (Some c)) (upper h))
     by false h false is = sym (seen-dead c is)
 
-one-is : (s : LevelState) (id : ℕ) (c : Cell) → cell_at s.book id ≡ Some c → (age_one s id).book ≡ set_cell s.book id (aged s.book.opened c)
+pub one-is : (s : LevelState) (id : ℕ) (c : Cell) → cell_at s.book id ≡ Some c → (age_one s id).book ≡ set_cell s.book id (aged s.book.opened c)
 unfolding age_one
 one-is s id c e = ap (λ (o : Option Cell). (age_cell s id o).book) e
 
-cell-set : (b : Book) (id : ℕ) (new : Option Cell) (q : ℕ) → cell_at (set_cell b id new) q ≡ (if id == q then new else cell_at b q)
+pub cell-set : (b : Book) (id : ℕ) (new : Option Cell) (q : ℕ) → cell_at (set_cell b id new) q ≡ (if id == q then new else cell_at b q)
 unfolding set_cell
 cell-set b id new q = find-set_at b.cells id new q
 
 cell-other : (b : Book) (id : ℕ) (new : Option Cell) (q : ℕ) → (id ≡ q → ⊥) → cell_at (set_cell b id new) q ≡ cell_at b q
 cell-other b id new q other = cell-set b id new q ∙ ap (λ (t : Bool). if t then new else cell_at b q) (ne_eqb id q other)
 
-found-after : (cells : List (ℕ × Cell)) (least id : ℕ) (b : Book) (new : Option Cell) → RisesFrom least cells → id < least → AllByRecursion (λ (p : ℕ × Cell). cell_at b p.0 ≡ Some p.1) cells → AllByRecursion (λ (p : ℕ × Cell). cell_at (set_cell b id new) p.0 ≡ Some p.1) cells
+pub found-after : (cells : List (ℕ × Cell)) (least id : ℕ) (b : Book) (new : Option Cell) → RisesFrom least cells → id < least → AllByRecursion (λ (p : ℕ × Cell). cell_at b p.0 ≡ Some p.1) cells → AllByRecursion (λ (p : ℕ × Cell). cell_at (set_cell b id new) p.0 ≡ Some p.1) cells
 found-after [] least id b new r h f = tt
 found-after (p ∷ cells) least id b new r h f =
     let first = r.0 in
     (cell-other b id new p.0 (λ e. absurd (omega (arith, h, first, e))) ∙ f.0, found-after cells (p.0 + 1) id b new r.1 (omega (arith, h, first)) f.1)
 
-none-below : (cells : List (ℕ × Cell)) (least n : ℕ) → RisesFrom least cells → n < least → find cells n ≡ None
+pub none-below : (cells : List (ℕ × Cell)) (least n : ℕ) → RisesFrom least cells → n < least → find cells n ≡ None
 none-below [] least n r h = refl
 none-below (p ∷ cells) least n r h =
     let first = r.0 in
@@ -250,10 +321,14 @@ age-seen s n r = all-seen s.book.cells 0 s n r (all-found s.book.cells 0 r) ∙ 
     of None e = ap seen e
     of (Some c) e = refl
 
-later-lasting : (s : LevelState) (level : Level) (cs : List Circuit) (n : ℕ) → RisesFrom 0 s.book.cells → seen (cell_at (level_later s level cs).book n) ≡ lasting (cell_at s.book n)
+-- a level that waited and followed circuits, before its entries' second
+pub first-still : (s : LevelState) (level : Level) (cs : List Circuit) → Still s.book (follow_first (waited s) level cs (length cs)).book
+first-still s level cs = still-trans s.book (waited s).book (follow_first (waited s) level cs (length cs)).book (wait-still s.book) (follow-still (waited s) level cs (length cs))
+
+pub later-lasting : (s : LevelState) (level : Level) (cs : List Circuit) (n : ℕ) → RisesFrom 0 s.book.cells → seen (cell_at (level_later s level cs).book n) ≡ lasting (cell_at s.book n)
 later-lasting s level cs n r =
     let first = follow_first (waited s) level cs (length cs) in
-    let still : Still s.book first.book = still-trans s.book (waited s).book first.book (wait-still s.book) (follow-still (waited s) level cs (length cs)) in
+    let still : Still s.book first.book = first-still s level cs in
     age-seen first n (still.rises r) ∙ lasting-same (cell_at s.book n) (cell_at first.book n) (seen-same (cell_at s.book n) (cell_at first.book n) (still.kept n)) (still.left n)
 
 -- ---- where no live entry's time ends

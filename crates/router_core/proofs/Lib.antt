@@ -31,6 +31,9 @@ mod RefreshLemmas
 mod FaceLemmas
 mod KeepLemmas
 mod SettledLemmas
+mod HelloLemmas
 mod PlanLemmas
 mod ShiftLemmas
 mod PassedLemmas
+mod LaterLemmas
+mod RenewalLemmas

@@ -1,47 +1,53 @@
--- A second by copies of the circuits as they are then, in which a level passes in place, or is made anew.
-use Rattle.std.proofs.Common.{◌≡◌, ◌∙◌, true, List, Option, None, map, refl, sym, ap, subst}
+-- A second by copies of the circuits as they are then, in which a level passes in place, and is followed by drafts where there are some.
+use Rattle.std.proofs.Common.{◌≡◌, ◌∙◌, ℕ, Bool, true, false, List, Option, None, Some, map, is_some, refl, sym, ap, subst}
 use Rattle.isis_base.specs.declared.level.Level.{Level}
 use Rattle.isis_base.specs.declared.level.Level.TheVariants as level
+use Rattle.model_router.specs.Both.{at}
 use Rattle.model_router.specs.Elections.{idle_all}
 use Rattle.model_router.specs.Events.{Second}
-use Rattle.model_router.specs.Routers.{Circuit, LevelState, Router, book_of}
+use Rattle.model_router.specs.OwnLsps.{renew}
+use Rattle.model_router.specs.Routers.{Circuit, Contents, LevelState, Router, book_of, level_of}
 use Rattle.model_router.specs.Sorted.{RisesFrom}
 use Rattle.model_router.specs.Steps.{step}
-use Rattle.router_levels.specs.Views.{LevelView}
+use Rattle.model_router.specs.Wanted.{wanted}
+use Rattle.router_sending.specs.Drafts.{DraftView}
+use Rattle.router_levels.specs.Drafts.{wants_of}
 use Rattle.router_routes.specs.Outlooks.{Outlook, outlook_of}
 use Rattle.router_routes.specs.Told.{told_by}
 use Rattle.router_core.specs.declared.marks.Marks.{Marks}
 use Rattle.router_core.specs.declared.movers.Movers.{Movers}
 use Rattle.router_core.specs.Givens.{given}
-use Rattle.router_core.specs.LevelSeconds.{AreSettledBy, IsShiftedTo}
+use Rattle.router_core.specs.LevelSeconds.{AreSettledBy, AreWantedWith, IsCalmWith, IsLevelSecond, IsResting, IsShiftedTo}
 use Rattle.router_core.specs.Plans.{IsLaterAt}
 use Rattle.router_core.specs.Reached.{IsReached}
-use Rattle.router_core.specs.Seconds.{bare_later, later, later_or, level_later}
-use Rattle.router_core.specs.Settled.{AreTrue, faces}
+use Rattle.router_core.specs.Seconds.{AreMade, bare_later, followed, later, level_later}
+use Rattle.router_core.specs.Settled.{AreTrue, IsSettled, IsSettledAt, faces}
 use Rattle.router_core.specs.Shifts.{AreMovedOn, IsShifted}
 use Rattle.router_core.proofs.KeepLemmas.{idle-faces}
-use Rattle.router_core.proofs.QuietLemmas.{later-own}
+use Rattle.router_core.proofs.LastLemmas.{later-seen}
+use Rattle.router_core.proofs.QuietLemmas.{later-own, later-same}
 use Rattle.router_core.proofs.ReachedLemmas.{sorted-after}
 use Rattle.router_core.proofs.SecondLemmas.{bare-faces, later-part, second-of}
-use Rattle.router_core.proofs.SettledLemmas.{aged, calm-marks}
-use Rattle.router_core.proofs.ShiftLemmas.{shifted-run}
+use Rattle.router_core.proofs.RenewalLemmas.{renew-config}
+use Rattle.router_core.proofs.SettledLemmas.{aged, calm-marks, marked-wants, settled-later}
+use Rattle.router_core.proofs.ShiftLemmas.{shifted-run, told-seen}
 
 -- a router after it
-abbrev pub passed : Router → Option LevelView → Option LevelView → List Circuit → Router
+abbrev pub passed : Router → Option (List DraftView) → Option (List DraftView) → List Circuit → Router
 passed r ones twos cs = record r {
   circuits = idle_all r.config 0 (map later r.circuits);
   levels = record {
-    one = later_or ones (level_later r.levels.one level.One cs);
-    two = later_or twos (level_later r.levels.two level.Two cs);
+    one = followed r level.One ones (level_later r.levels.one level.One cs);
+    two = followed r level.Two twos (level_later r.levels.two level.Two cs);
   };
 }
 
-pub passed-is : (r : Router) (ones twos : Option LevelView) (cs : List Circuit) → cs ≡ map bare_later r.circuits → IsLaterAt r level.One ones cs → IsLaterAt r level.Two twos cs → passed r ones twos cs ≡ (step given r Second).router
+pub passed-is : (r : Router) (ones twos : Option (List DraftView)) (cs : List Circuit) → cs ≡ map bare_later r.circuits → IsLaterAt r level.One ones cs → IsLaterAt r level.Two twos cs → passed r ones twos cs ≡ (step given r Second).router
 unfolding step
 passed-is r ones twos cs e one two =
-    second-of r r (later_or ones (level_later r.levels.one level.One cs)) (later_or twos (level_later r.levels.two level.Two cs)) (idle_all r.config 0 (map later r.circuits)) refl refl
-    (later-part r level.One r.levels.one ones r.levels.one (later_or ones (level_later r.levels.one level.One cs)) cs cs refl e e refl one)
-    (later-part r level.Two r.levels.two twos r.levels.two (later_or twos (level_later r.levels.two level.Two cs)) cs cs refl e e refl two)
+    second-of r r (followed r level.One ones (level_later r.levels.one level.One cs)) (followed r level.Two twos (level_later r.levels.two level.Two cs)) (idle_all r.config 0 (map later r.circuits)) refl refl
+    (later-part r level.One r.levels.one ones r.levels.one (followed r level.One ones (level_later r.levels.one level.One cs)) cs cs refl e e refl one)
+    (later-part r level.Two r.levels.two twos r.levels.two (followed r level.Two twos (level_later r.levels.two level.Two cs)) cs cs refl e e refl two)
 
 -- ---- what routes see of it
 
@@ -54,7 +60,7 @@ same-outlook o p m = λ i. record {
   told = record { one = m.one i; two = m.two i };
 }
 
-moved-outlook : (r : Router) (ones twos : Option LevelView) (cs : List Circuit) (a b : Option Movers)
+moved-outlook : (r : Router) (ones twos : Option (List DraftView)) (cs : List Circuit) (a b : Option Movers)
     → IsShifted a r.config.runs.one (told_by (book_of r level.One).cells) (told_by (book_of (passed r ones twos cs) level.One).cells)
     → IsShifted b r.config.runs.two (told_by (book_of r level.Two).cells) (told_by (book_of (passed r ones twos cs) level.Two).cells)
     → AreMovedOn (outlook_of r) (outlook_of (passed r ones twos cs)) a b
@@ -74,9 +80,9 @@ moved-outlook r ones twos cs a b one two =
       two = g.1;
     }
 
-pub passed-moved : (r : Router) (ones twos : Option LevelView) (cs : List Circuit) (a b : Option Movers) → IsReached r → passed r ones twos cs ≡ (step given r Second).router
-    → IsShiftedTo a r level.One (later_or ones (level_later r.levels.one level.One cs)).book
-    → IsShiftedTo b r level.Two (later_or twos (level_later r.levels.two level.Two cs)).book
+pub passed-moved : (r : Router) (ones twos : Option (List DraftView)) (cs : List Circuit) (a b : Option Movers) → IsReached r → passed r ones twos cs ≡ (step given r Second).router
+    → IsShiftedTo a r level.One (followed r level.One ones (level_later r.levels.one level.One cs)).book
+    → IsShiftedTo b r level.Two (followed r level.Two twos (level_later r.levels.two level.Two cs)).book
     → AreMovedOn (outlook_of r) (outlook_of (step given r Second).router) a b
 passed-moved r ones twos cs a b reached is one two =
     let s = reached.speaking.sorted in
@@ -91,16 +97,16 @@ unmoved o p a b none-one none-two m = same-outlook o p (subst (λ (x : Option Mo
 
 -- ---- marks
 
-own-later : (o : Option LevelView) (s : LevelState) (l : Level) (cs : List Circuit) → o ≡ None → (later_or o (level_later s l cs)).own ≡ aged s.own
-own-later o s l cs e = ap (λ (x : Option LevelView). (later_or x (level_later s l cs)).own) e ∙ later-own s l cs
+own-later : (r : Router) (o : Option (List DraftView)) (s : LevelState) (l : Level) (cs : List Circuit) → o ≡ None → (followed r l o (level_later s l cs)).own ≡ aged s.own
+own-later r o s l cs e = ap (λ (x : Option (List DraftView)). (followed r l x (level_later s l cs)).own) e ∙ later-own s l cs
 
-pub passed-marks : (r : Router) (ones twos : Option LevelView) (cs : List Circuit) (marks : Marks) → cs ≡ map bare_later r.circuits → passed r ones twos cs ≡ (step given r Second).router → outlook_of (step given r Second).router ≡ outlook_of r
+pub passed-marks : (r : Router) (ones twos : Option (List DraftView)) (cs : List Circuit) (marks : Marks) → cs ≡ map bare_later r.circuits → passed r ones twos cs ≡ (step given r Second).router → outlook_of (step given r Second).router ≡ outlook_of r
     → (marks.one ≡ true → ones ≡ None) → (marks.one ≡ true → AreSettledBy r level.One cs)
     → (marks.two ≡ true → twos ≡ None) → (marks.two ≡ true → AreSettledBy r level.Two cs)
     → AreTrue marks (step given r Second).router
 passed-marks r ones twos cs marks e is stays none-one one none-two two = subst (AreTrue marks) is (record {
-  one = λ h. calm-marks r t level.One outlook (own-later ones r.levels.one level.One cs (none-one h)) (one h t refl same);
-  two = λ h. calm-marks r t level.Two outlook (own-later twos r.levels.two level.Two cs (none-two h)) (two h t refl same);
+  one = λ h. calm-marks r t level.One outlook (own-later r ones r.levels.one level.One cs (none-one h)) (one h t refl same);
+  two = λ h. calm-marks r t level.Two outlook (own-later r twos r.levels.two level.Two cs (none-two h)) (two h t refl same);
 })
   where
     t : Router
@@ -111,3 +117,39 @@ passed-marks r ones twos cs marks e is stays none-one one none-two two = subst (
 
     same : faces t.circuits ≡ faces cs
     same = idle-faces r.config 0 (map later r.circuits) ∙ (sym (bare-faces r.circuits) ∙ ap faces (sym e))
+
+-- ---- what a second makes of a level
+
+pub false-true : {A : Type 0} → false ≡ true → A
+false-true e = absurd (cc)
+
+-- one that is marked, and rests
+pub resting-second : (r : Router) (l : Level) (cs : List Circuit) → IsResting (level_of r l) → IsSettledAt r l × (faces cs ≡ faces r.circuits) → IsLevelSecond r l cs (record { wants = None; movers = None; settled = true })
+resting-second r l cs rest marked = record {
+  is_later = λ q a b. settled-later q l (level_of r l) cs (wanted given r q l) rest.rests (marked-wants r q l cs marked a b);
+  made = tt;
+  shifted = λ of-old of-new runs. told-seen (book_of r l) (level_later (level_of r l) l cs).book of-old of-new (later-seen (level_of r l) l cs rest.last);
+  still = λ h. refl;
+  says = λ h q a b. marked-wants r q l cs marked a b;
+}
+
+-- one of which nothing is issued and purged
+pub calm-second : (r : Router) (l : Level) (cs : List Circuit) (wants : List (ℕ × Contents)) (settled : Bool) → IsCalmWith (level_of r l) wants settled → AreWantedWith r l cs wants → IsLevelSecond r l cs (record { wants = None; movers = None; settled = settled })
+calm-second r l cs wants settled calm are = record {
+  is_later = λ q a b. later-same given q l (level_of r l) cs (aged (level_of r l).own) wants (wanted given r q l) refl (are q a b) calm.quiet;
+  made = tt;
+  shifted = λ of-old of-new runs. told-seen (book_of r l) (level_later (level_of r l) l cs).book of-old of-new (later-seen (level_of r l) l cs calm.last);
+  still = λ h. refl;
+  says = λ h q a b. subst (λ (ws : List (ℕ × Contents)). IsSettled (level_of r l).own ws) (are q a b) (calm.said h);
+}
+
+-- one that is followed
+pub renewed-second : (r : Router) (l : Level) (cs : List Circuit) (ws : List DraftView) (wants : List (ℕ × Contents)) (movers : Option Movers) → wants_of ws ≡ wants → AreWantedWith r l cs wants → AreMade (is_some (at r.config.keys l)) l ws
+    → IsShiftedTo movers r l (renew given r l (level_later (level_of r l) l cs) wants).book → IsLevelSecond r l cs (record { wants = Some ws; movers = movers; settled = false })
+renewed-second r l cs ws wants movers says are made moved = record {
+  is_later = λ q a b. ap (λ (xs : List (ℕ × Contents)). renew given r l (level_later (level_of r l) l cs) xs) (says ∙ are q a b) ∙ sym (renew-config q r l (level_later (level_of r l) l cs) (wanted given r q l) a);
+  made = made;
+  shifted = subst (λ (xs : List (ℕ × Contents)). IsShiftedTo movers r l (renew given r l (level_later (level_of r l) l cs) xs).book) (sym says) moved;
+  still = λ h. false-true h;
+  says = λ h. false-true h;
+}

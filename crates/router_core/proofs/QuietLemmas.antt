@@ -37,7 +37,7 @@ from-zero (p ∷ own) = grind (arith, nat_tests)
 no-pair : {V : Type 0} (q : ℕ × V) (rest : List (ℕ × V)) → [] ≡ q ∷ rest → ⊥
 no-pair q rest e = cc
 
-from-least : {V : Type 0} (m : List (ℕ × V)) (least start : ℕ) (q : ℕ × V) (rest : List (ℕ × V)) → RisesFrom least m → issued_from start m ≡ q ∷ rest → least ≤ q.0
+pub from-least : {V : Type 0} (m : List (ℕ × V)) (least start : ℕ) (q : ℕ × V) (rest : List (ℕ × V)) → RisesFrom least m → issued_from start m ≡ q ∷ rest → least ≤ q.0
 from-least [] least start q rest r e = absurd (no-pair q rest e)
 from-least {V} (p ∷ m) least start q rest r e = cases (nat_lt p.0 start) (λ f. from-least m (p.0 + 1) start q rest r.1 f) e
   where
@@ -48,7 +48,7 @@ from-least {V} (p ∷ m) least start q rest r e = cases (nat_lt p.0 start) (λ f
     cases true g f = omega (arith, g f, r.0)
     cases false g f = subst (λ (x : ℕ × V). least ≤ x.0) (head-is p q m rest f) r.0
 
-from-next : {V : Type 0} (m : List (ℕ × V)) (least start : ℕ) (q : ℕ × V) (rest : List (ℕ × V)) → RisesFrom least m → issued_from start m ≡ q ∷ rest → issued_from (q.0 + 1) m ≡ rest
+pub from-next : {V : Type 0} (m : List (ℕ × V)) (least start : ℕ) (q : ℕ × V) (rest : List (ℕ × V)) → RisesFrom least m → issued_from start m ≡ q ∷ rest → issued_from (q.0 + 1) m ≡ rest
 from-next [] least start q rest r e = absurd (no-pair q rest e)
 from-next {V} (p ∷ m) least start q rest r e = cases (nat_lt p.0 start) (λ f. from-next m (p.0 + 1) start q rest r.1 f) e
   where
@@ -110,6 +110,51 @@ pub quiet-end : (own : List (ℕ × Issued)) (k : ℕ) (o : Option LspId) (left 
     → option_map lsp_number o ≡ first_id (issued_from k own) → (numbers (issued_from k own) ≡ numbers (map wanted_of left) → numbers own ≡ numbers (map wanted_of all))
     → (AllByRecursion (Waits own) (map wanted_of left) → AllByRecursion (Waits own) (map wanted_of all)) → IsQuiet own (map wanted_of all)
 quiet-end own k o left all h e head f g = let ends = list-end (Waits own) own k o left all h e head f g in record { waits = ends.0; same = ends.1 }
+
+-- ---- those behind an LSP ID
+
+-- those that are issued from an LSP ID on, or none
+abbrev pub behind : Option LspId → List (ℕ × Issued) → List (ℕ × Issued)
+behind None m = []
+behind (Some id) m = issued_from (lsp_number id) m
+
+head-list : {A : Type 0} {p q : A} {xs ys : List A} → p ∷ xs ≡ q ∷ ys → p ≡ q
+head-list e = cc
+
+from-here : (m : List (ℕ × Issued)) (least start : ℕ) (q : ℕ × Issued) (rest : List (ℕ × Issued)) → RisesFrom least m → issued_from start m ≡ q ∷ rest → issued_from q.0 m ≡ q ∷ rest
+from-here [] least start q rest r e = absurd (cc)
+from-here (p ∷ m) least start q rest r e = cases (nat_lt p.0 start) (λ f. from-here m (p.0 + 1) start q rest r.1 f) e
+  where
+    cases : (t : Bool) → (issued_from start m ≡ q ∷ rest → issued_from q.0 m ≡ q ∷ rest) → (if t then issued_from start m else p ∷ m) ≡ q ∷ rest → issued_from q.0 (p ∷ m) ≡ q ∷ rest
+    cases true g f =
+        let h = from-least m (p.0 + 1) start q rest r.1 f in
+        let below : nat_lt p.0 q.0 ≡ true = grind (arith, nat_tests, h) in
+        rw below (g f)
+    cases false g f =
+        let same : p ≡ q = head-list f in
+        let here : nat_lt p.0 q.0 ≡ false = subst (λ (x : ℕ × Issued). nat_lt p.0 x.0 ≡ false) same (grind (arith, nat_tests)) in
+        rw here f
+
+pub behind-is : (m : List (ℕ × Issued)) (start : ℕ) (next : Option LspId) → RisesFrom 0 m → option_map lsp_number next ≡ first_id (issued_from start m) → behind next m ≡ issued_from start m
+behind-is m start next r e = cases next (issued_from start m) refl e
+  where
+    cases : (o : Option LspId) (xs : List (ℕ × Issued)) → issued_from start m ≡ xs → option_map lsp_number o ≡ first_id xs → behind o m ≡ xs
+    cases None [] f g = refl
+    cases None (q ∷ rest) f g = absurd (cc)
+    cases (Some id) [] f g = absurd (cc)
+    cases (Some id) (q ∷ rest) f g =
+        let same : lsp_number id ≡ q.0 = cc in
+        ap (λ (n : ℕ). issued_from n m) same ∙ from-here m 0 start q rest r f
+
+-- the first of those that are left, and the others
+pub turn-left : (m : List (ℕ × Issued)) (n : ℕ) → RisesFrom 0 m → Some n ≡ first_id (issued_from n m) → (q : ℕ × Issued) × (issued_from n m ≡ q ∷ issued_from (n + 1) m) × (q.0 ≡ n)
+turn-left m n r e = cases (issued_from n m) refl e
+  where
+    cases : (xs : List (ℕ × Issued)) → issued_from n m ≡ xs → Some n ≡ first_id xs → (q : ℕ × Issued) × (issued_from n m ≡ q ∷ issued_from (n + 1) m) × (q.0 ≡ n)
+    cases [] f g = absurd (cc)
+    cases (q ∷ rest) f g =
+        let at : q.0 ≡ n = cc in
+        (q, f ∙ ap (λ (xs : List (ℕ × Issued)). q ∷ xs) (sym (from-next m 0 n q rest r f) ∙ ap (λ (k : ℕ). issued_from (k + 1) m) at), at)
 
 -- ---- the level stays
 

@@ -18,11 +18,10 @@ use Rattle.router_sending.specs.Drafts.{DraftView}
 use Rattle.router_wanted.specs.declared.wanted.Wanted.{Wanted}
 use Rattle.router_wanted.specs.Views.{wanted_of}
 use Rattle.router_levels.specs.Drafts.{AreUnder, wants_of}
-use Rattle.router_levels.specs.Views.{LevelView}
 use Rattle.router_desk.specs.Desks.{desk_circuit}
 use Rattle.router_core.specs.Givens.{given}
 use Rattle.router_core.specs.Machines.{IsFit}
-use Rattle.router_core.specs.Seconds.{bare_later, later, follow_one, follow_first, level_later, later_or, IsMade}
+use Rattle.router_core.specs.Seconds.{bare_later, later, follow_one, follow_first, followed, level_later, IsMade}
 use Rattle.router_core.specs.Settled.{face, faces}
 use Rattle.model_router.specs.Ageing.{age}
 
@@ -238,12 +237,12 @@ second-is r one two circuits e f g =
 pub second-of : (r s : Router) (one two : LevelState) (circuits : List Circuit) → s ≡ r → circuits ≡ idle_all r.config 0 (map later r.circuits) → IsLater r level.One r.levels.one one → IsLater r level.Two r.levels.two two → record s { circuits = circuits; levels = record { one = one; two = two } } ≡ (settled (record { router = second given r; reply = Done })).router
 second-of r s one two circuits k e f g = ap (λ (q : Router). record q { circuits = circuits; levels = record { one = one; two = two } }) k ∙ second-is r one two circuits e f g
 
--- a level that was made anew, or had its second in place, by copies of the circuits
-pub later-part : (r : Router) (l : Level) (old : LevelState) (part : Option LevelView) (now new : LevelState) (cs ds : List Circuit) → now ≡ old → cs ≡ map bare_later r.circuits → ds ≡ map bare_later r.circuits → new ≡ later_or part (level_later now l ds) → ((q : Router) → q.config ≡ r.config → faces q.circuits ≡ faces cs → later_or part (level_later old l cs) ≡ renew given q l (level_later old l cs) (wanted given r q l)) → IsLater r l old new
+-- a level that had its second in place, and was followed by drafts where there are some, by copies of the circuits
+pub later-part : (r : Router) (l : Level) (old : LevelState) (part : Option (List DraftView)) (now new : LevelState) (cs ds : List Circuit) → now ≡ old → cs ≡ map bare_later r.circuits → ds ≡ map bare_later r.circuits → new ≡ followed r l part (level_later now l ds) → ((q : Router) → q.config ≡ r.config → faces q.circuits ≡ faces cs → followed r l part (level_later old l cs) ≡ renew given q l (level_later old l cs) (wanted given r q l)) → IsLater r l old new
 later-part r l old part now new cs ds k e d h f q a b =
     h
-    ∙ (ap (λ (s : LevelState). later_or part (level_later s l ds)) k
-    ∙ (ap (λ (xs : List Circuit). later_or part (level_later old l xs)) (d ∙ sym e)
+    ∙ (ap (λ (s : LevelState). followed r l part (level_later s l ds)) k
+    ∙ (ap (λ (xs : List Circuit). followed r l part (level_later old l xs)) (d ∙ sym e)
     ∙ (f q a (ap faces b ∙ (sym (bare-faces r.circuits) ∙ ap faces (sym e)))
     ∙ ap (λ (s : LevelState). renew given q l s (wanted given r q l)) (ap (λ (xs : List Circuit). level_later old l xs) e ∙ bare-level old l r.circuits))))
 

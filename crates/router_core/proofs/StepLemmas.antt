@@ -1,10 +1,10 @@
 -- An event is the model's step.
-use Rattle.std.proofs.Common.{◌≡◌, ℕ, ◌<◌, List, Option, Some, length, refl, sym, ap, ◌∙◌, subst}
+use Rattle.std.proofs.Common.{◌≡◌, ℕ, ◌<◌, List, Option, Some, None, length, refl, sym, ap, ◌∙◌, subst}
 use Rattle.model_router.specs.Events as model
 use Rattle.model_router.specs.Places.{nth}
 use Rattle.model_router.specs.Pulls as pulls
 use Rattle.model_router.specs.Routers.{Circuit, Router}
-use Rattle.model_router.specs.Receiving.{drop_of, take, take_or_drop}
+use Rattle.model_router.specs.Receiving.{drop_of, take, take_or_drop, taken}
 use Rattle.model_router.specs.Drops.{count_drop}
 use Rattle.model_router.specs.declared.drop_name.DropName.{DropName}
 use Rattle.model_router.specs.Steps.{step}
@@ -16,13 +16,9 @@ use Rattle.router_desk.specs.declared.config.Change.{Change}
 use Rattle.router_desk.specs.declared.config.Change.TheVariants as change
 use Rattle.router_core.specs.declared.reply.Reply.{Reply}
 use Rattle.router_core.specs.declared.reply.Reply.TheVariants as reply
-use Rattle.router_core.specs.declared.way.Hello.{Hello}
-use Rattle.router_core.specs.declared.way.Hello.TheVariants as hello
-use Rattle.router_core.specs.Calm.{IsCalm}
 use Rattle.router_core.specs.Events.{change_of}
 use Rattle.router_core.specs.Givens.{given}
 use Rattle.router_core.specs.Replies.{Answers, IsTaken, datagrams_of, outcome}
-use Rattle.router_core.specs.Ways.{hello_event}
 use Rattle.router_core.proofs.IdleLemmas.{from-some}
 use Rattle.router_core.proofs.OpenLemmas.{there}
 
@@ -63,8 +59,7 @@ pub dropped-step : (r : Router) (cause : DropCause) (place : ℕ) (c : Circuit) 
 unfolding step
 dropped-step r cause place c m is why = ap (λ (o : Option Circuit). take given r place m o) is ∙ ap (λ (d : Option DropName). take_or_drop given r place c m d) why
 
--- ---- a hello
-
-pub hello-calm : (r : Router) (circuit : ℕ) (h : Hello) → IsCalm r (hello_event circuit h)
-hello-calm r circuit (hello.Point h) = tt
-hello-calm r circuit (hello.Lan level h) = tt
+-- one that passes the tests is taken
+pub passed-step : (r : Router) (place : ℕ) (c : Circuit) (m : model.Message) → nth r.circuits place ≡ Some c → drop_of r place c m ≡ None → step given r (model.Take place m) ≡ model.settled (taken given r place c m)
+unfolding step
+passed-step r place c m is passes = ap (λ (o : Option Circuit). take given r place m o) is ∙ ap (λ (d : Option DropName). take_or_drop given r place c m d) passes

@@ -21,6 +21,7 @@ pub mod Puts
 pub mod Shifts
 pub mod Plans
 pub mod LevelSeconds
+pub mod Passing
 pub mod Asides
-pub mod Ways
+pub mod Renewals
 pub mod Refreshes

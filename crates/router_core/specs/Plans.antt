@@ -16,7 +16,8 @@ use Rattle.model_router.specs.Drops.{count_drop}
 use Rattle.model_router.specs.Events as model
 use Rattle.model_router.specs.LspTable.{met}
 use Rattle.model_router.specs.OwnLsps.{issue_cell, last_number, renew}
-use Rattle.model_router.specs.Receiving.{no_room, scene_of}
+use Rattle.model_router.specs.Places.{nth}
+use Rattle.model_router.specs.Receiving.{drop_of, no_room, scene_of}
 use Rattle.model_router.specs.Routers.{Circuit, Router, level_of, with_level}
 use Rattle.model_router.specs.Steps.{step}
 use Rattle.model_router.specs.Takes.{answer_of, whose_of, take_lsp, take_snp}
@@ -30,9 +31,10 @@ use Rattle.flag_sync.specs.declared.heard.LspAnswer.TheVariants as answer
 use Rattle.flag_sync.specs.declared.heard.LspHeard.{LspHeard}
 use Rattle.router_sending.specs.Drafts.{DraftView}
 use Rattle.router_levels.specs.Drafts.{AreAnswers, AreReady, IsAnswer, range_of}
-use Rattle.router_levels.specs.Views.{LevelView}
 use Rattle.router_desk.specs.declared.envelope.Envelope.{Envelope}
 use Rattle.router_desk.specs.Causes.{name_of}
+use Rattle.router_desk.specs.declared.heard.HelloHeard.{HelloHeard}
+use Rattle.router_desk.specs.Heard.{hello_heard}
 use Rattle.router_desk.specs.Opening.{envelope_of}
 use Rattle.router_routes.specs.Moved.{AreMovedTo, IsMovedAt, NodesRise, beside}
 use Rattle.router_routes.specs.Outlooks.{Outlook, outlook_of, prefixes_by}
@@ -45,9 +47,10 @@ use Rattle.router_core.specs.declared.told.Told.TheVariants as told
 use Rattle.router_core.specs.Due.{IsDue}
 use Rattle.router_core.specs.Events.{change_of, FitsChange, IsThere}
 use Rattle.router_core.specs.Givens.{given}
+use Rattle.router_core.specs.Machines.{FitsKind}
 use Rattle.router_core.specs.Reached.{IsReached}
 use Rattle.router_core.specs.Replies.{Answers}
-use Rattle.router_core.specs.Seconds.{bare_later, later_or, level_later}
+use Rattle.router_core.specs.Seconds.{AreMade, bare_later, followed, level_later}
 use Rattle.router_core.specs.Settled.{AreTrue, faces}
 use Rattle.router_core.specs.Shifts.{AreMovedOn, AreRising}
 
@@ -96,10 +99,20 @@ abbrev pub IsAbove : Router → Level → LspId → ℕ → Entry → Type 0
 IsAbove r level id above e = ((above ≡ last_number) × (e.key ≡ None))
     ⊎ ((above ≡ last_number → ⊥) × IsIssuedAt r level id (above + 1) e)
 
+-- a point-to-point hello comes on a circuit (own)
+abbrev pub point_event : ℕ → HelloHeard → model.Event
+point_event circuit h = model.Take (circuit - 1) (model.PointHelloHeard (hello_heard h))
+
+-- a hello of a level comes on a circuit (own)
+abbrev pub lan_event : ℕ → Level → HelloHeard → model.Event
+lan_event circuit level h = model.Take (circuit - 1) (model.LanHelloHeard level (hello_heard h))
+
 -- what a deed makes of a router (own)
 abbrev pub committed : Router → Deed → Router
 committed r (deed.Dropped cause) = record r { drops = count_drop r.drops (name_of cause) }
 committed r (deed.Change change) = (step given r (change_of change)).router
+committed r (deed.PointHello circuit hello) = (step given r (point_event circuit hello.now)).router
+committed r (deed.LanHello circuit level hello) = (step given r (lan_event circuit level hello.now)).router
 committed r (deed.Lsp circuit level lsp answer) =
     with_level r level (take_lsp (scene_of given r level) (level_of r level) (circuit - 1)
     (whose_of r.config.system (level_of r level) (lsp_number lsp.entry.id)) (heard_of lsp))
@@ -108,6 +121,13 @@ committed r (deed.Snp circuit level range entries drafts) =
     (circuit - 1) (range_of range) (entries_of entries.now))
 committed r (deed.Pull circuit due) = (step given r (model.Pull (circuit - 1))).router
 committed r (deed.Second circuits one two) = (step given r model.Second).router
+
+-- a hello came on a circuit of its kind, and passes its tests (ISO 10589 6.3, 8.2.4.2, 8.4.2.1)
+pub record IsHelloReady (r : Router) (circuit : ℕ) (m : model.Message) : Type 0 where
+  pub there : IsThere r circuit
+  pub kind : IfSome (nth r.circuits (circuit - 1)) (λ c. FitsKind c m)
+  pub passes : IfSome (nth r.circuits (circuit - 1)) (λ c. drop_of r (circuit - 1) c m ≡ None)
+  pub reached : IsReached r
 
 -- an LSP has room, and where it outbids one's own a draft of the answer is there (own)
 pub record IsLspReady (r : Router) (circuit : ℕ) (level : Level) (lsp : LspHeard)
@@ -129,27 +149,35 @@ pub record IsSnpReady (r : Router) (circuit : ℕ) (level : Level) (entries : Li
   pub ready : AreReady (is_some (at r.config.keys level)) (level_of r level).own entries drafts
   pub said : AreAnswers (at r.config.keys level) (scene_of given r level) entries drafts
 
--- a level that was made anew, or else what a second makes of it in place, has issued and purged its own LSPs as they are wanted,
--- where these are copies of the circuits as they then are (own)
-abbrev pub IsLaterAt : Router → Level → Option LevelView → List Circuit → Type 0
-IsLaterAt r level later circuits =
+-- a level that had its second in place, and was followed by these drafts where there are some, has issued and purged its own LSPs
+-- as they are wanted, where these are copies of the circuits as they then are (own)
+abbrev pub IsLaterAt : Router → Level → Option (List DraftView) → List Circuit → Type 0
+IsLaterAt r level wants circuits =
     (q : Router) → q.config ≡ r.config → faces q.circuits ≡ faces circuits
-    → later_or later (level_later (level_of r level) level circuits)
+    → followed r level wants (level_later (level_of r level) level circuits)
     ≡ renew given q level (level_later (level_of r level) level circuits) (wanted given r q level)
 
--- these are copies of the circuits a second later, and each level that was made anew, of as many circuits, is what it is then (own)
-pub record IsSecondReady (r : Router) (circuits : List Circuit) (ones twos : Option LevelView) : Type 0 where
+-- drafts of a level are made under its key, of LSP IDs in order (own)
+abbrev pub AreDrafted : Router → Level → Option (List DraftView) → Type 0
+AreDrafted r level wants = IfSome wants (AreMade (is_some (at r.config.keys level)) level)
+
+-- these are copies of the circuits a second later, and drafts of what each level that is followed then wants (own)
+pub record IsSecondReady (r : Router) (circuits : List Circuit) (ones twos : Option (List DraftView)) : Type 0 where
   pub later : circuits ≡ map bare_later r.circuits
   pub count : length circuits ≡ length r.circuits
   pub one : IsLaterAt r level.One ones circuits
   pub two : IsLaterAt r level.Two twos circuits
-  pub fit_one : IfSome ones (λ on. on.book.circuits ≡ length r.circuits)
-  pub fit_two : IfSome twos (λ on. on.book.circuits ≡ length r.circuits)
+  pub made_one : AreDrafted r level.One ones
+  pub made_two : AreDrafted r level.Two twos
 
 -- what a deed has is what it needs (own)
 abbrev pub IsReady : Router → Deed → Type 0
 IsReady r (deed.Dropped cause) = Unit {0}
 IsReady r (deed.Change change) = FitsChange r change × IsReached r
+IsReady r (deed.PointHello circuit hello) =
+    IsHelloReady r circuit (model.PointHelloHeard (hello_heard hello.now))
+IsReady r (deed.LanHello circuit level hello) =
+    IsHelloReady r circuit (model.LanHelloHeard level (hello_heard hello.now))
 IsReady r (deed.Lsp circuit level lsp answer) = IsLspReady r circuit level lsp answer
 IsReady r (deed.Snp circuit level range entries drafts) =
     IsSnpReady r circuit level entries.now drafts.items

@@ -4,14 +4,16 @@ use Rattle.std.specs.Prelude.{◌≡◌, ℕ, zero, suc, Bool, false, List, [], 
 use Rattle.std.specs.List.{AllByRecursion}
 use Rattle.isis_base.specs.declared.level.Level.{Level}
 use Rattle.model_router.specs.Maps.{find}
-use Rattle.model_router.specs.OwnLsps.{is_due}
+use Rattle.model_router.specs.OwnLsps.{is_due, renew}
 use Rattle.model_router.specs.Places.{nth}
-use Rattle.model_router.specs.Routers.{Circuit, Contents, Issued, LevelState, is_open}
+use Rattle.model_router.specs.Routers.{Circuit, Contents, Issued, LevelState, Router, is_open}
 use Rattle.model_router.specs.Hellos.{follow_circuit}
 use Rattle.model_router.specs.Ageing.{age}
 use Rattle.model_router.specs.Seconds.{counted, circuit_less, waited}
+use Rattle.model_router.specs.Sorted.{RisesFrom}
 use Rattle.router_sending.specs.Drafts.{DraftView}
-use Rattle.router_levels.specs.Views.{LevelView, state_of}
+use Rattle.router_levels.specs.Drafts.{wants_of}
+use Rattle.router_core.specs.Givens.{given}
 
 -- a circuit a second later: its counters, then its holding times (8.2.3, 8.2.5, 8.4.1, 8.4.2)
 abbrev pub later : Circuit → Circuit
@@ -60,7 +62,14 @@ pub record IsQuiet (own : List (ℕ × Issued)) (wants : List (ℕ × Contents))
   pub waits : AllByRecursion (Waits own) wants
   pub same : numbers own ≡ numbers wants
 
--- a level that was made anew, or else as it is (own)
-abbrev pub later_or : Option LevelView → LevelState → LevelState
-later_or None state = state
-later_or (Some later) state = state_of later
+-- ---- levels whose own LSPs are followed
+
+-- these are drafts of a level, signed or not, of LSP IDs in order (own)
+pub record AreMade (signed : Bool) (level : Level) (wants : List DraftView) : Type 0 where
+  pub made : AllByRecursion (IsMade signed level) wants
+  pub rises : RisesFrom 0 (wants_of wants)
+
+-- a level whose own LSPs are followed by what these drafts say, where there are some, and else stays (7.3.6)
+abbrev pub followed : Router → Level → Option (List DraftView) → LevelState → LevelState
+followed r level None state = state
+followed r level (Some wants) state = renew given r level state (wants_of wants)

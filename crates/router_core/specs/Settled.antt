@@ -1,15 +1,15 @@
 -- Own LSPs that say what is wanted, and what leaves them so (ISO 10589 7.3.6; that it is marked:
 -- own).
-use Rattle.std.specs.Prelude.{◌≡◌, ℕ, Bool, true, false, List, [], ◌∷◌, map, Option, Some, None}
+use Rattle.std.specs.Prelude.{◌≡◌, ℕ, Bool, true, false, List, [], ◌∷◌, map, Option, Some, None, IfSome}
 use Rattle.std.specs.List.{AllByRecursion}
 use Rattle.std.specs.Option.{option_map}
 use Rattle.isis_base.specs.declared.level.Level.{Level}
 use Rattle.isis_base.specs.declared.level.Level.TheVariants as level
-use Rattle.model_router.specs.Adjacencies.{Neighbour, PointAdj}
+use Rattle.model_router.specs.Adjacencies.{Hello, Neighbour, PointAdj, common_of, hear_point}
+use Rattle.model_router.specs.Configs.{Config}
 use Rattle.model_router.specs.Events.{Message, Refused, PointHelloHeard, LanHelloHeard, LspHeard, SnpHeard, Event, Second, Take, Pull, Metric, Overload, Prefix}
 use Rattle.model_router.specs.Maps.{find}
 use Rattle.model_router.specs.OwnLsps.{same_contents}
-use Rattle.model_router.specs.Places.{nth}
 use Rattle.model_router.specs.Routers.{Circuit, CircuitLevel, Contents, Issued, LanNeighbour, Router, level_of}
 use Rattle.model_router.specs.Wanted.{wanted}
 use Rattle.router_core.specs.Givens.{given}
@@ -116,25 +116,9 @@ IsAside (Metric place metric) = ⊥
 IsAside (Overload on) = ⊥
 IsAside (Prefix prefix metric) = ⊥
 
--- ---- a hello from the neighbour of a point-to-point circuit
+-- ---- a hello on a point-to-point circuit
 
--- own
-abbrev pub IsPointHello : Message → Type 0
-IsPointHello (Refused cause) = ⊥
-IsPointHello (PointHelloHeard h) = Unit {0}
-IsPointHello (LanHelloHeard l h) = ⊥
-IsPointHello (LspHeard l from h) = ⊥
-IsPointHello (SnpHeard l from source range entries) = ⊥
-
--- a point-to-point hello is heard (own)
-abbrev pub IsGreeting : Event → Type 0
-IsGreeting Second = ⊥
-IsGreeting (Take place m) = IsPointHello m
-IsGreeting (Pull place) = ⊥
-IsGreeting (Metric place metric) = ⊥
-IsGreeting (Overload on) = ⊥
-IsGreeting (Prefix prefix metric) = ⊥
-
--- what own LSPs look at of the point-to-point adjacency at a place (own)
-abbrev pub point_at : Router → ℕ → Option PointAdj
-point_at r place = option_map (λ c. point_face c.point) (nth r.circuits place)
+-- own LSPs say the same of the adjacency after a hello (own)
+abbrev pub LeavesFace : Circuit → Config → Hello → Type 0
+LeavesFace c config h = IfSome h.handshake
+    (λ shake. point_face (hear_point c.point (common_of config h) h shake) ≡ point_face c.point)

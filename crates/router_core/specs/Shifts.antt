@@ -1,31 +1,11 @@
 -- What nodes tell once a level's database is another (own).
-use Rattle.std.specs.Prelude.{◌≡◌, ◌⊎◌, Bool, true, drop, List, Option, Some, None, if◌then◌else◌}
+use Rattle.std.specs.Prelude.{◌≡◌, Bool, true, List, Option, Some, None}
 use Rattle.isis_base.specs.declared.identifiers.LspId.{LspId}
-use Rattle.isis_base.specs.declared.identifiers.NodeId.{NodeId}
 use Rattle.lsp_store.specs.declared.entry.Entry.{Entry}
-use Rattle.lsp_store.specs.Databases.{is_live}
-use Rattle.lsp_store.specs.Maps.{find, pair_number}
-use Rattle.spf_tree.specs.Nodes.{node_number}
-use Rattle.router_routes.specs.Moved.{AreMovedTo, NodesRise, is_among}
+use Rattle.router_routes.specs.Moved.{AreMovedTo, NodesRise}
 use Rattle.router_routes.specs.Outlooks.{Outlook}
-use Rattle.router_routes.specs.Told.{told, told_in}
+use Rattle.router_routes.specs.Told.{told_in}
 use Rattle.router_core.specs.declared.movers.Movers.{Movers}
-
--- what is told of an LSP ID: nothing where none is held, or one that isn't live (own)
-abbrev pub tells_in : Option Entry → Option Entry
-tells_in None = None
-tells_in (Some e) = if is_live e then Some (told e.flags e.octets) else None
-
--- two entries have the same flags, and the same octets behind their headers (own)
-pub record SayAlike (held e : Entry) : Type 0 where
-  pub flags : held.flags ≡ e.flags
-  pub octets : drop 27 held.octets ≡ drop 27 e.octets
-
--- the same is told elsewhere of an entry's LSP ID, or its node is one of these (own)
-abbrev pub IsMatched : List NodeId → List (LspId × Entry) → LspId × Entry → Type 0
-IsMatched nodes there pair =
-    (tells_in (find there (pair_number pair)) ≡ tells_in (Some pair.1))
-    ⊎ (is_among nodes (node_number pair.0.node) ≡ true)
 
 -- these nodes of a level that is run tell this, and all others what they told; of a level that isn't run nothing is said (own)
 abbrev pub IsShifted : Option Movers → Bool → List (LspId × Entry) → List (LspId × Entry) → Type 0

@@ -1,4 +1,4 @@
-//! One circuit of a list, by its number: what changes on it, and that its kind and key stay.
+//! One circuit of a list, by its number: how a hello fares on it, what changes on it, and that its kind and key stay.
 ghost use Rattle.std.specs.Prelude.{◌≡◌, ◌≤◌, ◌-◌, map, length, true, false, not, IfSome, IfOk, OnErr};
 ghost use Rattle.std.specs.List.{AllByRecursion};
 ghost use Rattle.model_router.specs.Adjacencies as model;
@@ -15,7 +15,9 @@ ghost use Rattle.router_circuits.specs.Hellos.{hello_of, IsOwn};
 ghost use Rattle.router_desk.specs.Desks.{desk_circuit};
 ghost use Rattle.router_core.specs.Machines.{IsFit};
 ghost use Rattle.router_core.specs.Seconds.{later};
+ghost use Rattle.router_core.specs.Settled.{LeavesFace};
 
+use crate::faces::test_point;
 use adjacency::{HelloDrop, HelloFields, Own};
 use isis_base::{Level, OutOfMemory, SystemId};
 use router_circuits::Circuit;
@@ -95,6 +97,42 @@ pub(crate) fn set_metric_at(circuits: &mut Vec<Circuit>, circuit: u8, metric: u3
         → AllByRecursion IsFit circuits.new.items }
 {
     circuits[usize::from(circuit) - 1].set_metric(metric);
+}
+
+/// Whether own LSPs will say the same of a point-to-point adjacency after a hello, or why that is refused (own).
+pub(crate) fn test_point_at(
+    circuits: &[Circuit],
+    circuit: u8,
+    own: &Own<'_>,
+    hello: &HelloFields<'_>,
+) -> Result<bool, HelloDrop>
+    requires there { (1 ≤ circuit) × (circuit ≤ length circuits.now) }
+    requires kind { IfSome (nth circuits.now (circuit - 1)) (λ c. c.lan ≡ false) }
+    ensures tested { (config : configs.Config) → IsOwn config own.now
+        → IfSome (nth circuits.now (circuit - 1)) (λ c.
+        IsTested result (point_drop config own.now.id c.boots (hello_of hello.now))) }
+    ensures alike { (config : configs.Config) → IsOwn config own.now
+        → IfSome (nth circuits.now (circuit - 1)) (λ c.
+        IfOk result (λ alike. alike ≡ true → LeavesFace c config (hello_of hello.now))) }
+{
+    test_point(&circuits[usize::from(circuit) - 1], own, hello)
+}
+
+/// Whether a hello of a level passes on a LAN, or why it is refused.
+pub(crate) fn test_lan_at(
+    circuits: &[Circuit],
+    circuit: u8,
+    own: &Own<'_>,
+    level: Level,
+    hello: &HelloFields<'_>,
+) -> Result<(), HelloDrop>
+    requires there { (1 ≤ circuit) × (circuit ≤ length circuits.now) }
+    requires kind { IfSome (nth circuits.now (circuit - 1)) (λ c. c.lan ≡ true) }
+    ensures { (config : configs.Config) → IsOwn config own.now
+        → IfSome (nth circuits.now (circuit - 1)) (λ c. IsTested result
+        (lan_drop config level c.boots (at c.levels level).heard (hello_of hello.now))) }
+{
+    circuits[usize::from(circuit) - 1].test_lan(own, level, hello)
 }
 
 /// A hello is taken on a point-to-point circuit: whether it isn't from the neighbour that was kept.

@@ -19,6 +19,12 @@ impl Machine {
                 Ok(())
             }
             Deed::Change(change) => self.change(change),
+            Deed::PointHello { circuit, hello } => self.take_point_hello(circuit, hello),
+            Deed::LanHello {
+                circuit,
+                level,
+                hello,
+            } => self.take_lan_hello(circuit, level, hello),
             Deed::Lsp {
                 circuit,
                 level,
@@ -36,10 +42,7 @@ impl Machine {
                 self.pulled(circuit, due);
                 Ok(())
             }
-            Deed::Second { circuits, one, two } => {
-                self.second_passed(&circuits, one, two);
-                Ok(())
-            }
+            Deed::Second { circuits, one, two } => self.second_passed(&circuits, one, two),
         }
     }
 }

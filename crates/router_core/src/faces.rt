@@ -1,13 +1,16 @@
 //! What own LSPs look at of circuits: whether it is the same a second later, and after a hello.
-ghost use Rattle.std.specs.Prelude.{◌≡◌, ℕ, true, Some, IfSome, is_some, length, map};
+ghost use Rattle.std.specs.Prelude.{◌≡◌, true, false, IfOk, is_some, length, map};
 ghost use Rattle.std.specs.Option.{option_map};
 ghost use Rattle.model_router.specs.Both.{at};
 ghost use Rattle.router_core.specs.Seconds.{bare_later};
-ghost use Rattle.model_router.specs.Routers.{Router};
+ghost use Rattle.model_router.specs.Configs.{Config};
+ghost use Rattle.model_router.specs.HelloTests.{point_drop};
+ghost use Rattle.adjacency.specs.Changes.{IsTested};
 ghost use Rattle.adjacency.specs.Views.{neighbour_of, point_of};
-ghost use Rattle.router_core.specs.Settled.{face, faces, neighbour_face, point_at, point_face};
+ghost use Rattle.router_circuits.specs.Hellos.{hello_of, IsOwn};
+ghost use Rattle.router_core.specs.Settled.{face, faces, LeavesFace, neighbour_face, point_face};
 
-use adjacency::{Neighbour, P2pAdj};
+use adjacency::{HelloDrop, HelloFields, Neighbour, Own, P2pAdj};
 use isis_base::Level;
 use router_circuits::Circuit;
 
@@ -63,24 +66,36 @@ fn heard_count(circuit: &Circuit, level: Level) -> usize
     circuit.heard(level).len()
 }
 
-/// Whether own LSPs say the same of two adjacencies.
-pub(crate) fn are_alike(before: Option<P2pAdj>, after: Option<P2pAdj>) -> bool
-    ensures { (r t : Router) (place : ℕ)
-        → IfSome before (λ point. point_at r place ≡ Some (point_face (point_of point)))
-        → IfSome after (λ point. point_at t place ≡ Some (point_face (point_of point)))
-        → result ≡ true → point_at t place ≡ point_at r place }
+/// Whether own LSPs will say the same of a point-to-point adjacency after a hello, or why that is refused (own).
+pub(crate) fn test_point(
+    circuit: &Circuit,
+    own: &Own<'_>,
+    hello: &HelloFields<'_>,
+) -> Result<bool, HelloDrop>
+    requires { circuit.now.lan ≡ false }
+    ensures tested { (config : Config) → IsOwn config own.now → IsTested result
+        (point_drop config own.now.id circuit.now.boots (hello_of hello.now)) }
+    ensures alike { (config : Config) → IsOwn config own.now → IfOk result
+        (λ alike. alike ≡ true → LeavesFace circuit.now config (hello_of hello.now)) }
 {
-    match before {
-        Some(before) => match after {
-            Some(after) => are_alike_points(&before, &after),
-            None => false,
-        },
+    match circuit.point_after(own, hello) {
+        Ok(after) => Ok(leaves_face(circuit, &after)),
+        Err(refused) => Err(refused),
+    }
+}
+
+/// Whether own LSPs say the same of an adjacency as of a circuit's (own).
+fn leaves_face(circuit: &Circuit, after: &P2pAdj) -> bool
+    ensures { result ≡ true → point_face (point_of after.now) ≡ point_face circuit.now.point }
+{
+    match circuit.point() {
+        Some(before) => are_alike(before, after),
         None => false,
     }
 }
 
-/// The same of adjacencies that are there.
-fn are_alike_points(before: &P2pAdj, after: &P2pAdj) -> bool
+/// Whether own LSPs say the same of two adjacencies (own).
+fn are_alike(before: &P2pAdj, after: &P2pAdj) -> bool
     ensures { result ≡ true
         → point_face (point_of after.now) ≡ point_face (point_of before.now) }
 {

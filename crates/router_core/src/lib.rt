@@ -7,16 +7,16 @@
 //!
 //! - `router.rt`: the router; `event.rt`, `reply.rt`, `datagrams.rt`: events and answers
 //! - `machine.rt`: its parts, and what they have in common
-//! - `read.rt`: an event as what it says; `way.rt`, `plan.rt`, `plan_lsp.rt`, `plan_outbid.rt`, `plan_snp.rt`, `plan_change.rt`,
-//!   `plan_second.rt`: what will be done; `told.rt`, `snp_told.rt`, `movers.rt`, `aside.rt`, `refresh.rt`: what routes look
-//!   at then; `commit.rt`: that is done
-//! - `stepping.rt`: hellos, which have no plan, in place; `routes.rt`: what routes look at
+//! - `read.rt`: an event as what it says; `plan.rt`, `plan_hello.rt`, `plan_lsp.rt`, `plan_outbid.rt`, `plan_snp.rt`, `plan_change.rt`,
+//!   `plan_second.rt`: what will be done; `told.rt`, `snp_told.rt`, `renewing.rt`, `movers.rt`, `aside.rt`,
+//!   `refresh.rt`: what routes look at then; `commit.rt`: that is done
+//! - `routes.rt`: what routes look at
 //! - `making.rt`, `changes.rt`, `asked.rt`: how it starts, changes of its configuration, and what is
 //!   asked of it; `together.rt`: parts made together; `prefixes.rt`, `prefix_list.rt`: its own prefixes, in order
-//! - `taking.rt`: a hello is taken, or dropped; `hellos.rt`, `own.rt`: hellos; `levels.rt`, `take.rt`: LSPs; `snps.rt`: sequence
+//! - `taking.rt`, `hellos.rt`, `own.rt`: hellos are tested, and taken; `levels.rt`, `take.rt`: LSPs; `snps.rt`: sequence
 //!   number PDUs
 //! - `wanted.rt`: drafts of own LSPs that are wanted
-//! - `second.rt`, `renewal.rt`, `quiet.rt`: a second; `marks.rt`, `faces.rt`: levels of which it is known that a
+//! - `second.rt`, `passing.rt`, `renewal.rt`, `quiet.rt`: a second; `marks.rt`, `faces.rt`: levels of which it is known that a
 //!   second issues nothing but for age
 //! - `due.rt`: what is due on a circuit; `pull.rt`, `pull_parts.rt`, `hello_sending.rt`, `sending.rt`: what is due is sent, planned too
 //! - `at.rt`: one circuit of a list changes
@@ -41,8 +41,10 @@ mod making;
 mod marks;
 mod movers;
 mod own;
+mod passing;
 mod plan;
 mod plan_change;
+mod plan_hello;
 mod plan_lsp;
 mod plan_outbid;
 mod plan_second;
@@ -56,6 +58,7 @@ mod reached;
 mod read;
 mod refresh;
 mod renewal;
+mod renewing;
 mod reply;
 mod router;
 mod routes;
@@ -63,13 +66,11 @@ mod second;
 mod sending;
 mod snp_told;
 mod snps;
-mod stepping;
 mod take;
 mod taking;
 mod together;
 mod told;
 mod wanted;
-mod way;
 
 pub use datagrams::Datagrams;
 pub use event::NodeEvent;

@@ -12,7 +12,6 @@ ghost use Rattle.router_core.specs.Plans.{IsPlan};
 ghost use Rattle.router_core.specs.Reached.{IsReached};
 ghost use Rattle.router_core.specs.Reads.{event_in, FitsHeard, FitsRead};
 ghost use Rattle.router_core.specs.Settled.{AreTrue};
-ghost use Rattle.router_core.specs.Ways.{IsWay};
 
 use crate::due::Due;
 use crate::machine::Machine;
@@ -20,22 +19,31 @@ use crate::marks::Marks;
 use crate::read::Read;
 use crate::reply::Reply;
 use crate::told::Told;
-use crate::way::{Hello, Way};
 use flag_sync::LspHeard;
 use isis_base::{Level, LspEntry, LspId, OutOfMemory};
 use router_circuits::Circuit;
-use router_desk::{Change, DropCause, Heard};
-use router_levels::LevelParts;
+use router_desk::{Change, DropCause, Heard, HelloHeard};
+use router_levels::Wants;
 use router_routes::Following;
 use router_sending::Draft;
 
-/// What is done: a datagram that is dropped is counted; the configuration changes; an LSP is taken, with a draft of the answer
-/// where it outbids one's own; a sequence number PDU is taken, with drafts of the own LSPs that it names; what was due on a circuit
-/// was sent; or a second passes, by copies of the circuits as they are then, and each level as it is then where it was made anew.
+/// What is done: a datagram that is dropped is counted; the configuration changes; a hello that passes is taken; an LSP is taken,
+/// with a draft of the answer where it outbids one's own; a sequence number PDU is taken, with drafts of the own LSPs that it
+/// names; what was due on a circuit was sent; or a second passes, by copies of the circuits as they are then, and drafts of what
+/// each level that is followed then wants.
 #[derive(Drop)]
 pub(crate) enum Deed<'a> {
     Dropped(DropCause),
     Change(Change),
+    PointHello {
+        circuit: u8,
+        hello: &'a HelloHeard,
+    },
+    LanHello {
+        circuit: u8,
+        level: Level,
+        hello: &'a HelloHeard,
+    },
     Lsp {
         circuit: u8,
         level: Level,
@@ -55,8 +63,8 @@ pub(crate) enum Deed<'a> {
     },
     Second {
         circuits: Vec<Circuit>,
-        one: Option<LevelParts>,
-        two: Option<LevelParts>,
+        one: Option<Wants>,
+        two: Option<Wants>,
     },
 }
 
@@ -70,33 +78,24 @@ pub(crate) struct Plan<'a> {
 }
 
 impl Machine {
-    /// How an event that was read is done. All is planned but hellos that aren't dropped.
+    /// How an event that was read is done.
     pub(crate) fn plan<'a>(
         &self,
         read: &'a Read<'a>,
         following: &Following,
         marks: Marks,
-    ) -> Result<Way<'a>, OutOfMemory>
+    ) -> Result<Plan<'a>, OutOfMemory>
         requires fits { FitsRead self.now read.now }
         requires reached { IsReached self.now }
         requires following { IsFollowing (outlook_of self.now) following.now }
         requires marks { AreTrue marks self.now }
-        ensures { IfOk result (IsWay self.now (event_in read.now)) }
+        ensures { IfOk result (IsPlan self.now (event_in read.now)) }
     {
         match read {
-            Read::Second => {
-                let plan = self.plan_second(following, marks)?;
-                Ok(Way::Planned(plan))
-            }
-            Read::Pull { circuit } => {
-                let plan = self.plan_pull(*circuit, marks)?;
-                Ok(Way::Planned(plan))
-            }
-            Read::Change(change) => {
-                let plan = self.plan_change(*change)?;
-                Ok(Way::Planned(plan))
-            }
-            Read::Refused { circuit: _, cause } => Ok(Way::Planned(self.plan_drop(*cause, marks))),
+            Read::Second => self.plan_second(following, marks),
+            Read::Pull { circuit } => self.plan_pull(*circuit, marks),
+            Read::Change(change) => self.plan_change(*change),
+            Read::Refused { circuit: _, cause } => Ok(self.plan_drop(*cause, marks)),
             Read::Heard { circuit, heard } => self.plan_heard(*circuit, heard, following, marks),
         }
     }
@@ -108,25 +107,20 @@ impl Machine {
         heard: &'a Heard<'a>,
         following: &Following,
         marks: Marks,
-    ) -> Result<Way<'a>, OutOfMemory>
+    ) -> Result<Plan<'a>, OutOfMemory>
         requires fits { FitsHeard self.now circuit heard.now }
         requires reached { IsReached self.now }
         requires following { IsFollowing (outlook_of self.now) following.now }
         requires marks { AreTrue marks self.now }
-        ensures { IfOk result (IsWay self.now (model.Take (circuit - 1) (message_of heard.now))) }
+        ensures { IfOk result (IsPlan self.now (model.Take (circuit - 1) (message_of heard.now))) }
     {
         match heard {
-            Heard::PointHello(hello) => Ok(Way::Hello {
-                circuit,
-                hello: Hello::Point(hello),
-            }),
-            Heard::LanHello(level, hello) => Ok(Way::Hello {
-                circuit,
-                hello: Hello::Lan(*level, hello),
-            }),
+            Heard::PointHello(hello) => Ok(self.plan_point_hello(circuit, hello, marks)),
+            Heard::LanHello(level, hello) => {
+                Ok(self.plan_lan_hello(circuit, *level, hello, marks))
+            }
             Heard::Lsp { level, from, lsp } => {
-                let plan = self.plan_lsp(circuit, (*level, *from), lsp, following, marks)?;
-                Ok(Way::Planned(plan))
+                self.plan_lsp(circuit, (*level, *from), lsp, following, marks)
             }
             Heard::Snp {
                 level,
@@ -136,8 +130,7 @@ impl Machine {
                 entries,
             } => {
                 let from = (*from, *source);
-                let plan = self.plan_snp(circuit, *level, from, *range, entries, following, marks)?;
-                Ok(Way::Planned(plan))
+                self.plan_snp(circuit, *level, from, *range, entries, following, marks)
             }
         }
     }

@@ -1,23 +1,21 @@
 //! The plan of a second (own).
-ghost use Rattle.std.specs.Prelude.{◌≡◌, ◌≤◌, ℕ, true, List, None, Some, length, IfOk, IfSome};
+ghost use Rattle.std.specs.Prelude.{◌≡◌, ◌≤◌, true, List, None, length, map, IfOk, IfSome};
 ghost use Rattle.std.specs.List.{AllByRecursion};
-ghost use Rattle.model_router.specs.Books.{cell_at};
+ghost use Rattle.model_router.specs.Both.{at};
 ghost use Rattle.model_router.specs.Events as model;
-ghost use Rattle.model_router.specs.OwnLsps as own;
-ghost use Rattle.model_router.specs.Routers.{Circuit, Router, book_of, level_of};
-ghost use Rattle.model_router.specs.Wanted as wants;
+ghost use Rattle.model_router.specs.Good.{IsIssuable};
+ghost use Rattle.model_router.specs.Routers.{Circuit, Router, level_of};
+ghost use Rattle.model_router.specs.Sorted.{RisesFrom};
 ghost use Rattle.flag_sync.specs.BookStates as books;
+ghost use Rattle.router_wanted.specs.Views.{contents_of, wanted_of};
 ghost use Rattle.router_routes.specs.Outlooks.{Outlook, outlook_of};
 ghost use Rattle.router_routes.specs.Following.{IsFollowing};
-ghost use Rattle.router_core.specs.Asides.{seen};
 ghost use Rattle.router_core.specs.Calm.{all_last, AreLasting, is_ending};
-ghost use Rattle.router_core.specs.Givens.{given};
 ghost use Rattle.router_core.specs.Machines.{IsFit};
-ghost use Rattle.router_core.specs.LevelSeconds.{IsLevelSecond};
+ghost use Rattle.router_core.specs.LevelSeconds.{AreWantedWith, IsCalmWith, IsLevelSecond, IsResting};
 ghost use Rattle.router_core.specs.Plans.{AreTold, IsPlan};
 ghost use Rattle.router_core.specs.Reached.{IsReached};
-ghost use Rattle.router_core.specs.Seconds.{level_later};
-ghost use Rattle.router_core.specs.Settled.{AreTrue, IsSettled, IsSettledAt, faces};
+ghost use Rattle.router_core.specs.Settled.{AreTrue, IsSettledAt, faces};
 ghost use Rattle.router_core.specs.Shifts.{AreMovedOn};
 
 use crate::faces::keep_faces;
@@ -26,6 +24,7 @@ use crate::marks::Marks;
 use crate::movers::Movers;
 use crate::plan::{Deed, Plan};
 use crate::quiet::{is_quiet, is_settled};
+use crate::renewal::drafts_of;
 use crate::reply::Reply;
 use crate::second::circuits_later;
 use crate::told::Told;
@@ -33,20 +32,21 @@ use flag_sync::Book;
 use isis_base::{Level, OutOfMemory};
 use lsp_store::{Entry, Pairs, is_live};
 use router_circuits::Circuit;
-use router_levels::LevelParts;
+use router_levels::Wants;
 use router_routes::Following;
+use router_wanted::Wanted;
 
-/// What a second makes of a level: it passes in place, or else `later` stands in the level's place; these nodes tell other things
-/// then; and where it is `settled`, its own LSPs say what is then wanted.
+/// What a second makes of a level: it passes in place, and is then followed by drafts of what it `wants`, where there are some;
+/// these nodes tell other things then; and where it is `settled`, its own LSPs say what is then wanted.
 #[derive(Drop)]
 struct LevelSecond {
-    later: Option<LevelParts>,
+    wants: Option<Wants>,
     movers: Option<Movers>,
     settled: bool,
 }
 
 impl Machine {
-    /// The plan of a second. What is wanted is made only for levels that aren't marked, and a level is copied only where one
+    /// The plan of a second. What is wanted is made only for levels that aren't marked, and a level is followed only where one
     /// of its own LSPs is to be issued or purged, or a live entry's time ends (own).
     pub(crate) fn plan_second<'a>(
         &self,
@@ -76,8 +76,8 @@ impl Machine {
         Ok(Plan {
             deed: Deed::Second {
                 circuits,
-                one: one.later,
-                two: two.later,
+                one: one.wants,
+                two: two.wants,
             },
             reply: Reply::Done,
             told,
@@ -96,83 +96,96 @@ impl Machine {
     ) -> Result<LevelSecond, OutOfMemory>
         requires few { length circuits.now ≤ 64 }
         requires fit { AllByRecursion IsFit circuits.now }
-        requires same { length circuits.now ≡ length self.now.circuits }
         requires following { IsFollowing (outlook_of self.now) following.now }
         requires marked { marked ≡ true
             → IsSettledAt self.now level × (faces circuits.now ≡ faces self.now.circuits) }
         ensures { IfOk result (IsLevelSecond self.now level circuits.now) }
     {
-        match self.calm_level(circuits, level, following, marked) {
+        if marked && self.rests(level) {
+            return Ok(LevelSecond {
+                wants: None,
+                movers: None,
+                settled: true,
+            });
+        }
+        let wanted = self.wanted_with(circuits, level, following)?;
+        match self.calm_level(level, &wanted) {
             Ok(Some(settled)) => {
-                return Ok(LevelSecond {
-                    later: None,
+                drop(wanted);
+                Ok(LevelSecond {
+                    wants: None,
                     movers: None,
                     settled,
-                });
+                })
             }
-            Ok(None) => {}
-            Err(error) => return Err(error),
-        }
-        let later = self.level_renewed(circuits, level, following)?;
-        match self.movers_to(level, &later) {
-            Ok(movers) => Ok(LevelSecond {
-                later: Some(later),
-                movers,
-                settled: false,
-            }),
+            Ok(None) => self.level_renewed(level, wanted),
             Err(error) => {
-                drop(later);
+                drop(wanted);
                 Err(error)
             }
         }
     }
 
-    /// Whether none of a level's own LSPs is to be issued or purged within a second, and no live entry's time
-    /// ends, with the circuits as they then are: then whether its own LSPs say what is then wanted, and
-    /// else `None`. Where it is marked and the circuits say what they said, only ages are looked at.
-    fn calm_level(
-        &self,
-        circuits: &[Circuit],
-        level: Level,
-        following: &Following,
-        marked: bool,
-    ) -> Result<Option<bool>, OutOfMemory>
-        requires few { length circuits.now ≤ 64 }
-        requires fit { AllByRecursion IsFit circuits.now }
-        requires following { IsFollowing (outlook_of self.now) following.now }
-        requires marked { marked ≡ true
-            → IsSettledAt self.now level × (faces circuits.now ≡ faces self.now.circuits) }
-        ensures calm { (r : Router) → r.config ≡ self.now.config
-            → faces r.circuits ≡ faces circuits.now
-            → IfOk result (λ o. IfSome o (λ settled.
-            level_later (level_of self.now level) level circuits.now ≡ own.renew given r
-            level (level_later (level_of self.now level) level circuits.now)
-            (wants.wanted given self.now r level))) }
-        ensures seen { IfOk result (λ o. IfSome o (λ settled. (list : List Circuit) (id : ℕ)
-            → seen (cell_at (level_later (level_of self.now level) level list).book id)
-            ≡ seen (cell_at (book_of self.now level) id))) }
-        ensures settled { (r : Router) → r.config ≡ self.now.config
-            → faces r.circuits ≡ faces circuits.now → IfOk result (λ o. o ≡ Some true
-            → IsSettled (level_of self.now level).own (wants.wanted given self.now r level)) }
+    /// Whether no live entry's time ends in a level within a second, and none of its own LSPs is then issued for its age.
+    fn rests(&self, level: Level) -> bool
+        ensures { result ≡ true → IsResting (level_of self.now level) }
+    {
+        let on = self.level(level);
+        if !lasts(on.book()) {
+            return false;
+        }
+        on.own().rests()
+    }
+
+    /// Whether none of a level's own LSPs is to be issued or purged within a second, where these are wanted then, and no live
+    /// entry's time ends: then whether its own LSPs say what is wanted, and else `None`.
+    fn calm_level(&self, level: Level, wanted: &[Wanted]) -> Result<Option<bool>, OutOfMemory>
+        ensures { IfOk result (λ o. IfSome o (λ settled.
+            IsCalmWith (level_of self.now level) (map wanted_of wanted.now) settled)) }
     {
         let on = self.level(level);
         if !lasts(on.book()) {
             return Ok(None);
         }
         let own = on.own();
-        if marked && own.rests() {
-            return Ok(Some(true));
-        }
-        let wanted = self.wanted_with(circuits, level, following)?;
-        if is_settled(own, &wanted) && own.rests() {
+        if is_settled(own, wanted) && own.rests() {
             return Ok(Some(true));
         }
         let mut later = own.copy()?;
         later.second();
-        if is_quiet(&later, &wanted) {
+        if is_quiet(&later, wanted) {
             return Ok(Some(false));
         }
         Ok(None)
+    }
+
+    /// What a second makes of a level that then wants these own LSPs, and is followed.
+    fn level_renewed(&self, level: Level, wanted: Vec<Wanted>) -> Result<LevelSecond, OutOfMemory>
+        requires issuable { AllByRecursion
+            (λ w. IsIssuable (at self.now.config.keys level) (contents_of w)) wanted.items }
+        requires rises { RisesFrom 0 (map wanted_of wanted.items) }
+        ensures { IfOk result (λ second. (circuits : List Circuit)
+            → AreWantedWith self.now level circuits (map wanted_of wanted.items)
+            → IsLevelSecond self.now level circuits second) }
+    {
+        let movers = match self.movers_by(level, &wanted) {
+            Ok(movers) => movers,
+            Err(error) => {
+                drop(wanted);
+                return Err(error);
+            }
+        };
+        match drafts_of(self.alloc, self.level_key(level), level, wanted) {
+            Ok(wants) => Ok(LevelSecond {
+                wants: Some(wants),
+                movers,
+                settled: false,
+            }),
+            Err(error) => {
+                drop(movers);
+                Err(error)
+            }
+        }
     }
 }
 
@@ -209,7 +222,7 @@ fn all_last(mut entries: Pairs<'_, Entry>) -> bool
 }
 
 /// Whether an entry is live, and its time ends within a second (ISO 10589 7.3.16.3).
-fn is_ending(entry: &Entry) -> bool
+pub(crate) fn is_ending(entry: &Entry) -> bool
     ensures { result ≡ is_ending entry.now }
 {
     is_live(entry) && entry.left < 2

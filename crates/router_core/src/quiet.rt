@@ -83,7 +83,7 @@ fn waits(own: &OwnLsps, want: &Wanted) -> bool
 }
 
 /// Whether the last issue says the same; where it isn't issued nothing does.
-fn says_same(own: &OwnLsps, want: &Wanted) -> bool
+pub(crate) fn says_same(own: &OwnLsps, want: &Wanted) -> bool
     ensures { result
         ≡ says_same (find own.now.issued (lsp_number want.now.id)) (contents_of want.now) }
 {

@@ -27,7 +27,6 @@ ghost use Rattle.router_core.specs.Plans.{AreTold, committed, IsReady, IsSound};
 ghost use Rattle.router_core.specs.Settled.{AreTrue};
 ghost use Rattle.router_core.specs.Replies.{Answers};
 ghost use Rattle.router_core.specs.Reached.{IsReached};
-ghost use Rattle.router_core.specs.Ways.{FitsHello, hello_event};
 
 use crate::event::NodeEvent;
 use crate::machine::Machine;
@@ -36,7 +35,6 @@ use crate::plan::{Deed, Plan};
 use crate::reached::{event_octets, reached_laws, start_reached};
 use crate::reply::Reply;
 use crate::told::Told;
-use crate::way::{Hello, Way};
 use flag_sync::Book;
 use isis_base::{Level, OutOfMemory, Prefix, SystemId};
 use purge_ageing::LetGo;
@@ -134,10 +132,8 @@ impl Router {
         reached_laws();
         event_octets(&event);
         let read = self.machine.read(&event)?;
-        match self.machine.plan(&read, &self.following, self.marks)? {
-            Way::Planned(plan) => self.step_planned(plan),
-            Way::Hello { circuit, hello } => self.step_hello(circuit, &hello),
-        }
+        let plan = self.machine.plan(&read, &self.following, self.marks)?;
+        self.step_planned(plan)
     }
 
     /// What was planned is done, and the answer is the plan's. At `OutOfMemory` the router is as it was.
@@ -190,23 +186,6 @@ impl Router {
         put_next(&mut self.following, next);
         self.marks = marks;
         Ok(())
-    }
-
-    /// A hello is taken in place. At `OutOfMemory` the router is as it was.
-    fn step_hello(&mut self, circuit: u8, hello: &Hello<'_>) -> Result<Reply, OutOfMemory>
-        requires fits { FitsHello self.old circuit hello.now }
-        requires reached { IsReached (step given self.old (hello_event circuit hello.now)).router }
-        ensures state { OnOk result (self.new
-            ≡ (step given self.old (hello_event circuit hello.now)).router) }
-        ensures reply { IfOk result (λ reply. Answers self.new (circuit - 1)
-            (step given self.old (hello_event circuit hello.now)).reply reply) }
-        ensures reached { OnOk result (IsReached self.new) }
-        ensures err { OnErr result (self.new ≡ self.old) }
-    {
-        match self.machine.step_hello(circuit, hello, &mut self.marks) {
-            Ok(reply) => Ok(reply),
-            Err(error) => Err(error),
-        }
     }
 
     /// The routes of the router as it is: for each prefix the best way over the live LSPs of its

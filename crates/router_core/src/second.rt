@@ -1,5 +1,5 @@
 //! A second of a router.
-ghost use Rattle.std.specs.Prelude.{◌≡◌, ◌≤◌, length, map, IfOk};
+ghost use Rattle.std.specs.Prelude.{◌≡◌, ◌≤◌, length, map, IfOk, OnErr, OnOk};
 ghost use Rattle.std.specs.List.{AllByRecursion};
 ghost use Rattle.model_router.specs.Configs.{Config};
 ghost use Rattle.model_router.specs.Elections as elections;
@@ -14,28 +14,48 @@ ghost use Rattle.router_core.specs.Seconds.{bare_later, later};
 
 use crate::at::{idle_at, second_at};
 use crate::machine::Machine;
-use crate::renewal::pass;
+use crate::passing::{pass, ready_to_pass};
+use crate::wanted::key_of;
 use isis_base::{Level, OutOfMemory, SystemId};
 use router_circuits::Circuit;
-use router_levels::LevelParts;
+use router_levels::Wants;
 use std::alloc::Global;
 
 impl Machine {
     /// A second passes (ISO 10589 7.3.5, 7.3.15.3 to 7.3.15.5, 7.3.16.3, 8.2.3 to 8.2.5, 8.4.1, 8.4.2), as it was planned by
-    /// these copies of the circuits, and of each level where it was made anew.
+    /// these copies of the circuits, and by drafts of what a level then wants where it is followed. At `OutOfMemory` the router is
+    /// as it was.
     pub(crate) fn second_passed(
         &mut self,
         circuits: &[Circuit],
-        one: Option<LevelParts>,
-        two: Option<LevelParts>,
-    )
+        one: Option<Wants>,
+        two: Option<Wants>,
+    ) -> Result<(), OutOfMemory>
         requires { IsSecondReady self.old circuits.now one two }
-        ensures { self.new ≡ (step given self.old model.Second).router }
+        ensures state { OnOk result (self.new ≡ (step given self.old model.Second).router) }
+        ensures err { OnErr result (self.new ≡ self.old) }
     {
-        pass(&mut self.one, one, circuits, Level::One);
-        pass(&mut self.two, two, circuits, Level::Two);
+        let key_one = key_of(&self.desk, Level::One);
+        let key_two = key_of(&self.desk, Level::Two);
+        let one = match ready_to_pass(&mut self.one, key_one, circuits, Level::One, one) {
+            Ok(one) => one,
+            Err(error) => {
+                drop(two);
+                return Err(error);
+            }
+        };
+        let two = match ready_to_pass(&mut self.two, key_two, circuits, Level::Two, two) {
+            Ok(two) => two,
+            Err(error) => {
+                drop(one);
+                return Err(error);
+            }
+        };
+        pass(&mut self.one, key_one, one, circuits, Level::One);
+        pass(&mut self.two, key_two, two, circuits, Level::Two);
         pass_circuits(&mut self.circuits);
         idle_all(&mut self.circuits, self.desk.system());
+        Ok(())
     }
 }
 

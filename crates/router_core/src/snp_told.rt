@@ -259,7 +259,7 @@ fn with_all(mut list: Vec<NodeId>, nodes: &[NodeId]) -> Result<Vec<NodeId>, OutO
 }
 
 /// The LSPs that are held of these nodes.
-pub(crate) fn parts_of(alloc: Global, store: &Store, nodes: &[NodeId]) -> Result<Store, OutOfMemory>
+fn parts_of(alloc: Global, store: &Store, nodes: &[NodeId]) -> Result<Store, OutOfMemory>
     ensures { IfOk result (λ parts. parts.entries ≡ with_parts store.now.entries [] nodes.now) }
 {
     let mut parts = Store::new(alloc);

@@ -3,7 +3,6 @@ ghost use Rattle.std.specs.Prelude.{◌≡◌, ◌<◌, ◌-◌, ◌∷◌, [], 
 ghost use Rattle.isis_base.specs.Identifiers.{lsp_number};
 ghost use Rattle.isis_base.specs.Keys.{entry_rank};
 ghost use Rattle.model_router.specs.Datagrams as sent;
-ghost use Rattle.model_router.specs.Drops.{count_drop};
 ghost use Rattle.model_router.specs.LspTable as table;
 ghost use Rattle.model_router.specs.Places.{nth};
 ghost use Rattle.model_router.specs.Routers.{level_of};
@@ -11,8 +10,6 @@ ghost use Rattle.model_router.specs.Takes.{whose_of};
 ghost use Rattle.model_router.specs.Receiving.{acks};
 ghost use Rattle.flag_sync.specs.Heard.{answer_of, heard_of};
 ghost use Rattle.router_sending.specs.Sends.{Sends};
-ghost use Rattle.router_desk.specs.Causes.{name_of};
-ghost use Rattle.router_core.specs.declared.reply.Reply.TheVariants as reply;
 ghost use Rattle.router_core.specs.Events.{IsThere};
 ghost use Rattle.router_core.specs.Replies.{Answers, datagrams_of};
 
@@ -21,20 +18,9 @@ use crate::machine::Machine;
 use crate::reply::Reply;
 use flag_sync::{LspAnswer, LspHeard};
 use isis_base::{Level, LspEntry, OutOfMemory};
-use router_desk::DropCause;
 use router_sending::{Sender, psnp};
 
 impl Machine {
-    /// A datagram is dropped.
-    pub(crate) fn refuse(&mut self, cause: DropCause) -> Reply
-        ensures state { self.new
-            ≡ record self.old { drops = count_drop self.old.drops (name_of cause) } }
-        ensures reply { result ≡ reply.Dropped cause }
-    {
-        self.count_drop(cause.name());
-        Reply::Dropped(cause)
-    }
-
     /// What is answered to an LSP that meets a row: a purge that isn't held is acknowledged at once on a
     /// point-to-point circuit (ISO 10589 7.3.16.4).
     pub(crate) fn acknowledged(

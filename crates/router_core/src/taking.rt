@@ -1,78 +1,48 @@
-//! A hello is taken, or dropped.
-ghost use Rattle.std.specs.Prelude.{◌≡◌, ◌<◌, ◌^◌, ◌-◌, true, false, IfSome, IfOk, OnErr};
-ghost use Rattle.model_router.specs.AdjacencyLaws.{AreIdle};
-ghost use Rattle.model_router.specs.Events as event;
-ghost use Rattle.model_router.specs.Places.{nth};
+//! Hellos that pass their tests are taken.
+ghost use Rattle.std.specs.Prelude.{◌≡◌, ◌-◌, OnOk, OnErr};
+ghost use Rattle.model_router.specs.Events as model;
+ghost use Rattle.model_router.specs.Steps.{step};
 ghost use Rattle.router_desk.specs.Heard.{hello_heard};
-ghost use Rattle.router_core.specs.Events.{IsThere};
-ghost use Rattle.router_core.specs.Replies.{IsTaken};
-ghost use Rattle.router_core.specs.Ways.{FitsHello, hello_in};
+ghost use Rattle.router_core.specs.Givens.{given};
+ghost use Rattle.router_core.specs.Plans.{IsHelloReady};
 
 use crate::machine::Machine;
-use crate::reply::Reply;
-use crate::way::Hello;
 use isis_base::{Level, OutOfMemory};
 use router_circuits::hello_sizes;
-use router_desk::{DropCause, HelloHeard};
+use router_desk::HelloHeard;
 
 impl Machine {
-    /// A hello is taken, or dropped.
-    pub(crate) fn take_hello(
+    /// A point-to-point hello is taken (ISO 10589 8.2.4). At `OutOfMemory` the router is as it was.
+    pub(crate) fn take_point_hello(
         &mut self,
         circuit: u8,
-        hello: &Hello<'_>,
-    ) -> Result<Reply, OutOfMemory>
-        requires fits { FitsHello self.old circuit hello.now }
-        requires boot { self.old.boot < 2 ^ 24 }
-        requires idle { AreIdle self.old }
-        ensures taken { IfOk result (λ reply. IsTaken self.old (circuit - 1)
-            (hello_in hello.now) self.new reply) }
-        ensures err { OnErr result (self.new ≡ self.old) }
-    {
-        match hello {
-            Hello::Point(hello) => self.point_hello(circuit, *hello),
-            Hello::Lan(level, hello) => self.lan_hello(circuit, *level, *hello),
-        }
-    }
-
-    /// A point-to-point hello came.
-    fn point_hello(&mut self, circuit: u8, hello: &HelloHeard) -> Result<Reply, OutOfMemory>
-        requires there { IsThere self.old circuit }
-        requires kind { IfSome (nth self.old.circuits (circuit - 1)) (λ c. c.lan ≡ false) }
-        requires boot { self.old.boot < 2 ^ 24 }
-        requires idle { AreIdle self.old }
-        ensures taken { IfOk result (λ reply. IsTaken self.old (circuit - 1)
-            (event.PointHelloHeard (hello_heard hello.now)) self.new reply) }
+        hello: &HelloHeard,
+    ) -> Result<(), OutOfMemory>
+        requires { IsHelloReady self.old circuit (model.PointHelloHeard (hello_heard hello.now)) }
+        ensures state { OnOk result (self.new ≡ (step given self.old
+            (model.Take (circuit - 1) (model.PointHelloHeard (hello_heard hello.now)))).router) }
         ensures err { OnErr result (self.new ≡ self.old) }
     {
         let fields = hello.fields();
         hello_sizes(&fields);
-        match self.take_point(circuit, &fields)? {
-            Ok(()) => Ok(Reply::Done),
-            Err(refused) => Ok(self.refuse(DropCause::Hello(refused))),
-        }
+        self.take_point(circuit, &fields)
     }
 
-    /// A hello of a level came on a LAN.
-    fn lan_hello(
+    /// A hello of a level is taken on a LAN (ISO 10589 8.4.2). At `OutOfMemory` the router is as it was.
+    pub(crate) fn take_lan_hello(
         &mut self,
         circuit: u8,
         level: Level,
         hello: &HelloHeard,
-    ) -> Result<Reply, OutOfMemory>
-        requires there { IsThere self.old circuit }
-        requires kind { IfSome (nth self.old.circuits (circuit - 1)) (λ c. c.lan ≡ true) }
-        requires boot { self.old.boot < 2 ^ 24 }
-        requires idle { AreIdle self.old }
-        ensures taken { IfOk result (λ reply. IsTaken self.old (circuit - 1)
-            (event.LanHelloHeard level (hello_heard hello.now)) self.new reply) }
+    ) -> Result<(), OutOfMemory>
+        requires { IsHelloReady self.old circuit
+            (model.LanHelloHeard level (hello_heard hello.now)) }
+        ensures state { OnOk result (self.new ≡ (step given self.old (model.Take (circuit - 1)
+            (model.LanHelloHeard level (hello_heard hello.now)))).router) }
         ensures err { OnErr result (self.new ≡ self.old) }
     {
         let fields = hello.fields();
         hello_sizes(&fields);
-        match self.take_lan(circuit, level, &fields)? {
-            Ok(()) => Ok(Reply::Done),
-            Err(refused) => Ok(self.refuse(DropCause::Hello(refused))),
-        }
+        self.take_lan(circuit, level, &fields)
     }
 }

@@ -19,6 +19,7 @@ ghost use Rattle.router_core.specs.Machines.{AreWantedFor, draft_at};
 
 use crate::machine::Machine;
 use isis_base::{Level, LevelSet, LspEntry, LspId, Octets, OutOfMemory};
+use router_desk::Desk;
 use router_routes::Following;
 use router_sending::Draft;
 use router_wanted::Wanted;
@@ -28,10 +29,7 @@ impl Machine {
     pub(crate) fn level_key(&self, level: Level) -> Option<&[u8]>
         ensures { option_copied result ≡ at self.now.config.keys level }
     {
-        match self.desk.key(level) {
-            None => None,
-            Some(key) => Some(key.as_slice()),
-        }
+        key_of(&self.desk, level)
     }
 
     /// The own LSPs that a level wants, by LSP ID (ISO 10589 7.3.6).
@@ -153,8 +151,18 @@ impl Machine {
     }
 }
 
+/// The key of a level's LSPs and sequence number PDUs (RFC 5304 3), of what never changes.
+pub(crate) fn key_of(desk: &Desk, level: Level) -> Option<&[u8]>
+    ensures { option_copied result ≡ at desk.now.keys level }
+{
+    match desk.key(level) {
+        None => None,
+        Some(key) => Some(key.as_slice()),
+    }
+}
+
 /// What is wanted of an LSP ID.
-fn said_of(list: &[Wanted], id: LspId) -> Option<&Wanted>
+pub(crate) fn said_of(list: &[Wanted], id: LspId) -> Option<&Wanted>
     ensures said { option_map (λ w. contents_of w.now) result
         ≡ find (map wanted_of list.now) (lsp_number id) }
     ensures issuable { (key : Option (List ℕ)) → AllByRecursion

@@ -26,6 +26,11 @@ pub record HasRoom (view : LevelView) (entries issues : ℕ) : Type 0 where
       ⊎ (65536 ≤ view.book.store.spare + length view.book.store.entries)
   pub own : issues ≤ view.own.spare
 
+-- no room that was taken is used up
+pub record KeepsSpare (old new : LevelView) : Type 0 where
+  pub held : old.book.store.spare ≤ new.book.store.spare
+  pub own : old.own.spare ≤ new.own.spare
+
 -- whether a kind of circuit is a LAN
 abbrev pub is_lan : CircuitKind → Bool
 is_lan PointToPoint = false

@@ -4,7 +4,7 @@ ghost use Rattle.model_router.specs.Openings as openings;
 ghost use Rattle.model_router.specs.Hellos.{follow_circuit};
 ghost use Rattle.model_router.specs.Pulls.{sent, answered};
 ghost use Rattle.flag_sync.specs.BookStates.{book_of, IsCircuit};
-ghost use Rattle.router_levels.specs.Views.{state_of};
+ghost use Rattle.router_levels.specs.Views.{state_of, KeepsSpare};
 
 use crate::level_parts::LevelParts;
 use flag_sync::{Book, opening_law};
@@ -20,6 +20,7 @@ impl LevelParts {
           book = follow_circuit anew (state_of self.old).book (circuit - 1) up;
         } }
         ensures circuits { self.new.book.circuits ≡ self.old.book.circuits }
+        ensures spare { KeepsSpare self.old self.new }
     {
         if anew {
             self.book.set_open(circuit, false);
@@ -57,6 +58,7 @@ fn set_open(book: &mut Book, circuit: u8, up: bool)
     requires { IsCircuit circuit book.old.circuits }
     ensures book { book_of book.new ≡ openings.set_open (book_of book.old) (circuit - 1) up }
     ensures circuits { book.new.circuits ≡ book.old.circuits }
+    ensures store { book.new.store ≡ book.old.store }
 {
     if book.is_open(circuit) {
         if !up {
@@ -74,6 +76,7 @@ fn open_up(book: &mut Book, circuit: u8)
     requires { IsCircuit circuit book.old.circuits }
     ensures book { book_of book.new ≡ openings.open_up (book_of book.old) (circuit - 1) }
     ensures circuits { book.new.circuits ≡ book.old.circuits }
+    ensures store { book.new.store ≡ book.old.store }
 {
     opening_law();
     let point = book.is_point(circuit);

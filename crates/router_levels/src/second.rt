@@ -3,7 +3,7 @@ ghost use Rattle.std.specs.Prelude.{◌≡◌, ℕ, true, false};
 ghost use Rattle.model_router.specs.Books.{rank_at};
 ghost use Rattle.model_router.specs.Seconds.{waited};
 ghost use Rattle.model_router.specs.Ageing as model;
-ghost use Rattle.router_levels.specs.Views.{state_of};
+ghost use Rattle.router_levels.specs.Views.{state_of, KeepsSpare};
 
 use crate::level_parts::LevelParts;
 use purge_ageing::age;
@@ -14,6 +14,7 @@ impl LevelParts {
     pub fn wait(&mut self)
         ensures state { state_of self.new ≡ waited (state_of self.old) }
         ensures circuits { self.new.book.circuits ≡ self.old.book.circuits }
+        ensures spare { KeepsSpare self.old self.new }
     {
         self.book.second();
         self.own.second();
@@ -29,6 +30,7 @@ impl LevelParts {
         ensures same { result ≡ false → (n : ℕ)
             → rank_at (state_of self.new).book n ≡ rank_at (state_of self.old).book n }
         ensures circuits { self.new.book.circuits ≡ self.old.book.circuits }
+        ensures spare { KeepsSpare self.old self.new }
     {
         age(&mut self.book, &mut self.gone)
     }

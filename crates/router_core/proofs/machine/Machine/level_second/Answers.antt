@@ -1,21 +1,30 @@
-use Rattle.std.proofs.Common.{◌∙◌, Some, refl, ap}
-use Rattle.model_router.specs.Routers.{book_of, level_of}
-use Rattle.router_core.specs.Seconds.{level_later}
-use Rattle.router_core.proofs.SettledLemmas.{some-told}
-use Rattle.router_core.proofs.ShiftLemmas.{told-seen}
+use Rattle.std.proofs.Common.{◌∙◌, Bool, List, map, ap}
+use Rattle.std.proofs.lemmas.Result.{IfOk-weaker}
+use Rattle.model_router.specs.Routers.{level_of}
+use Rattle.router_wanted.specs.declared.wanted.Wanted.{Wanted}
+use Rattle.router_wanted.specs.Views.{wanted_of}
+use Rattle.router_core.specs.LevelSeconds.{IsCalmWith}
+use Rattle.router_core.proofs.IdleLemmas.{from-some}
+use Rattle.router_core.proofs.PassedLemmas.{calm-second, resting-second}
 use Rattle.router_core.proofs.machine.Machine.level_second.Goals as goal
+
+-- src/plan_second.rt
+pub returns-then-rests : goal.returns-then-rests
+returns-then-rests c = resting-second c.args.self.now c.args.level c.args.circuits.now (c.rests.ensures c.if-rests.true) (c.requires.marked c.if-marked.true)
 
 -- src/plan_second.rt
 pub returns-in-Ok-Some : goal.returns-in-Ok-Some
 returns-in-Ok-Some c =
     let r = c.args.self.now in
     let l = c.args.level in
-    let cs = c.args.circuits.now in
-    let is = c.in-Ok-Some.field-0-is in
-    record {
-      is_later = λ q a b. some-told _ _ _ is (c.in-Ok-Some.ensures.calm q a b);
-      fits = tt;
-      shifted = λ of-old of-new runs. told-seen (book_of r l) (level_later (level_of r l) l cs).book of-old of-new (some-told _ _ _ is c.in-Ok-Some.ensures.seen cs);
-      still = λ h. refl;
-      says = λ h q a b. c.in-Ok-Some.ensures.settled q a b (is ∙ ap Some h);
-    }
+    let wants = map wanted_of c.deref.result.now in
+    calm-second r l c.args.circuits.now wants c.in-Ok-Some.settled
+    (from-some (λ (settled : Bool). IsCalmWith (level_of r l) wants settled) c.in-Ok-Some.field-0 c.in-Ok-Some.settled c.in-Ok-Some.field-0-is c.in-Ok-Some.ensures)
+    (λ q a b. ap (λ (ws : List Wanted). map wanted_of ws) c.deref.ensures.value ∙ c.in_ok-wanted.ensures.wanted r q c.requires.following a b)
+
+-- src/plan_second.rt
+pub returns-in-Ok-None : goal.returns-in-Ok-None
+returns-in-Ok-None c =
+    IfOk-weaker c.level_renewed.result _ _
+    (λ second is. is c.args.circuits.now (λ q a b. c.in_ok-wanted.ensures.wanted c.args.self.now q c.requires.following a b))
+    c.level_renewed.ensures

@@ -1,4 +1,4 @@
-use Rattle.std.proofs.Common.{◌≡◌, ◌-◌, Some, refl, sym, subst}
+use Rattle.std.proofs.Common.{◌≡◌, ◌-◌, Some, IfOk, refl, sym, subst}
 use Rattle.model_router.specs.Events as model
 use Rattle.model_router.specs.Places.{nth}
 use Rattle.model_router.specs.Receiving.{drop_of}
@@ -8,6 +8,22 @@ use Rattle.router_core.specs.Plans.{IsPlan}
 use Rattle.router_core.specs.Reads.{event_in, FitsRead}
 use Rattle.router_core.proofs.IdleLemmas.{each-some}
 use Rattle.router_core.proofs.machine.Machine.plan.Goals as goal
+
+-- src/plan.rt
+pub returns-in-Second : goal.returns-in-Second
+returns-in-Second c = subst (λ (x : Read). IfOk c.plan_second.result (IsPlan c.args.self.now (event_in x))) (sym c.in-Second.is) c.plan_second.ensures
+
+-- src/plan.rt
+pub returns-in-Pull : goal.returns-in-Pull
+returns-in-Pull c = subst (λ (x : Read). IfOk c.plan_pull.result (IsPlan c.args.self.now (event_in x))) (sym c.in-Pull.is) c.plan_pull.ensures
+
+-- src/plan.rt
+pub returns-in-Change : goal.returns-in-Change
+returns-in-Change c = subst (λ (x : Read). IfOk c.plan_change.result (IsPlan c.args.self.now (event_in x))) (sym c.in-Change.is) c.plan_change.ensures
+
+-- src/plan.rt
+pub returns-in-Heard : goal.returns-in-Heard
+returns-in-Heard c = subst (λ (x : Read). IfOk c.plan_heard.result (IsPlan c.args.self.now (event_in x))) (sym c.in-Heard.is) c.plan_heard.ensures
 
 -- src/plan.rt
 pub returns-in-Refused : goal.returns-in-Refused

@@ -25,13 +25,13 @@ returns c =
     c.in_ok-circuits.ensures.count ∙ (ap (λ (cs : List Circuit). length cs) c.deref.ensures.value ∙ ap (λ (q : Router). length q.circuits) c.self.view_is) in
     let first : IsLevelSecond r level.One list one = subst (λ (cs : List Circuit). IsLevelSecond r level.One cs one) c.deref-4.ensures.value c.in_ok-one.ensures in
     let second : IsLevelSecond r level.Two list two = subst (λ (cs : List Circuit). IsLevelSecond r level.Two cs two) c.deref-5.ensures.value c.in-Ok.ensures in
-    let is = passed-is r one.later two.later list later first.is_later second.is_later in
-    let moved = passed-moved r one.later two.later list one.movers two.movers c.requires.reached is first.shifted second.shifted in
+    let is = passed-is r one.wants two.wants list later first.is_later second.is_later in
+    let moved = passed-moved r one.wants two.wants list one.movers two.movers c.requires.reached is first.shifted second.shifted in
     record {
-      ready = record { later = later; count = count; one = first.is_later; two = second.is_later; fit_one = first.fits; fit_two = second.fits };
+      ready = record { later = later; count = count; one = first.is_later; two = second.is_later; made_one = first.made; made_two = second.made };
       state = refl;
       reply = second-done r t;
       told = c.told_of-told.ensures.told (outlook_of r) (outlook_of t) moved;
       marks = c.told_of-told.ensures.marks t (λ none-one none-two.
-          passed-marks r one.later two.later list _ later is (unmoved (outlook_of r) (outlook_of t) one.movers two.movers none-one none-two moved) first.still first.says second.still second.says);
+          passed-marks r one.wants two.wants list _ later is (unmoved (outlook_of r) (outlook_of t) one.movers two.movers none-one none-two moved) first.still first.says second.still second.says);
     }

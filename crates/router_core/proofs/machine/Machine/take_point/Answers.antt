@@ -14,8 +14,15 @@ use Rattle.router_core.proofs.ShapeLemmas.{has-shake}
 use Rattle.adjacency.specs.Changes.{IsTested}
 use Rattle.adjacency.specs.declared.hello.HelloDrop.{HelloDrop}
 use Rattle.router_circuits.proofs.ChangeLemmas.{ok-of}
+use Rattle.router_core.proofs.HelloLemmas.{none-refused}
 use Rattle.router_core.proofs.IdleLemmas.{each-some, from-some, heard-with}
 use Rattle.router_core.proofs.machine.Machine.take_point.Goals as goal
+
+-- src/hellos.rt
+pub unreachable-requires : goal.unreachable-requires
+unreachable-requires c =
+    let r = c.args.self.now in
+    none-refused r c.args.circuit (λ y. point_drop r.config (extended_of r.boot (c.args.circuit - 1)) y.boots (hello_of c.args.hello.now)) _ _ c.in-Err.is c.requires.there c.in_ok-anew.ensures.tested c.requires.passes
 
 -- src/hellos.rt
 pub returns-clause-state : goal.returns-clause-state
