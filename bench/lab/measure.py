@@ -18,7 +18,9 @@ def measure(words, script):
         start = time.monotonic()
         child = subprocess.Popen(words, stdin=text, stdout=subprocess.PIPE, stderr=subprocess.DEVNULL)
         report = child.stdout.read()
-        _, _, usage = os.wait4(child.pid, 0)
+        _, status, usage = os.wait4(child.pid, 0)
+        if status:
+            sys.exit(f"{words[-2:]} ended with {os.waitstatus_to_exitcode(status)} over {script}")
         wall = time.monotonic() - start
         kibibytes = int(memory.read().split()[-1])
     sent = [line for line in report.decode().splitlines() if line.startswith("datagrams ")]

@@ -36,4 +36,5 @@ mod PlanLemmas
 mod ShiftLemmas
 mod PassedLemmas
 mod LaterLemmas
+mod SightLemmas
 mod RenewalLemmas

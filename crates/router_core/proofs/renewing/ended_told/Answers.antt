@@ -1,6 +1,6 @@
 use Rattle.std.proofs.Common.{◌∙◌, subst, sym}
 use Rattle.router_core.proofs.AsideLemmas.{Entries}
-use Rattle.router_core.proofs.RenewalLemmas.{Ends, ends-end, ends-first, ends-turn}
+use Rattle.router_core.proofs.SightLemmas.{Ends, ends-end, ends-first, ends-turn}
 use Rattle.router_core.proofs.renewing.ended_told.Goals as goal
 
 -- src/renewing.rt

@@ -2,7 +2,7 @@ use Rattle.std.proofs.Common.{length}
 use Rattle.isis_base.specs.declared.level.Level.{Level}
 use Rattle.model_router.specs.Routers.{Router}
 use Rattle.router_core.specs.Asides.{IsShown}
-use Rattle.router_core.proofs.RenewalLemmas.{Ends}
+use Rattle.router_core.proofs.SightLemmas.{Ends}
 use Rattle.router_core.proofs.renewing.ended_told.Given as goal
 
 -- what is told is what the entries so far bring

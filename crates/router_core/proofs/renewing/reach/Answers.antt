@@ -2,7 +2,7 @@ use Rattle.std.proofs.Common.{◌∙◌, List, sym, ap}
 use Rattle.isis_base.specs.declared.identifiers.NodeId.{NodeId}
 use Rattle.spf_tree.specs.Nodes.{node_number}
 use Rattle.router_routes.specs.Moved.{is_among}
-use Rattle.router_core.proofs.RenewalLemmas.{among-reached, sight-reached}
+use Rattle.router_core.proofs.SightLemmas.{among-reached, sight-reached}
 use Rattle.router_core.proofs.renewing.reach.Goals as goal
 
 -- src/renewing.rt

@@ -3,7 +3,7 @@ use Rattle.std.proofs.lemmas.Result.{on_ok_weaker}
 use Rattle.isis_base.specs.Identifiers.{lsp_number}
 use Rattle.router_core.specs.Asides.{seen_in}
 use Rattle.router_core.specs.Renewals.{IsSightAside, with_sight}
-use Rattle.router_core.proofs.RenewalLemmas.{sight-put}
+use Rattle.router_core.proofs.SightLemmas.{sight-put}
 use Rattle.router_core.proofs.renewing.tell.Goals as goal
 
 -- src/renewing.rt

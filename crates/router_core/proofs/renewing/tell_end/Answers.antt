@@ -2,7 +2,7 @@ use Rattle.std.proofs.Common.{◌∙◌, sym}
 use Rattle.std.proofs.lemmas.Result.{on_ok_weaker}
 use Rattle.isis_base.specs.Identifiers.{lsp_number}
 use Rattle.router_core.specs.Calm.{is_ending}
-use Rattle.router_core.proofs.RenewalLemmas.{end-false, end-true, sight-purged}
+use Rattle.router_core.proofs.SightLemmas.{end-false, end-true, sight-purged}
 use Rattle.router_core.proofs.renewing.tell_end.Goals as goal
 
 -- src/renewing.rt

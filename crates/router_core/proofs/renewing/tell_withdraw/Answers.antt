@@ -5,7 +5,8 @@ use Rattle.isis_base.specs.Identifiers.{lsp_number}
 use Rattle.model_router.specs.Maps.{find}
 use Rattle.model_router.specs.Routers.{Contents}
 use Rattle.router_wanted.specs.Views.{contents_of, wanted_of}
-use Rattle.router_core.proofs.RenewalLemmas.{sight-purged, withdraw-gone, withdraw-kept}
+use Rattle.router_core.proofs.RenewalLemmas.{withdraw-gone, withdraw-kept}
+use Rattle.router_core.proofs.SightLemmas.{sight-purged}
 use Rattle.router_core.proofs.renewing.tell_withdraw.Goals as goal
 
 -- src/renewing.rt

@@ -3,7 +3,7 @@ use Rattle.isis_base.specs.Identifiers.{lsp_number}
 use Rattle.model_router.specs.OwnLsps.{issue_cell}
 use Rattle.router_wanted.specs.Views.{contents_of}
 use Rattle.router_core.specs.Givens.{given}
-use Rattle.router_core.proofs.RenewalLemmas.{sight-issued}
+use Rattle.router_core.proofs.SightLemmas.{sight-issued}
 use Rattle.router_core.proofs.machine.Machine.tell_issue.Goals as goal
 
 -- src/renewing.rt

@@ -4,7 +4,8 @@ use Rattle.lsp_fragments.specs.Issues.{next_of}
 use Rattle.router_wanted.specs.Views.{wanted_of}
 use Rattle.router_core.specs.Renewals.{sight_of}
 use Rattle.router_core.proofs.AsideLemmas.{named}
-use Rattle.router_core.proofs.RenewalLemmas.{look-issues, look-retires, look-waits, sight-purged}
+use Rattle.router_core.proofs.RenewalLemmas.{look-issues, look-retires, look-waits}
+use Rattle.router_core.proofs.SightLemmas.{sight-purged}
 use Rattle.router_core.proofs.machine.Machine.tell_look.Goals as goal
 
 -- src/renewing.rt
