@@ -1,11 +1,10 @@
 -- Neighbours, hellos and one's own part as the model of the router has them.
-use Rattle.std.specs.Prelude.{ℕ, Bool, true, false, List, [], Option, Some, None}
+use Rattle.std.specs.Prelude.{ℕ, Bool, false, List, [], Option, Some, None}
 use Rattle.isis_base.specs.declared.identifiers.SystemId.{SystemId}
 use Rattle.isis_base.specs.declared.level.LevelSet.{LevelSet}
-use Rattle.isis_base.specs.declared.level.LevelSet.TheVariants as levels
 use Rattle.isis_tlv.specs.declared.three_way.ThreeWay.{ThreeWay}
 use Rattle.isis_tlv.specs.declared.three_way.Adj.TheVariants.{Up, Initializing, Down}
-use Rattle.model_router.specs.Both.{Both}
+use Rattle.model_router.specs.Both.{Both, runs_of}
 use Rattle.model_router.specs.Configs.{Config}
 use Rattle.model_router.specs.Adjacencies as model
 use Rattle.model_router.specs.Numbers.{system_number, snpa_number, node_number}
@@ -16,13 +15,7 @@ use Rattle.adjacency.specs.declared.hello.HelloFields.{HelloFields}
 use Rattle.adjacency.specs.declared.held.Held.{Held}
 use Rattle.adjacency.specs.declared.held.Held.TheVariants as held
 
--- which of the levels are run (own)
-abbrev pub runs_of : LevelSet → Both Bool
-runs_of levels.One = record { one = true; two = false }
-runs_of levels.Two = record { one = false; two = true }
-runs_of levels.Both = record { one = true; two = true }
-
--- the same of levels in common, which may be none (own)
+-- levels in common, which may be none (own)
 abbrev pub common_runs : Option LevelSet → Both Bool
 common_runs None = record { one = false; two = false }
 common_runs (Some levels) = runs_of levels

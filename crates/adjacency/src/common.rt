@@ -2,10 +2,12 @@
 ghost use Rattle.std.specs.Prelude.{◌≡◌, ◌&&◌};
 ghost use Rattle.model_router.specs.Adjacencies as model;
 ghost use Rattle.model_router.specs.Both as both;
-ghost use Rattle.adjacency.specs.Views.{runs_of, common_runs, config_of, hello_of};
+ghost use Rattle.model_router.specs.Both.{runs_of};
+ghost use Rattle.adjacency.specs.Views.{common_runs, config_of, hello_of};
 
 use crate::hello::{HelloFields, Own};
 use isis_base::{AreaAddress, Level, LevelSet};
+use model_router::has_level;
 
 /// The levels that both run, level 1 only where an area address is shared; `None` where there is
 /// none.
@@ -39,7 +41,7 @@ pub fn common_level(own: &Own<'_>, level: Level, hello: &HelloFields<'_>) -> Opt
 pub fn both_run_one(own: LevelSet, heard: LevelSet) -> bool
     ensures { result ≡ ((runs_of own).one && (runs_of heard).one) }
 {
-    runs_one(own) && runs_one(heard)
+    has_level(own, Level::One) && has_level(heard, Level::One)
 }
 
 /// Whether both run level 1 and an area address is shared.
@@ -53,27 +55,7 @@ fn shares_one(own: &Own<'_>, hello: &HelloFields<'_>) -> bool
 fn both_run_two(own: LevelSet, heard: LevelSet) -> bool
     ensures { result ≡ ((runs_of own).two && (runs_of heard).two) }
 {
-    runs_two(own) && runs_two(heard)
-}
-
-fn runs_one(levels: LevelSet) -> bool
-    ensures { result ≡ (runs_of levels).one }
-{
-    match levels {
-        LevelSet::One => true,
-        LevelSet::Two => false,
-        LevelSet::Both => true,
-    }
-}
-
-fn runs_two(levels: LevelSet) -> bool
-    ensures { result ≡ (runs_of levels).two }
-{
-    match levels {
-        LevelSet::One => false,
-        LevelSet::Two => true,
-        LevelSet::Both => true,
-    }
+    has_level(own, Level::Two) && has_level(heard, Level::Two)
 }
 
 /// Whether two sets of levels are the same.

@@ -1,11 +1,10 @@
 //! The neighbour that is kept: whether a hello is from it, the state and neighbour after a hello,
 //! and what became of them.
-ghost use Rattle.std.specs.Prelude.{◌≡◌, ◌<◌, ◌-◌, Bool, true, false};
-ghost use Rattle.isis_tlv.specs.declared.three_way.Adj.TheVariants as adj;
+ghost use Rattle.std.specs.Prelude.{◌≡◌, ◌<◌, ◌-◌};
 ghost use Rattle.model_router.specs.Adjacencies as model;
-ghost use Rattle.model_router.specs.Hellos as hellos;
 ghost use Rattle.model_router.specs.Seconds as seconds;
-ghost use Rattle.adjacency.specs.Views.{runs_of, hello_of, neighbour_of, point_of, shake_of, id_or_0};
+ghost use Rattle.model_router.specs.Both.{runs_of};
+ghost use Rattle.adjacency.specs.Views.{hello_of, neighbour_of, point_of, shake_of};
 ghost use Rattle.adjacency.specs.Changes.{change_of};
 
 use crate::common::are_same_levels;

@@ -1,13 +1,16 @@
 //! The adjacencies of a LAN circuit and level.
 ghost use Rattle.std.specs.Result.{is_err};
-ghost use Rattle.std.specs.Prelude.{◌≡◌, ◌≤◌, nat_le, ◌&&◌, ℕ, [], length, map, List, IfOk, OnErr, vec_capacity};
+ghost use Rattle.std.specs.Prelude.{◌≡◌, ◌≤◌, ◌<◌, ◌⊎◌, nat_le, ◌&&◌, false, ℕ, [], length, map, List, IfOk, IsSome, OnErr, vec_capacity};
 ghost use Rattle.model_router.specs.Adjacencies as model;
 ghost use Rattle.model_router.specs.Both as both;
+ghost use Rattle.model_router.specs.Both.{runs_of};
 ghost use Rattle.model_router.specs.Maps.{find};
-ghost use Rattle.model_router.specs.HelloTests.{lan_drop};
+ghost use Rattle.model_router.specs.HelloTests.{is_below, known_lan, lan_drop};
 ghost use Rattle.model_router.specs.Hellos.{minded};
 ghost use Rattle.model_router.specs.Seconds.{heard_less};
-ghost use Rattle.adjacency.specs.Views.{config_of, hello_of, neighbour_of};
+ghost use Rattle.model_router.specs.Sorted.{RisesFrom};
+ghost use Rattle.adjacency.specs.Views.{by_snpa, config_of, hello_of, neighbour_of};
+ghost use Rattle.adjacency.specs.Inside.{lan_of, IsLan, IsAt};
 ghost use Rattle.adjacency.specs.Changes.{IsTested};
 ghost use Rattle.adjacency.specs.Lans.{AreHeard, neighbours, ups, hear_lan, lan_change_of, lan_less_change};
 ghost use Rattle.adjacency.specs.Remembered as remembered;
@@ -20,7 +23,7 @@ use crate::keeping::neighbour_in;
 use crate::lan_lists::{age_both, keep};
 use crate::neighbour::Neighbour;
 use crate::tests_of_hello::test_lan;
-use isis_base::{Level, OutOfMemory};
+use isis_base::{Level, LevelSet, OutOfMemory};
 use std::alloc::Global;
 use std::marker::Model;
 
@@ -96,10 +99,9 @@ impl LanAdj {
         ensures change { IfOk result (λ change. change ≡ lan_change_of
             (find self.old (snpa_number hello.now.snpa)) hello.now.boot hello.now.names_me) }
     {
-        let place = place_of(&self.heard, hello.snpa);
-        let full = is_full(&self.heard, place);
-        let levels = match test_lan(own, level, hello, full, boots.heard(hello.source)) {
-            Ok(levels) => levels,
+        let greatest = boots.heard(hello.source);
+        let (place, levels) = match passed(&self.heard, own, level, hello, greatest) {
+            Ok(passed) => passed,
             Err(refused) => return Err(refused),
         };
         if boots.hear(hello.source, hello.boot).is_err() {
@@ -129,9 +131,7 @@ impl LanAdj {
             → full ≡ remembered.is_full boots (system_number hello.now.source) → IsTested result
             (lan_drop (config_of own.now) level boots self.now (hello_of hello.now)) }
     {
-        let place = place_of(&self.heard, hello.snpa);
-        let crowded = is_full(&self.heard, place);
-        match test_lan(own, level, hello, crowded, greatest) {
+        match passed(&self.heard, own, level, hello, greatest) {
             Ok(_) => {}
             Err(refused) => return Err(refused),
         }
@@ -158,6 +158,36 @@ impl LanAdj {
         let heard = copy_of(alloc, &self.heard)?;
         let up = copy_of(alloc, &self.up)?;
         Ok(LanAdj { heard, up })
+    }
+}
+
+/// The place that a hello's sender has among those heard, and the levels in common, or the first test that refuses it but for that
+/// of room for its boot number. `greatest` is the boot number that is remembered of its source.
+fn passed(
+    heard: &[Neighbour],
+    own: &Own<'_>,
+    level: Level,
+    hello: &HelloFields<'_>,
+    greatest: Option<u32>,
+) -> Result<(Result<usize, usize>, LevelSet), HelloDrop>
+    requires { RisesFrom 0 (by_snpa heard.now) }
+    ensures tested { (up : List Neighbour) (space up_space : ℕ) (boots : List (ℕ × ℕ))
+        → IsLan heard.now up space up_space
+        → greatest ≡ find boots (system_number hello.now.source) → IsTested result
+        (known_lan (config_of own.now) level boots (lan_of heard.now up) (hello_of hello.now)) }
+    ensures recent { IfOk result (λ _. is_below hello.now.boot greatest ≡ false) }
+    ensures place { IfOk result (λ p. IsAt heard.now (snpa_number hello.now.snpa) p.0) }
+    ensures room { IfOk result (λ _. (length heard.now < 200)
+        ⊎ IsSome (find (by_snpa heard.now) (snpa_number hello.now.snpa))) }
+    ensures levels { IfOk result (λ p. runs_of p.1
+        ≡ both.alone level (model.common_of (config_of own.now) (hello_of hello.now))) }
+    ensures system { IfOk result (λ _.
+        system_number hello.now.source ≡ snpa_number hello.now.snpa) }
+{
+    let place = place_of(heard, hello.snpa);
+    match test_lan(own, level, hello, is_full(heard, place), greatest) {
+        Ok(levels) => Ok((place, levels)),
+        Err(refused) => Err(refused),
     }
 }
 

@@ -1,5 +1,5 @@
 //! The two lists of a LAN, all neighbours and those in state Up, changed together.
-ghost use Rattle.std.specs.Prelude.{◌≡◌, ℕ, List, ◌<◌, ◌≤◌, true, ◌⊎◌, length, vec_capacity, Option, IsSome, if◌then◌else◌};
+ghost use Rattle.std.specs.Prelude.{◌≡◌, ℕ, List, ◌<◌, ◌≤◌, ◌⊎◌, length, vec_capacity, Option, IsSome, if◌then◌else◌};
 ghost use Rattle.model_router.specs.Maps.{find, put, erase};
 ghost use Rattle.model_router.specs.Routers.{LanNeighbour};
 ghost use Rattle.model_router.specs.Seconds as seconds;

@@ -1,14 +1,14 @@
 //! A point-to-point adjacency.
-ghost use Rattle.std.specs.Prelude.{◌≡◌, ◌↔◌, ℕ, List, Bool, true, Option, IsNone, OnErr, IfOk, IfSome};
+ghost use Rattle.std.specs.Prelude.{◌≡◌, ◌↔◌, ℕ, List, true, false, Option, IsNone, OnErr, IfOk, IfSome};
 ghost use Rattle.std.specs.Option.{option_map};
 ghost use Rattle.isis_tlv.specs.declared.three_way.Adj.TheVariants as adj;
 ghost use Rattle.model_router.specs.Adjacencies as model;
-ghost use Rattle.model_router.specs.HelloTests.{point_drop};
+ghost use Rattle.model_router.specs.HelloTests.{is_below, known_point, point_drop};
 ghost use Rattle.model_router.specs.Seconds.{point_less};
 ghost use Rattle.model_router.specs.Hellos.{minded};
 ghost use Rattle.model_router.specs.Maps.{find};
 ghost use Rattle.model_router.specs.Numbers.{system_number};
-ghost use Rattle.adjacency.specs.Views.{runs_of, config_of, hello_of, neighbour_of, point_of, point_down, shake_of};
+ghost use Rattle.adjacency.specs.Views.{config_of, hello_of, neighbour_of, point_of, point_down, shake_of};
 ghost use Rattle.adjacency.specs.Changes.{IsTested, change_of, boot_of};
 ghost use Rattle.adjacency.specs.Remembered.{is_full};
 
@@ -93,18 +93,15 @@ impl P2pAdj {
             (model.common_of (config_of own.now) (hello_of hello.now))
             (hello_of hello.now) (shake_of shake).extended))) }
     {
-        let (levels, shake) = match test_point(own, hello, boots.heard(hello.source)) {
-            Ok(passed) => passed,
+        let (held, change) = match after(self.held, own, hello, boots.heard(hello.source)) {
+            Ok(after) => after,
             Err(refused) => return Err(refused),
         };
         if boots.hear(hello.source, hello.boot).is_err() {
             return Err(HelloDrop::TooMany);
         }
-        let old = self.held;
-        let same = keeps(old, hello, levels, shake.own_id.unwrap_or(0));
-        let new = held_after(old, same, hello, levels, shake);
-        self.held = new;
-        Ok(change(old, new, same))
+        self.held = held;
+        Ok(change)
     }
 
     /// The adjacency as it will be after a hello, or the first test that refuses it, by the boot number that is remembered of
@@ -125,15 +122,13 @@ impl P2pAdj {
             (model.common_of (config_of own.now) (hello_of hello.now))
             (hello_of hello.now) (shake_of shake))) }
     {
-        let (levels, shake) = match test_point(own, hello, greatest) {
-            Ok(passed) => passed,
+        let (held, _) = match after(self.held, own, hello, greatest) {
+            Ok(after) => after,
             Err(refused) => return Err(refused),
         };
         if full {
             return Err(HelloDrop::TooMany);
         }
-        let same = keeps(self.held, hello, levels, shake.own_id.unwrap_or(0));
-        let held = held_after(self.held, same, hello, levels, shake);
         Ok(P2pAdj { held })
     }
 
@@ -173,4 +168,34 @@ impl P2pAdj {
             _ => None,
         }
     }
+}
+
+/// The state and the neighbour as they will be after a hello, and what becomes of them, or the first test that refuses it but for
+/// that of room for its boot number. `greatest` is the boot number that is remembered of its source.
+fn after(
+    held: Held,
+    own: &Own<'_>,
+    hello: &HelloFields<'_>,
+    greatest: Option<u32>,
+) -> Result<(Held, AdjChange), HelloDrop>
+    ensures tested { (boots : List (ℕ × ℕ)) → greatest ≡ find boots (system_number hello.now.source)
+        → IsTested result (known_point (config_of own.now) own.now.id boots (hello_of hello.now)) }
+    ensures recent { IfOk result (λ _. is_below hello.now.boot greatest ≡ false) }
+    ensures heard { IfOk result (λ after. IfSome hello.now.three_way (λ shake.
+        point_of after.0 ≡ model.hear_point (point_of held)
+        (model.common_of (config_of own.now) (hello_of hello.now))
+        (hello_of hello.now) (shake_of shake))) }
+    ensures change { IfOk result (λ after. IfSome hello.now.three_way (λ shake.
+        after.1 ≡ change_of (point_of held) (point_of after.0)
+        (model.is_same (point_of held).neighbour
+        (model.common_of (config_of own.now) (hello_of hello.now))
+        (hello_of hello.now) (shake_of shake).extended))) }
+{
+    let (levels, shake) = match test_point(own, hello, greatest) {
+        Ok(passed) => passed,
+        Err(refused) => return Err(refused),
+    };
+    let same = keeps(held, hello, levels, shake.own_id.unwrap_or(0));
+    let after = held_after(held, same, hello, levels, shake);
+    Ok((after, change(held, after, same)))
 }

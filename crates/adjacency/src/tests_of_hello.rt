@@ -1,5 +1,5 @@
 //! The tests of a hello, in their order (ISO 10589 8.2.4.2, RFC 5303 3.2; the order: own).
-ghost use Rattle.std.specs.Prelude.{◌≡◌, false, ℕ, List, length, nat_le, ◌&&◌, is_none, Bool, Some, IfOk};
+ghost use Rattle.std.specs.Prelude.{◌≡◌, false, ℕ, List, length, nat_le, ◌&&◌, is_none, Some, IfOk};
 ghost use Rattle.isis_base.specs.declared.level.Level.TheVariants as one;
 ghost use Rattle.model_router.specs.Adjacencies as model;
 ghost use Rattle.model_router.specs.Both as both;
@@ -7,7 +7,8 @@ ghost use Rattle.model_router.specs.Maps.{find};
 ghost use Rattle.model_router.specs.Routers.{LanNeighbour};
 ghost use Rattle.model_router.specs.HelloTests.{is_below, hello_drop, known_point, known_lan};
 ghost use Rattle.model_router.specs.Numbers.{system_number, snpa_number};
-ghost use Rattle.adjacency.specs.Views.{runs_of, common_runs, config_of, hello_of};
+ghost use Rattle.model_router.specs.Both.{runs_of};
+ghost use Rattle.adjacency.specs.Views.{common_runs, config_of, hello_of};
 ghost use Rattle.adjacency.specs.Changes.{IsTested};
 
 use crate::common::{both_run_one, common_level, common_levels};

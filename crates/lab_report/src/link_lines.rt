@@ -79,7 +79,7 @@ fn both_run(net: &Network, link: usize, level: Level) -> bool
 }
 
 /// Whether a router runs a level.
-pub(crate) fn runs(net: &Network, router: usize, level: Level) -> bool
+pub(crate) fn is_running(net: &Network, router: usize, level: Level) -> bool
     ensures { result ≡ runs_at net.now.seen.routers router level }
 {
     if router >= net.routers() {

@@ -14,7 +14,7 @@ ghost use Rattle.lab_report.specs.ReportLeft.{routes_of, lines_left, calls_left}
 
 use crate::doubled_lines::add_doubled;
 use crate::left::{GroupCounts, LabReport};
-use crate::link_lines::{add_link, runs};
+use crate::link_lines::{add_link, is_running};
 use crate::names::add_name;
 use crate::router_lines::{add_router, level_word};
 use isis_base::{Level, Octets, OutOfMemory, add_hex, add_number};
@@ -196,7 +196,7 @@ fn count(net: &Network, level: Level) -> usize
 {
     let mut count = 0usize;
     for router in 0..net.routers() {
-        count += one_if(runs(net, router, level));
+        count += one_if(is_running(net, router, level));
     }
     count
 }

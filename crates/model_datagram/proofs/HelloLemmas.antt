@@ -21,7 +21,7 @@ use Rattle.isis_tlv.proofs.TlvLemmas.{tlvs-joined, tlvs-one}
 use Rattle.isis_pdu.specs.Views.{PduView, PointHello, LanHello}
 use Rattle.isis_pdu.specs.Spelling.{start_octets, field_octets, octets_of_pdu}
 use Rattle.hmac_auth.specs.Pdus.{is_purge}
-use Rattle.model_router.specs.Both.{Both}
+use Rattle.model_router.specs.Both.{Both, runs_of}
 use Rattle.model_router.specs.Configs.{Config}
 use Rattle.model_router.specs.Routers.{Circuit}
 use Rattle.model_router.specs.Datagrams as sent
@@ -29,7 +29,7 @@ use Rattle.model_router.specs.Events.{PointHelloHeard, LanHelloHeard}
 use Rattle.model_router.specs.Numbers.{system_id, snpa_id, node_id}
 use Rattle.model_datagram.specs.Values.{items_in, areas_in, snpas_in, handshakes_in, lists, handshake, first_handshake}
 use Rattle.model_datagram.specs.Tests.{tests_of, passes}
-use Rattle.model_datagram.specs.Reading.{runs_of, message, refused_or, read}
+use Rattle.model_datagram.specs.Reading.{message, refused_or, read}
 use Rattle.model_datagram.specs.Signing.{signed_tlvs, signed}
 use Rattle.model_datagram.specs.Tlvs.{own_address, hello_tlvs, three_way_value, point_tlvs, snpa_tlvs, lan_tlvs}
 use Rattle.model_datagram.specs.Datagrams.{levels_run, datagram, pdu_octets}

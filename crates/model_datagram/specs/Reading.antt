@@ -1,9 +1,7 @@
 -- What a router reads of a datagram: the model's message, or the cause of the first test of octets
 -- that fails (own: the order).
-use Rattle.std.specs.Prelude.{ℕ, ◌==◌, Bool, true, false, List, take, map, Option, Some, None, Result, Ok, Err, if◌then◌else◌}
+use Rattle.std.specs.Prelude.{ℕ, ◌==◌, false, List, take, map, Option, Some, None, Result, Ok, Err, if◌then◌else◌}
 use Rattle.std.specs.Result.{ok_prefix}
-use Rattle.isis_base.specs.declared.level.LevelSet.{LevelSet}
-use Rattle.isis_base.specs.declared.level.LevelSet.TheVariants as levels
 use Rattle.isis_base.specs.Identifiers.{lsp_number}
 use Rattle.isis_pdu.specs.declared.fault.PduFault.{PduFault}
 use Rattle.isis_pdu.specs.Views.{PduView, LanHello, PointHello, Lsp, Csnp, Psnp}
@@ -11,7 +9,7 @@ use Rattle.isis_pdu.specs.Decoded.{decoded}
 use Rattle.model_router.specs.declared.drop_name.DropName.{DropName}
 use Rattle.model_router.specs.declared.drop_name.DropName.TheVariants as drop
 use Rattle.model_router.specs.Ranks.{live_rank, purge_rank}
-use Rattle.model_router.specs.Both.{Both}
+use Rattle.model_router.specs.Both.{runs_of}
 use Rattle.model_router.specs.Configs.{Config}
 use Rattle.model_router.specs.Routers.{Circuit}
 use Rattle.model_router.specs.Events.{Envelope, Message, Refused, PointHelloHeard, LanHelloHeard, LspHeard, SnpHeard}
@@ -19,12 +17,6 @@ use Rattle.model_router.specs.Numbers.{system_number, node_number}
 use Rattle.model_datagram.specs.Frames.{unframed}
 use Rattle.model_datagram.specs.Values.{areas_in, snpas_in, entries_in, handshakes_in, snp_entry, lists, first_handshake}
 use Rattle.model_datagram.specs.Tests.{tests_of, first_failing}
-
--- the levels of a circuit type (ISO 10589 9.5)
-abbrev pub runs_of : LevelSet → Both Bool
-runs_of levels.One = record { one = true; two = false }
-runs_of levels.Two = record { one = false; two = true }
-runs_of levels.Both = record { one = true; two = true }
 
 -- the rank of an LSP: a purge has lifetime 0 (ISO 10589 7.3.16.4)
 abbrev pub rank_read : ℕ → ℕ → ℕ

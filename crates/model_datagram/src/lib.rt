@@ -11,11 +11,7 @@
 //!
 //! - `laws.rt`: the laws, functions without a body whose contracts hold for everything that is sent
 //! - `rows.rt`: PDUs that another router made, read by computation
-//! - `levels.rt`: whether a set of levels has a level
 #![tactic(auto)]
 
 pub mod laws;
-mod levels;
 pub mod rows;
-
-pub use levels::runs;

@@ -37,7 +37,7 @@ impl Network {
     pub fn agreed(&self, level: Level) -> Result<Groups, OutOfMemory>
         ensures { IfOk result (λ groups. groups ≡ groups_at self.now.seen level) }
     {
-        let runs = self.runs(level)?;
+        let runs = self.running_routers(level)?;
         let pairs = self.pairs(level)?;
         joined_groups(self.alloc, &runs, &pairs)
     }
@@ -109,7 +109,7 @@ impl Network {
     }
 
     /// For each router, whether it runs a level.
-    fn runs(&self, level: Level) -> Result<Vec<bool>, OutOfMemory>
+    fn running_routers(&self, level: Level) -> Result<Vec<bool>, OutOfMemory>
         ensures { IfOk result (λ runs. runs.items ≡ state.runs_of self.now.seen.routers level) }
     {
         let mut runs = Vec::new(self.alloc);

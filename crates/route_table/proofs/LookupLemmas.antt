@@ -1,17 +1,19 @@
 -- How prefixes that have one address nest, and the climb from a route to the one that encloses it.
 
-use Rattle.std.proofs.Common.{◌≡◌, ◌∙◌, ℕ, ◌+◌, ◌*◌, ◌-◌, ◌/◌, ◌%◌, ◌^◌, ◌≤◌, ◌<◌, List, [], ◌∷◌, ◌++◌, length, get_or, Option, Some, None, sym, ap, subst, arith, inl, inr}
+use Rattle.std.proofs.Common.{◌≡◌, ◌∙◌, ℕ, ◌+◌, ◌*◌, ◌-◌, ◌/◌, ◌%◌, ◌^◌, ◌≤◌, ◌<◌, List, [], ◌∷◌, length, get_or, Option, Some, None, refl, sym, ap, subst, arith, inl, inr}
+use Rattle.std.specs.Prelude.{slice_set}
 use Rattle.std.proofs.Math.Nat.{div-add-mod, mul-div-le, div-mul-le_self, div-div-eq-div-mul, mul-le-mul_left, mul_assoc}
 use Rattle.std.proofs.lemmas.Nat.{pow-add, pow_pos, le-div}
-use Rattle.std.proofs.lemmas.Bool.{cases_lt}
-use Rattle.std.proofs.lemmas.List.{get_or_default, get_or_append_left, get_or_push, length_push}
+use Rattle.std.proofs.lemmas.Bool.{cases_lt, cases_eq}
+use Rattle.std.proofs.lemmas.List.{get_or_default, get_or-set_same, get_or-set_other, length-set}
 use Rattle.std.proofs.lemmas.List.Elements.{Contains-get_or}
 use Rattle.isis_base.specs.declared.prefix.Prefix.{Prefix}
 use Rattle.route_table.specs.declared.route.Route.{Route}
 use Rattle.route_table.specs.Ranks.{prefix_number}
 use Rattle.route_table.specs.Routes.{AreRising}
-use Rattle.route_table.specs.Lookups.{Has, HasAt, IsLongest, HasNone, IsBefore, IsLeft, IsLast, AreClimbable, AreLinked, IsCut}
-use Rattle.route_table.specs.Putting.{HaveSamePrefixes}
+use Rattle.route_table.specs.Lookups.{Has, HasAt, IsLongest, HasNone, IsBefore, IsLeft, IsLast, height, AreClimbable, AreLinked, IsCut}
+use Rattle.route_table.specs.Putting.{HaveSameStart}
+use Rattle.route_table.proofs.StartLemmas.{start-all}
 
 -- ---- prefixes and addresses
 
@@ -92,7 +94,7 @@ addresses_rise routes i j d e rising le in' =
 
 -- ---- the climb
 
-before_more : (o : Option ℕ) (place many : ℕ) → place ≤ many → IsBefore o place → IsBefore o many
+pub before_more : (o : Option ℕ) (place many : ℕ) → place ≤ many → IsBefore o place → IsBefore o many
 before_more None place many le h = tt
 before_more (Some k) place many le h = omega arith
 
@@ -115,11 +117,6 @@ climb routes links many address place d e rising within linked first left hasnt 
           ];
     }
 
--- how far there is to climb at most
-abbrev pub height : Option ℕ → ℕ
-height None = 0
-height (Some place) = place + 1
-
 pub height_falls : (o : Option ℕ) (place : ℕ) → IsBefore o place → height o < place + 1
 height_falls None place h = omega arith
 height_falls (Some k) place h = omega arith
@@ -129,20 +126,35 @@ height_falls (Some k) place h = omega arith
 pub linked_less : (routes : List Route) (many all : ℕ) (links : List (Option ℕ)) → many ≤ all → AreLinked routes all links → AreLinked routes many links
 linked_less routes many all links le linked = let enough = linked.enough in record { enough = omega arith; link = λ k d e l. linked.link k d e (omega arith) }
 
-pub linked_more : (routes : List Route) (place : ℕ) (links : List (Option ℕ)) (link : Option ℕ) (e : Route) → place < length routes → length links ≡ place → AreLinked routes place links → IsLast routes place (get_or routes place e).prefix.address link → AreLinked routes (place + 1) (links ++ link ∷ [])
-linked_more routes place links link e in' long linked last =
+pub linked_set : (routes : List Route) (place : ℕ) (links : List (Option ℕ)) (link : Option ℕ) (e : Route) → place < length routes → place < length links → AreLinked routes place links → IsLast routes place (get_or routes place e).prefix.address link → AreLinked routes (place + 1) (slice_set links place link)
+linked_set routes place links link e inside room linked last =
     record {
-      enough = let more = length_push links link in omega arith;
+      enough = let long = length-set links place link in omega arith;
       link = λ k d o l.
-          elim (cases_lt k place) [
-            | inl less ↦ subst (λ (x : Option ℕ). IsLast routes k (get_or routes k d).prefix.address x) (sym (get_or_append_left links (link ∷ []) o k (omega arith))) (linked.link k d o less)
-            | inr not_less ↦
-                let k_is : place ≡ k = omega arith in
-                let here : IsLast routes place (get_or routes place d).prefix.address link = subst (λ (r : Route). IsLast routes place r.prefix.address link) (get_or_default routes place e d in') last in
-                let there : IsLast routes k (get_or routes k d).prefix.address link = subst (λ (n : ℕ). IsLast routes n (get_or routes n d).prefix.address link) k_is here in
-                subst (λ (x : Option ℕ). IsLast routes k (get_or routes k d).prefix.address x) (sym (get_or_push links link o k (omega arith))) there
+          elim (cases_eq k place) [
+            | inl here ↦
+                let there : IsLast routes place (get_or routes place d).prefix.address link = subst (λ (r : Route). IsLast routes place r.prefix.address link) (get_or_default routes place e d inside) last in
+                subst (λ (n : ℕ). IsLast routes n (get_or routes n d).prefix.address (get_or (slice_set links place link) n o)) (sym here)
+                (subst (λ (x : Option ℕ). IsLast routes place (get_or routes place d).prefix.address x) (sym (get_or-set_same links place link o room)) there)
+            | inr other ↦
+                subst (λ (x : Option ℕ). IsLast routes k (get_or routes k d).prefix.address x) (sym (get_or-set_other links place k link o other))
+                (linked.link k d o (elim (cases_lt k place) [
+                  | inl less ↦ less
+                  | inr not-less ↦ absurd (other (omega arith))
+                ]))
           ];
     }
+
+pub linked_put : (routes : List Route) (place : ℕ) (links : List (Option ℕ)) (link : Option ℕ) → place < length routes → place < length links → AreLinked routes place links → ((d : Route) → IsLast routes place (get_or routes place d).prefix.address link) → AreLinked routes (place + 1) (slice_set links place link)
+linked_put [] place links link inside room linked last = absurd (omega arith)
+linked_put (x ∷ xs) place links link inside room linked last = linked_set (x ∷ xs) place links link x inside room linked (last x)
+
+pub link_before : (routes : List Route) (links : List (Option ℕ)) (k : ℕ) (e : Option ℕ) → k < length routes → AreLinked routes (length routes) links → IsBefore (get_or links k e) k
+link_before [] links k e inside linked = absurd (omega arith)
+link_before (x ∷ xs) links k e inside linked = (linked.link k x e inside).left.before
+
+pub linked_none : (routes : List Route) (links : List (Option ℕ)) → AreLinked routes 0 links
+linked_none routes links = record { enough = omega arith; link = λ k d e l. absurd (omega arith) }
 
 -- ---- the answer of a look-up
 
@@ -205,41 +217,44 @@ lengths-same p q e =
     let fits_q : q.length ≤ 32 = q.fits in
     omega arith
 
-starts-same : (p q : Prefix) → prefix_number p ≡ prefix_number q → p.address ≡ q.address
+pub starts-same : (p q : Prefix) → prefix_number p ≡ prefix_number q → p.address ≡ q.address
 starts-same p q e =
     let fits_p : p.length ≤ 32 = p.fits in
     let fits_q : q.length ≤ 32 = q.fits in
     omega arith
 
-has-same : (p q : Prefix) (a : ℕ) → prefix_number p ≡ prefix_number q → Has p a → Has q a
+pub has-same : (p q : Prefix) (a : ℕ) → prefix_number p ≡ prefix_number q → Has p a → Has q a
 has-same p q a e has =
     subst (λ (n : ℕ). a / 2 ^ (32 - n) ≡ q.address / 2 ^ (32 - n)) (lengths-same p q e)
     (subst (λ (m : ℕ). a / 2 ^ (32 - p.length) ≡ m / 2 ^ (32 - p.length)) (starts-same p q e) has)
 
-module _ (old new : List Route) (same : HaveSamePrefixes old new) where
-  at-same : (a : ℕ) (place : Option ℕ) → HasAt old a place → HasAt new a place
-  at-same a None has = tt
-  at-same a (Some place) has = λ d. has-same (get_or old place d).prefix (get_or new place d).prefix a (sym (same.each place d)) (has d)
+module _ (old new : List Route) (first : ℕ) (start : HaveSameStart old new first) where
+  at-start : (many a : ℕ) (place : Option ℕ) → many ≤ first → IsBefore place many → HasAt old a place → HasAt new a place
+  at-start many a None le before has = tt
+  at-start many a (Some place) le before has = λ d. has-same (get_or old place d).prefix (get_or new place d).prefix a (sym (start.each place d (omega arith))) (has d)
 
-  last-same : (many a : ℕ) (place : Option ℕ) → IsLast old many a place → IsLast new many a place
-  last-same many a place last = record {
+  last-start : (many a : ℕ) (place : Option ℕ) → many ≤ first → IsLast old many a place → IsLast new many a place
+  last-start many a place le last = record {
     left = record {
       before = last.left.before;
-      rest = λ k d less has. last.left.rest k d less (has-same (get_or new k d).prefix (get_or old k d).prefix a (same.each k d) has);
+      rest = λ k d less has. last.left.rest k d less (has-same (get_or new k d).prefix (get_or old k d).prefix a (start.each k d (omega arith)) has);
     };
-    has = at-same a place last.has;
+    has = at-start many a place le last.left.before last.has;
   }
 
-  pub climbable-same : (links : List (Option ℕ)) → AreRising new → AreClimbable old links → AreClimbable new links
-  climbable-same links rising climbable = record {
-    rising = rising;
-    linked =
-        let count = same.count in
-        let enough = climbable.linked.enough in
-        record {
-          enough = omega arith;
-          link = λ k d e less.
-              subst (λ (a : ℕ). IsLast new k a (get_or links k e)) (starts-same (get_or old k d).prefix (get_or new k d).prefix (sym (same.each k d)))
-              (last-same k (get_or old k d).prefix.address (get_or links k e) (climbable.linked.link k d e (omega arith)));
-        };
+  -- links of routes whose prefixes stay, with all before them
+  pub linked-start : (links others : List (Option ℕ)) → first ≤ length others → AreLinked old (length old) links → ((k : ℕ) (e : Option ℕ) → k < first → get_or others k e ≡ get_or links k e) → AreLinked new first others
+  linked-start links others room linked same = record {
+    enough = room;
+    link = λ k d e less.
+        let within = start.within in
+        subst (λ (a : ℕ). IsLast new k a (get_or others k e)) (starts-same (get_or old k d).prefix (get_or new k d).prefix (sym (start.each k d less)))
+        (last-start k (get_or old k d).prefix.address (get_or others k e) (omega arith)
+        (subst (λ (x : Option ℕ). IsLast old k (get_or old k d).prefix.address x) (sym (same k e less)) (linked.link k d e (omega arith))));
   }
+
+pub climbable-copied : (routes : List Route) (links others : List (Option ℕ)) → length routes ≤ length others → ((k : ℕ) (e : Option ℕ) → k < length routes → get_or others k e ≡ get_or links k e) → AreClimbable routes links → AreClimbable routes others
+climbable-copied routes links others room same climbable = record {
+  rising = climbable.rising;
+  linked = linked-start routes routes (length routes) (start-all routes (length routes) refl) links others room climbable.linked same;
+}

@@ -14,8 +14,8 @@ use Rattle.route_table.specs.declared.route.Route.{Route}
 use Rattle.route_table.specs.Ranks.{prefix_number}
 use Rattle.route_table.specs.Routes.{IsRoute, AreRising, AreRoutes}
 use Rattle.route_table.specs.declared.patch.Patch.{Patch}
-use Rattle.route_table.specs.Putting.{IsPutIn, Stays}
-use Rattle.route_table.specs.Patches.{is_touched, AreInTurn, AreStaying, IsPatched, ArePatches, AreClean, AreMoved, is_moved, IsPart, IsPatchOf, ArePrefixesInOrder, IsAgain, IsListed, HavePatches}
+use Rattle.route_table.specs.Putting.{IsPutIn}
+use Rattle.route_table.specs.Patches.{is_touched, AreInTurn, IsPatched, ArePatches, AreClean, AreMoved, is_moved, IsPart, IsPatchOf, ArePrefixesInOrder, IsAgain, IsListed, HavePatches}
 
 -- ---- whether a prefix has a patch
 
@@ -384,19 +384,3 @@ touched_as HopTo sorted prefixes list have n = (
       (get_or prefixes g.0 (f.0).prefix, Contains-get_or prefixes g.0 (f.0).prefix g.1, g.2 (f.0).prefix ∙ f.2)),
   (λ l. let h = l.1 in subst (λ (m : ℕ). is_touched list m ≡ true) (ap prefix_number h.2 ∙ l.2) (have.all h.0 l.0 h.1)),
 )
-
--- one of the patches leaves whether its prefix has a route
-pub staying-of : (routes : List Route) (patches : List Patch) (p : Patch) → AreStaying routes patches → Contains patches p → Stays routes (prefix_number p.prefix) p.route
-staying-of routes patches p staying there = subst (λ (x : Patch). Stays routes (prefix_number x.prefix) x.route) there.2 (staying.each there.0 p there.1)
-
-pub staying-more : (routes : List Route) (list : List Patch) (place : ℕ) (x : Patch) → place < length list → x ≡ get_or list place x → Stays routes (prefix_number x.prefix) x.route
-    → ((k : ℕ) (d : Patch) → k < place → Stays routes (prefix_number (get_or list k d).prefix) (get_or list k d).route)
-    → (k : ℕ) (d : Patch) → k < place + 1 → Stays routes (prefix_number (get_or list k d).prefix) (get_or list k d).route
-staying-more routes list place x inside is stays before k d less =
-    elim (cases_lt k place) [
-      | inl yes-before ↦ before k d yes-before
-      | inr not-before ↦
-          let here : place ≡ k = omega arith in
-          subst (λ (m : ℕ). Stays routes (prefix_number (get_or list m d).prefix) (get_or list m d).route) here
-          (subst (λ (y : Patch). Stays routes (prefix_number y.prefix) y.route) (is ∙ get_or_default list place x d inside) stays)
-    ]

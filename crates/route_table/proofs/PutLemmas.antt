@@ -10,7 +10,7 @@ use Rattle.std.proofs.lemmas.List.Edits.{get_or-insert_at, get_or-insert_below, 
 use Rattle.route_table.specs.declared.route.Route.{Route}
 use Rattle.route_table.specs.Ranks.{prefix_number}
 use Rattle.route_table.specs.Routes.{AreRising}
-use Rattle.route_table.specs.Putting.{HaveSamePrefixes, IsFree, IsHeld, IsPlaceOf, IsPutIn, Stays}
+use Rattle.route_table.specs.Putting.{IsFree, IsHeld, IsPlaceOf, IsPutIn}
 
 abbrev pn : Route → ℕ
 pn r = prefix_number r.prefix
@@ -267,53 +267,3 @@ held-by old n place value e rising at inside is = held-step old n place value e 
 -- past the end there is none
 pub free-past : (old : List Route) (n place : ℕ) → AreRising old → IsPlaceOf old n place → length old ≤ place → IsFree old n
 free-past old n place rising at past = free-all old n place rising at (λ d l same. omega arith)
-
--- ---- prefixes that stay
-
--- the place at which a prefix has its route is the one that is found
-pub place-held : (old : List Route) (n place k : ℕ) (d : Route) → AreRising old → IsPlaceOf old n place → IsHeld old n k → k ≡ place
-place-held old n place k d rising at held =
-    let here = held.1 d in
-    let inside = held.0 in
-    elim (cases_lt k place) [
-      | inl before ↦ let low = at.below k d before in absurd (omega arith)
-      | inr not-before ↦
-          elim (cases_lt place k) [
-            | inl past ↦
-                let high = at.above place d (omega arith) (omega arith) in
-                let up = rising.below place k d past inside in
-                absurd (omega arith)
-            | inr not-past ↦ omega arith
-          ]
-    ]
-
-pub held-there : (old : List Route) (n place k : ℕ) (d : Route) → AreRising old → IsPlaceOf old n place → IsHeld old n k → IsHeld old n place
-held-there old n place k d rising at held = subst (IsHeld old n) (place-held old n place k d rising at held) held
-
-pub same-none : (old : List Route) → HaveSamePrefixes old old
-same-none old = record { count = refl; each = λ k d. refl }
-
-pub same-more : (old mid new : List Route) → HaveSamePrefixes old mid → HaveSamePrefixes mid new → HaveSamePrefixes old new
-same-more old mid new first next = record {
-  count = next.count ∙ first.count;
-  each = λ k d. next.each k d ∙ first.each k d;
-}
-
-pub same-set : (old : List Route) (n place : ℕ) (x : Route) → IsHeld old n place → pn x ≡ n → HaveSamePrefixes old (slice_set old place x)
-same-set old n place x held own = record {
-  count = length-set old place x;
-  each = λ k d. elim (cases_eq k place) [
-    | inl here ↦
-        subst (λ (m : ℕ). pn (get_or (slice_set old place x) m d) ≡ pn (get_or old m d)) (sym here)
-        (ap pn (get_or-set_same old place x d held.0) ∙ own ∙ sym (held.1 d))
-    | inr other ↦ ap pn (get_or-set_other old place k x d other)
-  ];
-}
-
--- what stays in routes stays in others of the same prefixes
-pub stays-same : (old new : List Route) (n : ℕ) (o : Option Route) → HaveSamePrefixes old new → Stays old n o → Stays new n o
-stays-same old new n None same free = λ k d l is. (let count = same.count in free k d (omega arith) (sym (same.each k d) ∙ is))
-stays-same old new n (Some r) same held =
-    let count = same.count in
-    let inside = held.1.0 in
-    (held.0, (omega arith, λ d. same.each held.0 d ∙ held.1.1 d))

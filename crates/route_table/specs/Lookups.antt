@@ -1,6 +1,6 @@
 -- Which prefixes have an address, and which is the longest of them (own).
 
-use Rattle.std.specs.Prelude.{◌≡◌, ℕ, ◌≤◌, ◌<◌, ◌-◌, ◌/◌, ◌^◌, List, length, slice_index_or, Option, Some, None}
+use Rattle.std.specs.Prelude.{◌≡◌, ℕ, ◌≤◌, ◌<◌, ◌+◌, ◌-◌, ◌/◌, ◌^◌, List, length, slice_index_or, Option, Some, None}
 use Rattle.std.specs.List.{Contains}
 use Rattle.isis_base.specs.declared.prefix.Prefix.{Prefix}
 use Rattle.route_table.specs.declared.route.Route.{Route}
@@ -33,6 +33,11 @@ abbrev pub IsBefore : Option ℕ → ℕ → Type 0
 IsBefore None many = Unit {0}
 IsBefore (Some place) many = place < many
 
+-- how far there is to climb at most: the place behind, or none
+abbrev pub height : Option ℕ → ℕ
+height None = 0
+height (Some place) = place + 1
+
 -- the place, if any, is before the first so many routes end, and none of those behind it has the address
 pub record IsLeft (routes : List Route) (many address : ℕ) (place : Option ℕ) : Type 0 where
   pub before : IsBefore place many
@@ -43,6 +48,15 @@ pub record IsLeft (routes : List Route) (many address : ℕ) (place : Option ℕ
 abbrev pub HasAt : List Route → ℕ → Option ℕ → Type 0
 HasAt routes address None = Unit {0}
 HasAt routes address (Some place) = (d : Route) → Has (slice_index_or routes place d).prefix address
+
+-- the route at a place has the address of the one at another, or hasn't
+abbrev pub Encloses : List Route → ℕ → ℕ → Type 0
+Encloses routes first place = (d e : Route)
+    → Has (slice_index_or routes first e).prefix (slice_index_or routes place d).prefix.address
+
+abbrev pub IsApart : List Route → ℕ → ℕ → Type 0
+IsApart routes first place = (d e : Route)
+    → Has (slice_index_or routes first e).prefix (slice_index_or routes place d).prefix.address → ⊥
 
 -- the last of the first so many routes that has the address, if any has it
 pub record IsLast (routes : List Route) (many address : ℕ) (place : Option ℕ) : Type 0 where

@@ -1,14 +1,15 @@
 -- Routes of which some prefixes are looked at anew. All of it own.
 
-use Rattle.std.specs.Prelude.{◌≡◌, ℕ, ◌==◌, ◌+◌, ◌≤◌, ◌<◌, ◌-◌, ◌⊎◌, ◌↔◌, Bool, true, false, List, [], length, slice_index_or, Option, Some, None, IfSome}
-use Rattle.std.specs.List.{Contains, list_any}
+use Rattle.std.specs.Prelude.{◌≡◌, ℕ, ◌==◌, ◌+◌, ◌*◌, ◌/◌, ◌≤◌, ◌<◌, ◌-◌, nat_le, if◌then◌else◌, ◌⊎◌, ◌↔◌, Bool, true, false}
+use Rattle.std.specs.Prelude.{List, [], length, slice_index_or, Option, Some, None, IfSome}
+use Rattle.std.specs.List.{Contains, list_any, sum_by}
 use Rattle.std.specs.Option.{MatchOption}
 use Rattle.spf_tree.specs.Nodes.{node_number}
 use Rattle.route_table.specs.declared.candidate.Candidate.{Candidate}
 use Rattle.route_table.specs.declared.route.Route.{Route}
 use Rattle.route_table.specs.Ranks.{prefix_number}
 use Rattle.route_table.specs.Routes.{IsRoute, AreRising}
-use Rattle.route_table.specs.Putting.{Stays}
+use Rattle.route_table.specs.Lookups.{AreClimbable}
 use Rattle.route_table.specs.declared.patch.Patch.{Patch}
 use Rattle.route_table.specs.declared.patch.Room.{Room}
 use Rattle.isis_base.specs.declared.prefix.Prefix.{Prefix}
@@ -34,21 +35,44 @@ pub record PatchesOf : Type 0 where
   pub list : List Patch
   pub room : Option ℕ
 
--- each patch leaves whether its prefix has a route
-pub record AreStaying (routes : List Route) (patches : List Patch) : Type 0 where
-  pub each : (k : ℕ) (d : Patch) → k < length patches
-      → Stays routes (prefix_number (slice_index_or patches k d).prefix) (slice_index_or patches k d).route
+-- whether a prefix has a route
+abbrev pub is_routed : List Route → ℕ → Bool
+is_routed routes n = list_any (λ (r : Route). prefix_number r.prefix == n) routes
 
--- there is room for the routes with one more for each patch, or none is wanted
+-- how many routes more there are where a prefix gets this one
+abbrev pub more_by : List Route → ℕ → Option Route → ℕ
+more_by routes n None = 0
+more_by routes n (Some route) = if is_routed routes n then 0 else 1
+
+-- how many routes come by patches, those that go left aside
+abbrev pub coming : List Route → List Patch → ℕ
+coming routes patches =
+    sum_by (λ (p : Patch). more_by routes (prefix_number p.prefix) p.route) patches
+
+-- how many routes a table of so many has room for: in steps of 64 up to 4,096, and of 1,024 from there on
+abbrev pub room_of : ℕ → ℕ
+room_of many = if nat_le many 4096 then (many + 63) / 64 * 64 else (many + 1023) / 1024 * 1024
+
+-- the routes that come have room in the table as it is, or in the room that was taken for it
 abbrev pub Fits : List Route → PatchesOf → Type 0
-Fits routes patches = MatchOption patches.room (AreStaying routes patches.list)
-    (λ room. length routes + length patches.list ≤ room)
+Fits routes patches = MatchOption patches.room
+    (length routes + coming routes patches.list ≤ room_of (length routes))
+    (λ room. room_of (length routes + coming routes patches.list) ≤ room)
 
--- the room, if any, is empty
+-- no room is taken where the table has it
+abbrev pub TakesNoMore : List Route → PatchesOf → Type 0
+TakesNoMore routes patches =
+    length routes + coming routes patches.list ≤ room_of (length routes) → patches.room ≡ None
+
+-- a table's routes and links, with room for so many
+pub record HaveRoom (routes : List Route) (links : List (Option ℕ)) (room : ℕ) : Type 0 where
+  pub climbable : AreClimbable routes links
+  pub enough : room_of (length routes) ≤ room
+
+-- the room, if any, has no routes yet
 pub record ArePatchesWithRoom (list : List Patch) (room : Option Room) : Type 0 where
   pub turn : AreInTurn list
-  pub routes : IfSome room (λ r. r.routes.items ≡ [])
-  pub links : IfSome room (λ r. r.links.items ≡ [])
+  pub empty : IfSome room (λ r. r.routes.items ≡ [])
 
 -- the routes of the patches, and the old ones for other prefixes, in order
 pub record IsPatched (old : List Route) (patches : List Patch) (routes : List Route) : Type 0 where

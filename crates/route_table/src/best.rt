@@ -11,6 +11,7 @@ ghost use Rattle.route_table.specs.Order.{IsListedHop, AreInOrder, HaveRoutes};
 use crate::candidate::Candidate;
 use crate::hops::hops_of;
 use crate::order::{in_order, prefix_end, run_end};
+use crate::room::room_of;
 use crate::route::Route;
 use crate::table::{Routes, of};
 use isis_base::OutOfMemory;
@@ -78,7 +79,11 @@ fn best_of(
     ensures { IfOk result
         (λ routes. AreRoutes (IsListedHop one.now two.now) candidates.now routes.items) }
 {
-    let mut routes = match Vec::with_capacity(alloc, candidates.len()) {
+    let many = match room_of(candidates.len()) {
+        Ok(many) => many,
+        Err(error) => return Err(error),
+    };
+    let mut routes = match Vec::with_capacity(alloc, many) {
         Ok(routes) => routes,
         Err(_) => return Err(OutOfMemory),
     };

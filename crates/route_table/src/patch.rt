@@ -1,18 +1,20 @@
 //! What some prefixes' routes become.
 
-ghost use Rattle.std.specs.Prelude.{◌≡◌, ◌≤◌, ◌<◌, ◌↔◌, [], ℕ, true, false, length, slice_index_or, vec_capacity, IfOk};
+ghost use Rattle.std.specs.Prelude.{◌≡◌, ◌≤◌, ◌<◌, ◌↔◌, [], ℕ, true, false, length, slice_index_or, vec_capacity, vec_len, IfOk};
 ghost use Rattle.std.specs.Bool.{MatchBool};
 ghost use Rattle.route_table.specs.declared.candidate.Candidate.{Candidate};
 ghost use Rattle.route_table.specs.Ranks.{prefix_number};
 ghost use Rattle.route_table.specs.Order.{IsListedHop, AreInOrder};
-ghost use Rattle.route_table.specs.Patches.{ArePrefixesInOrder, AreInTurn, ArePatches, AreStaying, Fits, HavePatches, IsAgain, IsListed, IsPatchOf, is_touched};
-ghost use Rattle.route_table.specs.Putting.{IsFirstFor, Stays};
+ghost use Rattle.route_table.specs.Patches.{ArePrefixesInOrder, AreInTurn, ArePatches, HavePatches, IsAgain, IsListed, IsPatchOf, is_touched};
+ghost use Rattle.route_table.specs.Patches.{Fits, TakesNoMore, coming, more_by};
+ghost use Rattle.route_table.specs.Putting.{IsFirstFor};
 ghost use Rattle.route_table.specs.Routes.{AreRising};
 
 use crate::best::route_at;
 use crate::candidate::Candidate;
 use crate::order::{in_order, prefix_number};
 use crate::putting::{is_held, place_of};
+use crate::room::room_of;
 use crate::route::Route;
 use crate::table::Routes;
 use isis_base::{OutOfMemory, Prefix};
@@ -34,8 +36,8 @@ pub struct Room {
     pub(crate) links: Vec<Option<usize>>,
 }
 
-/// What some prefixes' routes become, in order of prefix, with the room that putting them in takes: none where each of them has a
-/// route before and after, or has none (own).
+/// What some prefixes' routes become, in order of prefix, with the room that putting them in takes, where the table that
+/// they fit has none for the routes that come (own).
 #[derive(Drop, Debug)]
 pub struct Patches {
     pub(crate) list: Vec<Patch>,
@@ -43,7 +45,7 @@ pub struct Patches {
 }
 
 impl Model for Patches {
-    ghost use Rattle.std.specs.Prelude.{vec_capacity, min};
+    ghost use Rattle.std.specs.Prelude.{vec_capacity, vec_len, min};
     ghost use Rattle.std.specs.Option.{option_map};
     ghost use Rattle.route_table.specs.Patches.{PatchesOf, AreInTurn, ArePatchesWithRoom};
 
@@ -51,7 +53,7 @@ impl Model for Patches {
 
     ghost view = { λ p. record {
       list = p.list.items;
-      room = option_map (λ r. min (vec_capacity r.routes) (vec_capacity r.links)) p.room;
+      room = option_map (λ r. min (vec_capacity r.routes) (vec_len r.links)) p.room;
     } };
 
     ghost invariant = { λ p. ArePatchesWithRoom p.list.items p.room };
@@ -71,6 +73,7 @@ pub fn patches_for(
     ensures touched { IfOk result (λ p. (n : ℕ)
         → is_touched p.list n ≡ true ↔ IsListed prefixes.items n) }
     ensures room { IfOk result (Fits held.now) }
+    ensures spare { IfOk result (TakesNoMore held.now) }
 {
     let prefixes = prefixes_in_order(prefixes);
     let sorted = in_order(alloc, candidates)?;
@@ -184,20 +187,21 @@ fn is_for(sorted: &[Candidate], place: usize, prefix: Prefix) -> bool
     prefix_number(sorted[place].prefix) == prefix_number(prefix)
 }
 
-/// Patches as they fit these routes: with room for them and one more for each patch, or without where none is wanted.
+/// Patches as they fit these routes: without room where a table of so many has it, or with room for all that there are then.
 fn with_room(alloc: Global, held: &[Route], list: Vec<Patch>) -> Result<Patches, OutOfMemory>
     requires rising { AreRising held.now }
     requires turn { AreInTurn list.items }
     ensures list { IfOk result (λ p. p.list ≡ list.items) }
     ensures room { IfOk result (Fits held.now) }
+    ensures spare { IfOk result (TakesNoMore held.now) }
 {
-    if are_staying(held, list.as_slice()) {
-        return Ok(Patches { list, room: None });
-    }
-    let Some(many) = held.len().checked_add(list.len()) else {
+    let Some(many) = held.len().checked_add(count_coming(held, list.as_slice())) else {
         return Err(OutOfMemory);
     };
-    match room_for(alloc, many) {
+    if many <= room_of(held.len())? {
+        return Ok(Patches { list, room: None });
+    }
+    match room_for(alloc, room_of(many)?) {
         Ok(room) => Ok(Patches {
             list,
             room: Some(room),
@@ -209,10 +213,10 @@ fn with_room(alloc: Global, held: &[Route], list: Vec<Patch>) -> Result<Patches,
 /// Room for so many routes, and for their links.
 fn room_for(alloc: Global, many: usize) -> Result<Room, OutOfMemory>
     ensures routes { IfOk result (λ r. (r.routes.items ≡ []) × (many ≤ vec_capacity r.routes)) }
-    ensures links { IfOk result (λ r. (r.links.items ≡ []) × (many ≤ vec_capacity r.links)) }
+    ensures links { IfOk result (λ r. many ≤ vec_len r.links) }
 {
     match Vec::with_capacity(alloc, many) {
-        Ok(routes) => match Vec::with_capacity(alloc, many) {
+        Ok(routes) => match vec![in alloc; None; many] {
             Ok(links) => Ok(Room { routes, links }),
             Err(_) => Err(OutOfMemory),
         },
@@ -220,29 +224,28 @@ fn room_for(alloc: Global, many: usize) -> Result<Room, OutOfMemory>
     }
 }
 
-/// Whether patches leave which prefixes have a route.
-fn are_staying(routes: &[Route], list: &[Patch]) -> bool
+/// How many routes come by patches.
+fn count_coming(routes: &[Route], list: &[Patch]) -> usize
     requires { AreRising routes.now }
-    ensures { result ≡ true → AreStaying routes.now list.now }
+    ensures { result ≡ coming routes.now list.now }
 {
+    let mut many = 0;
     for place in 0..list.len() {
-        if !stays(routes, &list[place]) {
-            return false;
-        }
+        many += more_by(routes, &list[place]);
     }
-    true
+    many
 }
 
-/// Whether a patch leaves whether its prefix has a route.
-fn stays(routes: &[Route], patch: &Patch) -> bool
+/// How many routes come by a patch.
+fn more_by(routes: &[Route], patch: &Patch) -> usize
     requires { AreRising routes.now }
-    ensures { result ≡ true → Stays routes.now (prefix_number patch.now.prefix) patch.now.route }
+    ensures more { result ≡ more_by routes.now (prefix_number patch.now.prefix) patch.now.route }
+    ensures few { result ≤ 1 }
 {
     let wanted = prefix_number(patch.prefix);
     let place = place_of(routes, wanted);
-    let held = is_held(routes, wanted, place);
     match patch.route {
-        Some(_) => held,
-        None => !held,
+        Some(_) => { if is_held(routes, wanted, place) { 0 } else { 1 } }
+        None => 0,
     }
 }

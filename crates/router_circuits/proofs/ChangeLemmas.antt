@@ -1,5 +1,6 @@
 -- What became of adjacencies, and what the model says comes of it.
-use Rattle.std.proofs.Common.{◌≡◌, ℕ, Bool, true, false, not, ◌&&◌, nat_lt, eqb, ◌==◌, if◌then◌else◌, List, [], ◌∷◌, Option, Some, None, IfSome, IfOk, Result, Ok, IsSome, refl, sym, ap, subst, ◌∙◌, arith}
+use Rattle.std.proofs.Common.{◌≡◌, ℕ, Bool, true, false, not, ◌&&◌, ◌||◌, nat_le, nat_lt, eqb, map, ◌==◌, if◌then◌else◌, List, [], ◌∷◌, Option, Some, None, IfSome, IfOk, Result, Ok, IsSome, refl, sym, ap, subst, ◌∙◌, arith}
+use Rattle.std.specs.List.{list_any}
 use Rattle.std.proofs.lemmas.Bool.Decides.{nat_tests}
 use Rattle.model_router.specs.Adjacencies as model
 use Rattle.model_router.specs.Both.{Both, same_flag}
@@ -15,7 +16,8 @@ use Rattle.adjacency.specs.Views.{point_of, shake_of, shakes_of}
 use Rattle.adjacency.specs.declared.hello.AdjChange.TheVariants as change
 use Rattle.isis_tlv.specs.declared.three_way.Adj.{Adj}
 use Rattle.adjacency.specs.Changes.{change_of}
-use Rattle.adjacency.specs.Lans.{hear_lan, lan_change_of, lan_less_change, some_up_over}
+use Rattle.adjacency.specs.declared.neighbour.Neighbour.{Neighbour}
+use Rattle.adjacency.specs.Lans.{hear_lan, lan_change_of, lan_less_change, neighbours, some_up_over}
 use Rattle.adjacency.specs.declared.hello.AdjChange.{AdjChange}
 use Rattle.adjacency.specs.Views as views
 use Rattle.isis_tlv.specs.declared.three_way.ThreeWay.{ThreeWay}
@@ -46,6 +48,16 @@ up-over (p ∷ heard) e = grind (arith, nat_tests, e, up-over heard)
 
 pub lan-second : (heard : List (ℕ × LanNeighbour)) → is_change (lan_less_change heard) ≡ seconds.some_over heard
 lan-second heard = grind (arith, nat_tests, up-over heard)
+
+pub over-seen : (ns : List Neighbour) (heard : List (ℕ × LanNeighbour)) → map views.neighbour_of ns ≡ neighbours heard → list_any (λ (n : Neighbour). nat_le n.left 1) ns ≡ seconds.some_over heard
+over-seen ns heard e = sym (seen ns) ∙ ap (λ (xs : List model.Neighbour). list_any seconds.is_over xs) e ∙ shown heard where
+  seen : (ns : List Neighbour) → list_any seconds.is_over (map views.neighbour_of ns) ≡ list_any (λ (n : Neighbour). nat_le n.left 1) ns
+  seen [] = refl
+  seen (n ∷ ns) = ap (λ (b : Bool). nat_le n.left 1 || b) (seen ns)
+
+  shown : (heard : List (ℕ × LanNeighbour)) → list_any seconds.is_over (neighbours heard) ≡ seconds.some_over heard
+  shown [] = refl
+  shown (p ∷ heard) = ap (λ (b : Bool). seconds.is_over p.1.neighbour || b) (shown heard)
 
 less-size : (n : model.Neighbour) → IsSized n → IsSized (seconds.held_less n)
 less-size n s = record {

@@ -2,7 +2,7 @@
 -- them (ISO 10589 8.2.4, 8.4.2; the form: own).
 use Rattle.std.specs.Prelude.{◌≡◌, ℕ, Bool, true, false, ◌&&◌, ◌||◌, not, ◌==◌, List, Option, Some, None}
 use Rattle.isis_base.specs.declared.level.Level.TheVariants as level
-use Rattle.model_router.specs.Both.{Both, same_levels}
+use Rattle.model_router.specs.Both.{Both, same_levels, runs_of}
 use Rattle.model_router.specs.Configs.{Config}
 use Rattle.model_router.specs.Adjacencies.{Neighbour, Handshake, Hello, PointAdj, is_same, hear_point, point_open}
 use Rattle.model_router.specs.Hellos.{comes_up, is_moved}
@@ -10,7 +10,6 @@ use Rattle.model_router.specs.Maps.{find}
 use Rattle.model_router.specs.Routers.{LanNeighbour}
 use Rattle.model_router.specs.Seconds.{point_over, some_over, heard_less}
 use Rattle.model_router.specs.Numbers.{system_number, snpa_number, node_number}
-use Rattle.model_datagram.specs.Reading.{runs_of}
 use Rattle.adjacency.specs.declared.hello.Own.{Own}
 use Rattle.adjacency.specs.declared.hello.HelloFields.{HelloFields}
 use Rattle.adjacency.specs.declared.hello.AdjChange.{AdjChange}

@@ -1,5 +1,6 @@
 //! The calls of a circuit's adjacencies.
-ghost use Rattle.std.specs.Prelude.{◌≡◌, true, false, map, [], IfOk, MatchOption};
+ghost use Rattle.std.specs.Prelude.{◌≡◌, nat_le, true, false, map, [], IfOk, MatchOption};
+ghost use Rattle.std.specs.List.{list_any};
 ghost use Rattle.model_router.specs.Both.{at};
 ghost use Rattle.router_desk.specs.Desks as desks;
 ghost use Rattle.model_router.specs.Seconds.{heard_less, point_less, point_over, some_over};
@@ -102,6 +103,16 @@ impl Medium {
         }
     }
 
+    /// Whether the holding time of one ends within a second.
+    pub(crate) fn is_ending(&self) -> bool
+        ensures { result ≡ is_over self.now }
+    {
+        match self {
+            Medium::Point(point) => point_ends(point),
+            Medium::Lan(one, two) => lan_ends(one) || lan_ends(two),
+        }
+    }
+
     /// A second of each holding time; whether the time of one is over.
     pub(crate) fn second(&mut self) -> bool
         requires { AreSized self.old }
@@ -120,6 +131,30 @@ impl Medium {
             }
         }
     }
+}
+
+/// Whether the time of a point-to-point adjacency ends within a second.
+fn point_ends(point: &P2pAdj) -> bool
+    ensures { result ≡ point_over (point_of point.now).neighbour }
+{
+    match point.neighbour() {
+        Some(neighbour) => neighbour.left <= 1,
+        None => false,
+    }
+}
+
+/// Whether the time of one of a level's adjacencies of a LAN does.
+fn lan_ends(lan: &LanAdj) -> bool
+    ensures { result ≡ some_over lan.now }
+{
+    some_end(lan.heard())
+}
+
+/// Whether the time of one of these neighbours does.
+fn some_end(neighbours: &[Neighbour]) -> bool
+    ensures { result ≡ list_any (λ n. nat_le n.left 1) neighbours.now }
+{
+    neighbours.iter().any(|neighbour| neighbour.left <= 1)
 }
 
 /// A second of a point-to-point adjacency; whether its time is over.

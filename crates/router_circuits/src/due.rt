@@ -30,6 +30,13 @@ impl Circuit {
         self.hold();
     }
 
+    /// Whether the holding time of an adjacency ends within a second (ISO 10589 8.2.5, 8.4.2).
+    pub fn is_ending(&self) -> bool
+        ensures { result ≡ seconds.time_over self.now }
+    {
+        self.medium.is_ending()
+    }
+
     /// A second of all counters.
     fn count(&mut self)
         ensures { self.new ≡ seconds.counted self.old }
@@ -54,10 +61,24 @@ impl Circuit {
         ensures { (config : Config) (place : ℕ) → IsHere config place system circuit
             → self.new ≡ elections.idle config place self.old }
     {
-        let one = self.is_designated(system, circuit, Level::One);
-        let two = self.is_designated(system, circuit, Level::Two);
-        self.one = idle(self.one, one);
-        self.two = idle(self.two, two);
+        let one = self.idled(system, circuit, Level::One);
+        let two = self.idled(system, circuit, Level::Two);
+        self.one = one;
+        self.two = two;
+    }
+
+    /// A level's counters then. Who is designated isn't asked where the CSNP counter stands at 0 already.
+    fn idled(&self, system: SystemId, circuit: u8, level: Level) -> Timers
+        ensures { (config : Config) (place : ℕ) → IsHere config place system circuit
+            → level_in (at self.now.levels level).heard result
+            ≡ elections.idle_level (elections.is_designated config place self.now level)
+            (at self.now.levels level) }
+    {
+        let timers = self.timers(level);
+        if timers.csnp == 0 || self.is_designated(system, circuit, level) {
+            return timers;
+        }
+        Timers { csnp: 0, ..timers }
     }
 
     /// Whether a hello is due (ISO 10589 8.2.3, 8.4.1).
@@ -145,15 +166,6 @@ fn counted(timers: Timers) -> Timers
         psnp: timers.psnp.saturating_sub(1),
         due: timers.due,
     }
-}
-
-/// A level's counters where the router is designated or not.
-fn idle(timers: Timers, own: bool) -> Timers
-    ensures { (heard : List (ℕ × LanNeighbour))
-        → level_in heard result ≡ elections.idle_level own (level_in heard timers) }
-{
-    let csnp = if own { timers.csnp } else { 0 };
-    Timers { csnp, ..timers }
 }
 
 /// A level's counters after a CSNP set.

@@ -8,7 +8,8 @@ ghost use Rattle.model_router.specs.Configs.{Config};
 ghost use Rattle.model_router.specs.HelloTests.{point_drop};
 ghost use Rattle.model_router.specs.Hellos.{minded};
 ghost use Rattle.adjacency.specs.Changes.{IsTested};
-ghost use Rattle.adjacency.specs.Views.{neighbour_of, point_of, runs_of};
+ghost use Rattle.model_router.specs.Both.{runs_of};
+ghost use Rattle.adjacency.specs.Views.{neighbour_of, point_of};
 ghost use Rattle.router_circuits.specs.Hellos.{IsGreeted, IsOwn, hello_of, is_change, is_coming_up, is_one};
 
 use crate::adjacencies::is_change;

@@ -14,7 +14,7 @@
 //! - `senders.rt`: of whom a datagram may come; `by_snpa.rt`: neighbours by SNPA
 //! - `election.rt`, `candidate.rt`, `designated.rt`: who is designated
 //! - `due.rt`, `timers.rt`: the counters, and what is due
-//! - `numbers.rt`: node IDs as numbers; `laws.rt`: sets of levels in the words of datagrams
+//! - `numbers.rt`: node IDs as numbers
 #![tactic(auto)]
 
 mod adjacencies;
@@ -27,7 +27,6 @@ mod election;
 mod greeted;
 mod greeting;
 mod hearing;
-mod laws;
 mod medium;
 mod numbers;
 mod senders;
@@ -37,5 +36,4 @@ mod timers;
 
 pub use circuit::Circuit;
 pub use designated::Designated;
-pub use laws::word_laws;
 pub use sizes::hello_sizes;

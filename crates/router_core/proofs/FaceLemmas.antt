@@ -5,7 +5,7 @@ use Rattle.isis_base.specs.declared.level.Level.TheVariants as level
 use Rattle.model_router.specs.Both.{at}
 use Rattle.model_router.specs.Adjacencies.{Neighbour, point_open, is_up, keeps_level}
 use Rattle.model_router.specs.Configs.{Config}
-use Rattle.model_router.specs.Routers.{Circuit, Contents, LanNeighbour, Router, some_up}
+use Rattle.model_router.specs.Routers.{Circuit, Contents, LanNeighbour, Router, is_open, some_up}
 use Rattle.model_router.specs.Elections.{Candidate, better, elect, designated, oneself}
 use Rattle.model_router.specs.Givens.{Given}
 use Rattle.model_router.specs.LspNeighbours.{all_nodes, lan_node, lan_nodes, nodes_of, point_node, put_node, put_nodes}
@@ -51,6 +51,13 @@ circuit-face config place c l =
     ap (λ (o : Option Candidate). if c.lan then lan_node c.metric o else (if point_open (face c).point l then point_node c.metric (face c).point.neighbour else [])) (designated-face config place c l)
     ∙ (ap (λ (b : Bool). if c.lan then lan_node c.metric (designated config place c l) else (if is_up c.point.state && b then point_node c.metric (face c).point.neighbour else [])) (point-keeps c.point.neighbour l)
     ∙ ap (λ (nodes : List (ℕ × ℕ)). if c.lan then lan_node c.metric (designated config place c l) else (if point_open c.point l then nodes else [])) (point-nodes c.metric c.point.neighbour))
+
+-- whether a circuit is open is of its face
+pub open-face : (c : Circuit) (l : Level) → is_open (face c) l ≡ is_open c l
+open-face c l =
+    ap (λ (h : List (ℕ × LanNeighbour)). if c.lan then some_up h else point_open (face c).point l) (heard-at c l)
+    ∙ (ap (λ (b : Bool). if c.lan then b else point_open (face c).point l) (up-face (at c.levels l).heard)
+    ∙ ap (λ (b : Bool). if c.lan then some_up (at c.levels l).heard else is_up c.point.state && b) (point-keeps c.point.neighbour l))
 
 -- ---- all circuits
 

@@ -1,5 +1,6 @@
 -- What leaves all that own LSPs are made from.
-use Rattle.std.proofs.Common.{◌≡◌, ℕ, zero, suc, ◌+◌, ◌==◌, ◌≤◌, nat_lt, Bool, true, false, not, ◌&&◌, List, [], ◌∷◌, length, drop, get_or, ◌<◌, Option, Some, None, IfSome, if◌then◌else◌, option_map, is_some, refl, sym, ap, ◌∙◌, subst, arith}
+use Rattle.std.proofs.Common.{◌≡◌, ℕ, zero, suc, ◌+◌, ◌==◌, nat_lt, Bool, true, false, not, ◌&&◌, ◌||◌, List, [], ◌∷◌, length, map, Option, Some, None, IfSome, if◌then◌else◌, option_map, refl, sym, ap, ◌∙◌, subst}
+use Rattle.std.specs.List.{list_any}
 use Rattle.isis_tlv.specs.declared.three_way.Adj.TheVariants.{Down}
 use Rattle.isis_base.specs.declared.level.Level.{Level}
 use Rattle.isis_base.specs.declared.level.Level.TheVariants as level
@@ -12,7 +13,7 @@ use Rattle.model_router.specs.Routers.{Circuit, CircuitLevel, LanNeighbour, Leve
 use Rattle.model_router.specs.Elections.{idle_all}
 use Rattle.model_router.specs.Hellos.{follow, point_circuit, take_point}
 use Rattle.model_router.specs.Events.{Message, Refused, PointHelloHeard, LanHelloHeard, LspHeard, SnpHeard, Event, Second, Take, Pull, Metric, Overload, Prefix, Done, Outcome, settled}
-use Rattle.model_router.specs.Seconds.{is_over, held_less, point_kept, point_less, heard_less}
+use Rattle.model_router.specs.Seconds.{is_over, held_less, point_kept, point_less, point_over, heard_less, some_over, time_over}
 use Rattle.model_router.specs.SnpLists.{owed}
 use Rattle.model_router.specs.Pulls.{csnp_sent, Sending, on_circuit, at_circuit, pull_hello, pull_csnp, pull_lsps, pull_psnp, pull_level, pull, with_part, is_csnp_due}
 use Rattle.model_router.specs.declared.whose.Whose.{Whose}
@@ -30,8 +31,7 @@ use Rattle.model_router.specs.Givens.{Given}
 use Rattle.model_router.specs.Receiving.{scene_of, greeted, taken, take_or_drop, take, drop_of}
 use Rattle.model_router.specs.Steps.{sent_all, step}
 use Rattle.model_router.proofs.BookLemmas.{choose}
-use Rattle.adjacency.specs.Lans.{neighbours}
-use Rattle.router_core.specs.Seconds.{bare_later}
+use Rattle.router_core.specs.Seconds.{later}
 use Rattle.router_core.specs.Calm.{is_calm_row, is_calm_entry, AreClear, IsCalmMessage, IsCalm}
 use Rattle.router_core.proofs.CalmLemmas.{take-face, clear-face}
 use Rattle.router_core.specs.Settled.{lan_face, heard_face, level_face, neighbour_face, point_face, face, faces, IsAside, IsNoHello, Keeps, LeavesFace}
@@ -128,68 +128,40 @@ pull-keeps r place =
 
 -- ---- a second in which no holding time ends
 
-abbrev kept-less : Bool → ℕ × LanNeighbour → List (ℕ × LanNeighbour) → List (ℕ × LanNeighbour)
-kept-less over p heard = if over then heard_less heard else (p.0, record p.1 { neighbour = held_less p.1.neighbour }) ∷ heard_less heard
-
-short : (heard : List (ℕ × LanNeighbour)) → length (heard_less heard) ≤ length heard
-short [] = omega arith
-short (p ∷ heard) = of (is_over p.1.neighbour) (short heard)
-  where
-    of : (t : Bool) → length (heard_less heard) ≤ length heard → length (kept-less t p heard) ≤ suc (length heard)
-    of true e = omega (arith, e)
-    of false e = omega (arith, e)
-
--- where none goes, all that counts of them stays
-pub heard-less-face : (heard : List (ℕ × LanNeighbour)) → length (heard_less heard) ≡ length heard → heard_face (heard_less heard) ≡ heard_face heard
+-- of those heard all that counts stays
+heard-less-face : (heard : List (ℕ × LanNeighbour)) → some_over heard ≡ false → heard_face (heard_less heard) ≡ heard_face heard
 heard-less-face [] e = refl
-heard-less-face (p ∷ heard) e = of (is_over p.1.neighbour) (λ f. heard-less-face heard f) (short heard) e
+heard-less-face (p ∷ heard) e = of (is_over p.1.neighbour) e (heard-less-face heard)
   where
-    of : (t : Bool) → (length (heard_less heard) ≡ length heard → heard_face (heard_less heard) ≡ heard_face heard) → length (heard_less heard) ≤ length heard
-        → length (kept-less t p heard) ≡ suc (length heard) → heard_face (kept-less t p heard) ≡ heard_face (p ∷ heard)
-    of true f h e = absurd (omega (arith, h, e))
-    of false f h e = ap (λ (ys : List (ℕ × LanNeighbour)). (p.0, lan_face p.1) ∷ ys) (f (omega (arith, e)))
+    of : (t : Bool) → (t || some_over heard) ≡ false → (some_over heard ≡ false → heard_face (heard_less heard) ≡ heard_face heard)
+        → heard_face (if t then heard_less heard else (p.0, record p.1 { neighbour = held_less p.1.neighbour }) ∷ heard_less heard) ≡ heard_face (p ∷ heard)
+    of true e f = absurd (true-false e)
+    of false e f = ap (λ (ys : List (ℕ × LanNeighbour)). (p.0, lan_face p.1) ∷ ys) (f e)
 
--- whether a point-to-point neighbour is kept stays, so that its face does
-pub point-less-face : (p : PointAdj) → is_some (point_less p).neighbour ≡ is_some p.neighbour → point_face (point_less p) ≡ point_face p
+-- so does all that counts of a point-to-point neighbour
+point-less-face : (p : PointAdj) → point_over p.neighbour ≡ false → point_face (point_less p) ≡ point_face p
 point-less-face p e = of p.neighbour refl e
   where
-    bad : false ≡ true → ⊥
-    bad e = cc
-
     faced : Option Neighbour → PointAdj
     faced o = record { state = p.state; neighbour = option_map neighbour_face o }
 
-    by-time : (n : Neighbour) (t : Bool) → p.neighbour ≡ Some n → is_some (if t then record { state = Down; neighbour = None } else record p { neighbour = Some (held_less n) }).neighbour ≡ true
+    by-time : (n : Neighbour) (t : Bool) → p.neighbour ≡ Some n → t ≡ false
         → point_face (if t then record { state = Down; neighbour = None } else record p { neighbour = Some (held_less n) }) ≡ point_face p
-    by-time n true f e = absurd (bad e)
+    by-time n true f e = absurd (true-false e)
     by-time n false f e = ap (λ (o : Option Neighbour). faced o) (sym f)
 
-    of : (o : Option Neighbour) → p.neighbour ≡ o → is_some (point_kept o p).neighbour ≡ is_some o → point_face (point_kept o p) ≡ point_face p
+    of : (o : Option Neighbour) → p.neighbour ≡ o → point_over o ≡ false → point_face (point_kept o p) ≡ point_face p
     of None f e = refl
     of (Some n) f e = by-time n (is_over n) f e
 
-pub point-none-face : (p : PointAdj) → is_some p.neighbour ≡ false → point_face (point_less p) ≡ point_face p
-point-none-face p e = of p.neighbour refl e
-  where
-    of : (o : Option Neighbour) → p.neighbour ≡ o → is_some o ≡ false → point_face (point_kept o p) ≡ point_face p
-    of None f e = refl
-    of (Some n) f e = absurd (true-false e)
-
-pub length-heard : (heard : List (ℕ × LanNeighbour)) → length (neighbours heard) ≡ length heard
-length-heard [] = refl
-length-heard (p ∷ heard) = ap suc (length-heard heard)
-
 -- one circuit a second later
-pub later-face : (c d : Circuit) → d ≡ bare_later c → point_face d.point ≡ point_face c.point → length d.levels.one.heard ≡ length c.levels.one.heard → length d.levels.two.heard ≡ length c.levels.two.heard → face d ≡ face c
-later-face c d is p one two =
-    let heard-one : heard_face d.levels.one.heard ≡ heard_face c.levels.one.heard =
-    subst (λ (x : Circuit). length x.levels.one.heard ≡ length c.levels.one.heard → heard_face x.levels.one.heard ≡ heard_face c.levels.one.heard) (sym is) (heard-less-face c.levels.one.heard) one in
-    let heard-two : heard_face d.levels.two.heard ≡ heard_face c.levels.two.heard =
-    subst (λ (x : Circuit). length x.levels.two.heard ≡ length c.levels.two.heard → heard_face x.levels.two.heard ≡ heard_face c.levels.two.heard) (sym is) (heard-less-face c.levels.two.heard) two in
-    ap (λ (x : Circuit). shape x d) is
-    ∙ (ap (λ (q : PointAdj). with-parts q (heard_face d.levels.one.heard) (heard_face d.levels.two.heard)) p
-    ∙ (ap (λ (h : List (ℕ × LanNeighbour)). with-parts (point_face c.point) h (heard_face d.levels.two.heard)) heard-one
-    ∙ ap (λ (h : List (ℕ × LanNeighbour)). with-parts (point_face c.point) (heard_face c.levels.one.heard) h) heard-two))
+later-face : (c : Circuit) → time_over c ≡ false → face (later c) ≡ face c
+later-face c e =
+    let both = neither _ _ e in
+    let point = neither _ _ both.0 in
+    ap (λ (q : PointAdj). with-parts q (heard_face (heard_less c.levels.one.heard)) (heard_face (heard_less c.levels.two.heard))) (point-less-face c.point point.0)
+    ∙ (ap (λ (h : List (ℕ × LanNeighbour)). with-parts (point_face c.point) h (heard_face (heard_less c.levels.two.heard))) (heard-less-face c.levels.one.heard point.1)
+    ∙ ap (λ (h : List (ℕ × LanNeighbour)). with-parts (point_face c.point) (heard_face c.levels.one.heard) h) (heard-less-face c.levels.two.heard both.1))
   where
     with-parts : PointAdj → List (ℕ × LanNeighbour) → List (ℕ × LanNeighbour) → Circuit
     with-parts q one two = record (face c) {
@@ -200,43 +172,18 @@ later-face c d is p one two =
       };
     }
 
-    -- what a second leaves of the one, and the adjacencies of the other
-    shape : Circuit → Circuit → Circuit
-    shape x y = record (face x) {
-      point = point_face y.point;
-      levels = record { one = level_face y.levels.one; two = level_face y.levels.two };
-    }
+    neither : (a b : Bool) → (a || b) ≡ false → (a ≡ false) × (b ≡ false)
+    neither true b e = absurd (true-false e)
+    neither false b e = (refl, e)
 
--- ---- circuits, one by one
-
-count-up : (n : ℕ) → suc n ≡ n + 1
-count-up n = omega arith
-
-opens-from : {A : Type 0} (xs : List A) (i : ℕ) (d : A) → i < length xs → drop i xs ≡ get_or xs i d ∷ drop (suc i) xs
-opens-from [] i d h = absurd (omega (arith, h))
-opens-from (x ∷ xs) zero d h = refl
-opens-from (x ∷ xs) (suc i) d h = opens-from xs i d (omega (arith, h))
-
-pub drop-opens : {A : Type 0} (xs : List A) (i : ℕ) (d : A) → i < length xs → drop i xs ≡ get_or xs i d ∷ drop (i + 1) xs
-drop-opens xs i d h = subst (λ (n : ℕ). drop i xs ≡ get_or xs i d ∷ drop n xs) (count-up i) (opens-from xs i d h)
-
-pub faces-turn : (cs ds : List Circuit) (i : ℕ) (c d e f : Circuit) → i < length cs → i < length ds → c ≡ get_or cs i e → d ≡ get_or ds i f → face d ≡ face c
-    → (faces (drop i ds) ≡ faces (drop i cs) → faces ds ≡ faces cs) → faces (drop (i + 1) ds) ≡ faces (drop (i + 1) cs) → faces ds ≡ faces cs
-faces-turn cs ds i c d e f h k p q same go rest =
-    go (ap faces (drop-opens ds i f k)
-    ∙ (ap (λ (x : Circuit). face x ∷ faces (drop (i + 1) ds)) (sym q)
-    ∙ (ap (λ (x : Circuit). x ∷ faces (drop (i + 1) ds)) same
-    ∙ (ap (λ (xs : List Circuit). face c ∷ xs) rest
-    ∙ (ap (λ (x : Circuit). face x ∷ faces (drop (i + 1) cs)) p ∙ sym (ap faces (drop-opens cs i e h)))))))
-
-drop-all : {A : Type 0} (xs : List A) (i : ℕ) → length xs ≤ i → drop i xs ≡ []
-drop-all [] zero h = refl
-drop-all [] (suc i) h = refl
-drop-all (x ∷ xs) zero h = absurd (omega (arith, h))
-drop-all (x ∷ xs) (suc i) h = drop-all xs i (omega (arith, h))
-
-pub faces-end : (cs ds : List Circuit) (i : ℕ) → length cs ≤ i → length ds ≤ i → (faces (drop i ds) ≡ faces (drop i cs) → faces ds ≡ faces cs) → faces ds ≡ faces cs
-faces-end cs ds i h k go = go (ap faces (drop-all ds i k ∙ sym (drop-all cs i h)))
+-- all circuits
+pub later-faces : (cs : List Circuit) → list_any time_over cs ≡ false → faces (map later cs) ≡ faces cs
+later-faces [] e = refl
+later-faces (c ∷ cs) e = of (time_over c) refl e (later-faces cs)
+  where
+    of : (t : Bool) → time_over c ≡ t → (t || list_any time_over cs) ≡ false → (list_any time_over cs ≡ false → faces (map later cs) ≡ faces cs) → faces (map later (c ∷ cs)) ≡ faces (c ∷ cs)
+    of true f e rest = absurd (true-false e)
+    of false f e rest = ap (λ (x : Circuit). x ∷ faces (map later cs)) (later-face c f) ∙ ap (λ (xs : List Circuit). face c ∷ xs) (rest e)
 
 -- ---- a datagram that isn't a hello
 

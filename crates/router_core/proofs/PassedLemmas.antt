@@ -1,4 +1,4 @@
--- A second by copies of the circuits as they are then, in which a level passes in place, and is followed by drafts where there are some.
+-- A second by circuits that say what the router's do then, in which a level passes in place, and is followed by drafts where there are some.
 use Rattle.std.proofs.Common.{◌≡◌, ◌∙◌, ℕ, Bool, true, false, List, Option, None, Some, map, is_some, refl, sym, ap, subst}
 use Rattle.isis_base.specs.declared.level.Level.{Level}
 use Rattle.isis_base.specs.declared.level.Level.TheVariants as level
@@ -20,14 +20,14 @@ use Rattle.router_core.specs.Givens.{given}
 use Rattle.router_core.specs.LevelSeconds.{AreSettledBy, AreWantedWith, IsCalmWith, IsLevelSecond, IsResting, IsShiftedTo}
 use Rattle.router_core.specs.Plans.{IsLaterAt}
 use Rattle.router_core.specs.Reached.{IsReached}
-use Rattle.router_core.specs.Seconds.{AreMade, bare_later, followed, later, level_later}
+use Rattle.router_core.specs.Seconds.{AreMade, followed, later, level_later}
 use Rattle.router_core.specs.Settled.{AreTrue, IsSettled, IsSettledAt, faces}
 use Rattle.router_core.specs.Shifts.{AreMovedOn, IsShifted}
 use Rattle.router_core.proofs.KeepLemmas.{idle-faces}
 use Rattle.router_core.proofs.LastLemmas.{later-seen}
 use Rattle.router_core.proofs.QuietLemmas.{later-own, later-same}
 use Rattle.router_core.proofs.ReachedLemmas.{sorted-after}
-use Rattle.router_core.proofs.SecondLemmas.{bare-faces, later-part, second-of}
+use Rattle.router_core.proofs.SecondLemmas.{later-part, second-of}
 use Rattle.router_core.proofs.RenewalLemmas.{renew-config}
 use Rattle.router_core.proofs.SettledLemmas.{aged, calm-marks, marked-wants, settled-later}
 use Rattle.router_core.proofs.ShiftLemmas.{shifted-run, told-seen}
@@ -42,12 +42,12 @@ passed r ones twos cs = record r {
   };
 }
 
-pub passed-is : (r : Router) (ones twos : Option (List DraftView)) (cs : List Circuit) → cs ≡ map bare_later r.circuits → IsLaterAt r level.One ones cs → IsLaterAt r level.Two twos cs → passed r ones twos cs ≡ (step given r Second).router
+pub passed-is : (r : Router) (ones twos : Option (List DraftView)) (cs : List Circuit) → faces cs ≡ faces (map later r.circuits) → IsLaterAt r level.One ones cs → IsLaterAt r level.Two twos cs → passed r ones twos cs ≡ (step given r Second).router
 unfolding step
 passed-is r ones twos cs e one two =
     second-of r r (followed r level.One ones (level_later r.levels.one level.One cs)) (followed r level.Two twos (level_later r.levels.two level.Two cs)) (idle_all r.config 0 (map later r.circuits)) refl refl
-    (later-part r level.One r.levels.one ones r.levels.one (followed r level.One ones (level_later r.levels.one level.One cs)) cs cs refl e e refl one)
-    (later-part r level.Two r.levels.two twos r.levels.two (followed r level.Two twos (level_later r.levels.two level.Two cs)) cs cs refl e e refl two)
+    (later-part r level.One r.levels.one ones r.levels.one (followed r level.One ones (level_later r.levels.one level.One cs)) cs refl e refl one)
+    (later-part r level.Two r.levels.two twos r.levels.two (followed r level.Two twos (level_later r.levels.two level.Two cs)) cs refl e refl two)
 
 -- ---- what routes see of it
 
@@ -100,7 +100,7 @@ unmoved o p a b none-one none-two m = same-outlook o p (subst (λ (x : Option Mo
 own-later : (r : Router) (o : Option (List DraftView)) (s : LevelState) (l : Level) (cs : List Circuit) → o ≡ None → (followed r l o (level_later s l cs)).own ≡ aged s.own
 own-later r o s l cs e = ap (λ (x : Option (List DraftView)). (followed r l x (level_later s l cs)).own) e ∙ later-own s l cs
 
-pub passed-marks : (r : Router) (ones twos : Option (List DraftView)) (cs : List Circuit) (marks : Marks) → cs ≡ map bare_later r.circuits → passed r ones twos cs ≡ (step given r Second).router → outlook_of (step given r Second).router ≡ outlook_of r
+pub passed-marks : (r : Router) (ones twos : Option (List DraftView)) (cs : List Circuit) (marks : Marks) → faces cs ≡ faces (map later r.circuits) → passed r ones twos cs ≡ (step given r Second).router → outlook_of (step given r Second).router ≡ outlook_of r
     → (marks.one ≡ true → ones ≡ None) → (marks.one ≡ true → AreSettledBy r level.One cs)
     → (marks.two ≡ true → twos ≡ None) → (marks.two ≡ true → AreSettledBy r level.Two cs)
     → AreTrue marks (step given r Second).router
@@ -116,7 +116,7 @@ passed-marks r ones twos cs marks e is stays none-one one none-two two = subst (
     outlook = ap outlook_of is ∙ stays
 
     same : faces t.circuits ≡ faces cs
-    same = idle-faces r.config 0 (map later r.circuits) ∙ (sym (bare-faces r.circuits) ∙ ap faces (sym e))
+    same = idle-faces r.config 0 (map later r.circuits) ∙ sym e
 
 -- ---- what a second makes of a level
 

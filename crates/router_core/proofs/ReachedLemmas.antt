@@ -9,7 +9,7 @@ use Rattle.isis_base.specs.declared.prefix.Prefix as base
 use Rattle.isis_tlv.specs.Fits.{IsArea}
 use Rattle.isis_tlv.specs.Spelling.{area_value, area_octets}
 use Rattle.model_router.specs.AdjacencyLaws.{Bond, Bonds, Same, Ends, Meets, no_bond, bond_of, bond_at, Tie, Hears, Learns}
-use Rattle.model_router.specs.Both.{Both}
+use Rattle.model_router.specs.Both.{Both, runs_of}
 use Rattle.model_router.specs.Configs as model
 use Rattle.model_router.specs.Events.{Message, Event, Second, Take, Pull, Metric, Overload, Prefix}
 use Rattle.model_router.specs.Good.{IsGoodEvent}
@@ -28,7 +28,7 @@ use Rattle.model_router.proofs.StepWays.{step-course}
 use Rattle.model_router.proofs.TouchSteps.{step-touch}
 use Rattle.model_datagram.specs.LspLaws.{AreSendable, TellsEvent, TellsKept}
 use Rattle.model_router.specs.Numbers.{system_number}
-use Rattle.model_datagram.specs.Reading.{read, runs_of}
+use Rattle.model_datagram.specs.Reading.{read}
 use Rattle.model_datagram.specs.Senders.{IsSender}
 use Rattle.model_datagram.specs.Speakers.{IsName}
 use Rattle.model_datagram.proofs.GoodLemmas.{Small, good-read}

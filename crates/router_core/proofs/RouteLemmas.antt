@@ -13,7 +13,7 @@ use Rattle.isis_base.specs.Identifiers.{IsId}
 use Rattle.isis_base.specs.Keys.{rank}
 use Rattle.isis_base.specs.Prefixes.{prefix_from}
 use Rattle.isis_base.proofs.PrefixValues.{prefix_from-prefix}
-use Rattle.model_router.specs.Both.{Both, at}
+use Rattle.model_router.specs.Both.{Both, at, runs_of}
 use Rattle.model_router.specs.Configs.{Config}
 use Rattle.model_router.specs.Maps.{find, set_at}
 use Rattle.model_router.specs.Sorted.{RisesFrom, IsSorted}
@@ -28,7 +28,6 @@ use Rattle.model_router.specs.Events.{Event, Message, Second, Take, Pull, Metric
 use Rattle.model_router.specs.Steps.{step, with_metric as set_metric}
 use Rattle.model_router.specs.Givens.{Given}
 use Rattle.model_router.specs.Numbers.{lsp_id, system_id, system_number}
-use Rattle.model_datagram.specs.Reading.{runs_of}
 use Rattle.lsp_store.specs.declared.entry.Entry.{Entry}
 use Rattle.lsp_store.specs.Databases as store
 use Rattle.lsp_store.specs.Databases.{Database}

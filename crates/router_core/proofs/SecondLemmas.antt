@@ -1,5 +1,5 @@
 -- A second of a router is a second of each of its parts.
-use Rattle.std.proofs.Common.{◌≡◌, ℕ, zero, suc, ◌+◌, ◌<◌, ◌≤◌, List, [], ◌∷◌, ◌++◌, append-nil, take, length, map, is_some, Option, Some, None, IfSome, refl, sym, ap, ◌∙◌, subst, arith}
+use Rattle.std.proofs.Common.{◌≡◌, ℕ, zero, suc, ◌+◌, ◌<◌, ◌≤◌, Bool, false, List, [], ◌∷◌, ◌++◌, append-nil, length, map, is_some, Option, Some, None, IfSome, refl, sym, ap, ◌∙◌, subst, arith}
 use Rattle.std.specs.Option.{option_map}
 use Rattle.std.specs.List.{AllByRecursion}
 use Rattle.isis_base.specs.declared.level.Level.{Level}
@@ -23,7 +23,9 @@ use Rattle.router_core.specs.Givens.{given}
 use Rattle.router_core.specs.Machines.{IsFit}
 use Rattle.router_core.specs.Seconds.{bare_later, later, follow_one, follow_first, followed, level_later, IsMade}
 use Rattle.router_core.specs.Settled.{face, faces}
+use Rattle.router_core.proofs.FaceLemmas.{open-face}
 use Rattle.model_router.specs.Ageing.{age}
+use Rattle.model_router.specs.Hellos.{follow_circuit}
 
 -- ---- lists whose first items are changed
 
@@ -115,25 +117,9 @@ length-map g (c ∷ cs) = ap suc (length-map g cs)
 
 -- ---- circuits a second later
 
-take-whole : {A : Type 0} (n : ℕ) (xs : List A) → length xs ≤ n → take n xs ≡ xs
-take-whole zero [] h = refl
-take-whole (suc n) [] h = refl
-take-whole zero (x ∷ xs) h = absurd (omega (arith, h))
-take-whole (suc n) (x ∷ xs) h = ap (λ (ys : List _). x ∷ ys) (take-whole n xs (omega (arith, h)))
-
-pub later-all : (n : ℕ) (cs xs : List Circuit) → length cs ≤ n → xs ≡ map bare_later (take n cs) → xs ≡ map bare_later cs
-later-all n cs xs h e = e ∙ ap (λ (ys : List Circuit). map bare_later ys) (take-whole n cs h)
-
-later-desk : (cs : List Circuit) → map desk_circuit (map bare_later cs) ≡ map desk_circuit cs
-later-desk [] = refl
-later-desk (c ∷ cs) = ap (λ (xs : List _). desk_circuit c ∷ xs) (later-desk cs)
-
 later-fit : (cs : List Circuit) → AllByRecursion IsFit cs → AllByRecursion IsFit (map bare_later cs)
 later-fit [] a = tt
 later-fit (c ∷ cs) a = (record { metric = a.0.metric; priority = a.0.priority }, later-fit cs a.1)
-
-pub same-desk : (cs xs : List Circuit) → xs ≡ map bare_later cs → map desk_circuit xs ≡ map desk_circuit cs
-same-desk cs xs e = ap (λ (ys : List Circuit). map desk_circuit ys) e ∙ later-desk cs
 
 pub same-fit : (cs xs : List Circuit) → xs ≡ map bare_later cs → AllByRecursion IsFit cs → AllByRecursion IsFit xs
 same-fit cs xs e a = subst (AllByRecursion IsFit) (sym e) (later-fit cs a)
@@ -148,30 +134,36 @@ changed-map-all g n cs h = changed-most g 0 n cs h
     changed-most g k zero (c ∷ cs) h = absurd (omega (arith, h))
     changed-most g k (suc n) (c ∷ cs) h = ap (λ (xs : List Circuit). g c ∷ xs) (changed-most g (k + 1) n cs (omega (arith, h)))
 
--- ---- boots, which neither own LSPs nor levels look at
+-- ---- faces, which are all that own LSPs and levels look at
 
-pub bare-faces : (cs : List Circuit) → faces (map bare_later cs) ≡ faces (map later cs)
-bare-faces [] = refl
-bare-faces (c ∷ cs) = ap (λ (xs : List Circuit). face (later c) ∷ xs) (bare-faces cs)
+-- boots aren't
+pub bare-faces : (cs xs : List Circuit) → xs ≡ map bare_later cs → faces xs ≡ faces (map later cs)
+bare-faces cs xs e = ap faces e ∙ of cs
+  where
+    of : (cs : List Circuit) → faces (map bare_later cs) ≡ faces (map later cs)
+    of [] = refl
+    of (c ∷ cs) = ap (λ (xs : List Circuit). face (later c) ∷ xs) (of cs)
 
-bare-first : (s : LevelState) (l : Level) (cs : List Circuit) (n : ℕ) → follow_first s l (map bare_later cs) n ≡ follow_first s l (map later cs) n
-bare-first s l cs zero = refl
-bare-first s l cs (suc n) =
-    ap (λ (t : LevelState). follow_one t l n (nth (map bare_later cs) n)) (bare-first s l cs n)
-    ∙ (ap (λ (o : Option Circuit). follow_one first l n o) (nth-map bare_later cs n)
-    ∙ (of (nth cs n) ∙ ap (λ (o : Option Circuit). follow_one first l n o) (sym (nth-map later cs n))))
+first-face : (s : LevelState) (l : Level) (cs : List Circuit) (n : ℕ) → follow_first s l (faces cs) n ≡ follow_first s l cs n
+first-face s l cs zero = refl
+first-face s l cs (suc n) =
+    ap (λ (t : LevelState). follow_one t l n (nth (faces cs) n)) (first-face s l cs n)
+    ∙ (ap (λ (o : Option Circuit). follow_one first l n o) (nth-map face cs n) ∙ of (nth cs n))
   where
     first : LevelState
-    first = follow_first s l (map later cs) n
+    first = follow_first s l cs n
 
-    of : (o : Option Circuit) → follow_one first l n (option_map bare_later o) ≡ follow_one first l n (option_map later o)
+    of : (o : Option Circuit) → follow_one first l n (option_map face o) ≡ follow_one first l n o
     of None = refl
-    of (Some c) = refl
+    of (Some c) = ap (λ (b : Bool). record first { book = follow_circuit false first.book n b }) (open-face c l)
 
-bare-level : (s : LevelState) (l : Level) (cs : List Circuit) → level_later s l (map bare_later cs) ≡ level_later s l (map later cs)
-bare-level s l cs =
-    ap (λ (n : ℕ). age (follow_first (waited s) l (map bare_later cs) n)) (length-map bare_later cs ∙ sym (length-map later cs))
-    ∙ ap age (bare-first (waited s) l cs (length (map later cs)))
+level-face : (s : LevelState) (l : Level) (cs : List Circuit) → level_later s l (faces cs) ≡ level_later s l cs
+level-face s l cs =
+    ap (λ (n : ℕ). age (follow_first (waited s) l (faces cs) n)) (length-map face cs)
+    ∙ ap age (first-face (waited s) l cs (length cs))
+
+level-faces : (s : LevelState) (l : Level) (cs ds : List Circuit) → faces cs ≡ faces ds → level_later s l cs ≡ level_later s l ds
+level-faces s l cs ds e = sym (level-face s l cs) ∙ (ap (λ (xs : List Circuit). level_later s l xs) e ∙ level-face s l ds)
 
 -- ---- the router
 
@@ -237,14 +229,14 @@ second-is r one two circuits e f g =
 pub second-of : (r s : Router) (one two : LevelState) (circuits : List Circuit) → s ≡ r → circuits ≡ idle_all r.config 0 (map later r.circuits) → IsLater r level.One r.levels.one one → IsLater r level.Two r.levels.two two → record s { circuits = circuits; levels = record { one = one; two = two } } ≡ (settled (record { router = second given r; reply = Done })).router
 second-of r s one two circuits k e f g = ap (λ (q : Router). record q { circuits = circuits; levels = record { one = one; two = two } }) k ∙ second-is r one two circuits e f g
 
--- a level that had its second in place, and was followed by drafts where there are some, by copies of the circuits
-pub later-part : (r : Router) (l : Level) (old : LevelState) (part : Option (List DraftView)) (now new : LevelState) (cs ds : List Circuit) → now ≡ old → cs ≡ map bare_later r.circuits → ds ≡ map bare_later r.circuits → new ≡ followed r l part (level_later now l ds) → ((q : Router) → q.config ≡ r.config → faces q.circuits ≡ faces cs → followed r l part (level_later old l cs) ≡ renew given q l (level_later old l cs) (wanted given r q l)) → IsLater r l old new
-later-part r l old part now new cs ds k e d h f q a b =
+-- a level that had its second in place, and was followed by drafts where there are some, with circuits that say what they then do
+pub later-part : (r : Router) (l : Level) (old : LevelState) (part : Option (List DraftView)) (now new : LevelState) (cs : List Circuit) → now ≡ old → faces cs ≡ faces (map later r.circuits) → new ≡ followed r l part (level_later now l cs)
+    → ((q : Router) → q.config ≡ r.config → faces q.circuits ≡ faces cs → followed r l part (level_later old l cs) ≡ renew given q l (level_later old l cs) (wanted given r q l)) → IsLater r l old new
+later-part r l old part now new cs k e h f q a b =
     h
-    ∙ (ap (λ (s : LevelState). followed r l part (level_later s l ds)) k
-    ∙ (ap (λ (xs : List Circuit). followed r l part (level_later old l xs)) (d ∙ sym e)
-    ∙ (f q a (ap faces b ∙ (sym (bare-faces r.circuits) ∙ ap faces (sym e)))
-    ∙ ap (λ (s : LevelState). renew given q l s (wanted given r q l)) (ap (λ (xs : List Circuit). level_later old l xs) e ∙ bare-level old l r.circuits))))
+    ∙ (ap (λ (s : LevelState). followed r l part (level_later s l cs)) k
+    ∙ (f q a (ap faces b ∙ sym e)
+    ∙ ap (λ (s : LevelState). renew given q l s (wanted given r q l)) (level-faces old l cs (map later r.circuits) e)))
 
 pub same-count : (cs ds : List Circuit) → map desk_circuit cs ≡ map desk_circuit ds → length cs ≡ length ds
 same-count cs ds e = sym (length-map desk_circuit cs) ∙ (ap length e ∙ length-map desk_circuit ds)

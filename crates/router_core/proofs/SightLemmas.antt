@@ -8,16 +8,12 @@ use Rattle.isis_base.specs.Identifiers.{IsId, lsp_number}
 use Rattle.lsp_store.specs.declared.entry.Entry.{Entry}
 use Rattle.lsp_store.specs.Maps as maps
 use Rattle.lsp_view.specs.Views.{number_of as node_lsp}
-use Rattle.lsp_fragments.specs.declared.issue.Issue.TheVariants as issue
 use Rattle.flag_sync.specs.declared.flag_row.FlagRow.{FlagRow}
-use Rattle.flag_sync.specs.BookStates as sync
 use Rattle.flag_sync.specs.Entries.{with_row}
 use Rattle.flag_sync.specs.FlagRows.{cell_of, no_flags}
 use Rattle.model_router.specs.Books.{cell_at}
 use Rattle.model_router.specs.Cells.{Cell}
 use Rattle.model_router.specs.Deeds.{Content}
-use Rattle.model_router.specs.Maps.{find, put}
-use Rattle.model_router.specs.OwnLsps as own
 use Rattle.model_router.specs.Routers.{Router, book_of}
 use Rattle.spf_tree.specs.Nodes.{node_number}
 use Rattle.router_routes.specs.Moved.{NodesRise, is_among}

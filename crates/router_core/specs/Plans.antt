@@ -50,7 +50,7 @@ use Rattle.router_core.specs.Givens.{given}
 use Rattle.router_core.specs.Machines.{FitsKind}
 use Rattle.router_core.specs.Reached.{IsReached}
 use Rattle.router_core.specs.Replies.{Answers}
-use Rattle.router_core.specs.Seconds.{AreMade, bare_later, followed, level_later}
+use Rattle.router_core.specs.Seconds.{AreMade, followed, later, level_later, seen_then}
 use Rattle.router_core.specs.Settled.{AreTrue, faces}
 use Rattle.router_core.specs.Shifts.{AreMovedOn, AreRising}
 
@@ -120,7 +120,7 @@ committed r (deed.Snp circuit level range entries drafts) =
     with_level r level (take_snp (scene_of given r level) (level_of r level) r.config.system
     (circuit - 1) (range_of range) (entries_of entries.now))
 committed r (deed.Pull circuit due) = (step given r (model.Pull (circuit - 1))).router
-committed r (deed.Second circuits one two) = (step given r model.Second).router
+committed r (deed.Second copies one two) = (step given r model.Second).router
 
 -- a hello came on a circuit of its kind, and passes its tests (ISO 10589 6.3, 8.2.4.2, 8.4.2.1)
 pub record IsHelloReady (r : Router) (circuit : ℕ) (m : model.Message) : Type 0 where
@@ -150,7 +150,7 @@ pub record IsSnpReady (r : Router) (circuit : ℕ) (level : Level) (entries : Li
   pub said : AreAnswers (at r.config.keys level) (scene_of given r level) entries drafts
 
 -- a level that had its second in place, and was followed by these drafts where there are some, has issued and purged its own LSPs
--- as they are wanted, where these are copies of the circuits as they then are (own)
+-- as they are wanted, where these circuits say what the router's then do (own)
 abbrev pub IsLaterAt : Router → Level → Option (List DraftView) → List Circuit → Type 0
 IsLaterAt r level wants circuits =
     (q : Router) → q.config ≡ r.config → faces q.circuits ≡ faces circuits
@@ -161,9 +161,9 @@ IsLaterAt r level wants circuits =
 abbrev pub AreDrafted : Router → Level → Option (List DraftView) → Type 0
 AreDrafted r level wants = IfSome wants (AreMade (is_some (at r.config.keys level)) level)
 
--- these are copies of the circuits a second later, and drafts of what each level that is followed then wants (own)
+-- these circuits say what the router's do a second later, and these are drafts of what each level that is followed then wants (own)
 pub record IsSecondReady (r : Router) (circuits : List Circuit) (ones twos : Option (List DraftView)) : Type 0 where
-  pub later : circuits ≡ map bare_later r.circuits
+  pub later : faces circuits ≡ faces (map later r.circuits)
   pub count : length circuits ≡ length r.circuits
   pub one : IsLaterAt r level.One ones circuits
   pub two : IsLaterAt r level.Two twos circuits
@@ -182,7 +182,7 @@ IsReady r (deed.Lsp circuit level lsp answer) = IsLspReady r circuit level lsp a
 IsReady r (deed.Snp circuit level range entries drafts) =
     IsSnpReady r circuit level entries.now drafts.items
 IsReady r (deed.Pull circuit due) = IsThere r circuit × IsReached r × IsDue r (circuit - 1) due
-IsReady r (deed.Second circuits one two) = IsSecondReady r circuits.items one two
+IsReady r (deed.Second copies one two) = IsSecondReady r (seen_then copies r.circuits) one two
 
 -- in one level, which is run, these nodes tell this, all others what they told, and all else stays (own)
 pub record AreMovedIn (old new : Outlook) (level : Level) (nodes : List NodeId)

@@ -1,7 +1,8 @@
 -- A second of a router by its parts: its circuits, and each level with the circuits as they then
 -- are (ISO 10589 7.3.5, 7.3.16.3, 8.2.5, 8.4.2; the parts: own).
-use Rattle.std.specs.Prelude.{◌≡◌, ℕ, zero, suc, Bool, false, List, [], ◌∷◌, length, Option, Some, None}
+use Rattle.std.specs.Prelude.{◌≡◌, ℕ, zero, suc, Bool, false, List, [], ◌∷◌, length, Option, Some, None, Vec}
 use Rattle.std.specs.List.{AllByRecursion}
+use Rattle.std.specs.declared.alloc.Global.{Global}
 use Rattle.isis_base.specs.declared.level.Level.{Level}
 use Rattle.model_router.specs.Maps.{find}
 use Rattle.model_router.specs.OwnLsps.{is_due, renew}
@@ -22,6 +23,11 @@ later c = circuit_less (counted c)
 -- the same of a circuit that remembers no boots (own)
 abbrev pub bare_later : Circuit → Circuit
 bare_later c = later (record c { boots = [] })
+
+-- the circuits that a second goes by: these copies, where there are some, and else the circuits as they are (own)
+abbrev pub seen_then : Option (Vec Circuit Global) → List Circuit → List Circuit
+seen_then None circuits = circuits
+seen_then (Some copies) circuits = copies.items
 
 -- a level follows the circuit at a place, where there is one (own)
 abbrev pub follow_one : LevelState → Level → ℕ → Option Circuit → LevelState

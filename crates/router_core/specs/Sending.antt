@@ -5,7 +5,7 @@ use Rattle.std.specs.Option.{option_copied}
 use Rattle.isis_base.specs.declared.level.Level.{Level}
 use Rattle.isis_base.specs.declared.level.Level.TheVariants as level
 use Rattle.isis_base.specs.declared.identifiers.LspId.{LspId}
-use Rattle.model_router.specs.Both.{at}
+use Rattle.model_router.specs.Both.{at, runs_of}
 use Rattle.model_router.specs.Sets.{has}
 use Rattle.model_router.specs.Configs.{Config}
 use Rattle.model_router.specs.Books.{Book}
@@ -14,7 +14,6 @@ use Rattle.model_router.specs.Datagrams.{Sent}
 use Rattle.model_router.specs.SnpLists.{csnp_set, pieces, owed, psnps}
 use Rattle.model_router.specs.Pulls.{hellos, is_csnp_due, due_lsps, srm_due}
 use Rattle.model_router.specs.Numbers.{system_number}
-use Rattle.model_datagram.specs.Reading.{runs_of}
 use Rattle.model_datagram.specs.Datagrams.{datagram}
 use Rattle.adjacency.specs.Views.{point_down}
 use Rattle.lsp_store.specs.declared.entry.Entry.{Entry}

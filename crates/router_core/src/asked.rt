@@ -16,9 +16,8 @@ ghost use Rattle.router_core.specs.NamedBoots.{named_boot};
 
 use crate::machine::Machine;
 use isis_base::{Level, Prefix, SystemId};
-use model_datagram::runs;
-use model_router::DropName;
 use model_router::laws::states::count_laws;
+use model_router::{DropName, has_level};
 use router_desk::Desk;
 
 impl Machine {
@@ -102,6 +101,6 @@ impl Machine {
     pub(crate) fn runs(&self, level: Level) -> bool
         ensures { result ≡ at self.now.config.runs level }
     {
-        runs(self.desk.levels(), level)
+        has_level(self.desk.levels(), level)
     }
 }

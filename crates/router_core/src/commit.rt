@@ -42,7 +42,7 @@ impl Machine {
                 self.pulled(circuit, due);
                 Ok(())
             }
-            Deed::Second { circuits, one, two } => self.second_passed(&circuits, one, two),
+            Deed::Second { copies, one, two } => self.second_passed(&copies, one, two),
         }
     }
 }

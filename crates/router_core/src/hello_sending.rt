@@ -11,7 +11,7 @@ ghost use Rattle.router_core.specs.Sending.{octets_of, all_octets};
 use crate::datagrams::Datagrams;
 use adjacency::P2pAdj;
 use isis_base::{Level, OutOfMemory, SystemId};
-use model_datagram::runs;
+use model_router::has_level;
 use router_circuits::Circuit;
 use router_sending::{Sender, lan_hello, point_hello};
 use std::alloc::Global;
@@ -92,7 +92,7 @@ fn put_lan(
         → OnOk result (out.new ≡ out.old ++ all_octets sender.now
         (pulls.lan_hello r (sender.now.circuit - 1) on.now level)) }
 {
-    if runs(sender.levels, level) {
+    if has_level(sender.levels, level) {
         return put_run(out, alloc, sender, on, level);
     }
     Ok(())

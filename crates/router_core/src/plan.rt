@@ -29,8 +29,8 @@ use router_sending::Draft;
 
 /// What is done: a datagram that is dropped is counted; the configuration changes; a hello that passes is taken; an LSP is taken,
 /// with a draft of the answer where it outbids one's own; a sequence number PDU is taken, with drafts of the own LSPs that it
-/// names; what was due on a circuit was sent; or a second passes, by copies of the circuits as they are then, and drafts of what
-/// each level that is followed then wants.
+/// names; what was due on a circuit was sent; or a second passes, by copies of the circuits as they are then, where an adjacency's
+/// time ends, and drafts of what each level that is followed then wants.
 #[derive(Drop)]
 pub(crate) enum Deed<'a> {
     Dropped(DropCause),
@@ -62,7 +62,7 @@ pub(crate) enum Deed<'a> {
         due: Due,
     },
     Second {
-        circuits: Vec<Circuit>,
+        copies: Option<Vec<Circuit>>,
         one: Option<Wants>,
         two: Option<Wants>,
     },

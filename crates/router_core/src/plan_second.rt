@@ -18,7 +18,6 @@ ghost use Rattle.router_core.specs.Reached.{IsReached};
 ghost use Rattle.router_core.specs.Settled.{AreTrue, IsSettledAt, faces};
 ghost use Rattle.router_core.specs.Shifts.{AreMovedOn};
 
-use crate::faces::keep_faces;
 use crate::machine::Machine;
 use crate::marks::Marks;
 use crate::movers::Movers;
@@ -26,7 +25,7 @@ use crate::plan::{Deed, Plan};
 use crate::quiet::{is_quiet, is_settled};
 use crate::renewal::drafts_of;
 use crate::reply::Reply;
-use crate::second::circuits_later;
+use crate::second::{copies_then, seen_then};
 use crate::told::Told;
 use flag_sync::Book;
 use isis_base::{Level, OutOfMemory};
@@ -46,8 +45,9 @@ struct LevelSecond {
 }
 
 impl Machine {
-    /// The plan of a second. What is wanted is made only for levels that aren't marked, and a level is followed only where one
-    /// of its own LSPs is to be issued or purged, or a live entry's time ends (own).
+    /// The plan of a second. Circuits are copied only where an adjacency's time ends. What is wanted is made only for levels that
+    /// aren't marked, and a level is followed only where one of its own LSPs is to be issued or purged, or a live entry's time
+    /// ends (own).
     pub(crate) fn plan_second<'a>(
         &self,
         following: &Following,
@@ -58,10 +58,11 @@ impl Machine {
         requires marks { AreTrue marks self.now }
         ensures { IfOk result (IsPlan self.now model.Second) }
     {
-        let circuits = circuits_later(self.alloc, &self.circuits)?;
-        let keeps = keep_faces(&self.circuits, &circuits);
-        let one = self.level_second(&circuits, Level::One, following, keeps && marks.one)?;
-        let two = match self.level_second(&circuits, Level::Two, following, keeps && marks.two) {
+        let copies = copies_then(self.alloc, &self.circuits)?;
+        let circuits = seen_then(&copies, &self.circuits);
+        let keeps = copies.is_none();
+        let one = self.level_second(circuits, Level::One, following, keeps && marks.one)?;
+        let two = match self.level_second(circuits, Level::Two, following, keeps && marks.two) {
             Ok(two) => two,
             Err(error) => {
                 drop(one);
@@ -75,7 +76,7 @@ impl Machine {
         let (told, marks) = told_of(one.movers, two.movers, settled);
         Ok(Plan {
             deed: Deed::Second {
-                circuits,
+                copies,
                 one: one.wants,
                 two: two.wants,
             },
@@ -85,8 +86,8 @@ impl Machine {
         })
     }
 
-    /// What a second makes of a level, with the circuits as they then are. Where it is marked and the circuits say what they
-    /// said, only ages are looked at.
+    /// What a second makes of a level, with circuits that say what its own then do. Where it is marked and the circuits say what
+    /// they said, only ages are looked at.
     fn level_second(
         &self,
         circuits: &[Circuit],

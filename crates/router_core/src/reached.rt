@@ -29,7 +29,7 @@ pub(crate) fn start_reached(config: &Config, boot: u32)
     ensures { IsReached (start (config_of config.now) boot (circuits_of config.now)) }
 {
     areas_law(config.areas.as_slice());
-    system_law(config.system);
+    small_system_law(config.system);
 }
 
 /// At another start, and after each step.
@@ -66,7 +66,7 @@ fn areas_law(areas: &[AreaAddress])
 }
 
 /// A system ID has six octets (ISO 10589 7.1).
-fn system_law(system: SystemId)
+fn small_system_law(system: SystemId)
     ensures { system_number system < 2 ^ 48 }
 {
     let node = NodeId {

@@ -2,10 +2,7 @@
 use Rattle.std.proofs.Common.{◌≡◌, ℕ, ◌+◌, ◌*◌, ◌/◌, ◌%◌, ◌<◌, List, [], ◌∷◌, length, map, Bool, true, false, Option, Some, None, unwrap_or, eqb, refl, sym, ap, ◌∙◌, arith}
 use lib.Pointwise.{pointwise}
 use Rattle.std.proofs.lemmas.Bool.{eq-eqb, eqb-true, and_from, and_parts}
-use Rattle.isis_base.specs.declared.level.LevelSet.{LevelSet}
-use Rattle.isis_base.specs.declared.level.LevelSet.TheVariants as levels
 use Rattle.isis_base.specs.declared.entry.LspEntry.{LspEntry}
-use Rattle.model_datagram.specs.Reading as reading
 use Rattle.model_datagram.specs.Values.{handshake, snp_entry}
 use Rattle.flag_sync.specs.Heard.{entries_of}
 use Rattle.std.specs.List.{AllByRecursion}
@@ -67,11 +64,6 @@ same-numbers xs ys six_x small_x six_y small_y =
         (λ i. first i ∷ rest i)
 
 -- ---- what is read
-
-pub runs-twins : (set : LevelSet) → adjacency.runs_of set ≡ reading.runs_of set
-runs-twins levels.One = refl
-runs-twins levels.Two = refl
-runs-twins levels.Both = refl
 
 names-twins : (names : Option (SystemId × ℕ)) → adjacency.names_of names ≡ option_map (λ (heard : SystemId × ℕ). (system_number heard.0, heard.1)) names
 names-twins None = refl

@@ -8,7 +8,7 @@ use Rattle.model_router.specs.Configs as model
 use Rattle.model_router.specs.Routers.{Circuit}
 use Rattle.model_router.specs.Starts.{quiet}
 use Rattle.model_router.specs.Numbers.{system_number}
-use Rattle.model_datagram.specs.Reading.{runs_of}
+use Rattle.model_router.specs.Both.{runs_of}
 use Rattle.router_desk.specs.declared.circuit_config.CircuitConfig.{CircuitConfig}
 use Rattle.router_desk.specs.declared.config.Config.{Config}
 use Rattle.router_desk.specs.Desks.{is_lan}

@@ -9,7 +9,7 @@ use Rattle.isis_base.specs.Identifiers.{lsp_number}
 use Rattle.model_router.specs.Adjacencies as model
 use Rattle.model_router.specs.Events as event
 use Rattle.model_router.specs.Numbers.{system_number, snpa_number, node_number}
-use Rattle.model_datagram.specs.Reading.{runs_of}
+use Rattle.model_router.specs.Both.{runs_of}
 use Rattle.model_datagram.specs.Values.{areas_in}
 use Rattle.adjacency.specs.Views as adjacency
 use Rattle.router_desk.specs.Opening.{envelope_of}
@@ -24,7 +24,7 @@ hello_heard h = record {
   source = system_number h.source;
   snpa = snpa_number h.snpa;
   boot = h.boot;
-  runs = adjacency.runs_of h.levels;
+  runs = runs_of h.levels;
   holding = h.holding;
   priority = h.priority;
   lan = node_number h.lan;

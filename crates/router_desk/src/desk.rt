@@ -21,7 +21,7 @@ use isis_base::{CircuitKind, Level, LevelSet, Octets, PduKind, SystemId};
 use isis_edge::{FrameFault, unwrap};
 use isis_pdu::laws::framed_law;
 use isis_pdu::{Pdu, decode};
-use model_datagram::runs;
+use model_router::has_level;
 use std::marker::Model;
 
 /// The most octets of an LSP or SNP that is taken (own).
@@ -40,7 +40,7 @@ pub struct Desk {
 
 impl Model for Desk {
     ghost use Rattle.model_router.specs.Numbers.{system_number};
-    ghost use Rattle.model_datagram.specs.Reading.{runs_of};
+    ghost use Rattle.model_router.specs.Both.{runs_of};
     ghost use Rattle.router_desk.specs.Desks.{DeskView};
 
     ghost Value = { DeskView };
@@ -112,7 +112,7 @@ impl Desk {
         if !goes_on(circuit.kind, kind) {
             return Some(DropCause::WrongKind);
         }
-        if !self.runs(kind) {
+        if !self.is_run(kind) {
             return Some(DropCause::WrongLevel);
         }
         if let Some(fault) = self.auth_fault(circuit, kind, octets) {
@@ -131,7 +131,7 @@ impl Desk {
     }
 
     /// Whether the level of a type of PDU is run; a point-to-point hello is of no level.
-    fn runs(&self, kind: PduKind) -> bool
+    fn is_run(&self, kind: PduKind) -> bool
         ensures { result ≡ table.is_run self.now.runs kind }
     {
         match kind {
@@ -139,7 +139,7 @@ impl Desk {
             PduKind::LanHello(level)
             | PduKind::Lsp(level)
             | PduKind::Csnp(level)
-            | PduKind::Psnp(level) => runs(self.levels, level),
+            | PduKind::Psnp(level) => has_level(self.levels, level),
         }
     }
 

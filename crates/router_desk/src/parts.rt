@@ -1,9 +1,8 @@
 //! What a desk knows, lent: for those that send.
 ghost use Rattle.std.specs.Prelude.{◌≡◌, ◌≤◌, length, Some};
 ghost use Rattle.std.specs.Option.{option_copied, option_map};
-ghost use Rattle.model_router.specs.Both.{at};
+ghost use Rattle.model_router.specs.Both.{at, runs_of};
 ghost use Rattle.model_router.specs.Numbers.{system_number};
-ghost use Rattle.model_datagram.specs.Reading.{runs_of};
 ghost use Rattle.router_desk.specs.Desks.{circuit_at};
 
 use crate::desk::Desk;

@@ -10,7 +10,7 @@ use Rattle.isis_base.specs.declared.level.LevelSet.{LevelSet}
 use Rattle.isis_base.specs.declared.level.LevelSet.TheVariants as levels
 use Rattle.isis_base.specs.declared.prefix.Prefix.{Prefix}
 use Rattle.isis_base.proofs.PrefixValues.{prefix_from-prefix}
-use Rattle.model_datagram.specs.Reading.{runs_of}
+use Rattle.model_router.specs.Both.{runs_of}
 use Rattle.lsp_store.specs.declared.entry.Entry.{Entry}
 use Rattle.lsp_view.specs.Views.{own_node, lead_of, areas_at, reach_in}
 use Rattle.route_leaking.specs.Attachment.{is_attached}

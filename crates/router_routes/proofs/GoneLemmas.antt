@@ -41,6 +41,9 @@ out-by nodes numbers are cs = filter_agree (λ (c : Candidate). not (stays nodes
 pub kept-by : (nodes : List NodeId) (numbers : List ℕ) → ((n : ℕ) → is_moved numbers n ≡ is_among nodes n) → (cs : List Candidate) → filter (λ (c : Candidate). not (is_by numbers c)) cs ≡ filter (stays nodes) cs
 kept-by nodes numbers are cs = filter_agree (λ (c : Candidate). not (is_by numbers c)) (stays nodes) (λ c. ap not (are (node_number c.origin))) cs
 
+pub by-table : (nodes : List NodeId) (numbers : List ℕ) (table told more : List Candidate) → ((n : ℕ) → is_moved numbers n ≡ is_among nodes n) → table ≡ told → filter (λ (c : Candidate). not (is_by numbers c)) table ++ more ≡ filter (stays nodes) told ++ more
+by-table nodes numbers table told more are e = ap (λ (l : List Candidate). l ++ more) (kept-by nodes numbers are table ∙ ap (filter (stays nodes)) e)
+
 -- candidates in the place of those by way of these nodes are all that are then
 pub kept-same : (nodes : List NodeId) (numbers : List ℕ) (slice old more come : List Candidate) (list : Option (Vec Candidate Global)) → ((n : ℕ) → is_moved numbers n ≡ is_among nodes n) → slice ≡ old → more ≡ come → AreKeptWith numbers slice more list → AreSame (list_after list old) (filter (stays nodes) old ++ come)
 kept-same nodes numbers slice old more come None are e g is =
@@ -74,15 +77,14 @@ not-true : (t : Bool) → not t ≡ false → t ≡ true
 not-true true e = refl
 not-true false e = absurd (let f : true ≡ false = e in cc)
 
-pub by-before : (nodes : List NodeId) (numbers : List ℕ) (slice old more : List Candidate) (p0 p1 p2 : List Prefix) → ((n : ℕ) → is_moved numbers n ≡ is_among nodes n) → slice ≡ old → HaveVia numbers slice more p0 p1 → ((q : Prefix) → Contains p1 q → Contains p2 q) → HaveBy nodes old p2
-by-before nodes numbers slice old more p0 p1 p2 are e via up c there out =
-    up c.prefix (via.gone c (subst (λ (l : List Candidate). Contains l c) (sym e) there) (are (node_number c.origin) ∙ not-true (is_among nodes (node_number c.origin)) out))
+pub by-before : (nodes : List NodeId) (numbers : List ℕ) (old come : List Candidate) (p0 p1 : List Prefix) → ((n : ℕ) → is_moved numbers n ≡ is_among nodes n) → HaveVia numbers old come p0 p1 → HaveBy nodes old p1
+by-before nodes numbers old come p0 p1 are via c there out = via.gone c there (are (node_number c.origin) ∙ not-true (is_among nodes (node_number c.origin)) out)
 
-pub by-after : (nodes : List NodeId) (numbers : List ℕ) (slice old more come : List Candidate) (list : Option (Vec Candidate Global)) (p0 p1 p2 : List Prefix) → ((n : ℕ) → is_moved numbers n ≡ is_among nodes n) → slice ≡ old → more ≡ come → AreKeptWith numbers slice more list → HaveVia numbers slice more p0 p1 → ((q : Prefix) → Contains p1 q → Contains p2 q) → HaveBy nodes (list_after list old) p2
-by-after nodes numbers slice old more come list p0 p1 p2 are e g is via up c there out =
-    elim (Contains-append_cases (filter (stays nodes) old) come c ((kept-same nodes numbers slice old more come list are e g is c).0 there)) [
+pub by-after : (nodes : List NodeId) (numbers : List ℕ) (old come list : List Candidate) (p0 p1 : List Prefix) → AreSame list (filter (stays nodes) old ++ come) → HaveVia numbers old come p0 p1 → HaveBy nodes list p1
+by-after nodes numbers old come list p0 p1 same via c there out =
+    elim (Contains-append_cases (filter (stays nodes) old) come c ((same c).0 there)) [
       | inl kept ↦ absurd (let h : true ≡ false = sym (filter-in (stays nodes) old c kept).1 ∙ out in cc)
-      | inr comes ↦ up c.prefix (via.new c (subst (λ (l : List Candidate). Contains l c) (sym g) comes))
+      | inr comes ↦ via.new c comes
     ]
 
 -- where all is made anew
@@ -91,8 +93,8 @@ by-via nodes numbers some slice old prefixes are s e up c there out =
     let by : is_by some c ≡ true = ap (λ (l : List ℕ). is_moved l (node_number c.origin)) s ∙ are (node_number c.origin) ∙ not-true (is_among nodes (node_number c.origin)) out in
     up c.prefix (in-map prefix_of (filter (is_by some) slice) c (in-filter (is_by some) slice c (subst (λ (l : List Candidate). Contains l c) (sym e) there) by))
 
-pub by-both : (nodes : List NodeId) (numbers some more : List ℕ) (held old later new : List Candidate) (p0 p1 p2 : List Prefix) → ((n : ℕ) → is_moved numbers n ≡ is_among nodes n) → some ≡ numbers → more ≡ numbers → held ≡ old → later ≡ new → p1 ≡ p0 ++ prefixes_via some held → p2 ≡ p1 ++ prefixes_via more later → HaveBy nodes old p2 × HaveBy nodes new p2
-by-both nodes numbers some more held old later new p0 p1 p2 are s m h l e1 e2 = (
-  by-via nodes numbers some held old p2 are s h (λ q there. subst (λ (ps : List Prefix). Contains ps q) (sym e2) (Contains-append_left p1 (prefixes_via more later) q (subst (λ (ps : List Prefix). Contains ps q) (sym e1) (Contains-append_right p0 (prefixes_via some held) q there)))),
+pub by-both : (nodes : List NodeId) (numbers some more : List ℕ) (old later new : List Candidate) (p0 p1 p2 : List Prefix) → ((n : ℕ) → is_moved numbers n ≡ is_among nodes n) → some ≡ numbers → more ≡ numbers → later ≡ new → HaveVia some old [] p0 p1 → p2 ≡ p1 ++ prefixes_via more later → HaveBy nodes old p2 × HaveBy nodes new p2
+by-both nodes numbers some more old later new p0 p1 p2 are s m l via e2 = (
+  (λ c there out. subst (λ (ps : List Prefix). Contains ps c.prefix) (sym e2) (Contains-append_left p1 (prefixes_via more later) c.prefix (via.gone c there (ap (λ (ns : List ℕ). is_by ns c) s ∙ are (node_number c.origin) ∙ not-true (is_among nodes (node_number c.origin)) out)))),
   by-via nodes numbers more later new p2 are m l (λ q there. subst (λ (ps : List Prefix). Contains ps q) (sym e2) (Contains-append_right p1 (prefixes_via more later) q there)),
 )

@@ -22,6 +22,8 @@ pub mod SameLemmas
 pub mod SystemLemmas
 pub mod AttachedLemmas
 pub mod GoneLemmas
+pub mod BucketLemmas
+pub mod ReplacedLemmas
 pub mod NumberLemmas
 pub mod ComingLemmas
 pub mod OwnLemmas

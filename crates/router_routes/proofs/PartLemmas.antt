@@ -4,7 +4,7 @@ use Rattle.std.specs.List.{Contains, list_any}
 use Rattle.std.proofs.lemmas.Bool.{eqb-true}
 use Rattle.std.proofs.lemmas.List.Elements.{Contains-append_left, Contains-append_right, Contains-append_cases, filter-append}
 use Rattle.isis_base.specs.Prefixes as base
-use Rattle.model_datagram.specs.Reading.{runs_of}
+use Rattle.model_router.specs.Both.{runs_of}
 use Rattle.lsp_view.specs.Views.{own_node}
 use Rattle.spf_tree.proofs.SearchLemmas.{contains_none}
 use Rattle.route_table.specs.declared.candidate.Candidate.{Candidate}
@@ -15,6 +15,7 @@ use Rattle.router_routes.specs.Candidates.{candidates_of, defaults, has_defaults
 use Rattle.router_routes.specs.Kept.{AreReached, AreSame, told_candidates}
 use Rattle.router_routes.specs.Moved.{outlook_at}
 use Rattle.router_routes.specs.Touched.{is_for}
+use Rattle.router_routes.proofs.BesideLemmas.{any-same, same-append, same-both, same-refl}
 use Rattle.router_routes.proofs.KeptLemmas.{filter-in, in-filter}
 use Rattle.router_routes.proofs.PatchLemmas.{default-zero, number-is}
 use Rattle.router_routes.proofs.SameLemmas.{all-same, counted}
@@ -48,10 +49,10 @@ any-filter p f stays (c ∷ cs) = any-step p f c cs (stays c) (any-filter p f st
 
 -- whether ways by default count
 pub counted-for : (view : View) (told ways firm : List Candidate) (numbers : List ℕ) (attached has : Bool) → AreReached (outlook_at view) told ways attached → is_moved numbers 0 ≡ true
-    → firm ≡ filter (is_for numbers) (map (own_candidate (outlook_at view).root) (outlook_at view).prefixes ++ told) → has ≡ (((runs_of view.levels).one && not attached) && not (list_any is_for_all firm)) → has ≡ has_defaults (outlook_at view)
+    → AreSame firm (filter (is_for numbers) (map (own_candidate (outlook_at view).root) (outlook_at view).prefixes ++ told)) → has ≡ (((runs_of view.levels).one && not attached) && not (list_any is_for_all firm)) → has ≡ has_defaults (outlook_at view)
 counted-for view told ways firm numbers attached has reached zero is has-is =
     let all : List Candidate = map (own_candidate (outlook_at view).root) (outlook_at view).prefixes ++ told in
-    let any : list_any is_for_all firm ≡ list_any is_for_all all = ap (list_any is_for_all) is ∙ any-filter is_for_all (is_for numbers) (all-for numbers zero) all in
+    let any : list_any is_for_all firm ≡ list_any is_for_all all = any-same is_for_all firm (filter (is_for numbers) all) is ∙ any-filter is_for_all (is_for numbers) (all-for numbers zero) all in
     counted view told ways all attached has reached.told reached.ways reached.attached refl
     (has-is ∙ ap (λ (b : Bool). ((runs_of view.levels).one && not attached) && not b) any)
 
@@ -85,11 +86,30 @@ module _ (o : Outlook) (told ways : List Candidate) (numbers : List ℕ) (zero :
             ]),
       )
 
+same-turned : (xs ys : List Candidate) → AreSame (xs ++ ys) (ys ++ xs)
+same-turned xs ys c = (turned xs ys c, turned ys xs c)
+  where
+    turned : (us vs : List Candidate) (d : Candidate) → Contains (us ++ vs) d → Contains (vs ++ us) d
+    turned us vs d there =
+        elim (Contains-append_cases us vs d there) [
+          | inl here ↦ Contains-append_right vs us d here
+          | inr more ↦ Contains-append_left vs us d more
+        ]
+
 -- one's own and what is told, of these prefixes
-pub firm-for : (view : View) (told l m n : List Candidate) (numbers : List ℕ) → l ≡ [] → m ≡ l ++ filter (is_for numbers) (map (own_candidate (own_node view.system)) view.prefixes.now) → n ≡ m ++ filter (is_for numbers) told
-    → n ≡ filter (is_for numbers) (map (own_candidate (outlook_at view).root) (outlook_at view).prefixes ++ told)
+pub firm-for : (view : View) (told part list : List Candidate) (numbers : List ℕ) → AreSame part (filter (is_for numbers) told) → list ≡ part ++ filter (is_for numbers) (map (own_candidate (own_node view.system)) view.prefixes.now)
+    → AreSame list (filter (is_for numbers) (map (own_candidate (outlook_at view).root) (outlook_at view).prefixes ++ told))
 unfolding outlook_at
-firm-for view told l m n numbers e f g =
+firm-for view told part list numbers same e =
     let own = map (own_candidate (own_node view.system)) view.prefixes.now in
-    g ∙ ap (λ (x : List Candidate). x ++ filter (is_for numbers) told) (f ∙ ap (λ (x : List Candidate). x ++ filter (is_for numbers) own) e)
-    ∙ sym (filter-append (is_for numbers) own told)
+    let its = filter (is_for numbers) own in
+    same-both list (its ++ filter (is_for numbers) told) (filter (is_for numbers) (own ++ told))
+    (same-both list (part ++ its) (its ++ filter (is_for numbers) told) (same-refl list (part ++ its) e)
+    (same-both (part ++ its) (its ++ part) (its ++ filter (is_for numbers) told) (same-turned part its) (same-append its part its (filter (is_for numbers) told) (same-refl its its refl) same)))
+    (same-refl (its ++ filter (is_for numbers) told) (filter (is_for numbers) (own ++ told)) (sym (filter-append (is_for numbers) own told)))
+
+-- with the ways by default
+pub part-with : (firm its ways all : List Candidate) (t : Bool) → AreSame its firm → AreSame (firm ++ (if t then ways else [])) all → AreSame (its ++ (if t then ways else [])) all
+part-with firm its ways all t same are =
+    let more = if t then ways else [] in
+    same-both (its ++ more) (firm ++ more) all (same-append its more firm more same (same-refl more more refl)) are

@@ -1,7 +1,8 @@
 -- Routes of which some prefixes are looked at anew, once some nodes moved.
-use Rattle.std.proofs.Common.{◌≡◌, ◌∙◌, ◌↔◌, ℕ, ◌+◌, Bool, true, false, not, List, [], ◌∷◌, ◌++◌, ◌⊎◌, length, map, filter, Option, None, Some, Result, Ok, Err, IfOk, refl, sym, ap, subst, arith, inl, inr, append-nil, if◌then◌else◌}
+use Rattle.std.proofs.Common.{◌≡◌, ◌∙◌, ◌↔◌, ℕ, ◌+◌, ◌<◌, Bool, true, false, not, List, [], ◌∷◌, ◌++◌, ◌⊎◌, length, map, filter, Option, None, Some, Result, Ok, Err, IfOk, refl, sym, ap, subst, arith, inl, inr, append-nil, if◌then◌else◌}
 use Rattle.std.specs.List.{Contains, flat_map}
 use Rattle.std.specs.List.Sorted.{IsStrictlyIncreasing}
+use Rattle.std.proofs.lemmas.Bool.{cases_eq}
 use Rattle.std.proofs.lemmas.List.Elements.{Contains-append_left, Contains-append_right, Contains-append_cases}
 use Rattle.isis_base.specs.declared.identifiers.NodeId.{NodeId}
 use Rattle.isis_base.specs.declared.identifiers.SystemId.{SystemId}
@@ -33,17 +34,19 @@ use Rattle.router_routes.specs.declared.coming.ReachedAfter.{ReachedAfter}
 use Rattle.router_routes.specs.declared.coming.RoutesAfter.{RoutesAfter}
 use Rattle.router_routes.specs.declared.coming.RoutesAfter.TheVariants.{Made, Patched}
 use Rattle.router_routes.specs.Outlooks.{Outlook, graph_in}
+use Rattle.router_routes.specs.Buckets.{AreOfBucket, bucket_of}
 use Rattle.router_routes.specs.Candidates.{reached_in, has_bit, has_defaults, default_by, default_of, defaults, own_candidate, system_candidates, firm_candidates, candidates_of, AreRoutesOf}
 use Rattle.router_routes.specs.Following.{AreHopsOf, FollowingOf, IsFollowing, IsLevel}
 use Rattle.router_routes.specs.Kept.{AreBeside, AreReached, AreSame, CostBeside, HaveToldIds, stays, systems_among, told_candidates}
 use Rattle.router_routes.specs.Moved.{AreNodes, is_among}
-use Rattle.router_routes.specs.Coming.{AreLevels, AreLevelsBeside, AreRoutesAfter, HopsStay, apart_in, costs_after, hops_after, list_after}
-use Rattle.router_routes.specs.Touched.{AreApartBeside, ArePatchesFor, AreRoutesFor, AreStill, AreTouched, HaveOwn, IsReachedAfter, IsStill, is_by, is_for, prefix_of, prefixes_via}
+use Rattle.router_routes.specs.Coming.{AreLevels, AreLevelsBeside, AreRoutesAfter, HopsStay, apart_in, costs_after, hops_after, told_after}
+use Rattle.router_routes.specs.Touched.{AreApartBeside, ArePatchesFor, AreRoutesFor, AreStill, AreTouched, HaveOwn, HaveVia, IsReachedAfter, IsStill, is_by, is_for, prefix_of, prefixes_via}
 use Rattle.router_routes.proofs.GraphLemmas.{hop-by}
+use Rattle.router_routes.proofs.BucketLemmas.{below, within}
 use Rattle.router_routes.proofs.KeptLemmas.{filter-in, flat-in, in-filter}
 use Rattle.router_routes.proofs.NumberLemmas.{in-map, moved-none, there-moved}
 use Rattle.router_routes.proofs.OwnLemmas.{own-more}
-use Rattle.router_routes.proofs.BesideLemmas.{same-refl}
+use Rattle.router_routes.proofs.BesideLemmas.{same-both, same-refl}
 use Rattle.router_routes.proofs.SameLemmas.{AreCostsOf, firm-told, told-after}
 
 -- ---- next hops
@@ -303,6 +306,15 @@ pub made-by : (HopTo : Candidate → ℕ → Type 0) (cs ds some : List Candidat
 made-by HopTo cs ds some routes same e are =
     routes_by HopTo HopTo cs ds routes (λ c. (same c).1) (λ c. (same c).0) (λ c hop. ((λ h. h), (λ h. h))) (subst (λ (l : List Candidate). AreRoutes HopTo l routes) e are)
 
+-- what is reached, by a list of what is told
+pub reached-of : (o : Outlook) (told list slice ways : List Candidate) (bit : Bool) → AreSame list told → slice ≡ list → AreReached o told ways bit → AreReached o slice ways bit
+reached-of o told list slice ways bit same e are =
+    record {
+      told = same-both slice told (told_candidates o) (same-both slice list told (same-refl slice list e) same) are.told;
+      ways = are.ways;
+      attached = are.attached;
+    }
+
 -- three clauses of one answer
 pub all-three : {X E : Type 0} (r : Result X E) (P Q R S : X → Type 0) → ((x : X) → P x → Q x → R x → S x) → IfOk r P → IfOk r Q → IfOk r R → IfOk r S
 all-three (Ok x) P Q R S f p q t = f x p q t
@@ -355,6 +367,39 @@ none-via : (cs : List Candidate) → prefixes_via [] cs ≡ []
 none-via [] = refl
 none-via (c ∷ cs) = none-via cs
 
+pub none-gone : (numbers : List ℕ) (cs : List Candidate) (ps : List Prefix) → length numbers ≡ 0 → HaveVia numbers cs [] ps ps
+none-gone [] cs ps e = record { more = λ q there. there; gone = λ c there by. absurd (let f : false ≡ true = by in cc); new = λ c there. absurd (contains_none c there) }
+none-gone (n ∷ numbers) cs ps e = absurd (omega (arith, e))
+
+-- so far, of the buckets before one
+pub record HaveBefore (numbers : List ℕ) (cs : List Candidate) (place : ℕ) (p0 ps : List Prefix) : Type 0 where
+  pub more : (q : Prefix) → Contains p0 q → Contains ps q
+  pub by : (c : Candidate) → Contains cs c → is_by numbers c ≡ true → bucket_of c < place → Contains ps c.prefix
+
+pub have-first : (numbers : List ℕ) (cs : List Candidate) (ps : List Prefix) → HaveBefore numbers cs 0 ps ps
+have-first numbers cs ps = record { more = λ q there. there; by = λ c there is lt. absurd (omega (arith, lt)) }
+
+pub have-turn : (numbers : List ℕ) (cs bucket : List Candidate) (place : ℕ) (p0 ps qs : List Prefix) → AreOfBucket cs place bucket → qs ≡ ps ++ prefixes_via numbers bucket → HaveBefore numbers cs place p0 ps → HaveBefore numbers cs (place + 1) p0 qs
+have-turn numbers cs bucket place p0 ps qs are e so-far =
+    let its = prefixes_via numbers bucket in
+    let grown : (q : Prefix) → Contains ps q → Contains qs q = λ q there. subst (λ (l : List Prefix). Contains l q) (sym e) (Contains-append_left ps its q there) in
+    record {
+      more = λ q there. grown q (so-far.more q there);
+      by = λ c there is lt.
+          elim (cases_eq (bucket_of c) place) [
+            | inl at ↦ subst (λ (l : List Prefix). Contains l c.prefix) (sym e) (Contains-append_right ps its c.prefix (in-map prefix_of (filter (is_by numbers) bucket) c (in-filter (is_by numbers) bucket c ((are.each c).1 (there, at)) is)))
+            | inr out ↦ grown c.prefix (so-far.by c there is (below (bucket_of c) place lt out))
+          ];
+    }
+
+pub have-all : (numbers : List ℕ) (cs : List Candidate) (place : ℕ) (p0 ps : List Prefix) → 251 < place + 1 → HaveBefore numbers cs place p0 ps → HaveVia numbers cs [] p0 ps
+have-all numbers cs place p0 ps long so-far =
+    record {
+      more = so-far.more;
+      gone = λ c there is. so-far.by c there is (let lt = within c in omega (arith, lt, long));
+      new = λ c there. absurd (contains_none c there);
+    }
+
 pub via-none : (numbers : List ℕ) (cs : List Candidate) (ps : List Prefix) → length numbers ≡ 0 → ps ≡ ps ++ prefixes_via numbers cs
 via-none [] cs ps e = sym (ap (λ (l : List Prefix). ps ++ l) (none-via cs) ∙ append-nil ps)
 via-none (n ∷ numbers) cs ps e = absurd (omega (arith, e))
@@ -363,34 +408,33 @@ not-false : (t : Bool) → not t ≡ true → t ≡ false
 not-false true e = absurd (let f : false ≡ true = e in cc)
 not-false false e = refl
 
-module _ (o p : Outlook) (f : FollowingOf) (is : IsFollowing o f) (nodes : List NodeId) (levels : LevelsAfter) (still : AreStill nodes o p) (reached : ReachedAfter) (has : IsReachedAfter nodes p f reached) (numbers : List ℕ) (are : AreApartBeside nodes f levels numbers) (prefixes : List Prefix) (listed : (q : Prefix) → Contains reached.prefixes.items q → Contains prefixes q) (via : (q : Prefix) → Contains (prefixes_via numbers f.told) q → Contains prefixes q) where
+module _ (o p : Outlook) (f : FollowingOf) (is : IsFollowing o f) (nodes : List NodeId) (levels : LevelsAfter) (still : AreStill nodes o p) (reached : ReachedAfter) (has : IsReachedAfter nodes p f reached) (numbers : List ℕ) (are : AreApartBeside nodes f levels numbers) (prefixes : List Prefix) (listed : (q : Prefix) → Contains reached.prefixes.items q → Contains prefixes q) (via : (c : Candidate) → Contains f.told c → is_by numbers c ≡ true → Contains prefixes c.prefix) where
   abbrev Touched : Candidate → Type 0
   Touched c = Contains prefixes c.prefix ⊎ IsStill nodes f levels (node_number c.origin)
 
   by-hops : (c : Candidate) → Contains f.told c → is_among nodes (node_number c.origin) ≡ false → (t : Bool) → is_by numbers c ≡ t → Touched c
-  by-hops c there none true by = inl (via c.prefix (in-map prefix_of (filter (is_by numbers) f.told) c (in-filter (is_by numbers) f.told c there by)))
+  by-hops c there none true by = inl (via c there by)
   by-hops c there none false by = inr (are.still (node_number c.origin) none by)
 
   before-step : (c : Candidate) → Contains f.told c → (t : Bool) → stays nodes c ≡ t → Touched c
   before-step c there true stay = by-hops c there (not-false (is_among nodes (node_number c.origin)) stay) (is_by numbers c) refl
   before-step c there false out = inl (listed c.prefix (has.before c there out))
 
-  after-step : (c : Candidate) → Contains (list_after reached.told f.told) c → (t : Bool) → stays nodes c ≡ t → Touched c
+  after-step : (c : Candidate) → Contains (told_after reached.told f.told) c → (t : Bool) → stays nodes c ≡ t → Touched c
   after-step c there true stay = before-step c ((is.told c).1 ((still.told c stay).1 ((has.right.told c).0 there))) true stay
   after-step c there false out = inl (listed c.prefix (has.after c there out))
 
-  pub touched-by : (old new : List (Prefix × ℕ)) → IsListed prefixes 0 → HaveOwn old new prefixes → AreTouched nodes f levels old new (list_after reached.told f.told) prefixes
+  pub touched-by : (old new : List (Prefix × ℕ)) → IsListed prefixes 0 → HaveOwn old new prefixes → AreTouched nodes f levels old new (told_after reached.told f.told) prefixes
   touched-by old new all own = record { all = all; own = own; before = λ c there. before-step c there (stays nodes c) refl; after = λ c there. after-step c there (stays nodes c) refl }
 
 pub touched-are : (o p : Outlook) (f : FollowingOf) → IsFollowing o f → (nodes : List NodeId) (levels : LevelsAfter) → AreStill nodes o p → (reached : ReachedAfter) → IsReachedAfter nodes p f reached → (numbers some : List ℕ) → AreApartBeside nodes f levels numbers → some ≡ numbers → (held : List Candidate) → held ≡ f.told → (old new : List (Prefix × ℕ)) (p0 p1 p2 slice : List Prefix) → slice ≡ reached.prefixes.items
-    → IsListed p0 0 → HaveOwn old new p0 → p1 ≡ p0 ++ slice → p2 ≡ p1 ++ prefixes_via some held → AreTouched nodes f levels old new (list_after reached.told f.told) p2
-touched-are o p f is nodes levels still reached has numbers some are s held h old new p0 p1 p2 slice l all own e1 e2 =
-    let last = prefixes_via some held in
-    let from1 : (q : Prefix) → Contains p1 q → Contains p2 q = λ q there. subst (λ (ps : List Prefix). Contains ps q) (sym e2) (Contains-append_left p1 last q there) in
+    → IsListed p0 0 → HaveOwn old new p0 → p1 ≡ p0 ++ slice → HaveVia some held [] p1 p2 → AreTouched nodes f levels old new (told_after reached.told f.told) p2
+touched-are o p f is nodes levels still reached has numbers some are s held h old new p0 p1 p2 slice l all own e1 via =
+    let from1 : (q : Prefix) → Contains p1 q → Contains p2 q = via.more in
     let from0 : (q : Prefix) → Contains p0 q → Contains p2 q = λ q there. from1 q (subst (λ (ps : List Prefix). Contains ps q) (sym e1) (Contains-append_left p0 slice q there)) in
     touched-by o p f is nodes levels still reached has numbers are p2
     (λ q there. from1 q (subst (λ (ps : List Prefix). Contains ps q) (sym e1) (Contains-append_right p0 slice q (subst (λ (ps : List Prefix). Contains ps q) (sym l) there))))
-    (λ q there. subst (λ (ps : List Prefix). Contains ps q) (sym e2) (Contains-append_right p1 last q (subst (λ (ns : List ℕ). Contains (prefixes_via ns held) q) (sym s) (subst (λ (cs : List Candidate). Contains (prefixes_via numbers cs) q) (sym h) there))))
+    (λ c there by. via.gone c (subst (λ (l : List Candidate). Contains l c) (sym h) there) (ap (λ (l : List ℕ). is_by l c) s ∙ by))
     old new (all.0, from0 all.0 all.1, all.2) (own-more old new p0 p2 from0 own)
 
 pub all-listed : (p0 p1 p2 : List Prefix) (r s : List Prefix) → p1 ≡ p0 ++ r → p2 ≡ p1 ++ s → IsListed p0 0 → IsListed p2 0

@@ -9,7 +9,7 @@ use Rattle.isis_base.specs.declared.prefix.Prefix.{Prefix}
 use Rattle.isis_base.specs.declared.level.Level.TheVariants as level
 use Rattle.isis_base.specs.Identifiers.{IsId, lsp_number}
 use Rattle.isis_base.proofs.ArrayLemmas.{lsp_number-one}
-use Rattle.model_datagram.specs.Reading.{runs_of}
+use Rattle.model_router.specs.Both.{runs_of}
 use Rattle.lsp_store.specs.declared.entry.Entry.{Entry}
 use Rattle.lsp_view.specs.Views.{own_node}
 use Rattle.spf_tree.specs.Nodes.{node_number}
@@ -199,6 +199,22 @@ module _ (o p : Outlook) (f : FollowingOf) (is : IsFollowing o f) (nodes : List 
         ways = same-both others (filter (stays nodes) f.defaults ++ ways) (defaults p.told.one p.root) g (ways-list (filter (stays nodes) f.defaults ++ ways) refl);
         attached = h;
       }
+
+-- what nodes told, and what all others did
+abbrev pub went-of : Outlook → FollowingOf → List NodeId → List Candidate
+went-of o f nodes =
+    flat_map (system_candidates level.One o.told.one) (systems_among (cost_at f.levels.one.distances) (node_number f.levels.one.graph.root) nodes)
+    ++ flat_map (system_candidates level.Two o.told.two) (systems_among (cost_at f.levels.two.distances) (node_number f.levels.two.graph.root) nodes)
+
+pub went-are : (o : Outlook) (f : FollowingOf) → IsFollowing o f → (nodes : List NodeId) → AreNodes nodes → HaveToldIds o → AreCostsOf f.levels.one → AreCostsOf f.levels.two → (went : List Candidate) → went ≡ went-of o f nodes → AreSame f.told (filter (stays nodes) f.told ++ went)
+went-are o f is nodes ids told-ids a1 a2 went e =
+    let here : AreBeside nodes o o = record { root = refl; areas = refl; runs = refl; one = refl; two = refl } in
+    let same-costs : (d : List (ℕ × ℕ)) → CostBeside nodes d d = λ d m id none. refl in
+    let list = filter (stays nodes) f.told ++ went in
+    same-both f.told (told_candidates o) list is.told
+    (same-back list (told_candidates o)
+    (told-after o o nodes ids here told-ids told-ids f.levels.one f.levels.two f.levels.one f.levels.two is.one is.two is.one is.two a1 a1 (same-costs f.levels.one.distances) a2 a2 (same-costs f.levels.two.distances) f.told list is.told
+    (ap (λ (cs : List Candidate). filter (stays nodes) f.told ++ cs) e)))
 
 -- what follows a router reaches that
 pub following-reached : (o : Outlook) (f : FollowingOf) → IsFollowing o f → AreReached o f.told f.defaults f.attached

@@ -12,7 +12,7 @@ use Rattle.spf_tree.specs.Nodes.{node_number}
 use Rattle.spf_tree.specs.Distances.{cost_at, AreDistances}
 use Rattle.spf_tree.specs.Graphs.{GraphOf}
 use Rattle.spf_repair.specs.Changes.{RepairedOf}
-use Rattle.model_datagram.specs.Reading.{runs_of}
+use Rattle.model_router.specs.Both.{runs_of}
 use Rattle.lsp_view.specs.Views.{own_node, lead_of, areas_at}
 use Rattle.route_leaking.specs.Attachment.{is_attached, is_elsewhere}
 use Rattle.route_table.specs.declared.candidate.Candidate.{Candidate}

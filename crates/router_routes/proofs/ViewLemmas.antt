@@ -7,7 +7,7 @@ use Rattle.isis_base.specs.declared.identifiers.NodeId.{NodeId}
 use Rattle.isis_base.specs.declared.identifiers.LspId.{LspId}
 use Rattle.isis_base.specs.declared.prefix.Prefix.{Prefix}
 use Rattle.isis_base.specs.Identifiers.{IsId}
-use Rattle.model_datagram.specs.Reading.{runs_of}
+use Rattle.model_router.specs.Both.{runs_of}
 use Rattle.lsp_store.specs.declared.entry.Entry.{Entry}
 use Rattle.lsp_store.specs.Maps.{RisesFrom}
 use Rattle.spf_tree.specs.Nodes.{node_number}

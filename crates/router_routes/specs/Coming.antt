@@ -17,10 +17,12 @@ use Rattle.router_routes.specs.declared.coming.LevelsAfter.{LevelsAfter}
 use Rattle.router_routes.specs.declared.coming.ReachedAfter.{ReachedAfter}
 use Rattle.router_routes.specs.declared.coming.RoutesAfter.{RoutesAfter}
 use Rattle.router_routes.specs.declared.coming.RoutesAfter.TheVariants.{Made, Patched}
+use Rattle.router_routes.specs.declared.coming.ToldAfter.{ToldAfter}
 use Rattle.router_routes.specs.declared.moving.CostsMoved.{CostsMoved}
 use Rattle.router_routes.specs.Outlooks.{Outlook}
+use Rattle.router_routes.specs.Buckets.{made_or, with_buckets}
 use Rattle.router_routes.specs.Candidates.{AreRoutesOf}
-use Rattle.router_routes.specs.Kept.{AreBeside, AreReached, CostBeside}
+use Rattle.router_routes.specs.Kept.{AreBeside, AreReached, AreSame, CostBeside}
 use Rattle.router_routes.specs.Moved.{AreNodes, is_among, or_old}
 use Rattle.router_routes.specs.Counts.{Counts}
 use Rattle.router_routes.specs.Following.{AreHopsOf, FollowingOf, IsFollowing, IsLevel}
@@ -108,10 +110,14 @@ abbrev pub list_after : Option (Vec Candidate Global) → List Candidate → Lis
 list_after None old = old
 list_after (Some new) old = new.items
 
+-- what levels tell then: all of it anew or as it was, but for the buckets that are others
+abbrev pub told_after : ToldAfter → List Candidate → List Candidate
+told_after told old = with_buckets told.buckets.items (made_or told.made old)
+
 -- these are reached, where the rest stays
 abbrev pub AreReachedAfter : Outlook → FollowingOf → ReachedAfter → Type 0
 AreReachedAfter o f reached =
-    AreReached o (list_after reached.told f.told) (list_after reached.defaults f.defaults) reached.attached
+    AreReached o (told_after reached.told f.told) (list_after reached.defaults f.defaults) reached.attached
 
 -- ---- routes
 
@@ -140,7 +146,7 @@ pub record IsPut (old : FollowingOf) (c : Coming) (new : FollowingOf) : Type 0 w
   pub hops_two : new.hops.two ≡ hops_after c.two old.hops.two
   pub routes : ArePut old.routes c.routes new.routes
   pub attached : new.attached ≡ c.attached
-  pub told : new.told ≡ list_after c.told old.told
+  pub told : AreSame new.told (told_after c.told old.told)
   pub defaults : new.defaults ≡ list_after c.defaults old.defaults
 
 -- once this has come, what follows a router follows what routes look at

@@ -4,6 +4,7 @@ pub mod Told
 pub mod Costs
 pub mod Outlooks
 pub mod Candidates
+pub mod Buckets
 pub mod Leaks
 pub mod Differences
 pub mod Counts

@@ -6,10 +6,9 @@ use Rattle.isis_base.specs.declared.level.Level.{Level}
 use Rattle.isis_base.specs.declared.level.Level.TheVariants as level
 use Rattle.isis_base.specs.declared.prefix.Prefix.{Prefix}
 use Rattle.isis_base.specs.Prefixes.{prefix_from}
-use Rattle.model_router.specs.Both.{Both, at}
+use Rattle.model_router.specs.Both.{Both, at, runs_of}
 use Rattle.model_router.specs.Routers.{Router, book_of}
 use Rattle.model_router.specs.Numbers.{system_id}
-use Rattle.model_datagram.specs.Reading.{runs_of}
 use Rattle.lsp_store.specs.declared.entry.Entry.{Entry}
 use Rattle.lsp_view.specs.Views.{own_node, rows_in, overloaded_in}
 use Rattle.spf_tree.specs.declared.row.Row.{Row}

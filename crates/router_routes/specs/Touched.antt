@@ -16,10 +16,11 @@ use Rattle.router_routes.specs.declared.coming.ReachedAfter.{ReachedAfter}
 use Rattle.router_routes.specs.declared.coming.RoutesAfter.{RoutesAfter}
 use Rattle.router_routes.specs.declared.coming.RoutesAfter.TheVariants.{Made, Patched}
 use Rattle.router_routes.specs.Outlooks.{Outlook}
+use Rattle.router_routes.specs.Buckets.{bucket_of}
 use Rattle.router_routes.specs.Following.{FollowingOf}
 use Rattle.router_routes.specs.Moved.{is_among}
 use Rattle.router_routes.specs.Kept.{stays, told_candidates}
-use Rattle.router_routes.specs.Coming.{AreReachedAfter, hops_after, list_after}
+use Rattle.router_routes.specs.Coming.{AreReachedAfter, hops_after, told_after}
 
 -- ---- what stays
 
@@ -51,6 +52,13 @@ is_by numbers c = is_moved numbers (node_number c.origin)
 abbrev pub is_for : List ℕ → Candidate → Bool
 is_for numbers c = is_moved numbers (prefix_number c.prefix)
 
+-- candidates, and of others in some buckets those for prefixes of these numbers
+pub record HasParts (numbers : List ℕ) (list : List Candidate) (places : List ℕ) (old new : List Candidate) : Type 0 where
+  pub kept : (c : Candidate) → Contains old c → Contains new c
+  pub from : (c : Candidate) → Contains new c → Contains old c ⊎ (Contains list c × (is_for numbers c ≡ true))
+  pub there : (c : Candidate) → Contains list c → is_for numbers c ≡ true → Contains places (bucket_of c)
+      → Contains new c
+
 -- where these come in the place of those by way of such nodes: they are the same, or all of them then
 abbrev pub AreKeptWith : List ℕ → List Candidate → List Candidate → Option (Vec Candidate Global) → Type 0
 AreKeptWith numbers old come None = filter (is_by numbers) old ≡ come
@@ -79,7 +87,7 @@ HaveBy nodes candidates prefixes =
 pub record IsReachedAfter (nodes : List NodeId) (o : Outlook) (f : FollowingOf) (reached : ReachedAfter) : Type 0 where
   pub right : AreReachedAfter o f reached
   pub before : HaveBy nodes f.told reached.prefixes.items
-  pub after : HaveBy nodes (list_after reached.told f.told) reached.prefixes.items
+  pub after : HaveBy nodes (told_after reached.told f.told) reached.prefixes.items
 
 -- each of some own prefixes with its metric is among others too, or its prefix is there
 abbrev pub AreOwnIn : List (Prefix × ℕ) → List (Prefix × ℕ) → List Prefix → Type 0

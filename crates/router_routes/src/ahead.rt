@@ -10,7 +10,6 @@ ghost use Rattle.router_routes.specs.Kept.{AreBeside};
 ghost use Rattle.router_routes.specs.Touched.{IsReachedAfter};
 ghost use Rattle.router_routes.specs.Moved.{AreFit, AreMoved, AreRowsMoved, AreViewed, IsInOrder, IsMovedAt, NodesRise, nodes_of, or_old, outlook_at};
 
-use crate::candidates::{runs_one, runs_two};
 use crate::coming::{Coming, LevelsAfter, ReachedAfter, RoutesAfter, all_stays, level_of};
 use crate::following::Following;
 use crate::kept::{moved, told_nodes};
@@ -20,6 +19,7 @@ use crate::told::{Moved, Told};
 use crate::view::{View, as_told, nodes_law};
 use isis_base::{Level, NodeId, OutOfMemory, Prefix};
 use lsp_store::Store;
+use model_router::has_level;
 use std::alloc::Global;
 
 impl Following {
@@ -34,8 +34,18 @@ impl Following {
             → MatchOption next (IsFollowing o self.now) (λ c. IsComing o self.now c)) }
     {
         let view = as_told(lent, told);
-        let one = level_after(self.alloc, runs_one(lent.levels), &self.one, &view.one)?;
-        match level_after(self.alloc, runs_two(lent.levels), &self.two, &view.two) {
+        let one = level_after(
+            self.alloc,
+            has_level(lent.levels, Level::One),
+            &self.one,
+            &view.one,
+        )?;
+        match level_after(
+            self.alloc,
+            has_level(lent.levels, Level::Two),
+            &self.two,
+            &view.two,
+        ) {
             Ok(two) => self.with_levels(lent, told, &view, one, two),
             Err(error) => {
                 drop(one);

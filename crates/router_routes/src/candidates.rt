@@ -2,20 +2,23 @@
 ghost use Rattle.std.specs.Prelude.{[], ◌≡◌, ◌++◌, ◌&&◌, true, not, map, filter, IfOk, OnOk, IfSome};
 ghost use Rattle.std.specs.List.{flat_map, list_any};
 ghost use Rattle.std.specs.List.Sorted.{IsStrictlyIncreasing};
-ghost use Rattle.model_datagram.specs.Reading.{runs_of};
+ghost use Rattle.model_router.specs.Both.{runs_of};
 ghost use Rattle.lsp_view.specs.Views.{own_node};
 ghost use Rattle.route_table.specs.Patches.{is_moved};
 ghost use Rattle.router_routes.specs.Moved.{IsFit, AreFit, told_of, outlook_at};
+ghost use Rattle.router_routes.specs.Buckets.{all_in, with_buckets};
 ghost use Rattle.router_routes.specs.Candidates.{reached_in, rank_in, told_candidate, system_candidates, own_candidate, defaults, default_of, is_for_all, candidates_of};
 ghost use Rattle.router_routes.specs.Kept.{AreReached, AreSame, told_candidates};
 ghost use Rattle.router_routes.specs.Touched.{is_for};
 
+use crate::bucketed::Bucketed;
+use crate::buckets_after::{BucketAfter, part_after};
 use crate::numbers::is_one_of;
 use crate::view::{LevelView, View, store_of};
 use isis_base::{Level, LevelSet, NodeId, OutOfMemory, Prefix, SystemId};
 use isis_tlv::PrefixItem;
 use lsp_view::{is_attached, reach_into};
-use model_datagram::runs;
+use model_router::has_level;
 use route_table::{Candidate, Rank};
 use std::alloc::Global;
 
@@ -57,18 +60,20 @@ fn firm_candidates(
 pub(crate) fn candidates_for(
     alloc: Global,
     view: &View<'_>,
-    told: &[Candidate],
+    told: &Bucketed,
+    after: &[BucketAfter],
     ways: &[Candidate],
     attached: bool,
     numbers: &[u64],
 ) -> Result<Vec<Candidate>, OutOfMemory>
-    requires reached { AreReached (outlook_at view.now) told.now ways.now attached }
+    requires reached { AreReached (outlook_at view.now)
+        (with_buckets after.now (all_in told.now)) ways.now attached }
     requires rising { IsStrictlyIncreasing numbers.now }
     requires all { is_moved numbers.now 0 ≡ true }
     ensures { IfOk result (λ list. AreSame list.items
         (filter (is_for numbers.now) (candidates_of (outlook_at view.now)))) }
 {
-    let mut list = firm_for(alloc, view, told, numbers)?;
+    let mut list = firm_for(alloc, view, told, after, numbers)?;
     if has_defaults(view.levels, attached, list.as_slice()) {
         add_all(&mut list, ways)?;
     }
@@ -79,17 +84,17 @@ pub(crate) fn candidates_for(
 fn firm_for(
     alloc: Global,
     view: &View<'_>,
-    told: &[Candidate],
+    told: &Bucketed,
+    after: &[BucketAfter],
     numbers: &[u64],
 ) -> Result<Vec<Candidate>, OutOfMemory>
     requires { IsStrictlyIncreasing numbers.now }
-    ensures { IfOk result (λ list. list.items
-        ≡ filter (is_for numbers.now) (map (own_candidate (outlook_at view.now).root)
-        (outlook_at view.now).prefixes ++ told.now)) }
+    ensures { IfOk result (λ list. AreSame list.items
+        (filter (is_for numbers.now) (map (own_candidate (outlook_at view.now).root)
+        (outlook_at view.now).prefixes ++ with_buckets after.now (all_in told.now)))) }
 {
-    let mut list = Vec::new(alloc);
+    let mut list = part_after(alloc, told, after, numbers)?;
     add_own_for(&mut list, own_node(view.system), view.prefixes, numbers)?;
-    add_for(&mut list, told, numbers)?;
     Ok(list)
 }
 
@@ -116,7 +121,7 @@ fn add_own_for(
 }
 
 /// Adds those of some candidates that are for prefixes of these numbers.
-fn add_for(
+pub(crate) fn add_for(
     list: &mut Vec<Candidate>,
     candidates: &[Candidate],
     numbers: &[u64],
@@ -200,21 +205,7 @@ fn has_defaults(levels: LevelSet, attached: bool, firm: &[Candidate]) -> bool
     ensures { result ≡ (((runs_of levels).one && not attached)
         && not (list_any is_for_all firm.now)) }
 {
-    runs_one(levels) && !attached && !has_for_all(firm)
-}
-
-/// Whether level 1 is run.
-pub(crate) fn runs_one(levels: LevelSet) -> bool
-    ensures { result ≡ (runs_of levels).one }
-{
-    runs(levels, Level::One)
-}
-
-/// Whether level 2 is run.
-pub(crate) fn runs_two(levels: LevelSet) -> bool
-    ensures { result ≡ (runs_of levels).two }
-{
-    runs(levels, Level::Two)
+    has_level(levels, Level::One) && !attached && !has_for_all(firm)
 }
 
 /// The node that a system is.

@@ -1,14 +1,18 @@
 //! What will follow a router, and that put in the place of what does (own).
 ghost use Rattle.std.specs.Prelude.{◌≡◌, ℕ, true, List, None, IfOk};
+ghost use Rattle.route_table.specs.declared.candidate.Candidate as declared;
 ghost use Rattle.isis_base.specs.declared.identifiers.NodeId.{NodeId};
 ghost use Rattle.spf_repair.specs.Changes.{RepairedOf};
 ghost use Rattle.router_routes.specs.Following.{AreHopsOf, FollowingOf};
-ghost use Rattle.router_routes.specs.Kept.{AreReached};
+ghost use Rattle.router_routes.specs.Buckets.{all_in, made_or};
+ghost use Rattle.router_routes.specs.Kept.{AreReached, AreSame};
 ghost use Rattle.router_routes.specs.Moved.{AreRowsMoved, or_old};
 ghost use Rattle.router_routes.specs.Outlooks.{Outlook};
 ghost use Rattle.router_routes.specs.Touched.{HaveBy, IsReachedAfter};
-ghost use Rattle.router_routes.specs.Coming.{AreOfOneRoot, ArePut, FitsIn, IsLevelAfter, IsPut, costs_after, hops_after, list_after};
+ghost use Rattle.router_routes.specs.Coming.{AreOfOneRoot, ArePut, FitsIn, IsLevelAfter, IsPut, costs_after, hops_after, list_after, told_after};
 
+use crate::bucketed::{Bucketed, put_all};
+use crate::buckets_after::BucketAfter;
 use crate::following::{Following, Reached};
 use crate::hops_moved::{HopsMoved, hops_moved};
 use crate::moving::CostsMoved;
@@ -27,7 +31,7 @@ pub struct Coming {
     pub(crate) two: Option<LevelAfter>,
     pub(crate) routes: RoutesAfter,
     pub(crate) attached: bool,
-    pub(crate) told: Option<Vec<Candidate>>,
+    pub(crate) told: ToldAfter,
     pub(crate) defaults: Option<Vec<Candidate>>,
 }
 
@@ -48,11 +52,18 @@ pub(crate) struct LevelsAfter {
     pub two: Option<LevelAfter>,
 }
 
-/// What is reached once some nodes moved: what levels tell of prefixes and the ways by default, each `None` where it stays;
-/// whether the router is attached; and the prefixes that these nodes told and tell, in any order, of which some may be there twice.
+/// What levels tell of prefixes as it will be: all of it made anew or as it was, but for the buckets that are others.
+#[derive(Drop)]
+pub(crate) struct ToldAfter {
+    pub made: Option<Bucketed>,
+    pub buckets: Vec<BucketAfter>,
+}
+
+/// What is reached once some nodes moved: what levels tell of prefixes, and the ways by default, `None` where they stay; whether
+/// the router is attached; and the prefixes that these nodes told and tell, in any order, of which some may be there twice.
 #[derive(Drop)]
 pub(crate) struct ReachedAfter {
-    pub told: Option<Vec<Candidate>>,
+    pub told: ToldAfter,
     pub defaults: Option<Vec<Candidate>>,
     pub attached: bool,
     pub prefixes: Vec<Prefix>,
@@ -83,7 +94,7 @@ impl Following {
         put_level(&mut self.two, &mut self.hops_two, two);
         put_routes(&mut self.routes, routes);
         self.attached = attached;
-        put_list(&mut self.told, told);
+        put_told(&mut self.told, told);
         put_list(&mut self.defaults, defaults);
     }
 }
@@ -104,6 +115,25 @@ fn put_level(costs: &mut Repaired, hops: &mut HopTable, new: Option<LevelAfter>)
             *costs = later;
             *hops = table;
         }
+        None => {}
+    }
+}
+
+/// Puts in what levels tell.
+fn put_told(table: &mut Bucketed, told: ToldAfter)
+    ensures { AreSame (all_in table.new) (told_after told (all_in table.old)) }
+{
+    let ToldAfter { made, buckets } = told;
+    put_made(table, made);
+    put_all(table, buckets);
+}
+
+/// Puts in a table made anew, where it comes.
+fn put_made(table: &mut Bucketed, made: Option<Bucketed>)
+    ensures { all_in table.new ≡ made_or made (all_in table.old) }
+{
+    match made {
+        Some(made) => *table = made,
         None => {}
     }
 }
@@ -223,37 +253,70 @@ pub(crate) fn newest_list<'a>(
     }
 }
 
+/// The table made anew, or else the old one.
+pub(crate) fn newest_table<'a>(made: &'a Option<Bucketed>, old: &'a Bucketed) -> &'a Bucketed
+    ensures { all_in result.now ≡ made_or made.now (all_in old.now) }
+{
+    match made {
+        Some(made) => made,
+        None => old,
+    }
+}
+
 /// What is reached, made anew.
-pub(crate) fn reached_anew(reached: Reached, prefixes: Vec<Prefix>) -> ReachedAfter
-    ensures { (nodes : List NodeId) (o : Outlook) (f : FollowingOf)
+pub(crate) fn reached_anew(
+    alloc: Global,
+    reached: Reached,
+    prefixes: Vec<Prefix>,
+) -> Result<ReachedAfter, OutOfMemory>
+    ensures { IfOk result (λ after. (nodes : List NodeId) (o : Outlook) (f : FollowingOf)
         → AreReached o reached.told.items reached.defaults.items reached.attached
         → HaveBy nodes f.told prefixes.items → HaveBy nodes reached.told.items prefixes.items
-        → IsReachedAfter nodes o f result }
+        → IsReachedAfter nodes o f after) }
 {
     let Reached {
         told,
         defaults,
         attached,
     } = reached;
-    ReachedAfter {
-        told: Some(told),
-        defaults: Some(defaults),
-        attached,
-        prefixes,
+    let table = Bucketed::new(alloc, told.as_slice());
+    drop(told);
+    match table {
+        Ok(table) => Ok(ReachedAfter {
+            told: ToldAfter {
+                made: Some(table),
+                buckets: Vec::new(alloc),
+            },
+            defaults: Some(defaults),
+            attached,
+            prefixes,
+        }),
+        Err(error) => Err(error),
     }
 }
 
 /// Whether all that is reached stays, where a router was attached or not before.
 pub(crate) fn all_stays(reached: &ReachedAfter, attached: bool) -> bool
-    ensures told { result ≡ true → reached.now.told ≡ None }
+    ensures told { result ≡ true → (old : List declared.Candidate)
+        → told_after reached.now.told old ≡ old }
     ensures ways { result ≡ true → reached.now.defaults ≡ None }
     ensures attached { result ≡ true → reached.now.attached ≡ attached }
 {
-    match &reached.told {
+    if !told_stays(&reached.told) {
+        return false;
+    }
+    match &reached.defaults {
         Some(_) => false,
-        None => match &reached.defaults {
-            Some(_) => false,
-            None => reached.attached == attached,
-        },
+        None => reached.attached == attached,
+    }
+}
+
+/// Whether what levels tell stays.
+fn told_stays(told: &ToldAfter) -> bool
+    ensures { result ≡ true → (old : List declared.Candidate) → told_after told.now old ≡ old }
+{
+    match &told.made {
+        Some(_) => false,
+        None => told.buckets.is_empty(),
     }
 }

@@ -8,12 +8,14 @@ ghost use Rattle.spf_tree.specs.Graphs.{AreUsable, times};
 ghost use Rattle.spf_tree.specs.Local.{AreExchanged};
 ghost use Rattle.router_routes.specs.Told.{told_in};
 ghost use Rattle.router_routes.specs.Outlooks.{outlook_in, where_run};
+ghost use Rattle.router_routes.specs.Buckets.{all_in};
 ghost use Rattle.router_routes.specs.Candidates.{AreRoutesOf, attached_of, reached_in};
 ghost use Rattle.router_routes.specs.Following.{AreHopsOf, IsFollowing, IsLevel};
 ghost use Rattle.router_routes.specs.Moved.{AreFit, IsFit, IsOneChange, outlook_at, told_of};
 ghost use Rattle.router_routes.specs.Kept.{AreReached, AreSame};
 
-use crate::candidates::{all_candidates, defaults_by, own_node, runs_one, runs_two, told_by};
+use crate::bucketed::Bucketed;
+use crate::candidates::{all_candidates, defaults_by, own_node, told_by};
 use crate::coming::hops_from;
 use crate::lent::Lent;
 use crate::level_graph::graph_of;
@@ -22,6 +24,7 @@ use crate::systems::{is_attached, level_systems};
 use crate::view::{LevelView, View, as_lent};
 use isis_base::{Level, LevelSet, NodeId, OutOfMemory, SystemId};
 use lsp_store::Store;
+use model_router::has_level;
 use route_table::{Candidate, Routes, routes_by};
 use spf_repair::Repaired;
 use spf_tree::HopTable;
@@ -29,8 +32,8 @@ use std::alloc::Global;
 use std::marker::Model;
 
 /// What a router keeps of its graphs and routes: for each level the least costs from its own node, repaired when rows change, and
-/// its nodes beside their next hops; the routes; whether it is attached; and, in no order, what its levels tell of prefixes, and
-/// the ways by default.
+/// its nodes beside their next hops; the routes; whether it is attached; and, in no order, what its levels tell of prefixes, in
+/// buckets by these, and the ways by default.
 #[derive(Drop)]
 pub struct Following {
     pub(crate) alloc: Global,
@@ -40,11 +43,12 @@ pub struct Following {
     pub(crate) hops_two: HopTable,
     pub(crate) routes: Routes,
     pub(crate) attached: bool,
-    pub(crate) told: Vec<Candidate>,
+    pub(crate) told: Bucketed,
     pub(crate) defaults: Vec<Candidate>,
 }
 
 impl Model for Following {
+    ghost use Rattle.router_routes.specs.Buckets.{all_in};
     ghost use Rattle.router_routes.specs.Following.{FollowingOf};
 
     ghost Value = { FollowingOf };
@@ -54,7 +58,7 @@ impl Model for Following {
       hops = record { one = f.hops_one; two = f.hops_two };
       routes = f.routes;
       attached = f.attached;
-      told = f.told.items;
+      told = all_in f.told;
       defaults = f.defaults.items;
     } };
 }
@@ -67,8 +71,8 @@ impl Following {
         ensures two { IfOk result (λ f. f.levels.two.changes ≡ 0) }
     {
         let root = own_node(lent.system);
-        let one = fresh(alloc, runs_one(lent.levels), lent.one, root)?;
-        let two = fresh(alloc, runs_two(lent.levels), lent.two, root)?;
+        let one = fresh(alloc, has_level(lent.levels, Level::One), lent.one, root)?;
+        let two = fresh(alloc, has_level(lent.levels, Level::Two), lent.two, root)?;
         assembled(alloc, &as_lent(lent), one, two)
     }
 
@@ -175,7 +179,7 @@ fn made(
         hops_two: tables.hops_two,
         routes: tables.routes,
         attached: reached.attached,
-        told: reached.told,
+        told: tables.told,
         defaults: reached.defaults,
     })
 }
@@ -201,8 +205,8 @@ pub(crate) fn all_reached(
     ensures { IfOk result (λ reached. AreReached (outlook_at view.now) reached.told.items
         reached.defaults.items reached.attached) }
 {
-    let ones = level_systems(alloc, runs_one(view.levels), &view.one, one)?;
-    let twos = level_systems(alloc, runs_two(view.levels), &view.two, two)?;
+    let ones = level_systems(alloc, has_level(view.levels, Level::One), &view.one, one)?;
+    let twos = level_systems(alloc, has_level(view.levels, Level::Two), &view.two, two)?;
     let attached = attached(alloc, view, &twos)?;
     let told = told_by(alloc, view, &ones, &twos)?;
     let defaults = defaults_by(alloc, view, &ones)?;
@@ -230,15 +234,16 @@ pub(crate) fn attached(
     }
 }
 
-/// Each level's nodes beside their next hops, and the routes.
+/// Each level's nodes beside their next hops, the routes, and what both levels tell, in buckets.
 #[derive(Drop)]
 struct Tables {
     hops_one: HopTable,
     hops_two: HopTable,
     routes: Routes,
+    told: Bucketed,
 }
 
-/// The next hops by these distances, and the routes of what is reached.
+/// The next hops by these distances, the routes of what is reached, and that in buckets.
 fn tables_of(
     alloc: Global,
     view: &View<'_>,
@@ -253,6 +258,7 @@ fn tables_of(
     ensures one { IfOk result (λ t. AreHopsOf one.now t.hops_one) }
     ensures two { IfOk result (λ t. AreHopsOf two.now t.hops_two) }
     ensures routes { IfOk result (λ t. AreRoutesOf (outlook_at view.now) t.routes) }
+    ensures told { IfOk result (λ t. AreSame (all_in t.told) reached.now.told.items) }
 {
     let candidates = all_candidates(
         alloc,
@@ -264,9 +270,11 @@ fn tables_of(
     let hops_one = hops_from(alloc, one)?;
     let hops_two = hops_from(alloc, two)?;
     let routes = routes_by(alloc, candidates.as_slice(), &hops_one, &hops_two)?;
+    let told = Bucketed::new(alloc, reached.told.as_slice())?;
     Ok(Tables {
         hops_one,
         hops_two,
         routes,
+        told,
     })
 }

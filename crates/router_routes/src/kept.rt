@@ -1,33 +1,38 @@
 //! What a router keeps where some nodes moved: candidates by way of others stay (own).
-ghost use Rattle.std.specs.Prelude.{◌≡◌, ◌++◌, true, not, filter, map, IfOk, OnOk};
+ghost use Rattle.std.specs.Prelude.{◌≡◌, ◌++◌, ℕ, true, not, filter, IfOk, OnOk};
 ghost use Rattle.std.specs.List.{flat_map};
 ghost use Rattle.std.specs.List.Sorted.{IsStrictlyIncreasing};
 ghost use Rattle.isis_base.specs.declared.identifiers.NodeId.{NodeId};
 ghost use Rattle.isis_base.specs.declared.level.Level.TheVariants as level;
 ghost use Rattle.isis_base.specs.Identifiers.{IsId};
 ghost use Rattle.route_table.specs.declared.candidate.Candidate.{Candidate};
+ghost use Rattle.route_table.specs.Patches.{is_moved};
 ghost use Rattle.spf_tree.specs.Nodes.{node_number};
 ghost use Rattle.spf_tree.specs.Distances.{cost_at};
+ghost use Rattle.router_routes.specs.Buckets.{with_buckets};
 ghost use Rattle.router_routes.specs.Candidates.{attached_of, default_of, system_candidates};
 ghost use Rattle.router_routes.specs.Following.{IsFollowing, IsLevel};
-ghost use Rattle.router_routes.specs.Kept.{AreAmong, AreBeside, CostBeside, HaveToldIds, systems_among};
+ghost use Rattle.router_routes.specs.Kept.{AreAmong, AreBeside, AreSame, CostBeside, HaveToldIds, stays, systems_among};
 ghost use Rattle.router_routes.specs.Moved.{AreFit, AreNodes, IsFit, is_among, nodes_in, nodes_of, outlook_at, told_of};
 ghost use Rattle.router_routes.specs.Outlooks.{outlook_in, where_run};
 ghost use Rattle.router_routes.specs.Coming.{AreLevelsBeside, HaveNumbers, moved_in};
-ghost use Rattle.router_routes.specs.Touched.{AreKeptWith, AreStill, HaveVia, IsReachedAfter, is_by, prefix_of, prefixes_via};
+ghost use Rattle.router_routes.specs.Touched.{AreKeptWith, AreStill, HaveVia, IsReachedAfter, is_by, prefixes_via};
 
-use crate::candidates::{add_all, add_defaults, add_told, runs_one, runs_two};
-use crate::coming::{LevelAfter, LevelsAfter, ReachedAfter, newest_costs, reached_anew};
+use crate::buckets_after::BucketAfter;
+use crate::candidates::{add_all, add_defaults, add_told};
+use crate::coming::{LevelAfter, LevelsAfter, ReachedAfter, ToldAfter, newest_costs, reached_anew};
 use crate::following::{Following, all_reached, attached};
 use crate::lent::Lent;
-use crate::numbers::{in_order, is_one_of};
+use crate::numbers::{in_order, is_by};
+use crate::replaced::{add_prefixes, all_with, told_with};
 use crate::same::same_candidate;
 use crate::systems::{level_systems, systems_among};
 use crate::told::{Moved, Told};
-use crate::touched::{add_via, node_numbers};
-use crate::view::{LevelView, View, nodes_law};
+use crate::touched::{add_table, add_via, node_numbers};
+use crate::view::{LevelView, View, as_lent, nodes_law};
 use isis_base::laws::lsp_id_law;
 use isis_base::{Level, LevelSet, LspId, NodeId, OutOfMemory, Prefix};
+use model_router::has_level;
 use route_table::Candidate;
 use spf_repair::Repaired;
 use spf_tree::parts::number;
@@ -78,10 +83,10 @@ impl Following {
         let unsorted = node_numbers(self.alloc, nodes)?;
         let numbers = in_order(unsorted);
         let mut prefixes = Vec::new(self.alloc);
-        add_via(&mut prefixes, numbers.as_slice(), self.told.as_slice())?;
+        add_table(&mut prefixes, numbers.as_slice(), &self.told)?;
         let reached = all_reached(self.alloc, view, one, two)?;
         match add_via(&mut prefixes, numbers.as_slice(), reached.told.as_slice()) {
-            Ok(()) => Ok(reached_anew(reached, prefixes)),
+            Ok(()) => reached_anew(self.alloc, reached, prefixes),
             Err(error) => {
                 drop(reached);
                 Err(error)
@@ -123,13 +128,6 @@ impl Following {
         let numbers = in_order(unsorted);
         let moved = numbers.as_slice();
         let mut apart = Vec::new(self.alloc);
-        let told = kept_with(
-            self.alloc,
-            &mut apart,
-            self.told.as_slice(),
-            moved,
-            come.as_slice(),
-        )?;
         let defaults = kept_with(
             self.alloc,
             &mut apart,
@@ -137,12 +135,57 @@ impl Following {
             moved,
             ways.as_slice(),
         )?;
+        let buckets = self.buckets_with(&mut apart, lent, nodes, moved, come.as_slice())?;
         Ok(ReachedAfter {
-            told,
+            told: ToldAfter {
+                made: None,
+                buckets,
+            },
             defaults,
             attached,
             prefixes: apart,
         })
+    }
+
+    /// The buckets that will be others where these candidates come in the place of those by way of these nodes. Adds the prefixes
+    /// of those that go and of those that come.
+    fn buckets_with(
+        &self,
+        prefixes: &mut Vec<Prefix>,
+        lent: &Lent<'_>,
+        nodes: &[NodeId],
+        moved: &[u64],
+        come: &[Candidate],
+    ) -> Result<Vec<BucketAfter>, OutOfMemory>
+        requires follows { IsFollowing (outlook_in lent.now) self.now }
+        requires nodes { AreNodes nodes.now }
+        requires rising { IsStrictlyIncreasing moved.now }
+        requires numbers { (n : ℕ) → is_moved moved.now n ≡ is_among nodes.now n }
+        ensures told { IfOk result (λ buckets. AreSame (with_buckets buckets.items self.now.told)
+            (filter (stays nodes.now) self.now.told ++ come.now)) }
+        ensures prefixes { OnOk result (HaveVia moved.now self.now.told come.now
+            prefixes.old.items prefixes.new.items) }
+    {
+        let many = come.len() > FEW;
+        if many {
+            return all_with(self.alloc, prefixes, &self.told, moved, come);
+        }
+        lent_ids(lent);
+        let _one = self.one.distances();
+        let _two = self.two.distances();
+        let before = as_lent(lent);
+        let went = match told_of_nodes(self.alloc, &before, nodes, &self.one, &self.two) {
+            Ok(went) => went,
+            Err(error) => return Err(error),
+        };
+        told_with(
+            self.alloc,
+            prefixes,
+            &self.told,
+            moved,
+            went.as_slice(),
+            come,
+        )
     }
 
     /// Whether the router is attached, where these nodes moved and these are the costs of level 2: as
@@ -215,6 +258,9 @@ impl Following {
 
 /// How many nodes may move before all that is reached is made anew.
 const MOST: usize = 512;
+
+/// How many candidates may come before all buckets are made anew.
+const FEW: usize = 256;
 
 /// The nodes that tell other things, and those whose costs in a level may be others; some may be there twice.
 pub(crate) fn moved(
@@ -295,7 +341,7 @@ fn attached_now(alloc: Global, view: &View<'_>, two: &Repaired) -> Result<bool, 
 {
     match view.levels {
         LevelSet::Both => {
-            let twos = level_systems(alloc, runs_two(view.levels), &view.two, two)?;
+            let twos = level_systems(alloc, has_level(view.levels, Level::Two), &view.two, two)?;
             attached(alloc, view, &twos)
         }
         LevelSet::One | LevelSet::Two => Ok(false),
@@ -355,7 +401,7 @@ fn told_of_nodes(
     add_level(
         alloc,
         &mut list,
-        runs_one(view.levels),
+        has_level(view.levels, Level::One),
         Level::One,
         &view.one,
         one,
@@ -364,7 +410,7 @@ fn told_of_nodes(
     add_level(
         alloc,
         &mut list,
-        runs_two(view.levels),
+        has_level(view.levels, Level::Two),
         Level::Two,
         &view.two,
         two,
@@ -413,7 +459,7 @@ fn ways_of_nodes(
         (systems_among (cost_at one.now.distances) (node_number one.now.graph.root) nodes.now)) }
 {
     let mut list = Vec::new(alloc);
-    if !runs_one(view.levels) {
+    if !has_level(view.levels, Level::One) {
         return Ok(list);
     }
     let root = number(one.graph().root());
@@ -441,14 +487,6 @@ fn is_gone(old: &[Candidate], numbers: &[u64], gone: &[Candidate]) -> bool
         left = more;
     }
     rest.is_empty()
-}
-
-/// Whether a candidate is by way of a node of these numbers.
-fn is_by(numbers: &[u64], candidate: &Candidate) -> bool
-    requires { IsStrictlyIncreasing numbers.now }
-    ensures { result ≡ is_by numbers.now candidate.now }
-{
-    is_one_of(numbers, number(candidate.origin))
 }
 
 /// The candidates where these come in the place of those by way of nodes of these numbers; `None` where they are the same ones.
@@ -515,18 +553,4 @@ fn others_with(
         Ok(()) => Ok(list),
         Err(error) => Err(error),
     }
-}
-
-/// Adds the prefixes of candidates.
-fn add_prefixes(prefixes: &mut Vec<Prefix>, candidates: &[Candidate]) -> Result<(), OutOfMemory>
-    ensures { OnOk result (prefixes.new.items
-        ≡ prefixes.old.items ++ map prefix_of candidates.now) }
-{
-    for candidate in candidates {
-        match prefixes.push(candidate.prefix) {
-            Ok(()) => {}
-            Err(_) => return Err(OutOfMemory),
-        }
-    }
-    Ok(())
 }

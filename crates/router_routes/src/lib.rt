@@ -8,6 +8,8 @@
 //! attached itself, and nothing else is for 0.0.0.0/0.
 //!
 //! - `lent.rt`: what of a router routes look at; `level_graph.rt`: the graph of a level
+//! - `bucketed.rt`: what levels tell, in buckets by prefix; `buckets_after.rt`: the same where some will be others;
+//!   `replaced.rt`: which will be others
 //! - `systems.rt`: the systems that a level reaches; `candidates.rt`: what they and the router tell
 //! - `differences.rt`: the rows that two graphs don't share
 //! - `told.rt`: what will be told by some nodes; `view.rt`: the same where their LSPs are read aside
@@ -22,6 +24,8 @@
 #![tactic(auto)]
 
 mod ahead;
+mod bucketed;
+mod buckets_after;
 mod candidates;
 mod coming;
 mod differences;
@@ -37,6 +41,7 @@ mod near;
 mod numbers;
 mod own;
 mod patched;
+mod replaced;
 mod same;
 mod systems;
 mod told;

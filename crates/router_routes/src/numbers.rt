@@ -3,6 +3,10 @@ ghost use Rattle.std.specs.Prelude.{◌≡◌, ℕ};
 ghost use Rattle.std.specs.List.{Contains};
 ghost use Rattle.std.specs.List.Sorted.{IsStrictlyIncreasing};
 ghost use Rattle.route_table.specs.Patches.{is_moved};
+ghost use Rattle.router_routes.specs.Touched.{is_by};
+
+use route_table::Candidate;
+use spf_tree::parts::number;
 
 /// The numbers in order, each once.
 pub(crate) fn in_order(mut numbers: Vec<u64>) -> Vec<u64>
@@ -45,4 +49,12 @@ fn is_found(numbers: &[u64], number: u64) -> bool
         Ok(_) => true,
         Err(_) => false,
     }
+}
+
+/// Whether a candidate is by way of a node of these numbers.
+pub(crate) fn is_by(numbers: &[u64], candidate: &Candidate) -> bool
+    requires { IsStrictlyIncreasing numbers.now }
+    ensures { result ≡ is_by numbers.now candidate.now }
+{
+    is_one_of(numbers, number(candidate.origin))
 }

@@ -4,16 +4,21 @@ ghost use Rattle.isis_base.specs.Prefixes.{prefix_number};
 ghost use Rattle.route_table.specs.Order.{IsListedHop};
 ghost use Rattle.route_table.specs.Patches.{IsListed};
 ghost use Rattle.route_table.specs.Routes.{AreRoutes};
+ghost use Rattle.router_routes.specs.Buckets.{all_in, with_buckets};
 ghost use Rattle.router_routes.specs.Candidates.{candidates_of};
 ghost use Rattle.router_routes.specs.Outlooks.{outlook_in};
 ghost use Rattle.router_routes.specs.Following.{IsFollowing};
 ghost use Rattle.router_routes.specs.Kept.{AreReached};
 ghost use Rattle.router_routes.specs.Moved.{AreViewed, outlook_at};
-ghost use Rattle.router_routes.specs.Coming.{AreLevels, AreRoutesAfter, list_after};
+ghost use Rattle.router_routes.specs.Coming.{AreLevels, AreRoutesAfter, list_after, told_after};
 ghost use Rattle.router_routes.specs.Touched.{ArePatchesFor, AreRoutesFor, AreStill, IsReachedAfter};
 
+use crate::bucketed::Bucketed;
+use crate::buckets_after::{BucketAfter, all_then};
 use crate::candidates::{all_candidates, candidates_for};
-use crate::coming::{LevelsAfter, ReachedAfter, RoutesAfter, newest_hops, newest_list};
+use crate::coming::{
+    LevelsAfter, ReachedAfter, RoutesAfter, newest_hops, newest_list, newest_table,
+};
 use crate::following::Following;
 use crate::lent::Lent;
 use crate::numbers::in_order;
@@ -24,10 +29,12 @@ use route_table::{Candidate, Patches, Routes, patches_for, routes_by};
 use spf_tree::HopTable;
 use std::alloc::Global;
 
-/// What is reached, as it is read: what levels tell of prefixes, the ways by default, and whether the router is attached.
+/// What is reached, as it is read: what levels tell of prefixes, with the buckets that will be others, the ways by default, and
+/// whether the router is attached.
 #[derive(Clone, Copy)]
 struct ReachedView<'a> {
-    told: &'a [Candidate],
+    told: &'a Bucketed,
+    after: &'a [BucketAfter],
     ways: &'a [Candidate],
     attached: bool,
 }
@@ -61,12 +68,14 @@ impl Following {
 
     /// What is reached, as it is read.
     fn reached_view<'a>(&'a self, reached: &'a ReachedAfter) -> ReachedView<'a>
-        ensures told { result.told.now ≡ list_after reached.now.told self.now.told }
+        ensures told { with_buckets result.after.now (all_in result.told.now)
+            ≡ told_after reached.now.told self.now.told }
         ensures ways { result.ways.now ≡ list_after reached.now.defaults self.now.defaults }
         ensures attached { result.attached ≡ reached.now.attached }
     {
         ReachedView {
-            told: newest_list(&reached.told, self.told.as_slice()),
+            told: newest_table(&reached.told.made, &self.told),
+            after: reached.told.buckets.as_slice(),
             ways: newest_list(&reached.defaults, self.defaults.as_slice()),
             attached: reached.attached,
         }
@@ -74,8 +83,8 @@ impl Following {
 }
 
 /// The routes of what is reached, where those of other prefixes stay: patches for the table that is
-/// there, or all of them, where the prefixes, of which each may be there twice, are more than all
-/// candidates but ways by default.
+/// there, or all of them, where the prefixes, of which each may be there twice, are more than its routes
+/// and one's own.
 fn routes_for(
     alloc: Global,
     held: &Routes,
@@ -85,13 +94,14 @@ fn routes_for(
     one: &HopTable,
     two: &HopTable,
 ) -> Result<RoutesAfter, OutOfMemory>
-    requires reached { AreReached (outlook_at view.now) reached.now.told.now
-        reached.now.ways.now reached.now.attached }
+    requires reached { AreReached (outlook_at view.now)
+        (with_buckets reached.now.after.now (all_in reached.now.told.now)) reached.now.ways.now
+        reached.now.attached }
     requires all { IsListed prefixes.items 0 }
     ensures { IfOk result (λ routes. AreRoutesFor (IsListedHop one.now two.now)
         (candidates_of (outlook_at view.now)) prefixes.items held.now routes) }
 {
-    if prefixes.len() > view.prefixes.len().saturating_add(reached.told.len()) {
+    if prefixes.len() > view.prefixes.len().saturating_add(held.list().len()) {
         return match all_routes(alloc, view, reached, one, two) {
             Ok(routes) => Ok(RoutesAfter::Made(routes)),
             Err(error) => Err(error),
@@ -111,12 +121,14 @@ fn all_routes(
     one: &HopTable,
     two: &HopTable,
 ) -> Result<Routes, OutOfMemory>
-    requires { AreReached (outlook_at view.now) reached.now.told.now
-        reached.now.ways.now reached.now.attached }
+    requires { AreReached (outlook_at view.now)
+        (with_buckets reached.now.after.now (all_in reached.now.told.now)) reached.now.ways.now
+        reached.now.attached }
     ensures { IfOk result (λ routes. AreRoutes (IsListedHop one.now two.now)
         (candidates_of (outlook_at view.now)) routes) }
 {
-    let candidates = all_candidates(alloc, view, reached.told, reached.ways, reached.attached)?;
+    let told = all_then(alloc, reached.told, reached.after)?;
+    let candidates = all_candidates(alloc, view, told.as_slice(), reached.ways, reached.attached)?;
     routes_by(alloc, candidates.as_slice(), one, two)
 }
 
@@ -130,8 +142,9 @@ fn new_patches(
     one: &HopTable,
     two: &HopTable,
 ) -> Result<Patches, OutOfMemory>
-    requires reached { AreReached (outlook_at view.now) reached.now.told.now
-        reached.now.ways.now reached.now.attached }
+    requires reached { AreReached (outlook_at view.now)
+        (with_buckets reached.now.after.now (all_in reached.now.told.now)) reached.now.ways.now
+        reached.now.attached }
     requires all { IsListed prefixes.items 0 }
     ensures { IfOk result (λ patches. ArePatchesFor (IsListedHop one.now two.now)
         (candidates_of (outlook_at view.now)) prefixes.items held.now patches) }
@@ -142,6 +155,7 @@ fn new_patches(
         alloc,
         view,
         reached.told,
+        reached.after,
         reached.ways,
         reached.attached,
         numbers.as_slice(),

@@ -1,16 +1,18 @@
 //! The prefixes whose routes are looked at anew once some nodes moved (own).
-ghost use Rattle.std.specs.Prelude.{◌≡◌, ◌++◌, ℕ, not, filter, map, IfOk, OnOk};
+ghost use Rattle.std.specs.Prelude.{[], ◌≡◌, ◌++◌, ℕ, not, filter, map, IfOk, OnOk};
 ghost use Rattle.std.specs.List.Sorted.{IsStrictlyIncreasing};
 ghost use Rattle.isis_base.specs.declared.prefix.Prefix.{Prefix};
 ghost use Rattle.spf_tree.specs.Nodes.{node_number};
 ghost use Rattle.route_table.specs.Ranks.{prefix_number};
 ghost use Rattle.route_table.specs.Patches.{IsListed, is_moved};
+ghost use Rattle.router_routes.specs.Buckets.{all_in};
 ghost use Rattle.router_routes.specs.Outlooks.{outlook_in};
 ghost use Rattle.router_routes.specs.Moved.{AreViewed, is_among, outlook_at};
 ghost use Rattle.router_routes.specs.Following.{IsFollowing};
-ghost use Rattle.router_routes.specs.Coming.{AreLevels, HopsStay, apart_in, hops_after, list_after};
-ghost use Rattle.router_routes.specs.Touched.{AreApartBeside, AreStill, AreTouched, HaveOwn, IsReachedAfter, prefixes_via};
+ghost use Rattle.router_routes.specs.Coming.{AreLevels, HopsStay, apart_in, hops_after, told_after};
+ghost use Rattle.router_routes.specs.Touched.{AreApartBeside, AreStill, AreTouched, HaveOwn, HaveVia, IsReachedAfter, prefixes_via};
 
+use crate::bucketed::{BUCKETS, Bucketed};
 use crate::coming::{LevelAfter, LevelsAfter, ReachedAfter};
 use crate::following::Following;
 use crate::lent::Lent;
@@ -43,12 +45,12 @@ impl Following {
         requires reached { IsReachedAfter nodes.now (outlook_at view.now) self.now reached.now }
         ensures { IfOk result (λ prefixes. AreTouched nodes.now self.now levels.now
             (outlook_in lent.now).prefixes (outlook_at view.now).prefixes
-            (list_after reached.now.told self.now.told) prefixes.items) }
+            (told_after reached.now.told self.now.told) prefixes.items) }
     {
         let beside = self.apart_beside(nodes, levels)?;
         let mut prefixes = own_touched(self.alloc, lent, told, view)?;
         add_listed(&mut prefixes, reached.prefixes.as_slice())?;
-        add_via(&mut prefixes, beside.as_slice(), self.told.as_slice())?;
+        add_table(&mut prefixes, beside.as_slice(), &self.told)?;
         Ok(prefixes)
     }
 
@@ -176,6 +178,28 @@ fn add_listed(prefixes: &mut Vec<Prefix>, more: &[Prefix]) -> Result<(), OutOfMe
         Ok(()) => Ok(()),
         Err(_) => Err(OutOfMemory),
     }
+}
+
+/// Adds the prefixes of a table's candidates by way of nodes of these numbers, where there are numbers.
+pub(crate) fn add_table(
+    prefixes: &mut Vec<Prefix>,
+    numbers: &[u64],
+    table: &Bucketed,
+) -> Result<(), OutOfMemory>
+    requires { IsStrictlyIncreasing numbers.now }
+    ensures { OnOk result (HaveVia numbers.now (all_in table.now) []
+        prefixes.old.items prefixes.new.items) }
+{
+    if numbers.is_empty() {
+        return Ok(());
+    }
+    for place in 0..BUCKETS {
+        match add_touched(prefixes, numbers, table.bucket(place)) {
+            Ok(()) => {}
+            Err(error) => return Err(error),
+        }
+    }
+    Ok(())
 }
 
 /// Adds the prefixes of candidates by way of nodes of these numbers, where there are numbers.

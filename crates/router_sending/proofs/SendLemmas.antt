@@ -17,7 +17,7 @@ use Rattle.hmac_auth.specs.Pdus.{is_purge}
 use Rattle.model_router.specs.SnpTable.{SnpEntry}
 use Rattle.isis_base.specs.declared.identifiers.SystemId.{SystemId}
 use Rattle.std.proofs.lemmas.List.{take-append-drop, length-map}
-use Rattle.model_router.specs.Both.{at}
+use Rattle.model_router.specs.Both.{at, runs_of}
 use Rattle.model_router.specs.Cells.{Cell}
 use Rattle.model_router.specs.Configs.{Config}
 use Rattle.model_router.specs.Routers.{Circuit}
@@ -35,7 +35,6 @@ use Rattle.router_sending.proofs.PieceLemmas.{pieced-map}
 use Rattle.router_sending.specs.Sends.{Sends, snpas_of}
 use Rattle.router_sending.specs.Writing.{frame_of, pieced, heard_tlv}
 use Rattle.model_router.specs.Numbers.{system_id, node_id, lsp_id, snpa_id, system_number, snpa_number}
-use Rattle.model_datagram.specs.Reading.{runs_of}
 use Rattle.model_datagram.specs.Tlvs.{in_pieces, own_address, hello_tlvs, three_way_value, point_tlvs, snpa_tlvs, lan_tlvs, lsp_entry, entry_tlvs}
 use Rattle.model_datagram.specs.Datagrams.{levels_run, pdu_octets, datagram}
 use Rattle.model_datagram.proofs.ItemLemmas.{tlvs-none}

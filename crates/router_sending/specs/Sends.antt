@@ -6,7 +6,7 @@ use Rattle.isis_tlv.specs.Spelling.{area_value}
 use Rattle.model_router.specs.Configs.{Config}
 use Rattle.model_router.specs.Routers.{Circuit}
 use Rattle.model_router.specs.Numbers.{system_number, snpa_number}
-use Rattle.model_datagram.specs.Reading.{runs_of}
+use Rattle.model_router.specs.Both.{runs_of}
 use Rattle.adjacency.specs.declared.neighbour.Neighbour.{Neighbour}
 use Rattle.router_sending.specs.declared.sender.Sender.{Sender}
 

@@ -2,13 +2,12 @@
 use Rattle.std.specs.Prelude.{◌≡◌, ℕ, Bool, List, [], map, Option, Some, None, is_some, if◌then◌else◌}
 use Rattle.isis_base.specs.declared.level.Level.{Level}
 use Rattle.isis_base.specs.declared.prefix.Prefix.{Prefix}
-use Rattle.model_router.specs.Both.{at}
+use Rattle.model_router.specs.Both.{at, runs_of}
 use Rattle.model_router.specs.Configs.{Config}
 use Rattle.model_router.specs.Givens.{Given}
 use Rattle.model_router.specs.Routers.{Circuit, Router}
 use Rattle.model_router.specs.Starts.{empty_level}
 use Rattle.model_router.specs.Numbers.{system_number}
-use Rattle.model_datagram.specs.Reading.{runs_of}
 use Rattle.router_wanted.specs.declared.wants.Wants.{Wants}
 use Rattle.router_wanted.specs.Views.{prefix_pair}
 

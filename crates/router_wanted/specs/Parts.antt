@@ -6,7 +6,7 @@ use Rattle.isis_base.specs.declared.level.Level.TheVariants as level
 use Rattle.isis_tlv.specs.declared.prefix.PrefixItem.{PrefixItem}
 use Rattle.model_router.specs.Maps.{find, put}
 use Rattle.model_router.specs.LspPrefixes.{Reach, with_leaks}
-use Rattle.model_datagram.specs.Reading.{runs_of}
+use Rattle.model_router.specs.Both.{runs_of}
 use Rattle.router_wanted.specs.declared.wants.Wants.{Wants}
 use Rattle.model_router.specs.Adjacencies.{Neighbour}
 use Rattle.model_router.specs.LspNeighbours.{put_node}

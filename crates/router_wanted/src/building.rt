@@ -19,7 +19,7 @@ use crate::numbering;
 use crate::wanted::Wanted;
 use crate::wants::Wants;
 use isis_base::{Level, NodeId, OutOfMemory, Prefix, SystemId};
-use model_datagram::runs;
+use model_router::has_level;
 use router_circuits::Circuit;
 use std::alloc::Global;
 
@@ -72,7 +72,7 @@ fn build(
         (router_of base.now circuits.now) level) }
 {
     let mut list = Vec::new(alloc);
-    if !runs(base.levels, level) {
+    if !has_level(base.levels, level) {
         return Ok(list);
     }
     match add_system(&mut list, base, circuits, level, leaks, attached) {

@@ -10,14 +10,18 @@ ghost use Rattle.router_wanted.specs.Lent.{config_of, given_of, router_of};
 use crate::wants::Wants;
 use isis_base::Level;
 use isis_base::numbers::{ATTACHED, OVERLOAD};
-use model_datagram::runs;
+use model_router::has_level;
 
 /// The IS type: 1 of a router of level 1 alone, else 3.
 pub(crate) fn is_type(base: &Wants<'_>) -> u8
     ensures value { result ≡ model.is_type (config_of base.now) }
     ensures small { result ≤ 3 }
 {
-    if runs(base.levels, Level::Two) { 3 } else { 1 }
+    if has_level(base.levels, Level::Two) {
+        3
+    } else {
+        1
+    }
 }
 
 /// Number 0 of the system's LSP: overload where it is configured or entries are left out (ISO 10589
@@ -28,7 +32,7 @@ pub(crate) fn first_flags(base: &Wants<'_>, level: Level, attached: bool, whole:
         (router_of base.now circuits) level whole }
 {
     let overload = if base.overload || !whole { OVERLOAD } else { 0 };
-    let attached = if is_one(level) && runs(base.levels, Level::Two) && attached {
+    let attached = if is_one(level) && has_level(base.levels, Level::Two) && attached {
         ATTACHED
     } else {
         0

@@ -4,7 +4,7 @@ use Rattle.std.proofs.Common.{◌≡◌, ◌∙◌, ℕ, zero, suc, ◌+◌, ◌
 use Rattle.std.specs.List.{Contains, All, remove}
 use Rattle.std.specs.List.Sorted.{IsNonDecreasingBy, IsPermutation}
 use Rattle.std.proofs.lemmas.Bool.{cases_Bool, cases_lt, and_parts, and_from, eqb-true, eq-eqb}
-use Rattle.std.proofs.lemmas.List.{append-nil, append_assoc, get_or_append_left, get_or_default, get_or_push, get_or-drop, length-append, length-drop, take_all, take_more}
+use Rattle.std.proofs.lemmas.List.{append-nil, append_assoc, get_or_append_left, get_or_default, get_or_push, get_or-append-add, get_or-drop, get_or-take, length-append, length-drop, length-take-le, take_all, take_more}
 use Rattle.std.proofs.lemmas.List.Elements.{Contains-push_cases, All-tail, All-push, All-contains, Contains-get_or}
 use Rattle.std.proofs.lemmas.List.Sums.{sum_by-cons, count_by_more_yes, count_by_more_no, sum_by-take-le, sum_by_push}
 use Rattle.std.proofs.lemmas.List.Sorted.{IsPermutation-remove, sum_by-IsPermutation, All-permutation, length_permutation, Contains-permutation, IsPermutation-sym}
@@ -12,7 +12,8 @@ use Rattle.spf_tree.specs.declared.row.Row.{Row}
 use Rattle.spf_tree.specs.Walks.{start, end}
 use Rattle.spf_tree.specs.Search.{IsBounded}
 use Rattle.spf_tree.specs.Graphs.{same_row, times}
-use Rattle.spf_repair.specs.Replace.{AreFrom, IsExchanged, IsStripped}
+use Rattle.spf_tree.specs.Places.{HaveEnds}
+use Rattle.spf_repair.specs.Replace.{AreFrom, HaveFirst, IsExchanged, IsStripped}
 use Rattle.spf_repair.specs.Change.{IsAlike, AreChanged}
 use Rattle.spf_tree.proofs.SearchLemmas.{no_row}
 use Rattle.spf_tree.proofs.UsableLemmas.{alike}
@@ -332,3 +333,70 @@ keep_between rows removed added merged new place past found from order within bo
     subst (λ (m : List Row). IsExchanged rows removed added m past found from) (sym is)
     (subst (λ (p : ℕ). IsExchanged rows removed added (merged ++ take (past - place) (drop place rows)) p found from) sum
     (keep_more rows removed added merged place found from (past - place) (omega arith) bounded sorted (λ k d h. low k d (omega arith)) x))
+
+-- ---- the first and the last rows stay
+
+pub first_push : (rows merged new : List Row) (row : Row) (many : ℕ) → new ≡ merged ++ row ∷ [] → HaveFirst rows merged many → HaveFirst rows new many
+first_push rows merged new row many is first =
+    let within = first.within in
+    rw is (record {
+      within = let more = length-append merged (row ∷ []) in omega arith;
+      each = λ k d h. get_or_append_left merged (row ∷ []) d k (omega arith) ∙ first.each k d h;
+    })
+
+pub first_strip : (rows removed merged new : List Row) (row : Row) (found now many : ℕ) → IsStripped row removed found now merged new → HaveFirst rows merged many → HaveFirst rows new many
+first_strip rows removed merged new row found now many stripped first =
+    elim stripped [
+      | inl gone ↦ subst (λ (m : List Row). HaveFirst rows m many) (sym gone.3) first
+      | inr kept ↦ first_push rows merged new row many kept.1 first
+    ]
+
+pub first_kept : (rows none merged : List Row) (many : ℕ) → many ≤ length rows → none ≡ [] → merged ≡ none ++ take (many - 0) (drop 0 rows) → HaveFirst rows merged many
+first_kept rows none merged many inside empty is =
+    let items : merged ≡ take (many - 0) (drop 0 rows) = is ∙ ap (λ (m : List Row). m ++ take (many - 0) (drop 0 rows)) empty in
+    let all = length-drop 0 rows in
+    let long = ap length items ∙ length-take-le (many - 0) (drop 0 rows) (omega arith) in
+    record {
+      within = omega arith;
+      each = λ k d h.
+          let at_k : 0 + k ≡ k = omega arith in
+          ap (λ (m : List Row). get_or m k d) items ∙ get_or-take (many - 0) (drop 0 rows) k d (omega arith) ∙ get_or-drop 0 rows k d ∙ ap (λ (n : ℕ). get_or rows n d) at_k;
+    }
+
+pub ends_none : (before rows : List Row) → HaveEnds before rows (record { first = 0; last = 0 })
+ends_none before rows = record {
+  within = omega arith;
+  within_old = omega arith;
+  first = λ k d h. absurd (omega arith);
+  last = λ k d h. absurd (omega arith);
+}
+
+pub ends_first : (rows merged : List Row) (many : ℕ) → many ≤ length rows → HaveFirst rows merged many → HaveEnds rows merged (record { first = many; last = 0 })
+ends_first rows merged many inside first =
+    let within = first.within in
+    record {
+      within = omega arith;
+      within_old = omega arith;
+      first = first.each;
+      last = λ k d h. absurd (omega arith);
+    }
+
+pub ends_both : (rows merged new : List Row) (many place : ℕ) → many ≤ place → place ≤ length rows → HaveFirst rows merged many → new ≡ merged ++ take (length rows - place) (drop place rows)
+    → HaveEnds rows new (record { first = many; last = length rows - place })
+ends_both rows merged new many place order inside first is =
+    let within = first.within in
+    let last = length rows - place in
+    let rest = take last (drop place rows) in
+    let left = length-drop place rows in
+    let rest_long = length-take-le last (drop place rows) (omega arith) in
+    let long = ap length is ∙ length-append merged rest in
+    record {
+      within = omega arith;
+      within_old = omega arith;
+      first = λ k d h. ap (λ (m : List Row). get_or m k d) is ∙ get_or_append_left merged rest d k (omega arith) ∙ first.each k d h;
+      last = λ k d h.
+          let new_at : length new - last + k ≡ length merged + k = omega arith in
+          let old_at : place + k ≡ length rows - last + k = omega arith in
+          ap (λ (n : ℕ). get_or new n d) new_at ∙ ap (λ (m : List Row). get_or m (length merged + k) d) is ∙ get_or-append-add merged rest k d
+          ∙ get_or-take last (drop place rows) k d h ∙ get_or-drop place rows k d ∙ ap (λ (n : ℕ). get_or rows n d) old_at;
+    }

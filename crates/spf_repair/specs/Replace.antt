@@ -24,6 +24,11 @@ pub record IsExchanged (rows removed added merged : List Row) (place found from 
   pub before_added : (row : Row) → Contains merged row → AreFrom added from (start row)
   pub small : All (λ (row : Row). row.metric < 2 ^ 32) merged
 
+-- so many first rows are the first of others
+pub record HaveFirst (old rows : List Row) (many : ℕ) : Type 0 where
+  pub within : many ≤ length rows
+  pub each : (k : ℕ) (d : Row) → k < many → slice_index_or rows k d ≡ slice_index_or old k d
+
 -- the row is the next removed one, or is kept
 abbrev pub IsStripped : Row → List Row → ℕ → ℕ → List Row → List Row → Type 0
 IsStripped row removed found now old new =

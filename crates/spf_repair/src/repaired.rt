@@ -8,7 +8,7 @@ ghost use Rattle.spf_tree.specs.Distances.{cost_at, AreDistances};
 ghost use Rattle.spf_repair.specs.Change.{AreChanged, IsBound, OnlyFalls};
 
 use crate::change::repair;
-use crate::replace::replaced;
+use crate::replace::{RowsAfter, replaced};
 use crate::steps::Steps;
 use isis_base::{NodeId, OutOfMemory};
 use spf_tree::parts::{number, rows_in_order, with_rows};
@@ -191,11 +191,12 @@ fn exchanged(
         (λ new. AreChanged graph.now.rows new.rows removed.now added.now) }
 {
     let before = rows_in_order(graph);
-    let rows = match replaced(alloc, before, removed, added) {
-        Ok(rows) => rows,
+    let replaced = match replaced(alloc, before, removed, added) {
+        Ok(replaced) => replaced,
         Err(error) => return Err(error),
     };
-    match with_rows(alloc, graph, rows, added) {
+    let RowsAfter { rows, same } = replaced;
+    match with_rows(alloc, graph, rows, added, same) {
         Ok(new) => Ok(new),
         Err(error) => Err(error),
     }

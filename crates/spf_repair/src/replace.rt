@@ -7,12 +7,27 @@ ghost use Rattle.spf_tree.specs.declared.row.Row.{Row};
 ghost use Rattle.spf_tree.specs.Walks.{start};
 ghost use Rattle.spf_tree.specs.Search.{IsBounded};
 ghost use Rattle.spf_tree.specs.Graphs.{same_row, times};
-ghost use Rattle.spf_repair.specs.Replace.{AreFrom, IsExchanged, IsStripped};
+ghost use Rattle.spf_tree.specs.Places.{HaveEnds};
+ghost use Rattle.spf_repair.specs.Replace.{AreFrom, HaveFirst, IsExchanged, IsStripped};
 
 use isis_base::OutOfMemory;
 use spf_tree::Row;
-use spf_tree::parts::{by_start, first_row, number, whole};
+use spf_tree::parts::{Ends, by_start, first_row, number, whole};
 use std::alloc::Global;
+
+/// Rows after a change, and how many at their ends are those before it.
+#[derive(Drop, Debug)]
+pub struct RowsAfter {
+    pub rows: Vec<Row>,
+    pub same: Ends,
+}
+
+/// How many of the rows that are taken out were found, and how many rows at the ends are those before the change.
+#[derive(Clone, Copy)]
+struct Findings {
+    found: usize,
+    same: Ends,
+}
 
 /// The rows after a change, in order of their starts.
 pub fn replaced(
@@ -20,15 +35,16 @@ pub fn replaced(
     rows: &[Row],
     removed: &[Row],
     added: &[Row],
-) -> Result<Vec<Row>, OutOfMemory>
+) -> Result<RowsAfter, OutOfMemory>
     requires there { (x : Row) → times removed.now x ≤ times rows.now x }
     requires few { length rows.now + length added.now < 2 ^ 32 + length removed.now }
     requires bounded { IsBounded rows.now }
     requires sorted { IsNonDecreasingBy start rows.now }
     ensures times { IfOk result (λ v. (x : Row)
-        → times v.items x + times removed.now x ≡ times rows.now x + times added.now x) }
-    ensures sorted { IfOk result (λ v. IsNonDecreasingBy start v.items) }
-    ensures bounded { IfOk result (λ v. IsBounded v.items) }
+        → times v.rows.items x + times removed.now x ≡ times rows.now x + times added.now x) }
+    ensures sorted { IfOk result (λ v. IsNonDecreasingBy start v.rows.items) }
+    ensures bounded { IfOk result (λ v. IsBounded v.rows.items) }
+    ensures same { IfOk result (λ v. HaveEnds rows.now v.rows.items v.same) }
 {
     let out = match in_order(alloc, removed) {
         Ok(out) => out,
@@ -44,7 +60,7 @@ pub fn replaced(
         Err(_) => return Err(OutOfMemory),
     };
     match exchange(rows, out.as_slice(), come.as_slice(), &mut merged) {
-        Ok(found) => Ok(without_rest(merged, out.as_slice(), found)),
+        Ok(findings) => Ok(without_rest(merged, out.as_slice(), findings)),
         Err(error) => Err(error),
     }
 }
@@ -61,21 +77,22 @@ fn in_order(alloc: Global, rows: &[Row]) -> Result<Vec<Row>, OutOfMemory>
 }
 
 /// Goes over the rows once: leaves the removed ones out, as far as they come in the same order, and puts the added ones
-/// in their places. The number of removed ones that were found. Rows before the first change, and behind the last one,
-/// are kept at once.
+/// in their places. Rows before the first change, and behind the last one, are kept at once.
 fn exchange(
     rows: &[Row],
     removed: &[Row],
     added: &[Row],
     merged: &mut Vec<Row>,
-) -> Result<usize, OutOfMemory>
+) -> Result<Findings, OutOfMemory>
     requires empty { merged.old.items ≡ [] }
     requires bounded { IsBounded rows.now }
     requires rows { IsNonDecreasingBy start rows.now }
     requires added { IsNonDecreasingBy start added.now }
-    ensures { IfOk result
-        (λ found. IsExchanged rows.now removed.now added.now merged.new.items
-        (length rows.now) found (length added.now)) }
+    ensures exchanged { IfOk result
+        (λ findings. IsExchanged rows.now removed.now added.now merged.new.items
+        (length rows.now) findings.found (length added.now)) }
+    ensures same { IfOk result
+        (λ findings. HaveEnds rows.now merged.new.items findings.same) }
 {
     let quiet = quiet_rows(rows, removed, added);
     match keep(rows, 0, quiet, merged) {
@@ -85,8 +102,10 @@ fn exchange(
     let (mut found, mut from) = (0, 0);
     for place in quiet..rows.len() {
         if found >= removed.len() && from >= added.len() {
+            let last = rows.len() - place;
+            let same = Ends { first: quiet, last };
             match keep(rows, place, rows.len(), merged) {
-                Ok(()) => return Ok(found),
+                Ok(()) => return Ok(Findings { found, same }),
                 Err(error) => return Err(error),
             }
         }
@@ -99,8 +118,12 @@ fn exchange(
             Err(error) => return Err(error),
         }
     }
+    let same = Ends {
+        first: quiet,
+        last: 0,
+    };
     match put_rest(added, from, merged) {
-        Ok(()) => Ok(found),
+        Ok(()) => Ok(Findings { found, same }),
         Err(error) => Err(error),
     }
 }
@@ -162,6 +185,8 @@ fn put_below(
         → IsExchanged rows removed added.now merged.new.items place found now) }
     ensures all { IfOk result (λ now. AreFrom added.now now node) }
     ensures within { IfOk result (λ now. now ≤ length added.now) }
+    ensures first { IfOk result (λ now. (rows : List Row) (many : ℕ)
+        → HaveFirst rows merged.old.items many → HaveFirst rows merged.new.items many) }
 {
     let mut now = from;
     while now < added.len() {
@@ -182,10 +207,12 @@ fn put_below(
 fn put_rest(added: &[Row], from: usize, merged: &mut Vec<Row>) -> Result<(), OutOfMemory>
     requires sorted { IsNonDecreasingBy start added.now }
     requires within { from ≤ length added.now }
-    ensures { OnOk result ((rows removed : List Row) (found : ℕ)
+    ensures put { OnOk result ((rows removed : List Row) (found : ℕ)
         → IsExchanged rows removed added.now merged.old.items (length rows) found from
         → IsExchanged rows removed added.now merged.new.items (length rows) found
         (length added.now)) }
+    ensures first { OnOk result ((rows : List Row) (many : ℕ)
+        → HaveFirst rows merged.old.items many → HaveFirst rows merged.new.items many) }
 {
     for place in from..added.len() {
         match merged.push(whole(&added[place])) {
@@ -218,23 +245,31 @@ fn strip(
 }
 
 /// Takes each removed row out that wasn't found. There is none where the rows stood in the full order.
-fn without_rest(mut rows: Vec<Row>, removed: &[Row], found: usize) -> Vec<Row>
-    requires within { found ≤ length removed.now }
+fn without_rest(mut rows: Vec<Row>, removed: &[Row], findings: Findings) -> RowsAfter
+    requires within { findings.found ≤ length removed.now }
     requires there { (x : Row) → times removed.now x
-        ≤ times rows.items x + times (take found removed.now) x }
+        ≤ times rows.items x + times (take findings.found removed.now) x }
     requires sorted { IsNonDecreasingBy start rows.items }
-    ensures times { (x : Row) → times result.items x + times removed.now x
-        ≡ times rows.items x + times (take found removed.now) x }
-    ensures len { length result.items + length removed.now ≡ length rows.items + found }
+    ensures times { (x : Row) → times result.rows.items x + times removed.now x
+        ≡ times rows.items x + times (take findings.found removed.now) x }
+    ensures len { length result.rows.items + length removed.now
+        ≡ length rows.items + findings.found }
     ensures small { All (λ (r : Row). r.metric < 2 ^ 32) rows.items
-        → All (λ (r : Row). r.metric < 2 ^ 32) result.items }
-    ensures sorted { IsNonDecreasingBy start result.items }
+        → All (λ (r : Row). r.metric < 2 ^ 32) result.rows.items }
+    ensures sorted { IsNonDecreasingBy start result.rows.items }
+    ensures same { (before : List Row) → HaveEnds before rows.items findings.same
+        → HaveEnds before result.rows.items result.same }
 {
+    let Findings { found, same } = findings;
     if found >= removed.len() {
-        return rows;
+        return RowsAfter { rows, same };
     }
     take_each(&mut rows, removed, found);
-    by_start(rows)
+    let same = Ends { first: 0, last: 0 };
+    RowsAfter {
+        rows: by_start(rows),
+        same,
+    }
 }
 
 /// Takes each removed row from a place on out, as often as it is listed.

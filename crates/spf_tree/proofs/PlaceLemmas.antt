@@ -1,21 +1,22 @@
 -- Nodes by their places: spans of rows, edges, and offers to places.
 
-use Rattle.std.proofs.Common.{◌≡◌, ◌∙◌, ℕ, ◌+◌, ◌≤◌, ◌<◌, List, [], ◌∷◌, ◌++◌, length, get_or, cond, Err, sym, ap, subst, arith, inl, inr}
+use Rattle.std.proofs.Common.{◌≡◌, ◌∙◌, ℕ, ◌+◌, ◌-◌, ◌≤◌, ◌<◌, List, [], ◌∷◌, ◌++◌, length, take, drop, get_or, cond, Err, sym, ap, subst, arith, inl, inr}
 use Rattle.std.proofs.Math.Seq.{get_or-append_seam}
 use Rattle.std.specs.List.{All, Contains, count_by}
 use Rattle.std.specs.Ordering.{nat_cmp}
 use Rattle.std.specs.List.Sorted.{IsNonDecreasingBy, IsStrictlyIncreasing, IsBinarySearchResult, IsPermutation}
 use Rattle.std.proofs.lemmas.Bool.{cases_lt}
-use Rattle.std.proofs.lemmas.List.{get_or_default, get_or_append_left, length-append, take_all}
+use Rattle.std.proofs.lemmas.List.{get_or_default, get_or_append_left, get_or-append_right, get_or-drop, get_or-take, length-append, length-drop, length-take-le, take_all}
 use Rattle.std.proofs.lemmas.List.Elements.{All-map}
 use Rattle.std.proofs.lemmas.List.Sums.{sum_by-take-le}
 use Rattle.std.proofs.lemmas.List.Sorted.{searched, Contains-permutation, IsPermutation-map, IsPermutation-sym}
 use Rattle.std.proofs.lemmas.List.Kept.{AllPairs-from_increasing}
 use Rattle.spf_tree.specs.declared.row.Row.{Row}
 use Rattle.spf_tree.specs.declared.edge.Edge.{Edge}
+use Rattle.spf_tree.specs.declared.edge.Ends.{Ends}
 use Rattle.spf_tree.specs.declared.edge.Span.{Span}
 use Rattle.spf_tree.specs.Walks.{start, end}
-use Rattle.spf_tree.specs.Places.{node_at, offer_at, offers_at, AreToPlaces, IsEdge, AreEdges, IsSpan}
+use Rattle.spf_tree.specs.Places.{node_at, offer_at, offers_at, AreToPlaces, HaveEnds, IsEdge, AreEdges, IsSpan}
 use Rattle.spf_tree.specs.Labels.{names}
 use Rattle.spf_tree.specs.declared.label.Label.{Label}
 use Rattle.spf_tree.specs.Search.{IsOffered, HaveOffered, IsSearchKept, AreNamed, starts}
@@ -93,6 +94,52 @@ edges_push nodes rows edges more edge m d in' is before here =
 -- what an index gives past the end
 abbrev pub no_edge : Edge
 no_edge = record { place = 0; metric = 0 }
+
+-- the edges of the first rows, where these are the first old ones
+pub edges_first : (nodes : List ℕ) (old rows : List Row) (known none edges : List Edge) (same : Ends) → HaveEnds old rows same → AreEdges nodes old known (length old) → none ≡ [] → edges ≡ none ++ take same.first known
+    → AreEdges nodes rows edges same.first
+edges_first nodes old rows known none edges same ends are empty is =
+    let within = ends.within_old in
+    let long = are.long in
+    let items : edges ≡ take same.first known = is ∙ ap (λ (es : List Edge). es ++ take same.first known) empty in
+    record {
+      long = ap length items ∙ length-take-le same.first known (omega arith);
+      each = λ k d e h.
+          let row = ends.first k d h in
+          let edge : get_or edges k e ≡ get_or known k e = ap (λ (es : List Edge). get_or es k e) items ∙ get_or-take same.first known k e h in
+          subst (λ (x : Edge). IsEdge nodes (get_or rows k d) x) (sym edge)
+          (subst (λ (r : Row). IsEdge nodes r (get_or known k e)) (sym row) (are.each k d e (omega arith)));
+    }
+
+-- the edges of the last rows behind those of the others, where these are the last old ones
+pub edges_last : (nodes : List ℕ) (old rows : List Row) (known edges all : List Edge) (same : Ends) (past : ℕ) → HaveEnds old rows same → AreEdges nodes old known (length old) → past + same.last ≡ length rows → AreEdges nodes rows edges past
+    → all ≡ edges ++ take (length known - (length known - same.last)) (drop (length known - same.last) known) → AreEdges nodes rows all (length rows)
+edges_last nodes old rows known edges all same past ends are sum before told =
+    let within = ends.within_old in
+    let within_new = ends.within in
+    let long = are.long in
+    let past_long = before.long in
+    let from = length known - same.last in
+    let rest : length (drop from known) ≡ same.last = length-drop from known ∙ omega arith in
+    let is : all ≡ edges ++ drop from known = told ∙ ap (λ (es : List Edge). edges ++ es) (take_all (length known - from) (drop from known) (omega arith)) in
+    record {
+      long = ap length is ∙ length-append edges (drop from known) ∙ omega arith;
+      each = λ k d e h.
+          subst (λ (es : List Edge). IsEdge nodes (get_or rows k d) (get_or es k e)) (sym is)
+          (elim (cases_lt k past) [
+            | inl less ↦ subst (λ (x : Edge). IsEdge nodes (get_or rows k d) x) (sym (get_or_append_left edges (drop from known) e k (omega arith))) (before.each k d e less)
+            | inr not_less ↦
+                let j = k - past in
+                let k_is : length rows - same.last + j ≡ k = omega arith in
+                let o_is : length old - same.last + j ≡ from + j = omega arith in
+                let row : get_or rows k d ≡ get_or old (from + j) d =
+                ap (λ (n : ℕ). get_or rows n d) (sym k_is) ∙ ends.last j d (omega arith) ∙ ap (λ (n : ℕ). get_or old n d) o_is in
+                let edge : get_or (edges ++ drop from known) k e ≡ get_or known (from + j) e =
+                get_or-append_right edges (drop from known) past k e past_long (omega arith) ∙ get_or-drop from known j e in
+                subst (λ (x : Edge). IsEdge nodes (get_or rows k d) x) (sym edge)
+                (subst (λ (r : Row). IsEdge nodes r (get_or known (from + j) e)) (sym row) (are.each (from + j) d e (omega arith)))
+          ]);
+    }
 
 -- ---- the slice that is read and the list are one
 

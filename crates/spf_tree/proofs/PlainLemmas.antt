@@ -21,6 +21,11 @@ module _ (rows : List Row) (root : ℕ) (labels : List Label) where
         here = λ row there st g. passed-all rows root labels node 0 old new passed row there st;
       }
 
+  -- other lists of the same nodes
+  pub reached-same : (xs ys : List ℕ) → AreReached rows root labels false root xs → ((node : ℕ) → Contains xs node → Contains ys node) → ((node : ℕ) → Contains ys node → Contains xs node)
+      → AreReached rows root labels false root ys
+  reached-same xs ys reached all none = record { walk = λ node h. reached.walk node (none node h); every = λ walk node leads. all node (reached.every walk node leads) }
+
   -- ---- they are plain
 
   pub plain-root : (new : List (ℕ × ℕ)) → IsPut [] new root 0 → ArePlain rows root labels new

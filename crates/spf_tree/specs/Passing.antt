@@ -1,4 +1,4 @@
--- Nodes beside a word, each pair once: a hop, or 0 where tight rows pass on that a node is led to. All of it own.
+-- Nodes beside a word: a hop, or 0 where tight rows pass on that a node is led to. All of it own.
 
 use Rattle.std.specs.Prelude.{◌≡◌, ◌≢◌, ℕ, ◌<◌, ◌⊎◌, true, false, List, ◌++◌, slice_index_or}
 use Rattle.std.specs.List.{Contains}

@@ -1,9 +1,10 @@
 -- Nodes by their places among all nodes in order, and rows by the places of their ends. All of it own.
 
-use Rattle.std.specs.Prelude.{◌≡◌, ℕ, ◌≤◌, ◌<◌, List, map, length, slice_index_or}
+use Rattle.std.specs.Prelude.{◌≡◌, ℕ, ◌+◌, ◌-◌, ◌≤◌, ◌<◌, List, map, length, slice_index_or}
 use Rattle.std.specs.List.{Contains}
 use Rattle.spf_tree.specs.declared.row.Row.{Row}
 use Rattle.spf_tree.specs.declared.edge.Edge.{Edge}
+use Rattle.spf_tree.specs.declared.edge.Ends.{Ends}
 use Rattle.spf_tree.specs.declared.edge.Span.{Span}
 use Rattle.spf_tree.specs.Walks.{start, end}
 use Rattle.spf_tree.specs.Search.{IsSearchKept}
@@ -52,6 +53,14 @@ pub record AreEdges (nodes : List ℕ) (rows : List Row) (edges : List Edge) (ma
   pub long : length edges ≡ many
   pub each : (k : ℕ) (d : Row) (e : Edge) → k < many
       → IsEdge nodes (slice_index_or rows k d) (slice_index_or edges k e)
+
+-- so many first rows are the first old ones, and so many last rows the last old ones
+pub record HaveEnds (old rows : List Row) (ends : Ends) : Type 0 where
+  pub within : ends.first + ends.last ≤ length rows
+  pub within_old : ends.first + ends.last ≤ length old
+  pub first : (k : ℕ) (d : Row) → k < ends.first → slice_index_or rows k d ≡ slice_index_or old k d
+  pub last : (k : ℕ) (d : Row) → k < ends.last
+      → slice_index_or rows (length rows - ends.last + k) d ≡ slice_index_or old (length old - ends.last + k) d
 
 -- the rows before a place start below the node, those from it on don't
 pub record IsFirst (rows : List Row) (place node : ℕ) : Type 0 where

@@ -13,3 +13,10 @@ pub struct Span {
     pub first: usize,
     pub past: usize,
 }
+
+/// How many first rows are the first of other rows, and how many last ones their last.
+#[derive(Clone, Copy, Debug)]
+pub struct Ends {
+    pub first: usize,
+    pub last: usize,
+}

@@ -7,9 +7,9 @@ ghost use Rattle.std.specs.List.Sorted.{IsStrictlyIncreasing};
 ghost use Rattle.spf_tree.specs.declared.row.Row.{Row};
 ghost use Rattle.spf_tree.specs.declared.edge.Edge.{Edge};
 ghost use Rattle.spf_tree.specs.Walks.{end};
-ghost use Rattle.spf_tree.specs.Places.{AreEdges, AreAmong, node_at};
+ghost use Rattle.spf_tree.specs.Places.{AreAmong, AreEdges, HaveEnds, node_at};
 
-use crate::edge::Edge;
+use crate::edge::{Edge, Ends};
 use crate::node::number;
 use crate::row::Row;
 use isis_base::OutOfMemory;
@@ -22,15 +22,18 @@ struct Found {
     next: usize,
 }
 
-/// The edge of each row. Rows that follow each other as old ones do have the places of those; the others are searched.
+/// The edge of each row. Those at the ends are known of old rows; between them rows that follow each other as old ones do have
+/// the places of those, and the others are searched.
 pub fn edges_of(
     alloc: Global,
     nodes: &[u64],
     rows: &[Row],
     old: &[Row],
     known: &[Edge],
+    same: Ends,
 ) -> Result<Vec<Edge>, OutOfMemory>
     requires rising { IsStrictlyIncreasing nodes.now }
+    requires same { HaveEnds old.now rows.now same }
     requires ends { (row : Row) → Contains rows.now row → Contains nodes.now (end row) }
     requires known { AreEdges nodes.now old.now known.now (length old.now) }
     ensures { IfOk result (λ edges. AreEdges nodes.now rows.now edges.items (length rows.now)) }
@@ -39,8 +42,12 @@ pub fn edges_of(
         Ok(edges) => edges,
         Err(_) => return Err(OutOfMemory),
     };
-    let mut from = 0;
-    for place in 0..rows.len() {
+    match edges.extend_from_slice(&known[..same.first]) {
+        Ok(()) => {}
+        Err(_) => return Err(OutOfMemory),
+    }
+    let mut from = same.first;
+    for place in same.first..rows.len() - same.last {
         let row = &rows[place];
         let found = find(nodes, row, old, known, from);
         from = found.next;
@@ -52,7 +59,10 @@ pub fn edges_of(
             Err(_) => return Err(OutOfMemory),
         }
     }
-    Ok(edges)
+    match edges.extend_from_slice(&known[known.len() - same.last..]) {
+        Ok(()) => Ok(edges),
+        Err(_) => Err(OutOfMemory),
+    }
 }
 
 /// The edges of rows by their places among other nodes, where all the old ones are.

@@ -6,7 +6,9 @@ ghost use Rattle.std.specs.List.Sorted.{IsNonDecreasingBy, IsStrictlyIncreasing}
 ghost use Rattle.spf_tree.specs.declared.row.Row.{Row};
 ghost use Rattle.spf_tree.specs.Walks.{start, end};
 ghost use Rattle.spf_tree.specs.Search.{IsBounded};
+ghost use Rattle.spf_tree.specs.Places.{HaveEnds};
 
+use crate::edge::Ends;
 use crate::indexed::IndexedRows;
 use crate::node::number;
 use crate::nodes::have_ends;
@@ -95,7 +97,8 @@ pub fn graph_of(alloc: Global, rows: Vec<Row>, root: NodeId) -> Result<Graph, Ou
     }
 }
 
-/// The graph of rows in order each of which ends where a row of this graph does, or an added one. Where an added row ends
+/// The graph of rows in order each of which ends where a row of this graph does, or an added one, and of which so many at the
+/// ends are this graph's. Where an added row ends
 /// at a new node, the places of the other nodes move. All nodes are looked for anew only where at most of them no row ends
 /// any more.
 pub fn with_rows(
@@ -103,7 +106,9 @@ pub fn with_rows(
     graph: &Graph,
     rows: Vec<Row>,
     added: &[Row],
+    same: Ends,
 ) -> Result<Graph, OutOfMemory>
+    requires same { HaveEnds graph.now.rows rows.items same }
     requires sorted { IsNonDecreasingBy start rows.items }
     requires bounded { IsBounded rows.items }
     requires ends { (row : Row) → Contains rows.items row
@@ -114,7 +119,7 @@ pub fn with_rows(
     let root = graph.root;
     graph.indexed.kept();
     if have_ends(graph.indexed.nodes(), added) {
-        return match graph.indexed.with_rows(alloc, rows) {
+        return match graph.indexed.with_rows(alloc, rows, same) {
             Ok(indexed) => Ok(Graph { indexed, root }),
             Err(error) => Err(error),
         };
@@ -122,7 +127,7 @@ pub fn with_rows(
     if graph.indexed.nodes().len() / 2 > rows.len() {
         return graph_of(alloc, rows, root);
     }
-    match graph.indexed.with_ends(alloc, rows, added) {
+    match graph.indexed.with_ends(alloc, rows, added, same) {
         Ok(indexed) => Ok(Graph { indexed, root }),
         Err(error) => Err(error),
     }

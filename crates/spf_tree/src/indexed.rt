@@ -6,9 +6,9 @@ ghost use Rattle.std.specs.List.Sorted.{IsNonDecreasingBy};
 ghost use Rattle.spf_tree.specs.declared.row.Row.{Row};
 ghost use Rattle.spf_tree.specs.Walks.{start, end};
 ghost use Rattle.spf_tree.specs.Search.{IsBounded, IsSearchKept};
-ghost use Rattle.spf_tree.specs.Places.{AreEdges, IsEdge};
+ghost use Rattle.spf_tree.specs.Places.{AreEdges, HaveEnds, IsEdge};
 
-use crate::edge::Edge;
+use crate::edge::{Edge, Ends};
 use crate::edges::{edges_of, moved};
 use crate::nodes::{ends, in_order, with_ends};
 use crate::row::Row;
@@ -46,11 +46,18 @@ impl IndexedRows {
             Ok(nodes) => in_order(nodes),
             Err(error) => return Err(error),
         };
-        index(alloc, rows, nodes, &[], &[])
+        let same = Ends { first: 0, last: 0 };
+        index(alloc, rows, nodes, &[], &[], same)
     }
 
     /// Other rows over the same nodes.
-    pub fn with_rows(&self, alloc: Global, rows: Vec<Row>) -> Result<IndexedRows, OutOfMemory>
+    pub fn with_rows(
+        &self,
+        alloc: Global,
+        rows: Vec<Row>,
+        same: Ends,
+    ) -> Result<IndexedRows, OutOfMemory>
+        requires same { HaveEnds self.now.rows rows.items same }
         requires sorted { IsNonDecreasingBy start rows.items }
         requires bounded { IsBounded rows.items }
         requires ends { (row : Row) → Contains rows.items row → Contains self.now.nodes (end row) }
@@ -62,7 +69,7 @@ impl IndexedRows {
             Ok(nodes) => nodes,
             Err(_) => return Err(OutOfMemory),
         };
-        index(alloc, rows, nodes, old, known)
+        index(alloc, rows, nodes, old, known, same)
     }
 
     /// Other rows, each of which ends at a node or where an added row does.
@@ -71,7 +78,9 @@ impl IndexedRows {
         alloc: Global,
         rows: Vec<Row>,
         added: &[Row],
+        same: Ends,
     ) -> Result<IndexedRows, OutOfMemory>
+        requires same { HaveEnds self.now.rows rows.items same }
         requires sorted { IsNonDecreasingBy start rows.items }
         requires bounded { IsBounded rows.items }
         requires ends { (row : Row) → Contains rows.items row
@@ -87,7 +96,7 @@ impl IndexedRows {
             Ok(known) => known,
             Err(error) => return Err(error),
         };
-        index(alloc, rows, nodes, &self.rows, &known)
+        index(alloc, rows, nodes, &self.rows, &known, same)
     }
 
     /// The same rows with a node more.
@@ -149,13 +158,15 @@ fn index(
     nodes: Vec<u64>,
     old: &[Row],
     known: &[Edge],
+    same: Ends,
 ) -> Result<IndexedRows, OutOfMemory>
+    requires same { HaveEnds old.now rows.items same }
     requires kept { IsSearchKept rows.items nodes.items }
     requires known { AreEdges nodes.items old.now known.now (length old.now) }
     ensures rows { IfOk result (λ indexed. indexed.rows ≡ rows.items) }
     ensures nodes { IfOk result (λ indexed. indexed.nodes ≡ nodes.items) }
 {
-    match edges_of(alloc, nodes.as_slice(), rows.as_slice(), old, known) {
+    match edges_of(alloc, nodes.as_slice(), rows.as_slice(), old, known, same) {
         Ok(edges) => Ok(IndexedRows { rows, nodes, edges }),
         Err(error) => Err(error),
     }

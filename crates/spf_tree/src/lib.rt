@@ -60,7 +60,7 @@ mod waiting;
 /// Parts of the search, for the crate that repairs distances.
 pub mod parts {
     pub use crate::choice::{by_start, whole};
-    pub use crate::edge::Edge;
+    pub use crate::edge::{Edge, Ends};
     pub use crate::graph::{indexed, nodes_in_order, rows_in_order, with_rows};
     pub use crate::indexed::IndexedRows;
     pub use crate::label::Label;

@@ -1,4 +1,4 @@
-//! Nodes beside a word, each pair once: a hop, or 0 where rows of least walks pass on that a node is led to.
+//! Nodes beside a word: a hop, or 0 where rows of least walks pass on that a node is led to.
 
 ghost use Rattle.std.specs.Prelude.{◌≡◌, ℕ, length, map, IfOk, OnOk};
 ghost use Rattle.std.specs.Bool.{OnTrue};
@@ -8,7 +8,7 @@ ghost use Rattle.spf_tree.specs.Walks.{start};
 ghost use Rattle.spf_tree.specs.Passing.{IsPut, IsPassed, ArePassed, first};
 
 use crate::labels::Labels;
-use crate::node::number;
+use crate::node::{is_system, number};
 use crate::offers::first_row;
 use crate::reach::is_step;
 use crate::row::Row;
@@ -35,6 +35,22 @@ pub fn add_pair(pairs: &mut Vec<(u64, u64)>, node: u64, word: u64) -> Result<(),
     }
 }
 
+/// Adds the end of a row beside a word. A system, from which nothing is passed on, may be there twice then.
+fn add_end(found: &mut Vec<(u64, u64)>, to: u64, word: u64) -> Result<(), OutOfMemory>
+    ensures { OnOk result (IsPut found.old.items found.new.items to word) }
+{
+    if !is_system(to) {
+        return match add_pair(found, to, word) {
+            Ok(()) => Ok(()),
+            Err(error) => Err(error),
+        };
+    }
+    match found.push((to, word)) {
+        Ok(()) => Ok(()),
+        Err(_) => Err(OutOfMemory),
+    }
+}
+
 /// Passes the word on to the end of a row, if that belongs to least walks.
 fn pass(
     labels: &Labels,
@@ -53,7 +69,7 @@ fn pass(
     if !is_step(labels, from, to, row.metric) {
         return Ok(());
     }
-    match add_pair(found, to, word) {
+    match add_end(found, to, word) {
         Ok(()) => Ok(()),
         Err(error) => Err(error),
     }

@@ -11,6 +11,7 @@ ghost use Rattle.spf_tree.specs.Exploring.{AreReached, goes_on};
 ghost use Rattle.spf_tree.specs.Passing.{ArePlain, IsGoneOn, first};
 
 use crate::labels::Labels;
+use crate::nodes::in_order;
 use crate::passing::{add_pair, nodes_of, pass_on};
 use crate::reach::goes_on;
 use crate::row::Row;
@@ -67,8 +68,8 @@ fn go_on_all(
     Ok(false)
 }
 
-/// The nodes to which rows of least walks lead from the root over the root and pseudonodes alone. `None` where they are too
-/// many to look for.
+/// The nodes to which rows of least walks lead from the root over the root and pseudonodes alone, in order. `None` where they
+/// are too many to look for.
 pub fn plain_nodes(
     alloc: Global,
     rows: &[Row],
@@ -92,7 +93,7 @@ pub fn plain_nodes(
         return Ok(None);
     }
     match nodes_of(alloc, found.as_slice()) {
-        Ok(nodes) => Ok(Some(nodes)),
+        Ok(nodes) => Ok(Some(in_order(nodes))),
         Err(error) => Err(error),
     }
 }

@@ -23,8 +23,14 @@ use std::alloc::Global;
 /// How many times the hops of a node are made at most.
 const MOST_TURNS: usize = 2_048;
 
-/// How many nodes get other hops at most.
+/// How many nodes get other hops at most, in any graph.
 const MOST_DONE: usize = 256;
+
+/// How many nodes of so many get other hops at most. Each is looked for among those before it, so in a small graph all hops are
+/// sooner made anew.
+fn most_done(nodes: usize) -> usize {
+    (32 + nodes / 32).min(MOST_DONE)
+}
 
 /// A node beside each of the hops that a table tells of it.
 fn told(
@@ -115,7 +121,7 @@ fn settle(
     if has(done.as_slice(), node) {
         return Ok(false);
     }
-    if done.len() >= MOST_DONE {
+    if done.len() >= most_done(indexed.nodes().len()) {
         return Ok(false);
     }
     match replace(

@@ -9,8 +9,8 @@ ghost use Rattle.spf_tree.specs.Labels.{at};
 ghost use Rattle.spf_tree.specs.Settling.{AreEitherCalled, AreEndsCalled, AreLackingCalled, AreMovedCalled, AreNextCalled, IsCalled, IsEitherCalled, IsEndCalled, IsLackingCalled, IsMovedCalled, Waits};
 
 use crate::labels::Labels;
-use crate::next::has;
 use crate::node::number;
+use crate::nodes::is_among;
 use crate::offers::first_row;
 use crate::queue::Queue;
 use crate::reach::leads_by;
@@ -226,7 +226,7 @@ pub fn call_all_moved(
     Ok(())
 }
 
-/// Lets a node wait that isn't among the others.
+/// Lets a node wait that isn't among the others, which are in order: else it may wait though it is.
 fn call_if_lacking(
     costs: &Labels,
     node: u64,
@@ -235,7 +235,7 @@ fn call_if_lacking(
 ) -> Result<(), OutOfMemory>
     ensures { OnOk result (IsLackingCalled node others.now queue.old queue.new) }
 {
-    if has(others, node) {
+    if is_among(others, node) {
         return Ok(());
     }
     match call(costs, node, queue) {

@@ -134,9 +134,9 @@ fn is_held(alloc: Global, lan: &mut Circuit) -> bool {
     lan.idle(MINE, 3);
     lan.second();
     lan.second();
-    let held = lan.is_open(L2);
+    let held = lan.is_open(L2) & lan.is_ending();
     lan.second();
-    let left = !lan.is_open(L2) & lan.hello_is_due();
+    let left = !lan.is_open(L2) & !lan.is_ending() & lan.hello_is_due();
     held & left & remembers(alloc, lan)
 }
 
@@ -196,12 +196,13 @@ fn wrong_when_up(link: &Circuit) -> Option<usize> {
     ])
 }
 
-/// Whether an answer may be sent after two seconds, and no CSNP is due once it was sent.
+/// Whether an answer may be sent after two of three seconds, no CSNP is due once it was sent, and the neighbour goes then.
 fn is_counted(link: &mut Circuit) -> bool {
     link.second();
+    let early = link.is_ending();
     link.second();
     link.csnp_sent(L2);
-    link.may_answer(L2) & !link.is_csnp_due(MINE, 3, L2)
+    link.may_answer(L2) & !link.is_csnp_due(MINE, 3, L2) & !early & link.is_ending()
 }
 
 /// Whether a hello of another system is heard over a link, and what is due is as it should be.

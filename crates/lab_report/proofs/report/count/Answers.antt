@@ -9,7 +9,7 @@ loop-router-preserved c =
     let next = next-counts c.args.net.now.seen.routers c.loop-router.router c.args.level
     (omega (arith, c.loop-router-test.true, c.routers-router-end.ensures)) in
     let one : c.one_if-count.result ≡ (if runs_at c.args.net.now.seen.routers c.loop-router.router c.args.level then 1 else 0)
-    = c.one_if-count.ensures.value ∙ ap (λ (b : Bool). if b then 1 else 0) c.runs.ensures in
+    = c.one_if-count.ensures.value ∙ ap (λ (b : Bool). if b then 1 else 0) c.is_running.ensures in
     record {
       all = omega (arith, next, one, c.loop-router.invariant.all);
       few = omega (arith, c.one_if-count.ensures.few, c.loop-router.invariant.few);

@@ -1,5 +1,4 @@
-use Rattle.route_table.specs.Lookups.{IsLeft}
-use Rattle.route_table.proofs.LookupLemmas.{height}
+use Rattle.route_table.specs.Lookups.{IsLeft, height}
 use Rattle.route_table.proofs.links.last_of.Given as goal
 
 abbrev pub invariant-loop-left : goal.invariant-loop-left

@@ -1,6 +1,6 @@
 use Rattle.std.proofs.Common.{◌≡◌, ◌-◌, Result, Ok, Err, IfOk, OnErr, ap, arith, refl}
 use Rattle.std.proofs.lemmas.Result.{IfOk-weaker}
-use Rattle.model_router.specs.Both.{alone, at}
+use Rattle.model_router.specs.Both.{alone, at, runs_of}
 use Rattle.model_router.specs.Adjacencies.{common_of}
 use Rattle.model_router.specs.Configs.{Config}
 use Rattle.model_router.specs.Hellos.{lan_circuit}
@@ -8,7 +8,6 @@ use Rattle.model_router.specs.HelloTests.{lan_drop}
 use Rattle.model_router.specs.Routers.{Circuit}
 use Rattle.adjacency.specs.Changes.{IsTested}
 use Rattle.model_router.specs.Numbers.{system_number}
-use Rattle.model_datagram.specs.Reading.{runs_of}
 use Rattle.router_circuits.specs.Hellos.{hello_of}
 use Rattle.router_desk.specs.Desks.{desk_circuit}
 use Rattle.router_core.specs.Machines.{IsFit}

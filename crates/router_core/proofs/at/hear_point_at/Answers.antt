@@ -9,7 +9,7 @@ use Rattle.model_router.specs.Hellos.{point_circuit}
 use Rattle.model_router.specs.HelloTests.{point_drop}
 use Rattle.model_router.specs.Routers.{Circuit}
 use Rattle.model_router.specs.Numbers.{system_number}
-use Rattle.model_datagram.specs.Reading.{runs_of}
+use Rattle.model_router.specs.Both.{runs_of}
 use Rattle.router_circuits.specs.Hellos.{hello_of, IsOwn}
 use Rattle.router_desk.specs.Desks.{desk_circuit}
 use Rattle.router_core.specs.Machines.{IsFit}

@@ -8,12 +8,12 @@ use Rattle.router_routes.proofs.SystemLemmas.{twos-same}
 use Rattle.router_routes.proofs.kept.attached_now.Goals as goal
 
 pub level_systems-requires : goal.level_systems-requires
-level_systems-requires c = record { fit = c.requires.fit.two; graph = graph-two c.args.view.now c.args.two.now c.runs_two.result c.requires.two c.runs_two.ensures }
+level_systems-requires c = record { fit = c.requires.fit.two; graph = graph-two c.args.view.now c.args.two.now c.has_level.result c.requires.two c.has_level.ensures }
 
 pub attached-requires-clause-twos : goal.attached-requires-clause-twos
 attached-requires-clause-twos c =
     subst (λ (l : List (SystemId × ℕ)). AreSame l (reached_in (outlook_at c.args.view.now).told.two (outlook_at c.args.view.now).root)) (sym c.deref.ensures.value)
-    (twos-same c.args.view.now c.args.two.now c.runs_two.result c.in_ok-twos-in-Both.twos.items c.requires.two c.runs_two.ensures c.in_ok-twos-in-Both.ensures)
+    (twos-same c.args.view.now c.args.two.now c.has_level.result c.in_ok-twos-in-Both.twos.items c.requires.two c.has_level.ensures c.in_ok-twos-in-Both.ensures)
 
 pub returns-in-One : goal.returns-in-One
 returns-in-One c = attached-one c.args.view.now c.in-One.is

@@ -7,8 +7,8 @@ use Rattle.router_routes.proofs.CandidateLemmas.{ways-none}
 use Rattle.router_routes.proofs.SameLemmas.{ways-by-nodes}
 use Rattle.router_routes.proofs.kept.ways_of_nodes.Goals as goal
 
-pub returns-then-not-runs_one : goal.returns-then-not-runs_one
-returns-then-not-runs_one c = c.new-list.ensures.items ∙ ways-none c.args.view.now _ (sym c.runs_one.ensures ∙ c.if-not-runs_one.true)
+pub returns-then-not-has_level : goal.returns-then-not-has_level
+returns-then-not-has_level c = c.new-list.ensures.items ∙ ways-none c.args.view.now _ (sym c.has_level.ensures ∙ c.if-not-has_level.true)
 
 pub returns : goal.returns
 returns c =
@@ -16,4 +16,4 @@ returns c =
     let nodes = c.args.nodes.now in
     let root : c.number-root.result ≡ node_number one.graph.root = c.number-root.ensures ∙ ap node_number (c.root.ensures ∙ ap (λ (g : GraphOf). g.root) c.graph.ensures) in
     let systems = c.as_slice.ensures.value ∙ c.in_ok-systems.ensures ∙ ap (λ (d : List (ℕ × ℕ)). systems_among (cost_at d) c.number-root.result nodes) c.distances.ensures.same ∙ ap (λ (n : ℕ). systems_among (cost_at one.distances) n nodes) root in
-    ways-by-nodes c.args.view.now c.as_slice.result.now _ c.new-list.result.items c.add_defaults.new.list.items (sym c.runs_one.ensures ∙ c.if-not-runs_one.false) c.new-list.ensures.items c.in_ok-add_defaults.ensures systems
+    ways-by-nodes c.args.view.now c.as_slice.result.now _ c.new-list.result.items c.add_defaults.new.list.items (sym c.has_level.ensures ∙ c.if-not-has_level.false) c.new-list.ensures.items c.in_ok-add_defaults.ensures systems

@@ -7,12 +7,12 @@ use Rattle.router_wanted.specs.Views.{wanted_of}
 use Rattle.router_wanted.proofs.WantedLemmas.{wanted-none, wanted-some}
 use Rattle.router_wanted.proofs.building.build.Goals as goal
 
-pub returns-then-not-runs : goal.returns-then-not-runs
-returns-then-not-runs c =
+pub returns-then-not-has_level : goal.returns-then-not-has_level
+returns-then-not-has_level c =
     let r = router_of c.args.base.now c.args.circuits.now in
     let given = given_of c.args.leaks.now c.args.attached in
     ap (λ (ws : List Wanted). map wanted_of ws) c.new-list.ensures.items
-    ∙ sym (wanted-none given r r c.args.level (sym c.runs.ensures ∙ c.if-not-runs.true))
+    ∙ sym (wanted-none given r r c.args.level (sym c.has_level.ensures ∙ c.if-not-has_level.true))
 
 pub returns-in-Ok-add_pseudonodes : goal.returns-in-Ok-add_pseudonodes
 returns-in-Ok-add_pseudonodes c =
@@ -23,4 +23,4 @@ returns-in-Ok-add_pseudonodes c =
     c.in-Ok-add_pseudonodes.ensures c.args.circuits.now
     ∙ ap (λ (m : List (ℕ × Contents)). m ++ rest)
     (c.in-Ok.ensures ∙ ap (λ (ws : List Wanted). map wanted_of ws ++ system) c.new-list.ensures.items)
-    ∙ sym (wanted-some given r r c.args.level (sym c.runs.ensures ∙ c.if-not-runs.false))
+    ∙ sym (wanted-some given r r c.args.level (sym c.has_level.ensures ∙ c.if-not-has_level.false))

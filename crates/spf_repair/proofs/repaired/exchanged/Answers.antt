@@ -12,10 +12,10 @@ replaced-requires-clause-there c = λ x. subst (λ (rs : List Row). times c.args
 pub with_rows-requires-clause-ends : goal.with_rows-requires-clause-ends
 with_rows-requires-clause-ends c =
     let before = c.rows_in_order-before.result.now in
-    let differ : AreChanged before c.in-Ok.rows.items c.args.removed.now c.args.added.now =
-    changed_is before c.in-Ok.rows.items c.args.removed.now c.args.added.now c.in-Ok.ensures.times (λ x. subst (λ (rs : List Row). times c.args.removed.now x ≤ times rs x) (sym c.rows_in_order-before.ensures.same) (c.requires.there x)) in
-    ends_alike c.args.graph.now.rows c.in-Ok.rows.items c.args.removed.now c.args.added.now
-    (subst (λ (rs : List Row). AreChanged rs c.in-Ok.rows.items c.args.removed.now c.args.added.now) c.rows_in_order-before.ensures.same differ)
+    let differ : AreChanged before c.in-Ok.replaced.rows.items c.args.removed.now c.args.added.now =
+    changed_is before c.in-Ok.replaced.rows.items c.args.removed.now c.args.added.now c.in-Ok.ensures.times (λ x. subst (λ (rs : List Row). times c.args.removed.now x ≤ times rs x) (sym c.rows_in_order-before.ensures.same) (c.requires.there x)) in
+    ends_alike c.args.graph.now.rows c.in-Ok.replaced.rows.items c.args.removed.now c.args.added.now
+    (subst (λ (rs : List Row). AreChanged rs c.in-Ok.replaced.rows.items c.args.removed.now c.args.added.now) c.rows_in_order-before.ensures.same differ)
 
 pub returns-in-Ok-with_rows-clause-rows : goal.returns-in-Ok-with_rows-clause-rows
 returns-in-Ok-with_rows-clause-rows c = λ x.
@@ -24,7 +24,7 @@ returns-in-Ok-with_rows-clause-rows c = λ x.
 pub returns-in-Ok-with_rows-clause-differ : goal.returns-in-Ok-with_rows-clause-differ
 returns-in-Ok-with_rows-clause-differ c =
     let before = c.rows_in_order-before.result.now in
-    let differ : AreChanged before c.in-Ok.rows.items c.args.removed.now c.args.added.now =
-    changed_is before c.in-Ok.rows.items c.args.removed.now c.args.added.now c.in-Ok.ensures.times (λ x. subst (λ (rs : List Row). times c.args.removed.now x ≤ times rs x) (sym c.rows_in_order-before.ensures.same) (c.requires.there x)) in
+    let differ : AreChanged before c.in-Ok.replaced.rows.items c.args.removed.now c.args.added.now =
+    changed_is before c.in-Ok.replaced.rows.items c.args.removed.now c.args.added.now c.in-Ok.ensures.times (λ x. subst (λ (rs : List Row). times c.args.removed.now x ≤ times rs x) (sym c.rows_in_order-before.ensures.same) (c.requires.there x)) in
     subst (λ (rs : List Row). AreChanged c.args.graph.now.rows rs c.args.removed.now c.args.added.now) (sym c.in-Ok-with_rows.ensures.0)
-    (subst (λ (rs : List Row). AreChanged rs c.in-Ok.rows.items c.args.removed.now c.args.added.now) c.rows_in_order-before.ensures.same differ)
+    (subst (λ (rs : List Row). AreChanged rs c.in-Ok.replaced.rows.items c.args.removed.now c.args.added.now) c.rows_in_order-before.ensures.same differ)

@@ -20,5 +20,5 @@ returns-in-Ok c =
     let row = c.args.row.now in
     let labels = c.args.labels.now in
     let tight : IsTight labels row = subst (λ (n : ℕ). IsStep labels (start row) n row.metric) c.number-to.ensures (subst (λ (n : ℕ). IsStep labels n c.number-to.result row.metric) c.number-from.ensures c.if-not-is_step.ensures) in
-    pass-put c.args.root labels row c.args.word c.args.found.now.items c.add_pair.new.pairs.items ((λ e. c.if-to-root.false (c.number-to.ensures ∙ e)), tight)
-    (subst (λ (n : ℕ). IsPut c.args.found.now.items c.add_pair.new.pairs.items n c.args.word) c.number-to.ensures c.in-Ok.ensures)
+    pass-put c.args.root labels row c.args.word c.args.found.now.items c.add_end.new.found.items ((λ e. c.if-to-root.false (c.number-to.ensures ∙ e)), tight)
+    (subst (λ (n : ℕ). IsPut c.args.found.now.items c.add_end.new.found.items n c.args.word) c.number-to.ensures c.in-Ok.ensures)

@@ -6,7 +6,8 @@ use Rattle.model_router.specs.Steps.{step}
 use Rattle.router_routes.specs.Outlooks.{outlook_of}
 use Rattle.router_core.specs.Givens.{given}
 use Rattle.router_core.specs.LevelSeconds.{IsLevelSecond}
-use Rattle.router_core.specs.Seconds.{bare_later}
+use Rattle.router_core.specs.Seconds.{later, seen_then}
+use Rattle.router_core.specs.Settled.{faces}
 use Rattle.router_core.proofs.PassedLemmas.{passed-is, passed-marks, passed-moved, unmoved}
 use Rattle.router_core.proofs.StepLemmas.{second-done}
 use Rattle.router_core.proofs.machine.Machine.plan_second.Goals as goal
@@ -16,15 +17,18 @@ pub returns : goal.returns
 returns c =
     let r = c.args.self.now in
     let t = (step given r model.Second).router in
-    let list = c.in_ok-circuits.circuits.items in
+    let list = seen_then c.in_ok-copies.copies r.circuits in
     let one = c.in_ok-one.one in
     let two = c.in-Ok.two in
-    let later : list ≡ map bare_later r.circuits =
-    c.in_ok-circuits.ensures.state ∙ (ap (λ (cs : List Circuit). map bare_later cs) c.deref.ensures.value ∙ ap (λ (q : Router). map bare_later q.circuits) c.self.view_is) in
+    let own : c.deref.result.now ≡ r.circuits = c.deref.ensures.value ∙ ap (λ (q : Router). q.circuits) c.self.view_is in
+    let later : faces list ≡ faces (map later r.circuits) =
+    subst (λ (cs : List Circuit). faces (seen_then c.in_ok-copies.copies cs) ≡ faces (map later cs)) own c.in_ok-copies.ensures.later in
     let count : length list ≡ length r.circuits =
-    c.in_ok-circuits.ensures.count ∙ (ap (λ (cs : List Circuit). length cs) c.deref.ensures.value ∙ ap (λ (q : Router). length q.circuits) c.self.view_is) in
-    let first : IsLevelSecond r level.One list one = subst (λ (cs : List Circuit). IsLevelSecond r level.One cs one) c.deref-4.ensures.value c.in_ok-one.ensures in
-    let second : IsLevelSecond r level.Two list two = subst (λ (cs : List Circuit). IsLevelSecond r level.Two cs two) c.deref-5.ensures.value c.in-Ok.ensures in
+    subst (λ (cs : List Circuit). length (seen_then c.in_ok-copies.copies cs) ≡ length cs) own c.in_ok-copies.ensures.count in
+    let seen : c.seen_then-circuits.result.now ≡ list =
+    c.seen_then-circuits.ensures ∙ ap (λ (cs : List Circuit). seen_then c.in_ok-copies.copies cs) (c.deref-2.ensures.value ∙ ap (λ (q : Router). q.circuits) c.self.view_is) in
+    let first : IsLevelSecond r level.One list one = subst (λ (cs : List Circuit). IsLevelSecond r level.One cs one) seen c.in_ok-one.ensures in
+    let second : IsLevelSecond r level.Two list two = subst (λ (cs : List Circuit). IsLevelSecond r level.Two cs two) seen c.in-Ok.ensures in
     let is = passed-is r one.wants two.wants list later first.is_later second.is_later in
     let moved = passed-moved r one.wants two.wants list one.movers two.movers c.requires.reached is first.shifted second.shifted in
     record {

@@ -12,19 +12,19 @@ use Rattle.router_routes.proofs.following.Following.after.Goals as goal
 
 pub level_after-requires-clause-costs : goal.level_after-requires-clause-costs
 level_after-requires-clause-costs c =
-    before-one c.args.lent.now c.args.told.now c.as_told-view.result c.as_told-view.ensures.viewed c.args.self.now c.requires.follows c.runs_one.result c.runs_one.ensures c.self.inside.one (ap (λ (f : FollowingOf). f.levels.one) c.self.view_is)
+    before-one c.args.lent.now c.args.told.now c.as_told-view.result c.as_told-view.ensures.viewed c.args.self.now c.requires.follows c.has_level.result c.has_level.ensures c.self.inside.one (ap (λ (f : FollowingOf). f.levels.one) c.self.view_is)
 
 pub level_after-requires-2-clause-costs : goal.level_after-requires-2-clause-costs
 level_after-requires-2-clause-costs c =
-    before-two c.args.lent.now c.args.told.now c.as_told-view.result c.as_told-view.ensures.viewed c.args.self.now c.requires.follows c.runs_two.result c.runs_two.ensures c.self.inside.two (ap (λ (f : FollowingOf). f.levels.two) c.self.view_is)
+    before-two c.args.lent.now c.args.told.now c.as_told-view.result c.as_told-view.ensures.viewed c.args.self.now c.requires.follows c.has_level-2.result c.has_level-2.ensures c.self.inside.two (ap (λ (f : FollowingOf). f.levels.two) c.self.view_is)
 
 pub with_levels-requires-clause-one : goal.with_levels-requires-clause-one
 with_levels-requires-clause-one c =
-    after-one c.args.lent.now c.args.told.now c.as_told-view.result c.as_told-view.ensures.viewed c.args.self.now c.requires.follows c.runs_one.result c.runs_one.ensures c.self.inside.one (ap (λ (f : FollowingOf). f.levels.one) c.self.view_is) c.in_ok-one.one c.in_ok-one.ensures.costs
+    after-one c.args.lent.now c.args.told.now c.as_told-view.result c.as_told-view.ensures.viewed c.args.self.now c.requires.follows c.has_level.result c.has_level.ensures c.self.inside.one (ap (λ (f : FollowingOf). f.levels.one) c.self.view_is) c.in_ok-one.one c.in_ok-one.ensures.costs
 
 pub with_levels-requires-clause-two : goal.with_levels-requires-clause-two
 with_levels-requires-clause-two c =
-    after-two c.args.lent.now c.args.told.now c.as_told-view.result c.as_told-view.ensures.viewed c.args.self.now c.requires.follows c.runs_two.result c.runs_two.ensures c.self.inside.two (ap (λ (f : FollowingOf). f.levels.two) c.self.view_is) c.in-Ok.two c.in-Ok.ensures.costs
+    after-two c.args.lent.now c.args.told.now c.as_told-view.result c.as_told-view.ensures.viewed c.args.self.now c.requires.follows c.has_level-2.result c.has_level-2.ensures c.self.inside.two (ap (λ (f : FollowingOf). f.levels.two) c.self.view_is) c.in-Ok.two c.in-Ok.ensures.costs
 
 pub with_levels-requires-clause-rows_one : goal.with_levels-requires-clause-rows_one
 with_levels-requires-clause-rows_one c = subst (λ (r : RepairedOf). AreRowsMoved r c.in_ok-one.one) (ap (λ (f : FollowingOf). f.levels.one) c.self.view_is) c.in_ok-one.ensures.rows
