@@ -3,6 +3,8 @@
 memory in KiB, and the report's line `datagrams`, or `-`.
 
 usage: measure.py SCRIPT PROGRAM [WORD..]
+
+The program has to end with the code that the variable CODE names, else with 0.
 """
 import os
 import subprocess
@@ -19,8 +21,9 @@ def measure(words, script):
         child = subprocess.Popen(words, stdin=text, stdout=subprocess.PIPE, stderr=subprocess.DEVNULL)
         report = child.stdout.read()
         _, status, usage = os.wait4(child.pid, 0)
-        if status:
-            sys.exit(f"{words[-2:]} ended with {os.waitstatus_to_exitcode(status)} over {script}")
+        code = os.waitstatus_to_exitcode(status)
+        if code != int(os.environ.get("CODE", "0")):
+            sys.exit(f"{words[-2:]} ended with {code} over {script}")
         wall = time.monotonic() - start
         kibibytes = int(memory.read().split()[-1])
     sent = [line for line in report.decode().splitlines() if line.startswith("datagrams ")]
