@@ -62,7 +62,8 @@ impl LevelParts {
         ensures circuits { self.new.book.circuits ≡ self.old.book.circuits }
         ensures err { OnErr result (self.new ≡ self.old) }
     {
-        let (whose, row) = self.met(system, lsp);
+        let whose = self.whose(system, lsp.entry.id);
+        let row = self.book.would_meet(lsp, whose);
         match row {
             LspAnswer::Outbid { above } => match answer {
                 Some(draft) => self.outbid_by(lsp, above, key, draft)?,

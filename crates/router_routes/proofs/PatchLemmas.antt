@@ -39,7 +39,7 @@ use Rattle.router_routes.specs.Candidates.{reached_in, has_bit, has_defaults, de
 use Rattle.router_routes.specs.Following.{AreHopsOf, FollowingOf, IsFollowing, IsLevel}
 use Rattle.router_routes.specs.Kept.{AreBeside, AreReached, AreSame, CostBeside, HaveToldIds, stays, systems_among, told_candidates}
 use Rattle.router_routes.specs.Moved.{AreNodes, is_among}
-use Rattle.router_routes.specs.Coming.{AreLevels, AreLevelsBeside, AreRoutesAfter, HopsStay, apart_in, costs_after, hops_after, told_then}
+use Rattle.router_routes.specs.Coming.{AreLevels, AreLevelsBeside, AreRoutesAfter, HopsStay, apart_in, costs_after, hops_after, told_after}
 use Rattle.router_routes.specs.Touched.{AreApartBeside, ArePatchesFor, AreRoutesFor, AreStill, AreTouched, HaveOwn, HaveVia, IsReachedAfter, IsStill, is_by, is_for, prefix_of, prefixes_via}
 use Rattle.router_routes.proofs.GraphLemmas.{hop-by}
 use Rattle.router_routes.proofs.BucketLemmas.{below, within}
@@ -420,15 +420,15 @@ module _ (o p : Outlook) (f : FollowingOf) (is : IsFollowing o f) (nodes : List 
   before-step c there true stay = by-hops c there (not-false (is_among nodes (node_number c.origin)) stay) (is_by numbers c) refl
   before-step c there false out = inl (listed c.prefix (has.before c there out))
 
-  after-step : (c : Candidate) → Contains (told_then reached.told f.told) c → (t : Bool) → stays nodes c ≡ t → Touched c
+  after-step : (c : Candidate) → Contains (told_after reached.told f.told) c → (t : Bool) → stays nodes c ≡ t → Touched c
   after-step c there true stay = before-step c ((is.told c).1 ((still.told c stay).1 ((has.right.told c).0 there))) true stay
   after-step c there false out = inl (listed c.prefix (has.after c there out))
 
-  pub touched-by : (old new : List (Prefix × ℕ)) → IsListed prefixes 0 → HaveOwn old new prefixes → AreTouched nodes f levels old new (told_then reached.told f.told) prefixes
+  pub touched-by : (old new : List (Prefix × ℕ)) → IsListed prefixes 0 → HaveOwn old new prefixes → AreTouched nodes f levels old new (told_after reached.told f.told) prefixes
   touched-by old new all own = record { all = all; own = own; before = λ c there. before-step c there (stays nodes c) refl; after = λ c there. after-step c there (stays nodes c) refl }
 
 pub touched-are : (o p : Outlook) (f : FollowingOf) → IsFollowing o f → (nodes : List NodeId) (levels : LevelsAfter) → AreStill nodes o p → (reached : ReachedAfter) → IsReachedAfter nodes p f reached → (numbers some : List ℕ) → AreApartBeside nodes f levels numbers → some ≡ numbers → (held : List Candidate) → held ≡ f.told → (old new : List (Prefix × ℕ)) (p0 p1 p2 slice : List Prefix) → slice ≡ reached.prefixes.items
-    → IsListed p0 0 → HaveOwn old new p0 → p1 ≡ p0 ++ slice → HaveVia some held [] p1 p2 → AreTouched nodes f levels old new (told_then reached.told f.told) p2
+    → IsListed p0 0 → HaveOwn old new p0 → p1 ≡ p0 ++ slice → HaveVia some held [] p1 p2 → AreTouched nodes f levels old new (told_after reached.told f.told) p2
 touched-are o p f is nodes levels still reached has numbers some are s held h old new p0 p1 p2 slice l all own e1 via =
     let from1 : (q : Prefix) → Contains p1 q → Contains p2 q = via.more in
     let from0 : (q : Prefix) → Contains p0 q → Contains p2 q = λ q there. from1 q (subst (λ (ps : List Prefix). Contains ps q) (sym e1) (Contains-append_left p0 slice q there)) in

@@ -20,7 +20,7 @@ use Rattle.router_routes.specs.Buckets.{bucket_of}
 use Rattle.router_routes.specs.Following.{FollowingOf}
 use Rattle.router_routes.specs.Moved.{is_among}
 use Rattle.router_routes.specs.Kept.{stays, told_candidates}
-use Rattle.router_routes.specs.Coming.{AreReachedAfter, hops_after, told_then}
+use Rattle.router_routes.specs.Coming.{AreReachedAfter, hops_after, told_after}
 
 -- ---- what stays
 
@@ -87,7 +87,7 @@ HaveBy nodes candidates prefixes =
 pub record IsReachedAfter (nodes : List NodeId) (o : Outlook) (f : FollowingOf) (reached : ReachedAfter) : Type 0 where
   pub right : AreReachedAfter o f reached
   pub before : HaveBy nodes f.told reached.prefixes.items
-  pub after : HaveBy nodes (told_then reached.told f.told) reached.prefixes.items
+  pub after : HaveBy nodes (told_after reached.told f.told) reached.prefixes.items
 
 -- each of some own prefixes with its metric is among others too, or its prefix is there
 abbrev pub AreOwnIn : List (Prefix × ℕ) → List (Prefix × ℕ) → List Prefix → Type 0

@@ -1,5 +1,6 @@
 //! Candidates in buckets by their prefixes' numbers: what changes of a few prefixes is looked for in few of them (own).
-ghost use Rattle.std.specs.Prelude.{[], ◌≡◌, ◌∷◌, ◌++◌, ◌<◌, ◌%◌, length, slice_set, IfOk, OnOk};
+ghost use Rattle.std.specs.Prelude.{[], ◌≡◌, ◌∷◌, ◌++◌, ℕ, ◌<◌, ◌%◌, length, slice_set, IfOk, OnOk};
+ghost use Rattle.isis_base.specs.Prefixes.{prefix_number};
 ghost use Rattle.router_routes.specs.Buckets.{AreBuckets, AreOfBucket, all_in, bucket_at, bucket_of, with_bucket, with_buckets};
 ghost use Rattle.router_routes.specs.Kept.{AreSame};
 

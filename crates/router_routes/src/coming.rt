@@ -9,7 +9,7 @@ ghost use Rattle.router_routes.specs.Kept.{AreReached, AreSame};
 ghost use Rattle.router_routes.specs.Moved.{AreRowsMoved, or_old};
 ghost use Rattle.router_routes.specs.Outlooks.{Outlook};
 ghost use Rattle.router_routes.specs.Touched.{HaveBy, IsReachedAfter};
-ghost use Rattle.router_routes.specs.Coming.{AreOfOneRoot, ArePut, FitsIn, IsLevelAfter, IsPut, costs_after, hops_after, list_after, told_then};
+ghost use Rattle.router_routes.specs.Coming.{AreOfOneRoot, ArePut, FitsIn, IsLevelAfter, IsPut, costs_after, hops_after, list_after, told_after};
 
 use crate::bucketed::{Bucketed, put_all};
 use crate::buckets_after::BucketAfter;
@@ -121,7 +121,7 @@ fn put_level(costs: &mut Repaired, hops: &mut HopTable, new: Option<LevelAfter>)
 
 /// Puts in what levels tell.
 fn put_told(table: &mut Bucketed, told: ToldAfter)
-    ensures { AreSame (all_in table.new) (told_then told (all_in table.old)) }
+    ensures { AreSame (all_in table.new) (told_after told (all_in table.old)) }
 {
     let ToldAfter { made, buckets } = told;
     put_made(table, made);
@@ -298,7 +298,7 @@ pub(crate) fn reached_anew(
 /// Whether all that is reached stays, where a router was attached or not before.
 pub(crate) fn all_stays(reached: &ReachedAfter, attached: bool) -> bool
     ensures told { result ≡ true → (old : List declared.Candidate)
-        → told_then reached.now.told old ≡ old }
+        → told_after reached.now.told old ≡ old }
     ensures ways { result ≡ true → reached.now.defaults ≡ None }
     ensures attached { result ≡ true → reached.now.attached ≡ attached }
 {
@@ -313,7 +313,7 @@ pub(crate) fn all_stays(reached: &ReachedAfter, attached: bool) -> bool
 
 /// Whether what levels tell stays.
 fn told_stays(told: &ToldAfter) -> bool
-    ensures { result ≡ true → (old : List declared.Candidate) → told_then told.now old ≡ old }
+    ensures { result ≡ true → (old : List declared.Candidate) → told_after told.now old ≡ old }
 {
     match &told.made {
         Some(_) => false,

@@ -1,5 +1,5 @@
 //! The buckets that will be others where candidates come in the place of those by way of some nodes (own).
-ghost use Rattle.std.specs.Prelude.{[], ◌≡◌, ◌==◌, ◌++◌, ◌<◌, ℕ, not, filter, map, List, IfOk, OnOk};
+ghost use Rattle.std.specs.Prelude.{[], ◌≡◌, ◌↔◌, ◌==◌, ◌++◌, ◌<◌, ℕ, true, not, filter, map, List, IfOk, OnOk};
 ghost use Rattle.std.specs.List.{Contains};
 ghost use Rattle.std.specs.List.Sorted.{IsStrictlyIncreasing};
 ghost use Rattle.route_table.specs.declared.candidate.Candidate as declared;

@@ -9,7 +9,7 @@ ghost use Rattle.router_routes.specs.Buckets.{all_in};
 ghost use Rattle.router_routes.specs.Outlooks.{outlook_in};
 ghost use Rattle.router_routes.specs.Moved.{AreViewed, is_among, outlook_at};
 ghost use Rattle.router_routes.specs.Following.{IsFollowing};
-ghost use Rattle.router_routes.specs.Coming.{AreLevels, HopsStay, apart_in, hops_after, told_then};
+ghost use Rattle.router_routes.specs.Coming.{AreLevels, HopsStay, apart_in, hops_after, told_after};
 ghost use Rattle.router_routes.specs.Touched.{AreApartBeside, AreStill, AreTouched, HaveOwn, HaveVia, IsReachedAfter, prefixes_via};
 
 use crate::bucketed::{BUCKETS, Bucketed};
@@ -45,7 +45,7 @@ impl Following {
         requires reached { IsReachedAfter nodes.now (outlook_at view.now) self.now reached.now }
         ensures { IfOk result (λ prefixes. AreTouched nodes.now self.now levels.now
             (outlook_in lent.now).prefixes (outlook_at view.now).prefixes
-            (told_then reached.now.told self.now.told) prefixes.items) }
+            (told_after reached.now.told self.now.told) prefixes.items) }
     {
         let beside = self.apart_beside(nodes, levels)?;
         let mut prefixes = own_touched(self.alloc, lent, told, view)?;
