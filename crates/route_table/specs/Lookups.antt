@@ -63,6 +63,11 @@ pub record IsLast (routes : List Route) (many address : ℕ) (place : Option ℕ
   pub left : IsLeft routes many address place
   pub has : HasAt routes address place
 
+-- the last of the first so many routes that has the address of the one at a place among others
+abbrev pub IsLinkOf : List Route → ℕ → List Route → ℕ → Option ℕ → Type 0
+IsLinkOf routes many others place link =
+    (d : Route) → IsLast routes many (slice_index_or others place d).prefix.address link
+
 -- each of the first so many routes has a link to the last route before it that has its address
 pub record AreLinked (routes : List Route) (many : ℕ) (links : List (Option ℕ)) : Type 0 where
   pub enough : many ≤ length links

@@ -4,7 +4,7 @@ ghost use Rattle.std.specs.Prelude.{◌≡◌, ◌≤◌, ◌<◌, ◌+◌, ◌-
 ghost use Rattle.std.specs.Bool.{MatchBool};
 ghost use Rattle.route_table.specs.declared.route.Route.{Route};
 ghost use Rattle.route_table.specs.Routes.{AreRising};
-ghost use Rattle.route_table.specs.Lookups.{Encloses, Has, IsApart, IsBefore, IsLast, AreLinked, height};
+ghost use Rattle.route_table.specs.Lookups.{Encloses, Has, IsApart, IsBefore, IsLast, IsLinkOf, AreLinked, height};
 ghost use Rattle.route_table.specs.Putting.{HasOneMore};
 
 use crate::route::Route;
@@ -62,8 +62,8 @@ fn shifted(
     requires before { IsBefore held (place - 1) }
     requires inside { MatchBool inside (Encloses routes.now first place) (IsApart routes.now first place) }
     requires last { (old : List Route) × HasOneMore old routes.now first
-        × ((d : Route) → IsLast old (place - 1) (slice_index_or routes.now place d).prefix.address held) }
-    ensures { (d : Route) → IsLast routes.now place (slice_index_or routes.now place d).prefix.address result }
+        × IsLinkOf old (place - 1) routes.now place held }
+    ensures { IsLinkOf routes.now place routes.now place result }
 {
     let height = height_of(held, place - 1);
     if height > first {
@@ -107,8 +107,8 @@ fn closed(
     requires linked { AreLinked routes.now first links.now }
     requires before { IsBefore held (place + 1) }
     requires last { (old : List Route) × HasOneMore routes.now old first
-        × ((d : Route) → IsLast old (place + 1) (slice_index_or routes.now place d).prefix.address held) }
-    ensures { (d : Route) → IsLast routes.now place (slice_index_or routes.now place d).prefix.address result }
+        × IsLinkOf old (place + 1) routes.now place held }
+    ensures { IsLinkOf routes.now place routes.now place result }
 {
     let height = height_of(held, place + 1);
     if height <= first {
