@@ -7,7 +7,7 @@ ghost use Rattle.router_routes.specs.Outlooks.{outlook_of};
 ghost use Rattle.router_routes.specs.Told.{told_in};
 ghost use Rattle.forwarding.specs.Views.{view_of, view_stored};
 
-use isis_base::{Level, SystemId};
+use isis_base::Level;
 use lsp_store::Store;
 use router_core::Router;
 

@@ -8,4 +8,5 @@ pub mod StateLemmas
 pub mod GroupedLemmas
 pub mod SweepLemmas
 pub mod SightingLemmas
+pub mod SeenLemmas
 pub mod OnceLemmas

@@ -1,5 +1,5 @@
 -- What is seen of an LSP ID that isn't doubled has one contents under each number.
-use Rattle.std.proofs.Common.{◌≡◌, ℕ, ◌/◌, ◌==◌, ◌&&◌, ◌||◌, ◌⊎◌, inl, inr, ⊎_elim, Bool, true, false, List, [], ◌∷◌, Option, Some, None, if◌then◌else◌, refl, sym, ap, ap₂, ◌∙◌, subst, arith}
+use Rattle.std.proofs.Common.{◌≡◌, ℕ, ◌/◌, ◌==◌, ◌&&◌, ◌||◌, inl, inr, ⊎_elim, Bool, true, false, List, [], ◌∷◌, Option, Some, None, if◌then◌else◌, refl, sym, ap, ap₂, ◌∙◌, subst, arith}
 use Rattle.std.proofs.lemmas.Bool.Decides.{nat_tests}
 use Rattle.std.proofs.lemmas.Option.{none-some, same_Some}
 use Rattle.std.proofs.lemmas.Slice.Eq.{bytes_eq-Decides}
@@ -11,23 +11,19 @@ use Rattle.model_router.specs.Cells.{Cell}
 use Rattle.model_router.specs.LetGos.{contains, with_id}
 use Rattle.model_router.specs.Routers.{Contents, Router, book_of}
 use Rattle.model_router.specs.OwnLsps.{same_contents}
+use Rattle.lab_facts.specs.Joined.{In}
 use Rattle.lab_facts.specs.Sightings.{Sighting, sighting, is_own, own_lsps, after, sightings_of, earlier, first_of, doubled_with, doubled_of, doubled_in}
 
 -- ---- what is seen
 
--- it is among what was seen
-abbrev pub Has : Sighting → List Sighting → Type 0
-Has s [] = ⊥
-Has s (x ∷ seen) = (s ≡ x) ⊎ Has s seen
-
-pub has-before : (s : Sighting) (more seen : List Sighting) → Has s seen → Has s (after more seen)
+pub has-before : (s : Sighting) (more seen : List Sighting) → In s seen → In s (after more seen)
 has-before s [] seen h = h
 has-before s (x ∷ more) seen h = has-before s more (x ∷ seen) (inr h)
 
-pub has-more : (s : Sighting) (more seen : List Sighting) → Has s more → Has s (after more seen)
+pub has-more : (s : Sighting) (more seen : List Sighting) → In s more → In s (after more seen)
 has-more s [] seen h = absurd h
 has-more s (x ∷ more) seen h =
-    ⊎_elim (λ (e : s ≡ x). has-before s more (x ∷ seen) (inl e)) (λ (r : Has s more). has-more s more (x ∷ seen) r) h
+    ⊎_elim (λ (e : s ≡ x). has-before s more (x ∷ seen) (inl e)) (λ (r : In s more). has-more s more (x ∷ seen) r) h
 
 same-from : (a b : ℕ) → (a == b) ≡ true → a ≡ b
 same-from a b e = grind (arith, nat_tests)
@@ -35,23 +31,23 @@ same-from a b e = grind (arith, nat_tests)
 same-to : (a b : ℕ) → a ≡ b → (a == b) ≡ true
 same-to a b e = grind (arith, nat_tests)
 
-pub has-own : (system id : ℕ) (cell : Cell) (cells : List (ℕ × Cell)) → id / 65536 ≡ system → find cells id ≡ Some cell → is_live cell.rank ≡ true → Has (sighting id cell) (own_lsps system cells)
+pub has-own : (system id : ℕ) (cell : Cell) (cells : List (ℕ × Cell)) → id / 65536 ≡ system → find cells id ≡ Some cell → is_live cell.rank ≡ true → In (sighting id cell) (own_lsps system cells)
 has-own system id cell [] own at live = absurd (none-some cell at)
 has-own system id cell (p ∷ cells) own at live = by (λ h. has-own system id cell cells own h live) (p.0 == id) refl at
   where
-    rest : Has (sighting id cell) (own_lsps system cells) → Has (sighting id cell) (own_lsps system (p ∷ cells))
+    rest : In (sighting id cell) (own_lsps system cells) → In (sighting id cell) (own_lsps system (p ∷ cells))
     rest h = skip (is_own system p.0 && is_live p.1.rank) h
       where
-        skip : (t : Bool) → Has (sighting id cell) (own_lsps system cells) → Has (sighting id cell) (if t then sighting p.0 p.1 ∷ own_lsps system cells else own_lsps system cells)
+        skip : (t : Bool) → In (sighting id cell) (own_lsps system cells) → In (sighting id cell) (if t then sighting p.0 p.1 ∷ own_lsps system cells else own_lsps system cells)
         skip true h = inr h
         skip false h = h
 
-    here : p.0 ≡ id → p.1 ≡ cell → Has (sighting id cell) (own_lsps system (p ∷ cells))
-    here e f = subst (λ (t : Bool). Has (sighting id cell) (if t then sighting p.0 p.1 ∷ own_lsps system cells else own_lsps system cells))
+    here : p.0 ≡ id → p.1 ≡ cell → In (sighting id cell) (own_lsps system (p ∷ cells))
+    here e f = subst (λ (t : Bool). In (sighting id cell) (if t then sighting p.0 p.1 ∷ own_lsps system cells else own_lsps system cells))
         (sym (ap₂ (λ (s t : Bool). s && t) (ap (λ (n : ℕ). is_own system n) e ∙ same-to (id / 65536) system own) (ap (λ (c : Cell). is_live c.rank) f ∙ live)))
         (inl (sym (ap₂ sighting e f)))
 
-    by : (find cells id ≡ Some cell → Has (sighting id cell) (own_lsps system cells)) → (t : Bool) → (p.0 == id) ≡ t → (if t then Some p.1 else find cells id) ≡ Some cell → Has (sighting id cell) (own_lsps system (p ∷ cells))
+    by : (find cells id ≡ Some cell → In (sighting id cell) (own_lsps system cells)) → (t : Bool) → (p.0 == id) ≡ t → (if t then Some p.1 else find cells id) ≡ Some cell → In (sighting id cell) (own_lsps system (p ∷ cells))
     by more true e h = here (same-from p.0 id e) (same_Some p.1 cell h)
     by more false e h = rest (more h)
 
@@ -103,10 +99,10 @@ first-new (Some first) s ids id e h = by (same_contents first s.contents) refl h
     by true q h = ap Some (contents-same first s.contents q)
     by false q h = absurd (not-itself id (ap (λ (n : ℕ). n == id) (sym e) ∙ (or-none (s.id == id) (contains ids id) (sym (with-has ids s.id id) ∙ h)).0))
 
-pub first-is : (seen : List Sighting) (s : Sighting) (id : ℕ) → s.id ≡ id → contains (doubled_of seen) id ≡ false → Has s seen → first_of seen id s.number ≡ Some s.contents
+pub first-is : (seen : List Sighting) (s : Sighting) (id : ℕ) → s.id ≡ id → contains (doubled_of seen) id ≡ false → In s seen → first_of seen id s.number ≡ Some s.contents
 unfolding first_of doubled_of
 first-is [] s id e h in_seen = absurd in_seen
-first-is (x ∷ seen) s id e h in_seen = ⊎_elim here (λ (r : Has s seen). there (first-is seen s id e rest r)) in_seen
+first-is (x ∷ seen) s id e h in_seen = ⊎_elim here (λ (r : In s seen). there (first-is seen s id e rest r)) in_seen
   where
     rest : contains (doubled_of seen) id ≡ false
     rest = doubled-grows (first_of seen x.id x.number) x (doubled_of seen) id h
@@ -126,13 +122,13 @@ first-is (x ∷ seen) s id e h in_seen = ⊎_elim here (λ (r : Has s seen). the
 
 -- ---- states that were
 
-pub once-seen : (past : List Router) (level : Level) (id : ℕ) → contains (doubled_in past level) id ≡ false → (s t : Sighting) → s.id ≡ id → t.id ≡ id → s.number ≡ t.number → Has s (sightings_of past level) → Has t (sightings_of past level) → s.contents ≡ t.contents
+pub once-seen : (past : List Router) (level : Level) (id : ℕ) → contains (doubled_in past level) id ≡ false → (s t : Sighting) → s.id ≡ id → t.id ≡ id → s.number ≡ t.number → In s (sightings_of past level) → In t (sightings_of past level) → s.contents ≡ t.contents
 once-seen past level id h s t a b n x y =
     same_Some s.contents t.contents
     (sym (first-is (sightings_of past level) s id a h x) ∙ (ap (λ (m : ℕ). first_of (sightings_of past level) id m) n ∙ first-is (sightings_of past level) t id b h y))
 
-pub past-here : (past : List Router) (r : Router) (level : Level) (id : ℕ) (cell : Cell) → id / 65536 ≡ r.config.system → find (book_of r level).cells id ≡ Some cell → is_live cell.rank ≡ true → Has (sighting id cell) (sightings_of (r ∷ past) level)
+pub past-here : (past : List Router) (r : Router) (level : Level) (id : ℕ) (cell : Cell) → id / 65536 ≡ r.config.system → find (book_of r level).cells id ≡ Some cell → is_live cell.rank ≡ true → In (sighting id cell) (sightings_of (r ∷ past) level)
 past-here past r level id cell own at live = has-more (sighting id cell) (own_lsps r.config.system (book_of r level).cells) (sightings_of past level) (has-own r.config.system id cell (book_of r level).cells own at live)
 
-pub past-there : (past : List Router) (r : Router) (level : Level) (s : Sighting) → Has s (sightings_of past level) → Has s (sightings_of (r ∷ past) level)
+pub past-there : (past : List Router) (r : Router) (level : Level) (s : Sighting) → In s (sightings_of past level) → In s (sightings_of (r ∷ past) level)
 past-there past r level s h = has-before s (own_lsps r.config.system (book_of r level).cells) (sightings_of past level) h

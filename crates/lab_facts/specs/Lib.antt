@@ -1,5 +1,5 @@
 -- The definitions: joined, parents, tags, excepted, tallies, link states, grouped; which ranges were taken at one
--- moment, and whether they cover all LSP IDs; sightings, entries.
+-- moment, and whether they cover all LSP IDs; sightings, seen, entries.
 pub mod Joined
 pub mod Parents
 pub mod Tags
@@ -10,4 +10,5 @@ pub mod Grouped
 pub mod Sweeps
 pub mod Keeping
 pub mod Sightings
+pub mod Seen
 pub mod Entries

@@ -1,11 +1,13 @@
 //! What the routers of a network held live of their own LSP IDs, after each event.
-ghost use Rattle.std.specs.Prelude.{◌≡◌, [], ◌∷◌, List, OnOk, OnErr};
+ghost use Rattle.std.specs.Prelude.{◌≡◌, false, [], ◌∷◌, List, OnOk, OnErr};
 ghost use Rattle.flag_sync.specs.Walks.{numbers_of};
 ghost use Rattle.model_router.specs.Routers.{Router as ModelRouter};
 ghost use Rattle.lab_facts.specs.Sightings.{doubled_in, sightings_of, Remembers};
+ghost use Rattle.lab_facts.specs.Seen.{IsSeen, AreEnough};
 ghost use Rattle.lab_facts.specs.Entries.{Keep};
 
 use crate::history::History;
+use crate::levels_to_see::LevelsToSee;
 use isis_base::{Level, LspId, OutOfMemory};
 use note_list::NoteList;
 use router_core::Router;
@@ -52,7 +54,21 @@ impl Histories {
         ensures ok { OnOk result (self.new ≡ router.now ∷ self.old) }
         ensures err { OnErr result (self.new ≡ []) }
     {
-        match note_levels(&mut self.one, &mut self.two, router) {
+        let both = LevelsToSee {
+            one: true,
+            two: true,
+        };
+        self.note_after(router, both)
+    }
+
+    /// The same after an event of which it is known that these levels are enough: what the router holds live of its own
+    /// LSP IDs of each other level was all seen before.
+    pub fn note_after(&mut self, router: &Router, levels: LevelsToSee) -> Result<(), OutOfMemory>
+        requires { AreEnough levels self.old router.now }
+        ensures ok { OnOk result (self.new ≡ router.now ∷ self.old) }
+        ensures err { OnErr result (self.new ≡ []) }
+    {
+        match note_levels(&mut self.one, &mut self.two, router, levels) {
             Ok(()) => {}
             Err(error) => {
                 self.one = History::new(self.alloc);
@@ -77,23 +93,37 @@ impl Histories {
     }
 }
 
-/// Both levels see a router's state.
-fn note_levels(one: &mut History, two: &mut History, router: &Router) -> Result<(), OutOfMemory>
-    ensures { OnOk result ((past : List ModelRouter) → Keep one.old two.old past
-        → Keep one.new two.new (router.now ∷ past)) }
+/// Both levels see a router's state, where they are looked at.
+fn note_levels(
+    one: &mut History,
+    two: &mut History,
+    router: &Router,
+    levels: LevelsToSee,
+) -> Result<(), OutOfMemory>
+    ensures { OnOk result ((past : List ModelRouter) → AreEnough levels past router.now
+        → Keep one.old two.old past → Keep one.new two.new (router.now ∷ past)) }
 {
-    note_level(one, router, Level::One)?;
-    note_level(two, router, Level::Two)
+    note_level(one, router, Level::One, levels.one)?;
+    note_level(two, router, Level::Two, levels.two)
 }
 
-/// A level sees a router's state.
-fn note_level(history: &mut History, router: &Router, level: Level) -> Result<(), OutOfMemory>
+/// A level sees a router's state, where it is looked at.
+fn note_level(
+    history: &mut History,
+    router: &Router,
+    level: Level,
+    looked_at: bool,
+) -> Result<(), OutOfMemory>
     ensures { OnOk result ((past : List ModelRouter)
+        → (looked_at ≡ false → IsSeen past level router.now)
         → Remembers history.old (sightings_of past level)
         → Remembers history.new (sightings_of (router.now ∷ past) level)) }
 {
-    let system = router.desk().system();
-    let book = router.database(level);
-    book.flag_pages();
-    history.note(system, book)
+    if looked_at {
+        let system = router.desk().system();
+        let book = router.database(level);
+        book.flag_pages();
+        return history.note(system, book);
+    }
+    Ok(())
 }

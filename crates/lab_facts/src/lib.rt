@@ -18,7 +18,7 @@
 //!   `groups.rt`: lists of groups
 //! - `key.rt`: at which moment a range was taken; `sweeps.rt`: the ranges by these
 //! - `laws.rt`: that all LSP IDs are covered exactly where it is told so: a function without a body, whose contract is the law
-//! - `histories.rt`: what the routers of a network held, on both levels
+//! - `histories.rt`: what the routers of a network held, on both levels; `levels_to_see.rt`: which of them are looked at
 //! - `history.rt`: the history of a level; `said.rt`: contents that are kept; `look.rt`: how contents compare with the first ones
 #![tactic(auto)]
 
@@ -30,6 +30,7 @@ mod history;
 mod joined;
 mod key;
 pub mod laws;
+mod levels_to_see;
 mod look;
 mod parents;
 mod said;
@@ -41,5 +42,6 @@ pub use histories::Histories;
 pub use history::History;
 pub use joined::joined_groups;
 pub use key::SweepKey;
+pub use levels_to_see::LevelsToSee;
 pub use state::{LinkState, link_state};
 pub use sweeps::Sweeps;

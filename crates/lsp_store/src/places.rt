@@ -7,7 +7,6 @@ ghost use Rattle.lsp_store.specs.PageFacts.{first_number};
 ghost use Rattle.lsp_store.specs.Rooms.{strain, IsEnough};
 
 use crate::page::Page;
-use isis_base::LspId;
 
 /// Where the pair of this number is, or where it would go: the page and the place in it.
 pub(crate) fn search<T>(pages: &[Page<T>], n: u64) -> Result<(usize, usize), (usize, usize)>

@@ -1,3 +1,5 @@
 -- The lemmas, a module for each topic.
 pub mod FlagLemmas
 mod CountLemmas
+pub mod NodeLemmas
+mod LspsLemmas

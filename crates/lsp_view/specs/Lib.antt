@@ -1,3 +1,4 @@
--- The definitions: bodies, views.
+-- The definitions: bodies, views, LSPs as they are read.
 pub mod Bodies
 pub mod Views
+pub mod Lsps

@@ -2,11 +2,12 @@
 ghost use Rattle.std.specs.Prelude.{◌≡◌, ◌++◌, map, IfOk, OnOk};
 ghost use Rattle.isis_tlv.specs.declared.neighbour.NeighbourItem.{NeighbourItem};
 ghost use Rattle.lsp_view.specs.Bodies.{neighbours_in};
+ghost use Rattle.lsp_view.specs.Lsps.{entries_in};
 ghost use Rattle.lsp_view.specs.Views.{row_from, rows_in, rows_at, lead_of, is_overloaded, overloaded_in, overload_at};
 
 use crate::body::add_items;
 use crate::flags::has_overload;
-use crate::lead::lead;
+use crate::lsps::Lsps;
 use isis_base::{LspId, NodeId, OutOfMemory};
 use isis_tlv::NeighbourItem;
 use isis_tlv::codes::NEIGHBOURS;
@@ -15,43 +16,86 @@ use spf_tree::Row;
 use std::alloc::Global;
 
 /// A row for each neighbour that a live LSP lists whose node's number 0 is held live, in the order of LSP ID and place.
-#[tactic(auto, unfolding(crate::specs::Views::rows_in))]
 pub fn rows(alloc: Global, store: &Store) -> Result<Vec<Row>, OutOfMemory>
     ensures { IfOk result (λ rows. rows.items ≡ rows_in store.now.entries) }
 {
-    let mut rows = Vec::new(alloc);
-    let mut items = Vec::new(alloc);
-    for (id, entry) in store.live() {
-        if lead(store, id.node).is_some() {
-            match add_rows(&mut items, &mut rows, id.node, entry.octets.as_slice()) {
-                Ok(()) => {}
-                Err(error) => return Err(error),
-            }
-        }
-    }
-    Ok(rows)
+    Lsps::of(store).rows(alloc)
 }
 
-/// The rows that the live LSPs of one node list, where its number 0 is held live, in the order of LSP ID and place.
-#[tactic(auto, unfolding(crate::specs::Views::rows_at))]
-pub fn rows_at(alloc: Global, store: &Store, node: NodeId) -> Result<Vec<Row>, OutOfMemory>
-    ensures { IfOk result (λ rows. rows.items ≡ rows_at store.now.entries node) }
+/// The nodes whose live number 0 has the overload bit, in order.
+pub fn overloaded(alloc: Global, store: &Store) -> Result<Vec<NodeId>, OutOfMemory>
+    ensures { IfOk result (λ nodes. nodes.items ≡ overloaded_in store.now.entries) }
 {
-    let mut rows = Vec::new(alloc);
-    let mut items = Vec::new(alloc);
-    if lead(store, node).is_none() {
-        return Ok(rows);
-    }
-    let (first, last) = (LspId { node, number: 0 }, LspId { node, number: 255 });
-    for (id, entry) in store.range(first, last) {
-        if is_live(entry) {
-            match add_rows(&mut items, &mut rows, id.node, entry.octets.as_slice()) {
-                Ok(()) => {}
-                Err(error) => return Err(error),
+    Lsps::of(store).overloaded(alloc)
+}
+
+impl<'a> Lsps<'a> {
+    /// A row for each neighbour that a live LSP lists whose node's number 0 is live, in the order of LSP ID and place.
+    #[tactic(auto, unfolding(crate::specs::Views::rows_in))]
+    pub fn rows(&self, alloc: Global) -> Result<Vec<Row>, OutOfMemory>
+        ensures { IfOk result (λ rows. rows.items ≡ rows_in (entries_in self.now)) }
+    {
+        let mut rows = Vec::new(alloc);
+        let mut items = Vec::new(alloc);
+        for (id, entry) in self.iter() {
+            if is_live(entry) && self.lead(id.node).is_some() {
+                match add_rows(&mut items, &mut rows, id.node, entry.octets.as_slice()) {
+                    Ok(()) => {}
+                    Err(error) => return Err(error),
+                }
             }
         }
+        Ok(rows)
     }
-    Ok(rows)
+
+    /// The rows that the live LSPs of one node list, where its number 0 is live, in the order of LSP ID and place.
+    #[tactic(auto, unfolding(crate::specs::Views::rows_at))]
+    pub fn rows_at(&self, alloc: Global, node: NodeId) -> Result<Vec<Row>, OutOfMemory>
+        ensures { IfOk result (λ rows. rows.items ≡ rows_at (entries_in self.now) node) }
+    {
+        let mut rows = Vec::new(alloc);
+        let mut items = Vec::new(alloc);
+        if self.lead(node).is_none() {
+            return Ok(rows);
+        }
+        let (first, last) = (LspId { node, number: 0 }, LspId { node, number: 255 });
+        for (id, entry) in self.range(first, last) {
+            if is_live(entry) {
+                match add_rows(&mut items, &mut rows, id.node, entry.octets.as_slice()) {
+                    Ok(()) => {}
+                    Err(error) => return Err(error),
+                }
+            }
+        }
+        Ok(rows)
+    }
+
+    /// The nodes whose live number 0 has the overload bit, in order.
+    #[tactic(auto, unfolding(crate::specs::Views::overloaded_in))]
+    pub fn overloaded(&self, alloc: Global) -> Result<Vec<NodeId>, OutOfMemory>
+        ensures { IfOk result (λ nodes. nodes.items ≡ overloaded_in (entries_in self.now)) }
+    {
+        let mut nodes = Vec::new(alloc);
+        for (id, entry) in self.iter() {
+            if is_live(entry) && is_overloaded(id, entry) {
+                match nodes.push(id.node) {
+                    Ok(()) => {}
+                    Err(_) => return Err(OutOfMemory),
+                }
+            }
+        }
+        Ok(nodes)
+    }
+
+    /// Whether a node's live number 0 has the overload bit. It takes no memory.
+    pub fn is_overloaded_at(&self, node: NodeId) -> bool
+        ensures { result ≡ overload_at (lead_of (entries_in self.now) node) }
+    {
+        match self.lead(node) {
+            Some(entry) => has_overload(entry.flags),
+            None => false,
+        }
+    }
 }
 
 /// Adds the rows that the octets of a node's LSP list. The list of items is room that is used again.
@@ -92,33 +136,6 @@ fn add_items_of(
         }
     }
     Ok(())
-}
-
-/// The nodes whose live number 0 has the overload bit, in order.
-#[tactic(auto, unfolding(crate::specs::Views::overloaded_in))]
-pub fn overloaded(alloc: Global, store: &Store) -> Result<Vec<NodeId>, OutOfMemory>
-    ensures { IfOk result (λ nodes. nodes.items ≡ overloaded_in store.now.entries) }
-{
-    let mut nodes = Vec::new(alloc);
-    for (id, entry) in store.live() {
-        if is_overloaded(id, entry) {
-            match nodes.push(id.node) {
-                Ok(()) => {}
-                Err(_) => return Err(OutOfMemory),
-            }
-        }
-    }
-    Ok(nodes)
-}
-
-/// Whether a node's live number 0 has the overload bit. It takes no memory.
-pub fn is_overloaded_at(store: &Store, node: NodeId) -> bool
-    ensures { result ≡ overload_at (lead_of store.now.entries node) }
-{
-    match lead(store, node) {
-        Some(entry) => has_overload(entry.flags),
-        None => false,
-    }
 }
 
 /// Whether an LSP is a number 0 with the overload bit (ISO 10589 9.8).

@@ -5,6 +5,7 @@
 //!
 //! - `graph.rt`: who lists whom, and which nodes are overloaded; of all nodes and of one
 //! - `systems.rt`: what one system says: prefixes, area addresses, the attached bit
+//! - `lsps.rt`: what is read, a database or a node's LSPs with one as it will be; `lsp_range.rt`: the walk over it
 //! - `body.rt`: what the octets of an LSP say, by the codes of TLVs; `lead.rt`: a node's number 0;
 //!   `flags.rt`: its flags
 //! - `laws.rt`: how many rows there are at most
@@ -15,6 +16,8 @@ mod flags;
 mod graph;
 pub mod laws;
 mod lead;
+mod lsp_range;
+mod lsps;
 mod systems;
 
 /// What LSPs list, for crates that read further codes.
@@ -23,6 +26,8 @@ pub mod parts {
     pub use crate::lead::lead;
 }
 
-pub use graph::{is_overloaded_at, overloaded, rows, rows_at};
+pub use graph::{overloaded, rows};
+pub use lsp_range::LspRange;
 pub use lsp_store::is_live;
-pub use systems::{area_list, is_attached, reach, reach_into};
+pub use lsps::Lsps;
+pub use systems::{area_list, is_attached, reach};

@@ -7,8 +7,9 @@ use Rattle.model_router.specs.Books.{cell_at}
 use Rattle.model_router.specs.LetGos.{contains}
 use Rattle.model_router.specs.Places.{nth}
 use Rattle.model_router.specs.Routers.{Contents, Router, book_of}
+use Rattle.lab_facts.specs.Joined.{In}
 use Rattle.lab_facts.specs.Sightings.{sighting, sightings_of, doubled_in}
-use Rattle.lab_facts.proofs.OnceLemmas.{Has, once-seen, past-here, past-there}
+use Rattle.lab_facts.proofs.OnceLemmas.{once-seen, past-here, past-there}
 use Rattle.model_network.specs.Origins.{Body, Among, IsSingle}
 use Rattle.model_network.proofs.OriginLemmas as origin
 use Rattle.network_lab.specs.LabNets.{Seen}
@@ -16,10 +17,10 @@ use Rattle.network_lab.specs.Reached.{HasRun}
 use Rattle.network_lab.specs.Agreements.{HaveOneBody}
 
 -- what a router of the past held of its own was seen
-was-seen : (past : List Router) (owner : Router) (level : Level) (id : ℕ) (cell : Cell) → Among owner past → id / 65536 ≡ owner.config.system → cell_at (book_of owner level) id ≡ Some cell → is_live cell.rank ≡ true → Has (sighting id cell) (sightings_of past level)
+pub was-seen : (past : List Router) (owner : Router) (level : Level) (id : ℕ) (cell : Cell) → Among owner past → id / 65536 ≡ owner.config.system → cell_at (book_of owner level) id ≡ Some cell → is_live cell.rank ≡ true → In (sighting id cell) (sightings_of past level)
 was-seen [] owner level id cell was own at live = absurd was
 was-seen (r ∷ past) owner level id cell was own at live = ⊎_elim
-    (λ (e : owner ≡ r). subst (λ (x : Router). Has (sighting id cell) (sightings_of (x ∷ past) level)) e (past-here past owner level id cell own at live))
+    (λ (e : owner ≡ r). subst (λ (x : Router). In (sighting id cell) (sightings_of (x ∷ past) level)) e (past-here past owner level id cell own at live))
     (λ (w : Among owner past). past-there past r level (sighting id cell) (was-seen past owner level id cell w own at live)) was
 
 abbrev body-from : Contents → Body

@@ -20,6 +20,7 @@ pub mod ReachedLemmas
 pub mod StartLemmas
 pub mod AgreeLemmas
 pub mod BodyLemmas
+pub mod NotedLemmas
 pub mod AlongLemmas
 pub mod AckLemmas
 pub mod JoinLemmas

@@ -103,7 +103,7 @@ heard a (Some x) i link h = (x, refl)
 
 -- ---- what is seen then is a network in its run
 
-each-place : {A : Type 0} (Q : A → Type 0) (o : Option A) → ((x : A) → o ≡ Some x → Q x) → IfSome o Q
+pub each-place : {A : Type 0} (Q : A → Type 0) (o : Option A) → ((x : A) → o ≡ Some x → Q x) → IfSome o Q
 each-place Q None f = tt
 each-place Q (Some x) f = f x refl
 

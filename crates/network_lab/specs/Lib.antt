@@ -1,4 +1,4 @@
--- The definitions: lab nets, lab causes, lab configs, lab events, lab takings, hearing, agreements,
+-- The definitions: lab nets, lab causes, lab configs, lab events, lab takings, noting, hearing, agreements,
 -- claims, LAN states, link states, reached, acknowledged, lab inside, joining, lab steps, lab runs;
 -- and what is passed on.
 pub mod LabNets
@@ -6,6 +6,7 @@ pub mod LabCauses
 pub mod LabConfigs
 pub mod LabEvents
 pub mod LabTakings
+pub mod Noting
 pub mod Hearing
 pub mod Agreements
 pub mod Claims

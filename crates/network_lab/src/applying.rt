@@ -258,6 +258,8 @@ impl Network {
         ensures { IfSome (nth self.old.seen.routers router) (λ r. Taken self.old self.new
             (moved_in self.old.seen router link (event_of r event) r heard) result) }
     {
+        // where nothing was injected, live LSPs come from the routers of their systems
+        let seen = self.injected == 0;
         self.begun = true;
         let taken = take_at(
             &mut self.routers,
@@ -267,6 +269,7 @@ impl Network {
             link,
             event,
             heard,
+            seen,
         );
         self.stopped = taken.err();
         taken

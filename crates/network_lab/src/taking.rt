@@ -1,5 +1,5 @@
 //! A router of a list takes an event, and what it sends joins what was sent.
-ghost use Rattle.std.specs.Prelude.{◌≡◌, ℕ, ◌+◌, ◌-◌, ◌<◌, ◌≤◌, ◌∷◌, ◌++◌, ◌==◌, ◌&&◌, not, map, length, Some, IfSome, IfOk, IfErr, OnOk, OnErr};
+ghost use Rattle.std.specs.Prelude.{◌≡◌, ℕ, ◌+◌, ◌-◌, ◌<◌, ◌≤◌, ◌∷◌, ◌++◌, ◌==◌, ◌&&◌, not, true, map, length, Some, IfSome, IfOk, IfErr, OnOk, OnErr};
 ghost use Rattle.model_router.specs.Places.{nth, with_nth};
 ghost use Rattle.model_router.specs.Routers as model;
 ghost use Rattle.model_router.specs.Routers.{book_of};
@@ -11,8 +11,10 @@ ghost use Rattle.router_core.specs.Givens.{given};
 ghost use Rattle.router_core.specs.Replies.{Answers};
 ghost use Rattle.model_network.specs.Networks.{restarted};
 ghost use Rattle.model_network.specs.Runs.{taking, boot_of, posted, changes_of as counts_of_keys};
+ghost use Rattle.lab_facts.specs.Seen.{AreEnough};
 ghost use Rattle.network_lab.specs.LabNets.{counts_in, sent_of};
 ghost use Rattle.network_lab.specs.LabTakings.{is_taken, kept_ranges, noted_in};
+ghost use Rattle.network_lab.specs.Noting.{IsNoted, stands};
 ghost use Rattle.network_lab.specs.LabInside.{shapes_of};
 ghost use Rattle.network_lab.specs.LabSteps.{sent_by, posted_in, StopCause};
 ghost use Rattle.network_lab.specs.Reached.{AreSmall};
@@ -23,7 +25,7 @@ use crate::places::{boot_at, changes_at, put_at};
 use crate::sent::{Changes, SentDatagram};
 use isis_base::laws::octets_law;
 use isis_base::{Level, Octets, OutOfMemory};
-use lab_facts::{Histories, Sweeps};
+use lab_facts::{Histories, LevelsToSee, Sweeps};
 use lab_keys::{LabFault, LimitName};
 use model_router::laws::adjacencies::step_bonds;
 use router_core::{NodeEvent, Reply, Router};
@@ -33,7 +35,8 @@ use router_desk::laws::reading_law;
 pub(crate) const SENT_LIMIT: usize = 262144;
 
 /// A router takes an event: what it sends on the link joins what was sent, its state what is noted, and the range that it
-/// heard too, where it takes that.
+/// heard too, where it takes that. Where all that it held live of its own LSP IDs was seen before, a level of which no key
+/// changed isn't looked at.
 pub(crate) fn take_at(
     routers: &mut Vec<Router>,
     sent: &mut Vec<SentDatagram>,
@@ -42,11 +45,14 @@ pub(crate) fn take_at(
     link: Option<usize>,
     event: NodeEvent,
     heard: Option<HeardRange>,
+    seen: bool,
 ) -> Result<(), LabFault>
     requires there { router < length routers.old.items }
     requires fits { IfSome (nth routers.old.items router) (λ r. Fits r event) }
     requires few { length sent.old.items ≤ 262144 }
     requires small { AreSmall sent.old.items }
+    requires noted { seen ≡ true → IfSome (nth routers.old.items router) (λ r.
+        IsNoted notes.old.past r) }
     ensures routers { OnOk result (IfSome (nth routers.old.items router) (λ r. routers.new.items
         ≡ with_nth routers.old.items router (step given r (event_of r event)).router)) }
     ensures sent { OnOk result (IfSome (nth routers.old.items router) (λ r. sent.new.items
@@ -60,17 +66,38 @@ pub(crate) fn take_at(
     ensures few { length sent.new.items ≤ 262144 }
     ensures small { AreSmall sent.new.items }
 {
+    let before = changes_at(routers, router);
     let reply = match step_at(routers, router, event) {
         Ok(reply) => reply,
         Err(_) => return Err(LabFault::OutOfMemory),
     };
-    match note(notes, routers, router, &reply, heard) {
+    let changes = changes_at(routers, router);
+    let levels = levels_to_see(seen, before, changes);
+    match note(notes, routers, router, &reply, heard, levels) {
         Ok(()) => {}
         Err(_) => return Err(LabFault::OutOfMemory),
     }
     let boot = boot_at(routers, router);
-    let changes = changes_at(routers, router);
     send(sent, router, boot, changes, link, reply)
+}
+
+/// The levels whose own LSPs are looked at after an event: those whose counts of changes don't stand, and both where not
+/// all was seen before.
+fn levels_to_see(seen: bool, before: Changes, now: Changes) -> LevelsToSee
+    ensures one { result.one ≡ not (seen && stands before.one now.one) }
+    ensures two { result.two ≡ not (seen && stands before.two now.two) }
+{
+    LevelsToSee {
+        one: !(seen & stands(before.one, now.one)),
+        two: !(seen & stands(before.two, now.two)),
+    }
+}
+
+/// Whether a count of changes stands where it did, short of its type's last value.
+fn stands(before: u64, now: u64) -> bool
+    ensures { result ≡ stands before now }
+{
+    before == now && now < u64::MAX
 }
 
 /// A router's state after an event is noted, and the range that it heard, where it takes that.
@@ -80,12 +107,14 @@ fn note(
     router: usize,
     reply: &Reply,
     heard: Option<HeardRange>,
+    levels: LevelsToSee,
 ) -> Result<(), OutOfMemory>
+    requires { IfSome (nth routers.now router) (λ r. AreEnough levels notes.old.past r) }
     ensures { OnOk result ((r : model.Router) (place : ℕ) (m : events.Reply)
         → Answers r place m reply.now → nth routers.now router ≡ Some r
         → notes.new ≡ noted_in heard (record { router = r; reply = m }) notes.old) }
 {
-    match note_state(&mut notes.past, routers, router) {
+    match note_state(&mut notes.past, routers, router, levels) {
         Ok(()) => keep(&mut notes.takings, routers, router, reply, heard),
         Err(error) => Err(error),
     }
@@ -96,12 +125,14 @@ fn note_state(
     histories: &mut Histories,
     routers: &[Router],
     router: usize,
+    levels: LevelsToSee,
 ) -> Result<(), OutOfMemory>
+    requires { IfSome (nth routers.now router) (λ r. AreEnough levels histories.old r) }
     ensures { OnOk result ((r : model.Router) → nth routers.now router ≡ Some r
         → histories.new ≡ r ∷ histories.old) }
 {
     match routers.get(router) {
-        Some(router) => histories.note(router),
+        Some(router) => histories.note_after(router, levels),
         None => Ok(()),
     }
 }

@@ -2,7 +2,6 @@
 use Rattle.std.proofs.Common.{◌≡◌, ◌∙◌, ℕ, ◌+◌, ◌*◌, ◌/◌, ◌%◌, ◌<◌, ◌==◌, ◌&&◌, nat_lt, Bool, true, false, not, List, [], ◌∷◌, length, Option, Some, None, is_some, refl, sym, ap, subst, arith, if◌then◌else◌, inl, inr, eqb, option_map}
 use Rattle.std.specs.List.{AllByRecursion}
 use Rattle.std.proofs.lemmas.Bool.{and_parts, eq-eqb, eqb-true}
-use Rattle.std.proofs.lemmas.Bool.Decides.{nat_tests}
 use Rattle.isis_base.specs.declared.entry.LspEntry.{LspEntry}
 use Rattle.isis_base.specs.declared.identifiers.LspId.{LspId}
 use Rattle.isis_base.specs.declared.identifiers.NodeId.{NodeId}
@@ -45,7 +44,8 @@ use Rattle.router_core.specs.Asides.{AreNamed, IsAnswered, IsHeldAside, IsCovere
 use Rattle.router_core.specs.Givens.{given}
 use Rattle.router_core.specs.Plans.{IsAbove}
 use Rattle.router_core.proofs.CalmLemmas.{take-face}
-use Rattle.router_core.proofs.MovedLemmas.{not-live, split}
+use Rattle.lsp_view.proofs.NodeLemmas.{put-found, split}
+use Rattle.router_core.proofs.MovedLemmas.{not-live}
 use Rattle.router_core.proofs.OutbidLemmas.{heard-number}
 use Rattle.router_core.proofs.RouteLemmas.{live-is}
 
@@ -270,10 +270,6 @@ calm-aside r l nodes s xs scene system place h aside is d =
     }
 
 -- ---- an entry that is apart
-
-pub put-found : (xs : Entries) (id : LspId) (e : Entry) (n : ℕ) → maps.find (maps.put xs id e) n ≡ (if lsp_number id == n then Some e else maps.find xs n)
-put-found [] id e n = refl
-put-found (x ∷ xs) id e n = grind (arith, nat_tests, put-found xs id e n)
 
 -- one cell is put, and what is aside tells of it
 pub record Put (r : Router) (l : Level) (s t : LevelState) (id : LspId) (e : Entry) : Type 0 where

@@ -1,16 +1,13 @@
 -- What a node tells once an LSP of it met a row, and that nothing else changes of what routes look at.
 use Rattle.std.specs.Prelude.{IfSome}
-use Rattle.std.proofs.Common.{◌≡◌, ◌∙◌, ℕ, ◌+◌, ◌%◌, ◌<◌, ◌≤◌, ◌⊎◌, ◌==◌, ◌&&◌, nat_le, nat_lt, Bool, true, false, List, [], ◌∷◌, ◌++◌, length, MatchOption, Option, Some, None, refl, sym, ap, subst, arith, if◌then◌else◌, inl, inr, append-nil}
+use Rattle.std.proofs.Common.{◌≡◌, ◌∙◌, ℕ, ◌==◌, ◌&&◌, nat_lt, Bool, true, false, List, [], ◌∷◌, length, MatchOption, Option, Some, None, refl, sym, ap, subst, arith, if◌then◌else◌}
 use Rattle.std.specs.Prelude.{◌||◌}
 use Rattle.std.specs.Option.{option_map}
 use Rattle.std.specs.List.{AllByRecursion}
-use Rattle.std.specs.Int.{from_be_bytes, w64}
-use Rattle.std.proofs.lemmas.Bool.{cases_eq, cases_lt, eq-eqb, ne_eqb, eqb-true}
 use Rattle.std.proofs.lemmas.Bool.Decides.{nat_tests}
 use Rattle.isis_base.specs.declared.identifiers.NodeId.{NodeId}
 use Rattle.isis_base.specs.declared.identifiers.LspId.{LspId}
 use Rattle.isis_base.specs.Identifiers.{IsId, lsp_number}
-use Rattle.isis_base.proofs.ArrayLemmas.{lsp_number-one}
 use Rattle.isis_base.specs.Keys.{rank}
 use Rattle.model_router.specs.Ranks.{is_live, is_purge, number_of as rank_number, purge_rank}
 use Rattle.isis_base.specs.declared.level.Level.{Level}
@@ -35,9 +32,7 @@ use Rattle.model_router.specs.Numbers.{system_id}
 use Rattle.lsp_store.specs.declared.entry.Entry.{Entry}
 use Rattle.lsp_store.specs.Databases as store
 use Rattle.lsp_store.specs.Databases.{Database}
-use Rattle.lsp_store.specs.Maps.{RisesFrom, pair_number, put, between}
-use Rattle.lsp_store.specs.Places.{AllBelow, AllAbove}
-use Rattle.lsp_store.proofs.MapLemmas.{rises-less, rises-above, put-below, put-above, put-rises}
+use Rattle.lsp_store.specs.Maps.{RisesFrom, pair_number, put}
 use Rattle.flag_sync.specs.declared.flag_row.FlagRow.{FlagRow}
 use Rattle.flag_sync.specs.FlagRows.{cell_of}
 use Rattle.flag_sync.specs.declared.heard.LspHeard as heard
@@ -45,14 +40,15 @@ use Rattle.flag_sync.specs.Heard.{heard_of, answer_of}
 use Rattle.flag_sync.specs.BookStates as sync
 use Rattle.flag_sync.specs.BookStates.{BookState, cells_of}
 use Rattle.router_sending.proofs.DraftLemmas.{id-again}
-use Rattle.lsp_view.specs.Views.{number_of, own_node}
+use Rattle.lsp_view.specs.Views.{own_node}
 use Rattle.spf_tree.specs.Nodes.{node_number}
-use Rattle.router_routes.specs.Told.{told, told_pair, told_in, told_by}
+use Rattle.router_routes.specs.Told.{told, told_in, told_by}
 use Rattle.router_routes.specs.Following.{FollowingOf, IsFollowing}
 use Rattle.router_routes.specs.declared.coming.Coming.{Coming}
 use Rattle.router_routes.specs.Coming.{FitsIn, IsComing, IsPut as IsNextPut}
 use Rattle.router_routes.specs.Outlooks.{Outlook, outlook_of, prefixes_by, where_run}
-use Rattle.router_routes.specs.Moved.{told_at, told_beside, beside, IsMovedAt}
+use Rattle.router_routes.specs.Moved.{told_put, beside, IsPutAt}
+use Rattle.router_routes.proofs.PutLemmas.{told-put}
 use Rattle.router_core.proofs.RouteLemmas.{live-is, told-cells, SameConfig, config-same, take-config}
 use Rattle.router_core.specs.Givens.{given}
 use Rattle.router_core.specs.Plans.{IsTeller, is_moving}
@@ -63,11 +59,6 @@ Entries = List (LspId × Entry)
 
 abbrev pub is_at : NodeId → LspId × Entry → Bool
 is_at node pair = node_number pair.0.node == node_number node
-
--- ---- an entry behind all others
-
-pub put-behind : (id : LspId) (v : Entry) (xs : Entries) → AllBelow (lsp_number id) xs → put xs id v ≡ xs ++ (id, v) ∷ []
-put-behind id v xs below = ap (λ l. put l id v) (sym (append-nil xs)) ∙ put-below id v xs [] below
 
 -- ---- what is told of a cell and of an entry
 
@@ -101,178 +92,6 @@ put-told id cell e (x ∷ xs) [] is tells long ids = absurd (omega (arith, long)
 put-told id cell e (x ∷ xs) (r ∷ rs) is tells long ids =
     let short : length rs ≡ length xs = omega (arith, long) in
     put-told-step id cell e is tells x xs rs r short ids.0 ids.1 (put-told id cell e xs rs is tells short ids.1) (pair_number x == lsp_number id) (nat_lt (lsp_number id) (pair_number x)) refl refl
-
--- ---- what others tell stays
-
-module _ (node : NodeId) where
-  skip : (x : LspId × Entry) (xs : Entries) → is_at node x ≡ true → told_beside node (told_in (x ∷ xs)) ≡ told_beside node (told_in xs)
-  skip x xs here = by-test (store.is_live x.1) refl
-    where
-      by-test : (t : Bool) → store.is_live x.1 ≡ t → told_beside node (told_in (x ∷ xs)) ≡ told_beside node (told_in xs)
-      by-test true h = rw (h, here) refl
-      by-test false h = rw h refl
-
-  keep : (x : LspId × Entry) (xs ys : Entries) → told_beside node (told_in xs) ≡ told_beside node (told_in ys) → told_beside node (told_in (x ∷ xs)) ≡ told_beside node (told_in (x ∷ ys))
-  keep x xs ys rest = by-tests (store.is_live x.1) (is_at node x) refl refl
-    where
-      by-tests : (t u : Bool) → store.is_live x.1 ≡ t → is_at node x ≡ u → told_beside node (told_in (x ∷ xs)) ≡ told_beside node (told_in (x ∷ ys))
-      by-tests true true h k = rw (h, k) rest
-      by-tests true false h k = rw (h, k) (ap (λ (l : Entries). told_pair x ∷ l) rest)
-      by-tests false u h k = rw h rest
-
-module _ (id : LspId) (e : Entry) (is : IsId id) (x : LspId × Entry) (xs : Entries) (other : IsId x.0) (rest : told_beside id.node (told_in (put xs id e)) ≡ told_beside id.node (told_in xs)) where
-  beside-step : (a b : Bool) → (pair_number x == lsp_number id) ≡ a → nat_lt (lsp_number id) (pair_number x) ≡ b → told_beside id.node (told_in (put (x ∷ xs) id e)) ≡ told_beside id.node (told_in (x ∷ xs))
-  beside-step true b p q =
-      let own : is_at id.node (id, e) ≡ true = eq-eqb (node_number id.node) (node_number id.node) refl in
-      let one : x.0 ≡ id = lsp_number-one x.0 id other is (eqb-true (pair_number x) (lsp_number id) p) in
-      let here : is_at id.node x ≡ true = eq-eqb (node_number x.0.node) (node_number id.node) (ap (λ (i : LspId). node_number i.node) one) in
-      rw p (skip id.node (id, e) xs own ∙ sym (skip id.node x xs here))
-  beside-step false true p q = rw (p, q) (skip id.node (id, e) (x ∷ xs) (eq-eqb (node_number id.node) (node_number id.node) refl))
-  beside-step false false p q = rw (p, q) (keep id.node x (put xs id e) xs rest)
-
-pub beside-put : (id : LspId) (e : Entry) (xs : Entries) → IsId id → AllByRecursion (λ (p : LspId × Entry). IsId p.0) xs → told_beside id.node (told_in (put xs id e)) ≡ told_beside id.node (told_in xs)
-beside-put id e [] is ids = skip id.node (id, e) [] (eq-eqb (node_number id.node) (node_number id.node) refl)
-beside-put id e (x ∷ xs) is ids = beside-step id e is x xs ids.0 (beside-put id e xs is ids.1) (pair_number x == lsp_number id) (nat_lt (lsp_number id) (pair_number x)) refl refl
-
--- ---- a node's LSPs stand together
-
-number-split : (xs : List ℕ) (p k : ℕ) → length xs ≡ 6 → p < 256 → k < 256 → from_be_bytes w64 ((xs ++ p ∷ []) ++ k ∷ []) ≡ from_be_bytes w64 ((xs ++ p ∷ []) ++ 0 ∷ []) + k
-number-split (a ∷ b ∷ c ∷ d ∷ e ∷ f ∷ []) p k six small_p small_k = omega arith
-number-split [] p k six small_p small_k = absurd (omega (arith, six))
-number-split (a ∷ []) p k six small_p small_k = absurd (omega (arith, six))
-number-split (a ∷ b ∷ []) p k six small_p small_k = absurd (omega (arith, six))
-number-split (a ∷ b ∷ c ∷ []) p k six small_p small_k = absurd (omega (arith, six))
-number-split (a ∷ b ∷ c ∷ d ∷ []) p k six small_p small_k = absurd (omega (arith, six))
-number-split (a ∷ b ∷ c ∷ d ∷ e ∷ []) p k six small_p small_k = absurd (omega (arith, six))
-number-split (a ∷ b ∷ c ∷ d ∷ e ∷ f ∷ g ∷ xs) p k six small_p small_k = absurd (omega (arith, six))
-
-base-whole : (xs : List ℕ) (p : ℕ) → length xs ≡ 6 → p < 256 → from_be_bytes w64 ((xs ++ p ∷ []) ++ 0 ∷ []) % 256 ≡ 0
-base-whole (a ∷ b ∷ c ∷ d ∷ e ∷ f ∷ []) p six small_p = omega arith
-base-whole [] p six small_p = absurd (omega (arith, six))
-base-whole (a ∷ []) p six small_p = absurd (omega (arith, six))
-base-whole (a ∷ b ∷ []) p six small_p = absurd (omega (arith, six))
-base-whole (a ∷ b ∷ c ∷ []) p six small_p = absurd (omega (arith, six))
-base-whole (a ∷ b ∷ c ∷ d ∷ []) p six small_p = absurd (omega (arith, six))
-base-whole (a ∷ b ∷ c ∷ d ∷ e ∷ []) p six small_p = absurd (omega (arith, six))
-base-whole (a ∷ b ∷ c ∷ d ∷ e ∷ f ∷ g ∷ xs) p six small_p = absurd (omega (arith, six))
-
-last-small : (xs : List ℕ) (p k : ℕ) → length xs ≡ 6 → AllByRecursion (λ octet. octet < 256) ((xs ++ p ∷ []) ++ k ∷ []) → (p < 256) × (k < 256)
-last-small (a ∷ b ∷ c ∷ d ∷ e ∷ f ∷ []) p k six all = (all.1.1.1.1.1.1.0, all.1.1.1.1.1.1.1.0)
-last-small [] p k six all = absurd (omega (arith, six))
-last-small (a ∷ []) p k six all = absurd (omega (arith, six))
-last-small (a ∷ b ∷ []) p k six all = absurd (omega (arith, six))
-last-small (a ∷ b ∷ c ∷ []) p k six all = absurd (omega (arith, six))
-last-small (a ∷ b ∷ c ∷ d ∷ []) p k six all = absurd (omega (arith, six))
-last-small (a ∷ b ∷ c ∷ d ∷ e ∷ []) p k six all = absurd (omega (arith, six))
-last-small (a ∷ b ∷ c ∷ d ∷ e ∷ f ∷ g ∷ xs) p k six all = absurd (omega (arith, six))
-
--- an LSP ID's number is its node's and its own
-pub record IsSplit (id : LspId) : Type 0 where
-  pub number : lsp_number id ≡ node_number id.node + id.number
-  pub last : number_of id.node 255 ≡ node_number id.node + 255
-  pub whole : node_number id.node % 256 ≡ 0
-  pub small : id.number < 256
-
-pub split : (id : LspId) → IsId id → IsSplit id
-unfolding lsp_number node_number
-split id is =
-    let small = last-small id.node.system.0 id.node.pseudonode id.number is.six is.small in
-    record {
-      number = number-split id.node.system.0 id.node.pseudonode id.number is.six small.0 small.1;
-      last = number-split id.node.system.0 id.node.pseudonode 255 is.six small.0 (omega arith);
-      whole = base-whole id.node.system.0 id.node.pseudonode is.six small.0;
-      small = small.1;
-    }
-
-pub first-is : (node : NodeId) → number_of node 0 ≡ node_number node
-unfolding node_number
-first-is node = refl
-
-pub within : (a b k : ℕ) → a % 256 ≡ 0 → b % 256 ≡ 0 → k < 256 → (nat_le a (b + k) && nat_le (b + k) (a + 255)) ≡ (b == a)
-within a b k whole_a whole_b small =
-    elim (cases_eq b a) [
-      | inl same ↦ rw (eq-eqb b a same) (let e : b ≡ a = same in grind (arith, nat_tests, small, e))
-      | inr other ↦ rw (ne_eqb b a other) (far (apart other))
-    ]
-  where
-    apart : (b ≡ a → ⊥) → (b + k < a) ⊎ (a + 255 < b + k)
-    apart other =
-        elim (cases_lt b a) [
-          | inl down ↦ inl (omega (arith, whole_a, whole_b, small, other, down))
-          | inr up ↦ inr (omega (arith, whole_a, whole_b, small, other, up))
-        ]
-
-    far : (b + k < a) ⊎ (a + 255 < b + k) → (nat_le a (b + k) && nat_le (b + k) (a + 255)) ≡ false
-    far (inl less) = grind (arith, nat_tests, less)
-    far (inr more) = grind (arith, nat_tests, more)
-
--- the LSPs of an LSP ID's node are those between its first and last
-in-node : (id : LspId) (x : LspId × Entry) → IsId id → IsId x.0 → (nat_le (number_of id.node 0) (pair_number x) && nat_le (pair_number x) (number_of id.node 255)) ≡ is_at id.node x
-in-node id x is other =
-    let a = split id is in
-    let b = split x.0 other in
-    rw (first-is id.node, b.number, a.last) (within (node_number id.node) (node_number x.0.node) x.0.number a.whole b.whole b.small)
-
-module _ (id : LspId) (is : IsId id) (x : LspId × Entry) (xs : Entries) (other : IsId x.0) (rest : told_at id.node (told_in xs) ≡ told_in (between (number_of id.node 0) (number_of id.node 255) xs)) where
-  at-step : (t u : Bool) → store.is_live x.1 ≡ t → is_at id.node x ≡ u → told_at id.node (told_in (x ∷ xs)) ≡ told_in (between (number_of id.node 0) (number_of id.node 255) (x ∷ xs))
-  at-step true true h k = let w = in-node id x is other ∙ k in rw (h, k, w, h) (ap (λ (l : Entries). told_pair x ∷ l) rest)
-  at-step true false h k = let w = in-node id x is other ∙ k in rw (h, k, w) rest
-  at-step false true h k = let w = in-node id x is other ∙ k in rw (h, w, h) rest
-  at-step false false h k = let w = in-node id x is other ∙ k in rw (h, w) rest
-
-at-between : (id : LspId) (xs : Entries) → IsId id → AllByRecursion (λ (p : LspId × Entry). IsId p.0) xs → told_at id.node (told_in xs) ≡ told_in (between (number_of id.node 0) (number_of id.node 255) xs)
-at-between id [] is ids = refl
-at-between id (x ∷ xs) is ids = at-step id is x xs ids.0 (at-between id xs is ids.1) (store.is_live x.1) (is_at id.node x) refl refl
-
-rises-if : (least : ℕ) (x : LspId × Entry) (xs : Entries) (t : Bool) → least ≤ pair_number x → RisesFrom (pair_number x + 1) xs → RisesFrom least (if t then x ∷ xs else xs)
-rises-if least x xs true low rest = (low, rest)
-rises-if least x xs false low rest = rises-less (pair_number x + 1) least xs (omega (arith, low)) rest
-
-pub between-rises : (f l least : ℕ) (xs : Entries) → RisesFrom least xs → RisesFrom least (between f l xs)
-between-rises f l least [] rises = tt
-between-rises f l least (x ∷ xs) rises = rises-if least x (between f l xs) (nat_le f (pair_number x) && nat_le (pair_number x) l) rises.0 (between-rises f l (pair_number x + 1) xs rises.1)
-
-module _ (f l : ℕ) (id : LspId) (e : Entry) (own : (nat_le f (lsp_number id) && nat_le (lsp_number id) l) ≡ true) (x : LspId × Entry) (xs : Entries) (rises : RisesFrom (pair_number x + 1) xs) (rest : between f l (put xs id e) ≡ put (between f l xs) id e) where
-  behind-step : (t : Bool) → (nat_le f (pair_number x) && nat_le (pair_number x) l) ≡ t → (pair_number x == lsp_number id) ≡ false → nat_lt (lsp_number id) (pair_number x) ≡ false → between f l (put (x ∷ xs) id e) ≡ put (between f l (x ∷ xs)) id e
-  behind-step true h p q = rw (p, q, h, p, q) (ap (λ (l : Entries). x ∷ l) rest)
-  behind-step false h p q = rw (p, q, h) rest
-
-  between-step : (a b : Bool) → (pair_number x == lsp_number id) ≡ a → nat_lt (lsp_number id) (pair_number x) ≡ b → between f l (put (x ∷ xs) id e) ≡ put (between f l (x ∷ xs)) id e
-  between-step true b p q =
-      let same : pair_number x ≡ lsp_number id = eqb-true (pair_number x) (lsp_number id) p in
-      let here : (nat_le f (pair_number x) && nat_le (pair_number x) l) ≡ true = ap (λ (n : ℕ). nat_le f n && nat_le n l) same ∙ own in
-      rw (p, own, here, p) refl
-  between-step false true p q =
-      let less : lsp_number id < pair_number x = grind (arith, nat_tests, q) in
-      let above : AllAbove (lsp_number id) (between f l (x ∷ xs)) = rises-above (lsp_number id) (pair_number x) (between f l (x ∷ xs)) less (between-rises f l (pair_number x) (x ∷ xs) (omega arith, rises)) in
-      rw (p, q, own) (sym (put-above id e [] (between f l (x ∷ xs)) above))
-  between-step false false p q = behind-step (nat_le f (pair_number x) && nat_le (pair_number x) l) refl p q
-
-pub between-put : (f l : ℕ) (id : LspId) (e : Entry) (least : ℕ) (xs : Entries) → (nat_le f (lsp_number id) && nat_le (lsp_number id) l) ≡ true → RisesFrom least xs → between f l (put xs id e) ≡ put (between f l xs) id e
-between-put f l id e least [] own rises = rw own refl
-between-put f l id e least (x ∷ xs) own rises = between-step f l id e own x xs rises.1 (between-put f l id e (pair_number x + 1) xs own rises.1) (pair_number x == lsp_number id) (nat_lt (lsp_number id) (pair_number x)) refl refl
-
-pub here-put : (id : LspId) (e : Entry) (xs : Entries) → IsId id → AllByRecursion (λ (p : LspId × Entry). IsId p.0) (put xs id e) → RisesFrom 0 xs → told_at id.node (told_in (put xs id e)) ≡ told_in (put (between (number_of id.node 0) (number_of id.node 255) xs) id e)
-here-put id e xs is ids rises =
-    at-between id (put xs id e) is ids
-    ∙ ap told_in (between-put (number_of id.node 0) (number_of id.node 255) id e 0 xs (in-node id (id, e) is is ∙ eq-eqb (node_number id.node) (node_number id.node) refl) rises)
-
-put-id-if : (id : LspId) (e : Entry) (x : LspId × Entry) (xs ys : Entries) (a b : Bool) → IsId id → IsId x.0 → AllByRecursion (λ (p : LspId × Entry). IsId p.0) xs → AllByRecursion (λ (p : LspId × Entry). IsId p.0) ys → AllByRecursion (λ (p : LspId × Entry). IsId p.0) (if a then (id, e) ∷ xs else (if b then (id, e) ∷ x ∷ xs else x ∷ ys))
-put-id-if id e x xs ys true b is own ids rest = (is, ids)
-put-id-if id e x xs ys false true is own ids rest = (is, (own, ids))
-put-id-if id e x xs ys false false is own ids rest = (own, rest)
-
-pub put-ids : (id : LspId) (e : Entry) (xs : Entries) → IsId id → AllByRecursion (λ (p : LspId × Entry). IsId p.0) xs → AllByRecursion (λ (p : LspId × Entry). IsId p.0) (put xs id e)
-put-ids id e [] is ids = (is, tt)
-put-ids id e (x ∷ xs) is ids = put-id-if id e x xs (put xs id e) (pair_number x == lsp_number id) (nat_lt (lsp_number id) (pair_number x)) is ids.0 ids.1 (put-ids id e xs is ids.1)
-
-pub told-rises : (least : ℕ) (xs : Entries) → RisesFrom least xs → RisesFrom least (told_in xs)
-told-rises least [] rises = tt
-told-rises least (x ∷ xs) rises = by-test (store.is_live x.1) refl (told-rises (pair_number x + 1) xs rises.1)
-  where
-    by-test : (t : Bool) → store.is_live x.1 ≡ t → RisesFrom (pair_number x + 1) (told_in xs) → RisesFrom least (told_in (x ∷ xs))
-    by-test true h rest = rw h (rises.0, rest)
-    by-test false h rest = let low = rises.0 in rw h (rises-less (pair_number x + 1) least (told_in xs) (omega (arith, low)) rest)
 
 -- ---- through a step
 
@@ -322,10 +141,10 @@ step-put given r place l from h c cell there kept apart row =
 
 -- ---- what routes look at
 
-pub moved-at : (r t : Router) → SameConfig r t → (l : Level) → at r.config.runs l ≡ true → (node : NodeId) (here : Entries) → told_by (book_of t (beside l)).cells ≡ told_by (book_of r (beside l)).cells → told_beside node (told_by (book_of t l).cells) ≡ told_beside node (told_by (book_of r l).cells) → told_at node (told_by (book_of t l).cells) ≡ here → RisesFrom 0 (told_by (book_of t l).cells)
-    → IsMovedAt (outlook_of r) (outlook_of t) l node here
+put-at : (r t : Router) → SameConfig r t → (l : Level) → at r.config.runs l ≡ true → (id : LspId) (e : Entry) → told_by (book_of t (beside l)).cells ≡ told_by (book_of r (beside l)).cells → told_by (book_of t l).cells ≡ told_put (told_by (book_of r l).cells) id e
+    → IsPutAt (outlook_of r) (outlook_of t) l id e
 unfolding outlook_of
-moved-at r t same level.One runs node here other others at_node rises =
+put-at r t same level.One runs id e other here =
     let still : t.config.runs.one ≡ true = ap (λ (b : Both Bool). b.one) same.runs ∙ runs in
     record {
       root = ap (λ (n : ℕ). own_node (system_id n)) same.system;
@@ -334,11 +153,9 @@ moved-at r t same level.One runs node here other others at_node rises =
       prefixes = ap prefixes_by same.prefixes;
       run = runs;
       other = ap (λ (b : Both Bool). where_run b.two (told_by (book_of t level.Two).cells)) same.runs ∙ ap (where_run r.config.runs.two) other;
-      others = rw (still, runs) others;
-      here = rw still at_node;
-      rises = rw still rises;
+      here = rw (still, runs) here;
     }
-moved-at r t same level.Two runs node here other others at_node rises =
+put-at r t same level.Two runs id e other here =
     let still : t.config.runs.two ≡ true = ap (λ (b : Both Bool). b.two) same.runs ∙ runs in
     record {
       root = ap (λ (n : ℕ). own_node (system_id n)) same.system;
@@ -347,30 +164,23 @@ moved-at r t same level.Two runs node here other others at_node rises =
       prefixes = ap prefixes_by same.prefixes;
       run = runs;
       other = ap (λ (b : Both Bool). where_run b.one (told_by (book_of t level.One).cells)) same.runs ∙ ap (where_run r.config.runs.one) other;
-      others = rw (still, runs) others;
-      here = rw still at_node;
-      rises = rw still rises;
+      here = rw (still, runs) here;
     }
 
 -- an entry takes the place of what is held of an LSP ID
 module _ (r t : Router) (l : Level) (runs : at r.config.runs l ≡ true) (id : LspId) (e : Entry) (w : IsWith r t l id e) (v : BookState) (of_book : sync.book_of v ≡ book_of r l) (long : length v.rows ≡ length v.store.entries)
     (is : IsId id) (ids : AllByRecursion (λ (p : LspId × Entry). IsId p.0) v.store.entries) (rises : RisesFrom 0 v.store.entries) where
-  pub put-moves : IsMovedAt (outlook_of r) (outlook_of t) l id.node (told_in (put (between (number_of id.node 0) (number_of id.node 255) v.store.entries) id e))
-  put-moves =
+  pub put-tells : IsPutAt (outlook_of r) (outlook_of t) l id e
+  put-tells =
       let entries = v.store.entries in
       let b = book_of r l in
       let cells : b.cells ≡ cells_of entries v.rows = ap (λ (x : Book). x.cells) (sym of_book) in
       let later : told_by (book_of t l).cells ≡ told_in (put entries id e) =
       ap told_by w.cells ∙ ap (λ (m : List (ℕ × Cell)). told_by (model.put m (lsp_number id) w.cell)) cells ∙ put-told id w.cell e entries v.rows is w.tells long ids in
       let before : told_by b.cells ≡ told_in entries = ap told_by cells ∙ told-cells entries v.rows long ids in
-      moved-at r t (config-same r t w.config) l runs id.node (told_in (put (between (number_of id.node 0) (number_of id.node 255) entries) id e))
+      put-at r t (config-same r t w.config) l runs id e
       (ap (λ (x : Book). told_by x.cells) w.other)
-      (ap (told_beside id.node) later ∙ beside-put id e entries is ids ∙ sym (ap (told_beside id.node) before))
-      (ap (told_at id.node) later ∙ here-put id e entries is (put-ids id e entries is ids) rises)
-      (subst (RisesFrom 0) (sym later) (told-rises 0 (put entries id e) (put-rises entries 0 id e (omega arith) rises)))
-
-  pub put-moves-in : (db : Database) → db ≡ v.store → IsMovedAt (outlook_of r) (outlook_of t) l id.node (told_in (put (between (number_of id.node 0) (number_of id.node 255) db.entries) id e))
-  put-moves-in db at = subst (λ (d : Database). IsMovedAt (outlook_of r) (outlook_of t) l id.node (told_in (put (between (number_of id.node 0) (number_of id.node 255) d.entries) id e))) (sym at) put-moves
+      (later ∙ told-put id e 0 entries rises ∙ ap (λ (es : Entries). told_put es id e) (sym before))
 
 -- ---- the cell of a row, and what tells what it does
 

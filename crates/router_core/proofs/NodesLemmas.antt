@@ -16,7 +16,7 @@ use Rattle.lsp_store.specs.declared.entry.Entry.{Entry}
 use Rattle.lsp_store.specs.Databases as store
 use Rattle.lsp_store.specs.Maps as maps
 use Rattle.lsp_store.specs.Maps.{pair_number}
-use Rattle.lsp_store.proofs.MapLemmas.{find-above, rises-above, rises-less}
+use Rattle.lsp_store.proofs.MapLemmas.{find-above, rises-above}
 use Rattle.lsp_view.specs.Views.{number_of}
 use Rattle.flag_sync.specs.BookStates as sync
 use Rattle.flag_sync.specs.BookStates.{BookState, cells_of}
@@ -41,7 +41,7 @@ use Rattle.router_core.specs.Asides.{AreNamed, AreSeven, IsHeldAside, IsCovered,
 use Rattle.router_core.specs.Givens.{given}
 use Rattle.router_core.specs.Plans.{AreMovedIn}
 use Rattle.router_core.proofs.AsideLemmas.{Entries, apart-same, named-cells, seen-cells}
-use Rattle.router_core.proofs.MovedLemmas.{first-is, split, within}
+use Rattle.lsp_view.proofs.NodeLemmas.{between-rises, find-between, first-is, put-found, split, within}
 use Rattle.router_core.proofs.WantedLemmas.{opens}
 use Rattle.router_core.proofs.RouteLemmas.{Said, live-by, live-find, live-rises, said-of, told-live, told-said}
 
@@ -108,10 +108,6 @@ abbrev pub or_else : Option Entry → Option Entry → Option Entry
 or_else None o = o
 or_else (Some e) o = Some e
 
-put-found : (xs : Entries) (id : LspId) (e : Entry) (n : ℕ) → maps.find (maps.put xs id e) n ≡ (if lsp_number id == n then Some e else maps.find xs n)
-put-found [] id e n = refl
-put-found (x ∷ xs) id e n = grind (arith, nat_tests, put-found xs id e n)
-
 find-all : (xs : Entries) (least : ℕ) (ys : Entries) (n : ℕ) → maps.RisesFrom least ys → maps.find (put_all xs ys) n ≡ or_else (maps.find ys n) (maps.find xs n)
 find-all xs least [] n rises = refl
 find-all xs least (y ∷ ys) n rises =
@@ -123,35 +119,6 @@ find-all xs least (y ∷ ys) n rises =
         let none : maps.find ys n ≡ None = find-above n [] ys (rises-above n (pair_number y + 1) ys (omega (arith, at)) rises.1) in
         ap (λ (o : Option Entry). or_else o (Some y.1)) none
     by false is = refl
-
-find-between : (f l : ℕ) (xs : Entries) (n : ℕ) → maps.find (maps.between f l xs) n ≡ (if nat_le f n && nat_le n l then maps.find xs n else None)
-find-between f l [] n = by (nat_le f n && nat_le n l)
-  where
-    by : (t : Bool) → ◌≡◌ {A = Option Entry} None (if t then None else None)
-    by true = refl
-    by false = refl
-find-between f l (x ∷ xs) n = by (nat_le f (pair_number x) && nat_le (pair_number x) l) refl (pair_number x == n) refl (nat_le f n && nat_le n l) refl (find-between f l xs n)
-  where
-    test-at : (pair_number x == n) ≡ true → (nat_le f (pair_number x) && nat_le (pair_number x) l) ≡ (nat_le f n && nat_le n l)
-    test-at is = ap (λ (k : ℕ). nat_le f k && nat_le k l) (eqb-true (pair_number x) n is)
-
-    by : (t : Bool) → (nat_le f (pair_number x) && nat_le (pair_number x) l) ≡ t → (a : Bool) → (pair_number x == n) ≡ a → (u : Bool) → (nat_le f n && nat_le n l) ≡ u
-        → maps.find (maps.between f l xs) n ≡ (if nat_le f n && nat_le n l then maps.find xs n else None)
-        → maps.find (if t then x ∷ maps.between f l xs else maps.between f l xs) n ≡ (if u then (if a then Some x.1 else maps.find xs n) else None)
-    by true p true q true s rest = ap (λ (b : Bool). if b then Some x.1 else maps.find (maps.between f l xs) n) q
-    by true p true q false s rest = clash (sym p ∙ test-at q ∙ s)
-    by true p false q u s rest = ap (λ (b : Bool). if b then Some x.1 else maps.find (maps.between f l xs) n) q ∙ rest ∙ ap (λ (b : Bool). if b then maps.find xs n else None) s
-    by false p true q true s rest = clash (sym s ∙ sym (test-at q) ∙ p)
-    by false p true q false s rest = rest ∙ ap (λ (b : Bool). if b then maps.find xs n else None) s
-    by false p false q u s rest = rest ∙ ap (λ (b : Bool). if b then maps.find xs n else None) s
-
-between-rises : (f l least : ℕ) (xs : Entries) → maps.RisesFrom least xs → maps.RisesFrom least (maps.between f l xs)
-between-rises f l least [] rises = tt
-between-rises f l least (x ∷ xs) rises = by (nat_le f (pair_number x) && nat_le (pair_number x) l) (between-rises f l (pair_number x + 1) xs rises.1)
-  where
-    by : (t : Bool) → maps.RisesFrom (pair_number x + 1) (maps.between f l xs) → maps.RisesFrom least (if t then x ∷ maps.between f l xs else maps.between f l xs)
-    by true rest = (rises.0, rest)
-    by false rest = let low = rises.0 in rises-less (pair_number x + 1) least (maps.between f l xs) (omega (arith, low)) rest
 
 turned : (a b : ℕ) → (a == b) ≡ (b == a)
 turned a b =

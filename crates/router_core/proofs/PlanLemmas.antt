@@ -133,7 +133,7 @@ module _ (r : Router) (circuit : ℕ) (l : Level) (from : model.Envelope) (sourc
 
 pub told-ordered : (old new : Outlook) (t : Told) → AreTold old new t → AreInOrder t
 told-ordered old new told.Nothing is = tt
-told-ordered old new (told.Node m) is = tt
+told-ordered old new (told.Entry m) is = tt
 told-ordered old new (told.Levels one two) is = (is.rise_one, is.rise_two)
 told-ordered old new (told.Prefixes own) is = tt
 

@@ -20,7 +20,8 @@ use Rattle.router_routes.specs.Moved.{NodesRise, is_among}
 use Rattle.router_core.specs.Asides.{IsShown, node_of, put_all, seen, seen_in, with_node}
 use Rattle.router_core.specs.Calm.{is_ending}
 use Rattle.router_core.specs.Renewals.{IsSightAside, Sight, ended, ended_one, sight_of, with_sight}
-use Rattle.router_core.proofs.AsideLemmas.{Entries, cell-seen, node-is, none-shown, put-found}
+use Rattle.lsp_view.proofs.NodeLemmas.{put-found}
+use Rattle.router_core.proofs.AsideLemmas.{Entries, cell-seen, node-is, none-shown}
 use Rattle.router_core.proofs.NodesLemmas.{among-new, node-of-id, or-none, or_else, parts-found, with-among, with-rises}
 
 clash : {A : Type 0} → true ≡ false → A

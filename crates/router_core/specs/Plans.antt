@@ -36,9 +36,8 @@ use Rattle.router_desk.specs.Causes.{name_of}
 use Rattle.router_desk.specs.declared.heard.HelloHeard.{HelloHeard}
 use Rattle.router_desk.specs.Heard.{hello_heard}
 use Rattle.router_desk.specs.Opening.{envelope_of}
-use Rattle.router_routes.specs.Moved.{AreMovedTo, IsMovedAt, NodesRise, beside}
+use Rattle.router_routes.specs.Moved.{AreMovedTo, IsPutAt, NodesRise, beside}
 use Rattle.router_routes.specs.Outlooks.{Outlook, outlook_of, prefixes_by}
-use Rattle.router_routes.specs.Told.{told_in}
 use Rattle.router_core.specs.declared.plan.Deed.{Deed}
 use Rattle.router_core.specs.declared.plan.Deed.TheVariants as deed
 use Rattle.router_core.specs.declared.plan.Plan.{Plan}
@@ -196,18 +195,18 @@ pub record AreMovedIn (old new : Outlook) (level : Level) (nodes : List NodeId)
   pub each : NodesRise 0 nodes
   pub moved : AreMovedTo nodes told (at old.told level) (at new.told level)
 
--- nothing changes; or one node of one level, or some of both levels tell these LSPs, or own prefixes are these, and all else
--- stays (own)
+-- nothing changes; or an LSP ID of one level tells this entry, or some nodes of both levels tell these LSPs, or own prefixes
+-- are these, and all else stays (own)
 abbrev pub AreTold : Outlook → Outlook → Told → Type 0
 AreTold old new told.Nothing = new ≡ old
-AreTold old new (told.Node m) = IsMovedAt old new m.level m.node (told_in m.aside.entries)
+AreTold old new (told.Entry m) = IsPutAt old new m.level m.id m.entry
 AreTold old new (told.Levels one two) = AreMovedOn old new one two
 AreTold old new (told.Prefixes own) = new ≡ record old { prefixes = prefixes_by own }
 
 -- nodes that are told stand in order, each once (own)
 abbrev pub AreInOrder : Told → Type 0
 AreInOrder told.Nothing = Unit {0}
-AreInOrder (told.Node m) = Unit {0}
+AreInOrder (told.Entry m) = Unit {0}
 AreInOrder (told.Levels one two) = AreRising one × AreRising two
 AreInOrder (told.Prefixes own) = Unit {0}
 

@@ -1,9 +1,7 @@
-//! The LSPs of one node as a database of its own (own).
-ghost use Rattle.std.specs.Prelude.{◌≡◌, ◌++◌, ◌∷◌, [], None, IfOk, OnOk};
-ghost use Rattle.isis_base.specs.Identifiers.{lsp_number};
+//! The LSPs of some nodes as a database of their own (own).
+ghost use Rattle.std.specs.Prelude.{◌≡◌, None, IfOk, OnOk};
 ghost use Rattle.isis_base.specs.Keys.{entry_rank, rank};
 ghost use Rattle.lsp_store.specs.Maps.{between, put};
-ghost use Rattle.lsp_store.specs.Places.{AllBelow};
 ghost use Rattle.lsp_view.specs.Views.{number_of};
 ghost use Rattle.router_core.specs.Asides.{put_all};
 ghost use Rattle.router_core.specs.Plans.{IsTeller};
@@ -12,47 +10,6 @@ use flag_sync::{LspAnswer, LspHeard};
 use isis_base::{LspId, NodeId, Octets, OutOfMemory};
 use lsp_store::{Entry, Store, TryCopy};
 use std::alloc::Global;
-
-/// The LSPs of an LSP ID's node, with this entry in the place of what is held of the LSP ID.
-pub(crate) fn node_with(
-    alloc: Global,
-    store: &Store,
-    id: LspId,
-    entry: Entry,
-) -> Result<Store, OutOfMemory>
-    ensures { IfOk result (λ aside. aside.entries
-        ≡ put (between (number_of id.node 0) (number_of id.node 255) store.now.entries) id entry) }
-{
-    let mut aside = part_of(alloc, store, id)?;
-    put_in(&mut aside, id, entry)?;
-    Ok(aside)
-}
-
-/// The LSPs that are held of an LSP ID's node.
-fn part_of(alloc: Global, store: &Store, id: LspId) -> Result<Store, OutOfMemory>
-    ensures { IfOk result (λ part. part.entries
-        ≡ between (number_of id.node 0) (number_of id.node 255) store.now.entries) }
-{
-    let _entries = store.len();
-    let node = id.node;
-    let (first, last) = (LspId { node, number: 0 }, LspId { node, number: 255 });
-    let mut part = Store::new(alloc);
-    for (id, entry) in store.range(first, last) {
-        match add(&mut part, id, entry) {
-            Ok(()) => {}
-            Err(error) => return Err(error),
-        }
-    }
-    Ok(part)
-}
-
-/// Adds an entry behind those that are there.
-fn add(part: &mut Store, id: LspId, entry: &Entry) -> Result<(), OutOfMemory>
-    requires { AllBelow (lsp_number id) part.old.entries }
-    ensures { OnOk result (part.new.entries ≡ part.old.entries ++ (id, entry.now) ∷ []) }
-{
-    put_copy(part, id, entry)
-}
 
 /// The LSPs that are held of a node are put in.
 pub(crate) fn put_part(part: &mut Store, store: &Store, node: NodeId) -> Result<(), OutOfMemory>

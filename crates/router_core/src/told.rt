@@ -13,22 +13,22 @@ ghost use Rattle.router_core.specs.Plans.{AreInOrder, AreMovedIn, AreTold};
 ghost use Rattle.router_core.specs.Puts.{IsWith};
 ghost use Rattle.router_core.specs.Shifts.{AreRising, IsMovedOn};
 
-use crate::aside::node_with;
 use crate::machine::Machine;
 use crate::movers::Movers;
 use crate::prefixes::OwnPrefixes;
 use crate::routes::has_rows;
 use isis_base::laws::lsp_id_law;
-use isis_base::{Level, LspId, NodeId, OutOfMemory};
-use lsp_store::{Entry, Store};
+use isis_base::{Level, LspId, OutOfMemory};
+use lsp_store::Entry;
+use lsp_view::Lsps;
 use router_routes::{Coming, Following, Moved};
 
-/// What an event changes of what routes look at: nothing, what one node tells in a level, what some of both levels do, or one's
-/// own prefixes.
+/// What an event changes of what routes look at: nothing, what one LSP ID tells in a level, what some nodes of both levels do, or
+/// one's own prefixes.
 #[derive(Drop)]
 pub(crate) enum Told {
     Nothing,
-    Node(Moving),
+    Entry(Moving),
     Levels {
         one: Option<Movers>,
         two: Option<Movers>,
@@ -36,12 +36,12 @@ pub(crate) enum Told {
     Prefixes(OwnPrefixes),
 }
 
-/// A node that will tell other LSPs in a level: these, and no others.
+/// An entry that takes the place of what is held of an LSP ID in a level.
 #[derive(Drop)]
 pub(crate) struct Moving {
     pub(crate) level: Level,
-    pub(crate) node: NodeId,
-    pub(crate) aside: Store,
+    pub(crate) id: LspId,
+    pub(crate) entry: Entry,
 }
 
 impl Machine {
@@ -67,12 +67,7 @@ impl Machine {
         let store = book.store();
         let _entries = store.len();
         lsp_id_law(id);
-        let aside = node_with(self.alloc, store, id, entry)?;
-        Ok(Told::Node(Moving {
-            level,
-            node: id.node,
-            aside,
-        }))
+        Ok(Told::Entry(Moving { level, id, entry }))
     }
 
     /// What will follow the router once it tells this; `None` where that is what follows it now.
@@ -88,9 +83,9 @@ impl Machine {
     {
         match told {
             Told::Nothing => Ok(None),
-            Told::Node(moving) => {
+            Told::Entry(moving) => {
                 let lent = self.lent()?;
-                following.ahead(&lent, moving.level, moving.node, &moving.aside)
+                following.ahead(&lent, moving.level, moving.id, &moving.entry)
             }
             Told::Levels { one, two } => {
                 let lent = self.lent()?;
@@ -157,7 +152,7 @@ fn moved_by(movers: &Option<Movers>) -> Option<Moved<'_>>
         None => None,
         Some(movers) => Some(Moved {
             nodes: movers.nodes.as_slice(),
-            aside: &movers.aside,
+            aside: Lsps::of(&movers.aside),
         }),
     }
 }

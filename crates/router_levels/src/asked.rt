@@ -33,8 +33,19 @@ impl LevelParts {
         ensures { result ≡ answer_of (met (state_of self.now).book (whose_of (system_number system)
             (state_of self.now) (lsp_number lsp.now.entry.id)) (heard_of lsp.now)) lsp.now }
     {
+        self.met(system, lsp).1
+    }
+
+    /// Whose an LSP is that is heard by this system, and which row of the table it meets.
+    pub(crate) fn met(&self, system: SystemId, lsp: &LspHeard<'_>) -> (Whose, LspAnswer)
+        ensures whose { result.0
+            ≡ whose_of (system_number system) (state_of self.now) (lsp_number lsp.now.entry.id) }
+        ensures row { result.1
+            ≡ answer_of (met (state_of self.now).book (whose_of (system_number system)
+            (state_of self.now) (lsp_number lsp.now.entry.id)) (heard_of lsp.now)) lsp.now }
+    {
         let whose = self.whose(system, lsp.entry.id);
-        self.book.would_meet(lsp, whose)
+        (whose, self.book.would_meet(lsp, whose))
     }
 
     /// Whether an LSP would make one entry more than 65,536.

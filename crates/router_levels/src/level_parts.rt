@@ -8,7 +8,6 @@ use flag_sync::Book;
 use isis_base::numbers::ENTRY_LIMIT;
 use isis_base::{CircuitKind, OutOfMemory};
 use lsp_fragments::OwnLsps;
-use lsp_store::StoreFault;
 use purge_ageing::LetGo;
 use std::alloc::Global;
 use std::marker::Model;

@@ -22,7 +22,7 @@ ghost use Rattle.router_levels.specs.Drafts.{IsUnder, IsAnswer, scene_with};
 
 use crate::level_parts::LevelParts;
 use flag_sync::{LspAnswer, LspHeard, Whose};
-use isis_base::{LspId, Order3, OutOfMemory, SystemId, newer};
+use isis_base::{Order3, OutOfMemory, SystemId, newer};
 use router_sending::Draft;
 
 impl LevelParts {
@@ -62,8 +62,7 @@ impl LevelParts {
         ensures circuits { self.new.book.circuits ≡ self.old.book.circuits }
         ensures err { OnErr result (self.new ≡ self.old) }
     {
-        let whose = self.whose(system, lsp.entry.id);
-        let row = self.book.would_meet(lsp, whose);
+        let (whose, row) = self.met(system, lsp);
         match row {
             LspAnswer::Outbid { above } => match answer {
                 Some(draft) => self.outbid_by(lsp, above, key, draft)?,

@@ -24,6 +24,7 @@ use Rattle.router_routes.specs.Outlooks.{Outlook, where_run, outlook_in}
 use Rattle.router_routes.specs.Following.{FollowingOf, IsFollowing, IsLevel}
 use Rattle.router_routes.specs.Kept.{AreAmong}
 use Rattle.router_routes.specs.Moved.{AreCosts, AreMoved, AreMovedTo, AreViewed, IsMovedAt, IsMovedBy, is_among, is_beside, nodes_in, nodes_of, or_old, outlook_at, told_at, told_beside, told_of}
+use Rattle.lsp_view.specs.Lsps.{entries_in}
 use Rattle.router_routes.proofs.MovedLemmas.{by-same}
 
 abbrev Pair : Type 0
@@ -125,10 +126,10 @@ match-none : {X : Type 0} (p : Option X) (A : Type 0) (B : X → Type 0) → p �
 match-none None A B is a = a
 match-none (Some x) A B is a = absurd (let e : Some x ≡ None = is in cc)
 
-pub told-one : (o p : Outlook) (l : Level) (node : NodeId) (list : List Pair) (told : Told) (m : Moved) → l ≡ level.One → IsMovedAt o p l node list → told.one ≡ Some m → told.two ≡ None → told.prefixes ≡ None → m.nodes.now ≡ node ∷ [] → told_in m.aside.now.entries ≡ list → AreMoved o p told
+pub told-one : (o p : Outlook) (l : Level) (node : NodeId) (list : List Pair) (told : Told) (m : Moved) → l ≡ level.One → IsMovedAt o p l node list → told.one ≡ Some m → told.two ≡ None → told.prefixes ≡ None → m.nodes.now ≡ node ∷ [] → told_in (entries_in m.aside) ≡ list → AreMoved o p told
 told-one o p l node list told m at is a b d nodes aside =
     let here = subst (λ (k : Level). IsMovedAt o p k node list) at is in
-    let moved : IsMovedBy (Some m) o.runs.one o.told.one p.told.one = (here.run, subst (λ (ns : List NodeId). AreMovedTo ns (told_in m.aside.now.entries) o.told.one p.told.one) (sym nodes) (moved-alone node (told_in m.aside.now.entries) o.told.one p.told.one here.others (here.here ∙ sym aside) here.rises)) in
+    let moved : IsMovedBy (Some m) o.runs.one o.told.one p.told.one = (here.run, subst (λ (ns : List NodeId). AreMovedTo ns (told_in (entries_in m.aside)) o.told.one p.told.one) (sym nodes) (moved-alone node (told_in (entries_in m.aside)) o.told.one p.told.one here.others (here.here ∙ sym aside) here.rises)) in
     record {
       root = here.root;
       areas = here.areas;
@@ -138,10 +139,10 @@ told-one o p l node list told m at is a b d nodes aside =
       two = subst (λ (q : Option Moved). IsMovedBy q o.runs.two o.told.two p.told.two) (sym b) here.other;
     }
 
-pub told-two : (o p : Outlook) (l : Level) (node : NodeId) (list : List Pair) (told : Told) (m : Moved) → l ≡ level.Two → IsMovedAt o p l node list → told.one ≡ None → told.two ≡ Some m → told.prefixes ≡ None → m.nodes.now ≡ node ∷ [] → told_in m.aside.now.entries ≡ list → AreMoved o p told
+pub told-two : (o p : Outlook) (l : Level) (node : NodeId) (list : List Pair) (told : Told) (m : Moved) → l ≡ level.Two → IsMovedAt o p l node list → told.one ≡ None → told.two ≡ Some m → told.prefixes ≡ None → m.nodes.now ≡ node ∷ [] → told_in (entries_in m.aside) ≡ list → AreMoved o p told
 told-two o p l node list told m at is a b d nodes aside =
     let here = subst (λ (k : Level). IsMovedAt o p k node list) at is in
-    let moved : IsMovedBy (Some m) o.runs.two o.told.two p.told.two = (here.run, subst (λ (ns : List NodeId). AreMovedTo ns (told_in m.aside.now.entries) o.told.two p.told.two) (sym nodes) (moved-alone node (told_in m.aside.now.entries) o.told.two p.told.two here.others (here.here ∙ sym aside) here.rises)) in
+    let moved : IsMovedBy (Some m) o.runs.two o.told.two p.told.two = (here.run, subst (λ (ns : List NodeId). AreMovedTo ns (told_in (entries_in m.aside)) o.told.two p.told.two) (sym nodes) (moved-alone node (told_in (entries_in m.aside)) o.told.two p.told.two here.others (here.here ∙ sym aside) here.rises)) in
     record {
       root = here.root;
       areas = here.areas;

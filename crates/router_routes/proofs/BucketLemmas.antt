@@ -4,7 +4,6 @@ use Rattle.std.specs.List.{Contains}
 use Rattle.std.proofs.lemmas.Bool.{cases_eq, cases_lt, eq-eqb, ne_eqb}
 use Rattle.std.proofs.lemmas.List.{get_or_default, get_or_past, get_or-set_same, get_or-set_other, length-set, take_all}
 use Rattle.std.proofs.Math.Seq.{take-length}
-use Rattle.std.proofs.lemmas.List.Concat.{flat_map-append}
 use Rattle.std.proofs.lemmas.List.Elements.{Contains-get_or, Contains-append_left, Contains-append_right, Contains-append_cases, Contains-push_cases}
 use Rattle.isis_base.specs.Prefixes.{prefix_number}
 use Rattle.spf_tree.proofs.SearchLemmas.{contains_first, contains_rest, contains_cases, contains_none}
@@ -57,7 +56,7 @@ first-there left d some = Contains-get_or left 0 d (omega (arith, some))
 
 -- ---- a table
 
-in-bucket : (t : Table) (place : ℕ) (c : Candidate) → place < length t → Contains (bucket_at t place) c → Contains (all_in t) c
+pub in-bucket : (t : Table) (place : ℕ) (c : Candidate) → place < length t → Contains (bucket_at t place) c → Contains (all_in t) c
 in-bucket t place c lt there = in-flat (λ (b : List Candidate). b) t (bucket_at t place) c (Contains-get_or t place [] lt) there
 
 own-bucket : (t : Table) → AreBuckets t → (c : Candidate) → Contains (all_in t) c → Contains (bucket_at t (bucket_of c)) c
@@ -68,7 +67,7 @@ own-bucket t are c there =
     let here : Contains (bucket_at t k.0) c = subst (λ (l : List Candidate). Contains l c) (sym at) o.2 in
     subst (λ (n : ℕ). Contains (bucket_at t n) c) (sym (are.each k.0 c here)) here
 
-less : (t : Table) (place : ℕ) → AreBuckets t → place < 251 → place < length t
+pub less : (t : Table) (place : ℕ) → AreBuckets t → place < 251 → place < length t
 less t place are lt = let e = are.all in omega (arith, e, lt)
 
 pub in-own : (t : Table) → AreBuckets t → (c : Candidate) → Contains (all_in t) c ↔ Contains (bucket_at t (bucket_of c)) c

@@ -4,7 +4,6 @@ use Rattle.std.specs.Prelude.{IfSome, MatchOption}
 use Rattle.std.specs.List.{Contains}
 use Rattle.isis_base.specs.declared.identifiers.NodeId.{NodeId}
 use Rattle.isis_base.specs.declared.level.Level.{Level}
-use Rattle.isis_base.specs.declared.prefix.Prefix.{Prefix}
 use Rattle.isis_base.specs.declared.level.Level.TheVariants as level
 use Rattle.spf_tree.specs.declared.row.Row.{Row}
 use Rattle.spf_tree.specs.Distances.{cost_at}
@@ -26,15 +25,14 @@ use Rattle.router_routes.specs.Counts.{Counts}
 use Rattle.router_routes.specs.Following.{AreHopsOf, FollowingOf, IsFollowing, IsLevel}
 use Rattle.router_routes.specs.Kept.{AreSame, AreReached, AreAmong, AreBeside, CostBeside, told_candidates}
 use Rattle.router_routes.specs.Moved.{AreNodes, or_old}
-use Rattle.router_routes.specs.Coming.{AreLevels, AreLevelsBeside, AreLevelsOf, AreOfOneRoot, AreRoutesAfter, CostsStay, FitsIn, HaveNumbers, HopsStay, IsComing, IsLevelAfter, costs_after, hops_after, list_after, moved_in, told_after, AreReachedAfter}
-use Rattle.router_routes.specs.Touched.{HaveBy, IsReachedAfter}
+use Rattle.router_routes.specs.Coming.{AreLevels, AreLevelsBeside, AreLevelsOf, AreOfOneRoot, AreRoutesAfter, CostsStay, FitsIn, HaveNumbers, HopsStay, IsComing, IsLevelAfter, costs_after, hops_after, list_after, moved_in, told_then, AreReachedAfter}
 use Rattle.router_routes.proofs.BesideLemmas.{same-both}
 use Rattle.router_routes.proofs.SameLemmas.{beside-more, cost-apart, cost-refl}
 
 hops-of : (a b : RepairedOf) (s t : List (ℕ × ℕ)) → a ≡ b → s ≡ t → AreHopsOf b t → AreHopsOf a s
 hops-of a b s t e g are = subst (λ (r : RepairedOf). AreHopsOf r s) (sym e) (subst (λ (l : List (ℕ × ℕ)). AreHopsOf b l) (sym g) are)
 
-pub coming-is : (o : Outlook) (f : FollowingOf) (c : Coming) → AreLevels o f (record { one = c.one; two = c.two }) → AreReached o (told_after c.told f.told) (list_after c.defaults f.defaults) c.attached → AreRoutesAfter o f.routes c.routes → IsComing o f c
+pub coming-is : (o : Outlook) (f : FollowingOf) (c : Coming) → AreLevels o f (record { one = c.one; two = c.two }) → AreReached o (told_then c.told f.told) (list_after c.defaults f.defaults) c.attached → AreRoutesAfter o f.routes c.routes → IsComing o f c
 coming-is o f c are reached routes =
     record {
       fits = routes.fits;
@@ -45,7 +43,7 @@ coming-is o f c are reached routes =
         hops_two = hops-of g.levels.two (costs_after c.two f.levels.two) g.hops.two (hops_after c.two f.hops.two) put.two put.hops_two are.hops_two.right;
         routes = routes.right g.routes put.routes;
         attached = put.attached ∙ reached.attached;
-        told = same-both g.told (told_after c.told f.told) (told_candidates o) put.told reached.told;
+        told = same-both g.told (told_then c.told f.told) (told_candidates o) put.told reached.told;
         defaults = subst (λ (l : List Candidate). AreSame l (defaults o.told.one o.root)) (sym put.defaults) reached.ways;
       };
       count_one = are.hops_one.counts;
@@ -53,7 +51,7 @@ coming-is o f c are reached routes =
     }
 
 -- all that is reached stays
-pub all-stays : (o : Outlook) (f : FollowingOf) (reached : ReachedAfter) → ((old : List Candidate) → told_after reached.told old ≡ old) → reached.defaults ≡ None → reached.attached ≡ f.attached → AreReachedAfter o f reached → AreReached o f.told f.defaults f.attached
+pub all-stays : (o : Outlook) (f : FollowingOf) (reached : ReachedAfter) → ((old : List Candidate) → told_then reached.told old ≡ old) → reached.defaults ≡ None → reached.attached ≡ f.attached → AreReachedAfter o f reached → AreReached o f.told f.defaults f.attached
 all-stays o f reached stays barred same are =
     record {
       told = subst (λ (l : List Candidate). AreSame l (told_candidates o)) (stays f.told) are.told;
@@ -62,7 +60,7 @@ all-stays o f reached stays barred same are =
     }
 
 -- the same, as it is read
-pub reached-seen : (o : Outlook) (f : FollowingOf) (reached : ReachedAfter) (told ways : List Candidate) (bit : Bool) → told ≡ told_after reached.told f.told → ways ≡ list_after reached.defaults f.defaults → bit ≡ reached.attached → AreReachedAfter o f reached → AreReached o told ways bit
+pub reached-seen : (o : Outlook) (f : FollowingOf) (reached : ReachedAfter) (told ways : List Candidate) (bit : Bool) → told ≡ told_then reached.told f.told → ways ≡ list_after reached.defaults f.defaults → bit ≡ reached.attached → AreReachedAfter o f reached → AreReached o told ways bit
 reached-seen o f reached told ways bit e g h are =
     record {
       told = subst (λ (l : List Candidate). AreSame l (told_candidates o)) (sym e) are.told;
@@ -199,17 +197,3 @@ costs-apart old new d e slice numbers was is same apart =
 -- the same of numbers put in order
 pub costs-ordered : (old new d e : List (ℕ × ℕ)) (slice unsorted numbers : List ℕ) → d ≡ old → e ≡ new → slice ≡ numbers → ((n : ℕ) → Contains unsorted n → Contains numbers n) → ((node : ℕ) → (Contains unsorted node → ⊥) → cost_at d node ≡ cost_at e node) → CostsStay slice old new
 costs-ordered old new d e slice unsorted numbers was is same all apart = costs-apart old new d e slice numbers was is same (λ node out. apart node (λ there. out (all node there)))
-
--- all that is reached, made anew
-pub made-reached : (nodes : List NodeId) (o : Outlook) (f : FollowingOf) (after : ReachedAfter) (told : List Candidate) (ways : List Candidate) (bit : Bool) (prefixes : List Prefix) → AreSame (told_after after.told f.told) told → list_after after.defaults f.defaults ≡ ways → after.attached ≡ bit → after.prefixes.items ≡ prefixes
-    → AreReached o told ways bit → HaveBy nodes f.told prefixes → HaveBy nodes told prefixes → IsReachedAfter nodes o f after
-made-reached nodes o f after told ways bit prefixes same is-ways is-bit is-prefixes are before later =
-    record {
-      right = record {
-        told = same-both (told_after after.told f.told) told (told_candidates o) same are.told;
-        ways = subst (λ (l : List Candidate). AreSame l (defaults o.told.one o.root)) (sym is-ways) are.ways;
-        attached = is-bit ∙ are.attached;
-      };
-      before = subst (HaveBy nodes f.told) (sym is-prefixes) before;
-      after = λ c there out. subst (λ (l : List Prefix). Contains l c.prefix) (sym is-prefixes) (later c ((same c).0 there) out);
-    }

@@ -86,15 +86,3 @@ by-after nodes numbers old come list p0 p1 same via c there out =
       | inl kept ↦ absurd (let h : true ≡ false = sym (filter-in (stays nodes) old c kept).1 ∙ out in cc)
       | inr comes ↦ via.new c comes
     ]
-
--- where all is made anew
-by-via : (nodes : List NodeId) (numbers some : List ℕ) (slice old : List Candidate) (prefixes : List Prefix) → ((n : ℕ) → is_moved numbers n ≡ is_among nodes n) → some ≡ numbers → slice ≡ old → ((q : Prefix) → Contains (prefixes_via some slice) q → Contains prefixes q) → HaveBy nodes old prefixes
-by-via nodes numbers some slice old prefixes are s e up c there out =
-    let by : is_by some c ≡ true = ap (λ (l : List ℕ). is_moved l (node_number c.origin)) s ∙ are (node_number c.origin) ∙ not-true (is_among nodes (node_number c.origin)) out in
-    up c.prefix (in-map prefix_of (filter (is_by some) slice) c (in-filter (is_by some) slice c (subst (λ (l : List Candidate). Contains l c) (sym e) there) by))
-
-pub by-both : (nodes : List NodeId) (numbers some more : List ℕ) (old later new : List Candidate) (p0 p1 p2 : List Prefix) → ((n : ℕ) → is_moved numbers n ≡ is_among nodes n) → some ≡ numbers → more ≡ numbers → later ≡ new → HaveVia some old [] p0 p1 → p2 ≡ p1 ++ prefixes_via more later → HaveBy nodes old p2 × HaveBy nodes new p2
-by-both nodes numbers some more old later new p0 p1 p2 are s m l via e2 = (
-  (λ c there out. subst (λ (ps : List Prefix). Contains ps c.prefix) (sym e2) (Contains-append_left p1 (prefixes_via more later) c.prefix (via.gone c there (ap (λ (ns : List ℕ). is_by ns c) s ∙ are (node_number c.origin) ∙ not-true (is_among nodes (node_number c.origin)) out)))),
-  by-via nodes numbers more later new p2 are m l (λ q there. subst (λ (ps : List Prefix). Contains ps q) (sym e2) (Contains-append_right p1 (prefixes_via more later) q there)),
-)

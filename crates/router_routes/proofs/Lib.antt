@@ -24,8 +24,10 @@ pub mod AttachedLemmas
 pub mod GoneLemmas
 pub mod BucketLemmas
 pub mod ReplacedLemmas
+pub mod RemadeLemmas
 pub mod NumberLemmas
 pub mod ComingLemmas
 pub mod OwnLemmas
 pub mod PatchLemmas
 pub mod PartLemmas
+pub mod PutLemmas

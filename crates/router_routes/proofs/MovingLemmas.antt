@@ -20,6 +20,7 @@ use Rattle.router_routes.specs.declared.moving.CostsMoved.{CostsMoved}
 use Rattle.router_routes.specs.Differences.{ArePartedRows}
 use Rattle.router_routes.specs.Moved.{AreChanged, AreCosts, AreNodes, HaveIds, IsOneChange, IsReadable, NodesRise, told_after, told_moved, told_of, told_with}
 use Rattle.router_routes.proofs.DifferenceLemmas.{counts-are}
+use Rattle.lsp_view.specs.Lsps.{entries_in}
 use Rattle.router_routes.proofs.NearGraphLemmas.{no-times-of}
 
 abbrev Pair : Type 0
@@ -77,8 +78,8 @@ rest-fit entries moved rest first fit is same =
       ids = fit.ids;
       rises = fit.rises;
       aside = record {
-        ids = subst (λ a. HaveIds a.now.entries) (sym same) fit.aside.ids;
-        rises = subst (λ a. RisesFrom 0 a.now.entries) (sym same) fit.aside.rises;
+        ids = subst (λ a. HaveIds (entries_in a)) (sym same) fit.aside.ids;
+        rises = subst (λ a. RisesFrom 0 (entries_in a)) (sym same) fit.aside.rises;
         nodes = λ m there. subst AreNodes is fit.aside.nodes m (contains_rest first m rest.nodes.now there);
       };
       each = weaker-rise 0 (node_number first + 1) rest.nodes.now (omega arith) (subst (NodesRise 0) is fit.each).1;
@@ -106,7 +107,7 @@ pub run-before : (runs : Bool) (old : List Pair) (root : NodeId) (r : RepairedOf
 run-before true old root r run are = are
 run-before false old root r run are = absurd (let e : false ≡ true = run in cc)
 
-pub run-after : (runs : Bool) (level : LevelView) (moved : Moved) (root : NodeId) (r : RepairedOf) → runs ≡ true → level.moved ≡ Some moved → AreCosts (told_after moved.nodes.now (told_in level.store.now.entries) (told_in moved.aside.now.entries)) root r → AreCosts (where_run runs (told_of level)) root r
+pub run-after : (runs : Bool) (level : LevelView) (moved : Moved) (root : NodeId) (r : RepairedOf) → runs ≡ true → level.moved ≡ Some moved → AreCosts (told_after moved.nodes.now (told_in level.store.now.entries) (told_in (entries_in moved.aside))) root r → AreCosts (where_run runs (told_of level)) root r
 run-after true level moved root r run is are = subst (λ (o : Option Moved). AreCosts (told_moved (told_in level.store.now.entries) o) root r) (sym is) are
 run-after false level moved root r run is are = absurd (let e : false ≡ true = run in cc)
 

@@ -1,5 +1,5 @@
 -- Routes of which some prefixes are looked at anew, once some nodes moved.
-use Rattle.std.proofs.Common.{◌≡◌, ◌∙◌, ◌↔◌, ℕ, ◌+◌, ◌<◌, Bool, true, false, not, List, [], ◌∷◌, ◌++◌, ◌⊎◌, length, map, filter, Option, None, Some, Result, Ok, Err, IfOk, refl, sym, ap, subst, arith, inl, inr, append-nil, if◌then◌else◌}
+use Rattle.std.proofs.Common.{◌≡◌, ◌∙◌, ◌↔◌, ℕ, ◌+◌, ◌<◌, Bool, true, false, not, List, [], ◌∷◌, ◌++◌, ◌⊎◌, length, map, filter, Option, None, Some, Result, Ok, Err, IfOk, refl, sym, ap, subst, arith, inl, inr, if◌then◌else◌}
 use Rattle.std.specs.List.{Contains, flat_map}
 use Rattle.std.specs.List.Sorted.{IsStrictlyIncreasing}
 use Rattle.std.proofs.lemmas.Bool.{cases_eq}
@@ -39,7 +39,7 @@ use Rattle.router_routes.specs.Candidates.{reached_in, has_bit, has_defaults, de
 use Rattle.router_routes.specs.Following.{AreHopsOf, FollowingOf, IsFollowing, IsLevel}
 use Rattle.router_routes.specs.Kept.{AreBeside, AreReached, AreSame, CostBeside, HaveToldIds, stays, systems_among, told_candidates}
 use Rattle.router_routes.specs.Moved.{AreNodes, is_among}
-use Rattle.router_routes.specs.Coming.{AreLevels, AreLevelsBeside, AreRoutesAfter, HopsStay, apart_in, costs_after, hops_after, told_after}
+use Rattle.router_routes.specs.Coming.{AreLevels, AreLevelsBeside, AreRoutesAfter, HopsStay, apart_in, costs_after, hops_after, told_then}
 use Rattle.router_routes.specs.Touched.{AreApartBeside, ArePatchesFor, AreRoutesFor, AreStill, AreTouched, HaveOwn, HaveVia, IsReachedAfter, IsStill, is_by, is_for, prefix_of, prefixes_via}
 use Rattle.router_routes.proofs.GraphLemmas.{hop-by}
 use Rattle.router_routes.proofs.BucketLemmas.{below, within}
@@ -362,11 +362,6 @@ apart-are nodes f levels moved some more n0 n1 n2 sorted are s m e1 e2 all up on
 
 -- ---- the prefixes that are touched
 
--- candidates by way of no nodes
-none-via : (cs : List Candidate) → prefixes_via [] cs ≡ []
-none-via [] = refl
-none-via (c ∷ cs) = none-via cs
-
 pub none-gone : (numbers : List ℕ) (cs : List Candidate) (ps : List Prefix) → length numbers ≡ 0 → HaveVia numbers cs [] ps ps
 none-gone [] cs ps e = record { more = λ q there. there; gone = λ c there by. absurd (let f : false ≡ true = by in cc); new = λ c there. absurd (contains_none c there) }
 none-gone (n ∷ numbers) cs ps e = absurd (omega (arith, e))
@@ -400,10 +395,6 @@ have-all numbers cs place p0 ps long so-far =
       new = λ c there. absurd (contains_none c there);
     }
 
-pub via-none : (numbers : List ℕ) (cs : List Candidate) (ps : List Prefix) → length numbers ≡ 0 → ps ≡ ps ++ prefixes_via numbers cs
-via-none [] cs ps e = sym (ap (λ (l : List Prefix). ps ++ l) (none-via cs) ∙ append-nil ps)
-via-none (n ∷ numbers) cs ps e = absurd (omega (arith, e))
-
 not-false : (t : Bool) → not t ≡ true → t ≡ false
 not-false true e = absurd (let f : false ≡ true = e in cc)
 not-false false e = refl
@@ -420,15 +411,15 @@ module _ (o p : Outlook) (f : FollowingOf) (is : IsFollowing o f) (nodes : List 
   before-step c there true stay = by-hops c there (not-false (is_among nodes (node_number c.origin)) stay) (is_by numbers c) refl
   before-step c there false out = inl (listed c.prefix (has.before c there out))
 
-  after-step : (c : Candidate) → Contains (told_after reached.told f.told) c → (t : Bool) → stays nodes c ≡ t → Touched c
+  after-step : (c : Candidate) → Contains (told_then reached.told f.told) c → (t : Bool) → stays nodes c ≡ t → Touched c
   after-step c there true stay = before-step c ((is.told c).1 ((still.told c stay).1 ((has.right.told c).0 there))) true stay
   after-step c there false out = inl (listed c.prefix (has.after c there out))
 
-  pub touched-by : (old new : List (Prefix × ℕ)) → IsListed prefixes 0 → HaveOwn old new prefixes → AreTouched nodes f levels old new (told_after reached.told f.told) prefixes
+  pub touched-by : (old new : List (Prefix × ℕ)) → IsListed prefixes 0 → HaveOwn old new prefixes → AreTouched nodes f levels old new (told_then reached.told f.told) prefixes
   touched-by old new all own = record { all = all; own = own; before = λ c there. before-step c there (stays nodes c) refl; after = λ c there. after-step c there (stays nodes c) refl }
 
 pub touched-are : (o p : Outlook) (f : FollowingOf) → IsFollowing o f → (nodes : List NodeId) (levels : LevelsAfter) → AreStill nodes o p → (reached : ReachedAfter) → IsReachedAfter nodes p f reached → (numbers some : List ℕ) → AreApartBeside nodes f levels numbers → some ≡ numbers → (held : List Candidate) → held ≡ f.told → (old new : List (Prefix × ℕ)) (p0 p1 p2 slice : List Prefix) → slice ≡ reached.prefixes.items
-    → IsListed p0 0 → HaveOwn old new p0 → p1 ≡ p0 ++ slice → HaveVia some held [] p1 p2 → AreTouched nodes f levels old new (told_after reached.told f.told) p2
+    → IsListed p0 0 → HaveOwn old new p0 → p1 ≡ p0 ++ slice → HaveVia some held [] p1 p2 → AreTouched nodes f levels old new (told_then reached.told f.told) p2
 touched-are o p f is nodes levels still reached has numbers some are s held h old new p0 p1 p2 slice l all own e1 via =
     let from1 : (q : Prefix) → Contains p1 q → Contains p2 q = via.more in
     let from0 : (q : Prefix) → Contains p0 q → Contains p2 q = λ q there. from1 q (subst (λ (ps : List Prefix). Contains ps q) (sym e1) (Contains-append_left p0 slice q there)) in

@@ -20,6 +20,7 @@ use Rattle.router_routes.proofs.MovedLemmas.{told-ids, told-rises}
 use Rattle.router_routes.proofs.AfterLemmas.{after-among, after-beside, after-ids}
 use Rattle.router_routes.proofs.NodeLemmas.{rows-by, overloaded-by}
 use Rattle.router_routes.proofs.GraphLemmas.{kept-times}
+use Rattle.lsp_view.specs.Lsps.{entries_in}
 use Rattle.router_routes.proofs.NearGraphLemmas.{leads-same, times-append}
 
 abbrev Pair : Type 0
@@ -120,35 +121,35 @@ module _ (level : LevelView) (moved : Moved) (is : level.moved ≡ Some moved) (
   ids : HaveIds (told_in level.store.now.entries)
   ids = told-ids level.store.now.entries fits.ids
 
-  aside-ids : HaveIds (told_in moved.aside.now.entries)
-  aside-ids = told-ids moved.aside.now.entries fits.aside.ids
+  aside-ids : HaveIds (told_in (entries_in moved.aside))
+  aside-ids = told-ids (entries_in moved.aside) fits.aside.ids
 
-  all-ids : HaveIds (told_after moved.nodes.now (told_in level.store.now.entries) (told_in moved.aside.now.entries))
-  all-ids = after-ids moved.nodes.now (told_in level.store.now.entries) (told_in moved.aside.now.entries) ids aside-ids
+  all-ids : HaveIds (told_after moved.nodes.now (told_in level.store.now.entries) (told_in (entries_in moved.aside)))
+  all-ids = after-ids moved.nodes.now (told_in level.store.now.entries) (told_in (entries_in moved.aside)) ids aside-ids
 
-  others : told_by_nodes (is_beside moved.nodes.now) (told_after moved.nodes.now (told_in level.store.now.entries) (told_in moved.aside.now.entries)) ≡ told_by_nodes (is_beside moved.nodes.now) (told_in level.store.now.entries)
-  others = after-beside moved.nodes.now (told_in level.store.now.entries) (told_in moved.aside.now.entries) ids aside-ids (told-rises 0 level.store.now.entries fits.rises)
+  others : told_by_nodes (is_beside moved.nodes.now) (told_after moved.nodes.now (told_in level.store.now.entries) (told_in (entries_in moved.aside))) ≡ told_by_nodes (is_beside moved.nodes.now) (told_in level.store.now.entries)
+  others = after-beside moved.nodes.now (told_in level.store.now.entries) (told_in (entries_in moved.aside)) ids aside-ids (told-rises 0 level.store.now.entries fits.rises)
 
-  its : told_by_nodes (is_among moved.nodes.now) (told_after moved.nodes.now (told_in level.store.now.entries) (told_in moved.aside.now.entries)) ≡ told_by_nodes (is_among moved.nodes.now) (told_in moved.aside.now.entries)
-  its = after-among moved.nodes.now (told_in level.store.now.entries) (told_in moved.aside.now.entries) ids aside-ids (told-rises 0 moved.aside.now.entries fits.aside.rises)
+  its : told_by_nodes (is_among moved.nodes.now) (told_after moved.nodes.now (told_in level.store.now.entries) (told_in (entries_in moved.aside))) ≡ told_by_nodes (is_among moved.nodes.now) (told_in (entries_in moved.aside))
+  its = after-among moved.nodes.now (told_in level.store.now.entries) (told_in (entries_in moved.aside)) ids aside-ids (told-rises 0 (entries_in moved.aside) fits.aside.rises)
 
-  whole : told_after moved.nodes.now (told_in level.store.now.entries) (told_in moved.aside.now.entries) ≡ told_of level
+  whole : told_after moved.nodes.now (told_in level.store.now.entries) (told_in (entries_in moved.aside)) ≡ told_of level
   whole = sym (ap (told_moved (told_in level.store.now.entries)) is)
 
-  pub level-rows : (old here list next : List Row) → old ≡ rows_in level.store.now.entries → here ≡ rows_in moved.aside.now.entries → list ≡ [] ++ starting (is_beside moved.nodes.now) old → next ≡ list ++ starting (is_among moved.nodes.now) here → (x : Row) → times next x ≡ times (rows_in (told_of level)) x
+  pub level-rows : (old here list next : List Row) → old ≡ rows_in level.store.now.entries → here ≡ rows_in (entries_in moved.aside) → list ≡ [] ++ starting (is_beside moved.nodes.now) old → next ≡ list ++ starting (is_among moved.nodes.now) here → (x : Row) → times next x ≡ times (rows_in (told_of level)) x
   level-rows old here list next a b d e x =
       ap (λ (l : List Row). times l x)
       (e ∙ ap (λ (l : List Row). l ++ starting (is_among moved.nodes.now) here) d
       ∙ ap (λ (l : List Row). starting (is_beside moved.nodes.now) l ++ starting (is_among moved.nodes.now) here) (a ∙ sym (rows-told level.store.now.entries fits.rises))
-      ∙ ap (λ (l : List Row). starting (is_beside moved.nodes.now) (rows_in (told_in level.store.now.entries)) ++ starting (is_among moved.nodes.now) l) (b ∙ sym (rows-told moved.aside.now.entries fits.aside.rises)))
-      ∙ rows-parts moved.nodes.now (told_in level.store.now.entries) (told_in moved.aside.now.entries) _ ids aside-ids all-ids others its x
+      ∙ ap (λ (l : List Row). starting (is_beside moved.nodes.now) (rows_in (told_in level.store.now.entries)) ++ starting (is_among moved.nodes.now) l) (b ∙ sym (rows-told (entries_in moved.aside) fits.aside.rises)))
+      ∙ rows-parts moved.nodes.now (told_in level.store.now.entries) (told_in (entries_in moved.aside)) _ ids aside-ids all-ids others its x
       ∙ ap (λ (l : List Pair). times (rows_in l) x) whole
 
-  pub level-over : (old here list next : List NodeId) → old ≡ overloaded_in level.store.now.entries → here ≡ overloaded_in moved.aside.now.entries → list ≡ [] ++ nodes-by (is_beside moved.nodes.now) old → next ≡ list ++ nodes-by (is_among moved.nodes.now) here → (n : ℕ) → is_overloaded next n ≡ is_overloaded (overloaded_in (told_of level)) n
+  pub level-over : (old here list next : List NodeId) → old ≡ overloaded_in level.store.now.entries → here ≡ overloaded_in (entries_in moved.aside) → list ≡ [] ++ nodes-by (is_beside moved.nodes.now) old → next ≡ list ++ nodes-by (is_among moved.nodes.now) here → (n : ℕ) → is_overloaded next n ≡ is_overloaded (overloaded_in (told_of level)) n
   level-over old here list next a b d e n =
       ap (λ (l : List NodeId). is_overloaded l n)
       (e ∙ ap (λ (l : List NodeId). l ++ nodes-by (is_among moved.nodes.now) here) d
       ∙ ap (λ (l : List NodeId). nodes-by (is_beside moved.nodes.now) l ++ nodes-by (is_among moved.nodes.now) here) (a ∙ sym (overloaded-told level.store.now.entries fits.rises))
-      ∙ ap (λ (l : List NodeId). nodes-by (is_beside moved.nodes.now) (overloaded_in (told_in level.store.now.entries)) ++ nodes-by (is_among moved.nodes.now) l) (b ∙ sym (overloaded-told moved.aside.now.entries fits.aside.rises)))
-      ∙ over-parts moved.nodes.now (told_in level.store.now.entries) (told_in moved.aside.now.entries) _ ids aside-ids all-ids others its n
+      ∙ ap (λ (l : List NodeId). nodes-by (is_beside moved.nodes.now) (overloaded_in (told_in level.store.now.entries)) ++ nodes-by (is_among moved.nodes.now) l) (b ∙ sym (overloaded-told (entries_in moved.aside) fits.aside.rises)))
+      ∙ over-parts moved.nodes.now (told_in level.store.now.entries) (told_in (entries_in moved.aside)) _ ids aside-ids all-ids others its n
       ∙ ap (λ (l : List Pair). is_overloaded (overloaded_in l) n) whole

@@ -8,10 +8,10 @@ use Rattle.std.proofs.lemmas.List.Elements.{Contains-append_left, Contains-appen
 use Rattle.isis_base.specs.declared.prefix.Prefix.{Prefix}
 use Rattle.spf_tree.proofs.SearchLemmas.{contains_first, contains_rest, contains_cases, contains_none}
 use Rattle.route_table.specs.declared.candidate.Candidate.{Candidate}
-use Rattle.router_routes.specs.Buckets.{AgreeIn, AreApart, AreBut, AreOfBucket, AreReplaced, AreUpTo, LieIn, all_in, bucket_of, made_or, with_buckets}
+use Rattle.router_routes.specs.Buckets.{AgreeIn, AreApart, AreBut, AreOfBucket, AreReplaced, LieIn, all_in, bucket_of, made_or, with_buckets}
 use Rattle.router_routes.specs.Kept.{AreSame}
-use Rattle.router_routes.specs.Touched.{HaveVia, is_by, prefix_of}
-use Rattle.router_routes.proofs.BucketLemmas.{Table, at-it, at-others, below, within}
+use Rattle.router_routes.specs.Touched.{AreListed, HaveVia, is_by, prefix_of}
+use Rattle.router_routes.proofs.BucketLemmas.{Table, at-it, at-others, within}
 use Rattle.router_routes.proofs.KeptLemmas.{filter-in, in-filter}
 use Rattle.router_routes.proofs.NumberLemmas.{in-map}
 
@@ -174,16 +174,6 @@ replaced moved all went come left right places some bs are parts at-left at-righ
           (λ there. kept.0 (stays.0.0 there), λ there. stays.0.1 (kept.1 there))
     ]
 
--- where all buckets are
-pub all-replaced : (moved : List ℕ) (all come : List Candidate) (places some : List ℕ) (bs : List Bucket) → AreUpTo 251 places → some ≡ places → AreReplaced (Later moved all [] come) some bs → AreSame (with_buckets bs all) (Later moved all [] come)
-all-replaced moved all come places some bs up same is c =
-    elim (right-or (Later moved all [] come) all bs is.right c) [
-      | inl settled ↦ settled
-      | inr stays ↦
-          let o = is.all (bucket_of c) (subst (λ (l : List ℕ). Contains l (bucket_of c)) (sym same) (up.all (bucket_of c) (within c))) in
-          absurd (stays.1 o.0 o.1 o.2)
-    ]
-
 pub via-all : (moved : List ℕ) (all come : List Candidate) (p0 p1 p2 : List Prefix) → p1 ≡ p0 ++ map prefix_of come → HaveVia moved all [] p1 p2 → HaveVia moved all come p0 p2
 via-all moved all come p0 p1 p2 e via =
     record {
@@ -192,23 +182,13 @@ via-all moved all come p0 p1 p2 e via =
       new = λ c there. via.more c.prefix (subst (λ (ps : List Prefix). Contains ps c.prefix) (sym e) (Contains-append_right p0 (map prefix_of come) c.prefix (in-map prefix_of come c there)));
     }
 
-pub up-none : (numbers : List ℕ) → numbers ≡ [] → AreUpTo 0 numbers
-up-none numbers none = record { below = λ n there. absurd (contains_none n (subst (λ (l : List ℕ). Contains l n) none there)); all = λ n lt. absurd (omega (arith, lt)) }
+pub on-via : {X E : Type 0} (r : Result X E) (moved : List ℕ) (all come : List Candidate) (p0 p1 p2 : List Prefix) → p1 ≡ p0 ++ map prefix_of come → OnOk r (HaveVia moved all [] p1 p2) → OnOk r (HaveVia moved all come p0 p2)
+on-via (Ok x) moved all come p0 p1 p2 e via = via-all moved all come p0 p1 p2 e via
+on-via (Err x) moved all come p0 p1 p2 e via = tt
 
-pub up-turn : (old new : List ℕ) (end : ℕ) → new ≡ old ++ end ∷ [] → AreUpTo end old → AreUpTo (end + 1) new
-up-turn old new end e up =
-    record {
-      below = λ n there.
-          elim (Contains-push_cases old end n (subst (λ (l : List ℕ). Contains l n) e there)) [
-            | inl before ↦ let lt = up.below n before in omega (arith, lt)
-            | inr same ↦ omega (arith, same)
-          ];
-      all = λ n lt. subst (λ (l : List ℕ). Contains l n) (sym e)
-          (elim (cases_eq n end) [
-            | inl at ↦ Contains-append_right old (end ∷ []) n (subst (λ (m : ℕ). Contains (end ∷ []) m) (sym at) (contains_first end []))
-            | inr out ↦ Contains-append_left old (end ∷ []) n (up.all n (below n end lt out))
-          ]);
-    }
+-- the prefixes of those that come are there
+pub listed-come : (come : List Candidate) (p0 p1 : List Prefix) → p1 ≡ p0 ++ map prefix_of come → AreListed come p1
+listed-come come p0 p1 e c there = subst (λ (ps : List Prefix). Contains ps c.prefix) (sym e) (Contains-append_right p0 (map prefix_of come) c.prefix (in-map prefix_of come c there))
 
 -- ---- one bucket
 

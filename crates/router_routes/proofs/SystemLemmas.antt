@@ -1,5 +1,5 @@
 -- Systems that are reached, in any order, and the candidates that they give.
-use Rattle.std.proofs.Common.{◌≡◌, ◌∙◌, ℕ, Bool, true, false, List, [], ◌∷◌, ◌++◌, map, Some, None, refl, sym, ap, subst, inl, inr, ◌||◌, append_assoc}
+use Rattle.std.proofs.Common.{◌≡◌, ◌∙◌, ℕ, Bool, true, false, List, [], ◌∷◌, ◌++◌, map, Some, None, refl, sym, ap, subst, inl, inr, ◌||◌, append-nil, append_assoc}
 use Rattle.std.specs.List.{Contains, flat_map, list_any}
 use Rattle.std.proofs.lemmas.List.Elements.{Contains-append_left, Contains-append_right, Contains-append_cases}
 use Rattle.isis_base.specs.declared.identifiers.SystemId.{SystemId}
@@ -8,6 +8,7 @@ use Rattle.isis_base.specs.declared.identifiers.LspId.{LspId}
 use Rattle.isis_base.specs.declared.level.Level.TheVariants as level
 use Rattle.isis_base.specs.declared.level.LevelSet.TheVariants as levels
 use Rattle.lsp_store.specs.declared.entry.Entry.{Entry}
+use Rattle.lsp_store.specs.Databases.{is_live}
 use Rattle.spf_tree.specs.Nodes.{node_number}
 use Rattle.spf_tree.specs.Distances.{cost_at, AreDistances}
 use Rattle.spf_tree.specs.Graphs.{GraphOf}
@@ -20,7 +21,7 @@ use Rattle.router_routes.specs.declared.told.Moved.{Moved}
 use Rattle.router_routes.specs.declared.view.LevelView.{LevelView}
 use Rattle.router_routes.specs.declared.view.View.{View}
 use Rattle.router_routes.specs.Outlooks.{where_run}
-use Rattle.router_routes.specs.Told.{told_in}
+use Rattle.router_routes.specs.Told.{told_in, told_pair}
 use Rattle.router_routes.specs.Candidates.{attached_of, default_of, defaults, reached_by, reached_in, system_candidates}
 use Rattle.router_routes.specs.Following.{IsLevel}
 use Rattle.router_routes.specs.Kept.{AreSame, told_candidates}
@@ -28,10 +29,10 @@ use Rattle.router_routes.specs.Moved.{FitMoved, IsFit, IsReadable, is_among, is_
 use Rattle.router_routes.proofs.GraphLemmas.{IsGraphOf, level-reached}
 use Rattle.router_routes.proofs.CandidateLemmas.{attached-both, reached-one, reached-two, told-are, ways-are}
 use Rattle.router_routes.proofs.MovedLemmas.{by-all, told-ids, told-rises}
-use Rattle.router_routes.proofs.NodeLemmas.{by-tests}
 use Rattle.router_routes.proofs.AfterLemmas.{after-among, after-beside}
 use Rattle.router_routes.proofs.KeptLemmas.{flat-in, in-flat}
 use Rattle.router_routes.proofs.BesideLemmas.{same-refl, same-both, same-back, same-append, same-parts, any-same}
+use Rattle.lsp_view.specs.Lsps.{entries_in}
 use Rattle.router_routes.proofs.ViewLemmas.{read-alone}
 
 abbrev Pair : Type 0
@@ -82,18 +83,18 @@ module _ {Y : Type 0} (f : Pair → List Y) (level : LevelView) where
     old = told_in level.store.now.entries
 
     here : List Pair
-    here = told_in moved.aside.now.entries
+    here = told_in (entries_in moved.aside)
 
     whole : List Pair
     whole = told_after nodes old here
 
     others : told_by_nodes (is_beside nodes) whole ≡ told_by_nodes (is_beside nodes) old
     unfolding whole nodes old here
-    others = after-beside moved.nodes.now (told_in level.store.now.entries) (told_in moved.aside.now.entries) (told-ids level.store.now.entries fits.ids) (told-ids moved.aside.now.entries fits.aside.ids) (told-rises 0 level.store.now.entries fits.rises)
+    others = after-beside moved.nodes.now (told_in level.store.now.entries) (told_in (entries_in moved.aside)) (told-ids level.store.now.entries fits.ids) (told-ids (entries_in moved.aside) fits.aside.ids) (told-rises 0 level.store.now.entries fits.rises)
 
     its : told_by_nodes (is_among nodes) whole ≡ told_by_nodes (is_among nodes) here
     unfolding whole nodes old here
-    its = after-among moved.nodes.now (told_in level.store.now.entries) (told_in moved.aside.now.entries) (told-ids level.store.now.entries fits.ids) (told-ids moved.aside.now.entries fits.aside.ids) (told-rises 0 moved.aside.now.entries fits.aside.rises)
+    its = after-among moved.nodes.now (told_in level.store.now.entries) (told_in (entries_in moved.aside)) (told-ids level.store.now.entries fits.ids) (told-ids (entries_in moved.aside) fits.aside.ids) (told-rises 0 (entries_in moved.aside) fits.aside.rises)
 
     parts : AreSame (told_by_nodes (is_beside nodes) old ++ told_by_nodes (is_among nodes) here) whole
     parts =
@@ -102,7 +103,7 @@ module _ {Y : Type 0} (f : Pair → List Y) (level : LevelView) where
         (same-both _ _ whole (same-swap (told_by_nodes (is_beside nodes) whole) (told_by_nodes (is_among nodes) whole))
         (same-back whole _ (same-parts (λ (pair : Pair). is_among nodes (node_number pair.0.node)) whole))))
 
-    pub reached-parts : (l m n : List Y) → l ≡ [] → m ≡ l ++ flat_map f (told_by_nodes (is_one false moved.nodes.now) (told_in level.store.now.entries)) → n ≡ m ++ flat_map f (told_by_nodes (is_one true moved.nodes.now) (told_in moved.aside.now.entries)) → AreSame n (flat_map f (told_of level))
+    pub reached-parts : (l m n : List Y) → l ≡ [] → m ≡ l ++ flat_map f (told_by_nodes (is_one false moved.nodes.now) (told_in level.store.now.entries)) → n ≡ m ++ flat_map f (told_by_nodes (is_one true moved.nodes.now) (told_in (entries_in moved.aside))) → AreSame n (flat_map f (told_of level))
     unfolding whole nodes old here
     reached-parts l m n e g h =
         let both =
@@ -111,12 +112,29 @@ module _ {Y : Type 0} (f : Pair → List Y) (level : LevelView) where
         subst (λ (l : List Pair). AreSame n (flat_map f l)) (sym (ap (told_moved (told_in level.store.now.entries)) is))
         (same-both n _ (flat_map f whole) (same-refl n _ both) (same-flat f _ whole parts))
 
--- one pair more of a walk
-pub those-more : {Y : Type 0} (f : Pair → List Y) (c : ℕ → Bool) (list whole : List Y) (pair : Pair) (pairs : List Pair) → c (node_number pair.0.node) ≡ true → list ++ flat_map f (told_by_nodes c (pair ∷ pairs)) ≡ whole → list ++ (f pair ++ flat_map f (told_by_nodes c pairs)) ≡ whole
-those-more f c list whole pair pairs is e = subst (λ (l : List Pair). list ++ flat_map f l ≡ whole) (by-tests c pair pairs true is) e
+-- one pair more of a walk: it tells something where it is live and of one of the nodes
+module _ {Y : Type 0} (f : Pair → List Y) (c : ℕ → Bool) (pair : Pair) where
+  pub those-one : is_live pair.1 ≡ true → c (node_number pair.0.node) ≡ true → f (told_pair pair) ≡ flat_map f (told_by_nodes c (told_in (pair ∷ [])))
+  those-one live one = rw (live, one) (sym (append-nil (f (told_pair pair))))
 
-pub those-fewer : {Y : Type 0} (f : Pair → List Y) (c : ℕ → Bool) (list whole : List Y) (pair : Pair) (pairs : List Pair) → c (node_number pair.0.node) ≡ false → list ++ flat_map f (told_by_nodes c (pair ∷ pairs)) ≡ whole → list ++ flat_map f (told_by_nodes c pairs) ≡ whole
-those-fewer f c list whole pair pairs is e = subst (λ (l : List Pair). list ++ flat_map f l ≡ whole) (by-tests c pair pairs false is) e
+  pub those-dead : is_live pair.1 ≡ false → [] ≡ flat_map f (told_by_nodes c (told_in (pair ∷ [])))
+  those-dead dead = rw dead refl
+
+  pub those-none : (t : Bool) → is_live pair.1 ≡ t → c (node_number pair.0.node) ≡ false → [] ≡ flat_map f (told_by_nodes c (told_in (pair ∷ [])))
+  those-none true live other = rw (live, other) refl
+  those-none false dead other = rw dead refl
+
+  those-split : (pairs : List Pair) (t u : Bool) → is_live pair.1 ≡ t → c (node_number pair.0.node) ≡ u → flat_map f (told_by_nodes c (told_in (pair ∷ []))) ++ flat_map f (told_by_nodes c (told_in pairs)) ≡ flat_map f (told_by_nodes c (told_in (pair ∷ pairs)))
+  those-split pairs true true live one = rw (live, one) (ap (λ (l : List Y). l ++ flat_map f (told_by_nodes c (told_in pairs))) (append-nil (f (told_pair pair))))
+  those-split pairs true false live one = rw (live, one) refl
+  those-split pairs false u live one = rw live refl
+
+  pub those-turn : (pairs : List Pair) (list next all : List Y) → next ≡ list ++ flat_map f (told_by_nodes c (told_in (pair ∷ []))) → list ++ flat_map f (told_by_nodes c (told_in (pair ∷ pairs))) ≡ all → next ++ flat_map f (told_by_nodes c (told_in pairs)) ≡ all
+  those-turn pairs list next all more e =
+      ap (λ (l : List Y). l ++ flat_map f (told_by_nodes c (told_in pairs))) more
+      ∙ append_assoc list (flat_map f (told_by_nodes c (told_in (pair ∷ [])))) (flat_map f (told_by_nodes c (told_in pairs)))
+      ∙ ap (λ (l : List Y). list ++ l) (those-split pairs (is_live pair.1) (c (node_number pair.0.node)) refl refl)
+      ∙ e
 
 pub level-same : (runs : Bool) (told : List Pair) (root from : NodeId) (graph : GraphOf) (distances : List (ℕ × ℕ)) (list : List Reached) → runs ≡ true → IsGraphOf (where_run runs told) root graph → from ≡ graph.root → AreDistances graph.rows (node_number root) distances
     → AreSame list (flat_map (reached_by (cost_at distances) (node_number from)) told) → AreSame list (reached_in (where_run runs told) root)

@@ -25,6 +25,7 @@ use Rattle.std.proofs.Math.Seq.{take-length}
 use Rattle.spf_tree.proofs.SearchLemmas.{contains_cases}
 use Rattle.router_routes.proofs.IdLemmas.{stands}
 use Rattle.router_routes.proofs.MovedLemmas.{by-less, lead-same, reach-same, told-ids, told-rises}
+use Rattle.lsp_view.specs.Lsps.{entries_in}
 use Rattle.router_routes.proofs.AfterLemmas.{after-beside, after-ids, after-rises, among-left, among-right, at-here, at-old, list-more, only-after}
 
 abbrev Pair : Type 0
@@ -36,38 +37,38 @@ module _ (level : LevelView) (moved : Moved) (is : level.moved ≡ Some moved) (
   fits : IsReadable level.store.now.entries moved
   fits = subst (FitMoved level.store.now.entries) is fit
 
-  whole : told_at node (told_after moved.nodes.now (told_in level.store.now.entries) (told_in moved.aside.now.entries)) ≡ told_at node (told_of level)
+  whole : told_at node (told_after moved.nodes.now (told_in level.store.now.entries) (told_in (entries_in moved.aside))) ≡ told_at node (told_of level)
   whole = sym (ap (λ (o : Option Moved). told_at node (told_moved (told_in level.store.now.entries) o)) is)
 
   store-ids : HaveIds (told_in level.store.now.entries)
   store-ids = told-ids level.store.now.entries fits.ids
 
-  aside-ids : HaveIds (told_in moved.aside.now.entries)
-  aside-ids = told-ids moved.aside.now.entries fits.aside.ids
+  aside-ids : HaveIds (told_in (entries_in moved.aside))
+  aside-ids = told-ids (entries_in moved.aside) fits.aside.ids
 
-  pub read-aside : is_among moved.nodes.now (node_number node) ≡ true → told_at node (told_in moved.aside.now.entries) ≡ told_at node (told_of level)
-  read-aside there = at-here moved.nodes.now (told_in level.store.now.entries) (told_in moved.aside.now.entries) store-ids aside-ids node (told-rises 0 moved.aside.now.entries fits.aside.rises) there ∙ whole
+  pub read-aside : is_among moved.nodes.now (node_number node) ≡ true → told_at node (told_in (entries_in moved.aside)) ≡ told_at node (told_of level)
+  read-aside there = at-here moved.nodes.now (told_in level.store.now.entries) (told_in (entries_in moved.aside)) store-ids aside-ids node (told-rises 0 (entries_in moved.aside) fits.aside.rises) there ∙ whole
 
   pub read-store : is_among moved.nodes.now (node_number node) ≡ false → told_at node (told_in level.store.now.entries) ≡ told_at node (told_of level)
-  read-store apart = at-old moved.nodes.now (told_in level.store.now.entries) (told_in moved.aside.now.entries) store-ids aside-ids node (told-rises 0 level.store.now.entries fits.rises) apart ∙ whole
+  read-store apart = at-old moved.nodes.now (told_in level.store.now.entries) (told_in (entries_in moved.aside)) store-ids aside-ids node (told-rises 0 level.store.now.entries fits.rises) apart ∙ whole
 
 pub read-alone : (level : LevelView) → level.moved ≡ None → told_in level.store.now.entries ≡ told_of level
 read-alone level none = sym (ap (told_moved (told_in level.store.now.entries)) none)
 
 moved-ids : (entries : List Pair) (o : Option Moved) → HaveIds entries → FitMoved entries o → HaveIds (told_moved (told_in entries) o)
 moved-ids entries None ids fit = told-ids entries ids
-moved-ids entries (Some moved) ids fit = after-ids moved.nodes.now (told_in entries) (told_in moved.aside.now.entries) (told-ids entries ids) (told-ids moved.aside.now.entries fit.aside.ids)
+moved-ids entries (Some moved) ids fit = after-ids moved.nodes.now (told_in entries) (told_in (entries_in moved.aside)) (told-ids entries ids) (told-ids (entries_in moved.aside) fit.aside.ids)
 
 pub level-ids : (level : LevelView) → HaveIds level.store.now.entries → IsFit level → HaveIds (told_of level)
 level-ids level ids fit = moved-ids level.store.now.entries level.moved ids fit
 
-pub listing : (entries : List Pair) (moved : Moved) → IsReadable entries moved → IsListing (told_after moved.nodes.now (told_in entries) (told_in moved.aside.now.entries))
+pub listing : (entries : List Pair) (moved : Moved) → IsReadable entries moved → IsListing (told_after moved.nodes.now (told_in entries) (told_in (entries_in moved.aside)))
 listing entries moved fit =
     let ids = told-ids entries fit.ids in
-    let aside-ids = told-ids moved.aside.now.entries fit.aside.ids in
+    let aside-ids = told-ids (entries_in moved.aside) fit.aside.ids in
     record {
-      ids = after-ids moved.nodes.now (told_in entries) (told_in moved.aside.now.entries) ids aside-ids;
-      rises = after-rises moved.nodes.now (told_in entries) (told_in moved.aside.now.entries) fit.aside.nodes ids aside-ids (told-rises 0 entries fit.rises) (told-rises 0 moved.aside.now.entries fit.aside.rises);
+      ids = after-ids moved.nodes.now (told_in entries) (told_in (entries_in moved.aside)) ids aside-ids;
+      rises = after-rises moved.nodes.now (told_in entries) (told_in (entries_in moved.aside)) fit.aside.nodes ids aside-ids (told-rises 0 entries fit.rises) (told-rises 0 (entries_in moved.aside) fit.aside.rises);
     }
 
 -- what one node's LSPs tell is read off them alone
@@ -119,7 +120,7 @@ module _ (lent : Lent) (told : Told) (view : View) (v : AreViewed lent told view
   moved-list runs entries new None ids fit is = is
   moved-list true entries new (Some moved) ids fit is =
       let m = is.1 in
-      only-after moved.nodes.now (told_in entries) (told_in moved.aside.now.entries) new m.rises (told-ids entries ids) (told-ids moved.aside.now.entries fit.aside.ids) m.others
+      only-after moved.nodes.now (told_in entries) (told_in (entries_in moved.aside)) new m.rises (told-ids entries ids) (told-ids (entries_in moved.aside) fit.aside.ids) m.others
       (sym (by-less (is_among moved.nodes.now) (is_among moved.nodes.now) (λ n h. h) new) ∙ ap (told_by_nodes (is_among moved.nodes.now)) m.here)
   moved-list false entries new (Some moved) ids fit is = absurd (let e : false ≡ true = is.0 in cc)
 
@@ -146,7 +147,7 @@ module _ (lent : Lent) (told : Told) (view : View) (v : AreViewed lent told view
       → told_by_nodes (is_beside (nodes_in o)) (where_run runs (told_in entries)) ≡ told_by_nodes (is_beside (nodes_in o)) (where_run runs (told_moved (told_in entries) o))
   beside-level runs entries None ids rises fit = refl
   beside-level false entries (Some moved) ids rises fit = refl
-  beside-level true entries (Some moved) ids rises fit = sym (after-beside moved.nodes.now (told_in entries) (told_in moved.aside.now.entries) (told-ids entries ids) (told-ids moved.aside.now.entries fit.aside.ids) (told-rises 0 entries rises))
+  beside-level true entries (Some moved) ids rises fit = sym (after-beside moved.nodes.now (told_in entries) (told_in (entries_in moved.aside)) (told-ids entries ids) (told-ids (entries_in moved.aside) fit.aside.ids) (told-rises 0 entries rises))
 
   pub viewed-beside : AreBeside (nodes_of told) (outlook_in lent) (outlook_at view)
   unfolding outlook_in

@@ -1,5 +1,5 @@
 -- Candidates in buckets by their prefixes' numbers. All of it own.
-use Rattle.std.specs.Prelude.{◌≡◌, ◌↔◌, ℕ, ◌%◌, ◌<◌, ◌==◌, ◌⊎◌, not, List, [], ◌∷◌, ◌++◌, filter, length, Option, Some, None, slice_index_or}
+use Rattle.std.specs.Prelude.{◌≡◌, ◌↔◌, ℕ, ◌%◌, ◌==◌, ◌⊎◌, not, List, [], ◌∷◌, ◌++◌, filter, length, Option, Some, None, slice_index_or}
 use Rattle.std.specs.List.{Contains, flat_map}
 use Rattle.isis_base.specs.Prefixes.{prefix_number}
 use Rattle.route_table.specs.declared.candidate.Candidate.{Candidate}
@@ -55,11 +55,6 @@ AreBut some others left = (c : Candidate) → Contains some c → Contains other
 pub record AreApart (old new left right : List Candidate) : Type 0 where
   pub gone : AreBut old new left
   pub come : AreBut new old right
-
--- all numbers below one
-pub record AreUpTo (end : ℕ) (numbers : List ℕ) : Type 0 where
-  pub below : (n : ℕ) → Contains numbers n → n < end
-  pub all : (n : ℕ) → n < end → Contains numbers n
 
 -- two lists have the same members in a bucket
 pub record AgreeIn (place : ℕ) (some others : List Candidate) : Type 0 where

@@ -111,13 +111,13 @@ list_after None old = old
 list_after (Some new) old = new.items
 
 -- what levels tell then: all of it anew or as it was, but for the buckets that are others
-abbrev pub told_after : ToldAfter → List Candidate → List Candidate
-told_after told old = with_buckets told.buckets.items (made_or told.made old)
+abbrev pub told_then : ToldAfter → List Candidate → List Candidate
+told_then told old = with_buckets told.buckets.items (made_or told.made old)
 
 -- these are reached, where the rest stays
 abbrev pub AreReachedAfter : Outlook → FollowingOf → ReachedAfter → Type 0
 AreReachedAfter o f reached =
-    AreReached o (told_after reached.told f.told) (list_after reached.defaults f.defaults) reached.attached
+    AreReached o (told_then reached.told f.told) (list_after reached.defaults f.defaults) reached.attached
 
 -- ---- routes
 
@@ -146,7 +146,7 @@ pub record IsPut (old : FollowingOf) (c : Coming) (new : FollowingOf) : Type 0 w
   pub hops_two : new.hops.two ≡ hops_after c.two old.hops.two
   pub routes : ArePut old.routes c.routes new.routes
   pub attached : new.attached ≡ c.attached
-  pub told : AreSame new.told (told_after c.told old.told)
+  pub told : AreSame new.told (told_then c.told old.told)
   pub defaults : new.defaults ≡ list_after c.defaults old.defaults
 
 -- once this has come, what follows a router follows what routes look at

@@ -1,14 +1,16 @@
 -- Some nodes tell other LSPs, or own prefixes are others, and nothing else of what routes look at moves. All of it own.
-use Rattle.std.specs.Prelude.{◌≡◌, ℕ, ◌+◌, ◌==◌, ◌≤◌, nat_lt, Bool, true, false, not, List, [], ◌∷◌, ◌++◌, filter, Option, Some, None, MatchOption}
+use Rattle.std.specs.Prelude.{◌≡◌, ℕ, ◌+◌, ◌==◌, ◌≤◌, nat_lt, Bool, true, false, not, List, [], ◌∷◌, ◌++◌, filter, Option, Some, None, MatchOption, if◌then◌else◌}
 use Rattle.std.specs.List.{AllByRecursion, Contains, list_any}
 use Rattle.isis_base.specs.declared.identifiers.NodeId.{NodeId}
 use Rattle.isis_base.specs.declared.identifiers.LspId.{LspId}
 use Rattle.isis_base.specs.declared.level.Level.{Level}
 use Rattle.isis_base.specs.declared.level.Level.TheVariants as level
-use Rattle.isis_base.specs.Identifiers.{IsId}
+use Rattle.isis_base.specs.Identifiers.{IsId, lsp_number}
 use Rattle.model_router.specs.Both.{at, runs_of}
 use Rattle.lsp_store.specs.declared.entry.Entry.{Entry}
-use Rattle.lsp_store.specs.Maps.{RisesFrom}
+use Rattle.lsp_store.specs.Databases.{is_live}
+use Rattle.lsp_store.specs.Maps.{RisesFrom, erase, put}
+use Rattle.lsp_view.specs.Lsps.{entries_in}
 use Rattle.lsp_view.specs.Views.{own_node, rows_in, overloaded_in}
 use Rattle.spf_repair.specs.Changes.{RepairedOf}
 use Rattle.spf_tree.specs.declared.row.Row.{Row}
@@ -21,7 +23,7 @@ use Rattle.router_routes.specs.declared.told.Moved.{Moved}
 use Rattle.router_routes.specs.declared.told.Told.{Told}
 use Rattle.router_routes.specs.declared.view.LevelView.{LevelView}
 use Rattle.router_routes.specs.declared.view.View.{View}
-use Rattle.router_routes.specs.Told.{told_in}
+use Rattle.router_routes.specs.Told.{told as told_as, told_in}
 use Rattle.router_routes.specs.Counts.{Counts}
 use Rattle.router_routes.specs.Outlooks.{Outlook, where_run}
 
@@ -64,7 +66,7 @@ pub record AreMovedTo (nodes : List NodeId) (told old new : List (LspId × Entry
 abbrev pub IsMovedBy : Option Moved → Bool → List (LspId × Entry) → List (LspId × Entry) → Type 0
 IsMovedBy None runs old new = new ≡ old
 IsMovedBy (Some moved) runs old new =
-    (runs ≡ true) × AreMovedTo moved.nodes.now (told_in moved.aside.now.entries) old new
+    (runs ≡ true) × AreMovedTo moved.nodes.now (told_in (entries_in moved.aside)) old new
 
 -- two outlooks differ in what these nodes of both levels tell and in own prefixes alone (own)
 pub record AreMoved (old new : Outlook) (told : Told) : Type 0 where
@@ -95,6 +97,22 @@ pub record IsMovedAt (old new : Outlook) (level : Level) (node : NodeId)
   pub here : told_at node (at new.told level) ≡ told
   pub rises : RisesFrom 0 (at new.told level)
 
+-- what is told where an entry takes the place of what is held of an LSP ID: what it tells where it is live, and else nothing (own)
+abbrev pub told_put : List (LspId × Entry) → LspId → Entry → List (LspId × Entry)
+told_put told id entry =
+    if is_live entry then put told id (told_as entry.flags entry.octets)
+    else erase told (lsp_number id)
+
+-- two outlooks differ in what one LSP ID tells in one level alone, which is one that is run: there it tells this entry (own)
+pub record IsPutAt (old new : Outlook) (level : Level) (id : LspId) (entry : Entry) : Type 0 where
+  pub root : new.root ≡ old.root
+  pub areas : new.areas ≡ old.areas
+  pub runs : new.runs ≡ old.runs
+  pub prefixes : new.prefixes ≡ old.prefixes
+  pub run : at old.runs level ≡ true
+  pub other : at new.told (beside level) ≡ at old.told (beside level)
+  pub here : at new.told level ≡ told_put (at old.told level) id entry
+
 -- ---- the same as a list
 
 -- what the nodes before a node tell, and those past it (own)
@@ -116,7 +134,7 @@ told_after (node ∷ nodes) old here = told_with node (told_after nodes old here
 -- what a level tells as it is read (own)
 abbrev pub told_moved : List (LspId × Entry) → Option Moved → List (LspId × Entry)
 told_moved told None = told
-told_moved told (Some moved) = told_after moved.nodes.now told (told_in moved.aside.now.entries)
+told_moved told (Some moved) = told_after moved.nodes.now told (told_in (entries_in moved.aside))
 
 abbrev pub told_of : LevelView → List (LspId × Entry)
 told_of level = told_moved (told_in level.store.now.entries) level.moved
@@ -127,8 +145,8 @@ HaveIds entries = AllByRecursion (λ (pair : LspId × Entry). IsId pair.0) entri
 
 -- a database has LSP IDs of eight octets in order, and nodes are of seven (own)
 pub record IsAside (moved : Moved) : Type 0 where
-  pub ids : HaveIds moved.aside.now.entries
-  pub rises : RisesFrom 0 moved.aside.now.entries
+  pub ids : HaveIds (entries_in moved.aside)
+  pub rises : RisesFrom 0 (entries_in moved.aside)
   pub nodes : AreNodes moved.nodes.now
 
 -- what is told stands in order, with LSP IDs of eight octets (own)

@@ -1,5 +1,5 @@
 -- The prefixes whose routes are looked at anew once some nodes moved, and those routes. All of it own.
-use Rattle.std.specs.Prelude.{◌≡◌, ◌↔◌, ℕ, ◌+◌, ◌⊎◌, ◌++◌, Bool, true, false, not, List, map, filter, Option, Some, None, Vec}
+use Rattle.std.specs.Prelude.{◌≡◌, ◌↔◌, ℕ, ◌⊎◌, ◌++◌, Bool, true, false, not, List, map, filter, Option, Some, None, Vec}
 use Rattle.std.specs.List.{Contains}
 use Rattle.std.specs.List.Sorted.{IsStrictlyIncreasing}
 use Rattle.std.specs.declared.alloc.Global.{Global}
@@ -20,7 +20,7 @@ use Rattle.router_routes.specs.Buckets.{bucket_of}
 use Rattle.router_routes.specs.Following.{FollowingOf}
 use Rattle.router_routes.specs.Moved.{is_among}
 use Rattle.router_routes.specs.Kept.{stays, told_candidates}
-use Rattle.router_routes.specs.Coming.{AreReachedAfter, hops_after, told_after}
+use Rattle.router_routes.specs.Coming.{AreReachedAfter, hops_after, told_then}
 
 -- ---- what stays
 
@@ -72,6 +72,15 @@ prefix_of c = c.prefix
 abbrev pub prefixes_via : List ℕ → List Candidate → List Prefix
 prefixes_via numbers candidates = map prefix_of (filter (is_by numbers) candidates)
 
+-- the prefixes of candidates are there
+abbrev pub AreListed : List Candidate → List Prefix → Type 0
+AreListed candidates prefixes = (c : Candidate) → Contains candidates c → Contains prefixes c.prefix
+
+-- some prefixes, and one
+pub record HaveOne (prefix : Prefix) (some prefixes : List Prefix) : Type 0 where
+  pub more : (q : Prefix) → Contains some q → Contains prefixes q
+  pub one : Contains prefixes prefix
+
 -- some prefixes, and those of candidates that go, by way of such nodes, and that come
 pub record HaveVia (numbers : List ℕ) (old come : List Candidate) (some prefixes : List Prefix) : Type 0 where
   pub more : (q : Prefix) → Contains some q → Contains prefixes q
@@ -87,7 +96,7 @@ HaveBy nodes candidates prefixes =
 pub record IsReachedAfter (nodes : List NodeId) (o : Outlook) (f : FollowingOf) (reached : ReachedAfter) : Type 0 where
   pub right : AreReachedAfter o f reached
   pub before : HaveBy nodes f.told reached.prefixes.items
-  pub after : HaveBy nodes (told_after reached.told f.told) reached.prefixes.items
+  pub after : HaveBy nodes (told_then reached.told f.told) reached.prefixes.items
 
 -- each of some own prefixes with its metric is among others too, or its prefix is there
 abbrev pub AreOwnIn : List (Prefix × ℕ) → List (Prefix × ℕ) → List Prefix → Type 0

@@ -2,13 +2,15 @@
 ghost use Rattle.std.specs.Prelude.{◌≡◌, ◌∷◌, [], true, None, IfOk, IfSome, MatchOption};
 ghost use Rattle.isis_base.specs.declared.identifiers.NodeId.{NodeId};
 ghost use Rattle.isis_base.specs.declared.level.Level.TheVariants as level;
+ghost use Rattle.model_router.specs.Both.{at};
+ghost use Rattle.lsp_view.specs.Lsps.{entries_in};
 ghost use Rattle.router_routes.specs.Told.{told_in};
 ghost use Rattle.router_routes.specs.Outlooks.{Outlook, outlook_in};
 ghost use Rattle.router_routes.specs.Following.{AreHopsOf, FollowingOf, IsFollowing, IsLevel};
 ghost use Rattle.router_routes.specs.Coming.{AreLevels, AreLevelsBeside, AreLevelsOf, AreOfOneRoot, AreReachedAfter, AreRoutesAfter, FitsIn, IsComing};
 ghost use Rattle.router_routes.specs.Kept.{AreBeside};
 ghost use Rattle.router_routes.specs.Touched.{IsReachedAfter};
-ghost use Rattle.router_routes.specs.Moved.{AreFit, AreMoved, AreRowsMoved, AreViewed, IsInOrder, IsMovedAt, NodesRise, nodes_of, or_old, outlook_at};
+ghost use Rattle.router_routes.specs.Moved.{AreFit, AreMoved, AreRowsMoved, AreViewed, IsInOrder, IsMovedAt, IsPutAt, NodesRise, nodes_of, or_old, outlook_at};
 
 use crate::coming::{Coming, LevelsAfter, ReachedAfter, RoutesAfter, all_stays, level_of};
 use crate::following::Following;
@@ -17,10 +19,11 @@ use crate::lent::Lent;
 use crate::moving::{CostsMoved, level_after};
 use crate::told::{Moved, Told};
 use crate::view::{View, as_told, nodes_law};
-use isis_base::{Level, NodeId, OutOfMemory, Prefix};
-use lsp_store::Store;
+use isis_base::laws::lsp_id_law;
+use isis_base::{Level, LspId, NodeId, OutOfMemory, Prefix};
+use lsp_store::{Entry, Store};
+use lsp_view::Lsps;
 use model_router::has_level;
-use std::alloc::Global;
 
 impl Following {
     /// What will follow the router once this is told: in each level these nodes tell what is aside, all others what they
@@ -54,22 +57,26 @@ impl Following {
         }
     }
 
-    /// The same once one node tells other LSPs in one level: `aside` holds what the node's live LSPs will be, and nothing else.
+    /// The same once an entry takes the place of what is held of an LSP ID in one level. It reads the LSPs of its node and of the
+    /// node's neighbours, and copies none.
     pub fn ahead(
         &self,
         lent: &Lent<'_>,
         level: Level,
-        node: NodeId,
-        aside: &Store,
+        id: LspId,
+        entry: &Entry,
     ) -> Result<Option<Coming>, OutOfMemory>
         requires follows { IsFollowing (outlook_in lent.now) self.now }
         ensures fits { IfOk result (λ next. IfSome next (λ c. FitsIn self.now.routes c.routes)) }
         ensures moves { IfOk result (λ next. (o : Outlook)
-            → IsMovedAt (outlook_in lent.now) o level node (told_in aside.now.entries)
+            → IsPutAt (outlook_in lent.now) o level id entry.now
             → MatchOption next (IsFollowing o self.now) (λ c. IsComing o self.now c)) }
     {
-        let nodes = [node];
-        let told = told_by(level, &nodes, aside);
+        lsp_id_law(id);
+        let nodes = [id.node];
+        let store = store_in(lent, level);
+        let _entries = store.len();
+        let told = told_by(level, &nodes, Lsps::node_with(store, id, entry));
         self.after(lent, &told)
     }
 
@@ -329,10 +336,21 @@ fn coming_of(levels: LevelsAfter, reached: ReachedAfter, routes: RoutesAfter) ->
     }
 }
 
+/// The database of a level.
+fn store_in<'a>(lent: &Lent<'a>, level: Level) -> &'a Store
+    ensures { at (outlook_in lent.now).runs level ≡ true
+        → at (outlook_in lent.now).told level ≡ told_in result.now.entries }
+{
+    match level {
+        Level::One => lent.one,
+        Level::Two => lent.two,
+    }
+}
+
 /// That one node tells in one level what is aside.
-fn told_by<'a>(level: Level, nodes: &'a [NodeId], aside: &'a Store) -> Told<'a>
+fn told_by<'a>(level: Level, nodes: &'a [NodeId], aside: Lsps<'a>) -> Told<'a>
     ensures moved { (old new : Outlook) (node : NodeId) → nodes.now ≡ node ∷ []
-        → IsMovedAt old new level node (told_in aside.now.entries) → AreMoved old new result }
+        → IsMovedAt old new level node (told_in (entries_in aside.entry)) → AreMoved old new result }
     ensures one { NodesRise 0 nodes.now → IsInOrder result.one }
     ensures two { NodesRise 0 nodes.now → IsInOrder result.two }
 {

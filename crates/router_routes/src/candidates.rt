@@ -14,10 +14,9 @@ ghost use Rattle.router_routes.specs.Touched.{is_for};
 use crate::bucketed::Bucketed;
 use crate::buckets_after::{BucketAfter, part_after};
 use crate::numbers::is_one_of;
-use crate::view::{LevelView, View, store_of};
+use crate::view::{LevelView, View, lsps_of};
 use isis_base::{Level, LevelSet, NodeId, OutOfMemory, Prefix, SystemId};
 use isis_tlv::PrefixItem;
-use lsp_view::{is_attached, reach_into};
 use model_router::has_level;
 use route_table::{Candidate, Rank};
 use std::alloc::Global;
@@ -284,9 +283,9 @@ fn add_system(
         ++ system_candidates level (told_of told.now) reached) }
 {
     let (system, cost) = reached;
-    let store = store_of(told, system);
-    let _entries = store.len();
-    reach_into(items, listed, store, system)?;
+    let lsps = lsps_of(told, system);
+    lsps.kept();
+    lsps.reach_into(items, listed, system)?;
     add_items(list, level, system, cost, items.as_slice())
 }
 
@@ -381,9 +380,9 @@ fn add_default(
     ensures { OnOk result (list.new.items
         ≡ list.old.items ++ default_of (told_of told.now) (system, cost)) }
 {
-    let store = store_of(told, system);
-    let _entries = store.len();
-    if !is_attached(store, system) {
+    let lsps = lsps_of(told, system);
+    lsps.kept();
+    if !lsps.is_attached(system) {
         return Ok(());
     }
     match Prefix::new(0, 0) {

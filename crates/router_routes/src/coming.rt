@@ -1,19 +1,16 @@
 //! What will follow a router, and that put in the place of what does (own).
 ghost use Rattle.std.specs.Prelude.{◌≡◌, ℕ, true, List, None, IfOk};
 ghost use Rattle.route_table.specs.declared.candidate.Candidate as declared;
-ghost use Rattle.isis_base.specs.declared.identifiers.NodeId.{NodeId};
 ghost use Rattle.spf_repair.specs.Changes.{RepairedOf};
-ghost use Rattle.router_routes.specs.Following.{AreHopsOf, FollowingOf};
+ghost use Rattle.router_routes.specs.Following.{AreHopsOf};
 ghost use Rattle.router_routes.specs.Buckets.{all_in, made_or};
-ghost use Rattle.router_routes.specs.Kept.{AreReached, AreSame};
+ghost use Rattle.router_routes.specs.Kept.{AreSame};
 ghost use Rattle.router_routes.specs.Moved.{AreRowsMoved, or_old};
-ghost use Rattle.router_routes.specs.Outlooks.{Outlook};
-ghost use Rattle.router_routes.specs.Touched.{HaveBy, IsReachedAfter};
-ghost use Rattle.router_routes.specs.Coming.{AreOfOneRoot, ArePut, FitsIn, IsLevelAfter, IsPut, costs_after, hops_after, list_after, told_after};
+ghost use Rattle.router_routes.specs.Coming.{AreOfOneRoot, ArePut, FitsIn, IsLevelAfter, IsPut, costs_after, hops_after, list_after, told_then};
 
 use crate::bucketed::{Bucketed, put_all};
 use crate::buckets_after::BucketAfter;
-use crate::following::{Following, Reached};
+use crate::following::Following;
 use crate::hops_moved::{HopsMoved, hops_moved};
 use crate::moving::CostsMoved;
 use isis_base::{OutOfMemory, Prefix};
@@ -121,7 +118,7 @@ fn put_level(costs: &mut Repaired, hops: &mut HopTable, new: Option<LevelAfter>)
 
 /// Puts in what levels tell.
 fn put_told(table: &mut Bucketed, told: ToldAfter)
-    ensures { AreSame (all_in table.new) (told_after told (all_in table.old)) }
+    ensures { AreSame (all_in table.new) (told_then told (all_in table.old)) }
 {
     let ToldAfter { made, buckets } = told;
     put_made(table, made);
@@ -263,42 +260,20 @@ pub(crate) fn newest_table<'a>(made: &'a Option<Bucketed>, old: &'a Bucketed) ->
     }
 }
 
-/// What is reached, made anew.
-pub(crate) fn reached_anew(
-    alloc: Global,
-    reached: Reached,
-    prefixes: Vec<Prefix>,
-) -> Result<ReachedAfter, OutOfMemory>
-    ensures { IfOk result (λ after. (nodes : List NodeId) (o : Outlook) (f : FollowingOf)
-        → AreReached o reached.told.items reached.defaults.items reached.attached
-        → HaveBy nodes f.told prefixes.items → HaveBy nodes reached.told.items prefixes.items
-        → IsReachedAfter nodes o f after) }
+/// What levels tell where this is the whole table.
+pub(crate) fn told_anew(alloc: Global, table: Bucketed) -> ToldAfter
+    ensures { (old : List declared.Candidate) → told_then result old ≡ all_in table }
 {
-    let Reached {
-        told,
-        defaults,
-        attached,
-    } = reached;
-    let table = Bucketed::new(alloc, told.as_slice());
-    drop(told);
-    match table {
-        Ok(table) => Ok(ReachedAfter {
-            told: ToldAfter {
-                made: Some(table),
-                buckets: Vec::new(alloc),
-            },
-            defaults: Some(defaults),
-            attached,
-            prefixes,
-        }),
-        Err(error) => Err(error),
+    ToldAfter {
+        made: Some(table),
+        buckets: Vec::new(alloc),
     }
 }
 
 /// Whether all that is reached stays, where a router was attached or not before.
 pub(crate) fn all_stays(reached: &ReachedAfter, attached: bool) -> bool
     ensures told { result ≡ true → (old : List declared.Candidate)
-        → told_after reached.now.told old ≡ old }
+        → told_then reached.now.told old ≡ old }
     ensures ways { result ≡ true → reached.now.defaults ≡ None }
     ensures attached { result ≡ true → reached.now.attached ≡ attached }
 {
@@ -313,7 +288,7 @@ pub(crate) fn all_stays(reached: &ReachedAfter, attached: bool) -> bool
 
 /// Whether what levels tell stays.
 fn told_stays(told: &ToldAfter) -> bool
-    ensures { result ≡ true → (old : List declared.Candidate) → told_after told.now old ≡ old }
+    ensures { result ≡ true → (old : List declared.Candidate) → told_then told.now old ≡ old }
 {
     match &told.made {
         Some(_) => false,

@@ -186,14 +186,14 @@ fn made(
 
 /// What both levels tell of prefixes, the ways by default, and whether the router is attached.
 #[derive(Drop)]
-pub(crate) struct Reached {
+struct Reached {
     pub told: Vec<Candidate>,
     pub defaults: Vec<Candidate>,
     pub attached: bool,
 }
 
 /// What these distances reach.
-pub(crate) fn all_reached(
+fn all_reached(
     alloc: Global,
     view: &View<'_>,
     one: &Repaired,

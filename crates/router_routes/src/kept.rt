@@ -15,20 +15,20 @@ ghost use Rattle.router_routes.specs.Following.{IsFollowing, IsLevel};
 ghost use Rattle.router_routes.specs.Kept.{AreAmong, AreBeside, AreSame, CostBeside, HaveToldIds, stays, systems_among};
 ghost use Rattle.router_routes.specs.Moved.{AreFit, AreNodes, IsFit, is_among, nodes_in, nodes_of, outlook_at, told_of};
 ghost use Rattle.router_routes.specs.Outlooks.{outlook_in, where_run};
-ghost use Rattle.router_routes.specs.Coming.{AreLevelsBeside, HaveNumbers, moved_in};
+ghost use Rattle.router_routes.specs.Coming.{AreLevelsBeside, HaveNumbers, moved_in, told_then};
 ghost use Rattle.router_routes.specs.Touched.{AreKeptWith, AreStill, HaveVia, IsReachedAfter, is_by, prefixes_via};
 
 use crate::buckets_after::BucketAfter;
 use crate::candidates::{add_all, add_defaults, add_told};
-use crate::coming::{LevelAfter, LevelsAfter, ReachedAfter, ToldAfter, newest_costs, reached_anew};
-use crate::following::{Following, all_reached, attached};
+use crate::coming::{LevelAfter, LevelsAfter, ReachedAfter, ToldAfter, newest_costs, told_anew};
+use crate::following::{Following, attached};
 use crate::lent::Lent;
 use crate::numbers::{in_order, is_by};
 use crate::replaced::{add_prefixes, all_with, told_with};
 use crate::same::same_candidate;
 use crate::systems::{level_systems, systems_among};
 use crate::told::{Moved, Told};
-use crate::touched::{add_table, add_via, node_numbers};
+use crate::touched::node_numbers;
 use crate::view::{LevelView, View, as_lent, nodes_law};
 use isis_base::laws::lsp_id_law;
 use isis_base::{Level, LevelSet, LspId, NodeId, OutOfMemory, Prefix};
@@ -39,63 +39,8 @@ use spf_tree::parts::number;
 use std::alloc::Global;
 
 impl Following {
-    /// What is reached where these nodes moved, at these costs. Where many moved, all is made anew.
-    pub(crate) fn reached_with(
-        &self,
-        lent: &Lent<'_>,
-        view: &View<'_>,
-        nodes: &[NodeId],
-        one: &Repaired,
-        two: &Repaired,
-    ) -> Result<ReachedAfter, OutOfMemory>
-        requires follows { IsFollowing (outlook_in lent.now) self.now }
-        requires beside { AreBeside nodes.now (outlook_in lent.now) (outlook_at view.now) }
-        requires nodes { AreNodes nodes.now }
-        requires costs_one { CostBeside nodes.now self.now.levels.one.distances one.now.distances }
-        requires costs_two { CostBeside nodes.now self.now.levels.two.distances two.now.distances }
-        requires store { view.now.two.store ≡ lent.now.two }
-        requires fit { AreFit view.now }
-        requires one { IsLevel (outlook_at view.now) level.One one.now }
-        requires two { IsLevel (outlook_at view.now) level.Two two.now }
-        ensures { IfOk result (λ reached.
-            IsReachedAfter nodes.now (outlook_at view.now) self.now reached) }
-    {
-        if nodes.len() > MOST {
-            return self.all_after(view, nodes, one, two);
-        }
-        self.reached_after(lent, view, nodes, one, two)
-    }
-
-    /// The same, made anew.
-    fn all_after(
-        &self,
-        view: &View<'_>,
-        nodes: &[NodeId],
-        one: &Repaired,
-        two: &Repaired,
-    ) -> Result<ReachedAfter, OutOfMemory>
-        requires fit { AreFit view.now }
-        requires one { IsLevel (outlook_at view.now) level.One one.now }
-        requires two { IsLevel (outlook_at view.now) level.Two two.now }
-        ensures { IfOk result (λ reached.
-            IsReachedAfter nodes.now (outlook_at view.now) self.now reached) }
-    {
-        let unsorted = node_numbers(self.alloc, nodes)?;
-        let numbers = in_order(unsorted);
-        let mut prefixes = Vec::new(self.alloc);
-        add_table(&mut prefixes, numbers.as_slice(), &self.told)?;
-        let reached = all_reached(self.alloc, view, one, two)?;
-        match add_via(&mut prefixes, numbers.as_slice(), reached.told.as_slice()) {
-            Ok(()) => reached_anew(self.alloc, reached, prefixes),
-            Err(error) => {
-                drop(reached);
-                Err(error)
-            }
-        }
-    }
-
     /// What is reached where these nodes moved, at these costs.
-    fn reached_after(
+    pub(crate) fn reached_with(
         &self,
         lent: &Lent<'_>,
         view: &View<'_>,
@@ -135,16 +80,52 @@ impl Following {
             moved,
             ways.as_slice(),
         )?;
-        let buckets = self.buckets_with(&mut apart, lent, nodes, moved, come.as_slice())?;
+        let told = self.told_with(&mut apart, lent, nodes, moved, come.as_slice())?;
         Ok(ReachedAfter {
-            told: ToldAfter {
-                made: None,
-                buckets,
-            },
+            told,
             defaults,
             attached,
             prefixes: apart,
         })
+    }
+
+    /// What levels tell where these candidates come in the place of those by way of these nodes. Adds the prefixes of those that go
+    /// and of those that come.
+    fn told_with(
+        &self,
+        prefixes: &mut Vec<Prefix>,
+        lent: &Lent<'_>,
+        nodes: &[NodeId],
+        moved: &[u64],
+        come: &[Candidate],
+    ) -> Result<ToldAfter, OutOfMemory>
+        requires follows { IsFollowing (outlook_in lent.now) self.now }
+        requires nodes { AreNodes nodes.now }
+        requires rising { IsStrictlyIncreasing moved.now }
+        requires numbers { (n : ℕ) → is_moved moved.now n ≡ is_among nodes.now n }
+        ensures told { IfOk result (λ told. AreSame (told_then told self.now.told)
+            (filter (stays nodes.now) self.now.told ++ come.now)) }
+        ensures prefixes { OnOk result (HaveVia moved.now self.now.told come.now
+            prefixes.old.items prefixes.new.items) }
+    {
+        if self.are_many(come) {
+            return match all_with(self.alloc, prefixes, &self.told, moved, come) {
+                Ok(table) => Ok(told_anew(self.alloc, table)),
+                Err(error) => Err(error),
+            };
+        }
+        match self.buckets_with(prefixes, lent, nodes, moved, come) {
+            Ok(buckets) => Ok(ToldAfter {
+                made: None,
+                buckets,
+            }),
+            Err(error) => Err(error),
+        }
+    }
+
+    /// Whether so many candidates come that all buckets are made anew.
+    fn are_many(&self, come: &[Candidate]) -> bool {
+        come.len() > FEW && come.len() > self.routes.list().len() / PART
     }
 
     /// The buckets that will be others where these candidates come in the place of those by way of these nodes. Adds the prefixes
@@ -166,10 +147,6 @@ impl Following {
         ensures prefixes { OnOk result (HaveVia moved.now self.now.told come.now
             prefixes.old.items prefixes.new.items) }
     {
-        let many = come.len() > FEW;
-        if many {
-            return all_with(self.alloc, prefixes, &self.told, moved, come);
-        }
         lent_ids(lent);
         let _one = self.one.distances();
         let _two = self.two.distances();
@@ -256,11 +233,10 @@ impl Following {
     }
 }
 
-/// How many nodes may move before all that is reached is made anew.
-const MOST: usize = 512;
+/// How many candidates may come before all buckets are made anew, and which part of the routes, where that is more.
+const FEW: usize = 16;
 
-/// How many candidates may come before all buckets are made anew.
-const FEW: usize = 256;
+const PART: usize = 16;
 
 /// The nodes that tell other things, and those whose costs in a level may be others; some may be there twice.
 pub(crate) fn moved(
@@ -397,7 +373,10 @@ fn told_of_nodes(
         ++ flat_map (system_candidates level.Two (outlook_at view.now).told.two)
         (systems_among (cost_at two.now.distances) (node_number two.now.graph.root) nodes.now)) }
 {
-    let mut list = Vec::new(alloc);
+    let mut list = match Vec::with_capacity(alloc, nodes.len()) {
+        Ok(list) => list,
+        Err(_) => return Err(OutOfMemory),
+    };
     add_level(
         alloc,
         &mut list,

@@ -58,7 +58,7 @@ fn rows_told(alloc: Global, level: &LevelView<'_>) -> Result<Vec<Row>, OutOfMemo
         Some(moved) => moved,
         None => return Ok(old),
     };
-    let here = lsp_view::rows(alloc, moved.aside)?;
+    let here = moved.aside.rows(alloc)?;
     let mut rows = Vec::new(alloc);
     add_rows(&mut rows, old.as_slice(), moved.nodes, false)?;
     add_rows(&mut rows, here.as_slice(), moved.nodes, true)?;
@@ -99,7 +99,7 @@ fn overloaded_told(alloc: Global, level: &LevelView<'_>) -> Result<Vec<NodeId>, 
         Some(moved) => moved,
         None => return Ok(old),
     };
-    let here = lsp_view::overloaded(alloc, moved.aside)?;
+    let here = moved.aside.overloaded(alloc)?;
     let mut nodes = Vec::new(alloc);
     add_nodes(&mut nodes, old.as_slice(), moved.nodes, false)?;
     add_nodes(&mut nodes, here.as_slice(), moved.nodes, true)?;

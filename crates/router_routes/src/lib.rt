@@ -9,7 +9,7 @@
 //!
 //! - `lent.rt`: what of a router routes look at; `level_graph.rt`: the graph of a level
 //! - `bucketed.rt`: what levels tell, in buckets by prefix; `buckets_after.rt`: the same where some will be others;
-//!   `replaced.rt`: which will be others
+//!   `replaced.rt`: which will be others; `remade.rt`: a bucket made anew
 //! - `systems.rt`: the systems that a level reaches; `candidates.rt`: what they and the router tell
 //! - `differences.rt`: the rows that two graphs don't share
 //! - `told.rt`: what will be told by some nodes; `view.rt`: the same where their LSPs are read aside
@@ -41,6 +41,7 @@ mod near;
 mod numbers;
 mod own;
 mod patched;
+mod remade;
 mod replaced;
 mod same;
 mod systems;

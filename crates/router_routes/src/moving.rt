@@ -3,6 +3,7 @@ ghost use Rattle.std.specs.Prelude.{◌≡◌, ◌+◌, ◌-◌, ◌^◌, ◌<�
 ghost use Rattle.spf_tree.specs.declared.row.Row as row;
 ghost use Rattle.spf_tree.specs.Graphs.{GraphOf, AreUsable, times};
 ghost use Rattle.spf_tree.specs.Nodes.{node_number};
+ghost use Rattle.lsp_view.specs.Lsps.{entries_in};
 ghost use Rattle.lsp_view.specs.Views.{rows_in, overloaded_in};
 ghost use Rattle.router_routes.specs.Differences.{ArePartedRows};
 ghost use Rattle.router_routes.specs.Near.{touches};
@@ -14,9 +15,10 @@ use crate::differences::rows_apart;
 use crate::following::followed;
 use crate::near::{graph_near, touching};
 use crate::told::Moved;
-use crate::view::{LevelView, store_at};
+use crate::view::{LevelView, lsps_at};
 use isis_base::{NodeId, OutOfMemory};
 use lsp_store::Store;
+use lsp_view::Lsps;
 use spf_repair::{Repaired, Steps};
 use spf_tree::parts::{number, rows_in_order};
 use spf_tree::{Graph, Row};
@@ -80,7 +82,7 @@ fn nodes_after(
     requires fit { IsReadable store.now.entries moved }
     ensures costs { IfOk result (λ new. AreCosts
         (told_after moved.entry.nodes.now (told_in store.now.entries)
-        (told_in moved.entry.aside.now.entries)) old.now.root (or_old new old.now)) }
+        (told_in (entries_in moved.entry.aside))) old.now.root (or_old new old.now)) }
     ensures rows { IfOk result (λ new. AreRowsMoved old.now new) }
 {
     let Moved { nodes, aside } = moved;
@@ -108,14 +110,14 @@ fn node_after(
     so_far: Option<CostsMoved>,
     before: &LevelView<'_>,
     node: NodeId,
-    aside: &Store,
+    aside: Lsps<'_>,
 ) -> Result<Option<CostsMoved>, OutOfMemory>
     requires costs { AreCosts (told_of before.now) old.now.root (or_old so_far old.now) }
     requires rows { AreRowsMoved old.now so_far }
     requires fit { IsFit before.now }
     requires told { IsListing (told_of before.now) }
     ensures costs { IfOk result (λ new. AreCosts
-        (told_with node (told_of before.now) (told_in aside.now.entries)) old.now.root
+        (told_with node (told_of before.now) (told_in (entries_in aside.entry))) old.now.root
         (or_old new old.now)) }
     ensures rows { IfOk result (λ new. AreRowsMoved old.now new) }
 {
@@ -250,7 +252,7 @@ fn differences(
     now: &Repaired,
     before: &LevelView<'_>,
     node: NodeId,
-    aside: &Store,
+    aside: Lsps<'_>,
 ) -> Result<(Vec<Row>, Vec<Row>), OutOfMemory>
     requires costs { AreCosts (told_of before.now) now.now.root now.now }
     requires fit { IsFit before.now }
@@ -261,11 +263,11 @@ fn differences(
     ensures then { IfOk result (λ both. (next : GraphOf)
         → ((x : row.Row) → times next.rows x + times both.0.items x
         ≡ times now.now.graph.rows x + times both.1.items x) → next.root ≡ now.now.root
-        → AreUsable (rows_in (told_with node (told_of before.now) (told_in aside.now.entries)))
-        (overloaded_in (told_with node (told_of before.now) (told_in aside.now.entries)))
+        → AreUsable (rows_in (told_with node (told_of before.now) (told_in (entries_in aside.entry))))
+        (overloaded_in (told_with node (told_of before.now) (told_in (entries_in aside.entry))))
         now.now.root next) }
 {
-    let _aside = aside.len();
+    aside.kept();
     let near = graph_near(alloc, before, node, aside, now.graph().root())?;
     let old = rows_at(alloc, now, before, node)?;
     rows_apart(alloc, old.as_slice(), rows_in_order(&near))
@@ -289,8 +291,8 @@ fn rows_at(
     if rows.len() <= FEW {
         return touching(alloc, rows, number(node));
     }
-    let store = store_at(before, node);
-    let near = graph_near(alloc, before, node, store, now.graph().root())?;
+    let lsps = lsps_at(before, node);
+    let near = graph_near(alloc, before, node, lsps, now.graph().root())?;
     match Vec::from_slice(alloc, rows_in_order(&near)) {
         Ok(list) => Ok(list),
         Err(_) => Err(OutOfMemory),

@@ -5,16 +5,16 @@ ghost use Rattle.std.specs.List.Sorted.{IsPermutation, IsNonDecreasingBy};
 ghost use Rattle.isis_base.specs.declared.identifiers.NodeId as node_id;
 ghost use Rattle.spf_tree.specs.Nodes.{node_number};
 ghost use Rattle.spf_tree.specs.Graphs.{is_overloaded};
+ghost use Rattle.lsp_view.specs.Lsps.{entries_in};
 ghost use Rattle.lsp_view.specs.Views.{rows_in, overloaded_in};
 ghost use Rattle.router_routes.specs.Told.{told_in};
 ghost use Rattle.router_routes.specs.Moved.{IsFit, IsListing, told_of, told_with};
 ghost use Rattle.router_routes.specs.Near.{touches, rows_from, rows_to, other_ends, is_first, once_each, AreEnds, near_rows, near_overloaded, IsNear};
 
-use crate::view::{LevelView, store_at};
+use crate::view::{LevelView, lsps_at};
 use isis_base::laws::lsp_id_law;
 use isis_base::{LspId, NodeId, OutOfMemory};
-use lsp_store::Store;
-use lsp_view::{is_overloaded_at, rows_at};
+use lsp_view::Lsps;
 use spf_tree::parts::number;
 use spf_tree::{Graph, Row, usable};
 use std::alloc::Global;
@@ -26,15 +26,15 @@ pub(crate) fn graph_near(
     alloc: Global,
     before: &LevelView<'_>,
     node: NodeId,
-    aside: &Store,
+    aside: Lsps<'_>,
     root: NodeId,
 ) -> Result<Graph, OutOfMemory>
     requires fit { IsFit before.now }
     requires told { IsListing (told_of before.now) }
     ensures { IfOk result (λ graph. IsNear
-        (told_with node (told_of before.now) (told_in aside.now.entries)) root node graph) }
+        (told_with node (told_of before.now) (told_in (entries_in aside.entry))) root node graph) }
 {
-    let _aside = aside.len();
+    aside.kept();
     let mut rows = rows_from(alloc, aside, node)?;
     let ends = ends_beside(alloc, rows.as_slice(), number(node))?;
     add_rows_to(alloc, &mut rows, before, number(node), ends.as_slice())?;
@@ -69,13 +69,13 @@ fn touches(node: u64, row: &Row) -> bool
 }
 
 /// The rows that a node lists.
-fn rows_from(alloc: Global, store: &Store, node: NodeId) -> Result<Vec<Row>, OutOfMemory>
+fn rows_from(alloc: Global, lsps: Lsps<'_>, node: NodeId) -> Result<Vec<Row>, OutOfMemory>
     ensures { IfOk result (λ rows. rows.items
-        ≡ rows_from (node_number node) (rows_in (told_in store.now.entries))) }
+        ≡ rows_from (node_number node) (rows_in (told_in (entries_in lsps.entry)))) }
 {
     lsp_id_law(LspId { node, number: 255 });
-    let _entries = store.len();
-    rows_at(alloc, store, node)
+    lsps.kept();
+    lsps.rows_at(alloc, node)
 }
 
 /// The rows that a node lists, where its LSPs are read.
@@ -85,9 +85,9 @@ fn rows_read(alloc: Global, level: &LevelView<'_>, node: NodeId) -> Result<Vec<R
     ensures { IfOk result (λ rows. rows.items
         ≡ rows_from (node_number node) (rows_in (told_of level.now))) }
 {
-    let store = store_at(level, node);
-    let _entries = store.len();
-    rows_from(alloc, store, node)
+    let lsps = lsps_at(level, node);
+    lsps.kept();
+    rows_from(alloc, lsps, node)
 }
 
 /// Whether a node is overloaded, where its LSPs are read.
@@ -95,18 +95,17 @@ fn is_over_read(level: &LevelView<'_>, node: NodeId) -> bool
     requires fit { IsFit level.now }
     ensures { result ≡ is_overloaded (overloaded_in (told_of level.now)) (node_number node) }
 {
-    let store = store_at(level, node);
-    is_over(store, node)
+    is_over(lsps_at(level, node), node)
 }
 
 /// Whether a node is overloaded.
-fn is_over(store: &Store, node: NodeId) -> bool
+fn is_over(lsps: Lsps<'_>, node: NodeId) -> bool
     ensures { result
-        ≡ is_overloaded (overloaded_in (told_in store.now.entries)) (node_number node) }
+        ≡ is_overloaded (overloaded_in (told_in (entries_in lsps.entry))) (node_number node) }
 {
     lsp_id_law(LspId { node, number: 0 });
-    let _entries = store.len();
-    is_overloaded_at(store, node)
+    lsps.kept();
+    lsps.is_overloaded_at(node)
 }
 
 /// The ends of some rows beside the node, each once.
@@ -216,12 +215,12 @@ fn overloaded_near(
     alloc: Global,
     before: &LevelView<'_>,
     node: NodeId,
-    aside: &Store,
+    aside: Lsps<'_>,
     ends: &[NodeId],
 ) -> Result<Vec<NodeId>, OutOfMemory>
     requires { IsFit before.now }
     ensures { IfOk result (λ nodes. nodes.items ≡ near_overloaded node
-        (is_overloaded (overloaded_in (told_in aside.now.entries)) (node_number node)) ends.now
+        (is_overloaded (overloaded_in (told_in (entries_in aside.entry))) (node_number node)) ends.now
         (overloaded_in (told_of before.now))) }
 {
     let mut nodes = Vec::new(alloc);
@@ -231,12 +230,12 @@ fn overloaded_near(
 }
 
 /// Adds a node where it is overloaded.
-fn add_overloaded(nodes: &mut Vec<NodeId>, store: &Store, node: NodeId) -> Result<(), OutOfMemory>
+fn add_overloaded(nodes: &mut Vec<NodeId>, lsps: Lsps<'_>, node: NodeId) -> Result<(), OutOfMemory>
     ensures { OnOk result (nodes.new.items ≡ nodes.old.items
-        ++ (if is_overloaded (overloaded_in (told_in store.now.entries)) (node_number node)
+        ++ (if is_overloaded (overloaded_in (told_in (entries_in lsps.entry))) (node_number node)
         then node ∷ [] else [])) }
 {
-    if !is_over(store, node) {
+    if !is_over(lsps, node) {
         return Ok(());
     }
     match nodes.push(node) {

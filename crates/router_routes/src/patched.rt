@@ -10,7 +10,7 @@ ghost use Rattle.router_routes.specs.Outlooks.{outlook_in};
 ghost use Rattle.router_routes.specs.Following.{IsFollowing};
 ghost use Rattle.router_routes.specs.Kept.{AreReached};
 ghost use Rattle.router_routes.specs.Moved.{AreViewed, outlook_at};
-ghost use Rattle.router_routes.specs.Coming.{AreLevels, AreRoutesAfter, list_after, told_after};
+ghost use Rattle.router_routes.specs.Coming.{AreLevels, AreRoutesAfter, list_after, told_then};
 ghost use Rattle.router_routes.specs.Touched.{ArePatchesFor, AreRoutesFor, AreStill, IsReachedAfter};
 
 use crate::bucketed::Bucketed;
@@ -69,7 +69,7 @@ impl Following {
     /// What is reached, as it is read.
     fn reached_view<'a>(&'a self, reached: &'a ReachedAfter) -> ReachedView<'a>
         ensures told { with_buckets result.after.now (all_in result.told.now)
-            ≡ told_after reached.now.told self.now.told }
+            ≡ told_then reached.now.told self.now.told }
         ensures ways { result.ways.now ≡ list_after reached.now.defaults self.now.defaults }
         ensures attached { result.attached ≡ reached.now.attached }
     {

@@ -1,17 +1,16 @@
 //! The buckets that will be others where candidates come in the place of those by way of some nodes (own).
-ghost use Rattle.std.specs.Prelude.{[], ◌≡◌, ◌↔◌, ◌==◌, ◌++◌, ◌<◌, ℕ, true, not, filter, map, List, IfOk, OnOk};
+ghost use Rattle.std.specs.Prelude.{[], ◌≡◌, ◌==◌, ◌++◌, ◌<◌, ℕ, not, filter, map, List, IfOk, OnOk};
 ghost use Rattle.std.specs.List.{Contains};
 ghost use Rattle.std.specs.List.Sorted.{IsStrictlyIncreasing};
 ghost use Rattle.route_table.specs.declared.candidate.Candidate as declared;
-ghost use Rattle.router_routes.specs.Buckets.{AgreeIn, AreApart, AreReplaced, AreUpTo, LieIn, all_in, bucket_of, made_or, with_buckets};
+ghost use Rattle.router_routes.specs.Buckets.{AgreeIn, AreApart, AreReplaced, LieIn, all_in, bucket_of, made_or, with_buckets};
 ghost use Rattle.router_routes.specs.Kept.{AreSame};
 ghost use Rattle.router_routes.specs.Touched.{HaveVia, is_by, prefix_of};
 
-use crate::bucketed::{BUCKETS, Bucketed, bucket_of};
+use crate::bucketed::{Bucketed, bucket_of};
 use crate::buckets_after::BucketAfter;
 use crate::numbers::{in_order, is_by};
 use crate::same::same_candidate;
-use crate::touched::add_table;
 use isis_base::{OutOfMemory, Prefix};
 use route_table::Candidate;
 use std::alloc::Global;
@@ -53,16 +52,16 @@ pub(crate) fn told_with(
     buckets_at(alloc, table, moved, come, places.as_slice())
 }
 
-/// The same where candidates come for most buckets: all are made anew, and those that go are looked for in all.
+/// The whole table then, where candidates come for most buckets: those that go are looked for in all. Adds the same prefixes.
 pub(crate) fn all_with(
     alloc: Global,
     prefixes: &mut Vec<Prefix>,
     table: &Bucketed,
     moved: &[u64],
     come: &[Candidate],
-) -> Result<Vec<BucketAfter>, OutOfMemory>
+) -> Result<Bucketed, OutOfMemory>
     requires { IsStrictlyIncreasing moved.now }
-    ensures told { IfOk result (λ buckets. AreSame (with_buckets buckets.items (all_in table.now))
+    ensures told { IfOk result (λ made. AreSame (all_in made)
         (filter (λ c. not (is_by moved.now c)) (all_in table.now) ++ come.now)) }
     ensures prefixes { OnOk result (HaveVia moved.now (all_in table.now) come.now
         prefixes.old.items prefixes.new.items) }
@@ -71,29 +70,7 @@ pub(crate) fn all_with(
         Ok(()) => {}
         Err(error) => return Err(error),
     }
-    match add_table(prefixes, moved, table) {
-        Ok(()) => {}
-        Err(error) => return Err(error),
-    }
-    let places = match all_places(alloc) {
-        Ok(places) => places,
-        Err(error) => return Err(error),
-    };
-    buckets_at(alloc, table, moved, come, places.as_slice())
-}
-
-/// All buckets, in order.
-fn all_places(alloc: Global) -> Result<Vec<u64>, OutOfMemory>
-    ensures { IfOk result (λ places. AreUpTo 251 places.items) }
-{
-    let mut places = Vec::new(alloc);
-    for place in 0..BUCKETS as u64 {
-        match places.push(place) {
-            Ok(()) => {}
-            Err(_) => return Err(OutOfMemory),
-        }
-    }
-    Ok(places)
+    table.with(alloc, prefixes, moved, come)
 }
 
 /// What is left of both lists without the candidates that they begin with alike, and those that they end with alike.
@@ -143,6 +120,10 @@ pub(crate) fn add_prefixes(
     ensures { OnOk result (prefixes.new.items
         ≡ prefixes.old.items ++ map prefix_of candidates.now) }
 {
+    match prefixes.reserve(candidates.len()) {
+        Ok(()) => {}
+        Err(_) => return Err(OutOfMemory),
+    }
     for candidate in candidates {
         match prefixes.push(candidate.prefix) {
             Ok(()) => {}

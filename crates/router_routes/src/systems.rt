@@ -1,10 +1,11 @@
 //! The systems that a level reaches (ISO 10589 C.2), and whether one of them is in another area.
-ghost use Rattle.std.specs.Prelude.{[], ◌≡◌, ◌++◌, map, IfOk, OnOk};
+ghost use Rattle.std.specs.Prelude.{[], ◌≡◌, ◌++◌, ◌∷◌, map, IfOk, OnOk};
 ghost use Rattle.std.specs.List.{flat_map};
 ghost use Rattle.lsp_store.specs.declared.entry.Entry as entry;
 ghost use Rattle.spf_tree.specs.Nodes.{node_number};
 ghost use Rattle.spf_tree.specs.Graphs.{AreUsable};
 ghost use Rattle.spf_tree.specs.Distances.{cost_at};
+ghost use Rattle.lsp_view.specs.Lsps.{entries_in};
 ghost use Rattle.lsp_view.specs.Views.{own_node, rows_in, overloaded_in, lead_of, areas_at};
 ghost use Rattle.route_leaking.specs.Attachment.{is_attached};
 ghost use Rattle.router_routes.specs.Told.{told_in};
@@ -13,10 +14,10 @@ ghost use Rattle.router_routes.specs.Outlooks.{where_run};
 ghost use Rattle.router_routes.specs.Candidates.{leads_other, reached_by, reached_in};
 ghost use Rattle.router_routes.specs.Kept.{AreSame, system_at, systems_among};
 
-use crate::view::{LevelView, is_one, store_of};
+use crate::view::{LevelView, is_one, lsps_of};
 use isis_base::{AreaAddress, LspId, NodeId, OutOfMemory, SystemId};
-use lsp_store::Store;
-use lsp_view::area_list;
+use lsp_store::Entry;
+use lsp_view::{Lsps, is_live};
 use spf_repair::Repaired;
 use spf_tree::Distances;
 use spf_tree::parts::number;
@@ -55,13 +56,14 @@ fn reached(
 {
     let mut list = with_room(alloc, told.store.len())?;
     let start = number(root);
+    let held = Lsps::of(told.store);
     match told.moved {
-        None => match add_those(&mut list, told.store, &[], false, distances, start) {
+        None => match add_those(&mut list, held, &[], false, distances, start) {
             Ok(()) => Ok(list),
             Err(error) => Err(error),
         },
         Some(moved) => {
-            add_those(&mut list, told.store, moved.nodes, false, distances, start)?;
+            add_those(&mut list, held, moved.nodes, false, distances, start)?;
             add_those(&mut list, moved.aside, moved.nodes, true, distances, start)?;
             Ok(list)
         }
@@ -78,10 +80,10 @@ fn with_room(alloc: Global, lsps: usize) -> Result<Vec<(SystemId, u64)>, OutOfMe
     }
 }
 
-/// Adds those of a database that are among some nodes, or that are beside them.
+/// Adds those of some LSPs that are among some nodes, or that are beside them.
 fn add_those(
     list: &mut Vec<(SystemId, u64)>,
-    store: &Store,
+    lsps: Lsps<'_>,
     nodes: &[NodeId],
     there: bool,
     distances: &Distances,
@@ -90,17 +92,39 @@ fn add_those(
     requires { NodesRise 0 nodes.now }
     ensures { OnOk result (list.new.items ≡ list.old.items
         ++ flat_map (reached_by (cost_at distances.now) root)
-        (told_by_nodes (is_one there nodes.now) (told_in store.now.entries))) }
+        (told_by_nodes (is_one there nodes.now) (told_in (entries_in lsps.entry)))) }
 {
-    for (id, _) in store.live() {
-        if is_one(there, nodes, number(id.node)) {
-            match add_reached(list, id, distances, root) {
-                Ok(()) => {}
-                Err(error) => return Err(error),
-            }
+    for (id, entry) in lsps.iter() {
+        match add_where(list, id, entry, nodes, there, distances, root) {
+            Ok(()) => {}
+            Err(error) => return Err(error),
         }
     }
     Ok(())
+}
+
+/// Adds the system whose number 0 a live LSP is, where it is among some nodes, or beside them.
+fn add_where(
+    list: &mut Vec<(SystemId, u64)>,
+    id: LspId,
+    entry: &Entry,
+    nodes: &[NodeId],
+    there: bool,
+    distances: &Distances,
+    root: u64,
+) -> Result<(), OutOfMemory>
+    requires { NodesRise 0 nodes.now }
+    ensures { OnOk result (list.new.items ≡ list.old.items
+        ++ flat_map (reached_by (cost_at distances.now) root)
+        (told_by_nodes (is_one there nodes.now) (told_in ((id, entry.now) ∷ [])))) }
+{
+    if !is_live(entry) {
+        return Ok(());
+    }
+    if !is_one(there, nodes, number(id.node)) {
+        return Ok(());
+    }
+    add_reached(list, id, distances, root)
 }
 
 /// The systems that these nodes are, beside the root, each with its cost; none of those that have no distance.
@@ -200,7 +224,7 @@ fn areas_of(
     ensures { IfOk result (λ list. list.items
         ≡ areas_at (lead_of (told_of told.now) (own_node system))) }
 {
-    let store = store_of(told, system);
-    let _entries = store.len();
-    area_list(alloc, store, system)
+    let lsps = lsps_of(told, system);
+    lsps.kept();
+    lsps.area_list(alloc, system)
 }

@@ -1,12 +1,12 @@
 //! What will be told: nodes with what their LSPs will be, and own prefixes (own).
 use isis_base::{NodeId, Prefix};
-use lsp_store::Store;
+use lsp_view::Lsps;
 
-/// Nodes in order, each once, and a database that holds what their live LSPs will be, and nothing else.
+/// Nodes in order, each once, with what their LSPs will be, and no others.
 #[derive(Clone, Copy)]
 pub struct Moved<'a> {
     pub nodes: &'a [NodeId],
-    pub aside: &'a Store,
+    pub aside: Lsps<'a>,
 }
 
 /// What will be others of what routes look at: what these nodes tell in each level, and one's own prefixes; `None` where all of

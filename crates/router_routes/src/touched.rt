@@ -9,7 +9,7 @@ ghost use Rattle.router_routes.specs.Buckets.{all_in};
 ghost use Rattle.router_routes.specs.Outlooks.{outlook_in};
 ghost use Rattle.router_routes.specs.Moved.{AreViewed, is_among, outlook_at};
 ghost use Rattle.router_routes.specs.Following.{IsFollowing};
-ghost use Rattle.router_routes.specs.Coming.{AreLevels, HopsStay, apart_in, hops_after, told_after};
+ghost use Rattle.router_routes.specs.Coming.{AreLevels, HopsStay, apart_in, hops_after, told_then};
 ghost use Rattle.router_routes.specs.Touched.{AreApartBeside, AreStill, AreTouched, HaveOwn, HaveVia, IsReachedAfter, prefixes_via};
 
 use crate::bucketed::{BUCKETS, Bucketed};
@@ -45,7 +45,7 @@ impl Following {
         requires reached { IsReachedAfter nodes.now (outlook_at view.now) self.now reached.now }
         ensures { IfOk result (λ prefixes. AreTouched nodes.now self.now levels.now
             (outlook_in lent.now).prefixes (outlook_at view.now).prefixes
-            (told_after reached.now.told self.now.told) prefixes.items) }
+            (told_then reached.now.told self.now.told) prefixes.items) }
     {
         let beside = self.apart_beside(nodes, levels)?;
         let mut prefixes = own_touched(self.alloc, lent, told, view)?;
@@ -76,7 +76,10 @@ impl Following {
 pub(crate) fn node_numbers(alloc: Global, nodes: &[NodeId]) -> Result<Vec<u64>, OutOfMemory>
     ensures { IfOk result (λ numbers. numbers.items ≡ map node_number nodes.now) }
 {
-    let mut numbers = Vec::new(alloc);
+    let mut numbers = match Vec::with_capacity(alloc, nodes.len()) {
+        Ok(numbers) => numbers,
+        Err(_) => return Err(OutOfMemory),
+    };
     for node in nodes {
         match numbers.push(number(*node)) {
             Ok(()) => {}
@@ -181,7 +184,7 @@ fn add_listed(prefixes: &mut Vec<Prefix>, more: &[Prefix]) -> Result<(), OutOfMe
 }
 
 /// Adds the prefixes of a table's candidates by way of nodes of these numbers, where there are numbers.
-pub(crate) fn add_table(
+fn add_table(
     prefixes: &mut Vec<Prefix>,
     numbers: &[u64],
     table: &Bucketed,
@@ -200,22 +203,6 @@ pub(crate) fn add_table(
         }
     }
     Ok(())
-}
-
-/// Adds the prefixes of candidates by way of nodes of these numbers, where there are numbers.
-pub(crate) fn add_via(
-    prefixes: &mut Vec<Prefix>,
-    numbers: &[u64],
-    candidates: &[Candidate],
-) -> Result<(), OutOfMemory>
-    requires { IsStrictlyIncreasing numbers.now }
-    ensures { OnOk result (prefixes.new.items
-        ≡ prefixes.old.items ++ prefixes_via numbers.now candidates.now) }
-{
-    if numbers.is_empty() {
-        return Ok(());
-    }
-    add_touched(prefixes, numbers, candidates)
 }
 
 /// Adds the prefixes of candidates by way of nodes of these numbers.

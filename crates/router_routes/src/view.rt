@@ -1,5 +1,6 @@
 //! What routes look at, where what some nodes tell is read elsewhere (own).
 ghost use Rattle.std.specs.Prelude.{◌≡◌, IfSome, MatchOption};
+ghost use Rattle.lsp_view.specs.Lsps.{entries_in};
 ghost use Rattle.lsp_view.specs.Views.{own_node, lead_of, reach_in};
 ghost use Rattle.router_routes.specs.Told.{told_in};
 ghost use Rattle.router_routes.specs.Kept.{AreBeside};
@@ -12,6 +13,7 @@ use crate::told::{Moved, Told};
 use isis_base::laws::lsp_id_law;
 use isis_base::{AreaAddress, LevelSet, LspId, NodeId, Prefix, SystemId};
 use lsp_store::Store;
+use lsp_view::Lsps;
 use spf_tree::parts::number;
 
 /// The database of a level, where the LSPs of some nodes may be read in another one.
@@ -76,7 +78,7 @@ fn moved_law(moved: Option<Moved<'_>>)
 {
     match moved {
         Some(moved) => {
-            let _aside = moved.aside.len();
+            moved.aside.kept();
             nodes_law(moved.nodes);
         }
         None => {}
@@ -129,35 +131,35 @@ fn prefixes_after<'a>(lent: &Lent<'a>, told: &Told<'a>) -> &'a [(Prefix, u32)]
 }
 
 /// Where the LSPs of a system are read.
-pub(crate) fn store_of<'a>(level: &LevelView<'a>, system: SystemId) -> &'a Store
+pub(crate) fn lsps_of<'a>(level: &LevelView<'a>, system: SystemId) -> Lsps<'a>
     requires { IsFit level.now }
-    ensures lead { lead_of (told_in result.now.entries) (own_node system)
+    ensures lead { lead_of (told_in (entries_in result)) (own_node system)
         ≡ lead_of (told_of level.now) (own_node system) }
-    ensures reach { reach_in (told_in result.now.entries) system
+    ensures reach { reach_in (told_in (entries_in result)) system
         ≡ reach_in (told_of level.now) system }
 {
     let node = own_node(system);
     lsp_id_law(LspId { node, number: 255 });
-    let store = store_at(level, node);
+    let lsps = lsps_at(level, node);
     let _entries = level.store.len();
-    let _its = store.len();
-    store
+    lsps.kept();
+    lsps
 }
 
 /// Where the LSPs of a node are read.
-pub(crate) fn store_at<'a>(level: &LevelView<'a>, node: NodeId) -> &'a Store
+pub(crate) fn lsps_at<'a>(level: &LevelView<'a>, node: NodeId) -> Lsps<'a>
     requires { IsFit level.now }
-    ensures { told_at node (told_in result.now.entries) ≡ told_at node (told_of level.now) }
+    ensures { told_at node (told_in (entries_in result)) ≡ told_at node (told_of level.now) }
 {
     match level.moved {
         Some(moved) => {
             if is_there(moved.nodes, number(node)) {
                 moved.aside
             } else {
-                level.store
+                Lsps::of(level.store)
             }
         }
-        None => level.store,
+        None => Lsps::of(level.store),
     }
 }
 

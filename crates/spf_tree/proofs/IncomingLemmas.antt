@@ -98,6 +98,11 @@ last-found rows nodes heads before part node place head linked is rising found h
     subst (λ (n : ℕ). IsLastBefore rows n (length rows) head) at.1
     (subst (λ (h : ℕ). IsLastBefore rows (node_at nodes place) (length rows) h) (sym head-is) (linked.last place head at.0))
 
+pub last-near : (rows : List Row) (nodes heads before part : List ℕ) (node place head : ℕ) → AreLinked rows nodes heads before (length rows) → part ≡ nodes → place < length part → get_or part place 0 ≡ node → head ≡ get_or heads place head → IsLastBefore rows node (length rows) head
+last-near rows nodes heads before part node place head linked is in' here head-is =
+    subst (λ (n : ℕ). IsLastBefore rows n (length rows) head) (subst (λ (xs : List ℕ). node_at xs place ≡ node) is here)
+    (subst (λ (h : ℕ). IsLastBefore rows (node_at nodes place) (length rows) h) (sym head-is) (linked.last place head (subst (λ (xs : List ℕ). place < length xs) is in')))
+
 pub last-lacking : (rows : List Row) (nodes part : List ℕ) (node place : ℕ) → ((row : Row) → Contains rows row → Contains nodes (end row)) → part ≡ nodes → IsStrictlyIncreasing nodes → IsBinarySearchResult (λ y. nat_cmp y node) part (Err place) → IsLastBefore rows node (length rows) 0
 last-lacking rows nodes part node place ends is rising found =
     last-none rows nodes node ends (λ there. no_place nodes node place rising there (subst (λ (xs : List ℕ). IsBinarySearchResult (λ y. nat_cmp y node) xs (Err place)) is found))

@@ -278,6 +278,9 @@ below_place labels i d rising in' k e h =
     let same = ap (λ (l : Label). l.node) (get_or_default labels i d e in') in
     omega arith
 
+pub at_near : (labels : List Label) (i n : ℕ) (d : Label) → IsRising labels → i < length labels → (get_or labels i d).node ≡ n → at labels n ≡ (get_or labels i d).cost
+at_near labels i n d rising in' is = at_place labels i n d in' (subst (λ (m : ℕ). AllBelow labels i m) is (below_place labels i d rising in')) is
+
 pub at_named : (labels : List Label) (i : ℕ) (d : Label) → IsRising labels → i < length (names labels) → at labels (get_or (names labels) i 0) ≡ (get_or labels i d).cost
 at_named labels i d rising h =
     let p = named_place labels i d h in

@@ -17,6 +17,7 @@ pub mod PassingLemmas
 pub mod PlainLemmas
 pub mod EquationLemmas
 pub mod TellingLemmas
+pub mod FoundLemmas
 pub mod WaitingLemmas
 pub mod SettlingLemmas
 pub mod IncomingLemmas

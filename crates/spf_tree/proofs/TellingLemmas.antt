@@ -5,8 +5,8 @@ use Rattle.std.specs.List.{Contains}
 use Rattle.std.proofs.lemmas.Bool.{cases_lt}
 use Rattle.std.proofs.lemmas.List.Elements.{Contains-append_cases, Contains-append_left, Contains-append_right, Contains-get_or, Contains-push, Contains-push_cases}
 use Rattle.spf_tree.specs.Passing.{AreHanded, IsPut}
-use Rattle.spf_tree.specs.Settling.{AreOfDone, AreTold, IsPicked, IsToldAlone, Tells}
-use Rattle.spf_tree.proofs.PassingLemmas.{longer-kept, longer-on, longer-same, up-all, up-more}
+use Rattle.spf_tree.specs.Settling.{AreOfDone, AreTold, IsToldAlone, Tells}
+use Rattle.spf_tree.proofs.PassingLemmas.{longer-kept, longer-on, up-all, up-more}
 
 -- ---- hops beside one node are told to another
 
@@ -41,37 +41,6 @@ handed-done known node to old new m past so_far =
 
 pub handed-all : (known : List (ℕ × ℕ)) (node to : ℕ) (old new : List (ℕ × ℕ)) → AreHanded known node to old new (length known) → (w : ℕ) → Contains known (node, w) → Contains new (to, w)
 handed-all known node to old new handed w there = up-all known (λ (p : ℕ × ℕ). p.0 ≡ node → Contains new (to, p.1)) (length known) (omega arith) handed.here (node, w) there refl
-
--- ---- one pair of many, in any order
-
-pub picked-not : (target hop node to : ℕ) (old : List (ℕ × ℕ)) → target ≢ node → IsPicked target hop node to old old
-picked-not target hop node to old ne = record { longer = longer-same old; from = λ n w h. inl h; there = λ e. absurd (ne e) }
-
-pub picked-put : (target hop node to : ℕ) (old new : List (ℕ × ℕ)) → target ≡ node → IsPut old new to hop → IsPicked target hop node to old new
-picked-put target hop node to old new e put =
-    record {
-      longer = put.longer;
-      from = λ n w h. elim (put.from n w h) [ inl was ↦ inl was | inr now ↦ inr (e, now.0, now.1) ];
-      there = λ is. put.there;
-    }
-
-pub handed-picked : (pairs : List (ℕ × ℕ)) (node to : ℕ) (old mid new : List (ℕ × ℕ)) (m : ℕ) (e : ℕ × ℕ) → m < length pairs → AreHanded pairs node to old mid m → IsPicked (get_or pairs m e).0 (get_or pairs m e).1 node to mid new → AreHanded pairs node to old new (m + 1)
-handed-picked pairs node to old mid new m e in' so_far one =
-    let hop = (get_or pairs m e).1 in
-    record {
-      longer = longer-on old mid new so_far.longer one.longer;
-      from = λ n w h.
-          elim (one.from n w h) [
-            | inl was ↦ so_far.from n w was
-            | inr now ↦
-                let pair : get_or pairs m e ≡ (node, hop) = ap (λ (x : ℕ). (x, hop)) now.0 in
-                let there : Contains pairs (node, hop) = subst (λ (p : ℕ × ℕ). Contains pairs p) pair (Contains-get_or pairs m e in') in
-                inr (now.1, subst (λ (v : ℕ). Contains pairs (node, v)) (sym now.2) there)
-          ];
-      here = up-more pairs (λ (p : ℕ × ℕ). p.0 ≡ node → Contains new (to, p.1)) m e in'
-          (λ k d l is. longer-kept mid new one.longer to (get_or pairs k d).1 (so_far.here k d l is))
-          one.there;
-    }
 
 -- ---- by what is known, or by what was found
 

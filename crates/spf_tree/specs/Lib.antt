@@ -12,3 +12,4 @@ pub mod Exploring
 pub mod Local
 pub mod Passing
 pub mod Settling
+pub mod Found

@@ -46,13 +46,6 @@ Tells known done found node hop =
     (Contains done node × Contains found (node, hop))
     ⊎ ((Contains done node → ⊥) × Contains known (node, hop))
 
--- the hop of the pair stands beside the other node if the pair is of the node
-pub record IsPicked (target hop node to : ℕ) (old new : List (ℕ × ℕ)) : Type 0 where
-  pub longer : IsLonger old new
-  pub from : (n w : ℕ) → Contains new (n, w)
-      → Contains old (n, w) ⊎ ((target ≡ node) × (n ≡ to) × (w ≡ hop))
-  pub there : target ≡ node → Contains new (to, hop)
-
 -- the hops beside one node stand beside the other too
 pub record AreTold (known : List (ℕ × ℕ)) (done : List ℕ) (found : List (ℕ × ℕ)) (node to : ℕ)
     (old new : List (ℕ × ℕ)) : Type 0 where

@@ -12,7 +12,7 @@ ghost use Rattle.spf_tree.specs.Settling.{AreOfDone, Tells};
 
 use crate::changes::{Changes, changed_hops};
 use crate::distances::Distances;
-use crate::graph::{Graph, indexed, rows_in_order};
+use crate::graph::{Graph, indexed};
 use crate::merging::merged;
 use crate::node::number;
 use crate::nodes::in_order;
@@ -64,11 +64,11 @@ fn changes_of(alloc: Global, change: &Change<'_>) -> Result<Option<Changes>, Out
         ↔ IsNextHop change.now.new.now.rows (node_number change.now.root) node hop)) }
 {
     let (root, known) = (number(change.root), pairs_of(change.table));
-    let (old_rows, new) = (rows_in_order(change.old), indexed(change.new));
+    let (old, new) = (indexed(change.old), indexed(change.new));
     let (before, after) = (change.old_distances.labels(), change.new_distances.labels());
     let (moved, removed, added) = (change.moved, change.removed, change.added);
     match changed_hops(
-        alloc, old_rows, before, new, after, root, moved, removed, added, known,
+        alloc, old, before, new, after, root, moved, removed, added, known,
     ) {
         Ok(Some(changes)) => Ok(Some(changes)),
         Ok(None) => Ok(None),

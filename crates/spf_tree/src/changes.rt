@@ -4,7 +4,6 @@ ghost use Rattle.std.specs.Prelude.{◌≡◌, ◌≤◌, ◌⊎◌, ◌↔◌, 
 ghost use Rattle.std.specs.Bool.{OnTrue};
 ghost use Rattle.std.specs.Option.{IfSome};
 ghost use Rattle.std.specs.List.{Contains};
-ghost use Rattle.std.specs.List.Sorted.{IsNonDecreasingBy};
 ghost use Rattle.spf_tree.specs.Nodes.{is_system};
 ghost use Rattle.spf_tree.specs.Walks.{start, end, AreLeast};
 ghost use Rattle.spf_tree.specs.Labels.{at};
@@ -13,6 +12,7 @@ ghost use Rattle.spf_tree.specs.Exploring.{AreReached, IsTable};
 ghost use Rattle.spf_tree.specs.Local.{AreExchanged, AreNextHops};
 ghost use Rattle.spf_tree.specs.Settling.{AreClimbing, AreOfDone, IsSettled, IsSettling, IsSettlingBut, Tells};
 
+use crate::found::Found;
 use crate::incoming::incoming;
 use crate::indexed::IndexedRows;
 use crate::labels::Labels;
@@ -97,10 +97,13 @@ fn settled_from(
         Ok(incoming) => incoming,
         Err(error) => return Err(error),
     };
-    let mut done = Vec::new(alloc);
-    let mut found = Vec::new(alloc);
+    indexed.kept();
+    let mut found = match Found::new(alloc, indexed.nodes()) {
+        Ok(found) => found,
+        Err(error) => return Err(error),
+    };
     let all = match settle_all(
-        alloc, indexed, &incoming, plain, known, labels, root, first, &mut done, &mut found, queue,
+        alloc, indexed, &incoming, plain, known, labels, root, first, &mut found, queue,
     ) {
         Ok(all) => all,
         Err(error) => return Err(error),
@@ -108,6 +111,7 @@ fn settled_from(
     if !all {
         return Ok(None);
     }
+    let (done, found) = found.apart();
     Ok(Some(Changes { done, found }))
 }
 
@@ -142,7 +146,7 @@ fn settled(
 /// The nodes that have other hops after a change. `None` where they are too many to look for one by one.
 pub fn changed_hops(
     alloc: Global,
-    old_rows: &[Row],
+    old: &IndexedRows,
     before: &Labels,
     indexed: &IndexedRows,
     after: &Labels,
@@ -152,14 +156,13 @@ pub fn changed_hops(
     added: &[Row],
     known: &[(u64, u64)],
 ) -> Result<Option<Changes>, OutOfMemory>
-    requires sorted { IsNonDecreasingBy start old_rows.now }
-    requires old { AreLeast old_rows.now root (at before.now) }
+    requires old { AreLeast old.now.rows root (at before.now) }
     requires new { AreLeast indexed.now.rows root (at after.now) }
-    requires exchanged { AreExchanged old_rows.now indexed.now.rows removed.now added.now }
+    requires exchanged { AreExchanged old.now.rows indexed.now.rows removed.now added.now }
     requires moved { (node : ℕ) → (Contains moved.now node → ⊥)
         → at before.now node ≡ at after.now node }
     requires table { IsTable known.now }
-    requires known { AreNextHops old_rows.now root known.now }
+    requires known { AreNextHops old.now.rows root known.now }
     ensures of_done { IfOk result (λ some. IfSome some (λ changes.
         AreOfDone changes.done.items changes.found.items)) }
     ensures hops { IfOk result (λ some. IfSome some (λ changes. (node hop : ℕ)
@@ -169,14 +172,12 @@ pub fn changed_hops(
     if moved.len() > MOST_MOVED || removed.len() > MOST_ROWS || added.len() > MOST_ROWS {
         return Ok(None);
     }
-    indexed.kept();
-    let rows = indexed.rows();
-    if !are_climbing(rows) {
+    if !are_climbing(indexed.rows()) {
         return Ok(None);
     }
     let mut queue = Queue::new(alloc);
     let plain = match begin(
-        alloc, old_rows, before, rows, after, root, moved, removed, added, known, &mut queue,
+        alloc, old, before, indexed, after, root, moved, removed, added, known, &mut queue,
     ) {
         Ok(Some(plain)) => plain,
         Ok(None) => return Ok(None),

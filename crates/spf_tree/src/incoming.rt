@@ -54,14 +54,18 @@ pub fn incoming(alloc: Global, indexed: &IndexedRows) -> Result<RowsInto, OutOfM
     Ok(RowsInto { heads, before })
 }
 
-/// The place behind the last row that ends at a node, 0 where none does.
-pub fn last_row(indexed: &IndexedRows, incoming: &RowsInto, node: u64) -> usize
+/// The place behind the last row that ends at a node, 0 where none does. The node is looked for at a place first.
+pub fn last_row(indexed: &IndexedRows, incoming: &RowsInto, near: usize, node: u64) -> usize
     requires { AreLinked indexed.now.rows indexed.now.nodes incoming.now.heads.items
         incoming.now.before.items (length indexed.now.rows) }
     ensures { IsLastBefore indexed.now.rows node (length indexed.now.rows) result }
 {
     indexed.kept();
-    match indexed.nodes().binary_search(&node) {
+    let nodes = indexed.nodes();
+    if near < nodes.len() && nodes[near] == node {
+        return incoming.heads[near];
+    }
+    match nodes.binary_search(&node) {
         Ok(place) => incoming.heads[place],
         Err(_) => 0,
     }

@@ -1,6 +1,7 @@
 //! Labels: what a search knows so far, looked up by binary search.
 
 ghost use Rattle.std.specs.Prelude.{◌≡◌, ◌≤◌, ◌<◌, ◌==◌, ℕ, Some, length, slice_index_or, if◌then◌else◌};
+ghost use Rattle.std.specs.Bool.{OnTrue};
 ghost use Rattle.std.specs.List.{Contains};
 ghost use Rattle.spf_tree.specs.declared.label.Label.{Label};
 ghost use Rattle.spf_tree.specs.Labels.{at};
@@ -200,6 +201,20 @@ impl Labels {
         self.get_at(place, node)
     }
 
+    /// The cost of a node, looked for at a place first.
+    pub fn get_near(&self, near: usize, node: u64) -> Option<u64>
+        ensures { result ≡ at self.now node }
+    {
+        let labels = self.items.as_slice();
+        if near >= labels.len() {
+            return self.get(node);
+        }
+        if labels[near].node != node {
+            return self.get(node);
+        }
+        labels[near].cost
+    }
+
     /// The cost of a node whose place is known.
     fn get_at(&self, place: usize, node: u64) -> Option<u64>
         requires { IsPlace self.now place node }
@@ -213,6 +228,17 @@ impl Labels {
             return None;
         }
         labels[place].cost
+    }
+
+    /// Whether the node has a label, with or without a cost.
+    pub fn has(&self, node: u64) -> bool
+        ensures { OnTrue result (Contains (names self.now) node) }
+    {
+        let place = place(self.items.as_slice(), node);
+        if place >= self.items.len() {
+            return false;
+        }
+        self.items[place].node == node
     }
 
     /// Sets the cost of a node.

@@ -15,10 +15,10 @@
 //! - `distances.rt`: what a search ends with; `scratch.rt`: distances from scratch
 //! - `reach.rt`: what least walks lead to; `next.rt`: next hops of one target; `table.rt`: of all targets at once
 //! - `plain.rt`: to which nodes rows of least walks lead over no system; `passing.rt`: what these rows pass on
-//! - `waiting.rt`: nodes that wait for their hops; `seeds.rt`: those at which a change begins; `telling.rt`: what a table tells
-//!   of a node; `incoming.rt`: the rows that end at each node; `making.rt`: the hops of a node by those before it;
-//!   `settling.rt`: node by node until none waits; `changes.rt`: the nodes that have other hops, and these; `merging.rt`,
-//!   `after.rt`: the table of all hops after a change
+//! - `waiting.rt`: nodes that wait for their hops; `seeds.rt`: those at which a change begins; `found.rt`: nodes that have
+//!   other hops, and these; `telling.rt`: what a table tells of a node; `incoming.rt`: the rows that end at each node;
+//!   `making.rt`: the hops of a node by those before it; `settling.rt`: node by node until none waits; `changes.rt`: the
+//!   nodes that have other hops, and these; `merging.rt`, `after.rt`: the table of all hops after a change
 //! - `hops.rt`: lists of systems
 //! - `offers.rt`: offers by numbers of nodes, for the crate that repairs distances
 //! - `laws.rt`: what follows for all rows
@@ -30,6 +30,7 @@ mod choice;
 mod distances;
 mod edge;
 mod edges;
+mod found;
 mod graph;
 mod hops;
 mod incoming;

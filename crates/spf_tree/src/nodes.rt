@@ -95,6 +95,14 @@ pub fn is_among(nodes: &[u64], node: u64) -> bool
     false
 }
 
+/// The place of a node, or where it would stand.
+pub fn near(nodes: &[u64], node: u64) -> usize {
+    match nodes.binary_search(&node) {
+        Ok(place) => place,
+        Err(place) => place,
+    }
+}
+
 /// Whether each row ends at one of the nodes.
 pub fn have_ends(nodes: &[u64], rows: &[Row]) -> bool
     ensures { OnTrue result ((row : Row) → Contains rows.now row → Contains nodes.now (end row)) }

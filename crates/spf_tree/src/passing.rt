@@ -3,14 +3,15 @@
 ghost use Rattle.std.specs.Prelude.{◌≡◌, ℕ, length, map, IfOk, OnOk};
 ghost use Rattle.std.specs.Bool.{OnTrue};
 ghost use Rattle.std.specs.List.{Contains};
-ghost use Rattle.std.specs.List.Sorted.{IsNonDecreasingBy};
 ghost use Rattle.spf_tree.specs.Walks.{start};
+ghost use Rattle.spf_tree.specs.Labels.{at};
 ghost use Rattle.spf_tree.specs.Passing.{IsPut, IsPassed, ArePassed, first};
 
+use crate::indexed::IndexedRows;
 use crate::labels::Labels;
 use crate::node::{is_system, number};
 use crate::offers::first_row;
-use crate::reach::is_step;
+use crate::reach::leads_by;
 use crate::row::Row;
 use isis_base::OutOfMemory;
 use std::alloc::Global;
@@ -51,22 +52,25 @@ fn add_end(found: &mut Vec<(u64, u64)>, to: u64, word: u64) -> Result<(), OutOfM
     }
 }
 
-/// Passes the word on to the end of a row, if that belongs to least walks.
+/// Passes the word on to the end of a row, if that belongs to least walks. The end's cost is looked for at a place first.
 fn pass(
     labels: &Labels,
     root: u64,
     row: &Row,
+    cost: Option<u64>,
+    near: usize,
     word: u64,
     found: &mut Vec<(u64, u64)>,
 ) -> Result<(), OutOfMemory>
+    requires { cost ≡ at labels.now (start row.now) }
     ensures { OnOk result
         (IsPassed root labels.now row.now word found.old.items found.new.items) }
 {
-    let (from, to) = (number(row.from), number(row.to));
+    let to = number(row.to);
     if to == root {
         return Ok(());
     }
-    if !is_step(labels, from, to, row.metric) {
+    if !leads_by(cost, labels.get_near(near, to), row.metric) {
         return Ok(());
     }
     match add_end(found, to, word) {
@@ -77,23 +81,25 @@ fn pass(
 
 /// Passes the word on over the rows from a node.
 pub fn pass_on(
-    rows: &[Row],
+    indexed: &IndexedRows,
     labels: &Labels,
     root: u64,
     node: u64,
     word: u64,
     found: &mut Vec<(u64, u64)>,
 ) -> Result<(), OutOfMemory>
-    requires { IsNonDecreasingBy start rows.now }
-    ensures { OnOk result (ArePassed rows.now root labels.now node word found.old.items
-        found.new.items (length rows.now)) }
+    ensures { OnOk result (ArePassed indexed.now.rows root labels.now node word found.old.items
+        found.new.items (length indexed.now.rows)) }
 {
+    indexed.kept();
+    let (rows, cost) = (indexed.rows(), labels.get(node));
     for place in first_row(rows, node)..rows.len() {
         let row = &rows[place];
         if number(row.from) != node {
             return Ok(());
         }
-        match pass(labels, root, row, word, found) {
+        let near = indexed.edge(place).place;
+        match pass(labels, root, row, cost, near, word, found) {
             Ok(()) => {}
             Err(error) => return Err(error),
         }

@@ -5,16 +5,14 @@ ghost use Rattle.std.specs.Prelude.{◌≡◌, false, map, IfOk, OnOk};
 ghost use Rattle.std.specs.Bool.{OnTrue};
 ghost use Rattle.std.specs.Option.{IfSome};
 ghost use Rattle.std.specs.List.{Contains};
-ghost use Rattle.std.specs.List.Sorted.{IsNonDecreasingBy};
-ghost use Rattle.spf_tree.specs.Walks.{start};
 ghost use Rattle.spf_tree.specs.Exploring.{AreReached, goes_on};
 ghost use Rattle.spf_tree.specs.Passing.{ArePlain, IsGoneOn, first};
 
+use crate::indexed::IndexedRows;
 use crate::labels::Labels;
 use crate::nodes::in_order;
 use crate::passing::{add_pair, nodes_of, pass_on};
 use crate::reach::goes_on;
-use crate::row::Row;
 use isis_base::OutOfMemory;
 use std::alloc::Global;
 
@@ -23,20 +21,19 @@ const MOST_NODES: usize = 512;
 
 /// Adds the ends of rows of least walks from a node, if that is the root or a pseudonode.
 fn go_on(
-    rows: &[Row],
+    indexed: &IndexedRows,
     labels: &Labels,
     root: u64,
     node: u64,
     found: &mut Vec<(u64, u64)>,
 ) -> Result<(), OutOfMemory>
-    requires { IsNonDecreasingBy start rows.now }
     ensures { OnOk result
-        (IsGoneOn rows.now root labels.now node found.old.items found.new.items) }
+        (IsGoneOn indexed.now.rows root labels.now node found.old.items found.new.items) }
 {
     if !goes_on(false, root, node) {
         return Ok(());
     }
-    match pass_on(rows, labels, root, node, 0, found) {
+    match pass_on(indexed, labels, root, node, 0, found) {
         Ok(()) => Ok(()),
         Err(error) => Err(error),
     }
@@ -44,23 +41,22 @@ fn go_on(
 
 /// Goes on from each node. Whether it came to the end of them.
 fn go_on_all(
-    rows: &[Row],
+    indexed: &IndexedRows,
     labels: &Labels,
     root: u64,
     found: &mut Vec<(u64, u64)>,
 ) -> Result<bool, OutOfMemory>
-    requires sorted { IsNonDecreasingBy start rows.now }
     requires root { Contains found.old.items (root, 0) }
-    requires plain { ArePlain rows.now root labels.now found.old.items }
+    requires plain { ArePlain indexed.now.rows root labels.now found.old.items }
     ensures { IfOk result (λ all. OnTrue all
-        (AreReached rows.now root labels.now false root (map first found.new.items))) }
+        (AreReached indexed.now.rows root labels.now false root (map first found.new.items))) }
 {
     for place in 0..MOST_NODES + 1 {
         if place >= found.len() {
             return Ok(true);
         }
         let (node, _word) = found[place];
-        match go_on(rows, labels, root, node, found) {
+        match go_on(indexed, labels, root, node, found) {
             Ok(()) => {}
             Err(error) => return Err(error),
         }
@@ -72,20 +68,19 @@ fn go_on_all(
 /// are too many to look for.
 pub fn plain_nodes(
     alloc: Global,
-    rows: &[Row],
+    indexed: &IndexedRows,
     labels: &Labels,
     root: u64,
 ) -> Result<Option<Vec<u64>>, OutOfMemory>
-    requires { IsNonDecreasingBy start rows.now }
     ensures { IfOk result (λ some. IfSome some (λ nodes.
-        AreReached rows.now root labels.now false root nodes.items)) }
+        AreReached indexed.now.rows root labels.now false root nodes.items)) }
 {
     let mut found = Vec::new(alloc);
     match add_pair(&mut found, root, 0) {
         Ok(()) => {}
         Err(error) => return Err(error),
     }
-    let all = match go_on_all(rows, labels, root, &mut found) {
+    let all = match go_on_all(indexed, labels, root, &mut found) {
         Ok(all) => all,
         Err(error) => return Err(error),
     };

@@ -3,13 +3,13 @@
 ghost use Rattle.std.specs.Prelude.{◌≡◌, ℕ, false, [], IfOk, OnOk};
 ghost use Rattle.std.specs.Option.{IfSome};
 ghost use Rattle.std.specs.List.{Contains};
-ghost use Rattle.std.specs.List.Sorted.{IsNonDecreasingBy};
-ghost use Rattle.spf_tree.specs.Walks.{start, AreLeast};
+ghost use Rattle.spf_tree.specs.Walks.{AreLeast};
 ghost use Rattle.spf_tree.specs.Labels.{at};
 ghost use Rattle.spf_tree.specs.Exploring.{AreReached};
 ghost use Rattle.spf_tree.specs.Local.{AreExchanged, AreNextHops};
 ghost use Rattle.spf_tree.specs.Settling.{AreAllCalled, IsSettling};
 
+use crate::indexed::IndexedRows;
 use crate::labels::Labels;
 use crate::nodes::copied_in_order;
 use crate::plain::plain_nodes;
@@ -22,7 +22,7 @@ use std::alloc::Global;
 /// Lets the nodes wait where the change begins: those whose costs moved, the ends of rows of least walks from these, and of
 /// rows that came or went, and those that are plain in one graph alone.
 fn call_seeds(
-    rows: &[Row],
+    indexed: &IndexedRows,
     before: &Labels,
     after: &Labels,
     root: u64,
@@ -33,11 +33,10 @@ fn call_seeds(
     second: &[u64],
     queue: &mut Queue,
 ) -> Result<(), OutOfMemory>
-    requires { IsNonDecreasingBy start rows.now }
-    ensures { OnOk result (AreAllCalled rows.now root before.now after.now moved.now removed.now
-        added.now first.now second.now queue.new) }
+    ensures { OnOk result (AreAllCalled indexed.now.rows root before.now after.now moved.now
+        removed.now added.now first.now second.now queue.new) }
 {
-    match call_all_moved(rows, before, after, root, moved, queue) {
+    match call_all_moved(indexed, before, after, root, moved, queue) {
         Ok(()) => {}
         Err(error) => return Err(error),
     }
@@ -62,9 +61,9 @@ fn call_seeds(
 /// Lets the nodes wait where the change begins. The plain nodes of the new graph; `None` where they are too many.
 pub fn begin(
     alloc: Global,
-    old_rows: &[Row],
+    old: &IndexedRows,
     before: &Labels,
-    new_rows: &[Row],
+    new: &IndexedRows,
     after: &Labels,
     root: u64,
     moved: &[u64],
@@ -73,34 +72,32 @@ pub fn begin(
     known: &[(u64, u64)],
     queue: &mut Queue,
 ) -> Result<Option<Vec<u64>>, OutOfMemory>
-    requires first { IsNonDecreasingBy start old_rows.now }
-    requires second { IsNonDecreasingBy start new_rows.now }
-    requires least { AreLeast old_rows.now root (at before.now) }
-    requires exchanged { AreExchanged old_rows.now new_rows.now removed.now added.now }
+    requires least { AreLeast old.now.rows root (at before.now) }
+    requires exchanged { AreExchanged old.now.rows new.now.rows removed.now added.now }
     requires moved { (node : ℕ) → (Contains moved.now node → ⊥)
         → at before.now node ≡ at after.now node }
-    requires known { AreNextHops old_rows.now root known.now }
+    requires known { AreNextHops old.now.rows root known.now }
     ensures plain { IfOk result (λ some. IfSome some (λ plain.
-        AreReached new_rows.now root after.now false root plain.items)) }
+        AreReached new.now.rows root after.now false root plain.items)) }
     ensures settling { IfOk result (λ some. IfSome some (λ plain.
-        IsSettling new_rows.now root after.now plain.items known.now [] [] queue.new)) }
+        IsSettling new.now.rows root after.now plain.items known.now [] [] queue.new)) }
 {
     let nodes = match copied_in_order(alloc, moved) {
         Ok(nodes) => nodes,
         Err(error) => return Err(error),
     };
-    let first = match plain_nodes(alloc, old_rows, before, root) {
+    let first = match plain_nodes(alloc, old, before, root) {
         Ok(Some(first)) => first,
         Ok(None) => return Ok(None),
         Err(error) => return Err(error),
     };
-    let second = match plain_nodes(alloc, new_rows, after, root) {
+    let second = match plain_nodes(alloc, new, after, root) {
         Ok(Some(second)) => second,
         Ok(None) => return Ok(None),
         Err(error) => return Err(error),
     };
     match call_seeds(
-        new_rows,
+        new,
         before,
         after,
         root,

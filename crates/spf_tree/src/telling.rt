@@ -6,9 +6,10 @@ ghost use Rattle.std.specs.Bool.{OnTrue};
 ghost use Rattle.std.specs.List.{Contains};
 ghost use Rattle.spf_tree.specs.Exploring.{IsTable};
 ghost use Rattle.spf_tree.specs.Passing.{AreHanded, IsPut};
-ghost use Rattle.spf_tree.specs.Settling.{ArePairsSame, AreTold, IsPicked};
+ghost use Rattle.spf_tree.specs.Found.{IsRun};
+ghost use Rattle.spf_tree.specs.Settling.{ArePairsSame, AreTold};
 
-use crate::next::has;
+use crate::found::Found;
 use crate::passing::{add_pair, holds};
 use crate::table::first_pair;
 use isis_base::OutOfMemory;
@@ -37,38 +38,24 @@ fn hand_known(
     Ok(())
 }
 
-/// Tells a node the hop of a pair, if that is of another.
-fn hand_one(
-    target: u64,
-    hop: u64,
-    node: u64,
-    to: u64,
-    told: &mut Vec<(u64, u64)>,
-) -> Result<(), OutOfMemory>
-    ensures { OnOk result (IsPicked target hop node to told.old.items told.new.items) }
-{
-    if target != node {
-        return Ok(());
-    }
-    match add_pair(told, to, hop) {
-        Ok(()) => Ok(()),
-        Err(error) => Err(error),
-    }
-}
-
-/// Tells a node the hops of another, by pairs in any order.
+/// Tells a node the hops of another, which stand side by side from a place on.
 fn hand_found(
     found: &[(u64, u64)],
+    first: usize,
     node: u64,
     to: u64,
     told: &mut Vec<(u64, u64)>,
 ) -> Result<(), OutOfMemory>
+    requires { IsRun found.now node first }
     ensures { OnOk result (AreHanded found.now node to told.old.items told.new.items
         (length found.now)) }
 {
-    for place in 0..found.len() {
+    for place in first..found.len() {
         let (target, hop) = found[place];
-        match hand_one(target, hop, node, to, told) {
+        if target != node {
+            return Ok(());
+        }
+        match add_pair(told, to, hop) {
             Ok(()) => {}
             Err(error) => return Err(error),
         }
@@ -76,28 +63,28 @@ fn hand_found(
     Ok(())
 }
 
-/// Tells a node the hops of another.
+/// Tells a node the hops of another, whose mark is looked for at a place first.
 pub fn tell(
     known: &[(u64, u64)],
-    done: &[u64],
-    found: &[(u64, u64)],
+    found: &Found,
+    near: usize,
     node: u64,
     to: u64,
     told: &mut Vec<(u64, u64)>,
 ) -> Result<(), OutOfMemory>
     requires { IsTable known.now }
-    ensures { OnOk result
-        (AreTold known.now done.now found.now node to told.old.items told.new.items) }
+    ensures { OnOk result (AreTold known.now found.now.done found.now.pairs node to told.old.items
+        told.new.items) }
 {
-    if has(done, node) {
-        return match hand_found(found, node, to, told) {
+    match found.place(near, node) {
+        Some(place) => match hand_found(found.pairs(), place, node, to, told) {
             Ok(()) => Ok(()),
             Err(error) => Err(error),
-        };
-    }
-    match hand_known(known, node, to, told) {
-        Ok(()) => Ok(()),
-        Err(error) => Err(error),
+        },
+        None => match hand_known(known, node, to, told) {
+            Ok(()) => Ok(()),
+            Err(error) => Err(error),
+        },
     }
 }
 

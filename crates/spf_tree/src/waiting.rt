@@ -1,17 +1,17 @@
 //! Nodes that wait for their hops to be made: in a queue, beside their costs, so that those of least cost come first.
 
 ghost use Rattle.std.specs.Prelude.{◌≡◌, ◌≢◌, ◌⊎◌, ℕ, length, MatchOption, OnOk};
-ghost use Rattle.std.specs.List.Sorted.{IsNonDecreasingBy};
 ghost use Rattle.std.specs.Bool.{OnTrue};
 ghost use Rattle.spf_tree.specs.Walks.{start};
 ghost use Rattle.spf_tree.specs.Exploring.{LeadsBy};
 ghost use Rattle.spf_tree.specs.Labels.{at};
 ghost use Rattle.spf_tree.specs.Settling.{AreEitherCalled, AreEndsCalled, AreLackingCalled, AreMovedCalled, AreNextCalled, IsCalled, IsEitherCalled, IsEndCalled, IsLackingCalled, IsMovedCalled, Waits};
 
+use crate::indexed::IndexedRows;
 use crate::labels::Labels;
 use crate::node::number;
 use crate::nodes::is_among;
-use crate::offers::first_row;
+use crate::offers::{first_near, first_row};
 use crate::queue::Queue;
 use crate::reach::leads_by;
 use crate::row::Row;
@@ -21,19 +21,29 @@ use isis_base::OutOfMemory;
 pub fn call(costs: &Labels, node: u64, queue: &mut Queue) -> Result<(), OutOfMemory>
     ensures { OnOk result (IsCalled node queue.old queue.new) }
 {
-    let cost = costs.get(node).unwrap_or(0);
-    match queue.push(cost, node) {
+    match call_at(costs.get(node), node, queue) {
         Ok(()) => Ok(()),
         Err(error) => Err(error),
     }
 }
 
-/// Lets the end of a row wait, if the row belongs to least walks.
+/// Lets a node wait, beside a cost.
+fn call_at(cost: Option<u64>, node: u64, queue: &mut Queue) -> Result<(), OutOfMemory>
+    ensures { OnOk result (IsCalled node queue.old queue.new) }
+{
+    match queue.push(cost.unwrap_or(0), node) {
+        Ok(()) => Ok(()),
+        Err(error) => Err(error),
+    }
+}
+
+/// Lets the end of a row wait, if the row belongs to least walks. The end's cost is looked for at a place first.
 fn call_end(
     costs: &Labels,
     labels: &Labels,
     root: u64,
     row: &Row,
+    near: usize,
     from: Option<u64>,
     queue: &mut Queue,
 ) -> Result<(), OutOfMemory>
@@ -44,10 +54,10 @@ fn call_end(
     if to == root {
         return Ok(());
     }
-    if !leads_by(from, labels.get(to), row.metric) {
+    if !leads_by(from, labels.get_near(near, to), row.metric) {
         return Ok(());
     }
-    match call(costs, to, queue) {
+    match call_at(costs.get_near(near, to), to, queue) {
         Ok(()) => Ok(()),
         Err(error) => Err(error),
     }
@@ -67,7 +77,7 @@ pub fn call_ends(
     for place in 0..rows.len() {
         let row = &rows[place];
         let from = labels.get(number(row.from));
-        match call_end(costs, labels, root, row, from, queue) {
+        match call_end(costs, labels, root, row, 0, from, queue) {
             Ok(()) => {}
             Err(error) => return Err(error),
         }
@@ -77,24 +87,24 @@ pub fn call_ends(
 
 /// Lets the ends of rows of least walks from a node wait.
 pub fn call_next(
-    costs: &Labels,
-    rows: &[Row],
+    indexed: &IndexedRows,
     labels: &Labels,
     root: u64,
     node: u64,
     queue: &mut Queue,
 ) -> Result<(), OutOfMemory>
-    requires { IsNonDecreasingBy start rows.now }
-    ensures { OnOk result
-        (AreNextCalled rows.now root labels.now node queue.old queue.new (length rows.now)) }
+    ensures { OnOk result (AreNextCalled indexed.now.rows root labels.now node queue.old queue.new
+        (length indexed.now.rows)) }
 {
-    let from = labels.get(node);
+    indexed.kept();
+    let (rows, from) = (indexed.rows(), labels.get(node));
     for place in first_row(rows, node)..rows.len() {
         let row = &rows[place];
         if number(row.from) != node {
             return Ok(());
         }
-        match call_end(costs, labels, root, row, from, queue) {
+        let near = indexed.edge(place).place;
+        match call_end(labels, labels, root, row, near, from, queue) {
             Ok(()) => {}
             Err(error) => return Err(error),
         }
@@ -128,6 +138,7 @@ fn call_either(
     after: &Labels,
     root: u64,
     row: &Row,
+    near: usize,
     first: Option<u64>,
     second: Option<u64>,
     queue: &mut Queue,
@@ -141,87 +152,92 @@ fn call_either(
     if to == root {
         return Ok(());
     }
-    let cost = after.get(to);
-    if are_others(before.get(to), cost) {
+    let cost = after.get_near(near, to);
+    if are_others(before.get_near(near, to), cost) {
         return Ok(());
     }
     if leads_from_neither(first, second, cost, row.metric) {
         return Ok(());
     }
-    match call(after, to, queue) {
+    match call_at(cost, to, queue) {
         Ok(()) => Ok(()),
         Err(error) => Err(error),
     }
 }
 
-/// Lets the ends of rows from a node wait, if their costs stayed and the rows belong to least walks by old or new costs.
+/// Lets the ends of rows from a node wait, if their costs stayed and the rows belong to least walks by old or new costs. The
+/// place behind these rows, which are looked for at a place first.
 fn call_from(
-    rows: &[Row],
+    indexed: &IndexedRows,
     before: &Labels,
     after: &Labels,
     root: u64,
+    near: usize,
     node: u64,
     queue: &mut Queue,
-) -> Result<(), OutOfMemory>
-    requires { IsNonDecreasingBy start rows.now }
-    ensures { OnOk result (AreEitherCalled rows.now root before.now after.now node queue.old
-        queue.new (length rows.now)) }
+) -> Result<usize, OutOfMemory>
+    ensures { OnOk result (AreEitherCalled indexed.now.rows root before.now after.now node
+        queue.old queue.new (length indexed.now.rows)) }
 {
+    indexed.kept();
     let (first, second) = (before.get(node), after.get(node));
-    for place in first_row(rows, node)..rows.len() {
+    let rows = indexed.rows();
+    for place in first_near(rows, near, node)..rows.len() {
         let row = &rows[place];
         if number(row.from) != node {
-            return Ok(());
+            return Ok(place);
         }
-        match call_either(before, after, root, row, first, second, queue) {
+        let end = indexed.edge(place).place;
+        match call_either(before, after, root, row, end, first, second, queue) {
             Ok(()) => {}
             Err(error) => return Err(error),
         }
     }
-    Ok(())
+    Ok(rows.len())
 }
 
-/// Lets a node wait whose cost moved, and the ends of rows from it.
+/// Lets a node wait whose cost moved, and the ends of rows from it. The place behind these rows, which are looked for at a
+/// place first.
 fn call_moved(
-    rows: &[Row],
+    indexed: &IndexedRows,
     before: &Labels,
     after: &Labels,
     root: u64,
+    near: usize,
     node: u64,
     queue: &mut Queue,
-) -> Result<(), OutOfMemory>
-    requires { IsNonDecreasingBy start rows.now }
+) -> Result<usize, OutOfMemory>
     ensures { OnOk result
-        (IsMovedCalled rows.now root before.now after.now node queue.old queue.new) }
+        (IsMovedCalled indexed.now.rows root before.now after.now node queue.old queue.new) }
 {
     match call(after, node, queue) {
         Ok(()) => {}
         Err(error) => return Err(error),
     }
-    match call_from(rows, before, after, root, node, queue) {
-        Ok(()) => Ok(()),
+    match call_from(indexed, before, after, root, near, node, queue) {
+        Ok(past) => Ok(past),
         Err(error) => Err(error),
     }
 }
 
 /// Lets the nodes wait whose costs moved, and the ends of rows from them. Rows that the new graph lacks aren't looked at.
 pub fn call_all_moved(
-    rows: &[Row],
+    indexed: &IndexedRows,
     before: &Labels,
     after: &Labels,
     root: u64,
     moved: &[u64],
     queue: &mut Queue,
 ) -> Result<(), OutOfMemory>
-    requires { IsNonDecreasingBy start rows.now }
-    ensures { OnOk result (AreMovedCalled rows.now root before.now after.now moved.now queue.old
-        queue.new (length moved.now)) }
+    ensures { OnOk result (AreMovedCalled indexed.now.rows root before.now after.now moved.now
+        queue.old queue.new (length moved.now)) }
 {
+    let mut near = 0;
     for place in 0..moved.len() {
-        match call_moved(rows, before, after, root, moved[place], queue) {
-            Ok(()) => {}
+        near = match call_moved(indexed, before, after, root, near, moved[place], queue) {
+            Ok(past) => past,
             Err(error) => return Err(error),
-        }
+        };
     }
     Ok(())
 }

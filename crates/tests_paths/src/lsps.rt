@@ -11,7 +11,20 @@ fn octets_of(alloc: Global, body: &[u8]) -> Result<Octets, OutOfMemory> {
     Ok(octets)
 }
 
-/// Puts an LSP of number 1: its node and number, whether it is purged, its flags, and the octets behind the header.
+/// The entry of an LSP of number 1: whether it is purged, its flags, and the octets behind the header.
+pub fn entry_of(alloc: Global, purged: bool, flags: u8, body: &[u8]) -> Result<Entry, OutOfMemory> {
+    let octets = octets_of(alloc, body)?;
+    let key = Some(Key { number: 1, purged });
+    Ok(Entry {
+        key,
+        checksum: 1,
+        flags,
+        left: 1200,
+        octets,
+    })
+}
+
+/// Puts such an entry under a node and a number.
 pub fn put(
     alloc: Global,
     store: &mut Store,
@@ -20,15 +33,7 @@ pub fn put(
     flags: u8,
     body: &[u8],
 ) -> Result<(), OutOfMemory> {
-    let octets = octets_of(alloc, body)?;
-    let key = Some(Key { number: 1, purged });
-    let entry = Entry {
-        key,
-        checksum: 1,
-        flags,
-        left: 1200,
-        octets,
-    };
+    let entry = entry_of(alloc, purged, flags, body)?;
     let (node, number) = id;
     match store.put(LspId { node, number }, entry) {
         Ok(_before) => Ok(()),

@@ -4,9 +4,9 @@ ghost use Rattle.router_routes.specs.Outlooks.{outlook_in};
 ghost use Rattle.router_routes.specs.Following.{IsFollowing};
 
 use crate::graphs::node;
-use crate::lsps::put;
-use isis_base::{Level, LevelSet, OutOfMemory};
-use lsp_store::Store;
+use crate::lsps::{entry_of, put};
+use isis_base::{Level, LevelSet, LspId, OutOfMemory};
+use lsp_store::{Entry, Store};
 use router_routes::{Following, Lent};
 use std::alloc::Global;
 use std::test::Fail;
@@ -20,12 +20,10 @@ const OTHER: &[u8] = b"\x16\x0b\0\0\0\0\0\x01\0\0\0\x0a\0\x87\x07\0\0\0\x14\x10\
 /// System 1 at 10, and 10.1.0.0/16 at 21.
 const DEARER: &[u8] = b"\x16\x0b\0\0\0\0\0\x01\0\0\0\x0a\0\x87\x07\0\0\0\x15\x10\x0a\x01";
 
-/// The database of what system 2 tells, beside system 1 where there is something of it.
-fn database(alloc: Global, first: Option<&[u8]>, other: &[u8]) -> Result<Store, OutOfMemory> {
+/// The database of what both systems tell.
+fn database(alloc: Global, first: &[u8], other: &[u8]) -> Result<Store, OutOfMemory> {
     let mut store = Store::new(alloc);
-    if let Some(body) = first {
-        put(alloc, &mut store, (node(1), 0), false, 1, body)?;
-    }
+    put(alloc, &mut store, (node(1), 0), false, 1, first)?;
     put(alloc, &mut store, (node(2), 0), false, 1, other)?;
     Ok(store)
 }
@@ -70,7 +68,7 @@ fn follows(alloc: Global, one: &Store) -> Result<bool, OutOfMemory> {
 
 #[test]
 fn follows_two_systems(rt: HostRuntime) -> Result<(), Fail> {
-    let store = database(rt.alloc(), Some(FIRST), OTHER)?;
+    let store = database(rt.alloc(), FIRST, OTHER)?;
     assert!(rt; follows(rt.alloc(), &store)?);
     Ok(())
 }
@@ -83,16 +81,20 @@ fn costs(following: &Following, cost: u64) -> bool {
     }
 }
 
-/// Whether the only route costs so much once system 2 tells what is aside and nothing else.
+/// Whether the only route costs so much once system 2 tells this.
 fn costs_then(
     following: &mut Following,
     lent: &Lent<'_>,
-    aside: &Store,
+    entry: &Entry,
     cost: u64,
 ) -> Result<bool, OutOfMemory>
     requires { IsFollowing (outlook_in lent.now) following.old }
 {
-    match following.ahead(lent, Level::One, node(2), aside) {
+    let id = LspId {
+        node: node(2),
+        number: 0,
+    };
+    match following.ahead(lent, Level::One, id, entry) {
         Ok(Some(next)) => following.put(next),
         Ok(None) => {}
         Err(error) => return Err(error),
@@ -101,18 +103,18 @@ fn costs_then(
 }
 
 /// The same of what follows a database.
-fn told_then(alloc: Global, one: &Store, aside: &Store, cost: u64) -> Result<bool, OutOfMemory> {
+fn told_then(alloc: Global, one: &Store, entry: &Entry, cost: u64) -> Result<bool, OutOfMemory> {
     let none = Store::new(alloc);
     let lent = lent(one, &none);
     let mut following = Following::new(alloc, &lent)?;
-    costs_then(&mut following, &lent, aside, cost)
+    costs_then(&mut following, &lent, entry, cost)
 }
 
 /// The same where system 2 tells this.
 fn is_cost(alloc: Global, body: &[u8], cost: u64) -> Result<bool, OutOfMemory> {
-    let store = database(alloc, Some(FIRST), OTHER)?;
-    let aside = database(alloc, None, body)?;
-    told_then(alloc, &store, &aside, cost)
+    let store = database(alloc, FIRST, OTHER)?;
+    let entry = entry_of(alloc, false, 1, body)?;
+    told_then(alloc, &store, &entry, cost)
 }
 
 #[test]

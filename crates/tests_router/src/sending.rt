@@ -5,7 +5,7 @@ ghost use Rattle.isis_tlv.specs.Spelling.{area_value};
 use crate::made::{AGED, FIRST, HELLO, LIVE, ONE, octets};
 use adjacency::Neighbour;
 use isis_base::{
-    AreaAddress, Key, Level, LevelSet, LspEntry, LspId, NodeId, Octets, OutOfMemory, Snpa, SystemId,
+    AreaAddress, Key, Level, LevelSet, LspEntry, LspId, NodeId, OutOfMemory, Snpa, SystemId,
 };
 use isis_tlv::Adj;
 use lsp_store::Entry;

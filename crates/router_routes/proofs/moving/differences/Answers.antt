@@ -11,6 +11,7 @@ use Rattle.router_routes.specs.Near.{touches, IsNear}
 use Rattle.router_routes.proofs.MovedLemmas.{told-ids}
 use Rattle.router_routes.proofs.DifferenceLemmas.{differences-by, removed-there}
 use Rattle.router_routes.proofs.NearGraphLemmas.{touched-few, changed-graph}
+use Rattle.lsp_view.specs.Lsps.{entries_in}
 use Rattle.router_routes.proofs.moving.differences.Goals as goal
 
 -- the differences from the rows of the graph that touch the node
@@ -36,10 +37,10 @@ returns-clause-then c =
     let node = c.args.node in
     let now = c.args.now.now in
     let before = told_of c.args.before.now in
-    let aside = told_in c.args.aside.now.entries in
+    let aside = told_in (entries_in c.args.aside) in
     let touched = filter (touches (node_number node)) now.graph.rows in
     let at-root = c.root.ensures ∙ ap (λ (g : GraphOf). g.root) c.graph.ensures ∙ c.requires.costs.graph.from in
     let near = subst (λ (r : NodeId). IsNear (told_with node before aside) r node c.in_ok-near.near) at-root c.in_ok-near.ensures in
     IfOk-weaker c.rows_apart.result _ _ (λ both apart. λ next change is-root.
     let from = mine c.in_ok-old.old.items c.as_slice.result.now touched c.in_ok-near.near.rows c.rows_in_order.result.now both.0.items both.1.items c.as_slice.ensures.value c.in_ok-old.ensures c.rows_in_order.ensures.same apart in
-    changed-graph node before aside c.requires.told.rises c.requires.told.ids (told-ids c.args.aside.now.entries c.len-aside.ensures.ids) now.root now.graph next c.in_ok-near.near both.0.items both.1.items c.requires.costs.graph near from change is-root) c.rows_apart.ensures
+    changed-graph node before aside c.requires.told.rises c.requires.told.ids (told-ids (entries_in c.args.aside) c.kept.ensures.ids) now.root now.graph next c.in_ok-near.near both.0.items both.1.items c.requires.costs.graph near from change is-root) c.rows_apart.ensures

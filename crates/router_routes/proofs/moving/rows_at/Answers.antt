@@ -9,6 +9,7 @@ use Rattle.router_routes.specs.Near.{IsNear}
 use Rattle.router_routes.specs.Told.{told_in}
 use Rattle.router_routes.proofs.MovedLemmas.{with-same}
 use Rattle.router_routes.proofs.NearGraphLemmas.{near-touched}
+use Rattle.lsp_view.specs.Lsps.{entries_in}
 use Rattle.router_routes.proofs.moving.rows_at.Goals as goal
 
 pub returns-in-Ok : goal.returns-in-Ok
@@ -16,7 +17,7 @@ returns-in-Ok c = λ x.
     let now = c.args.now.now in
     let told = told_of c.args.before.now in
     let at-root = c.root.ensures ∙ ap (λ (g : GraphOf). g.root) c.graph-2.ensures ∙ c.requires.costs.graph.from in
-    let same = with-same c.args.node told (told_in c.store_at-store.result.now.entries) c.requires.told.rises c.requires.told.ids c.store_at-store.ensures in
-    let near = subst (λ (l : List (LspId × Entry)). IsNear l now.root c.args.node c.in_ok-near.near) same (subst (λ (r : NodeId). IsNear (told_with c.args.node told (told_in c.store_at-store.result.now.entries)) r c.args.node c.in_ok-near.near) at-root c.in_ok-near.ensures) in
+    let same = with-same c.args.node told (told_in (entries_in c.lsps_at-lsps.result)) c.requires.told.rises c.requires.told.ids c.lsps_at-lsps.ensures in
+    let near = subst (λ (l : List (LspId × Entry)). IsNear l now.root c.args.node c.in_ok-near.near) same (subst (λ (r : NodeId). IsNear (told_with c.args.node told (told_in (entries_in c.lsps_at-lsps.result))) r c.args.node c.in_ok-near.near) at-root c.in_ok-near.ensures) in
     ap (λ (l : List Row). times l x) (c.in-Ok.ensures.items ∙ c.rows_in_order.ensures.same)
     ∙ near-touched c.args.node told now.root now.graph c.in_ok-near.near c.requires.costs.graph near x

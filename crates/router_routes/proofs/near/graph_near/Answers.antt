@@ -11,13 +11,14 @@ use Rattle.router_routes.specs.Near.{AreEnds, near_rows, near_overloaded}
 use Rattle.router_routes.proofs.ToldLemmas.{usable-by}
 use Rattle.router_routes.proofs.MovedLemmas.{told-ids}
 use Rattle.router_routes.proofs.NearGraphLemmas.{near-graph}
+use Rattle.lsp_view.specs.Lsps.{entries_in}
 use Rattle.router_routes.proofs.near.graph_near.Goals as goal
 
 -- src/near.rt
 pub returns : goal.returns
 returns c =
     let before = told_of c.args.before.now in
-    let aside = c.args.aside.now.entries in
+    let aside = (entries_in c.args.aside) in
     let node = c.args.node in
     let mine = c.in_ok-rows.rows.items in
     let ends = c.in_ok-ends.ends.items in
@@ -29,5 +30,5 @@ returns c =
     let over = is_overloaded (overloaded_in (told_in aside)) (node_number node) in
     let nodes = c.as_slice-5.ensures.value ∙ c.in_ok-nodes.ensures ∙ ap (λ (l : List NodeId). near_overloaded node over l (overloaded_in before)) c.as_slice-3.ensures.value in
     IfOk-weaker c.usable.result _ _ (λ graph is.
-    near-graph node before (told_in aside) c.requires.told.rises c.requires.told.ids (told-ids aside c.len-aside.ensures.ids) mine ends c.in_ok-rows.ensures are c.args.root graph
+    near-graph node before (told_in aside) c.requires.told.rises c.requires.told.ids (told-ids aside c.kept.ensures.ids) mine ends c.in_ok-rows.ensures are c.args.root graph
     (usable-by _ _ _ _ c.args.root graph rows nodes is)) c.usable.ensures

@@ -17,7 +17,7 @@ changed_hops-requires-clause-old c =
     let root = c.number-root.result in
     let labels = c.labels-before.result.now in
     let least : AreLeast change.old.now.rows root (cost_at change.old_distances.now) = subst (λ (n : ℕ). AreLeast change.old.now.rows n (cost_at change.old_distances.now)) (sym c.number-root.ensures) c.requires.old.least in
-    subst (λ (rs : List Row). AreLeast rs root (at labels)) (sym c.rows_in_order-old_rows.ensures.same)
+    subst (λ (rs : List Row). AreLeast rs root (at labels)) (sym c.indexed-old.ensures)
     (least_by change.old.now.rows root (cost_at change.old_distances.now) (at labels) (λ n. sym (c.labels-before.ensures n)) least)
 
 pub changed_hops-requires-clause-new : goal.changed_hops-requires-clause-new
@@ -32,7 +32,7 @@ changed_hops-requires-clause-new c =
 pub changed_hops-requires-clause-exchanged : goal.changed_hops-requires-clause-exchanged
 changed_hops-requires-clause-exchanged c =
     let change = c.args.change.now in
-    subst (λ (rs : List Row). AreExchanged rs c.indexed-new.result.now.rows change.removed.now change.added.now) (sym c.rows_in_order-old_rows.ensures.same)
+    subst (λ (rs : List Row). AreExchanged rs c.indexed-new.result.now.rows change.removed.now change.added.now) (sym c.indexed-old.ensures)
     (subst (λ (rs : List Row). AreExchanged change.old.now.rows rs change.removed.now change.added.now) (sym c.indexed-new.ensures) c.requires.exchanged)
 
 pub changed_hops-requires-clause-moved : goal.changed_hops-requires-clause-moved
@@ -41,7 +41,7 @@ changed_hops-requires-clause-moved c = λ n out. c.labels-before.ensures n ∙ c
 pub changed_hops-requires-clause-known : goal.changed_hops-requires-clause-known
 changed_hops-requires-clause-known c =
     let change = c.args.change.now in
-    subst (λ (rs : List Row). AreNextHops rs c.number-root.result c.pairs_of-known.result.now) (sym c.rows_in_order-old_rows.ensures.same)
+    subst (λ (rs : List Row). AreNextHops rs c.number-root.result c.pairs_of-known.result.now) (sym c.indexed-old.ensures)
     (subst (λ (n : ℕ). AreNextHops change.old.now.rows n c.pairs_of-known.result.now) (sym c.number-root.ensures)
     (subst (λ (ps : List (ℕ × ℕ)). AreNextHops change.old.now.rows (node_number change.root) ps) (sym c.pairs_of-known.ensures.same) c.requires.table))
 

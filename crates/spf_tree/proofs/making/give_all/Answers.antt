@@ -11,7 +11,7 @@ loop-place-init c =
     let last = c.last_row-place.ensures in
     record {
       within = last.within;
-      given = all-none c.args.root c.args.labels.now c.args.known.now c.args.done.now c.args.found.now c.args.indexed.now.rows c.args.node c.args.made.now.items c.last_row-place.result last;
+      given = all-none c.args.root c.args.labels.now c.args.known.now c.args.found.now.done c.args.found.now.pairs c.args.indexed.now.rows c.args.node c.args.made.now.items c.last_row-place.result last;
       ends = last.here;
     }
 
@@ -34,8 +34,8 @@ loop-place-preserved c =
     let root = c.args.root in
     let labels = c.args.labels.now in
     let known = c.args.known.now in
-    let done = c.args.done.now in
-    let found = c.args.found.now in
+    let done = c.args.found.now.done in
+    let found = c.args.found.now.pairs in
     let node = c.args.node in
     let old = c.args.made.now.items in
     let mid = c.loop-place.made.items in
@@ -72,4 +72,4 @@ loop-place-smaller c =
 pub returns : goal.returns
 returns c =
     let past = c.loop-place-test.false in
-    subst (λ (n : ℕ). AreGiven c.args.indexed.now.rows c.args.root c.args.labels.now c.args.known.now c.args.done.now c.args.found.now c.args.node c.args.made.now.items c.loop-place.made.items n) (omega (arith, past)) c.loop-place.invariant.given
+    subst (λ (n : ℕ). AreGiven c.args.indexed.now.rows c.args.root c.args.labels.now c.args.known.now c.args.found.now.done c.args.found.now.pairs c.args.node c.args.made.now.items c.loop-place.made.items n) (omega (arith, past)) c.loop-place.invariant.given

@@ -5,7 +5,7 @@ use Rattle.spf_tree.proofs.plain.go_on_all.Goals as goal
 
 pub loop-place-preserved : goal.loop-place-preserved
 loop-place-preserved c =
-    let rows = c.args.rows.now in
+    let rows = c.args.indexed.now.rows in
     let labels = c.args.labels.now in
     let root = c.args.root in
     let a = c.loop-place.found.items in
@@ -31,4 +31,4 @@ returns-then-place-len c =
     let len = c.len.ensures in
     let past = c.if-place-len.true in
     let ok = c.loop-place.found.ok in
-    plain-reached c.args.rows.now c.args.root c.args.labels.now found c.loop-place.place (omega (arith, len, past, ok)) c.loop-place.invariant.root c.loop-place.invariant.plain c.loop-place.invariant.on
+    plain-reached c.args.indexed.now.rows c.args.root c.args.labels.now found c.loop-place.place (omega (arith, len, past, ok)) c.loop-place.invariant.root c.loop-place.invariant.plain c.loop-place.invariant.on

@@ -7,6 +7,6 @@ abbrev pub invariant-loop-place : goal.invariant-loop-place
 invariant-loop-place l = record {
   within : l.place ≤ length l.found.items;
   root : Contains l.found.items (l.root, 0);
-  plain : ArePlain l.rows l.root l.labels l.found.items;
-  on : AreGoneOn l.rows l.root l.labels l.found.items l.place;
+  plain : ArePlain l.indexed.rows l.root l.labels l.found.items;
+  on : AreGoneOn l.indexed.rows l.root l.labels l.found.items l.place;
 }

@@ -8,11 +8,11 @@ use Rattle.spf_tree.proofs.plain.plain_nodes.Goals as goal
 pub go_on_all-requires-clause-plain : goal.go_on_all-requires-clause-plain
 go_on_all-requires-clause-plain c =
     let new = c.add_pair.new.pairs.items in
-    plain-root c.args.rows.now c.args.root c.args.labels.now new (subst (λ (xs : List (ℕ × ℕ)). IsPut xs new c.args.root 0) c.new-found.ensures.items c.in-Ok.ensures)
+    plain-root c.args.indexed.now.rows c.args.root c.args.labels.now new (subst (λ (xs : List (ℕ × ℕ)). IsPut xs new c.args.root 0) c.new-found.ensures.items c.in-Ok.ensures)
 
 pub returns-in-Ok-nodes_of : goal.returns-in-Ok-nodes_of
 returns-in-Ok-nodes_of c =
-    let rows = c.args.rows.now in
+    let rows = c.args.indexed.now.rows in
     let root = c.args.root in
     let labels = c.args.labels.now in
     let found = c.go_on_all.new.found.items in

@@ -11,8 +11,8 @@ use Rattle.spf_tree.proofs.seeds.begin.Goals as goal
 
 pub returns-in-Ok-call_seeds-clause-settling : goal.returns-in-Ok-call_seeds-clause-settling
 returns-in-Ok-call_seeds-clause-settling c =
-    let old = c.args.old_rows.now in
-    let new = c.args.new_rows.now in
+    let old = c.args.old.now.rows in
+    let new = c.args.new.now.rows in
     let root = c.args.root in
     let before = c.args.before.now in
     let after = c.args.after.now in

@@ -15,21 +15,21 @@ returns-then-are_others c =
     either-moved c.args.root c.args.before.now c.args.after.now row c.args.queue.now
     (λ same.
     c.if-are_others.ensures
-    (c.get.ensures ∙ ap (at c.args.before.now) c.number-to.ensures ∙ same ∙ sym (c.get-cost.ensures ∙ ap (at c.args.after.now) c.number-to.ensures)))
+    (c.get_near.ensures ∙ ap (at c.args.before.now) c.number-to.ensures ∙ same ∙ sym (c.get_near-cost.ensures ∙ ap (at c.args.after.now) c.number-to.ensures)))
 
 pub returns-then-leads_from_neither : goal.returns-then-leads_from_neither
 returns-then-leads_from_neither c =
     let row = c.args.row.now in
-    let cost = c.get-cost.ensures ∙ ap (at c.args.after.now) c.number-to.ensures in
+    let cost = c.get_near-cost.ensures ∙ ap (at c.args.after.now) c.number-to.ensures in
     either-loose c.args.root c.args.before.now c.args.after.now row c.args.queue.now
     (λ leads.
     c.if-leads_from_neither.ensures.0
-    (subst (λ (o : Option ℕ). LeadsBy o c.get-cost.result row.metric) (sym c.requires.first) (subst (λ (o : Option ℕ). LeadsBy (at c.args.before.now (start row)) o row.metric) (sym cost) leads)))
+    (subst (λ (o : Option ℕ). LeadsBy o c.get_near-cost.result row.metric) (sym c.requires.first) (subst (λ (o : Option ℕ). LeadsBy (at c.args.before.now (start row)) o row.metric) (sym cost) leads)))
     (λ leads.
     c.if-leads_from_neither.ensures.1
-    (subst (λ (o : Option ℕ). LeadsBy o c.get-cost.result row.metric) (sym c.requires.second) (subst (λ (o : Option ℕ). LeadsBy (at c.args.after.now (start row)) o row.metric) (sym cost) leads)))
+    (subst (λ (o : Option ℕ). LeadsBy o c.get_near-cost.result row.metric) (sym c.requires.second) (subst (λ (o : Option ℕ). LeadsBy (at c.args.after.now (start row)) o row.metric) (sym cost) leads)))
 
 pub returns-in-Ok : goal.returns-in-Ok
 returns-in-Ok c =
-    either-called c.args.root c.args.before.now c.args.after.now c.args.row.now c.args.queue.now c.call.new.queue
-    (subst (λ (n : ℕ). IsCalled n c.args.queue.now c.call.new.queue) c.number-to.ensures c.in-Ok.ensures)
+    either-called c.args.root c.args.before.now c.args.after.now c.args.row.now c.args.queue.now c.call_at.new.queue
+    (subst (λ (n : ℕ). IsCalled n c.args.queue.now c.call_at.new.queue) c.number-to.ensures c.in-Ok.ensures)

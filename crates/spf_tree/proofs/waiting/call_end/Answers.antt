@@ -16,10 +16,10 @@ returns-then-not-leads_by c =
     end-not c.args.root labels row c.args.queue.now
     (λ w.
     c.if-not-leads_by.ensures
-    (subst (λ (o : Option ℕ). LeadsBy o c.get.result row.metric) (sym c.requires)
-    (subst (λ (o : Option ℕ). LeadsBy (at labels (start row)) o row.metric) (sym (c.get.ensures ∙ ap (at labels) c.number-to.ensures)) w.1)))
+    (subst (λ (o : Option ℕ). LeadsBy o c.get_near.result row.metric) (sym c.requires)
+    (subst (λ (o : Option ℕ). LeadsBy (at labels (start row)) o row.metric) (sym (c.get_near.ensures ∙ ap (at labels) c.number-to.ensures)) w.1)))
 
 pub returns-in-Ok : goal.returns-in-Ok
 returns-in-Ok c =
-    end-called c.args.root c.args.labels.now c.args.row.now c.args.queue.now c.call.new.queue
-    (subst (λ (n : ℕ). IsCalled n c.args.queue.now c.call.new.queue) c.number-to.ensures c.in-Ok.ensures)
+    end-called c.args.root c.args.labels.now c.args.row.now c.args.queue.now c.call_at.new.queue
+    (subst (λ (n : ℕ). IsCalled n c.args.queue.now c.call_at.new.queue) c.number-to.ensures c.in-Ok.ensures)

@@ -1,4 +1,4 @@
-use Rattle.std.proofs.Common.{◌≡◌, ◌∙◌, true, List, sym, ap, subst}
+use Rattle.std.proofs.Common.{◌≡◌, ◌∙◌, true, sym, ap, subst}
 use Rattle.std.specs.List.{AllByRecursion}
 use Rattle.isis_base.specs.Identifiers.{IsId}
 use Rattle.isis_base.specs.declared.identifiers.LspId.{LspId}
@@ -9,10 +9,7 @@ use Rattle.model_router.specs.Both.{at}
 use Rattle.model_router.specs.Routers.{LevelState, book_of, level_of}
 use Rattle.flag_sync.specs.BookStates as sync
 use Rattle.router_levels.specs.Views.{state_of}
-use Rattle.router_routes.specs.Moved.{IsMovedAt}
-use Rattle.router_routes.specs.Outlooks.{outlook_of}
-use Rattle.router_routes.specs.Told.{told_in}
-use Rattle.router_core.proofs.MovedLemmas.{put-moves-in}
+use Rattle.router_core.proofs.MovedLemmas.{put-tells}
 use Rattle.router_core.proofs.RouteLemmas.{unrun-outlook}
 use Rattle.router_core.proofs.machine.Machine.told_with.Goals as goal
 
@@ -28,9 +25,7 @@ returns c =
     let runs : at r.config.runs l ≡ true = sym c.runs.ensures ∙ c.if-not-runs.false in
     let ids = subst (λ (d : Database). AllByRecursion (λ (p : LspId × Entry). IsId p.0) d.entries) c.store-store.ensures c.len-entries.ensures.ids in
     let rises = subst (λ (d : Database). RisesFrom 0 d.entries) c.store-store.ensures c.len-entries.ensures.rises in
-    λ t w.
-    subst (λ (es : List (LspId × Entry)). IsMovedAt (outlook_of r) (outlook_of t) l id.node (told_in es)) (sym c.in_ok-aside.ensures)
-    (put-moves-in r t l runs id c.args.entry w v of_book (c.has_rows.ensures c.if-not-has_rows.false) c.lsp_id_law.ensures ids rises c.store-store.result.now c.store-store.ensures)
+    λ t w. put-tells r t l runs id c.args.entry w v of_book (c.has_rows.ensures c.if-not-has_rows.false) c.lsp_id_law.ensures ids rises
 
 -- src/told.rt
 pub returns-then-not-runs : goal.returns-then-not-runs

@@ -19,7 +19,7 @@ outbid_by-requires-clause-own c =
     let h = heard_of c.args.lsp.now in
     let s = state_of c.args.self.now in
     let w = whose_of (system_number c.args.system) s h.id in
-    let same = c.would_meet-row.ensures ∙ ap₂ (λ (v : LevelView) (x : Whose). answer_of (met (state_of v).book x h) c.args.lsp.now) c.self.view_is c.whose-whose.ensures in
+    let same = c.met-whose.ensures.row in
     outbid-issued (system_number c.args.system) s h (outbid-case (met s.book w h) c.args.lsp.now c.in-Outbid.above (sym same ∙ c.in-Outbid.is))
 
 pub returns-in_ok-outbid_by-in-Some-clause-state : goal.returns-in_ok-outbid_by-in-Some-clause-state
@@ -28,7 +28,7 @@ returns-in_ok-outbid_by-in-Some-clause-state c leaks attached r level are =
     let s = state_of c.args.self.now in
     let w = whose_of (system_number c.args.system) s h.id in
     let scene = scene_with leaks attached r level in
-    let same = c.would_meet-row.ensures ∙ ap₂ (λ (v : LevelView) (x : Whose). answer_of (met (state_of v).book x h) c.args.lsp.now) c.self.view_is c.whose-whose.ensures in
+    let same = c.met-whose.ensures.row in
     let told = sym same ∙ c.in-Outbid.is in
     let above = sym (outbid-above (met s.book w h) c.args.lsp.now c.in-Outbid.above told) ∙ sym (heard-number c.args.lsp.now.entry) in
     let says : IsAnswer _ scene h.id c.in-Some.draft = rw c.in-Some.is at are in
@@ -42,9 +42,9 @@ returns-in_ok-acknowledge-in-AckPurge-clause-state c leaks attached r level are 
     let h = heard_of c.args.lsp.now in
     let s = state_of c.args.self.now in
     let w = whose_of (system_number c.args.system) s h.id in
-    let same = c.would_meet-row.ensures ∙ ap₂ (λ (v : LevelView) (x : Whose). answer_of (met (state_of v).book x h) c.args.lsp.now) c.self.view_is c.whose-whose.ensures in
+    let same = c.met-whose.ensures.row in
     c.in_ok-acknowledge-in-AckPurge.ensures.state
-    ∙ ap (λ (x : Whose). let t : LevelState = record s { book = hear_lsp s.book (c.args.circuit - 1) x h; gone = let_go s.gone h.id } in t) c.whose-whose.ensures
+    ∙ ap (λ (x : Whose). let t : LevelState = record s { book = hear_lsp s.book (c.args.circuit - 1) x h; gone = let_go s.gone h.id } in t) c.met-whose.ensures.whose
     ∙ sym (taken-ack (scene_with leaks attached r level) s (c.args.circuit - 1) w h (ack-case (met s.book w h) c.args.lsp.now (sym same ∙ c.in-AckPurge.is)))
 
 pub returns-in_ok-hear-in_default-clause-state : goal.returns-in_ok-hear-in_default-clause-state
@@ -52,7 +52,7 @@ returns-in_ok-hear-in_default-clause-state c leaks attached r level are =
     let h = heard_of c.args.lsp.now in
     let s = state_of c.args.self.now in
     let w = whose_of (system_number c.args.system) s h.id in
-    let same = c.would_meet-row.ensures ∙ ap₂ (λ (v : LevelView) (x : Whose). answer_of (met (state_of v).book x h) c.args.lsp.now) c.self.view_is c.whose-whose.ensures in
+    let same = c.met-whose.ensures.row in
     c.in_ok-hear-in_default.ensures.state
-    ∙ ap (λ (x : Whose). let t : LevelState = record s { book = hear_lsp s.book (c.args.circuit - 1) x h } in t) c.whose-whose.ensures
+    ∙ ap (λ (x : Whose). let t : LevelState = record s { book = hear_lsp s.book (c.args.circuit - 1) x h } in t) c.met-whose.ensures.whose
     ∙ sym (taken-else (scene_with leaks attached r level) s (c.args.circuit - 1) w c.args.lsp.now (λ above e. c.in_default.not-Outbid above (same ∙ e)) (λ e. c.in_default.not-AckPurge (same ∙ e)))

@@ -33,11 +33,3 @@ returns-clause-told c =
     IfOk-weaker c.told_with.result _ _ (λ buckets are.
     subst (λ (l : List Candidate). AreSame (with_buckets buckets.items l) (filter (stays c.args.nodes.now) f.told ++ c.args.come.now)) told
     (subst (λ (l : List Candidate). AreSame (with_buckets buckets.items (all_in c.self.inside.told)) l) (by-table c.args.nodes.now c.args.moved.now (all_in c.self.inside.told) f.told c.args.come.now c.requires.numbers told) are)) c.told_with.ensures.told
-
-pub returns-then-many-clause-told : goal.returns-then-many-clause-told
-returns-then-many-clause-told c =
-    let f = c.args.self.now in
-    let told : all_in c.self.inside.told ≡ f.told = ap (λ (g : FollowingOf). g.told) c.self.view_is in
-    IfOk-weaker c.all_with.result _ _ (λ buckets are.
-    subst (λ (l : List Candidate). AreSame (with_buckets buckets.items l) (filter (stays c.args.nodes.now) f.told ++ c.args.come.now)) told
-    (subst (λ (l : List Candidate). AreSame (with_buckets buckets.items (all_in c.self.inside.told)) l) (by-table c.args.nodes.now c.args.moved.now (all_in c.self.inside.told) f.told c.args.come.now c.requires.numbers told) are)) c.all_with.ensures.told

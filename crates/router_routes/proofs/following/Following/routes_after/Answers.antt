@@ -3,7 +3,7 @@ use Rattle.std.proofs.lemmas.Result.{IfOk-weaker}
 use Rattle.route_table.specs.Order.{IsListedHop}
 use Rattle.router_routes.specs.Buckets.{all_in, with_buckets}
 use Rattle.router_routes.specs.Candidates.{candidates_of}
-use Rattle.router_routes.specs.Coming.{hops_after, list_after, told_after}
+use Rattle.router_routes.specs.Coming.{hops_after, list_after, told_then}
 use Rattle.router_routes.specs.Following.{FollowingOf}
 use Rattle.router_routes.specs.Moved.{outlook_at}
 use Rattle.router_routes.specs.Outlooks.{outlook_in}
@@ -30,7 +30,7 @@ returns c =
     let one = c.newest_hops-one.ensures ∙ ap (λ (g : FollowingOf). hops_after levels.one g.hops.one) c.self.view_is in
     let two = c.newest_hops-two.ensures ∙ ap (λ (g : FollowingOf). hops_after levels.two g.hops.two) c.self.view_is in
     IfOk-weaker c.routes_for.result _ _ (λ routes are.
-    routes-after (outlook_in c.args.lent.now) o f c.requires.follows c.args.nodes.now levels c.requires.still c.requires.levels (told_after reached.told f.told) (list_after reached.defaults f.defaults) reached.attached c.requires.reached.right prefixes c.in_ok-prefixes.ensures held routes
+    routes-after (outlook_in c.args.lent.now) o f c.requires.follows c.args.nodes.now levels c.requires.still c.requires.levels (told_then reached.told f.told) (list_after reached.defaults f.defaults) reached.attached c.requires.reached.right prefixes c.in_ok-prefixes.ensures held routes
     c.routes-held.ensures
     (subst (λ (t : List (ℕ × ℕ)). AreRoutesFor (IsListedHop (hops_after levels.one f.hops.one) t) (candidates_of o) prefixes held routes) two
     (subst (λ (t : List (ℕ × ℕ)). AreRoutesFor (IsListedHop t c.newest_hops-two.result.now) (candidates_of o) prefixes held routes) one are))) c.routes_for.ensures
