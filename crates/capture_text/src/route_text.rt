@@ -24,8 +24,8 @@ pub fn write_routes6<O: Sink>(
     input: &[u8],
     output: &mut O,
 ) -> Result<(), TextFailed>
-    ensures ends { TextEnds (IsRoutes6Text level system input.now) (O.held output.old)
-        (O.held output.new) result }
+    ensures ends { TextEnds (IsRoutes6Text level system input.now) (O.put output.old)
+        (O.put output.new) result }
     ensures cause { result ≡ Err TextFailed.Write
         → Rose (O.faults output.old) (O.faults output.new) }
     ensures later { O.faults output.old ≤ O.faults output.new }

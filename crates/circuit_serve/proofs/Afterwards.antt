@@ -35,7 +35,7 @@ use Rattle.circuit_serve.proofs.Gathered.{some_same, if_some_at, weaker}
 -- a journal's fault that is marked is an end
 pub marked_end : (start : Router) (seen : List Note) (end : Option SubmitFault) → IsMarked start seen end → IsEnd start seen (end_of end)
 marked_end start seen None is = is
-marked_end start seen (Some fault.OutOfMemory) is = tt
+marked_end start seen (Some fault.OutOfMemory) is = is
 marked_end start seen (Some (fault.JournalFault r)) is = is
 marked_end start seen (Some (fault.Stopped n)) is = is
 
@@ -46,7 +46,7 @@ done_none (Some (fault.JournalFault r)) is = absurd (cc is)
 done_none (Some (fault.Stopped n)) is = absurd (cc is)
 
 -- whatever the end, at most one datagram was lost
-pub at_end : (turns c : ℕ) (es : List JournalEntry) (given offered : Option (List (List ℕ))) (asked : ℕ) (end : Option SubmitFault) → Ran c es given offered asked turns end → AtEnd c es given offered
+pub at_end : (turns c : ℕ) (es : List JournalEntry) (given offered : List (List ℕ)) (asked : ℕ) (end : Option SubmitFault) → Ran c es given offered asked turns end → AtEnd c es given offered
 at_end turns c es given offered asked None ran = record { pulls = turns; waiting = false; lost = []; runs = ran.0; few = omega arith }
 at_end turns c es given offered asked (Some f) ran = record {
   pulls = ran.pulls;
@@ -66,7 +66,7 @@ module _ {P T : Type 0} (opening : P → Opening) where
   opened_after o (Circuit c p) (Ticker t) keeps is = absurd keeps
   opened_after o (Circuit c p) (Circuit d q) keeps is = keeps ∙ is
 
-module _ {J P T : Type 0} {journal : Ghosts J} {tells : noted.Ghosts (Behind J journal) Note (Start J)} (given offered : P → Option (List (List ℕ))) (asked : P → ℕ) (count : T → ℕ) (ended : T → Bool) (s : SharedRouter J journal) (turns : ℕ) (All : Type 0) where
+module _ {J P T : Type 0} {journal : Ghosts J} {tells : noted.Ghosts (Behind J journal) Note (Start J)} (given offered : P → List (List ℕ)) (asked : P → ℕ) (count : T → ℕ) (ended : T → Bool) (s : SharedRouter J journal) (turns : ℕ) (All : Type 0) where
   -- a circuit's job that ran
   pub circuit_after : (c : ℕ) (task task' : Task P T) (pass pass' : Option (Pass (Behind J journal) Note (Start J) tells)) (first end : Option SubmitFault) → IsNew given offered asked s turns c task pass first
       → ((p : Pass (Behind J journal) Note (Start J) tells) → pass ≡ Some p → JobRan given offered asked count ended s turns task p task' pass' end) → IsRun given offered asked s turns c All task' pass' end
@@ -186,11 +186,11 @@ end_started start seen started.All end is = is
 end_started start seen started.Refused end is = tt
 end_started start seen started.OutOfMemory NotStarted is = tt
 end_started start seen started.OutOfMemory (Journal n) is = is
-end_started start seen started.OutOfMemory OutOfMemory is = tt
-end_started start seen started.OutOfMemory Done is = tt
+end_started start seen started.OutOfMemory OutOfMemory is = is
+end_started start seen started.OutOfMemory Done is = is
 
 -- nothing was begun
-pub served_early : {J P : Type 0} {journal : Ghosts J} {tells : noted.Ghosts (Behind J journal) Note (Start J)} (opening : P → Opening) (given offered : P → Option (List (List ℕ))) (asked : P → ℕ) (s : SharedRouter J journal) (turns : ℕ) (ports : List P) (before : ℕ) (ended : Bool)
+pub served_early : {J P : Type 0} {journal : Ghosts J} {tells : noted.Ghosts (Behind J journal) Note (Start J)} (opening : P → Opening) (given offered : P → List (List ℕ)) (asked : P → ℕ) (s : SharedRouter J journal) (turns : ℕ) (ports : List P) (before : ℕ) (ended : Bool)
     (p : Pass (Behind J journal) Note (Start J) tells) → IsPassOf s p → label p ≡ 0 → own p ≡ [] → seen p ≡ [] → ((i : ℕ) → IfSome (slice_get ports i) (λ x. IsFresh (given x) (offered x) (asked x)))
     → Served opening given offered asked s turns ports ports before before ended p p OutOfMemory
 served_early opening given offered asked s turns ports before ended p belongs zero none nothing fresh = record {
@@ -204,5 +204,5 @@ served_early opening given offered asked s turns ports before ended p belongs ze
       subst (λ (ns : List Note). CircuitIs given offered asked (circuit_turns turns) (i + 1) port (of_label (i + 1) ns) (OutOfMemory ≡ Done)) (sym nothing) (now, λ done. cc done);
   others = λ d past. ap (of_label d) nothing;
   ticker = subst (λ (ns : List Note). TickerIs (of_label 0 ns) before before ended turns (OutOfMemory ≡ Done)) (sym nothing) (refl, λ done. cc done);
-  ends = tt;
+  ends = subst (IsCalm (first_router s)) (sym nothing) refl;
 }

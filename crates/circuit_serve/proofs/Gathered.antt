@@ -57,11 +57,11 @@ joined_end start one two now (Journal n) OutOfMemory keeps keeps' calm x y = kee
 joined_end start one two now (Journal n) Done keeps keeps' calm x y = keeps n x
 joined_end start one two now OutOfMemory NotStarted keeps keeps' calm x y = tt
 joined_end start one two now OutOfMemory (Journal m) keeps keeps' calm x y = keeps' m y
-joined_end start one two now OutOfMemory OutOfMemory keeps keeps' calm x y = tt
-joined_end start one two now OutOfMemory Done keeps keeps' calm x y = tt
+joined_end start one two now OutOfMemory OutOfMemory keeps keeps' calm x y = calm x y
+joined_end start one two now OutOfMemory Done keeps keeps' calm x y = calm x y
 joined_end start one two now Done NotStarted keeps keeps' calm x y = tt
 joined_end start one two now Done (Journal m) keeps keeps' calm x y = keeps' m y
-joined_end start one two now Done OutOfMemory keeps keeps' calm x y = tt
+joined_end start one two now Done OutOfMemory keeps keeps' calm x y = calm x y
 joined_end start one two now Done Done keeps keeps' calm x y = calm x y
 
 pub both_done : (a b : ServeEnd) → first_end a b ≡ Done → (a ≡ Done) × (b ≡ Done)
@@ -93,7 +93,7 @@ not_started Done (Some (fault.Stopped m)) is = absurd (cc is)
 
 -- ---- passes
 
-module _ {P : Type 0} (given offered : P → Option (List (List ℕ))) (asked : P → ℕ) where
+module _ {P : Type 0} (given offered : P → List (List ℕ)) (asked : P → ℕ) where
   pub weaker : (turns c : ℕ) (port : P) (es es' : List JournalEntry) (Well Now : Type 0) → es' ≡ es → (Now → Well) → CircuitIs given offered asked turns c port es Well → CircuitIs given offered asked turns c port es' Now
   weaker turns c port es es' Well Now same why was = (
     subst (λ (z : List JournalEntry). AtEnd c z (given port) (offered port)) (sym same) was.0,

@@ -17,7 +17,7 @@ use Rattle.circuit_serve.specs.Labels.{Only}
 use Rattle.circuit_serve.specs.Walks.{Ran, Ticked, IsMarked}
 use Rattle.circuit_serve.specs.Jobs.{TaskRan, JobRan}
 
-module _ {J P T : Type 0} {journal : Ghosts J} {tells : noted.Ghosts (Behind J journal) Note (Start J)} (given offered : P → Option (List (List ℕ))) (asked : P → ℕ) (count : T → ℕ) (ended : T → Bool)
+module _ {J P T : Type 0} {journal : Ghosts J} {tells : noted.Ghosts (Behind J journal) Note (Start J)} (given offered : P → List (List ℕ)) (asked : P → ℕ) (count : T → ℕ) (ended : T → Bool)
     (s : SharedRouter J journal) (turns : ℕ) (task : Task P T) (p x q : Pass (Behind J journal) Note (Start J) tells) (end : Option SubmitFault) (same : p ≡ x) (belongs : IsPassOf s q) (left : turns_left q + length (own q) ≡ turns_left p)
     (marked : IsMarked (first_router s) (seen q) end) where
   abbrev Is : Pass (Behind J journal) Note (Start J) tells → Task P T → Type 0

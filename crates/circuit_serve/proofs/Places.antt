@@ -1,9 +1,9 @@
 -- Facts of a list's items by their places.
-use Rattle.std.proofs.Common.{◌⊎◌, ⊎_elim, ◌≡◌, ℕ, zero, suc, ◌+◌, ◌<◌, ◌≤◌, List, [], ◌∷◌, ◌++◌, length, slice_get, slice_index_or, Option, Some, None, IfSome, inl, inr, sym, ap, ◌∙◌, subst, arith, length-append}
-use Rattle.isis_edge.specs.Faults.{Rose}
+use Rattle.std.proofs.Common.{◌⊎◌, ⊎_elim, ◌≡◌, ℕ, zero, suc, Bool, true, false, ◌+◌, ◌<◌, ◌≤◌, List, [], ◌∷◌, ◌++◌, length, slice_get, slice_index_or, Option, Some, None, IfSome, inl, inr, ◌↔◌, Contains, append-nil, refl, sym, ap, ◌∙◌, subst, arith, length-append}
+use Rattle.std.proofs.lemmas.List.{append_cancel_left}
 use Rattle.daemon_edge.specs.declared.spawning.Started.{Started}
 use Rattle.daemon_edge.specs.declared.spawning.Started.TheVariants as started
-use Rattle.daemon_edge.specs.Workers.{EachWorks}
+use Rattle.daemon_edge.specs.Workers.{EachWorks, UnlessRefused, WasRefused}
 
 pub if_some_map : {A : Type 0} (o : Option A) (P Q : A → Type 0) → ((a : A) → P a → Q a) → IfSome o P → IfSome o Q
 if_some_map None P Q f h = tt
@@ -36,22 +36,33 @@ place_last {A} xs zs x Q is all = last xs Q (λ i. subst (λ (ys : List A). IfSo
     last [] Q all = all 0
     last (y ∷ xs) Q all = last xs (λ i. Q (suc i)) (λ i. all (suc i))
 
+-- a worker worked, or its start was refused and it is as it was
+worked-or : (start : Option Bool) (Worked Same : Type 0) → UnlessRefused start Worked Same → Worked ⊎ Same
+worked-or (Some true) Worked Same h = inr h
+worked-or (Some false) Worked Same h = inl h
+worked-or None Worked Same h = inl h
+
 -- each worker worked, or is as it was where not all started
-pub each_place : {W : Type 0} (ws ws' : List W) (works : W → W → Type 0) (faults faults' : ℕ) (st : Started) → EachWorks works faults faults' ws ws' st
+pub each_place : {W : Type 0} (ws ws' : List W) (works : W → W → Type 0) (faults faults' : ℕ) (answers answers' : List Bool) (st : Started) → EachWorks works faults faults' answers answers' ws ws' st
     → (length ws' ≡ length ws) × ((i : ℕ) (d : W) → i < length ws → works (slice_index_or ws i d) (slice_index_or ws' i d) ⊎ ((slice_index_or ws' i d ≡ slice_index_or ws i d) × (¬ (st ≡ started.All))))
-each_place ws ws' works faults faults' started.All (later, (same, each)) = (same, λ i d l. inl (each i d l))
-each_place ws ws' works faults faults' started.Refused (later, rose, (same, each)) = (same, λ i d l. ⊎_elim (λ w. inl w) (λ e. inr (e, λ all. cc all)) (each i d l))
-each_place ws ws' works faults faults' started.OutOfMemory (later, same) = (ap (λ z. length z) same, λ i d l. inr (ap (λ z. slice_index_or z i d) same, λ all. cc all))
+each_place ws ws' works faults faults' answers answers' started.All (later, none, (same, each)) = (same, λ i d l. inl (each i d l))
+each_place ws ws' works faults faults' answers answers' started.Refused (later, rose, (refused, adds, some, (same, each))) =
+    (same, λ i d l. ⊎_elim (λ w. inl w) (λ e. inr (e, λ all. cc all)) (worked-or (slice_get refused i) _ _ (each i d l)))
+each_place ws ws' works faults faults' answers answers' started.OutOfMemory (later, none, same) = (ap (λ z. length z) same, λ i d l. inr (ap (λ z. slice_index_or z i d) same, λ all. cc all))
 
-pub each_later : {W : Type 0} (works : W → W → Type 0) (faults faults' : ℕ) (ws ws' : List W) (st : Started) → EachWorks works faults faults' ws ws' st → faults ≤ faults'
-each_later works faults faults' ws ws' started.All (later, (same, each)) = later
-each_later works faults faults' ws ws' started.Refused (later, rose, (same, each)) = later
-each_later works faults faults' ws ws' started.OutOfMemory (later, same) = later
+-- meanwhile none was refused where nothing was answered
+pub never_refused : (answers : List Bool) → WasRefused answers answers → ⊥
+never_refused answers was =
+    let at = subst (λ (xs : List Bool). Contains xs true) (append_cancel_left answers was.0 [] (sym was.1 ∙ sym (append-nil answers))) was.2 in
+    omega (arith, at.1)
 
-pub each_refused : {W : Type 0} (works : W → W → Type 0) (faults faults' : ℕ) (ws ws' : List W) (st : Started) → EachWorks works faults faults' ws ws' st → st ≡ started.Refused → Rose faults faults'
-each_refused works faults faults' ws ws' started.All h is = absurd (cc is)
-each_refused works faults faults' ws ws' started.Refused (later, rose, (same, each)) is = rose
-each_refused works faults faults' ws ws' started.OutOfMemory h is = absurd (cc is)
+-- not all started exactly where one was refused
+pub refused_so : {W : Type 0} (works : W → W → Type 0) (faults faults' : ℕ) (answers answers' : List Bool) (ws ws' : List W) (st : Started) → EachWorks works faults faults' answers answers' ws ws' st → (st ≡ started.Refused) ↔ WasRefused answers answers'
+refused_so works faults faults' answers answers' ws ws' started.All (later, (refused, adds, none), worked) =
+    (λ is. absurd (cc is), λ was. absurd (none (subst (λ (xs : List Bool). Contains xs true) (append_cancel_left answers was.0 refused (sym was.1 ∙ adds)) was.2)))
+refused_so works faults faults' answers answers' ws ws' started.Refused (later, rose, (refused, adds, some, worked)) = (λ is. (refused, adds, some), λ was. refl)
+refused_so works faults faults' answers answers' ws ws' started.OutOfMemory (later, none, same) =
+    (λ is. absurd (cc is), λ was. absurd (never_refused answers (was.0, sym none ∙ was.1, was.2)))
 
 -- what was known of each worker before gives what is known of it after
 pub after_places : {W : Type 0} (ws ws' : List W) (works : W → W → Type 0) (NotAll : Type 0) (New Run : ℕ → W → Type 0)

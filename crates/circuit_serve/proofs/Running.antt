@@ -21,15 +21,15 @@ pub seconds_more : (es : List JournalEntry) (e : JournalEntry) → seconds (es +
 seconds_more [] e = omega arith
 seconds_more (x ∷ es) e = omega (arith, seconds_more es e)
 
-pub sets_out : (c : ℕ) (given offered : Option (List (List ℕ))) → ((g : List (List ℕ)) → given ≡ Some g → g ≡ []) → ((o : List (List ℕ)) → offered ≡ Some o → o ≡ []) → Runs c [] given offered 0 false []
+pub sets_out : (c : ℕ) (given offered : List (List ℕ)) → given ≡ [] → offered ≡ [] → Runs c [] given offered 0 false []
 sets_out c given offered g o = record { takes = g; sent = o; pulls = refl; waiting = refl; legal = refl }
 
-module _ (c : ℕ) (es : List JournalEntry) (given offered given' offered' : Option (List (List ℕ))) (count : ℕ) (waits : Bool) where
+module _ (c : ℕ) (es : List JournalEntry) (given offered given' offered' : List (List ℕ)) (count : ℕ) (waits : Bool) where
   -- datagrams come that aren't submitted yet
   pub comes : (lost more : List (List ℕ)) → Runs c es given offered count waits lost → Adds given given' more → Adds offered offered' [] → Runs c es given' offered' count waits (lost ++ more)
   comes lost more was adds offers = record {
-    takes = λ g is. let a = adds g is in a.2 ∙ (ap (λ z. z ++ more) (was.takes a.0 a.1) ∙ append_assoc (walk c setting_out es).takes lost more);
-    sent = λ o is. let a = offers o is in a.2 ∙ (append-nil a.0 ∙ was.sent a.0 a.1);
+    takes = adds ∙ (ap (λ z. z ++ more) was.takes ∙ append_assoc (walk c setting_out es).takes lost more);
+    sent = offers ∙ (append-nil offered ∙ was.sent);
     pulls = was.pulls;
     waiting = was.waiting;
     legal = was.legal;
@@ -38,8 +38,8 @@ module _ (c : ℕ) (es : List JournalEntry) (given offered given' offered' : Opt
   module _ (r : Receipt) (adds : Adds given given' []) (offers : Adds offered offered' (sends_of r.reply)) where
     pub took : (x : OpenedView) → x.circuit ≡ c → waits ≡ false → Runs c es given offered count waits (x.octets ∷ []) → Runs c (es ++ entry_of c (Take x) r ∷ []) given' offered' count true []
     took x on idle was = let more = walk_more c setting_out es (entry_of c (Take x) r) in let w : Walk = walk c setting_out es in record {
-      takes = λ g is. let a = adds g is in a.2 ∙ (append-nil a.0 ∙ (was.takes a.0 a.1 ∙ (sym (append-nil (w.takes ++ x.octets ∷ [])) ∙ ap (λ (z : Walk). z.takes ++ []) (sym more))));
-      sent = λ o is. let a = offers o is in a.2 ∙ (ap (λ z. z ++ sends_of r.reply) (was.sent a.0 a.1) ∙ ap (λ (z : Walk). z.sent) (sym more));
+      takes = adds ∙ (append-nil given ∙ (was.takes ∙ (sym (append-nil (w.takes ++ x.octets ∷ [])) ∙ ap (λ (z : Walk). z.takes ++ []) (sym more))));
+      sent = offers ∙ (ap (λ z. z ++ sends_of r.reply) was.sent ∙ ap (λ (z : Walk). z.sent) (sym more));
       pulls = ap (λ (z : Walk). z.pulls) more ∙ was.pulls;
       waiting = ap (λ (z : Walk). z.waiting) more;
       legal = ap (λ (z : Walk). z.legal) more ∙ (ap (λ b. b && (not w.waiting && eqb x.circuit c)) was.legal ∙ (ap (λ b. not b && eqb x.circuit c) (was.waiting ∙ idle) ∙ eq-eqb x.circuit c on));
@@ -47,14 +47,14 @@ module _ (c : ℕ) (es : List JournalEntry) (given offered given' offered' : Opt
 
     pub pulled : Runs c es given offered count waits [] → Runs c (es ++ entry_of c (Pull c) r ∷ []) given' offered' (count + 1) false []
     pulled was = let more = walk_more c setting_out es (entry_of c (Pull c) r) in let w : Walk = walk c setting_out es in record {
-      takes = λ g is. let a = adds g is in a.2 ∙ (append-nil a.0 ∙ (was.takes a.0 a.1 ∙ ap (λ (z : Walk). z.takes ++ []) (sym more)));
-      sent = λ o is. let a = offers o is in a.2 ∙ (ap (λ z. z ++ sends_of r.reply) (was.sent a.0 a.1) ∙ ap (λ (z : Walk). z.sent) (sym more));
+      takes = adds ∙ (append-nil given ∙ (was.takes ∙ ap (λ (z : Walk). z.takes ++ []) (sym more)));
+      sent = offers ∙ (ap (λ z. z ++ sends_of r.reply) was.sent ∙ ap (λ (z : Walk). z.sent) (sym more));
       pulls = ap (λ (z : Walk). z.pulls) more ∙ ap (λ z. z + 1) was.pulls;
       waiting = ap (λ (z : Walk). z.waiting) more;
       legal = ap (λ (z : Walk). z.legal) more ∙ (ap (λ b. b && eqb c c) was.legal ∙ eq-eqb c c refl);
     }
 
-module _ (c : ℕ) (es : List JournalEntry) (given offered given' offered' : Option (List (List ℕ))) (count : ℕ) (waits : Bool) (adds : Adds given given' []) where
+module _ (c : ℕ) (es : List JournalEntry) (given offered given' offered' : List (List ℕ)) (count : ℕ) (waits : Bool) (adds : Adds given given' []) where
   pub take_stops : (x : OpenedView) (f : SubmitFault) → x.circuit ≡ c → waits ≡ false → Runs c es given offered count waits (x.octets ∷ []) → Adds offered offered' (sends_in (Err f))
       → Stops c (es ++ entries (note_of c (Take x) (Err f) ∷ [])) given' offered' f
   take_stops x fault.OutOfMemory on idle was offers = record { pulls = count; waiting = waits; lost = x.octets ∷ []; runs = subst (λ z. Runs c z given' offered' count waits (x.octets ∷ [])) (sym (append-nil es)) (comes c es given offered given' offered' count waits (x.octets ∷ []) [] was adds offers); loses = inr (refl, tt) }
@@ -67,7 +67,7 @@ module _ (c : ℕ) (es : List JournalEntry) (given offered given' offered' : Opt
   pull_stops (fault.JournalFault r) was offers = record { pulls = count + 1; waiting = false; lost = []; runs = pulled c es given offered given' offered' count waits r adds offers was; loses = inl refl }
 
 -- a take and a pull, whatever the submit answers
-module _ (c : ℕ) (es : List JournalEntry) (given offered given' offered' : Option (List (List ℕ))) (count : ℕ) (waits : Bool) (adds : Adds given given' []) where
+module _ (c : ℕ) (es : List JournalEntry) (given offered given' offered' : List (List ℕ)) (count : ℕ) (waits : Bool) (adds : Adds given given' []) where
   pub take_ends : (x : OpenedView) (a : Result Receipt SubmitFault) → x.circuit ≡ c → waits ≡ false → Runs c es given offered count waits (x.octets ∷ []) → Adds offered offered' (sends_in a)
       → TookIn c (es ++ entries (note_of c (Take x) a ∷ [])) given' offered' count (fault_in a)
   take_ends x (Ok r) on idle was offers = (true, took c es given offered given' offered' count waits r adds offers x on idle was)
@@ -79,15 +79,15 @@ module _ (c : ℕ) (es : List JournalEntry) (given offered given' offered' : Opt
 
 pub is_marked : (start : Router) (seen : List Note) (a : Result Receipt SubmitFault) → IsAnswered start seen a → IsMarked start seen (fault_in a)
 is_marked start seen (Ok r) h = h.1.stop_at
-is_marked start seen (Err fault.OutOfMemory) h = tt
+is_marked start seen (Err fault.OutOfMemory) h = h.stop_at
 is_marked start seen (Err (fault.JournalFault r)) h = h.1.stop_at
 is_marked start seen (Err (fault.Stopped n)) h = h.1.stop_at
 
 -- a run that stops where nothing was made of what it waits for
-pub stops_here : (c : ℕ) (es : List JournalEntry) (given offered : Option (List (List ℕ))) (count : ℕ) (waits : Bool) (f : SubmitFault) → Runs c es given offered count waits [] → Stops c es given offered f
+pub stops_here : (c : ℕ) (es : List JournalEntry) (given offered : List (List ℕ)) (count : ℕ) (waits : Bool) (f : SubmitFault) → Runs c es given offered count waits [] → Stops c es given offered f
 stops_here c es given offered count waits f was = record { pulls = count; waiting = waits; lost = []; runs = was; loses = inl refl }
 
-pub ran : (c : ℕ) (es : List JournalEntry) (given offered : Option (List (List ℕ))) (asked count : ℕ) (f : Option SubmitFault) → asked ≡ count → Pulled c es given offered count f → Ran c es given offered asked count f
+pub ran : (c : ℕ) (es : List JournalEntry) (given offered : List (List ℕ)) (asked count : ℕ) (f : Option SubmitFault) → asked ≡ count → Pulled c es given offered count f → Ran c es given offered asked count f
 ran c es given offered asked count None same was = (was, same)
 ran c es given offered asked count (Some f) same was = was
 

@@ -3,13 +3,11 @@ use Rattle.std.proofs.Common.{◌≡◌, ℕ, zero, suc, ◌+◌, List, [], ◌�
 use Rattle.daemon_edge.specs.Ports.{Adds}
 
 module _ {X : Type 0} where
-  pub adds_none : (a : Option (List X)) → Adds a a []
-  adds_none a list is = (list, is, sym (append-nil list))
+  pub adds_none : (a : List X) → Adds a a []
+  adds_none a = sym (append-nil a)
 
-  pub adds_both : (a b c : Option (List X)) (xs ys : List X) → Adds a b xs → Adds b c ys → Adds a c (xs ++ ys)
-  adds_both a b c xs ys one two list is =
-      let t = two list is in let o = one t.0 t.1 in
-      (o.0, o.1, t.2 ∙ (ap (λ z. z ++ ys) o.2 ∙ append_assoc o.0 xs ys))
+  pub adds_both : (a b c xs ys : List X) → Adds a b xs → Adds b c ys → Adds a c (xs ++ ys)
+  adds_both a b c xs ys one two = two ∙ (ap (λ z. z ++ ys) one ∙ append_assoc a xs ys)
 
   -- the first so many items, and one more
   pub take_next : (xs : List X) (i : ℕ) (x : X) → slice_get xs i ≡ Some x → take (i + 1) xs ≡ take i xs ++ x ∷ []

@@ -51,23 +51,23 @@ first_end OutOfMemory OutOfMemory = OutOfMemory
 first_end OutOfMemory Done = OutOfMemory
 first_end Done b = b
 
--- a journal's fault names an entry that is marked; where all was done none is (own)
+-- a journal's fault names an entry that is marked; where all was done, and at want of memory, none is (own)
 abbrev pub IsEnd : Router → List Note → ServeEnd → Type 0
 IsEnd start seen Done = IsCalm start seen
 IsEnd start seen NotStarted = Unit {0}
 IsEnd start seen (Journal n) = (replay (opening start) seen).stop ≡ Some n
-IsEnd start seen OutOfMemory = Unit {0}
+IsEnd start seen OutOfMemory = IsCalm start seen
 
 -- ---- what a circuit's entries are at every end: all datagrams that its port gave were taken, in order, but for a last
 -- one at most, and what it was offered is what they sent (own)
-pub record AtEnd (c : ℕ) (es : List JournalEntry) (given offered : Option (List (List ℕ))) : Type 0 where
+pub record AtEnd (c : ℕ) (es : List JournalEntry) (given offered : List (List ℕ)) : Type 0 where
   pub pulls : ℕ
   pub waiting : Bool
   pub lost : List (List ℕ)
   pub runs : Runs c es given offered pulls waiting lost
   pub few : length lost ≤ 1
 
-module _ {P : Type 0} (given offered : P → Option (List (List ℕ))) (asked : P → ℕ) where
+module _ {P : Type 0} (given offered : P → List (List ℕ)) (asked : P → ℕ) where
   -- at every end, and where all went well (own)
   abbrev pub CircuitIs : ℕ → ℕ → P → List JournalEntry → Type 0 → Type 0
   CircuitIs turns c port es Well =

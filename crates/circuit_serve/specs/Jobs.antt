@@ -20,7 +20,7 @@ use Rattle.circuit_serve.specs.Labels.{Only}
 use Rattle.daemon_edge.specs.Ports.{IsFresh}
 use Rattle.circuit_serve.specs.Walks.{Ran, Ticked, IsMarked}
 
-module _ {P T : Type 0} (given offered : P → Option (List (List ℕ))) (asked : P → ℕ) (count : T → ℕ) (ended : T → Bool) where
+module _ {P T : Type 0} (given offered : P → List (List ℕ)) (asked : P → ℕ) (count : T → ℕ) (ended : T → Bool) where
   -- what a task's entries are, beside what its port or its pacer tells (own)
   abbrev pub TaskRan : ℕ → ℕ → List JournalEntry → Task P T → Task P T → Option SubmitFault → Type 0
   TaskRan turns c es (Ticker t) (Ticker t') end = Ticked es (count t) (count t') (ended t') turns end
@@ -30,7 +30,7 @@ module _ {P T : Type 0} (given offered : P → Option (List (List ℕ))) (asked 
       (d' ≡ d) × Ran c es (given p') (offered p') (asked p') turns end
 
 module _ {J P T : Type 0} {journal : Ghosts J} {tells : noted.Ghosts (Behind J journal) Note (Start J)}
-    (given offered : P → Option (List (List ℕ))) (asked : P → ℕ) (count : T → ℕ) (ended : T → Bool) where
+    (given offered : P → List (List ℕ)) (asked : P → ℕ) (count : T → ℕ) (ended : T → Bool) where
   -- what a task needs: turns enough; a circuit's pass has its label, the circuit is there, and its port is fresh (own)
   abbrev pub IsReady : Router → Task P T → ℕ → Pass (Behind J journal) Note (Start J) tells → Type 0
   IsReady r (Ticker t) turns p = turns ≤ turns_left p

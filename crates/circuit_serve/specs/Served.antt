@@ -38,7 +38,7 @@ module _ {J T P : Type 0} {journal : Ghosts J} {tells : noted.Ghosts (Behind J j
 -- that are left and those that were taken; the ports come back in order, each opened as before; of each
 -- circuit and of the ticker the entries are what its port and the pacer tell, and no other label has an entry (own).
 module _ {J P : Type 0} {journal : Ghosts J} {tells : noted.Ghosts (Behind J journal) Note (Start J)}
-    (opening : P → Opening) (given offered : P → Option (List (List ℕ))) (asked : P → ℕ) where
+    (opening : P → Opening) (given offered : P → List (List ℕ)) (asked : P → ℕ) where
   pub record Served (s : SharedRouter J journal) (turns : ℕ) (ports ports' : List P) (before now : ℕ) (ended : Bool)
       (p p' : Pass (Behind J journal) Note (Start J) tells) (end : ServeEnd) : Type 0 where
     pub pass : IsPassOf s p' × (label p' ≡ 0)

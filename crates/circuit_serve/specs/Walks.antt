@@ -87,10 +87,10 @@ came (Err e) = []
 
 -- what a circuit's entries are, beside what its port tells: the datagrams taken, and then those lost; those sent; the
 -- pulls (own)
-pub record Runs (c : ℕ) (es : List JournalEntry) (given offered : Option (List (List ℕ))) (count : ℕ)
+pub record Runs (c : ℕ) (es : List JournalEntry) (given offered : List (List ℕ)) (count : ℕ)
     (waits : Bool) (lost : List (List ℕ)) : Type 0 where
-  pub takes : (g : List (List ℕ)) → given ≡ Some g → g ≡ (walk c setting_out es).takes ++ lost
-  pub sent : (o : List (List ℕ)) → offered ≡ Some o → o ≡ (walk c setting_out es).sent
+  pub takes : given ≡ (walk c setting_out es).takes ++ lost
+  pub sent : offered ≡ (walk c setting_out es).sent
   pub pulls : (walk c setting_out es).pulls ≡ count
   pub waiting : (walk c setting_out es).waiting ≡ waits
   pub legal : (walk c setting_out es).legal ≡ true
@@ -102,7 +102,7 @@ MadeNothing (fault.JournalFault r) = ⊥
 MadeNothing (fault.Stopped n) = Unit {0}
 
 -- how a circuit's run ended at a fault: at most one datagram was lost, and that one where its submit made nothing (own)
-pub record Stops (c : ℕ) (es : List JournalEntry) (given offered : Option (List (List ℕ)))
+pub record Stops (c : ℕ) (es : List JournalEntry) (given offered : List (List ℕ))
     (f : SubmitFault) : Type 0 where
   pub pulls : ℕ
   pub waiting : Bool
@@ -111,18 +111,18 @@ pub record Stops (c : ℕ) (es : List JournalEntry) (given offered : Option (Lis
   pub loses : (lost ≡ []) ⊎ ((length lost ≡ 1) × MadeNothing f)
 
 -- after so many turns of a circuit's run, or at its fault (own)
-abbrev pub Ran : ℕ → List JournalEntry → Option (List (List ℕ)) → Option (List (List ℕ)) → ℕ → ℕ
+abbrev pub Ran : ℕ → List JournalEntry → List (List ℕ) → List (List ℕ) → ℕ → ℕ
     → Option SubmitFault → Type 0
 Ran c es given offered asked turns None = Runs c es given offered turns false [] × (asked ≡ turns)
 Ran c es given offered asked turns (Some f) = Stops c es given offered f
 
 -- after a take, and after a pull (own)
-abbrev pub TookIn : ℕ → List JournalEntry → Option (List (List ℕ)) → Option (List (List ℕ)) → ℕ
+abbrev pub TookIn : ℕ → List JournalEntry → List (List ℕ) → List (List ℕ) → ℕ
     → Option SubmitFault → Type 0
 TookIn c es given offered count None = (waits : Bool) × Runs c es given offered count waits []
 TookIn c es given offered count (Some f) = Stops c es given offered f
 
-abbrev pub Pulled : ℕ → List JournalEntry → Option (List (List ℕ)) → Option (List (List ℕ)) → ℕ
+abbrev pub Pulled : ℕ → List JournalEntry → List (List ℕ) → List (List ℕ) → ℕ
     → Option SubmitFault → Type 0
 Pulled c es given offered count None = Runs c es given offered count false []
 Pulled c es given offered count (Some f) = Stops c es given offered f
@@ -134,7 +134,7 @@ IsCalm start seen = (replay (opening start) seen).stop ≡ None
 -- at a journal's fault the history seen has this marked entry, and at no fault none (own)
 abbrev pub IsMarked : Router → List Note → Option SubmitFault → Type 0
 IsMarked start seen None = IsCalm start seen
-IsMarked start seen (Some fault.OutOfMemory) = Unit {0}
+IsMarked start seen (Some fault.OutOfMemory) = IsCalm start seen
 IsMarked start seen (Some (fault.JournalFault r)) = (replay (opening start) seen).stop ≡ Some r.entry
 IsMarked start seen (Some (fault.Stopped n)) = (replay (opening start) seen).stop ≡ Some n
 

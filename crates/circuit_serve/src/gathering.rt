@@ -1,5 +1,5 @@
 //! The jobs taken apart after they ran: ports, passes and ends.
-ghost use Rattle.std.specs.Prelude.{◌≡◌, ◌≢◌, ◌+◌, ◌*◌, ◌<◌, ◌≤◌, ℕ, [], ◌∷◌, ◌++◌, length, vec_len, vec_capacity, slice_get, IfSome};
+ghost use Rattle.std.specs.Prelude.{◌≡◌, ◌≢◌, ◌+◌, ◌*◌, ◌<◌, ◌≤◌, ◌↔◌, ℕ, [], ◌∷◌, ◌++◌, length, vec_len, vec_capacity, slice_get, IfSome};
 ghost use Rattle.daemon_edge.specs.Closings.{Opening};
 ghost use Rattle.turn_lock.specs.Passes.{turns_left, label, own, seen};
 ghost use Rattle.circuit_threads.specs.Sharing.{first_router, IsPassOf, HasAll};
@@ -47,7 +47,7 @@ fn gather_one<'a, J: Journal + Drop, P: Port + Drop, T: Pacer + Drop, G: Gate>(
         → (c : ℕ) → of_label c (seen result.0) ≡ by_label c (own result.0) (seen result.0) }
     ensures end { IsEnd (first_router shared.now) (seen result.0) result.2 }
     ensures done { result.2 ≡ ServeEnd.Done → end ≡ ServeEnd.Done }
-    ensures not_started { result.2 ≡ ServeEnd.NotStarted → end ≡ ServeEnd.NotStarted }
+    ensures not_started { (result.2 ≡ ServeEnd.NotStarted) ↔ (end ≡ ServeEnd.NotStarted) }
 {
     let Job {
         alloc: _,
@@ -102,7 +102,7 @@ pub fn gather<'a, J: Journal + Drop, P: Port + Drop, T: Pacer + Drop, G: Gate>(
         → (c : ℕ) → of_label c (seen result.0) ≡ by_label c (own result.0) (seen result.0) }
     ensures end { IsEnd (first_router shared.now) (seen result.0) result.2 }
     ensures done { result.2 ≡ ServeEnd.Done → end ≡ ServeEnd.Done }
-    ensures not_started { result.2 ≡ ServeEnd.NotStarted → end ≡ ServeEnd.NotStarted }
+    ensures not_started { (result.2 ≡ ServeEnd.NotStarted) ↔ (end ≡ ServeEnd.NotStarted) }
 {
     let mut pass = pass;
     let mut list = ports;

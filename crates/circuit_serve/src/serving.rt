@@ -1,10 +1,11 @@
 //! `serve`: a worker for each circuit and a ticker, in threads, over one shared router.
-ghost use Rattle.std.specs.Prelude.{◌≡◌, ◌≢◌, ◌+◌, ◌-◌, ◌*◌, ◌<◌, ◌≤◌, ℕ, [], length, vec_capacity, slice_get, None, Some, IfSome};
+ghost use Rattle.std.specs.Prelude.{◌≡◌, ◌≢◌, ◌+◌, ◌-◌, ◌*◌, ◌<◌, ◌≤◌, ◌↔◌, ℕ, [], length, vec_capacity, slice_get, None, Some, IfSome};
 ghost use Rattle.isis_edge.specs.Faults.{Rose};
 ghost use Rattle.turn_lock.specs.Passes.{turns_left, label, splits, own, seen};
 ghost use Rattle.circuit_threads.specs.Sharing.{first_router, all_turns, IsPassOf, HasAll};
 ghost use Rattle.daemon_edge.specs.Closings.{Opening};
 ghost use Rattle.daemon_edge.specs.Ports.{IsFresh};
+ghost use Rattle.daemon_edge.specs.Workers.{WasRefused};
 ghost use Rattle.circuit_serve.specs.Ends.{IsEnd, IsRun, TickerIs, Gathers};
 ghost use Rattle.circuit_serve.specs.Jobs.{IsOpened, IsTicker};
 ghost use Rattle.circuit_serve.specs.Labels.{of_label, by_label};
@@ -58,6 +59,8 @@ pub fn serve<
     ensures later { S.faults spawner.old ≤ S.faults spawner.new }
     ensures not_started { result.3 ≡ ServeEnd.NotStarted
         → Rose (S.faults spawner.old) (S.faults spawner.new) }
+    ensures refused { (result.3 ≡ ServeEnd.NotStarted)
+        ↔ WasRefused (S.answers spawner.old) (S.answers spawner.new) }
 {
     let count = ports.len();
     let Ok(jobs) = Vec::with_capacity(alloc, count + 1) else {
@@ -119,6 +122,8 @@ fn start<
     ensures later { S.faults spawner.old ≤ S.faults spawner.new }
     ensures refused { result.1 ≡ Started.Refused
         → Rose (S.faults spawner.old) (S.faults spawner.new) }
+    ensures answers { (result.1 ≡ Started.Refused)
+        ↔ WasRefused (S.answers spawner.old) (S.answers spawner.new) }
 {
     let takes = 10 * turns;
     let (rest, jobs) = add_jobs(alloc, shared, gate, pass, ports, jobs, takes);
@@ -156,7 +161,7 @@ fn finish<'a, J: Journal + Drop, P: Port + Drop, T: Pacer + Drop, G: Gate>(
         v.task v.pass v.end)) }
     ensures lock { IsPassOf shared.now result.0 × (label result.0 ≡ 0) }
     ensures done { (result.3 ≡ ServeEnd.Done → started ≡ Started.All)
-        × (result.3 ≡ ServeEnd.NotStarted → started ≡ Started.Refused) }
+        × ((result.3 ≡ ServeEnd.NotStarted) ↔ (started ≡ Started.Refused)) }
     ensures end { IsEnd (first_router shared.now) (seen result.0) result.3 }
     ensures ran { (share before : ℕ)
         → ((i : ℕ) → IfSome (slice_get jobs.entry.items i) (λ v. i + 1 ≡ length jobs.entry.items

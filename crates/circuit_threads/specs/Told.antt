@@ -1,5 +1,5 @@
 -- What a journal tells: its entries, and the one whose append failed (own).
-use Rattle.std.specs.Prelude.{ℕ, List, [], ◌∷◌, ◌++◌, Option, Some, None, IfSome, Result, Ok, Err}
+use Rattle.std.specs.Prelude.{ℕ, List, [], ◌∷◌, ◌++◌, Option, Some, None, Result, Ok, Err}
 use Rattle.isis_edge.specs.Told.{Wrote, WrotePrefix}
 use Rattle.circuit_threads.specs.declared.entry.JournalEntry.{JournalEntry}
 use Rattle.circuit_threads.specs.declared.entry.Note.{Note}
@@ -24,14 +24,14 @@ told_after told e (Err fault) = record told { torn = Some e }
 abbrev pub told_of : List Note → Told
 told_of notes = record { entries = appended notes; torn = marked notes }
 
--- ---- a journal of text, by what its sink held at first and what it holds now
+-- ---- a journal of text, by what was put into its sink at first and until now
 
 -- behind that text, the line of the entry whose append failed is there in part, or nothing is (own)
-abbrev pub WroteBehind : Option (List ℕ) → Option (List ℕ) → List ℕ → Option JournalEntry → Type 0
+abbrev pub WroteBehind : (before now text : List ℕ) → Option JournalEntry → Type 0
 WroteBehind before now text None = Wrote before now text
 WroteBehind before now text (Some e) =
-    IfSome before (λ held. WrotePrefix (Some (held ++ text)) now (entry_text e))
+    WrotePrefix (before ++ text) now (entry_text e)
 
--- the lines of the entries told were written, where the sink tells what it holds (own)
-abbrev pub WroteTold : Option (List ℕ) → Option (List ℕ) → Told → Type 0
+-- the lines of the entries told were written (own)
+abbrev pub WroteTold : (before now : List ℕ) → Told → Type 0
 WroteTold before now told = WroteBehind before now (entries_text told.entries) told.torn

@@ -25,10 +25,10 @@ impl<O: Sink> TextJournal<O> {
     /// Begins a journal by its head line. Where that isn't written the sink comes back, which got a
     /// prefix of it.
     pub fn open(sink: O) -> Result<TextJournal<O>, (O, WriteFailed)>
-        ensures ok { IfOk result (λ journal. Wrote (O.held sink) (O.held journal.sink) head_text) }
+        ensures ok { IfOk result (λ journal. Wrote (O.put sink) (O.put journal.sink) head_text) }
         ensures later { IfOk result (λ journal. O.faults sink ≤ O.faults journal.sink) }
         ensures never { IfErr result (λ back. O.faults sink ≤ O.faults back.0) }
-        ensures begun { IfErr result (λ back. WrotePrefix (O.held sink) (O.held back.0) head_text) }
+        ensures begun { IfErr result (λ back. WrotePrefix (O.put sink) (O.put back.0) head_text) }
         ensures cause { IfErr result (λ back. Rose (O.faults sink) (O.faults back.0)) }
     {
         let mut sink = sink;
@@ -47,7 +47,7 @@ impl<O: Sink> TextJournal<O> {
 }
 
 impl<O: Sink> Journal for TextJournal<O> {
-    ghost tells = { λ first now told. WroteTold (O.held first.sink) (O.held now.sink) told };
+    ghost tells = { λ first now told. WroteTold (O.put first.sink) (O.put now.sink) told };
 
     ghost faults = { λ journal. O.faults journal.sink };
 

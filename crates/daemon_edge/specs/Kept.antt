@@ -6,6 +6,10 @@ pub record KeptList : Type 0 where
   pub datagrams : List (List ℕ)
   pub room : ℕ
 
+-- no datagram, and room for so many (own)
+abbrev pub empty_of : ℕ → KeptList
+empty_of room = record { datagrams = []; room = room }
+
 -- own
 abbrev pub sum_of : List ℕ → ℕ
 sum_of [] = 0

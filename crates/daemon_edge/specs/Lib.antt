@@ -1,4 +1,5 @@
--- The definitions: closings, kept, memory ports, pacing, ports, workers.
+-- The definitions: addresses, closings, kept, memory ports, pacing, ports, workers.
+pub mod Addresses
 pub mod Closings
 pub mod Kept
 pub mod MemoryPorts

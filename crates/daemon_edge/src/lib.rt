@@ -1,6 +1,6 @@
 //! The outside as a daemon sees it: ports, seconds and threads.
 //!
-//! A port tells, for contracts alone, the datagrams that it gave and those that it was offered, where they are known,
+//! A port tells, for contracts alone, the datagrams that it gave and those that it was offered,
 //! and each object has a count of faults that never falls. So a fault is answered only where a count rose. What opens
 //! ports tells those that were closed, each with the circuit and the place that it was opened with. It is this
 //! project's own; no standard speaks of it. It stands apart from isis_edge, since nothing below a daemon needs it.

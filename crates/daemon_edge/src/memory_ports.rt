@@ -1,10 +1,11 @@
 //! Ports in memory.
-ghost use Rattle.std.specs.Prelude.{◌≡◌, ◌+◌, ◌-◌, ◌<◌, ◌≤◌, ◌↔◌, ℕ, List, [], ◌∷◌, ◌++◌, length, vec_len, vec_capacity, slice_get, take, drop, true, false, IfOk, OnErr, IsErr, MatchOption};
+ghost use Rattle.std.specs.Prelude.{◌≡◌, ◌+◌, ◌-◌, ◌<◌, ◌≤◌, ◌↔◌, ℕ, List, [], ◌∷◌, ◌++◌, length, vec_len, vec_capacity, slice_get, map, take, drop, true, false, None, IfOk, OnErr, IsErr, MatchOption};
+ghost use Rattle.std.specs.Option.{option_map};
 ghost use Rattle.isis_edge.specs.Faults.{one_more, Rose};
 ghost use Rattle.isis_edge.specs.Memory.{IsToFail};
 ghost use Rattle.daemon_edge.specs.Closings.{opened_at};
 ghost use Rattle.daemon_edge.specs.Kept.{has_room};
-ghost use Rattle.daemon_edge.specs.Ports.{Adds, Gives, got, OnFailed, OnNotSent, IsFresh};
+ghost use Rattle.daemon_edge.specs.Ports.{Adds, Fits, got, OnFailed, OnNotSent, IsFresh};
 
 use crate::faults::count_fault;
 use crate::kept::Kept;
@@ -13,6 +14,7 @@ use crate::port::{Offered, Port, Taken};
 use crate::ports::{Ports, Refused};
 use isis_base::{Octets, OutOfMemory};
 use isis_edge::Calls;
+use note_list::{NoteList, PieceList};
 use std::alloc::Global;
 use std::mem;
 use std::net::Net;
@@ -32,7 +34,7 @@ pub struct Slot {
 
 impl Slot {
     /// Nothing to give, no room, and no call that fails.
-    fn empty(alloc: Global) -> Slot
+    fn none(alloc: Global) -> Slot
         ensures { (result.list.items ≡ []) × (result.kept ≡ record { datagrams = []; room = 0 })
             × (result.failing.items ≡ []) }
     {
@@ -42,11 +44,29 @@ impl Slot {
             failing: Vec::new(alloc),
         }
     }
+
+    /// This list to give, room for so many offers of together so many octets, and these calls that fail.
+    fn of(
+        alloc: Global,
+        list: Vec<Octets>,
+        failing: &[u64],
+        room: usize,
+    ) -> Result<Slot, OutOfMemory>
+        ensures { IfOk result (λ slot. (slot.list.items ≡ list.items)
+            × (slot.failing.items ≡ failing.now)
+            × (slot.kept ≡ record { datagrams = []; room = room })) }
+    {
+        Ok(Slot {
+            list,
+            kept: Kept::with_room(alloc, room)?,
+            failing: Vec::from_slice(alloc, failing)?,
+        })
+    }
 }
 
-/// A port that gives a list, and keeps what it is offered. While that fits its room it tells its lists. Exactly the
-/// calls whose numbers it was given fail.
-#[derive(Drop, Debug)]
+/// A port that gives a list, and keeps what it is offered while that fits its room. Exactly the calls whose numbers it
+/// was given fail.
+#[derive(Drop)]
 pub struct MemoryPort {
     circuit: u8,
     place: CircuitPlace,
@@ -54,21 +74,21 @@ pub struct MemoryPort {
     at: usize,
     kept: Kept,
     over: bool,
+    given: PieceList<u8>,
+    offered: PieceList<u8>,
     calls: Calls,
     asked: u64,
     ghost within: { at ≤ vec_len list },
 }
 
 impl Port for MemoryPort {
-    ghost use Rattle.daemon_edge.specs.MemoryPorts.{ready_at, given_by, offered_to};
+    ghost use Rattle.daemon_edge.specs.MemoryPorts.{ready_at, Gives};
 
     ghost opening = { λ p. opened_at p.circuit p.place };
 
-    ghost ready = { ready_at };
+    ghost given = { λ p. p.given.pieces };
 
-    ghost given = { given_by };
-
-    ghost offered = { offered_to };
+    ghost offered = { λ p. p.offered.pieces };
 
     ghost asked = { λ p. p.asked };
 
@@ -78,8 +98,9 @@ impl Port for MemoryPort {
         ensures opening { opened_at self.new.circuit self.new.place
             ≡ opened_at self.old.circuit self.old.place }
         ensures ready { Gives (ready_at self.old) (ready_at self.new) result buffer.new }
-        ensures given { Adds (given_by self.old) (given_by self.new) (got result buffer.new) }
-        ensures offered { Adds (offered_to self.old) (offered_to self.new) [] }
+        ensures fits { Fits result buffer.new }
+        ensures given { Adds self.old.given.pieces self.new.given.pieces (got result buffer.new) }
+        ensures offered { Adds self.old.offered.pieces self.new.offered.pieces [] }
         ensures asked { self.new.asked ≡ one_more self.old.asked }
         ensures later { self.old.calls.faults ≤ self.new.calls.faults }
         ensures cause { OnFailed result (Rose self.old.calls.faults self.new.calls.faults) }
@@ -96,22 +117,24 @@ impl Port for MemoryPort {
         }
         let count = hand_over(&mut self.list, self.at, buffer);
         self.at += 1;
+        self.given.push(&buffer[..count]);
         Taken::Got(count)
     }
 
     fn offer(&mut self, datagram: &[u8]) -> Offered
         ensures opening { opened_at self.new.circuit self.new.place
             ≡ opened_at self.old.circuit self.old.place }
-        ensures given { Adds (given_by self.old) (given_by self.new) [] }
-        ensures offered { Adds (offered_to self.old) (offered_to self.new) (datagram.now ∷ []) }
+        ensures given { Adds self.old.given.pieces self.new.given.pieces [] }
+        ensures offered { Adds self.old.offered.pieces self.new.offered.pieces (datagram.now ∷ []) }
         ensures asked { self.new.asked ≡ self.old.asked }
         ensures later { self.old.calls.faults ≤ self.new.calls.faults }
         ensures cause { OnNotSent result (Rose self.old.calls.faults self.new.calls.faults) }
         ensures fails { (result ≡ Offered.Failed)
             ↔ IsToFail self.old.calls.failing.items self.old.calls.made }
-        ensures tells { self.new.over ≡ false
+        ensures keeps { self.new.over ≡ false
             ↔ ((self.old.over ≡ false) × (has_room self.old.kept datagram.now ≡ true)) }
     {
+        self.offered.push(datagram);
         if self.over || !self.kept.keep(datagram) {
             self.over = true;
         }
@@ -128,8 +151,6 @@ fn hand_over(list: &mut Vec<Octets>, place: usize, buffer: &mut [u8]) -> usize
     requires { place < vec_len list.old }
     ensures count { result ≤ length buffer.new }
     ensures same { vec_len list.new ≡ vec_len list.old }
-    ensures given { take (place + 1) list.new.items
-        ≡ take place list.old.items ++ take result buffer.new ∷ [] }
     ensures ready { (d : List ℕ) × (drop place list.old.items ≡ d ∷ drop (place + 1) list.new.items)
         × (take result buffer.new ≡ take (length buffer.new) d) }
 {
@@ -149,18 +170,20 @@ fn cut_into(datagram: &mut Octets, buffer: &mut [u8]) -> usize
 }
 
 /// What opens ports in memory, and keeps the first 64 that were closed.
-#[derive(Drop, Debug)]
+#[derive(Drop)]
 pub struct MemoryPorts {
     alloc: Global,
     slots: Vec<Slot>,
     calls: Calls,
     opened: u64,
     closed: Vec<MemoryPort>,
-    over: bool,
+    told: NoteList<MemoryPort, ()>,
     ghost room: { 64 ≤ vec_capacity closed },
 }
 
 impl MemoryPorts {
+    ghost use Rattle.daemon_edge.specs.MemoryPorts.{held_in, kept_of, slots_for};
+
     /// Circuit c's port gives the c-th of these lists in order. The openings of the numbers `refused` are refused; of
     /// one port the calls of the numbers `failing`, takes and offers counted together, fail. All counts are from 1. The
     /// room for `room` offers of together `room` octets is taken for each list, and for 64 closed ports: no later call
@@ -172,15 +195,20 @@ impl MemoryPorts {
         refused: Vec<u64>,
         failing: Vec<u64>,
         room: usize,
-    ) -> Result<MemoryPorts, OutOfMemory> {
+    ) -> Result<MemoryPorts, OutOfMemory>
+        ensures fresh { IfOk result (λ ports. (ports.opened ≡ 0) × (ports.closed.items ≡ [])
+            × (ports.told.items ≡ [])) }
+        ensures refused { IfOk result (λ ports. (ports.calls.failing.items ≡ refused.items)
+            × (ports.calls.made ≡ 0) × (ports.calls.faults ≡ 0)) }
+        ensures slots { IfOk result (λ ports. map held_in ports.slots.items
+            ≡ slots_for failing.items room (map (λ list. list.items) lists.items)) }
+    {
         let mut slots = Vec::new(alloc);
         for list in lists {
-            let slot = Slot {
-                list,
-                kept: Kept::with_room(alloc, room)?,
-                failing: Vec::from_slice(alloc, failing.as_slice())?,
-            };
-            slots.push(slot)?;
+            match Slot::of(alloc, list, failing.as_slice(), room) {
+                Ok(slot) => slots.push(slot)?,
+                Err(error) => return Err(error),
+            }
         }
         let closed = Vec::with_capacity(alloc, CLOSED)?;
         Ok(MemoryPorts {
@@ -193,7 +221,7 @@ impl MemoryPorts {
             },
             opened: 0,
             closed,
-            over: false,
+            told: NoteList::new(&()),
         })
     }
 
@@ -204,7 +232,7 @@ impl MemoryPorts {
             (λ s. result ≡ s) }
         ensures others { self.new ≡ record self.old { slots = self.new.slots } }
     {
-        let empty = Slot::empty(self.alloc);
+        let empty = Slot::none(self.alloc);
         let place = usize::from(circuit).wrapping_sub(1);
         match self.slots.get_mut(place) {
             Some(slot) => mem::replace(slot, empty),
@@ -214,9 +242,17 @@ impl MemoryPorts {
 
     /// The offer of that number, counted from 1, to the closed ports of a circuit; `None` exactly where none such is
     /// kept.
-    pub fn offered(&self, circuit: u8, number: usize) -> Option<&[u8]> {
-        let mut left = number.checked_sub(1)?;
-        for port in self.closed.as_slice() {
+    pub fn offered(&self, circuit: u8, number: usize) -> Option<&[u8]>
+        ensures zero { number ≡ 0 → result ≡ None }
+        ensures offer { 1 ≤ number → option_map (λ datagram. datagram.now) result
+            ≡ slice_get (kept_of circuit self.now.closed.items) (number - 1) }
+    {
+        if number == 0 {
+            return None;
+        }
+        let mut left = number - 1;
+        let mut rest = self.closed.as_slice();
+        while let [port, more @ ..] = rest {
             if port.circuit == circuit {
                 let count = port.kept.len();
                 if left < count {
@@ -224,19 +260,20 @@ impl MemoryPorts {
                 }
                 left -= count;
             }
+            rest = more;
         }
         None
     }
 }
 
 impl Ports for MemoryPorts {
-    ghost use Rattle.daemon_edge.specs.MemoryPorts.{closed_by, given_by, offered_to};
+    ghost use Rattle.daemon_edge.specs.MemoryPorts.{told_of};
 
     type Port = MemoryPort;
 
     ghost opened = { λ p. p.opened };
 
-    ghost closed = { closed_by };
+    ghost closed = { λ p. map told_of p.told.items };
 
     ghost faults = { λ p. p.calls.faults };
 
@@ -248,10 +285,10 @@ impl Ports for MemoryPorts {
     ) -> Result<MemoryPort, Refused>
         ensures opening { IfOk result (λ port. opened_at port.circuit port.place
             ≡ opened_at circuit place) }
-        ensures fresh { IfOk result (λ port. IsFresh (given_by port) (offered_to port) port.asked) }
+        ensures fresh { IfOk result (λ port. IsFresh port.given.pieces port.offered.pieces port.asked) }
         ensures opened { IfOk result (λ port. self.new.opened ≡ one_more self.old.opened) }
         ensures refused { OnErr result (self.new.opened ≡ self.old.opened) }
-        ensures closed { Adds (closed_by self.old) (closed_by self.new) [] }
+        ensures closed { Adds (map told_of self.old.told.items) (map told_of self.new.told.items) [] }
         ensures later { self.old.calls.faults ≤ self.new.calls.faults }
         ensures cause { OnErr result (Rose self.old.calls.faults self.new.calls.faults) }
         ensures fails { IsErr result
@@ -279,6 +316,8 @@ impl Ports for MemoryPorts {
             at: 0,
             kept,
             over: false,
+            given: PieceList::new(),
+            offered: PieceList::new(),
             calls: Calls {
                 failing,
                 made: 0,
@@ -289,8 +328,8 @@ impl Ports for MemoryPorts {
     }
 
     fn close(&mut self, _circuit: u8, port: MemoryPort) {
-        if self.over || self.closed.len() >= CLOSED {
-            self.over = true;
+        self.told.push(&port);
+        if self.closed.len() >= CLOSED {
             drop(port);
             return;
         }

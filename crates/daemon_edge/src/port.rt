@@ -1,8 +1,8 @@
 //! A port: where the datagrams of a circuit come and go.
-ghost use Rattle.std.specs.Prelude.{◌≡◌, ◌≤◌, ℕ, List, [], ◌∷◌, Option};
+ghost use Rattle.std.specs.Prelude.{◌≡◌, ◌≤◌, ℕ, List, [], ◌∷◌, length};
 ghost use Rattle.isis_edge.specs.Faults.{one_more, Rose};
 ghost use Rattle.daemon_edge.specs.Closings.{Opening};
-ghost use Rattle.daemon_edge.specs.Ports.{Adds, got, Gives, OnFailed, OnNotSent};
+ghost use Rattle.daemon_edge.specs.Ports.{Adds, got, Fits, OnFailed, OnNotSent};
 
 use std::time::Clock;
 
@@ -30,21 +30,21 @@ pub enum Offered {
 pub trait Port {
     // The circuit and the place that it was opened with.
     ghost opening: { Self → Opening };
-    // The datagrams still to come, those given and those offered, where they are known.
-    ghost ready: { Self → Option (List (List ℕ)) };
+    // The datagrams given and those offered since it was opened, in order.
+    ghost given: { Self → List (List ℕ) };
 
-    ghost given: { Self → Option (List (List ℕ)) };
-
-    ghost offered: { Self → Option (List (List ℕ)) };
+    ghost offered: { Self → List (List ℕ) };
     // The takes asked, and the faults. Both stand still at their type's last value.
     ghost asked: { Self → ℕ };
 
     ghost faults: { Self → ℕ };
 
-    /// Puts the next datagram into the front of the buffer, cut to its length. It may wait.
+    /// Puts the next datagram into the front of the buffer, cut to its length. It may wait. A buffer has 2,048 octets
+    /// at least, so that no PDU is cut.
     fn take<R: Clock>(&mut self, rt: &R, buffer: &mut [u8]) -> Taken
+        requires room { 2048 ≤ length buffer.old }
         ensures opening { opening self.new ≡ opening self.old }
-        ensures ready { Gives (ready self.old) (ready self.new) result buffer.new }
+        ensures fits { Fits result buffer.new }
         ensures given { Adds (given self.old) (given self.new) (got result buffer.new) }
         ensures offered { Adds (offered self.old) (offered self.new) [] }
         ensures asked { asked self.new ≡ one_more (asked self.old) }

@@ -1,5 +1,5 @@
 //! Ports: opened at their circuits' places, and closed.
-ghost use Rattle.std.specs.Prelude.{◌≡◌, ◌≤◌, ℕ, List, [], ◌∷◌, Option, IfOk, OnErr};
+ghost use Rattle.std.specs.Prelude.{◌≡◌, ◌≤◌, ℕ, List, [], ◌∷◌, IfOk, OnErr};
 ghost use Rattle.isis_edge.specs.Faults.{one_more, Rose};
 ghost use Rattle.daemon_edge.specs.Closings.{Closing, closing, opened_at};
 ghost use Rattle.daemon_edge.specs.Ports.{Adds, IsFresh};
@@ -18,8 +18,8 @@ pub trait Ports {
 
     // The ports opened. It stands still at its type's last value.
     ghost opened: { Self → ℕ };
-    // What the closed ports told, in the order in which they were closed, where it is known.
-    ghost closed: { Self → Option (List Closing) };
+    // What the closed ports told, in the order in which they were closed.
+    ghost closed: { Self → List Closing };
     // The openings refused. A count at its type's last value counts as risen in every call.
     ghost faults: { Self → ℕ };
 

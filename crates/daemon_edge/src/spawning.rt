@@ -1,10 +1,13 @@
 //! Workers, and who starts them.
-ghost use Rattle.std.specs.Prelude.{All, ◌≡◌, ◌<◌, ◌≤◌, ◌⊎◌, ℕ, IsTrue, length, slice_index_or};
+ghost use Rattle.std.specs.Prelude.{All, ◌≡◌, ◌<◌, ◌≤◌, ◌↔◌, ℕ, List, [], ◌∷◌, Bool, IsTrue, length, slice_get, slice_index_or};
 ghost use Rattle.isis_edge.specs.Faults.{Rose};
-ghost use Rattle.daemon_edge.specs.Workers.{EachWorks, Works, WorksOrNot};
+ghost use Rattle.isis_edge.specs.Memory.{IsToFail};
+ghost use Rattle.daemon_edge.specs.Ports.{Adds};
+ghost use Rattle.daemon_edge.specs.Workers.{EachWorks, Works, UnlessRefused, WorksUnlessRefused};
 
 use crate::faults::count_fault;
 use isis_edge::Calls;
+use note_list::NoteList;
 use std::alloc::Global;
 use std::sync::Wait;
 use std::thread;
@@ -31,7 +34,7 @@ pub enum Started {
     All,
     /// A start was refused: each worked once or is as before.
     Refused,
-    /// None worked.
+    /// None worked, and no start was asked for.
     OutOfMemory,
 }
 
@@ -39,24 +42,28 @@ pub enum Started {
 pub trait Spawner {
     // The starts refused. A count at its type's last value counts as risen in every call.
     ghost faults: { Self → ℕ };
+    // What was answered, in order: of each start whether it was refused.
+    ghost answers: { Self → List Bool };
 
     /// Whether the next start is refused.
     fn refuses(&mut self) -> bool
+        ensures answers { Adds (answers self.old) (answers self.new) (result ∷ []) }
         ensures later { faults self.old ≤ faults self.new }
         ensures cause { IsTrue result → Rose (faults self.old) (faults self.new) };
 }
 
 /// A spawner that refuses the starts of these numbers, counted from 1 over all its calls.
-#[derive(Drop, Debug)]
+#[derive(Drop)]
 pub struct ThreadSpawner {
     calls: Calls,
+    answers: NoteList<bool, ()>,
 }
 
 impl ThreadSpawner {
     /// A spawner that refuses these starts; with an empty list it refuses none.
     pub fn new(refused: Vec<u64>) -> ThreadSpawner
         ensures { (result.calls.failing.items ≡ refused.items) × (result.calls.made ≡ 0)
-            × (result.calls.faults ≡ 0) }
+            × (result.calls.faults ≡ 0) × (result.answers.items ≡ []) }
     {
         ThreadSpawner {
             calls: Calls {
@@ -64,6 +71,7 @@ impl ThreadSpawner {
                 made: 0,
                 faults: 0,
             },
+            answers: NoteList::new(&()),
         }
     }
 }
@@ -71,12 +79,20 @@ impl ThreadSpawner {
 impl Spawner for ThreadSpawner {
     ghost faults = { λ s. s.calls.faults };
 
-    fn refuses(&mut self) -> bool {
-        if !self.calls.next_fails() {
-            return false;
+    ghost answers = { λ s. s.answers.items };
+
+    fn refuses(&mut self) -> bool
+        ensures answers { Adds self.old.answers.items self.new.answers.items (result ∷ []) }
+        ensures later { self.old.calls.faults ≤ self.new.calls.faults }
+        ensures cause { IsTrue result → Rose self.old.calls.faults self.new.calls.faults }
+        ensures fails { IsTrue result ↔ IsToFail self.old.calls.failing.items self.old.calls.made }
+    {
+        let fails = self.calls.next_fails();
+        self.answers.push(&fails);
+        if fails {
+            count_fault(&mut self.calls);
         }
-        count_fault(&mut self.calls);
-        true
+        fails
     }
 }
 
@@ -89,24 +105,20 @@ pub fn run_all<S: Spawner, R: Threads + Wait + Clock + Sync, W: Worker + Send>(
 ) -> (Vec<W>, Started)
     requires { All W.ready workers.items }
     ensures { EachWorks W.works (S.faults spawner.old) (S.faults spawner.new)
-        workers.items result.0.items result.1 }
+        (S.answers spawner.old) (S.answers spawner.new) workers.items result.0.items result.1 }
 {
     let mut workers = workers;
     if workers.is_empty() {
         return (workers, Started::All);
     }
-    let mut refused: Vec<bool> = Vec::new(alloc);
-    let mut refuses = false;
-    for _ in 0..workers.len() {
-        let is_refused = spawner.refuses();
-        if is_refused {
-            refuses = true;
-        }
-        if refused.push(is_refused).is_err() {
-            return (workers, Started::OutOfMemory);
-        }
+    let count = workers.len();
+    let Ok(mut refused) = Vec::with_capacity(alloc, count) else {
+        return (workers, Started::OutOfMemory);
+    };
+    for _ in 0..count {
+        refused.push_reserved(spawner.refuses());
     }
-    if !refuses {
+    if !refused.contains(&true) {
         work_all(rt, workers.as_mut_slice());
         return (workers, Started::All);
     }
@@ -138,7 +150,7 @@ fn work_some<R: Threads + Wait + Clock + Sync, W: Worker + Send>(
     refused: &[bool],
 )
     requires { (0 < length workers.old) × All W.ready workers.old }
-    ensures { WorksOrNot W.works workers.old workers.new }
+    ensures { WorksUnlessRefused W.works refused.now workers.old workers.new }
 {
     let count = workers.len();
     thread::for_each_mut(
@@ -147,10 +159,12 @@ fn work_some<R: Threads + Wait + Clock + Sync, W: Worker + Send>(
         count,
         &|place: usize, worker: &mut W|
             requires { W.ready worker.old }
-            ensures { W.works worker.old worker.new ⊎ (worker.new ≡ worker.old) }
+            ensures { UnlessRefused (slice_get refused.entry.now place) (W.works worker.old worker.new)
+                (worker.new ≡ worker.old) }
         {
-            if refused.get(place) != Some(&true) {
-                worker.work(rt);
+            match refused.get(place) {
+                Some(true) => {}
+                _ => worker.work(rt),
             }
         },
     );

@@ -1,13 +1,14 @@
 //! Ports over UDP sockets (RFC 768).
-ghost use Rattle.std.specs.Prelude.{◌≡◌, map, [], None, Some, IfSome};
+ghost use Rattle.std.specs.Prelude.{◌≡◌, ◌↔◌, map, [], Some, IfSome, IsTrue, IsSomeAnd, Contains};
+ghost use Rattle.daemon_edge.specs.Addresses.{address_of};
 ghost use Rattle.daemon_edge.specs.Closings.{closing, opened_at};
-ghost use Rattle.daemon_edge.specs.Ports.{Gives};
-ghost use Rattle.daemon_edge.specs.declared.udp.ClosedUdp as declared;
+ghost use Rattle.daemon_edge.specs.Ports.{Fits};
+ghost use Rattle.daemon_edge.specs.declared.udp.UdpPort as declared;
 
 use crate::place::{Address, CircuitPlace};
 use crate::port::{Offered, Port, Taken};
 use crate::ports::{Ports, Refused};
-use note_list::NoteList;
+use note_list::{NoteList, PieceList};
 use std::io::ErrorKind;
 use std::net::{Ipv4Addr, Net, SocketAddr, SocketAddrV4, UdpSocket};
 use std::time::{Clock, Duration};
@@ -19,7 +20,9 @@ const WAIT: u64 = 100;
 const STRANGERS: usize = 1024;
 
 impl Address {
-    fn socket(self) -> SocketAddr {
+    fn socket(self) -> SocketAddr
+        ensures { address_of result ≡ Some self }
+    {
         SocketAddr::V4(SocketAddrV4::new(Ipv4Addr::from(self.host), self.port))
     }
 }
@@ -34,7 +37,7 @@ struct Listener {
 impl Listener {
     /// The next datagram of a peer, within the time that a take has.
     fn take_within<R: Clock>(&mut self, rt: &R, peers: &[Address], buffer: &mut [u8]) -> Taken
-        ensures { Gives None None result buffer.new }
+        ensures { Fits result buffer.new }
     {
         let Ok(start) = rt.monotonic() else {
             return Taken::Failed;
@@ -57,7 +60,7 @@ impl Listener {
 
     /// What comes within a time; `None` where it is a stranger's.
     fn receive(&mut self, peers: &[Address], wait: Duration, buffer: &mut [u8]) -> Option<Taken>
-        ensures { IfSome result (λ taken. Gives None None taken buffer.new) }
+        ensures { IfSome result (λ taken. Fits taken buffer.new) }
     {
         if !self.sets(wait) {
             return Some(Taken::Failed);
@@ -93,13 +96,27 @@ impl Listener {
     }
 }
 
-fn is_one_of(from: SocketAddr, peers: &[Address]) -> bool {
-    for peer in peers {
-        if peer.socket() == from {
-            return true;
-        }
+/// Whether an address is one of the peers'.
+fn is_one_of(from: SocketAddr, peers: &[Address]) -> bool
+    ensures { IsTrue result ↔ IsSomeAnd (address_of from) (λ address. Contains peers.now address) }
+{
+    match heard_from(from) {
+        Some(address) => peers.contains(&address),
+        None => false,
     }
-    false
+}
+
+/// The address and the port that a datagram came from, where they are of IPv4.
+fn heard_from(from: SocketAddr) -> Option<Address>
+    ensures { result ≡ address_of from }
+{
+    match from {
+        SocketAddr::V4(at) => Some(Address {
+            host: u32::from(*at.ip()),
+            port: at.port(),
+        }),
+        SocketAddr::V6(_) => None,
+    }
 }
 
 /// A port over a UDP socket. A take waits 100 ms at most, and passes over what doesn't come from one of the circuit's
@@ -109,6 +126,8 @@ pub struct UdpPort {
     listener: Listener,
     circuit: u8,
     place: CircuitPlace,
+    given: PieceList<u8>,
+    offered: PieceList<u8>,
     asked: u64,
     faults: u64,
 }
@@ -116,11 +135,9 @@ pub struct UdpPort {
 impl Port for UdpPort {
     ghost opening = { λ p. opened_at p.circuit p.place };
 
-    ghost ready = { λ _. None };
+    ghost given = { λ p. p.given.pieces };
 
-    ghost given = { λ _. None };
-
-    ghost offered = { λ _. None };
+    ghost offered = { λ p. p.offered.pieces };
 
     ghost asked = { λ p. p.asked };
 
@@ -131,13 +148,16 @@ impl Port for UdpPort {
         let taken = self
             .listener
             .take_within(rt, self.place.peers.as_slice(), buffer);
-        if taken == Taken::Failed {
-            self.faults = self.faults.saturating_add(1);
+        match taken {
+            Taken::Got(count) => self.given.push(&buffer[..count]),
+            Taken::NotYet => {}
+            Taken::Failed => self.faults = self.faults.saturating_add(1),
         }
         taken
     }
 
     fn offer(&mut self, datagram: &[u8]) -> Offered {
+        self.offered.push(datagram);
         let mut answer = Offered::Sent;
         for peer in self.place.peers.as_slice() {
             if self
@@ -156,27 +176,19 @@ impl Port for UdpPort {
     }
 }
 
-/// A UDP port that was closed, for contracts alone.
-#[derive(Drop)]
-pub struct ClosedUdp {
-    pub circuit: u8,
-    pub place: CircuitPlace,
-    pub asked: u64,
-}
-
 /// What opens UDP ports, and closes them. An opening is refused where the system refuses the socket.
 #[derive(Drop)]
 pub struct UdpPorts {
     opened: u64,
     faults: u64,
-    closed: NoteList<ClosedUdp, ()>,
+    closed: NoteList<UdpPort, ()>,
 }
 
 impl UdpPorts {
     /// Nothing is opened yet.
     pub fn new() -> UdpPorts
         ensures opened { ⟦<UdpPorts as Ports>⟧.opened result ≡ 0 }
-        ensures closed { ⟦<UdpPorts as Ports>⟧.closed result ≡ Some [] }
+        ensures closed { ⟦<UdpPorts as Ports>⟧.closed result ≡ [] }
         ensures faults { ⟦<UdpPorts as Ports>⟧.faults result ≡ 0 }
     {
         UdpPorts {
@@ -192,9 +204,8 @@ impl Ports for UdpPorts {
 
     ghost opened = { λ p. p.opened };
 
-    ghost closed = { λ p. Some
-        (map (λ (c : declared.ClosedUdp). closing (opened_at c.circuit c.place) None None c.asked)
-        p.closed.items) };
+    ghost closed = { λ p. map (λ (c : declared.UdpPort). closing (opened_at c.circuit c.place)
+        c.given.pieces c.offered.pieces c.asked) p.closed.items };
 
     ghost faults = { λ p. p.faults };
 
@@ -214,6 +225,8 @@ impl Ports for UdpPorts {
                     },
                     circuit,
                     place,
+                    given: PieceList::new(),
+                    offered: PieceList::new(),
                     asked: 0,
                     faults: 0,
                 })
@@ -226,18 +239,7 @@ impl Ports for UdpPorts {
     }
 
     fn close(&mut self, _circuit: u8, port: UdpPort) {
-        let UdpPort {
-            listener,
-            circuit,
-            place,
-            asked,
-            faults: _,
-        } = port;
-        drop(listener);
-        self.closed.push(&ClosedUdp {
-            circuit,
-            place,
-            asked,
-        });
+        self.closed.push(&port);
+        drop(port);
     }
 }

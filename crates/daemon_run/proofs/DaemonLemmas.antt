@@ -1,5 +1,5 @@
 -- Ports that were closed, and how a daemon ends that has opened them.
-use Rattle.std.proofs.Common.{◌≡◌, ℕ, zero, suc, ◌+◌, ◌<◌, ◌≤◌, Bool, false, List, [], ◌∷◌, ◌++◌, map, length, slice_get, slice_index_or, Option, Some, None, IfSome, refl, sym, ap, ◌∙◌, subst, arith, append-nil}
+use Rattle.std.proofs.Common.{◌≡◌, ℕ, zero, suc, ◌+◌, ◌<◌, ◌≤◌, Bool, false, List, [], ◌∷◌, ◌++◌, map, length, slice_get, slice_index_or, Option, Some, None, IfSome, inl, inr, refl, sym, ap, ◌∙◌, subst, arith, append-nil}
 use Rattle.model_router.specs.Routers.{Router}
 use Rattle.isis_edge.specs.Told.{WrotePrefix}
 use Rattle.router_desk.specs.declared.config.Config.{Config}
@@ -31,11 +31,10 @@ pub first_circuits : (config : Config) (boot : ℕ) → length (first_router con
 first_circuits config boot = length-map _ (circuits_of config) ∙ length-map _ config.circuits
 
 -- nothing more is a part of each text
-prefix_nothing : (held : Option (List ℕ)) (text : List ℕ) → WrotePrefix held held text
-prefix_nothing None text = tt
-prefix_nothing (Some held) text = ([], text, ap Some (sym (append-nil held)), refl)
+prefix_nothing : (held : List ℕ) (text : List ℕ) → WrotePrefix held held text
+prefix_nothing held text = record { written = []; rest = text; wrote = sym (append-nil held); joined = refl }
 
-module _ {P : Type 0} (opening : P → Opening) (given offered : P → Option (List (List ℕ))) (asked : P → ℕ) where
+module _ {P : Type 0} (opening : P → Opening) (given offered : P → List (List ℕ)) (asked : P → ℕ) where
   abbrev pub closing_of : P → Closing
   closing_of p = closing (opening p) (given p) (offered p) (asked p)
 
@@ -74,7 +73,7 @@ module _ {P : Type 0} (opening : P → Opening) (given offered : P → Option (L
       let d = opening x in let all = x ∷ xs in
       same_openings d ys (map opening all) (size ∙ sym (length-map opening all)) (kept (λ i. slice_index_or (map opening all) i d) (each_opening d all))
 
-  module _ (config : Config) (places : List CircuitPlace) (boot turns before now : ℕ) (ended : Bool) (held held' : Option (List ℕ)) (opened opened' : ℕ) (closed mid closed' : Option (List Closing)) where
+  module _ (config : Config) (places : List CircuitPlace) (boot turns before now : ℕ) (ended : Bool) (held held' : List ℕ) (opened opened' : ℕ) (closed mid closed' : List Closing) where
     -- the number of ports that were opened
     pub opened_count : (ports : List P) (Well : Type 0) (so : OpenedSo opening places ports Well) → length ports ≡ length so.used
     opened_count ports Well so = sym (length-map opening ports) ∙ (ap (λ z. length z) so.made ∙ length-openings 1 so.used)
@@ -95,6 +94,7 @@ module _ {P : Type 0} (opening : P → Opening) (given offered : P → Option (L
       replayed = refl;
       written = prefix_nothing held (journal_text []);
       whole = λ done. cc done;
+      lines = λ memory. cc memory;
       places_used = so.all;
       openings_made = opened_closed ports ∙ so.made;
       opened_so = count ∙ ap (λ n. counted n opened) (opened_count ports Well so);
@@ -121,7 +121,8 @@ module _ {P : Type 0} (opening : P → Opening) (given offered : P → Option (L
           unused = so.unused;
           replayed = subst (λ (r : Router). Rattle.daemon_run.specs.Histories.AreReplayed r ran.entries) is ran.replayed;
           written = ran.written;
-          whole = λ done. (ran.whole done, so.whole well);
+          whole = λ done. (ran.whole (inl done), so.whole well);
+          lines = λ memory. inr (ran.whole (inr memory));
           places_used = so.all;
           openings_made = opened_closed ports' ∙ (kept_openings ports ports' ran.count ran.openings ∙ so.made);
           opened_so = count ∙ ap (λ n. counted n opened) size;
@@ -132,7 +133,7 @@ module _ {P : Type 0} (opening : P → Opening) (given offered : P → Option (L
         }
 
 -- nothing was opened
-pub daemon_early : (config : Config) (places : List CircuitPlace) (boot turns before : ℕ) (ended : Bool) (held : Option (List ℕ)) (opened : ℕ) (closed : Option (List Closing)) → DaemonRan config places boot turns before before ended held held opened opened closed closed OutOfMemory
+pub daemon_early : (config : Config) (places : List CircuitPlace) (boot turns before : ℕ) (ended : Bool) (held : List ℕ) (opened : ℕ) (closed : List Closing) → DaemonRan config places boot turns before before ended held held opened opened closed closed OutOfMemory
 daemon_early config places boot turns before ended held opened closed = record {
   entries = [];
   ports = [];
@@ -141,6 +142,7 @@ daemon_early config places boot turns before ended held opened closed = record {
   replayed = refl;
   written = prefix_nothing held (journal_text []);
   whole = λ done. cc done;
+  lines = λ memory. inl refl;
   places_used = refl;
   openings_made = refl;
   opened_so = refl;

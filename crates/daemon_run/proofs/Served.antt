@@ -1,7 +1,7 @@
 -- A router that was served, and its journal.
-use Rattle.std.proofs.Common.{◌≡◌, ℕ, ◌+◌, Bool, false, List, [], slice_get, Option, IfSome, refl, arith}
+use Rattle.std.proofs.Common.{◌≡◌, ℕ, ◌+◌, Bool, false, List, [], slice_get, Option, IfSome, ⊎_elim, refl, arith}
 use Rattle.model_router.specs.Routers.{Router}
-use Rattle.isis_edge.specs.Told.{WrotePrefix}
+use Rattle.isis_edge.specs.Told.{Wrote, WrotePrefix}
 use Rattle.circuit_threads.specs.JournalText.{journal_text}
 use Rattle.daemon_edge.specs.Closings.{Opening}
 use Rattle.daemon_edge.specs.Ports.{IsFresh}
@@ -11,7 +11,7 @@ use Rattle.circuit_serve.specs.Ends.{AtEnd}
 use Rattle.circuit_serve.proofs.Running.{sets_out}
 use Rattle.circuit_serve.proofs.Gathered.{if_some_at}
 use Rattle.daemon_run.specs.declared.end.DaemonEnd.{DaemonEnd}
-use Rattle.daemon_run.specs.declared.end.DaemonEnd.TheVariants.{Done, NotStarted, WriteFault}
+use Rattle.daemon_run.specs.declared.end.DaemonEnd.TheVariants.{Done, NotStarted, WriteFault, OutOfMemory}
 use Rattle.daemon_run.specs.Ends.{end_of}
 use Rattle.daemon_run.specs.Histories.{JournalRan}
 
@@ -27,6 +27,12 @@ daemon_fault serve.NotStarted is = absurd (cc is)
 daemon_fault (serve.Journal n) is = (n, refl)
 daemon_fault serve.OutOfMemory is = absurd (cc is)
 
+pub daemon_memory : (e : ServeEnd) → end_of e ≡ OutOfMemory → e ≡ serve.OutOfMemory
+daemon_memory serve.Done is = absurd (cc is)
+daemon_memory serve.NotStarted is = absurd (cc is)
+daemon_memory (serve.Journal n) is = absurd (cc is)
+daemon_memory serve.OutOfMemory is = refl
+
 pub daemon_not_started : (e : ServeEnd) → end_of e ≡ NotStarted → e ≡ serve.NotStarted
 daemon_not_started serve.Done is = absurd (cc is)
 daemon_not_started serve.NotStarted is = refl
@@ -34,13 +40,13 @@ daemon_not_started (serve.Journal n) is = absurd (cc is)
 daemon_not_started serve.OutOfMemory is = absurd (cc is)
 
 -- nothing was begun
-pub journal_early : {P : Type 0} (opening : P → Opening) (given offered : P → Option (List (List ℕ))) (asked : P → ℕ) (first : Router) (turns : ℕ) (ports : List P) (before : ℕ) (ended : Bool) (held held' : Option (List ℕ)) (end : DaemonEnd)
-    → (¬ (end ≡ Done)) → WrotePrefix held held' (journal_text []) → ((i : ℕ) → IfSome (slice_get ports i) (λ x. IsFresh (given x) (offered x) (asked x))) → JournalRan opening given offered asked first turns ports ports before before ended held held' end
-journal_early opening given offered asked first turns ports before ended held held' end not written fresh = record {
+pub journal_early : {P : Type 0} (opening : P → Opening) (given offered : P → List (List ℕ)) (asked : P → ℕ) (first : Router) (turns : ℕ) (ports : List P) (before : ℕ) (ended : Bool) (held held' : List ℕ) (end : DaemonEnd)
+    → (¬ (end ≡ Done)) → (end ≡ OutOfMemory → Wrote held held' (journal_text [])) → WrotePrefix held held' (journal_text []) → ((i : ℕ) → IfSome (slice_get ports i) (λ x. IsFresh (given x) (offered x) (asked x))) → JournalRan opening given offered asked first turns ports ports before before ended held held' end
+journal_early opening given offered asked first turns ports before ended held held' end not lines written fresh = record {
   entries = [];
   replayed = refl;
   written = written;
-  whole = λ done. absurd (not done);
+  whole = λ at. ⊎_elim (λ done. absurd (not done)) lines at;
   count = refl;
   openings = λ opens all i. all i;
   circuits = λ i port at.

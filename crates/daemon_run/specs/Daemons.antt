@@ -1,5 +1,5 @@
 -- What a daemon wrote and did, from its configuration to its end (own).
-use Rattle.std.specs.Prelude.{◌≡◌, ℕ, ◌+◌, ◌<◌, Bool, List, [], ◌++◌, map, length, slice_get, Some, Option}
+use Rattle.std.specs.Prelude.{◌≡◌, ℕ, ◌+◌, ◌<◌, ◌⊎◌, Bool, List, [], ◌++◌, map, length, slice_get, Some, Option}
 use Rattle.model_router.specs.Routers.{Router}
 use Rattle.model_router.specs.Starts.{start}
 use Rattle.isis_edge.specs.Told.{Wrote, WrotePrefix}
@@ -13,7 +13,7 @@ use Rattle.daemon_edge.specs.Ports.{Adds}
 use Rattle.circuit_serve.specs.Ends.{CircuitIs, TickerIs}
 use Rattle.circuit_serve.specs.Served.{circuit_turns}
 use Rattle.daemon_run.specs.declared.end.DaemonEnd.{DaemonEnd}
-use Rattle.daemon_run.specs.declared.end.DaemonEnd.TheVariants.{Done}
+use Rattle.daemon_run.specs.declared.end.DaemonEnd.TheVariants.{Done, OutOfMemory}
 use Rattle.daemon_run.specs.Histories.{by_pass, AreReplayed}
 use Rattle.daemon_run.specs.Openings.{openings, counted}
 
@@ -22,11 +22,11 @@ abbrev pub first_router : Config → ℕ → Router
 first_router config boot = start (config_of config) boot (circuits_of config)
 
 -- What stands at every end of a daemon: there is one history, which begins at the router's start, and whose text was
--- written, in part at least; ports were opened and closed in order, each once and at its circuit's place, all of them
+-- written, in part at least: whole at the end Done, and where memory ran out nothing or whole lines; ports were opened and closed in order, each once and at its circuit's place, all of them
 -- unless an opening was refused, and no other; and the entries of each circuit and of the ticker are what its port and
 -- the pacer tell (own).
 pub record DaemonRan (config : Config) (places : List CircuitPlace) (boot turns before now : ℕ) (ended : Bool)
-    (held held' : Option (List ℕ)) (opened opened' : ℕ) (closed closed' : Option (List Closing))
+    (held held' : List ℕ) (opened opened' : ℕ) (closed closed' : List Closing)
     (end : DaemonEnd) : Type 0 where
   pub entries : List JournalEntry
   pub ports : List Closing
@@ -35,6 +35,7 @@ pub record DaemonRan (config : Config) (places : List CircuitPlace) (boot turns 
   pub replayed : AreReplayed (first_router config boot) entries
   pub written : WrotePrefix held held' (journal_text entries)
   pub whole : end ≡ Done → Wrote held held' (journal_text entries) × (unused ≡ [])
+  pub lines : end ≡ OutOfMemory → (held' ≡ held) ⊎ Wrote held held' (journal_text entries)
   pub places_used : used ++ unused ≡ places
   pub openings_made : map (λ port. port.opening) ports ≡ openings 1 used
   pub opened_so : opened' ≡ counted (length used) opened

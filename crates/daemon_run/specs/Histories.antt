@@ -1,5 +1,5 @@
 -- What a router that was served wrote and did (own).
-use Rattle.std.specs.Prelude.{◌≡◌, ℕ, ◌+◌, ◌<◌, ◌==◌, Bool, List, [], ◌∷◌, map, length, slice_get, Some, Option, IfSome, if◌then◌else◌}
+use Rattle.std.specs.Prelude.{◌≡◌, ℕ, ◌+◌, ◌<◌, ◌==◌, ◌⊎◌, Bool, List, [], ◌∷◌, map, length, slice_get, Some, Option, IfSome, if◌then◌else◌}
 use Rattle.model_router.specs.Routers.{Router}
 use Rattle.isis_edge.specs.Told.{Wrote, WrotePrefix}
 use Rattle.circuit_threads.specs.declared.entry.JournalEntry.{JournalEntry}
@@ -10,7 +10,7 @@ use Rattle.daemon_edge.specs.Closings.{Opening}
 use Rattle.circuit_serve.specs.Ends.{CircuitIs, TickerIs}
 use Rattle.circuit_serve.specs.Served.{circuit_turns}
 use Rattle.daemon_run.specs.declared.end.DaemonEnd.{DaemonEnd}
-use Rattle.daemon_run.specs.declared.end.DaemonEnd.TheVariants.{Done}
+use Rattle.daemon_run.specs.declared.end.DaemonEnd.TheVariants.{Done, OutOfMemory}
 
 -- the entries of the pass with a label, in order (own)
 abbrev pub by_pass : ℕ → List JournalEntry → List JournalEntry
@@ -24,14 +24,14 @@ AreReplayed first entries =
     (replay (begun first) (map Made entries)).lines ≡ map line_of entries
 
 -- What stands at every end of a router that was served behind a journal of text: there is one history, whose text was
--- written, in part at least; and the entries of each circuit and of the ticker are what its port and the pacer tell (own).
-module _ {P : Type 0} (opening : P → Opening) (given offered : P → Option (List (List ℕ))) (asked : P → ℕ) where
+-- written, in part at least, and whole lines alone at the ends Done and OutOfMemory; and the entries of each circuit and of the ticker are what its port and the pacer tell (own).
+module _ {P : Type 0} (opening : P → Opening) (given offered : P → List (List ℕ)) (asked : P → ℕ) where
   pub record JournalRan (first : Router) (turns : ℕ) (ports ports' : List P) (before now : ℕ) (ended : Bool)
-      (held held' : Option (List ℕ)) (end : DaemonEnd) : Type 0 where
+      (held held' : List ℕ) (end : DaemonEnd) : Type 0 where
     pub entries : List JournalEntry
     pub replayed : AreReplayed first entries
     pub written : WrotePrefix held held' (journal_text entries)
-    pub whole : end ≡ Done → Wrote held held' (journal_text entries)
+    pub whole : (end ≡ Done) ⊎ (end ≡ OutOfMemory) → Wrote held held' (journal_text entries)
     pub count : length ports' ≡ length ports
     pub openings : (opens : ℕ → Opening)
         → ((i : ℕ) → IfSome (slice_get ports i) (λ port. opening port ≡ opens i))

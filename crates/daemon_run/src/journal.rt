@@ -1,5 +1,5 @@
 //! A router served behind a journal of text.
-ghost use Rattle.std.specs.Prelude.{◌≡◌, ◌+◌, ◌*◌, ◌<◌, ◌≤◌, ℕ, List, Option, length, slice_get, IfSome};
+ghost use Rattle.std.specs.Prelude.{◌≡◌, ◌+◌, ◌*◌, ◌<◌, ◌≤◌, ℕ, List, length, slice_get, IfSome};
 ghost use Rattle.isis_edge.specs.Told.{Wrote};
 ghost use Rattle.circuit_threads.specs.JournalText.{head_text};
 ghost use Rattle.isis_edge.specs.Faults.{Rose};
@@ -43,7 +43,7 @@ pub(crate) fn serve_with_journal<
         (λ p. IsFresh (Q.given p) (Q.offered p) (Q.asked p)) }
     ensures ran { JournalRan Q.opening Q.given Q.offered Q.asked router turns ports.items
         result.0.items (T.given pacer) (T.given result.2) (T.ended result.2)
-        (O.held output) (O.held result.1) result.3 }
+        (O.put output) (O.put result.1) result.3 }
     ensures later { (O.faults output ≤ O.faults result.1)
         × (S.faults spawner.old ≤ S.faults spawner.new) }
     ensures write_fault { result.3 ≡ DaemonEnd.WriteFault
@@ -87,9 +87,9 @@ fn serve_journal<
         × (length ports.items ≤ 64) }
     requires fresh { (i : ℕ) → IfSome (slice_get ports.items i)
         (λ p. IsFresh (Q.given p) (Q.offered p) (Q.asked p)) }
-    ensures ran { (held : Option (List ℕ)) → Wrote held (O.held journal.sink) head_text
+    ensures ran { (before : List ℕ) → Wrote before (O.put journal.sink) head_text
         → JournalRan Q.opening Q.given Q.offered Q.asked router turns ports.items result.0.items
-        (T.given pacer) (T.given result.2) (T.ended result.2) held (O.held result.1) result.3 }
+        (T.given pacer) (T.given result.2) (T.ended result.2) before (O.put result.1) result.3 }
     ensures later { (O.faults journal.sink ≤ O.faults result.1)
         × (S.faults spawner.old ≤ S.faults spawner.new) }
     ensures write_fault { result.3 ≡ DaemonEnd.WriteFault

@@ -46,7 +46,7 @@ pub fn run_daemon<
     requires turns { (1 ≤ turns) × (turns ≤ 86400) }
     ensures ran { DaemonRan config places boot turns (T.given pacer) (T.given result.1)
         (T.ended result.1)
-        (O.held output) (O.held result.0) (P.opened ports.old) (P.opened ports.new)
+        (O.put output) (O.put result.0) (P.opened ports.old) (P.opened ports.new)
         (P.closed ports.old) (P.closed ports.new) result.2 }
     ensures later { (O.faults output ≤ O.faults result.0)
         × (P.faults ports.old ≤ P.faults ports.new)

@@ -19,11 +19,11 @@ use Rattle.route_table.specs.Routes.{IsHopBy, IsHopTo, AreRoutes}
 use Rattle.router_routes.specs.Outlooks.{usable_rows, graph_in}
 use Rattle.router_routes.specs.Candidates.{candidates_of}
 use Rattle.router_routes.proofs.ToldLemmas.{no-rows}
-use Rattle.forward_moves.specs.Moves.{usable_from}
-use Rattle.forward_moves.proofs.MoveLemmas.{parts, of_filter}
-use Rattle.forward_routes.specs.Owned.{IsAt, IsOwn}
-use Rattle.forward_routes.specs.Walked.{RouterOf, Agree}
-use Rattle.forward_routes.specs.Walked as walked
+use Rattle.forward_views.specs.Moves.{usable_from}
+use Rattle.forward_views.proofs.MoveLemmas.{parts, of_filter}
+use Rattle.forward_views.specs.Owned.{IsAt, IsOwn}
+use Rattle.forward_views.specs.Walked.{RouterOf, Agree}
+use Rattle.forward_views.specs.Walked as walked
 use Rattle.forward_views.specs.Looks.{Look, outlook, root_of, told_of, AreAlike, IsOwner}
 use Rattle.forward_views.specs.Forwarded.{router_in, DoAgree, IsNext}
 use Rattle.forward_views.proofs.ListLemmas.{of_map, of_flat_map}

@@ -1,4 +1,8 @@
--- The lemmas: lists, node IDs as numbers, databases that say the same, candidates, and the laws.
+-- The lemmas: why the cost falls along a move, why routes fall along it, and why walks end; lists, node IDs as
+-- numbers, databases that say the same, candidates, and the laws.
+pub mod MoveLemmas
+pub mod RouteLemmas
+pub mod WalkedLemmas
 pub mod ListLemmas
 pub mod NodeLemmas
 pub mod SaidLemmas

@@ -18,8 +18,8 @@ use Rattle.route_table.specs.declared.route.Route.{Route}
 use Rattle.route_table.specs.Ranks.{rank_number, prefix_number}
 use Rattle.router_routes.specs.Told.{told, told_by}
 use Rattle.router_routes.specs.Outlooks.{where_run, outlook_of}
-use Rattle.forward_moves.proofs.MoveLemmas.{of_filter, to_filter}
-use Rattle.forward_routes.proofs.WalkedLemmas.{route_one}
+use Rattle.forward_views.proofs.MoveLemmas.{of_filter, to_filter}
+use Rattle.forward_views.proofs.WalkedLemmas.{route_one}
 use Rattle.forward_views.specs.Looks.{Look, outlook, root_of, told_of, is_own, way_of, own_items, item_way, AreAlike, IsOwner}
 use Rattle.forward_views.proofs.ListLemmas.{in_map, of_map}
 use Rattle.forward_views.proofs.NodeLemmas.{zero_of, lsp-id, own-id, own-is, there-system}

@@ -6,9 +6,9 @@ use Rattle.lsp_view.specs.Views.{rows_in, overloaded_in}
 use Rattle.route_table.specs.declared.route.Route.{Route}
 use Rattle.route_table.specs.Ranks.{rank_number}
 use Rattle.router_routes.specs.Outlooks.{graph_in}
-use Rattle.forward_routes.specs.Walked.{RouterOf, IsRouteOf, IsMove, AreMoves}
-use Rattle.forward_routes.proofs.RouteLemmas.{routes_fall}
-use Rattle.forward_routes.proofs.WalkedLemmas.{walks, goes_on}
+use Rattle.forward_views.specs.Walked.{RouterOf, IsRouteOf, IsMove, AreMoves}
+use Rattle.forward_views.proofs.RouteLemmas.{routes_fall}
+use Rattle.forward_views.proofs.WalkedLemmas.{walks, goes_on}
 use Rattle.forward_views.specs.Looks.{Look, root_of, told_of, AreAlike, IsOwner}
 use Rattle.forward_views.specs.Forwarded.{router_in, IsNext, IsReached}
 use Rattle.forward_views.proofs.ListLemmas.{in_map, of_map}

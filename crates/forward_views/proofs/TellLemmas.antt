@@ -25,9 +25,9 @@ use Rattle.router_routes.specs.Costs.{cost_of}
 use Rattle.router_routes.specs.Outlooks.{Outlook, usable_rows}
 use Rattle.router_routes.specs.Candidates.{with_cost, leads_other, reached_by, reached_in, rank_in, told_candidate, system_candidates, level_candidates, own_candidate, has_bit, default_by, default_of, defaults, firm_candidates, has_defaults, candidates_of}
 use Rattle.router_routes.proofs.CostLemmas.{costs-least}
-use Rattle.forward_moves.specs.Moves.{IsLeastCost}
-use Rattle.forward_routes.specs.Owned.{IsFor, IsOwn}
-use Rattle.forward_routes.proofs.RouteLemmas.{no_rank, no_worse}
+use Rattle.forward_views.specs.Moves.{IsLeastCost}
+use Rattle.forward_views.specs.Owned.{IsFor, IsOwn}
+use Rattle.forward_views.proofs.RouteLemmas.{no_rank, no_worse}
 use Rattle.forward_views.specs.Looks.{Look, outlook, root_of, told_of, own_items, AreAlike, HasOwn, IsOwner}
 use Rattle.forward_views.proofs.ListLemmas.{in_map, of_map, in_flat_map, of_flat_map, alone}
 use Rattle.forward_views.proofs.NodeLemmas.{zero_of, own-is}

@@ -7,7 +7,7 @@ use Rattle.route_table.specs.declared.route.Route.{Route}
 use Rattle.route_table.specs.Ranks.{rank_number}
 use Rattle.router_routes.specs.Outlooks.{graph_in}
 use Rattle.router_routes.specs.Candidates.{candidates_of}
-use Rattle.forward_routes.specs.Walked.{RouterOf, Agree, IsRouteOf, IsMove, costs_of}
+use Rattle.forward_views.specs.Walked.{RouterOf, Agree, IsRouteOf, IsMove, costs_of}
 use Rattle.forward_views.specs.Looks.{Look, outlook, root_of, told_of}
 
 -- a router with its graphs and candidates (RFC 5302 3.2)

@@ -15,7 +15,7 @@ use Rattle.route_table.specs.declared.route.Route.{Route}
 use Rattle.route_table.specs.Ranks.{rank_number}
 use Rattle.route_table.specs.Routes.{IsHopBy}
 use Rattle.router_routes.specs.Outlooks.{graph_in}
-use Rattle.forward_routes.specs.Walked.{RouterOf, IsRouteOf, IsMove, AreMoves}
+use Rattle.forward_views.specs.Walked.{RouterOf, IsRouteOf, IsMove, AreMoves}
 use Rattle.forward_views.specs.Looks.{Look, root_of, AreAlike, IsOwner}
 use Rattle.forward_views.specs.Forwarded.{router_in, IsReached}
 use Rattle.forwarding.specs.Paths.{IsLeastHop, IsLeastMove, IsLeastPath, Arrives}

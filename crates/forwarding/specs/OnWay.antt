@@ -5,7 +5,7 @@ use Rattle.isis_base.specs.declared.identifiers.SystemId.{SystemId}
 use Rattle.spf_tree.specs.Nodes.{system_node}
 use Rattle.model_router.specs.Places.{nth}
 use Rattle.route_table.specs.declared.route.Route.{Route}
-use Rattle.forward_routes.specs.Walked.{RouterOf, IsRouteOf, AreMoves}
+use Rattle.forward_views.specs.Walked.{RouterOf, IsRouteOf, AreMoves}
 use Rattle.forward_views.specs.Looks.{Look, IsOwner}
 use Rattle.forward_views.specs.Forwarded.{router_in}
 use Rattle.forwarding.specs.Paths.{IsLeastPath}

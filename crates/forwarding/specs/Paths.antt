@@ -4,7 +4,7 @@ use Rattle.std.specs.Prelude.{◌≡◌, ◌≤◌, ℕ, List, [], ◌∷◌, ma
 use Rattle.std.specs.List.{Contains}
 use Rattle.model_router.specs.Places.{nth}
 use Rattle.route_table.specs.declared.route.Route.{Route}
-use Rattle.forward_routes.specs.Walked.{RouterOf, IsRouteOf, AreMoves}
+use Rattle.forward_views.specs.Walked.{RouterOf, IsRouteOf, AreMoves}
 use Rattle.forward_views.specs.Looks.{Look, root_of, IsOwner}
 use Rattle.forward_views.specs.Forwarded.{router_in, IsReached}
 use Rattle.forwarding.specs.declared.walked.Walked.{Walked}

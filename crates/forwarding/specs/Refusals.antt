@@ -2,7 +2,7 @@
 use Rattle.std.specs.Prelude.{◌≡◌, ◌≢◌, ℕ, List, Some}
 use Rattle.model_router.specs.Places.{nth}
 use Rattle.route_table.specs.declared.route.Route.{Route}
-use Rattle.forward_routes.specs.Walked.{IsRouteOf}
+use Rattle.forward_views.specs.Walked.{IsRouteOf}
 use Rattle.forward_views.specs.Looks.{Look, IsSettled, AreKnown}
 use Rattle.forward_views.specs.Forwarded.{router_in}
 use Rattle.forwarding.specs.declared.fault.ForwardFault.{ForwardFault}

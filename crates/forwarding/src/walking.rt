@@ -7,7 +7,7 @@ ghost use Rattle.route_table.specs.declared.route.Route.{Route as RouteOf};
 ghost use Rattle.route_table.specs.Ranks.{prefix_number};
 ghost use Rattle.spf_tree.specs.Nodes.{system_node};
 ghost use Rattle.router_core.specs.Reached.{IsReached};
-ghost use Rattle.forward_routes.specs.Walked.{IsRouteOf};
+ghost use Rattle.forward_views.specs.Walked.{IsRouteOf};
 ghost use Rattle.router_routes.specs.Candidates.{AreRoutesOf};
 ghost use Rattle.forward_views.specs.Looks.{Look, outlook};
 ghost use Rattle.forward_views.specs.Forwarded.{router_in};

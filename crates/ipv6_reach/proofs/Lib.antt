@@ -5,5 +5,4 @@ pub mod PrefixLemmas6
 pub mod AddressLemmas6
 pub mod CaptureLemmas
 pub mod TakenLemmas
-pub mod CostLemmas6
 pub mod NumberLemmas6

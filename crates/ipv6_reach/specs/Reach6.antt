@@ -1,6 +1,6 @@
 -- The IPv6 prefixes that systems tell, and what they may be reached by (RFC 5308 2, 5; RFC 5302 3.2).
 
-use Rattle.std.specs.Prelude.{◌≡◌, ℕ, ◌+◌, ◌≤◌, ◌==◌, nat_le, Bool, ◌&&◌, not, List, [], ◌++◌, map, filter, Option, Some, None, if◌then◌else◌}
+use Rattle.std.specs.Prelude.{ℕ, ◌+◌, ◌==◌, nat_le, Bool, ◌&&◌, not, List, [], ◌++◌, map, filter, Option, Some, None, if◌then◌else◌}
 use Rattle.std.specs.List.{flat_map}
 use Rattle.isis_base.specs.declared.identifiers.SystemId.{SystemId}
 use Rattle.isis_base.specs.declared.identifiers.LspId.{LspId}
@@ -71,7 +71,3 @@ unfoldable pub candidates6 : List (LspId × Entry) → SystemId → List (ℕ ×
 candidates6 entries root costs =
     map (own6 root) (reach6_in entries root)
     ++ flat_map (λ (pair : LspId × Entry). beside6 entries root costs pair.0) (live_of entries)
-
--- each cost leaves room for a metric in 64 bits (own)
-pub record AreSmall (costs : List (ℕ × ℕ)) : Type 0 where
-  pub each : (node cost : ℕ) → cost_at costs node ≡ Some cost → cost ≤ 18446744065119617025

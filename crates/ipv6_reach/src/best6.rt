@@ -2,8 +2,8 @@
 
 ghost use Rattle.std.specs.Prelude.{◌≡◌, ℕ, IfOk};
 ghost use Rattle.spf_tree.specs.Nodes.{node_number};
-ghost use Rattle.spf_tree.specs.Distances.{AreDistances};
-ghost use Rattle.ipv6_reach.specs.Reach6.{candidates6, AreSmall};
+ghost use Rattle.spf_tree.specs.Distances.{AreDistances, AreSmall};
+ghost use Rattle.ipv6_reach.specs.Reach6.{candidates6};
 ghost use Rattle.ipv6_reach.specs.Routes6.{IsHopTo6, AreRoutes6, AreRoutesFrom};
 ghost use Rattle.ipv6_reach.specs.Numbered.{AreInOrder6};
 

@@ -5,8 +5,9 @@ ghost use Rattle.std.specs.List.{flat_map};
 ghost use Rattle.isis_base.specs.declared.identifiers.LspId.{LspId};
 ghost use Rattle.lsp_store.specs.declared.entry.Entry.{Entry};
 ghost use Rattle.lsp_store.specs.Databases.{live_of};
+ghost use Rattle.spf_tree.specs.Distances.{AreSmall};
 ghost use Rattle.ipv6_reach.specs.declared.rank6.Rank6.TheVariants as rank;
-ghost use Rattle.ipv6_reach.specs.Reach6.{own6, told6, leads_other, beside6, candidates6, AreSmall};
+ghost use Rattle.ipv6_reach.specs.Reach6.{own6, told6, leads_other, beside6, candidates6};
 
 use crate::candidate6::Candidate6;
 use crate::item6::Prefix6Item;

@@ -41,7 +41,7 @@ script-holds (Lab script) text report claimed = record {
 }
 
 -- a script was read, and its report written
-pub is-headline : (input : List ℕ) (script : Script) (before now : Option (List ℕ)) → script_of input ≡ Ok script → RunEnds script before now (Ok tt) → IsClaimedScript script → IsHeadline input before now
+pub is-headline : (input : List ℕ) (script : Script) (before now : List ℕ) → script_of input ≡ Ok script → RunEnds script before now (Ok tt) → IsClaimedScript script → IsHeadline input before now
 is-headline input script before now read ends claimed = record {
   script = script;
   read = read;
@@ -50,7 +50,7 @@ is-headline input script before now read ends claimed = record {
   holds = script-holds script ends.0 ends.1 claimed;
 }
 
-at-end : (size : ℕ) (summary : Summary) (before now : Option (List ℕ)) (script : LabScript) → script_of (grid_text size) ≡ Ok (Lab script) → IsClaimedRun script → (end : Result Network ScriptFault) → end_of script ≡ end → IsOkAnd end (λ net. IsSummary size (seen_of net) summary) → Wrote before now (summary_text summary) → IsGridHeadline size before now
+at-end : (size : ℕ) (summary : Summary) (before now : List ℕ) (script : LabScript) → script_of (grid_text size) ≡ Ok (Lab script) → IsClaimedRun script → (end : Result Network ScriptFault) → end_of script ≡ end → IsOkAnd end (λ net. IsSummary size (seen_of net) summary) → Wrote before now (summary_text summary) → IsGridHeadline size before now
 at-end size summary before now script read claimed (Ok net) e is wrote = record {
   script = script;
   read = read;
@@ -62,11 +62,11 @@ at-end size summary before now script read claimed (Ok net) e is wrote = record 
 }
 at-end size summary before now script read claimed (Err fault) e is wrote = absurd is
 
-at-read : (size : ℕ) (summary : Summary) (before now : Option (List ℕ)) (read : Result Script ScriptFault) → script_of (grid_text size) ≡ read → IsOkAnd read IsClaimedIn → IsOkAnd (read >>= end_in) (λ net. IsSummary size (seen_of net) summary) → Wrote before now (summary_text summary) → IsGridHeadline size before now
+at-read : (size : ℕ) (summary : Summary) (before now : List ℕ) (read : Result Script ScriptFault) → script_of (grid_text size) ≡ read → IsOkAnd read IsClaimedIn → IsOkAnd (read >>= end_in) (λ net. IsSummary size (seen_of net) summary) → Wrote before now (summary_text summary) → IsGridHeadline size before now
 at-read size summary before now (Ok (Lab script)) e claimed is wrote = at-end size summary before now script e claimed (end_of script) refl is wrote
 at-read size summary before now (Ok (Keys script)) e claimed is wrote = absurd claimed
 at-read size summary before now (Err fault) e claimed is wrote = absurd claimed
 
 -- a grid's script was run, and its summary written
-pub is-grid-headline : (size : ℕ) (summary : Summary) (before now : Option (List ℕ)) → IsClaimedGrid size → IsOkAnd (grid_end size) (λ net. IsSummary size (seen_of net) summary) → Wrote before now (summary_text summary) → IsGridHeadline size before now
+pub is-grid-headline : (size : ℕ) (summary : Summary) (before now : List ℕ) → IsClaimedGrid size → IsOkAnd (grid_end size) (λ net. IsSummary size (seen_of net) summary) → Wrote before now (summary_text summary) → IsGridHeadline size before now
 is-grid-headline size summary before now claimed is wrote = at-read size summary before now (script_of (grid_text size)) refl claimed is wrote

@@ -1,4 +1,5 @@
 -- The lemmas, a module for each topic.
+mod DaemonLemmas
 mod GridLemmas
 pub mod HeadlineLemmas
 pub mod ShowLemmas

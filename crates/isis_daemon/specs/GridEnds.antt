@@ -1,11 +1,12 @@
 -- How the run of a grid ends (own).
-use Rattle.std.specs.Prelude.{◌≡◌, ℕ, List, Option, Err, IsOkAnd, ◌⊎◌}
-use Rattle.isis_edge.specs.Told.{Wrote, WrotePrefix, TellsSame}
+use Rattle.std.specs.Prelude.{◌≡◌, ℕ, List, Err, IsOkAnd, ◌⊎◌}
+use Rattle.isis_edge.specs.Told.{WrotePrefix}
 use Rattle.network_lab.specs.LabNets.{seen_of}
-use Rattle.lab_script.specs.declared.reason.ScriptFault.TheVariants.{Refused, Limit}
+use Rattle.lab_script.specs.declared.reason.ScriptFault.TheVariants.{Limit}
 use Rattle.lab_grid.specs.declared.summary.Summary.{Summary}
 use Rattle.lab_grid.specs.GridRuns.{IsSummary, grid_end}
 use Rattle.lab_grid.specs.SummaryText.{summary_text}
+use Rattle.isis_daemon.specs.Headline.{IsGridHeadline}
 use Rattle.isis_daemon.specs.declared.status.Status.{Status}
 use Rattle.isis_daemon.specs.declared.status.Status.TheVariants as status
 
@@ -17,21 +18,20 @@ IsGridText size text = IsOkAnd (grid_end size) (λ net. (summary : Summary)
 abbrev pub WroteGrid : ℕ → (List ℕ → Type 0) → Type 0
 WroteGrid size Written = (text : List ℕ) × IsGridText size text × Written text
 
--- how the run of a grid ends, which reads no input: the output, before and now, holds the whole summary, a prefix of it, or
--- no more than before
-abbrev pub GridEnds : ℕ → (before now : Option (List ℕ)) → Status → Type 0
-GridEnds size before now status.Done = WroteGrid size (Wrote before now)
-GridEnds size before now status.Usage = ⊥
-GridEnds size before now (status.ScriptRefused line reason) =
-    (grid_end size ≡ Err (Refused line reason)) × TellsSame before now
-GridEnds size before now status.ReadFault = ⊥
-GridEnds size before now status.WriteFault = WroteGrid size (WrotePrefix before now)
-GridEnds size before now status.TooLong = ⊥
-GridEnds size before now status.OutOfMemory =
-    TellsSame before now ⊎ WroteGrid size (WrotePrefix before now)
-GridEnds size before now (status.ConfigRefused what key) = ⊥
-GridEnds size before now status.NotStarted = ⊥
-GridEnds size before now (status.LabLimit which) =
-    (grid_end size ≡ Err (Limit which)) × TellsSame before now
-GridEnds size before now (status.WeaveRefused journal entry reason) = ⊥
-GridEnds size before now (status.NoWalk reason) = ⊥
+-- how the run of a grid ends, which reads no input: the whole summary was written, of a grid
+-- for which the headline holds, a prefix of it, or nothing
+abbrev pub GridEnds : ℕ → (put put' : List ℕ) → Status → Type 0
+GridEnds size put put' status.Done = IsGridHeadline size put put'
+GridEnds size put put' status.Usage = ⊥
+GridEnds size put put' (status.ScriptRefused line reason) = ⊥
+GridEnds size put put' status.ReadFault = ⊥
+GridEnds size put put' status.WriteFault = WroteGrid size (WrotePrefix put put')
+GridEnds size put put' status.TooLong = ⊥
+GridEnds size put put' status.OutOfMemory =
+    (put' ≡ put) ⊎ WroteGrid size (WrotePrefix put put')
+GridEnds size put put' (status.ConfigRefused what key) = ⊥
+GridEnds size put put' status.NotStarted = ⊥
+GridEnds size put put' (status.LabLimit which) =
+    (grid_end size ≡ Err (Limit which)) × (put' ≡ put)
+GridEnds size put put' (status.WeaveRefused journal entry reason) = ⊥
+GridEnds size put put' (status.NoWalk reason) = ⊥

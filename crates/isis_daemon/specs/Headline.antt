@@ -1,4 +1,4 @@
--- The headline, as `run` promises it at status 0 (ISO 10589 7.3.15 to 7.3.17, RFC 5303 3.2, RFC 5302 3.2; the words: own):
+-- The headline, as status 0 means it at `lab` and `grid` (ISO 10589 7.3.15 to 7.3.17, RFC 5303 3.2, RFC 5302 3.2; the words: own):
 --
 --   For every schedule of seconds, pulls, restarts, changes and deliveries, with losses, repeats and reorderings: on each
 --   point-to-point link with both ends up, an LSP held at one end is at the other as new or newer, unless its SRM flag
@@ -6,7 +6,7 @@
 --   router's database.
 --
 -- The schedule is a script's. Each part names its premises where it begins; docs/PROMISES.md has them as a table.
-use Rattle.std.specs.Prelude.{◌≡◌, ℕ, List, ◌++◌, Option, Ok}
+use Rattle.std.specs.Prelude.{◌≡◌, ℕ, List, ◌++◌, Ok}
 use Rattle.isis_edge.specs.Told.{Wrote}
 use Rattle.route_table.specs.declared.route.Route.{Route}
 use Rattle.router_core.specs.Givens.{given}
@@ -81,20 +81,20 @@ abbrev pub ScriptHolds : Script → List ℕ → Type 0
 ScriptHolds (Keys script) text = keys_report script ≡ Ok text
 ScriptHolds (Lab script) text = ReportHolds script text
 
--- The headline at `lab`, of an input and of what the output held before and holds now.
-pub record IsHeadline (input : List ℕ) (before now : Option (List ℕ)) : Type 0 where
+-- The headline at `lab`, of the octets that the input gave and of those put into the output, before and afterwards.
+pub record IsHeadline (input put put' : List ℕ) : Type 0 where
   -- the script that the input is read as
   pub script : Script
   pub read : script_of input ≡ Ok script
-  -- the octets written, behind those that were there: the report of the script's run, of which the headline holds
+  -- the octets written, after those that were put before: the report of the script's run, of which the headline holds
   pub text : List ℕ
-  pub written : Wrote before now text
+  pub written : Wrote put put' text
   pub holds : ScriptHolds script text
 
 -- ---- `grid N`
 
 -- The headline at `grid N`, of the script that a grid of this size is written as.
-pub record IsGridHeadline (size : ℕ) (before now : Option (List ℕ)) : Type 0 where
+pub record IsGridHeadline (size : ℕ) (put put' : List ℕ) : Type 0 where
   -- the grid's script is read as this lab script
   pub script : LabScript
   pub read : script_of (grid_text size) ≡ Ok (Lab script)
@@ -106,4 +106,4 @@ pub record IsGridHeadline (size : ℕ) (before now : Option (List ℕ)) : Type 0
   pub summary : Summary
   pub summary_is : IsSummary size (seen_of net) summary
   -- the octets written are the summary
-  pub written : Wrote before now (summary_text summary)
+  pub written : Wrote put put' (summary_text summary)

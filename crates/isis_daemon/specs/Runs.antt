@@ -1,6 +1,6 @@
 -- How a run of the program ends (own).
-use Rattle.std.specs.Prelude.{◌≡◌, ℕ, ◌+◌, ◌<◌, ◌≤◌, List, [], length, Option, Some, IfSome, Result, Ok, Err, IsOk, IsOkAnd, ◌⊎◌}
-use Rattle.isis_edge.specs.Told.{Took, Wrote, TellsSame}
+use Rattle.std.specs.Prelude.{◌≡◌, ℕ, ◌+◌, ◌<◌, ◌≤◌, Bool, true, List, length, Result, Ok, Err, IsOk, IsOkAnd, ◌⊎◌}
+use Rattle.isis_edge.specs.Told.{Took, Wrote}
 use Rattle.lab_script.specs.declared.reason.ScriptFault.{ScriptFault}
 use Rattle.lab_script.specs.declared.reason.ScriptFault.TheVariants.{Refused, Limit}
 use Rattle.lab_script.specs.Scripts.{◌>>=◌, script_of}
@@ -12,6 +12,7 @@ use Rattle.isis_daemon.specs.declared.status.Status.TheVariants as status
 use Rattle.capture_text.specs.Routes6Text.{IsRoutes6Text}
 use Rattle.capture_text.specs.AlternatesText.{IsAlternatesText}
 use Rattle.isis_daemon.specs.ShowText.{shown_text}
+use Rattle.isis_daemon.specs.Headline.{IsHeadline}
 
 -- how many octets an input may have
 abbrev pub input_limit : ℕ
@@ -32,42 +33,76 @@ outcome Show input = Ok tt
 outcome (Routes6 level system) input = Ok tt
 outcome (Alternates level system) input = Ok tt
 
--- of the input no more was taken than its first octets, at most one more than it may have
-abbrev pub IsTakenWithin : (before now : Option (List ℕ)) → Type 0
-IsTakenWithin before now =
-    (octets : List ℕ) × (length octets ≤ input_limit + 1) × Took before now octets
+-- the input gave no more than its first octets, at most one more than it may have
+abbrev pub IsTakenWithin : (gave gave' : List ℕ) → Type 0
+IsTakenWithin gave gave' =
+    (octets : List ℕ) × (length octets ≤ input_limit + 1) × Took gave gave' octets
 
--- the input wasn't too long, and was read to its end
-abbrev pub IsReadWhole : List ℕ → Option (List ℕ) → Type 0
-IsReadWhole input left = (length input ≤ input_limit) × (left ≡ Some [])
+-- the input gave these octets and then its end, and they weren't too many
+abbrev pub IsReadWhole : (gave gave' : List ℕ) → (ended : Bool) → List ℕ → Type 0
+IsReadWhole gave gave' ended octets =
+    (length octets ≤ input_limit) × Took gave gave' octets × (ended ≡ true)
 
--- how a command's run ends: the status has its cause in the input that there was; and the output, before and now, holds the
--- whole text, a prefix of it, or no more than before
-abbrev pub Ends : Command → (input left before now : Option (List ℕ)) → Status → Type 0
-Ends command input left before now status.Done =
-    IfSome input (λ octets. IsReadWhole octets left
-    × ((text : List ℕ) × IsTextOf command octets text × Wrote before now text))
-Ends command input left before now status.Usage = ⊥
-Ends command input left before now (status.ScriptRefused line reason) =
-    (command ≡ Lab)
-    × IfSome input (λ octets. IsReadWhole octets left
-    × (outcome command octets ≡ Err (Refused line reason))) × TellsSame before now
-Ends command input left before now status.ReadFault = TellsSame before now
-Ends command input left before now status.WriteFault =
-    IfSome input (λ octets. IsReadWhole octets left
-    × WrotePart (IsTextOf command octets) before now)
-Ends command input left before now status.TooLong =
-    IfSome input (λ octets. input_limit < length octets) × TellsSame before now
-Ends command input left before now status.OutOfMemory =
-    IfSome input (λ octets. TellsSame before now ⊎ WrotePart (IsTextOf command octets) before now)
-Ends command input left before now (status.ConfigRefused what key) = ⊥
-Ends command input left before now status.NotStarted = ⊥
-Ends command input left before now (status.LabLimit which) =
-    (command ≡ Lab)
-    × IfSome input (λ octets. IsReadWhole octets left
-    × (outcome command octets ≡ Err (Limit which))) × TellsSame before now
-Ends command input left before now (status.WeaveRefused journal entry reason) = ⊥
-Ends command input left before now (status.NoWalk reason) = ⊥
+-- why the input wasn't read whole: a read failed, it gave too many octets, or memory ran out
+abbrev pub IsNotRead : (gave gave' : List ℕ) → Status → Type 0
+IsNotRead gave gave' status.ReadFault = Unit {0}
+IsNotRead gave gave' status.TooLong =
+    (octets : List ℕ) × (input_limit < length octets) × Took gave gave' octets
+IsNotRead gave gave' status.OutOfMemory = Unit {0}
+IsNotRead gave gave' status.Done = ⊥
+IsNotRead gave gave' status.Usage = ⊥
+IsNotRead gave gave' (status.ScriptRefused line reason) = ⊥
+IsNotRead gave gave' status.WriteFault = ⊥
+IsNotRead gave gave' (status.ConfigRefused what key) = ⊥
+IsNotRead gave gave' status.NotStarted = ⊥
+IsNotRead gave gave' (status.LabLimit which) = ⊥
+IsNotRead gave gave' (status.WeaveRefused journal entry reason) = ⊥
+IsNotRead gave gave' (status.NoWalk reason) = ⊥
+
+-- how a run that reads an input ends, by how it ends on octets: the input wasn't read whole, and nothing was written; or it
+-- was, and its octets come to this
+abbrev pub OnInput : (On : List ℕ → Status → Type 0) → (gave gave' : List ℕ) → (ended : Bool)
+    → (put put' : List ℕ) → Status → Type 0
+OnInput On gave gave' ended put put' end = (IsNotRead gave gave' end × (put' ≡ put))
+    ⊎ ((octets : List ℕ) × IsReadWhole gave gave' ended octets × On octets end)
+
+-- the whole text was written
+abbrev pub WroteText : Command → List ℕ → (put put' : List ℕ) → Type 0
+WroteText command octets put put' =
+    (text : List ℕ) × IsTextOf command octets text × Wrote put put' text
+
+-- what status 0 means: of a script its report was written, of whose run the headline holds; of another command its text
+abbrev pub IsDone : Command → List ℕ → (put put' : List ℕ) → Type 0
+IsDone Lab octets put put' = IsHeadline octets put put'
+IsDone Show octets put put' = WroteText Show octets put put'
+IsDone (Routes6 level system) octets put put' = WroteText (Routes6 level system) octets put put'
+IsDone (Alternates level system) octets put put' =
+    WroteText (Alternates level system) octets put put'
+
+-- how a command's run on octets ends: the status has its cause in them; and the whole text was written, a prefix of it, or
+-- nothing
+abbrev pub EndsOn : Command → List ℕ → (put put' : List ℕ) → Status → Type 0
+EndsOn command octets put put' status.Done = IsDone command octets put put'
+EndsOn command octets put put' (status.ScriptRefused line reason) = (command ≡ Lab)
+    × (outcome command octets ≡ Err (Refused line reason)) × (put' ≡ put)
+EndsOn command octets put put' status.WriteFault = WrotePart (IsTextOf command octets) put put'
+EndsOn command octets put put' status.OutOfMemory =
+    (put' ≡ put) ⊎ WrotePart (IsTextOf command octets) put put'
+EndsOn command octets put put' (status.LabLimit which) = (command ≡ Lab)
+    × (outcome command octets ≡ Err (Limit which)) × (put' ≡ put)
+EndsOn command octets put put' status.Usage = ⊥
+EndsOn command octets put put' status.ReadFault = ⊥
+EndsOn command octets put put' status.TooLong = ⊥
+EndsOn command octets put put' (status.ConfigRefused what key) = ⊥
+EndsOn command octets put put' status.NotStarted = ⊥
+EndsOn command octets put put' (status.WeaveRefused journal entry reason) = ⊥
+EndsOn command octets put put' (status.NoWalk reason) = ⊥
+
+-- how a command's run ends, by what its input gave and its output was given, before and afterwards
+abbrev pub Ends : Command → (gave gave' : List ℕ) → (ended : Bool) → (put put' : List ℕ) → Status
+    → Type 0
+Ends command gave gave' ended put put' end =
+    OnInput (λ octets. EndsOn command octets put put') gave gave' ended put put' end
 
 -- an input that a command takes to its end
 abbrev pub IsTaken : Command → List ℕ → Type 0

@@ -1,7 +1,7 @@
 -- How the run of a walk ends (own).
-use Rattle.std.specs.Prelude.{◌≡◌, ℕ, ◌<◌, ◌≤◌, List, length, Option, IfSome, IfOk, Err, IsOk, IsOkAnd}
+use Rattle.std.specs.Prelude.{◌≡◌, ℕ, ◌≤◌, Bool, List, length, IfOk, Err, IsOk, IsOkAnd}
 use Rattle.isis_base.specs.declared.prefix.Prefix.{Prefix}
-use Rattle.isis_edge.specs.Told.{Wrote, TellsSame}
+use Rattle.isis_edge.specs.Told.{Wrote}
 use Rattle.lab_script.specs.declared.reason.ScriptFault.{ScriptFault}
 use Rattle.lab_script.specs.declared.reason.ScriptFault.TheVariants.{Refused, Limit}
 use Rattle.lab_script.specs.Scripts.{script_of}
@@ -11,7 +11,7 @@ use Rattle.walk_text.specs.Walks.{HasRouter, IsWalkText, IsNoWalk}
 use Rattle.isis_daemon.specs.declared.command.Command.TheVariants.{Lab}
 use Rattle.isis_daemon.specs.declared.status.Status.{Status}
 use Rattle.isis_daemon.specs.declared.status.Status.TheVariants as status
-use Rattle.isis_daemon.specs.Runs.{input_limit, outcome, IsReadWhole}
+use Rattle.isis_daemon.specs.Runs.{input_limit, outcome, OnInput}
 
 -- a text is the walk after the script that an input is read as, from the router of a name to a prefix
 abbrev pub TellsWalk : List ℕ → Prefix → List ℕ → List ℕ → Type 0
@@ -29,32 +29,32 @@ abbrev pub IsRefusedScript : List ℕ → List ℕ → ScriptFault → Type 0
 IsRefusedScript name input fault =
     (outcome Lab input ≡ Err fault) × IfOk (script_of input) (λ script. HasRouter script name)
 
--- how the run of a walk ends: the status has its cause in the input that there was; and the output, before and now, holds
--- the whole text, a prefix of it where a write failed, or no more than before
-abbrev pub WalkEnds : List ℕ → Prefix → (input left before now : Option (List ℕ)) → Status → Type 0
-WalkEnds name prefix input left before now status.Done =
-    IfSome input (λ octets. IsReadWhole octets left
-    × ((text : List ℕ) × TellsWalk name prefix octets text × Wrote before now text))
-WalkEnds name prefix input left before now status.Usage = ⊥
-WalkEnds name prefix input left before now (status.ScriptRefused line reason) =
-    IfSome input (λ octets. IsReadWhole octets left
-    × IsRefusedScript name octets (Refused line reason)) × TellsSame before now
-WalkEnds name prefix input left before now status.ReadFault = TellsSame before now
-WalkEnds name prefix input left before now status.WriteFault =
-    IfSome input (λ octets. IsReadWhole octets left
-    × WrotePart (TellsWalk name prefix octets) before now)
-WalkEnds name prefix input left before now status.TooLong =
-    IfSome input (λ octets. input_limit < length octets) × TellsSame before now
-WalkEnds name prefix input left before now status.OutOfMemory = TellsSame before now
-WalkEnds name prefix input left before now (status.ConfigRefused what key) = ⊥
-WalkEnds name prefix input left before now status.NotStarted = ⊥
-WalkEnds name prefix input left before now (status.LabLimit which) =
-    IfSome input (λ octets. IsReadWhole octets left
-    × IsRefusedScript name octets (Limit which)) × TellsSame before now
-WalkEnds name prefix input left before now (status.WeaveRefused journal entry reason) = ⊥
-WalkEnds name prefix input left before now (status.NoWalk reason) =
-    IfSome input (λ octets. IsReadWhole octets left × HasNoWalk name prefix octets reason)
-    × TellsSame before now
+-- how the run of a walk on octets ends: the status has its cause in them; and the whole text was written, a prefix of it where
+-- a write failed, or nothing
+abbrev pub WalkEndsOn : List ℕ → Prefix → List ℕ → (put put' : List ℕ) → Status → Type 0
+WalkEndsOn name prefix octets put put' status.Done =
+    (text : List ℕ) × TellsWalk name prefix octets text × Wrote put put' text
+WalkEndsOn name prefix octets put put' (status.ScriptRefused line reason) =
+    IsRefusedScript name octets (Refused line reason) × (put' ≡ put)
+WalkEndsOn name prefix octets put put' status.WriteFault =
+    WrotePart (TellsWalk name prefix octets) put put'
+WalkEndsOn name prefix octets put put' status.OutOfMemory = put' ≡ put
+WalkEndsOn name prefix octets put put' (status.LabLimit which) =
+    IsRefusedScript name octets (Limit which) × (put' ≡ put)
+WalkEndsOn name prefix octets put put' (status.NoWalk reason) =
+    HasNoWalk name prefix octets reason × (put' ≡ put)
+WalkEndsOn name prefix octets put put' status.Usage = ⊥
+WalkEndsOn name prefix octets put put' status.ReadFault = ⊥
+WalkEndsOn name prefix octets put put' status.TooLong = ⊥
+WalkEndsOn name prefix octets put put' (status.ConfigRefused what key) = ⊥
+WalkEndsOn name prefix octets put put' status.NotStarted = ⊥
+WalkEndsOn name prefix octets put put' (status.WeaveRefused journal entry reason) = ⊥
+
+-- how the run of a walk ends, by what its input gave and its output was given, before and afterwards
+abbrev pub WalkEnds : List ℕ → Prefix → (gave gave' : List ℕ) → (ended : Bool) → (put put' : List ℕ)
+    → Status → Type 0
+WalkEnds name prefix gave gave' ended put put' end =
+    OnInput (λ octets. WalkEndsOn name prefix octets put put') gave gave' ended put put' end
 
 -- an input after whose script there is a walk: its run is neither refused nor limited, and nothing is
 -- told against a walk

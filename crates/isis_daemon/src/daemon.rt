@@ -1,6 +1,7 @@
 //! The command `daemon`: a router over the ports of its circuits, and its journal.
-ghost use Rattle.std.specs.Prelude.{◌≡◌, ◌≤◌, ◌⊎◌, IsSomeAnd};
+ghost use Rattle.std.specs.Prelude.{◌≡◌, ◌≤◌, ◌⊎◌, ℕ, List};
 ghost use Rattle.isis_edge.specs.Faults.{Rose};
+ghost use Rattle.isis_edge.specs.Told.{Took};
 ghost use Rattle.isis_daemon.specs.DaemonEnds.{DaemonEnds, IsConfiguration};
 ghost use Rattle.isis_daemon.specs.Runs.{IsTakenWithin, IsDoneUnlessMemory};
 
@@ -39,7 +40,7 @@ pub(crate) fn daemon<
     requires boot { (1 ≤ options.boot) × (options.boot ≤ 16777215) }
     requires turns { (1 ≤ options.turns) × (options.turns ≤ 86400) }
     ensures usage { ¬ (result.2 ≡ Status.Usage) }
-    ensures taken { IsTakenWithin (I.left input.old) (I.left input.new) }
+    ensures taken { IsTakenWithin (I.gave input.old) (I.gave input.new) }
     ensures read_fault { result.2 ≡ Status.ReadFault
         → Rose (I.faults input.old) (I.faults input.new) }
     ensures write_fault { result.2 ≡ Status.WriteFault
@@ -50,20 +51,20 @@ pub(crate) fn daemon<
     ensures later { (I.faults input.old ≤ I.faults input.new)
         × (O.faults output ≤ O.faults result.0) × (P.faults ports.old ≤ P.faults ports.new)
         × (S.faults spawner.old ≤ S.faults spawner.new) }
-    ensures daemon { DaemonEnds (I.left input.old) (I.left input.new) (record {
+    ensures daemon { DaemonEnds (I.gave input.old) (I.gave input.new) (I.ended input.new) (record {
       boot = options.boot;
       turns = options.turns;
       given = T.given pacer;
       given' = T.given result.1;
       ended = T.ended result.1;
-      held = O.held output;
-      held' = O.held result.0;
+      put = O.put output;
+      put' = O.put result.0;
       opened = P.opened ports.old;
       opened' = P.opened ports.new;
       closed = P.closed ports.old;
       closed' = P.closed ports.new;
     }) result.2 }
-    ensures complete { IsSomeAnd (I.left input.old) IsConfiguration
+    ensures complete { (octets : List ℕ) → Took (I.gave input.old) (I.gave input.new) octets → IsConfiguration octets
         → ¬ Rose (I.faults input.old) (I.faults input.new)
         → ¬ Rose (O.faults output) (O.faults result.0)
         → ¬ Rose (P.faults ports.old) (P.faults ports.new)

@@ -3,7 +3,6 @@ ghost use Rattle.std.specs.Prelude.{◌≡◌, ◌≤◌, IsOk};
 ghost use Rattle.isis_edge.specs.Faults.{Rose};
 ghost use Rattle.lab_grid.specs.GridRuns.{grid_end};
 ghost use Rattle.isis_daemon.specs.GridEnds.{GridEnds};
-ghost use Rattle.isis_daemon.specs.Headline.{IsGridHeadline};
 ghost use Rattle.isis_daemon.specs.Runs.{IsDoneUnlessMemory};
 
 use crate::status::Status;
@@ -16,9 +15,7 @@ use std::alloc::Global;
 pub(crate) fn grid<O: Sink>(alloc: Global, size: u8, output: &mut O) -> Status
     requires some { 1 ≤ size }
     requires few { size ≤ 8 }
-    ensures ends { GridEnds size (O.held output.old) (O.held output.new) result }
-    ensures headline { result ≡ Status.Done
-        → IsGridHeadline size (O.held output.old) (O.held output.new) }
+    ensures ends { GridEnds size (O.put output.old) (O.put output.new) result }
     ensures write_fault { result ≡ Status.WriteFault
         → Rose (O.faults output.old) (O.faults output.new) }
     ensures complete { IsOk (grid_end size) → ¬ Rose (O.faults output.old) (O.faults output.new)

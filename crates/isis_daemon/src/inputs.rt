@@ -1,11 +1,10 @@
 //! What needs no ports and no threads: a walk, a weaving, and what makes a text of its input.
-ghost use Rattle.std.specs.Prelude.{◌≡◌, ◌≤◌, map, Some, None, string_bytes, IfSome, IsOk, IsSomeAnd, ◌↔◌};
+ghost use Rattle.std.specs.Prelude.{◌≡◌, ◌≤◌, ℕ, List, map, string_bytes, IfSome, IsOk, ◌↔◌};
 ghost use Rattle.isis_edge.specs.Faults.{Rose};
+ghost use Rattle.isis_edge.specs.Told.{Took};
 ghost use Rattle.lab_grid.specs.GridRuns.{grid_end};
-ghost use Rattle.isis_daemon.specs.declared.command.Command.TheVariants as command;
 ghost use Rattle.isis_daemon.specs.Commands.{command_of, grid_size_of, walk_of, weave_of, AreNoInput};
 ghost use Rattle.isis_daemon.specs.GridEnds.{GridEnds};
-ghost use Rattle.isis_daemon.specs.Headline.{IsHeadline, IsGridHeadline};
 ghost use Rattle.isis_daemon.specs.Runs.{Ends, IsTaken, IsTakenWithin, IsDoneUnlessMemory};
 ghost use Rattle.isis_daemon.specs.WalkEnds.{WalkEnds, IsWalkable};
 ghost use Rattle.isis_daemon.specs.WeaveEnds.{WeaveEnds, CanBeWoven};
@@ -27,51 +26,44 @@ pub(crate) fn run_input<I: Source, O: Sink>(
 ) -> (O, Status)
     ensures usage { (result.1 ≡ Status.Usage) ↔ AreNoInput (map string_bytes words.now) }
     ensures untouched { result.1 ≡ Status.Usage
-        → (I.left input.new ≡ I.left input.old) × (I.faults input.new ≡ I.faults input.old)
+        → (I.gave input.new ≡ I.gave input.old) × (I.ended input.new ≡ I.ended input.old) × (I.faults input.new ≡ I.faults input.old)
         × (result.0 ≡ output) }
     ensures started { ¬ (result.1 ≡ Status.NotStarted) }
     ensures ends { IfSome (command_of (map string_bytes words.now))
-        (λ command. Ends command (I.left input.old) (I.left input.new) (O.held output)
-        (O.held result.0) result.1) }
-    ensures taken { IsTakenWithin (I.left input.old) (I.left input.new) }
-    ensures headline { result.1 ≡ Status.Done
-        → command_of (map string_bytes words.now) ≡ Some command.Lab
-        → IfSome (I.left input.old)
-        (λ octets. IsHeadline octets (O.held output) (O.held result.0)) }
+        (λ command. Ends command (I.gave input.old) (I.gave input.new) (I.ended input.new) (O.put output)
+        (O.put result.0) result.1) }
+    ensures taken { IsTakenWithin (I.gave input.old) (I.gave input.new) }
     ensures read_fault { result.1 ≡ Status.ReadFault
         → Rose (I.faults input.old) (I.faults input.new) }
     ensures write_fault { result.1 ≡ Status.WriteFault
         → Rose (O.faults output) (O.faults result.0) }
     ensures complete { IfSome (command_of (map string_bytes words.now))
-        (λ command. IsSomeAnd (I.left input.old) (IsTaken command)
+        (λ command. (octets : List ℕ) → Took (I.gave input.old) (I.gave input.new) octets → IsTaken command octets
         → ¬ Rose (I.faults input.old) (I.faults input.new)
         → ¬ Rose (O.faults output) (O.faults result.0)
         → IsDoneUnlessMemory result.1) }
     ensures later { (I.faults input.old ≤ I.faults input.new)
         × (O.faults output ≤ O.faults result.0) }
     ensures grid { IfSome (grid_size_of (map string_bytes words.now))
-        (λ size. GridEnds size (O.held output) (O.held result.0) result.1) }
+        (λ size. GridEnds size (O.put output) (O.put result.0) result.1) }
     ensures grid_unread { IfSome (grid_size_of (map string_bytes words.now))
-        (λ _. (I.left input.new ≡ I.left input.old) × (I.faults input.new ≡ I.faults input.old)) }
-    ensures grid_headline { result.1 ≡ Status.Done
-        → IfSome (grid_size_of (map string_bytes words.now))
-        (λ size. IsGridHeadline size (O.held output) (O.held result.0)) }
+        (λ _. (I.gave input.new ≡ I.gave input.old) × (I.ended input.new ≡ I.ended input.old) × (I.faults input.new ≡ I.faults input.old)) }
     ensures grid_complete { IfSome (grid_size_of (map string_bytes words.now))
         (λ size. IsOk (grid_end size) → ¬ Rose (O.faults output) (O.faults result.0)
         → IsDoneUnlessMemory result.1) }
     ensures walk { IfSome (walk_of (map string_bytes words.now)) (λ asked.
-        WalkEnds asked.0 asked.1 (I.left input.old) (I.left input.new) (O.held output)
-        (O.held result.0) result.1) }
+        WalkEnds asked.0 asked.1 (I.gave input.old) (I.gave input.new) (I.ended input.new) (O.put output)
+        (O.put result.0) result.1) }
     ensures walk_complete { IfSome (walk_of (map string_bytes words.now)) (λ asked.
-        IsSomeAnd (I.left input.old) (IsWalkable asked.0 asked.1)
+        (octets : List ℕ) → Took (I.gave input.old) (I.gave input.new) octets → IsWalkable asked.0 asked.1 octets
         → ¬ Rose (I.faults input.old) (I.faults input.new)
         → ¬ Rose (O.faults output) (O.faults result.0)
         → IsDoneUnlessMemory result.1) }
     ensures weave { IfSome (weave_of (map string_bytes words.now)) (λ _.
-        WeaveEnds (I.left input.old) (I.left input.new) (O.held output) (O.held result.0)
+        WeaveEnds (I.gave input.old) (I.gave input.new) (I.ended input.new) (O.put output) (O.put result.0)
         result.1) }
     ensures weave_complete { IfSome (weave_of (map string_bytes words.now)) (λ _.
-        IsSomeAnd (I.left input.old) CanBeWoven
+        (octets : List ℕ) → Took (I.gave input.old) (I.gave input.new) octets → CanBeWoven octets
         → ¬ Rose (I.faults input.old) (I.faults input.new)
         → ¬ Rose (O.faults output) (O.faults result.0)
         → IsDoneUnlessMemory result.1) }

@@ -1,12 +1,11 @@
 //! The call `run`, from the octets read to the octets written.
-ghost use Rattle.std.specs.Prelude.{◌≡◌, ◌≤◌, ◌↔◌, ◌⊎◌, map, Some, None, string_bytes, IfSome, IsOk, IsSomeAnd};
+ghost use Rattle.std.specs.Prelude.{◌≡◌, ◌≤◌, ◌↔◌, ◌⊎◌, ℕ, List, map, None, string_bytes, IfSome, IsOk};
 ghost use Rattle.isis_edge.specs.Faults.{Rose};
+ghost use Rattle.isis_edge.specs.Told.{Took};
 ghost use Rattle.lab_grid.specs.GridRuns.{grid_end};
-ghost use Rattle.isis_daemon.specs.declared.command.Command.TheVariants as command;
 ghost use Rattle.isis_daemon.specs.Commands.{command_of, grid_size_of, walk_of, weave_of, AreNone};
 ghost use Rattle.isis_daemon.specs.DaemonEnds.{DaemonEnds, IsConfiguration};
 ghost use Rattle.isis_daemon.specs.GridEnds.{GridEnds};
-ghost use Rattle.isis_daemon.specs.Headline.{IsHeadline, IsGridHeadline};
 ghost use Rattle.isis_daemon.specs.Options.{daemon_of};
 ghost use Rattle.isis_daemon.specs.Runs.{Ends, IsTaken, IsTakenWithin, IsDoneUnlessMemory};
 ghost use Rattle.isis_daemon.specs.WalkEnds.{WalkEnds, IsWalkable};
@@ -65,16 +64,12 @@ pub fn run<
 ) -> (O, T, Status)
     ensures usage { (result.2 ≡ Status.Usage) ↔ AreNone (map string_bytes words.now) }
     ensures untouched { result.2 ≡ Status.Usage
-        → (I.left input.new ≡ I.left input.old) × (I.faults input.new ≡ I.faults input.old)
+        → (I.gave input.new ≡ I.gave input.old) × (I.ended input.new ≡ I.ended input.old) × (I.faults input.new ≡ I.faults input.old)
         × (result.0 ≡ output) }
     ensures ends { IfSome (command_of (map string_bytes words.now))
-        (λ command. Ends command (I.left input.old) (I.left input.new) (O.held output)
-        (O.held result.0) result.2) }
-    ensures taken { IsTakenWithin (I.left input.old) (I.left input.new) }
-    ensures headline { result.2 ≡ Status.Done
-        → command_of (map string_bytes words.now) ≡ Some command.Lab
-        → IfSome (I.left input.old)
-        (λ octets. IsHeadline octets (O.held output) (O.held result.0)) }
+        (λ command. Ends command (I.gave input.old) (I.gave input.new) (I.ended input.new) (O.put output)
+        (O.put result.0) result.2) }
+    ensures taken { IsTakenWithin (I.gave input.old) (I.gave input.new) }
     ensures read_fault { result.2 ≡ Status.ReadFault
         → Rose (I.faults input.old) (I.faults input.new) }
     ensures write_fault { result.2 ≡ Status.WriteFault
@@ -83,7 +78,7 @@ pub fn run<
         → Rose (S.faults spawner.old) (S.faults spawner.new)
         ⊎ Rose (P.faults ports.old) (P.faults ports.new) }
     ensures complete { IfSome (command_of (map string_bytes words.now))
-        (λ command. IsSomeAnd (I.left input.old) (IsTaken command)
+        (λ command. (octets : List ℕ) → Took (I.gave input.old) (I.gave input.new) octets → IsTaken command octets
         → ¬ Rose (I.faults input.old) (I.faults input.new)
         → ¬ Rose (O.faults output) (O.faults result.0)
         → IsDoneUnlessMemory result.2) }
@@ -91,49 +86,46 @@ pub fn run<
         × (O.faults output ≤ O.faults result.0) × (P.faults ports.old ≤ P.faults ports.new)
         × (S.faults spawner.old ≤ S.faults spawner.new) }
     ensures grid { IfSome (grid_size_of (map string_bytes words.now))
-        (λ size. GridEnds size (O.held output) (O.held result.0) result.2) }
+        (λ size. GridEnds size (O.put output) (O.put result.0) result.2) }
     ensures grid_unread { IfSome (grid_size_of (map string_bytes words.now))
-        (λ _. (I.left input.new ≡ I.left input.old) × (I.faults input.new ≡ I.faults input.old)) }
-    ensures grid_headline { result.2 ≡ Status.Done
-        → IfSome (grid_size_of (map string_bytes words.now))
-        (λ size. IsGridHeadline size (O.held output) (O.held result.0)) }
+        (λ _. (I.gave input.new ≡ I.gave input.old) × (I.ended input.new ≡ I.ended input.old) × (I.faults input.new ≡ I.faults input.old)) }
     ensures grid_complete { IfSome (grid_size_of (map string_bytes words.now))
         (λ size. IsOk (grid_end size) → ¬ Rose (O.faults output) (O.faults result.0)
         → IsDoneUnlessMemory result.2) }
     ensures daemon { IfSome (daemon_of (map string_bytes words.now)) (λ asked.
-        DaemonEnds (I.left input.old) (I.left input.new) (record {
+        DaemonEnds (I.gave input.old) (I.gave input.new) (I.ended input.new) (record {
           boot = asked.0;
           turns = asked.1;
           given = T.given pacer;
           given' = T.given result.1;
           ended = T.ended result.1;
-          held = O.held output;
-          held' = O.held result.0;
+          put = O.put output;
+          put' = O.put result.0;
           opened = P.opened ports.old;
           opened' = P.opened ports.new;
           closed = P.closed ports.old;
           closed' = P.closed ports.new;
         }) result.2) }
     ensures daemon_complete { IfSome (daemon_of (map string_bytes words.now)) (λ asked.
-        IsSomeAnd (I.left input.old) IsConfiguration
+        (octets : List ℕ) → Took (I.gave input.old) (I.gave input.new) octets → IsConfiguration octets
         → ¬ Rose (I.faults input.old) (I.faults input.new)
         → ¬ Rose (O.faults output) (O.faults result.0)
         → ¬ Rose (P.faults ports.old) (P.faults ports.new)
         → ¬ Rose (S.faults spawner.old) (S.faults spawner.new)
         → IsDoneUnlessMemory result.2) }
     ensures walk { IfSome (walk_of (map string_bytes words.now)) (λ asked.
-        WalkEnds asked.0 asked.1 (I.left input.old) (I.left input.new) (O.held output)
-        (O.held result.0) result.2) }
+        WalkEnds asked.0 asked.1 (I.gave input.old) (I.gave input.new) (I.ended input.new) (O.put output)
+        (O.put result.0) result.2) }
     ensures walk_complete { IfSome (walk_of (map string_bytes words.now)) (λ asked.
-        IsSomeAnd (I.left input.old) (IsWalkable asked.0 asked.1)
+        (octets : List ℕ) → Took (I.gave input.old) (I.gave input.new) octets → IsWalkable asked.0 asked.1 octets
         → ¬ Rose (I.faults input.old) (I.faults input.new)
         → ¬ Rose (O.faults output) (O.faults result.0)
         → IsDoneUnlessMemory result.2) }
     ensures weave { IfSome (weave_of (map string_bytes words.now)) (λ _.
-        WeaveEnds (I.left input.old) (I.left input.new) (O.held output) (O.held result.0)
+        WeaveEnds (I.gave input.old) (I.gave input.new) (I.ended input.new) (O.put output) (O.put result.0)
         result.2) }
     ensures weave_complete { IfSome (weave_of (map string_bytes words.now)) (λ _.
-        IsSomeAnd (I.left input.old) CanBeWoven
+        (octets : List ℕ) → Took (I.gave input.old) (I.gave input.new) octets → CanBeWoven octets
         → ¬ Rose (I.faults input.old) (I.faults input.new)
         → ¬ Rose (O.faults output) (O.faults result.0)
         → IsDoneUnlessMemory result.2) }

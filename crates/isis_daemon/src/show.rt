@@ -1,6 +1,7 @@
 //! The fields of PDUs, line by line.
-ghost use Rattle.std.specs.Prelude.{◌≡◌, ◌≤◌, ◌++◌, [], length, Some, IsSomeAnd, OnOk};
+ghost use Rattle.std.specs.Prelude.{◌≡◌, ◌≤◌, ◌++◌, [], length, ℕ, List, OnOk};
 ghost use Rattle.isis_edge.specs.Faults.{Rose};
+ghost use Rattle.isis_edge.specs.Told.{Took};
 ghost use Rattle.isis_daemon.specs.Runs.{input_limit, Ends, IsTaken, IsDoneUnlessMemory};
 ghost use Rattle.isis_daemon.specs.ShowText.{shown_line, shown_text};
 ghost use Rattle.isis_daemon.specs.ShownLeft.{shown_left, count_of_lines_left};
@@ -20,13 +21,14 @@ use std::alloc::Global;
 
 /// Reads lines of hex text, each one PDU, and writes their fields. Empty lines are skipped, but counted.
 pub fn show<I: Source, O: Sink>(alloc: Global, input: &mut I, output: &mut O) -> Status
-    ensures ends { Ends Command.Show (I.left input.old) (I.left input.new) (O.held output.old)
-        (O.held output.new) result }
+    ensures ends { Ends Command.Show (I.gave input.old) (I.gave input.new) (I.ended input.new)
+        (O.put output.old) (O.put output.new) result }
     ensures read_fault { result ≡ Status.ReadFault
         → Rose (I.faults input.old) (I.faults input.new) }
     ensures write_fault { result ≡ Status.WriteFault
         → Rose (O.faults output.old) (O.faults output.new) }
-    ensures complete { IsSomeAnd (I.left input.old) (IsTaken Command.Show)
+    ensures complete { (octets : List ℕ) → Took (I.gave input.old) (I.gave input.new) octets
+        → IsTaken Command.Show octets
         → ¬ Rose (I.faults input.old) (I.faults input.new)
         → ¬ Rose (O.faults output.old) (O.faults output.new)
         → IsDoneUnlessMemory result }

@@ -1,12 +1,11 @@
 //! Texts made of an input: the report of a script, the fields of PDUs, the summary of a grid.
-ghost use Rattle.std.specs.Prelude.{◌≡◌, ◌≤◌, [], length, map, Some, None, string_bytes, IfSome, IsOk, IsSomeAnd, ◌↔◌};
+ghost use Rattle.std.specs.Prelude.{◌≡◌, ◌≤◌, ℕ, List, length, map, string_bytes, IfSome, IsOk, ◌↔◌};
 ghost use Rattle.isis_edge.specs.Faults.{Rose};
-ghost use Rattle.isis_edge.specs.Told.{TellsSame};
+ghost use Rattle.isis_edge.specs.Told.{Took};
 ghost use Rattle.lab_grid.specs.GridRuns.{grid_end};
 ghost use Rattle.isis_daemon.specs.Commands.{command_of, grid_size_of, AreNoText};
 ghost use Rattle.isis_daemon.specs.GridEnds.{GridEnds};
-ghost use Rattle.isis_daemon.specs.Headline.{IsHeadline, IsGridHeadline};
-ghost use Rattle.isis_daemon.specs.Runs.{input_limit, Ends, IsTaken, IsTakenWithin, IsDoneUnlessMemory};
+ghost use Rattle.isis_daemon.specs.Runs.{input_limit, EndsOn, Ends, IsTaken, IsTakenWithin, IsDoneUnlessMemory};
 
 use crate::command::{Command, command_of, grid_size_of};
 use crate::grid::grid;
@@ -28,34 +27,27 @@ pub(crate) fn run_text<I: Source, O: Sink>(
 ) -> (O, Status)
     ensures usage { (result.1 ≡ Status.Usage) ↔ AreNoText (map string_bytes words.now) }
     ensures untouched { result.1 ≡ Status.Usage
-        → (I.left input.new ≡ I.left input.old) × (I.faults input.new ≡ I.faults input.old)
+        → (I.gave input.new ≡ I.gave input.old) × (I.ended input.new ≡ I.ended input.old) × (I.faults input.new ≡ I.faults input.old)
         × (result.0 ≡ output) }
     ensures ends { IfSome (command_of (map string_bytes words.now))
-        (λ command. Ends command (I.left input.old) (I.left input.new) (O.held output)
-        (O.held result.0) result.1) }
-    ensures taken { IsTakenWithin (I.left input.old) (I.left input.new) }
-    ensures headline { result.1 ≡ Status.Done
-        → command_of (map string_bytes words.now) ≡ Some Command.Lab
-        → IfSome (I.left input.old)
-        (λ octets. IsHeadline octets (O.held output) (O.held result.0)) }
+        (λ command. Ends command (I.gave input.old) (I.gave input.new) (I.ended input.new) (O.put output)
+        (O.put result.0) result.1) }
+    ensures taken { IsTakenWithin (I.gave input.old) (I.gave input.new) }
     ensures read_fault { result.1 ≡ Status.ReadFault
         → Rose (I.faults input.old) (I.faults input.new) }
     ensures write_fault { result.1 ≡ Status.WriteFault
         → Rose (O.faults output) (O.faults result.0) }
     ensures complete { IfSome (command_of (map string_bytes words.now))
-        (λ command. IsSomeAnd (I.left input.old) (IsTaken command)
+        (λ command. (octets : List ℕ) → Took (I.gave input.old) (I.gave input.new) octets → IsTaken command octets
         → ¬ Rose (I.faults input.old) (I.faults input.new)
         → ¬ Rose (O.faults output) (O.faults result.0)
         → IsDoneUnlessMemory result.1) }
     ensures later { (I.faults input.old ≤ I.faults input.new)
         × (O.faults output ≤ O.faults result.0) }
     ensures grid { IfSome (grid_size_of (map string_bytes words.now))
-        (λ size. GridEnds size (O.held output) (O.held result.0) result.1) }
+        (λ size. GridEnds size (O.put output) (O.put result.0) result.1) }
     ensures grid_unread { IfSome (grid_size_of (map string_bytes words.now))
-        (λ _. (I.left input.new ≡ I.left input.old) × (I.faults input.new ≡ I.faults input.old)) }
-    ensures grid_headline { result.1 ≡ Status.Done
-        → IfSome (grid_size_of (map string_bytes words.now))
-        (λ size. IsGridHeadline size (O.held output) (O.held result.0)) }
+        (λ _. (I.gave input.new ≡ I.gave input.old) × (I.ended input.new ≡ I.ended input.old) × (I.faults input.new ≡ I.faults input.old)) }
     ensures grid_complete { IfSome (grid_size_of (map string_bytes words.now))
         (λ size. IsOk (grid_end size) → ¬ Rose (O.faults output) (O.faults result.0)
         → IsDoneUnlessMemory result.1) }
@@ -79,17 +71,14 @@ pub(crate) fn execute<I: Source, O: Sink>(
     input: &mut I,
     output: &mut O,
 ) -> Status
-    ensures ends { Ends command (I.left input.old) (I.left input.new) (O.held output.old)
-        (O.held output.new) result }
-    ensures taken { IsTakenWithin (I.left input.old) (I.left input.new) }
-    ensures headline { result ≡ Status.Done → command ≡ Command.Lab
-        → IfSome (I.left input.old)
-        (λ octets. IsHeadline octets (O.held output.old) (O.held output.new)) }
+    ensures ends { Ends command (I.gave input.old) (I.gave input.new) (I.ended input.new) (O.put output.old)
+        (O.put output.new) result }
+    ensures taken { IsTakenWithin (I.gave input.old) (I.gave input.new) }
     ensures read_fault { result ≡ Status.ReadFault
         → Rose (I.faults input.old) (I.faults input.new) }
     ensures write_fault { result ≡ Status.WriteFault
         → Rose (O.faults output.old) (O.faults output.new) }
-    ensures complete { IsSomeAnd (I.left input.old) (IsTaken command)
+    ensures complete { (octets : List ℕ) → Took (I.gave input.old) (I.gave input.new) octets → IsTaken command octets
         → ¬ Rose (I.faults input.old) (I.faults input.new)
         → ¬ Rose (O.faults output.old) (O.faults output.new)
         → IsDoneUnlessMemory result }
@@ -100,26 +89,33 @@ pub(crate) fn execute<I: Source, O: Sink>(
         Ok(octets) => octets,
         Err(fault) => return Status::from(fault),
     };
+    put_text(alloc, command, octets.as_slice(), output)
+}
+
+/// Writes a command's text of what was read.
+fn put_text<O: Sink>(alloc: Global, command: Command, octets: &[u8], output: &mut O) -> Status
+    requires { length octets.now ≤ input_limit }
+    ensures ends { EndsOn command octets.now (O.put output.old) (O.put output.new) result }
+    ensures write_fault { result ≡ Status.WriteFault
+        → Rose (O.faults output.old) (O.faults output.new) }
+    ensures complete { IsTaken command octets.now → ¬ Rose (O.faults output.old) (O.faults output.new)
+        → IsDoneUnlessMemory result }
+    ensures later { O.faults output.old ≤ O.faults output.new }
+{
     match command {
-        Command::Lab => lab(alloc, octets.as_slice(), output),
-        Command::Show => put_shown(alloc, octets.as_slice(), output),
-        Command::Routes6 { level, system } => {
-            put_routes6(alloc, level, system, octets.as_slice(), output)
-        }
+        Command::Lab => lab(alloc, octets, output),
+        Command::Show => put_shown(alloc, octets, output),
+        Command::Routes6 { level, system } => put_routes6(alloc, level, system, octets, output),
         Command::Alternates { level, system } => {
-            put_alternates(alloc, level, system, octets.as_slice(), output)
+            put_alternates(alloc, level, system, octets, output)
         }
     }
 }
 
 /// Plays a script, and writes its report.
 fn lab<O: Sink>(alloc: Global, text: &[u8], output: &mut O) -> Status
-    requires { length text.now ≤ input_limit }
-    ensures ends { Ends Command.Lab (Some text.now) (Some []) (O.held output.old)
-        (O.held output.new) result }
-    ensures headline { result ≡ Status.Done
-        → IsHeadline text.now (O.held output.old) (O.held output.new) }
-    ensures read { ¬ (result ≡ Status.ReadFault) }
+    ensures ends { EndsOn Command.Lab text.now (O.put output.old)
+        (O.put output.new) result }
     ensures write_fault { result ≡ Status.WriteFault
         → Rose (O.faults output.old) (O.faults output.new) }
     ensures later { O.faults output.old ≤ O.faults output.new }
@@ -139,9 +135,8 @@ fn lab<O: Sink>(alloc: Global, text: &[u8], output: &mut O) -> Status
 /// Writes the fields of the PDUs of an input.
 fn put_shown<O: Sink>(alloc: Global, input: &[u8], output: &mut O) -> Status
     requires { length input.now ≤ input_limit }
-    ensures ends { Ends Command.Show (Some input.now) (Some []) (O.held output.old)
-        (O.held output.new) result }
-    ensures read { ¬ (result ≡ Status.ReadFault) }
+    ensures ends { EndsOn Command.Show input.now (O.put output.old)
+        (O.put output.new) result }
     ensures write_fault { result ≡ Status.WriteFault
         → Rose (O.faults output.old) (O.faults output.new) }
     ensures later { O.faults output.old ≤ O.faults output.new }
@@ -161,10 +156,8 @@ fn put_routes6<O: Sink>(
     input: &[u8],
     output: &mut O,
 ) -> Status
-    requires { length input.now ≤ input_limit }
-    ensures ends { Ends (Command.Routes6 level system) (Some input.now) (Some [])
-        (O.held output.old) (O.held output.new) result }
-    ensures read { ¬ (result ≡ Status.ReadFault) }
+    ensures ends { EndsOn (Command.Routes6 level system) input.now
+        (O.put output.old) (O.put output.new) result }
     ensures write_fault { result ≡ Status.WriteFault
         → Rose (O.faults output.old) (O.faults output.new) }
     ensures later { O.faults output.old ≤ O.faults output.new }
@@ -183,10 +176,8 @@ fn put_alternates<O: Sink>(
     input: &[u8],
     output: &mut O,
 ) -> Status
-    requires { length input.now ≤ input_limit }
-    ensures ends { Ends (Command.Alternates level system) (Some input.now) (Some [])
-        (O.held output.old) (O.held output.new) result }
-    ensures read { ¬ (result ≡ Status.ReadFault) }
+    ensures ends { EndsOn (Command.Alternates level system) input.now
+        (O.put output.old) (O.put output.new) result }
     ensures write_fault { result ≡ Status.WriteFault
         → Rose (O.faults output.old) (O.faults output.new) }
     ensures later { O.faults output.old ≤ O.faults output.new }

@@ -1,8 +1,9 @@
 //! The command `walk`: the walk of a packet after a script.
-ghost use Rattle.std.specs.Prelude.{◌≡◌, ◌≤◌, [], length, Some, IsSomeAnd};
+ghost use Rattle.std.specs.Prelude.{◌≡◌, ◌≤◌, ℕ, List};
 ghost use Rattle.isis_edge.specs.Faults.{Rose};
-ghost use Rattle.isis_daemon.specs.Runs.{input_limit, IsTakenWithin, IsDoneUnlessMemory};
-ghost use Rattle.isis_daemon.specs.WalkEnds.{WalkEnds, IsWalkable};
+ghost use Rattle.isis_edge.specs.Told.{Took};
+ghost use Rattle.isis_daemon.specs.Runs.{IsTakenWithin, IsDoneUnlessMemory};
+ghost use Rattle.isis_daemon.specs.WalkEnds.{WalkEndsOn, WalkEnds, IsWalkable};
 
 use crate::status::{INPUT_LIMIT, Status};
 use isis_base::Prefix;
@@ -20,14 +21,14 @@ pub(crate) fn walk<I: Source, O: Sink>(
     output: &mut O,
 ) -> Status
     ensures usage { ¬ (result ≡ Status.Usage) }
-    ensures ends { WalkEnds name.now prefix (I.left input.old) (I.left input.new)
-        (O.held output.old) (O.held output.new) result }
-    ensures taken { IsTakenWithin (I.left input.old) (I.left input.new) }
+    ensures ends { WalkEnds name.now prefix (I.gave input.old) (I.gave input.new) (I.ended input.new)
+        (O.put output.old) (O.put output.new) result }
+    ensures taken { IsTakenWithin (I.gave input.old) (I.gave input.new) }
     ensures read_fault { result ≡ Status.ReadFault
         → Rose (I.faults input.old) (I.faults input.new) }
     ensures write_fault { result ≡ Status.WriteFault
         → Rose (O.faults output.old) (O.faults output.new) }
-    ensures complete { IsSomeAnd (I.left input.old) (IsWalkable name.now prefix)
+    ensures complete { (octets : List ℕ) → Took (I.gave input.old) (I.gave input.new) octets → IsWalkable name.now prefix octets
         → ¬ Rose (I.faults input.old) (I.faults input.new)
         → ¬ Rose (O.faults output.old) (O.faults output.new)
         → IsDoneUnlessMemory result }
@@ -49,10 +50,8 @@ fn walk_after<O: Sink>(
     prefix: Prefix,
     output: &mut O,
 ) -> Status
-    requires { length text.now ≤ input_limit }
-    ensures ends { WalkEnds name.now prefix (Some text.now) (Some []) (O.held output.old)
-        (O.held output.new) result }
-    ensures read { ¬ (result ≡ Status.ReadFault) }
+    ensures ends { WalkEndsOn name.now prefix text.now (O.put output.old)
+        (O.put output.new) result }
     ensures write_fault { result ≡ Status.WriteFault
         → Rose (O.faults output.old) (O.faults output.new) }
     ensures later { O.faults output.old ≤ O.faults output.new }

@@ -1,3 +1,2 @@
 -- The lemmas, a module for each topic.
 pub mod ToldLemmas
-mod FrameLemmas

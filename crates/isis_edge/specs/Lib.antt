@@ -1,6 +1,5 @@
--- The definitions: faults, frames, memory, sinks, sources, told, texts.
+-- The definitions: faults, memory, sinks, sources, told, texts.
 pub mod Faults
-pub mod Frames
 pub mod Memory
 pub mod Sinks
 pub mod Sources

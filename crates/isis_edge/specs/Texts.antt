@@ -1,7 +1,5 @@
 -- What is printed of faults (own).
 use Rattle.std.specs.Prelude.{ℕ, List, codes}
-use Rattle.isis_edge.specs.declared.frame.FrameFault.{FrameFault}
-use Rattle.isis_edge.specs.declared.frame.FrameFault.TheVariants as frame
 use Rattle.isis_edge.specs.declared.reading.WholeFault.{WholeFault}
 use Rattle.isis_edge.specs.declared.reading.WholeFault.TheVariants as whole
 use Rattle.isis_edge.specs.declared.text.TextFailed.{TextFailed}
@@ -17,9 +15,3 @@ whole_fault_text whole.OutOfMemory = codes "out of memory"
 abbrev pub text_failed_text : TextFailed → List ℕ
 text_failed_text text.Write = codes "write fault"
 text_failed_text text.OutOfMemory = codes "out of memory"
-
--- why a datagram has no frame, in words (own)
-abbrev pub frame_fault_text : FrameFault → List ℕ
-frame_fault_text frame.Version = codes "the datagram begins with ISU1"
-frame_fault_text frame.Short = codes "the datagram has fewer than 14 octets"
-frame_fault_text frame.Magic = codes "the datagram doesn't begin with ISU2"

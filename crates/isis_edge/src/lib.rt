@@ -1,20 +1,19 @@
 //! The outside as the layers above see it: what octets are read from and written to.
 //!
-//! A source or a sink tells, for contracts alone, the octets that it has left or holds, where they are known, and
-//! a count of its faults, which never falls. So a fault is answered only where a count rose. This is the project's
+//! A source tells, for contracts alone, the octets that it gave and whether it is at its end, a sink the octets put into
+//! it, and both a count of faults, which never falls. So a fault is answered only where a count rose. This is the project's
 //! own; no standard speaks of it.
 //!
 //! - `source.rt`, `sink.rt`: the traits
-//! - `frame.rt`: the datagrams that PDUs are sent in; `laws.rt`: that a wrapped PDU is unwrapped as it was
 //! - `reading.rt`, `writing.rt`: a whole input read, a whole piece written
 //! - `text.rt`: texts that are made as they are written, and the one writer of them all
 //! - `memory_source.rt`, `memory_sink.rt`: their forms in memory; `calls.rt`: which calls of these fail
 //! - `standard.rt`: the thin adapters over readers and writers of the system
+//!
+//! `wrap` and `unwrap`, the datagrams that PDUs are sent in, are isis_pdu's and passed on.
 #![tactic(auto)]
 
 mod calls;
-mod frame;
-pub mod laws;
 mod memory_sink;
 mod memory_source;
 mod reading;
@@ -25,7 +24,7 @@ mod text;
 mod writing;
 
 pub use calls::Calls;
-pub use frame::{FrameFault, unwrap, wrap};
+pub use isis_pdu::{FrameFault, unwrap, wrap};
 pub use memory_sink::MemorySink;
 pub use memory_source::MemorySource;
 pub use reading::{WholeFault, read_whole};

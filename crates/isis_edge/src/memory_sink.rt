@@ -1,5 +1,5 @@
 //! A sink in memory.
-ghost use Rattle.std.specs.Prelude.{◌≡◌, ◌-◌, ◌<◌, ◌≤◌, ◌↔◌, ◌⊎◌, [], length, min, Some, IfOk};
+ghost use Rattle.std.specs.Prelude.{◌≡◌, ◌-◌, ◌<◌, ◌≤◌, ◌↔◌, ◌⊎◌, [], length, min, IfOk};
 ghost use Rattle.isis_edge.specs.Faults.{Rose};
 ghost use Rattle.isis_edge.specs.Sinks.{Writes, OnFailed, UnlessFailed, IfPut};
 ghost use Rattle.isis_edge.specs.Memory.{IsToFail, after_write};
@@ -27,7 +27,7 @@ impl Model for MemorySink {
     ghost Value = { MemoryOutput };
 
     ghost view = { λ s. record {
-      held = s.held.items;
+      put = s.held.items;
       room = s.room;
       piece = s.piece;
       failing = s.calls.failing.items;
@@ -50,7 +50,7 @@ impl MemorySink {
     ) -> Result<MemorySink, OutOfMemory>
         requires { 0 < piece }
         ensures { IfOk result (λ sink. sink
-            ≡ record { held = []; room = room; piece = piece; failing = failing.items; calls = 0; faults = 0 }) }
+            ≡ record { put = []; room = room; piece = piece; failing = failing.items; calls = 0; faults = 0 }) }
     {
         let held = Vec::with_capacity(alloc, room)?;
         let calls = Calls {
@@ -68,27 +68,27 @@ impl MemorySink {
 
     /// The octets that it holds.
     pub fn octets(&self) -> &[u8]
-        ensures { result.now ≡ self.now.held }
+        ensures { result.now ≡ self.now.put }
     {
         self.held.as_slice()
     }
 }
 
 impl Sink for MemorySink {
-    ghost held = { λ s. Some s.held };
+    ghost put = { λ s. s.put };
 
     ghost faults = { λ s. s.faults };
 
     fn write(&mut self, piece: &[u8]) -> Put
         requires { 0 < length piece.now }
-        ensures octets { Writes (Some self.old.held) (Some self.new.held) result piece.now }
+        ensures octets { Writes self.old.put self.new.put result piece.now }
         ensures later { self.old.faults ≤ self.new.faults }
         ensures cause { OnFailed result (Rose self.old.faults self.new.faults) }
         ensures quiet { UnlessFailed result (self.new.faults ≡ self.old.faults) }
         ensures fails { (result ≡ Put.Failed)
-            ↔ (IsToFail self.old.failing self.old.calls ⊎ (self.old.room ≤ length self.old.held)) }
+            ↔ (IsToFail self.old.failing self.old.calls ⊎ (self.old.room ≤ length self.old.put)) }
         ensures count { IfPut result (λ count. count
-            ≡ min (min self.old.piece (length piece.now)) (self.old.room - length self.old.held)) }
+            ≡ min (min self.old.piece (length piece.now)) (self.old.room - length self.old.put)) }
         ensures after { self.new ≡ after_write self.old piece.now result }
     {
         let is_to_fail = self.calls.next_fails();

@@ -1,5 +1,5 @@
 //! A source in memory.
-ghost use Rattle.std.specs.Prelude.{◌≡◌, ◌<◌, ◌≤◌, ◌↔◌, length, min, Some};
+ghost use Rattle.std.specs.Prelude.{◌≡◌, ◌<◌, ◌≤◌, ◌↔◌, [], false, length, min};
 ghost use Rattle.isis_edge.specs.Faults.{Rose};
 ghost use Rattle.isis_edge.specs.Sources.{Reads, OnFailed, UnlessFailed, IfGave};
 ghost use Rattle.isis_edge.specs.Memory.{IsToFail, after_read};
@@ -15,17 +15,20 @@ use std::marker::Model;
 pub struct MemorySource {
     octets: Octets,
     taken: usize,
+    ended: bool,
     piece: usize,
     calls: Calls,
 }
 
 impl Model for MemorySource {
-    ghost use Rattle.std.specs.Prelude.{◌<◌, ◌≤◌, length, drop};
+    ghost use Rattle.std.specs.Prelude.{◌<◌, ◌≤◌, length, take, drop};
     ghost use Rattle.isis_edge.specs.Memory.{MemoryInput};
 
     ghost Value = { MemoryInput };
 
     ghost view = { λ s. record {
+      gave = take s.taken s.octets;
+      ended = s.ended;
       left = drop s.taken s.octets;
       piece = s.piece;
       failing = s.calls.failing.items;
@@ -42,7 +45,7 @@ impl MemorySource {
     pub fn new(octets: Octets, piece: usize, failing: Vec<u64>) -> MemorySource
         requires { 0 < piece }
         ensures { result
-            ≡ record { left = octets; piece = piece; failing = failing.items; calls = 0; faults = 0 } }
+            ≡ record { gave = []; ended = false; left = octets; piece = piece; failing = failing.items; calls = 0; faults = 0 } }
     {
         let calls = Calls {
             failing,
@@ -52,6 +55,7 @@ impl MemorySource {
         MemorySource {
             octets,
             taken: 0,
+            ended: false,
             piece,
             calls,
         }
@@ -59,13 +63,16 @@ impl MemorySource {
 }
 
 impl Source for MemorySource {
-    ghost left = { λ s. Some s.left };
+    ghost gave = { λ s. s.gave };
+
+    ghost ended = { λ s. s.ended };
 
     ghost faults = { λ s. s.faults };
 
     fn read(&mut self, into: &mut [u8]) -> Got
         requires { 0 < length into.old }
-        ensures octets { Reads (Some self.old.left) (Some self.new.left) result into.new }
+        ensures octets { Reads self.old.gave self.new.gave self.old.ended self.new.ended result
+            into.new }
         ensures later { self.old.faults ≤ self.new.faults }
         ensures cause { OnFailed result (Rose self.old.faults self.new.faults) }
         ensures quiet { UnlessFailed result (self.new.faults ≡ self.old.faults) }
@@ -80,11 +87,13 @@ impl Source for MemorySource {
         }
         let left = &self.octets.as_slice()[self.taken..];
         if left.is_empty() {
+            self.ended = true;
             return Got::End;
         }
         let count = self.piece.min(into.len()).min(left.len());
         into[..count].copy_from_slice(&left[..count]);
         self.taken += count;
+        self.ended = false;
         Got::Some(count)
     }
 }

@@ -1,5 +1,5 @@
 //! A whole input, read to its end.
-ghost use Rattle.std.specs.Prelude.{◌≡◌, ℕ, ◌+◌, ◌<◌, ◌≤◌, List, [], length, Some, IfSome, IsSomeAnd, IfOk, IsOkUnless, vec_len};
+ghost use Rattle.std.specs.Prelude.{◌≡◌, ℕ, ◌+◌, ◌<◌, ◌≤◌, List, length, true, Ok, Err, IfOk, IsOkUnless, vec_len};
 ghost use Rattle.isis_edge.specs.Faults.{Rose};
 ghost use Rattle.isis_edge.specs.Told.{Took};
 
@@ -76,22 +76,24 @@ pub fn read_whole<I: Source>(
     source: &mut I,
     limit: usize,
 ) -> Result<Octets, WholeFault>
-    ensures ok { IfOk result (λ octets. IfSome (I.left source.old)
-        (λ all. (octets ≡ all) × (I.left source.new ≡ Some []))) }
+    // What was read is what the source gave meanwhile, and then it gave its end.
+    ensures ok { IfOk result (λ octets. Took (I.gave source.old) (I.gave source.new) octets
+        × (I.ended source.new ≡ true)) }
     ensures within { IfOk result (λ octets. length octets ≤ limit) }
     ensures too_long { result ≡ Err WholeFault.TooLong
-        → IfSome (I.left source.old) (λ all. limit < length all) }
+        → (octets : List ℕ) × (limit < length octets)
+        × Took (I.gave source.old) (I.gave source.new) octets }
     ensures fault { result ≡ Err WholeFault.Fault
         → Rose (I.faults source.old) (I.faults source.new) }
     ensures later { I.faults source.old ≤ I.faults source.new }
 
-    // Nothing but want of memory stands in the way of an input that fits and is read without a fault.
-    ensures complete { IsSomeAnd (I.left source.old) (λ all. length all ≤ limit)
-        → ¬ Rose (I.faults source.old) (I.faults source.new) → IsOkUnless result WholeFault.OutOfMemory }
+    // Nothing but want of memory stands in the way where all that the source gave fits, and no read failed.
+    ensures complete { (octets : List ℕ) → Took (I.gave source.old) (I.gave source.new) octets
+        → length octets ≤ limit → ¬ Rose (I.faults source.old) (I.faults source.new) → IsOkUnless result WholeFault.OutOfMemory }
 
-    // Whatever the answer, the source lost its first octets, at most one more than the limit.
+    // Whatever the answer, the source gave at most one octet more than the limit.
     ensures taken { (octets : List ℕ) × (length octets ≤ limit + 1)
-        × Took (I.left source.old) (I.left source.new) octets }
+        × Took (I.gave source.old) (I.gave source.new) octets }
 {
     let mut store = zeros(alloc, BUFFER)?;
     let buffer = store.as_mut_slice();

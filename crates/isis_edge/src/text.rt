@@ -59,9 +59,9 @@ pub fn write_text<T: Text, O: Sink>(
     text: &mut T,
     output: &mut O,
 ) -> Result<(), TextFailed>
-    ensures ok { OnOk result (Wrote (O.held output.old) (O.held output.new) (T.rest text.old)) }
+    ensures ok { OnOk result (Wrote (O.put output.old) (O.put output.new) (T.rest text.old)) }
     ensures begun { OnErr result
-        (WrotePrefix (O.held output.old) (O.held output.new) (T.rest text.old)) }
+        (WrotePrefix (O.put output.old) (O.put output.new) (T.rest text.old)) }
     ensures cause { result ≡ Err TextFailed.Write
         → Rose (O.faults output.old) (O.faults output.new) }
     ensures later { O.faults output.old ≤ O.faults output.new }
@@ -88,8 +88,8 @@ pub fn write_text<T: Text, O: Sink>(
 /// Writes what waits, where it fills a page.
 fn settle<O: Sink>(page: &mut Octets, output: &mut O) -> Result<(), TextFailed>
     ensures ok { OnOk result ((front : List ℕ) × (front ++ page.new ≡ page.old)
-        × Wrote (O.held output.old) (O.held output.new) front) }
-    ensures begun { OnErr result (WrotePrefix (O.held output.old) (O.held output.new) page.old) }
+        × Wrote (O.put output.old) (O.put output.new) front) }
+    ensures begun { OnErr result (WrotePrefix (O.put output.old) (O.put output.new) page.old) }
     ensures cause { result ≡ Err TextFailed.Write
         → Rose (O.faults output.old) (O.faults output.new) }
     ensures write { OnErr result (result ≡ Err TextFailed.Write) }
@@ -110,8 +110,8 @@ fn settle<O: Sink>(page: &mut Octets, output: &mut O) -> Result<(), TextFailed>
 /// Writes what waits.
 fn flush<O: Sink>(page: &mut Octets, output: &mut O) -> Result<(), TextFailed>
     ensures same { page.new ≡ page.old }
-    ensures ok { OnOk result (Wrote (O.held output.old) (O.held output.new) page.old) }
-    ensures begun { OnErr result (WrotePrefix (O.held output.old) (O.held output.new) page.old) }
+    ensures ok { OnOk result (Wrote (O.put output.old) (O.put output.new) page.old) }
+    ensures begun { OnErr result (WrotePrefix (O.put output.old) (O.put output.new) page.old) }
     ensures cause { OnErr result (Rose (O.faults output.old) (O.faults output.new)) }
     ensures write { OnErr result (result ≡ Err TextFailed.Write) }
     ensures later { O.faults output.old ≤ O.faults output.new }

@@ -25,9 +25,9 @@ impl Error for WriteFailed {}
 
 /// Writes the whole piece. At its first write that fails it stops; then a prefix of the piece was written.
 pub fn write_all<O: Sink>(sink: &mut O, piece: &[u8]) -> Result<(), WriteFailed>
-    ensures ok { OnOk result (Wrote (O.held sink.old) (O.held sink.new) piece.now) }
+    ensures ok { OnOk result (Wrote (O.put sink.old) (O.put sink.new) piece.now) }
     ensures prefix { OnErr result ((count : ℕ) × (count < length piece.now)
-        × Wrote (O.held sink.old) (O.held sink.new) (take count piece.now)) }
+        × Wrote (O.put sink.old) (O.put sink.new) (take count piece.now)) }
     ensures fault { OnErr result (Rose (O.faults sink.old) (O.faults sink.new)) }
     ensures later { O.faults sink.old ≤ O.faults sink.new }
     ensures complete { ¬ Rose (O.faults sink.old) (O.faults sink.new) → IsOk result }

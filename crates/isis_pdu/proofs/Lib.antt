@@ -2,3 +2,4 @@
 pub mod ReadLemmas
 pub mod RoundLemmas
 pub mod FrameLemmas
+mod DatagramLemmas

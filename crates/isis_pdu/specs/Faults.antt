@@ -1,5 +1,7 @@
 -- What is printed of faults (own).
 use Rattle.std.specs.Prelude.{ℕ, List, ◌++◌, codes, decimal}
+use Rattle.isis_pdu.specs.declared.frame.FrameFault.{FrameFault}
+use Rattle.isis_pdu.specs.declared.frame.FrameFault.TheVariants as frame
 use Rattle.isis_pdu.specs.declared.fault.PduFault.{PduFault}
 use Rattle.isis_pdu.specs.declared.fault.PduFaultKind.{PduFaultKind}
 use Rattle.isis_pdu.specs.declared.fault.PduFaultKind.TheVariants.{Short, Discriminator, Version, IdLength, PduType, MaxAreas, HeaderLength, CircuitType, PduLength, Tlv}
@@ -20,3 +22,9 @@ kind_text Tlv = codes "the TLV doesn't fit"
 -- what is printed of a fault (own)
 abbrev pub pdu_fault_text : PduFault → List ℕ
 pdu_fault_text fault = codes "at octet " ++ decimal fault.place ++ codes ": " ++ kind_text fault.kind
+
+-- why a datagram has no frame, in words (own)
+abbrev pub frame_fault_text : FrameFault → List ℕ
+frame_fault_text frame.Version = codes "the datagram begins with ISU1"
+frame_fault_text frame.Short = codes "the datagram has fewer than 14 octets"
+frame_fault_text frame.Magic = codes "the datagram doesn't begin with ISU2"

@@ -1,4 +1,4 @@
--- The definitions: views, layout, table, reading, decoded, spelling, faults.
+-- The definitions: views, layout, table, reading, decoded, spelling, faults, frames.
 pub mod Views
 pub mod Layout
 pub mod Table
@@ -6,3 +6,4 @@ pub mod Reading
 pub mod Decoded
 pub mod Spelling
 pub mod Faults
+pub mod Frames

@@ -9,12 +9,14 @@
 //! - `fault.rt`: why octets are no PDU
 //! - `check.rt`: the tests on octets, in order; `fields.rt`: the fields at their offsets; `read.rt`: both together
 //! - `write.rt`: the writing
-//! - `laws.rt`: what is written reads as the value: a function without a body, whose contract is the law
+//! - `frame.rt`: the datagrams that PDUs are sent in over UDP (own)
+//! - `laws.rt`: what is written reads as the value, and a wrapped PDU is unwrapped as it was: functions without a body, whose contracts are the laws
 #![tactic(auto)]
 
 mod check;
 mod fault;
 mod fields;
+mod frame;
 pub mod laws;
 mod parts;
 mod pdu;
@@ -22,6 +24,7 @@ mod read;
 mod write;
 
 pub use fault::{PduFault, PduFaultKind};
+pub use frame::{FrameFault, unwrap, wrap};
 pub use pdu::Pdu;
 pub use read::decode;
 pub use write::{encode, encoded_len};

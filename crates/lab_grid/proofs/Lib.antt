@@ -3,3 +3,5 @@ mod GridLemmas
 mod HeadLemmas
 mod RunLemmas
 mod TallyLemmas
+mod ReadLemmas
+mod RefusalLemmas

@@ -67,6 +67,14 @@ Sums size end (Err OutOfMemory) = Unit {0}
 Sums size end (Err (Refused line reason)) = end ≡ Err (Refused line reason)
 Sums size end (Err (Limit which)) = end ≡ Err (Limit which)
 
+-- the same of a grid's end. No line of a grid's script is refused: at most a limit is passed
+abbrev pub GridSums : ℕ → Result Summary ScriptFault → Type 0
+GridSums size (Ok summary) =
+    IsOkAnd (grid_end size) (λ net. IsSummary size (seen_of net) summary)
+GridSums size (Err OutOfMemory) = Unit {0}
+GridSums size (Err (Refused line reason)) = ⊥
+GridSums size (Err (Limit which)) = grid_end size ≡ Err (Limit which)
+
 -- the claims on links, groups, sweeps and contents, after each event of a lab script
 abbrev pub IsClaimedIn : Script → Type 0
 IsClaimedIn (Keys script) = ⊥

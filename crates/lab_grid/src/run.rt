@@ -4,7 +4,7 @@ ghost use Rattle.lab_script.specs.Scripts.{script_of};
 ghost use Rattle.lab_text.specs.LabClaims.{IsClaimedRun};
 ghost use Rattle.lab_text.specs.LabRuns.{end_of};
 ghost use Rattle.lab_grid.specs.GridText.{grid_text};
-ghost use Rattle.lab_grid.specs.GridRuns.{AreTallied, IsSummary, grid_end, text_end, Sums, IsClaimedIn, IsClaimedGrid};
+ghost use Rattle.lab_grid.specs.GridRuns.{AreTallied, IsSummary, text_end, Sums, GridSums, IsClaimedIn, IsClaimedGrid};
 
 use crate::script::grid_script;
 use crate::summary::Summary;
@@ -14,13 +14,13 @@ use lab_script::{LabScript, Reason, Script, ScriptFault, read_script};
 use lab_text::{Network, play};
 use std::alloc::Global;
 
-/// Runs the script of a grid of `size` rows and as many columns, 1 to 8, and sums up the network at its end. What is refused
-/// is told as of the script. At Ok the claims on links, groups, sweeps and contents held after each of its events, as
+/// Runs the script of a grid of `size` rows and as many columns, 1 to 8, and sums up the network at its end. No line
+/// of the script is refused; a limit that the run passes is answered. At Ok the claims on links, groups, sweeps and contents held after each of its events, as
 /// `lab_text::play` says them (ISO 10589 7.3.17).
 pub fn run_grid(alloc: Global, size: u8) -> Result<Summary, ScriptFault>
     requires some { 1 ≤ size }
     requires few { size ≤ 8 }
-    ensures summary { Sums size (grid_end size) result }
+    ensures summary { GridSums size result }
     ensures claimed { OnOk result (IsClaimedGrid size) }
 {
     let text = match grid_script(alloc, size) {

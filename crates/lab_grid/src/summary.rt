@@ -28,9 +28,9 @@ pub fn write_summary<O: Sink>(
     summary: &Summary,
     output: &mut O,
 ) -> Result<(), TextFailed>
-    ensures ok { OnOk result (Wrote (O.held output.old) (O.held output.new)
+    ensures ok { OnOk result (Wrote (O.put output.old) (O.put output.new)
         (summary_text summary.now)) }
-    ensures begun { OnErr result (WrotePrefix (O.held output.old) (O.held output.new)
+    ensures begun { OnErr result (WrotePrefix (O.put output.old) (O.put output.new)
         (summary_text summary.now)) }
     ensures cause { result ≡ Err TextFailed.Write
         → Rose (O.faults output.old) (O.faults output.new) }

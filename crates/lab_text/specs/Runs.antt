@@ -1,6 +1,6 @@
 -- The report of a script, and how its run ends (own).
-use Rattle.std.specs.Prelude.{◌≡◌, ◌⊎◌, List, ℕ, Option, Result, Ok, Err}
-use Rattle.isis_edge.specs.Told.{Wrote, WrotePrefix, TellsSame}
+use Rattle.std.specs.Prelude.{◌≡◌, ◌⊎◌, List, ℕ, Result, Ok, Err}
+use Rattle.isis_edge.specs.Told.{Wrote, WrotePrefix}
 use Rattle.lab_script.specs.declared.reason.ScriptFault.{ScriptFault}
 use Rattle.lab_script.specs.declared.reason.ScriptFault.TheVariants.{Refused, Limit}
 use Rattle.lab_script.specs.declared.script.Script.{Script}
@@ -21,24 +21,24 @@ outcome_of (Keys script) = keys_outcome script
 outcome_of (Lab script) = lab_outcome script
 
 -- the sink holds a first part of a text more
-abbrev pub WrotePart : (List ℕ → Type 0) → Option (List ℕ) → Option (List ℕ) → Type 0
+abbrev pub WrotePart : (List ℕ → Type 0) → (before now : List ℕ) → Type 0
 WrotePart IsText before now = (text : List ℕ) × IsText text × WrotePrefix before now text
 
 -- how a run with this outcome and such a report ends: the answer has its cause in the script, and the
 -- sink holds the report, a prefix of it, or no more than before
-abbrev pub ReportEnds : (List ℕ → Type 0) → Result (Unit {0}) ScriptFault → Option (List ℕ)
-    → Option (List ℕ) → Result (Unit {0}) RunFault → Type 0
+abbrev pub ReportEnds : (List ℕ → Type 0) → Result (Unit {0}) ScriptFault
+    → (before now : List ℕ) → Result (Unit {0}) RunFault → Type 0
 ReportEnds IsText outcome before now (Ok done) =
     (text : List ℕ) × IsText text × Wrote before now text
 ReportEnds IsText outcome before now (Err (run.Refused line reason)) =
-    (outcome ≡ Err (Refused line reason)) × TellsSame before now
+    (outcome ≡ Err (Refused line reason)) × (now ≡ before)
 ReportEnds IsText outcome before now (Err (run.Limit which)) =
-    (outcome ≡ Err (Limit which)) × TellsSame before now
+    (outcome ≡ Err (Limit which)) × (now ≡ before)
 ReportEnds IsText outcome before now (Err run.Write) = WrotePart IsText before now
 ReportEnds IsText outcome before now (Err run.OutOfMemory) =
-    TellsSame before now ⊎ WrotePart IsText before now
+    (now ≡ before) ⊎ WrotePart IsText before now
 
 -- how the run of a script ends
-abbrev pub RunEnds : Script → Option (List ℕ) → Option (List ℕ) → Result (Unit {0}) RunFault
+abbrev pub RunEnds : Script → (before now : List ℕ) → Result (Unit {0}) RunFault
     → Type 0
 RunEnds script before now end = ReportEnds (IsReport script) (outcome_of script) before now end

@@ -29,8 +29,8 @@ pub(crate) fn run_lab<O: Sink>(
     out: &mut O,
 ) -> Result<(), RunFault>
     requires same { script.now ≡ Lab lab.now }
-    ensures ends { ReportEnds (IsLabReport lab.now) (lab_outcome lab.now) (O.held out.old)
-        (O.held out.new) result }
+    ensures ends { ReportEnds (IsLabReport lab.now) (lab_outcome lab.now) (O.put out.old)
+        (O.put out.new) result }
     ensures claimed { OnOk result (IsClaimedRun lab.now) }
     ensures cause { result ≡ Err RunFault.Write → Rose (O.faults out.old) (O.faults out.new) }
     ensures later { O.faults out.old ≤ O.faults out.new }
@@ -63,8 +63,8 @@ fn write_report<O: Sink>(
     requires routers { length net.now.seen.routers ≡ length lab.now.routers }
     requires links { net.now.seen.links ≡ map ends_of lab.now.links }
     requires dumps { dumps.now ≡ run.dumps_of lab.now.lines }
-    ensures ends { ReportEnds (IsLabReport lab.now) (lab_outcome lab.now) (O.held out.old)
-        (O.held out.new) result }
+    ensures ends { ReportEnds (IsLabReport lab.now) (lab_outcome lab.now) (O.put out.old)
+        (O.put out.new) result }
     ensures cause { result ≡ Err RunFault.Write → Rose (O.faults out.old) (O.faults out.new) }
     ensures later { O.faults out.old ≤ O.faults out.new }
 {

@@ -35,7 +35,7 @@ use std::alloc::Global;
 /// The claims on links and on groups speak of LSP IDs that neither end, or no router of the group, let
 /// go; the other two of all.
 pub fn run_script<O: Sink>(alloc: Global, script: &Script<'_>, out: &mut O) -> Result<(), RunFault>
-    ensures ends { RunEnds script.now (O.held out.old) (O.held out.new) result }
+    ensures ends { RunEnds script.now (O.put out.old) (O.put out.new) result }
     ensures claimed { OnOk result (IsClaimedScript script.now) }
     ensures cause { result ≡ Err RunFault.Write → Rose (O.faults out.old) (O.faults out.new) }
     ensures later { O.faults out.old ≤ O.faults out.new }
@@ -49,8 +49,8 @@ pub fn run_script<O: Sink>(alloc: Global, script: &Script<'_>, out: &mut O) -> R
 /// Runs a keys script and writes its whole report.
 fn run_keys<O: Sink>(alloc: Global, script: &KeysScript<'_>, out: &mut O) -> Result<(), RunFault>
     ensures ends { ReportEnds (IsReport (Keys script.now)) (keys_outcome script.now)
-        (O.held out.old)
-        (O.held out.new) result }
+        (O.put out.old)
+        (O.put out.new) result }
     ensures cause { result ≡ Err RunFault.Write → Rose (O.faults out.old) (O.faults out.new) }
     ensures later { O.faults out.old ≤ O.faults out.new }
 {

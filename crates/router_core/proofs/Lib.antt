@@ -24,6 +24,7 @@ mod LastLemmas
 pub mod RouteLemmas
 mod LeakedUpLemmas
 mod MovedLemmas
+mod CountLemmas
 mod OutbidLemmas
 mod AsideLemmas
 mod NodesLemmas

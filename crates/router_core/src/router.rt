@@ -1,6 +1,7 @@
 //! A router.
 ghost use Rattle.std.specs.Prelude.{◌≡◌, ◌≤◌, ◌-◌, true, length, OnOk, OnErr, IfOk, IfErr, IfSome, MatchOption, false, is_some};
 ghost use Rattle.std.specs.Option.{option_map};
+ghost use Rattle.isis_base.specs.declared.level.Level as level;
 ghost use Rattle.model_router.specs.Both.{at};
 ghost use Rattle.model_router.specs.Places.{nth};
 ghost use Rattle.model_router.specs.Drops.{drops_of};
@@ -21,6 +22,7 @@ ghost use Rattle.router_routes.specs.Outlooks.{outlook_of};
 ghost use Rattle.router_routes.specs.Candidates.{attached_of, AreRoutesOf};
 ghost use Rattle.router_routes.specs.Following.{IsFollowing, IsLevel};
 ghost use Rattle.router_routes.specs.Coming.{FitsIn, IsPut};
+ghost use Rattle.router_routes.specs.Counts.{Counts};
 ghost use Rattle.router_core.specs.Givens.{given};
 ghost use Rattle.router_core.specs.Events.{event_of, Fits, IsThere};
 ghost use Rattle.router_core.specs.Plans.{AreTold, committed, IsReady, IsSound};
@@ -167,25 +169,13 @@ impl Router {
         ensures state { OnOk result (self.new ≡ committed self.old deed.entry) }
         ensures err { OnErr result (self.new ≡ self.old) }
     {
-        let next = match self.machine.following_told(&self.following, &told) {
-            Ok(next) => next,
-            Err(error) => {
-                drop(told);
-                drop(deed);
-                return Err(error);
+        match advance(&mut self.machine, &mut self.following, deed, told) {
+            Ok(()) => {
+                self.marks = marks;
+                Ok(())
             }
-        };
-        drop(told);
-        match self.machine.commit(deed) {
-            Ok(()) => {}
-            Err(error) => {
-                drop(next);
-                return Err(error);
-            }
+            Err(error) => Err(error),
         }
-        put_next(&mut self.following, next);
-        self.marks = marks;
-        Ok(())
     }
 
     /// The routes of the router as it is: for each prefix the best way over the live LSPs of its
@@ -306,6 +296,44 @@ impl Router {
     }
 }
 
+/// A deed is done that tells routes this, and what follows the router then stands in its place. A level's count of repairs rises
+/// by one exactly where some row that may be walked is there another number of times than before.
+fn advance(
+    machine: &mut Machine,
+    following: &mut Following,
+    deed: Deed<'_>,
+    told: Told,
+) -> Result<(), OutOfMemory>
+    requires ready { IsReady machine.old deed }
+    requires told { AreTold (outlook_of machine.old) (outlook_of (committed machine.old deed)) told }
+    requires follows { IsFollowing (outlook_of machine.old) following.old }
+    ensures state { OnOk result (machine.new ≡ committed machine.old deed.entry) }
+    ensures follows { OnOk result (IsFollowing (outlook_of machine.new) following.new) }
+    ensures counted { OnOk result ((level : level.Level)
+        → Counts (at following.old.levels level) (at following.new.levels level)) }
+    ensures err { OnErr result (machine.new ≡ machine.old) }
+    ensures kept { OnErr result (following.new ≡ following.old) }
+{
+    let next = match machine.following_told(following, &told) {
+        Ok(next) => next,
+        Err(error) => {
+            drop(told);
+            drop(deed);
+            return Err(error);
+        }
+    };
+    drop(told);
+    match machine.commit(deed) {
+        Ok(()) => {}
+        Err(error) => {
+            drop(next);
+            return Err(error);
+        }
+    }
+    put_next(following, next);
+    Ok(())
+}
+
 /// What comes stands in the place of what follows the router, where anything comes.
 fn put_next(following: &mut Following, next: Option<Coming>)
     requires { IfSome next (λ c. FitsIn following.old.routes c.routes) }
@@ -336,9 +364,10 @@ fn begun(machine: Machine) -> Result<Router, OutOfMemory>
     }
 }
 
-/// What follows a router from the start on.
+/// What follows a router from the start on. No level's costs were repaired yet.
 fn followed(alloc: Global, machine: &Machine) -> Result<Following, OutOfMemory>
-    ensures { IfOk result (λ f. IsFollowing (outlook_of machine.now) f) }
+    ensures follows { IfOk result (λ f. IsFollowing (outlook_of machine.now) f) }
+    ensures uncounted { IfOk result (λ f. (f.levels.one.changes ≡ 0) × (f.levels.two.changes ≡ 0)) }
 {
     let lent = machine.lent()?;
     Following::new(alloc, &lent)

@@ -7,9 +7,9 @@ use Rattle.isis_base.specs.declared.pdu_kind.PduKind.{PduKind}
 use Rattle.isis_base.specs.declared.pdu_kind.PduKind.TheVariants as kind
 use Rattle.isis_base.specs.Fields.{u32_at}
 use Rattle.isis_base.specs.PduKinds.{header_length}
-use Rattle.isis_edge.specs.declared.frame.FrameFault.{FrameFault}
-use Rattle.isis_edge.specs.declared.frame.FrameFault.TheVariants.{Version, Short, Magic}
-use Rattle.isis_edge.specs.Frames.{unframed}
+use Rattle.isis_pdu.specs.declared.frame.FrameFault.{FrameFault}
+use Rattle.isis_pdu.specs.declared.frame.FrameFault.TheVariants.{Version, Short, Magic}
+use Rattle.isis_pdu.specs.Frames.{unframed}
 use Rattle.isis_pdu.specs.declared.fault.PduFault.{PduFault}
 use Rattle.isis_pdu.specs.Views.{PduView, LanHello, PointHello, Lsp, Csnp, Psnp, tlvs_of_pdu}
 use Rattle.isis_pdu.specs.Layout.{kind_of, body_at, value_at}

@@ -2,8 +2,8 @@
 use Rattle.std.proofs.Common.{◌≡◌, ℕ, List, [], ◌∷◌, take, cond, true, false, Option, Some, None, Result, Ok, Err, refl, subst}
 use Rattle.std.specs.Prelude.{IsSomeAnd}
 use Rattle.isis_base.specs.declared.identifiers.Snpa.{Snpa}
-use Rattle.isis_edge.specs.declared.frame.FrameFault.{FrameFault}
-use Rattle.isis_edge.specs.Frames.{unframed}
+use Rattle.isis_pdu.specs.declared.frame.FrameFault.{FrameFault}
+use Rattle.isis_pdu.specs.Frames.{unframed}
 use Rattle.isis_pdu.specs.declared.fault.PduFault.{PduFault}
 use Rattle.isis_pdu.specs.Views.{PduView}
 use Rattle.isis_pdu.specs.Decoded.{decoded}

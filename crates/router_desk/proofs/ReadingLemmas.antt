@@ -15,9 +15,9 @@ use Rattle.isis_tlv.specs.declared.three_way.ThreeWay.{ThreeWay}
 use Rattle.isis_tlv.specs.Walks.{fault_of}
 use Rattle.isis_tlv.specs.Tlvs.{TlvView, tlv_list}
 use Rattle.isis_tlv.specs.Items.{areas_of, snpas_of, entries_of, three_way_of}
-use Rattle.isis_edge.specs.declared.frame.FrameFault.{FrameFault}
-use Rattle.isis_edge.specs.declared.frame.FrameFault.TheVariants.{Version, Short, Magic}
-use Rattle.isis_edge.specs.Frames as edge
+use Rattle.isis_pdu.specs.declared.frame.FrameFault.{FrameFault}
+use Rattle.isis_pdu.specs.declared.frame.FrameFault.TheVariants.{Version, Short, Magic}
+use Rattle.isis_pdu.specs.Frames as edge
 use Rattle.isis_pdu.specs.declared.fault.PduFault.{PduFault}
 use Rattle.isis_pdu.specs.Views.{PduView, tlvs_of_pdu}
 use Rattle.isis_pdu.specs.Layout.{kind_of}

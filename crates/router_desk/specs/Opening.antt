@@ -3,9 +3,9 @@
 use Rattle.std.specs.Prelude.{◌≡◌, ℕ, ◌+◌, ◌≤◌, List, length, take, drop, Option, Some, None, Result, Ok, Err, IfOk}
 use Rattle.isis_base.specs.declared.identifiers.Snpa.{Snpa}
 use Rattle.isis_base.specs.PduKinds.{header_length}
-use Rattle.isis_edge.specs.declared.frame.FrameFault.{FrameFault}
-use Rattle.isis_edge.specs.declared.frame.FrameFault.TheVariants as frame
-use Rattle.isis_edge.specs.Frames.{unframed}
+use Rattle.isis_pdu.specs.declared.frame.FrameFault.{FrameFault}
+use Rattle.isis_pdu.specs.declared.frame.FrameFault.TheVariants as frame
+use Rattle.isis_pdu.specs.Frames.{unframed}
 use Rattle.isis_pdu.specs.declared.fault.PduFault.{PduFault}
 use Rattle.isis_pdu.specs.Views.{PduView, pdu_view}
 use Rattle.isis_pdu.specs.Layout.{body_at}

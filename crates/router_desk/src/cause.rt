@@ -1,8 +1,7 @@
 //! The causes of a drop.
 use adjacency::HelloDrop;
 use hmac_auth::AuthFault;
-use isis_edge::FrameFault;
-use isis_pdu::PduFault;
+use isis_pdu::{FrameFault, PduFault};
 
 /// Why a datagram is dropped, in the order in which it is tested (own). The first test that fails
 /// is the cause.

@@ -18,9 +18,8 @@ use crate::values::value_place;
 use hmac_auth::{AuthFault, check_pdu};
 use isis_base::numbers::LSP_SUMMED;
 use isis_base::{CircuitKind, Level, LevelSet, Octets, PduKind, SystemId};
-use isis_edge::{FrameFault, unwrap};
 use isis_pdu::laws::framed_law;
-use isis_pdu::{Pdu, decode};
+use isis_pdu::{FrameFault, Pdu, decode, unwrap};
 use model_router::has_level;
 use std::marker::Model;
 

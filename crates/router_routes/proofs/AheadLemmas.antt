@@ -14,7 +14,6 @@ use Rattle.spf_tree.specs.Nodes.{node_number}
 use Rattle.spf_tree.specs.Graphs.{AreUsable}
 use Rattle.spf_repair.specs.Changes.{RepairedOf}
 use Rattle.router_routes.specs.declared.lent.Lent.{Lent}
-use Rattle.router_routes.specs.declared.moving.CostsMoved.{CostsMoved}
 use Rattle.router_routes.specs.declared.told.Moved.{Moved}
 use Rattle.router_routes.specs.declared.told.Told.{Told}
 use Rattle.router_routes.specs.declared.view.LevelView.{LevelView}
@@ -63,7 +62,7 @@ module _ (lent : Lent) (told : Told) (view : View) (v : AreViewed lent told view
   unfolding outlook_in
   root-two = is.two.root ∙ ap own_node (sym v.system)
 
-  pub after-one : (runs : Bool) → runs ≡ (runs_of lent.levels).one → (r : RepairedOf) → r ≡ f.levels.one → (answer : Option CostsMoved) → AreCosts (where_run runs (told_of view.one)) r.root (or_old answer r) → IsLevel (outlook_at view) level.One (or_old answer f.levels.one)
+  pub after-one : (runs : Bool) → runs ≡ (runs_of lent.levels).one → (r : RepairedOf) → r ≡ f.levels.one → (answer : Option RepairedOf) → AreCosts (where_run runs (told_of view.one)) r.root (or_old answer r) → IsLevel (outlook_at view) level.One (or_old answer f.levels.one)
   unfolding outlook_at
   after-one runs e r same answer are =
       let runs-are : runs ≡ (runs_of view.levels).one = e ∙ sym (ap (λ l. (runs_of l).one) v.levels) in
@@ -72,7 +71,7 @@ module _ (lent : Lent) (told : Told) (view : View) (v : AreViewed lent told view
       let now = at-root _ f.levels.one.root (or_old answer f.levels.one) its (own_node view.system) root-one in
       record { root = now.root; graph = now.graph }
 
-  pub after-two : (runs : Bool) → runs ≡ (runs_of lent.levels).two → (r : RepairedOf) → r ≡ f.levels.two → (answer : Option CostsMoved) → AreCosts (where_run runs (told_of view.two)) r.root (or_old answer r) → IsLevel (outlook_at view) level.Two (or_old answer f.levels.two)
+  pub after-two : (runs : Bool) → runs ≡ (runs_of lent.levels).two → (r : RepairedOf) → r ≡ f.levels.two → (answer : Option RepairedOf) → AreCosts (where_run runs (told_of view.two)) r.root (or_old answer r) → IsLevel (outlook_at view) level.Two (or_old answer f.levels.two)
   unfolding outlook_at
   after-two runs e r same answer are =
       let runs-are : runs ≡ (runs_of view.levels).two = e ∙ sym (ap (λ l. (runs_of l).two) v.levels) in

@@ -5,20 +5,17 @@ use Rattle.std.specs.List.{Contains}
 use Rattle.isis_base.specs.declared.identifiers.NodeId.{NodeId}
 use Rattle.isis_base.specs.declared.level.Level.{Level}
 use Rattle.isis_base.specs.declared.level.Level.TheVariants as level
-use Rattle.spf_tree.specs.declared.row.Row.{Row}
 use Rattle.spf_tree.specs.Distances.{cost_at}
 use Rattle.spf_tree.specs.Graphs.{GraphOf}
 use Rattle.spf_tree.specs.NextHops.{IsNextHop}
 use Rattle.spf_tree.specs.Nodes.{node_number}
 use Rattle.spf_tree.proofs.SearchLemmas.{contains_none}
-use Rattle.spf_tree.specs.Local.{AreExchanged, AreHopsSame}
 use Rattle.spf_repair.specs.Changes.{RepairedOf}
 use Rattle.route_table.specs.declared.candidate.Candidate.{Candidate}
 use Rattle.router_routes.specs.declared.coming.Coming.{Coming}
 use Rattle.router_routes.specs.declared.coming.LevelAfter.{LevelAfter}
 use Rattle.router_routes.specs.declared.coming.LevelsAfter.{LevelsAfter}
 use Rattle.router_routes.specs.declared.coming.ReachedAfter.{ReachedAfter}
-use Rattle.router_routes.specs.declared.moving.CostsMoved.{CostsMoved}
 use Rattle.router_routes.specs.Outlooks.{Outlook}
 use Rattle.router_routes.specs.Candidates.{defaults}
 use Rattle.router_routes.specs.Counts.{Counts}
@@ -83,7 +80,7 @@ level-root o l r is = is.graph.from ∙ sym is.root
 pub of-one-root : (o p : Outlook) (l : Level) (old new : RepairedOf) → IsLevel o l old → IsLevel p l new → p.root ≡ o.root → AreOfOneRoot old new
 of-one-root o p l old new a b e = record { old_root = level-root o l old a; new_root = level-root p l new b; same = b.root ∙ e ∙ sym a.root }
 
-pub levels-are : (o : Outlook) (f : FollowingOf) (ones twos : Option CostsMoved) (levels : LevelsAfter) → IsLevel o level.One (or_old ones f.levels.one) → IsLevel o level.Two (or_old twos f.levels.two) → AreLevelsOf f ones twos levels → AreLevels o f levels
+pub levels-are : (o : Outlook) (f : FollowingOf) (ones twos : Option RepairedOf) (levels : LevelsAfter) → IsLevel o level.One (or_old ones f.levels.one) → IsLevel o level.Two (or_old twos f.levels.two) → AreLevelsOf f ones twos levels → AreLevels o f levels
 levels-are o f ones twos levels a b are =
     record {
       one = subst (λ (r : RepairedOf). IsLevel o level.One r) (sym are.one) a;
@@ -159,27 +156,6 @@ hops-by r g root pairs e at-root are =
           (subst (λ (n : NodeId). (target hop : ℕ) → Contains pairs (target, hop) ↔ IsNextHop g.rows (node_number n) target hop) at-root are);
     }
 
--- tables of next hops of two graphs that have the same beside some nodes
-pub hops-beside : (old new : RepairedOf) (g h : GraphOf) (root : NodeId) (known table : List (ℕ × ℕ)) (inside : List ℕ) → AreOfOneRoot old new → g ≡ old.graph → h ≡ new.graph → root ≡ h.root → AreHopsOf old known → AreHopsOf new table → AreHopsSame g.rows h.rows (node_number root) inside → HopsStay inside known table
-hops-beside old new g h root known table inside one e k at-root before after same =
-    let roots : old.graph.root ≡ new.graph.root = one.old_root ∙ sym one.same ∙ sym one.new_root in
-    let at-new : AreHopsSame g.rows h.rows (node_number h.root) inside = subst (λ (n : NodeId). AreHopsSame g.rows h.rows (node_number n) inside) at-root same in
-    let of-new : AreHopsSame g.rows new.graph.rows (node_number new.graph.root) inside = subst (λ (x : GraphOf). AreHopsSame g.rows x.rows (node_number x.root) inside) k at-new in
-    let of-both : AreHopsSame old.graph.rows new.graph.rows (node_number new.graph.root) inside = subst (λ (x : GraphOf). AreHopsSame x.rows new.graph.rows (node_number new.graph.root) inside) e of-new in
-    record {
-      each = λ target hop out.
-          let was : Contains known (target, hop) ↔ IsNextHop old.graph.rows (node_number new.graph.root) target hop = subst (λ (n : NodeId). Contains known (target, hop) ↔ IsNextHop old.graph.rows (node_number n) target hop) roots (before.each target hop) in
-          let stays = of-both target hop out in
-          let is = after.each target hop in
-          ((λ x. is.1 (stays.0 (was.0 x))), (λ x. was.1 (stays.1 (is.0 x))));
-    }
-
--- the rows that two graphs of a level don't share, as they are lent
-pub exchanged-by : (old new : RepairedOf) (g h : GraphOf) (r a removed added : List Row) → g ≡ old.graph → h ≡ new.graph → r ≡ removed → a ≡ added → AreExchanged old.graph.rows new.graph.rows removed added → AreExchanged g.rows h.rows r a
-exchanged-by old new g h r a removed added e k is-removed is-added are =
-    subst (λ (x : GraphOf). AreExchanged x.rows h.rows r a) (sym e) (subst (λ (x : GraphOf). AreExchanged old.graph.rows x.rows r a) (sym k)
-    (subst (λ (l : List Row). AreExchanged old.graph.rows new.graph.rows l a) (sym is-removed) (subst (λ (l : List Row). AreExchanged old.graph.rows new.graph.rows removed l) (sym is-added) are)))
-
 -- the nodes of no numbers, and those that are there among more
 pub numbers-none : (nodes : List NodeId) → HaveNumbers [] nodes
 numbers-none nodes m id there = absurd (contains_none (node_number m) there)
@@ -188,12 +164,6 @@ pub numbers-more : (numbers : List ℕ) (some all : List NodeId) → AreAmong so
 numbers-more numbers some all more have m id there = more (node_number m) (have m id there)
 
 -- costs, as they are told apart
-pub costs-apart : (old new d e : List (ℕ × ℕ)) (slice numbers : List ℕ) → d ≡ old → e ≡ new → slice ≡ numbers → ((node : ℕ) → (Contains numbers node → ⊥) → cost_at d node ≡ cost_at e node) → CostsStay slice old new
-costs-apart old new d e slice numbers was is same apart =
-    subst (λ (l : List ℕ). CostsStay l old new) (sym same) (record {
-      each = λ node out. ap (λ (x : List (ℕ × ℕ)). cost_at x node) (sym was) ∙ apart node out ∙ ap (λ (x : List (ℕ × ℕ)). cost_at x node) is;
-    })
-
--- the same of numbers put in order
-pub costs-ordered : (old new d e : List (ℕ × ℕ)) (slice unsorted numbers : List ℕ) → d ≡ old → e ≡ new → slice ≡ numbers → ((n : ℕ) → Contains unsorted n → Contains numbers n) → ((node : ℕ) → (Contains unsorted node → ⊥) → cost_at d node ≡ cost_at e node) → CostsStay slice old new
-costs-ordered old new d e slice unsorted numbers was is same all apart = costs-apart old new d e slice numbers was is same (λ node out. apart node (λ there. out (all node there)))
+pub costs-apart : (old new d e : List (ℕ × ℕ)) (numbers : List ℕ) → d ≡ old → e ≡ new → ((node : ℕ) → (Contains numbers node → ⊥) → cost_at d node ≡ cost_at e node) → CostsStay numbers old new
+costs-apart old new d e numbers was is apart =
+    record { each = λ node out. ap (λ (x : List (ℕ × ℕ)). cost_at x node) (sym was) ∙ apart node out ∙ ap (λ (x : List (ℕ × ℕ)). cost_at x node) is }

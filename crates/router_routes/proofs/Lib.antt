@@ -17,6 +17,7 @@ pub mod ReadLemmas
 pub mod MovingLemmas
 pub mod AheadLemmas
 pub mod KeptLemmas
+pub mod RoomLemmas
 pub mod BesideLemmas
 pub mod SameLemmas
 pub mod SystemLemmas

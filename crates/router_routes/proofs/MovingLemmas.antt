@@ -16,7 +16,6 @@ use Rattle.router_routes.specs.declared.told.Moved.{Moved}
 use Rattle.router_routes.specs.declared.view.LevelView.{LevelView}
 use Rattle.router_routes.specs.Outlooks.{where_run}
 use Rattle.router_routes.specs.Told.{told_in}
-use Rattle.router_routes.specs.declared.moving.CostsMoved.{CostsMoved}
 use Rattle.router_routes.specs.Differences.{ArePartedRows}
 use Rattle.router_routes.specs.Moved.{AreChanged, AreCosts, AreNodes, HaveIds, IsOneChange, IsReadable, NodesRise, told_after, told_moved, told_of, told_with}
 use Rattle.router_routes.proofs.DifferenceLemmas.{counts-are}
@@ -42,16 +41,15 @@ pub listed-changed : (old new : RepairedOf) (r a removed added : List Row) → r
 listed-changed old new r a removed added e f is = subst (λ (l : List Row). AreChanged old new l added) e (subst (λ (l : List Row). AreChanged old new r l) f is)
 
 -- one change, where rows go or come and none is in both lists
-pub moved-by : (old : RepairedOf) (new : CostsMoved) → ArePartedRows new.removed.items new.added.items → 0 < length new.removed.items + length new.added.items → AreChanged old new.costs new.removed.items new.added.items → new.costs.changes ≡ min (old.changes + 1) (2 ^ 64 - 1) → IsOneChange old new
-moved-by old new apart some is count = record {
-  exchanged = is.rows;
-  counts = counts-are old new.costs new.removed.items new.added.items apart is.rows (λ h. count) (λ none. absurd (omega (arith, some, none)));
+pub moved-by : (old new : RepairedOf) (removed added : List Row) → ArePartedRows removed added → 0 < length removed + length added → AreChanged old new removed added → new.changes ≡ min (old.changes + 1) (2 ^ 64 - 1) → IsOneChange old new
+moved-by old new removed added apart some is count = record {
+  counts = counts-are old new removed added apart is.rows (λ h. count) (λ none. absurd (omega (arith, some, none)));
   graph_root = is.graph_root;
   root = is.root;
 }
 
 -- the same rows and roots, by a change of the old costs in place of one more change
-pub again-changed : (old so-far next : RepairedOf) (new : CostsMoved) (removed added : List Row) → so-far.graph.root ≡ old.graph.root → so-far.root ≡ old.root → AreChanged so-far next removed added → ((x : Row) → times new.costs.graph.rows x ≡ times next.graph.rows x) → IsOneChange old new → AreChanged so-far new.costs removed added
+pub again-changed : (old so-far next new : RepairedOf) (removed added : List Row) → so-far.graph.root ≡ old.graph.root → so-far.root ≡ old.root → AreChanged so-far next removed added → ((x : Row) → times new.graph.rows x ≡ times next.graph.rows x) → IsOneChange old new → AreChanged so-far new removed added
 again-changed old so-far next new removed added at-root is-root change same by = record {
   rows = λ x. ap (λ (n : ℕ). n + times removed x) (same x) ∙ change.rows x;
   graph_root = by.graph_root ∙ sym at-root;

@@ -1,7 +1,7 @@
 -- What prefixes may be reached by (RFC 5302 3.2): one's own, what the systems tell that a level
 -- reaches, and the way by default to systems that are attached.
-use Rattle.std.specs.Prelude.{ℕ, ◌+◌, ◌==◌, Bool, ◌&&◌, not, List, [], ◌∷◌, ◌++◌, map, Option, Some, None, if◌then◌else◌}
-use Rattle.std.specs.List.{list_any, flat_map}
+use Rattle.std.specs.Prelude.{ℕ, ◌+◌, ◌≤◌, ◌==◌, Bool, ◌&&◌, not, List, [], ◌∷◌, ◌++◌, map, Option, Some, None, if◌then◌else◌}
+use Rattle.std.specs.List.{AllByRecursion, list_any, flat_map}
 use Rattle.isis_base.specs.declared.identifiers.SystemId.{SystemId}
 use Rattle.isis_base.specs.declared.identifiers.NodeId.{NodeId}
 use Rattle.isis_base.specs.declared.identifiers.LspId.{LspId}
@@ -42,6 +42,10 @@ reached_by costs root pair =
 unfoldable pub reached_in : List (LspId × Entry) → NodeId → List (SystemId × ℕ)
 reached_in told root =
     flat_map (reached_by (cost_of (usable_rows told root) (node_number root)) (node_number root)) told
+
+-- the cost of each leaves room for a metric in 64 bits (own)
+abbrev pub LeaveRoom : List (SystemId × ℕ) → Type 0
+LeaveRoom systems = AllByRecursion (λ (s : SystemId × ℕ). s.1 ≤ 18446744065119617025) systems
 
 -- ---- the prefixes that they tell
 

@@ -18,7 +18,6 @@ use Rattle.router_routes.specs.declared.coming.ReachedAfter.{ReachedAfter}
 use Rattle.router_routes.specs.declared.coming.RoutesAfter.{RoutesAfter}
 use Rattle.router_routes.specs.declared.coming.RoutesAfter.TheVariants.{Made, Patched}
 use Rattle.router_routes.specs.declared.coming.ToldAfter.{ToldAfter}
-use Rattle.router_routes.specs.declared.moving.CostsMoved.{CostsMoved}
 use Rattle.router_routes.specs.Outlooks.{Outlook}
 use Rattle.router_routes.specs.Buckets.{made_or, with_buckets}
 use Rattle.router_routes.specs.Candidates.{AreRoutesOf}
@@ -88,7 +87,7 @@ pub record AreLevels (o : Outlook) (f : FollowingOf) (levels : LevelsAfter) : Ty
   pub hops_two : IsLevelAfter f.levels.two f.hops.two levels.two
 
 -- levels by these costs, each where it has new ones, with the next hops that follow of them
-pub record AreLevelsOf (f : FollowingOf) (ones twos : Option CostsMoved) (levels : LevelsAfter) : Type 0 where
+pub record AreLevelsOf (f : FollowingOf) (ones twos : Option RepairedOf) (levels : LevelsAfter) : Type 0 where
   pub one : costs_after levels.one f.levels.one ≡ or_old ones f.levels.one
   pub two : costs_after levels.two f.levels.two ≡ or_old twos f.levels.two
   pub hops_one : IsLevelAfter f.levels.one f.hops.one levels.one

@@ -15,10 +15,8 @@ use Rattle.lsp_view.specs.Views.{own_node, rows_in, overloaded_in}
 use Rattle.spf_repair.specs.Changes.{RepairedOf}
 use Rattle.spf_tree.specs.declared.row.Row.{Row}
 use Rattle.spf_tree.specs.Graphs.{AreUsable, times}
-use Rattle.spf_tree.specs.Local.{AreExchanged}
 use Rattle.spf_tree.specs.Nodes.{node_number}
 use Rattle.router_routes.specs.declared.lent.Lent.{Lent}
-use Rattle.router_routes.specs.declared.moving.CostsMoved.{CostsMoved}
 use Rattle.router_routes.specs.declared.told.Moved.{Moved}
 use Rattle.router_routes.specs.declared.told.Told.{Told}
 use Rattle.router_routes.specs.declared.view.LevelView.{LevelView}
@@ -219,19 +217,18 @@ pub record AreCosts (told : List (LspId × Entry)) (from : NodeId) (repaired : R
   pub graph : AreUsable (rows_in told) (overloaded_in told) from repaired.graph
 
 -- the new costs, or else the old ones
-abbrev pub or_old : Option CostsMoved → RepairedOf → RepairedOf
+abbrev pub or_old : Option RepairedOf → RepairedOf → RepairedOf
 or_old None old = old
-or_old (Some new) old = new.costs
+or_old (Some new) old = new
 
 -- the rows that are told make the new rows of the old ones, and the costs had one change where rows are others (own)
-pub record IsOneChange (old : RepairedOf) (new : CostsMoved) : Type 0 where
-  pub exchanged : AreExchanged old.graph.rows new.costs.graph.rows new.removed.items new.added.items
-  pub counts : Counts old new.costs
-  pub graph_root : new.costs.graph.root ≡ old.graph.root
-  pub root : new.costs.root ≡ old.root
+pub record IsOneChange (old new : RepairedOf) : Type 0 where
+  pub counts : Counts old new
+  pub graph_root : new.graph.root ≡ old.graph.root
+  pub root : new.root ≡ old.root
 
 -- the same where costs are new (own)
-abbrev pub AreRowsMoved : RepairedOf → Option CostsMoved → Type 0
+abbrev pub AreRowsMoved : RepairedOf → Option RepairedOf → Type 0
 AreRowsMoved old None = Unit {0}
 AreRowsMoved old (Some new) = IsOneChange old new
 

@@ -16,7 +16,7 @@ use crate::coming::{Coming, LevelsAfter, ReachedAfter, RoutesAfter, all_stays, l
 use crate::following::Following;
 use crate::kept::{moved, told_nodes};
 use crate::lent::Lent;
-use crate::moving::{CostsMoved, level_after};
+use crate::moving::level_after;
 use crate::told::{Moved, Told};
 use crate::view::{View, as_told, nodes_law};
 use isis_base::laws::lsp_id_law;
@@ -24,6 +24,7 @@ use isis_base::{Level, LspId, NodeId, OutOfMemory, Prefix};
 use lsp_store::{Entry, Store};
 use lsp_view::Lsps;
 use model_router::has_level;
+use spf_repair::Repaired;
 
 impl Following {
     /// What will follow the router once this is told: in each level these nodes tell what is aside, all others what they
@@ -106,8 +107,8 @@ impl Following {
         lent: &Lent<'_>,
         told: &Told<'_>,
         view: &View<'_>,
-        one: Option<CostsMoved>,
-        two: Option<CostsMoved>,
+        one: Option<Repaired>,
+        two: Option<Repaired>,
     ) -> Result<Option<Coming>, OutOfMemory>
         requires follows { IsFollowing (outlook_in lent.now) self.now }
         requires viewed { AreViewed lent.now told.now view.now }
@@ -133,8 +134,8 @@ impl Following {
     /// Both levels with next hops that follow of their costs, where these are new.
     fn levels_of(
         &self,
-        one: Option<CostsMoved>,
-        two: Option<CostsMoved>,
+        one: Option<Repaired>,
+        two: Option<Repaired>,
     ) -> Result<LevelsAfter, OutOfMemory>
         requires one { AreOfOneRoot self.now.levels.one (or_old one self.now.levels.one) }
         requires two { AreOfOneRoot self.now.levels.two (or_old two self.now.levels.two) }
@@ -370,7 +371,7 @@ fn told_by<'a>(level: Level, nodes: &'a [NodeId], aside: Lsps<'a>) -> Told<'a>
 }
 
 /// Whether both levels' costs stay, and own prefixes too.
-fn none_of(one: &Option<CostsMoved>, two: &Option<CostsMoved>, told: &Told<'_>) -> bool
+fn none_of(one: &Option<Repaired>, two: &Option<Repaired>, told: &Told<'_>) -> bool
     ensures one { result ≡ true → one.now ≡ None }
     ensures two { result ≡ true → two.now ≡ None }
     ensures prefixes { result ≡ true → told.now.prefixes ≡ None }

@@ -1,5 +1,5 @@
 //! What prefixes may be reached by (RFC 5302 3.2).
-ghost use Rattle.std.specs.Prelude.{[], ◌≡◌, ◌++◌, ◌&&◌, true, not, map, filter, IfOk, OnOk, IfSome};
+ghost use Rattle.std.specs.Prelude.{[], ◌≡◌, ◌≤◌, ◌++◌, ◌&&◌, true, not, map, filter, IfOk, OnOk};
 ghost use Rattle.std.specs.List.{flat_map, list_any};
 ghost use Rattle.std.specs.List.Sorted.{IsStrictlyIncreasing};
 ghost use Rattle.model_router.specs.Both.{runs_of};
@@ -7,7 +7,7 @@ ghost use Rattle.lsp_view.specs.Views.{own_node};
 ghost use Rattle.route_table.specs.Patches.{is_moved};
 ghost use Rattle.router_routes.specs.Moved.{IsFit, AreFit, told_of, outlook_at};
 ghost use Rattle.router_routes.specs.Buckets.{all_in, with_buckets};
-ghost use Rattle.router_routes.specs.Candidates.{reached_in, rank_in, told_candidate, system_candidates, own_candidate, defaults, default_of, is_for_all, candidates_of};
+ghost use Rattle.router_routes.specs.Candidates.{LeaveRoom, reached_in, rank_in, told_candidate, system_candidates, own_candidate, defaults, default_of, is_for_all, candidates_of};
 ghost use Rattle.router_routes.specs.Kept.{AreReached, AreSame, told_candidates};
 ghost use Rattle.router_routes.specs.Touched.{is_for};
 
@@ -154,6 +154,8 @@ pub(crate) fn told_by(
         (reached_in (outlook_at view.now).told.one (outlook_at view.now).root) }
     requires twos { AreSame twos.now
         (reached_in (outlook_at view.now).told.two (outlook_at view.now).root) }
+    requires room_one { LeaveRoom ones.now }
+    requires room_two { LeaveRoom twos.now }
     ensures { IfOk result (λ list. AreSame list.items (told_candidates (outlook_at view.now))) }
 {
     let mut list = with_room(alloc, ones.len())?;
@@ -255,7 +257,8 @@ pub(crate) fn add_told(
     told: &LevelView<'_>,
     systems: &[(SystemId, u64)],
 ) -> Result<(), OutOfMemory>
-    requires { IsFit told.now }
+    requires fit { IsFit told.now }
+    requires room { LeaveRoom systems.now }
     ensures { OnOk result (list.new.items ≡ list.old.items
         ++ flat_map (system_candidates level (told_of told.now)) systems.now) }
 {
@@ -278,7 +281,8 @@ fn add_system(
     told: &LevelView<'_>,
     reached: (SystemId, u64),
 ) -> Result<(), OutOfMemory>
-    requires { IsFit told.now }
+    requires fit { IsFit told.now }
+    requires room { reached.1 ≤ 18446744065119617025 }
     ensures { OnOk result (list.new.items ≡ list.old.items
         ++ system_candidates level (told_of told.now) reached) }
 {
@@ -289,8 +293,7 @@ fn add_system(
     add_items(list, level, system, cost, items.as_slice())
 }
 
-/// Adds prefixes that a system tells. A cost past 64 bits, which no graph has, counts as a want of
-/// memory.
+/// Adds prefixes that a system tells.
 fn add_items(
     list: &mut Vec<Candidate>,
     level: Level,
@@ -298,33 +301,29 @@ fn add_items(
     cost: u64,
     items: &[PrefixItem],
 ) -> Result<(), OutOfMemory>
+    requires { cost ≤ 18446744065119617025 }
     ensures { OnOk result (list.new.items
         ≡ list.old.items ++ map (told_candidate level (system, cost)) items.now) }
 {
     for item in items {
-        match told_candidate(level, system, cost, item) {
-            Some(candidate) => match list.push(candidate) {
-                Ok(()) => {}
-                Err(_) => return Err(OutOfMemory),
-            },
-            None => return Err(OutOfMemory),
+        match list.push(told_candidate(level, system, cost, item)) {
+            Ok(()) => {}
+            Err(_) => return Err(OutOfMemory),
         }
     }
     Ok(())
 }
 
-/// The candidate that an item is; `None` only where the sum passes 64 bits.
-fn told_candidate(level: Level, system: SystemId, cost: u64, item: &PrefixItem) -> Option<Candidate>
-    ensures { IfSome result (λ c. c ≡ told_candidate level (system, cost) item.now) }
+/// The candidate that an item is.
+fn told_candidate(level: Level, system: SystemId, cost: u64, item: &PrefixItem) -> Candidate
+    requires { cost ≤ 18446744065119617025 }
+    ensures { result ≡ told_candidate level (system, cost) item.now }
 {
-    match cost.checked_add(u64::from(item.metric)) {
-        Some(cost) => Some(Candidate {
-            prefix: item.prefix,
-            rank: rank_in(level, item.down),
-            cost,
-            origin: own_node(system),
-        }),
-        None => None,
+    Candidate {
+        prefix: item.prefix,
+        rank: rank_in(level, item.down),
+        cost: cost + u64::from(item.metric),
+        origin: own_node(system),
     }
 }
 

@@ -12,7 +12,6 @@ use crate::bucketed::{Bucketed, put_all};
 use crate::buckets_after::BucketAfter;
 use crate::following::Following;
 use crate::hops_moved::{HopsMoved, hops_moved};
-use crate::moving::CostsMoved;
 use isis_base::{OutOfMemory, Prefix};
 use route_table::{Candidate, Patches, Routes};
 use spf_repair::Repaired;
@@ -159,7 +158,7 @@ fn put_routes(routes: &mut Routes, new: RoutesAfter)
 /// A level's new costs with the next hops that follow of them, and what is other of both.
 pub(crate) fn level_of(
     alloc: Global,
-    new: Option<CostsMoved>,
+    new: Option<Repaired>,
     old: &Repaired,
     known: &HopTable,
 ) -> Result<Option<LevelAfter>, OutOfMemory>
@@ -184,17 +183,12 @@ pub(crate) fn level_of(
 }
 
 /// A level of these costs and next hops.
-fn level_with(new: CostsMoved, hops: HopsMoved) -> LevelAfter
-    ensures costs { result.costs ≡ new.costs }
+fn level_with(costs: Repaired, hops: HopsMoved) -> LevelAfter
+    ensures costs { result.costs ≡ costs }
     ensures hops { result.hops ≡ hops.table }
     ensures apart { result.apart.items ≡ hops.apart.items }
     ensures moved { result.moved.items ≡ hops.moved.items }
 {
-    let CostsMoved {
-        costs,
-        removed: _,
-        added: _,
-    } = new;
     let HopsMoved {
         table,
         apart,

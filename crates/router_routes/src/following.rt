@@ -5,7 +5,6 @@ ghost use Rattle.model_router.specs.Both.{at};
 ghost use Rattle.lsp_view.specs.Views.{own_node, rows_in, overloaded_in};
 ghost use Rattle.spf_tree.specs.declared.row.Row as row;
 ghost use Rattle.spf_tree.specs.Graphs.{AreUsable, times};
-ghost use Rattle.spf_tree.specs.Local.{AreExchanged};
 ghost use Rattle.router_routes.specs.Told.{told_in};
 ghost use Rattle.router_routes.specs.Outlooks.{outlook_in, where_run};
 ghost use Rattle.router_routes.specs.Buckets.{all_in};
@@ -19,7 +18,7 @@ use crate::candidates::{all_candidates, defaults_by, own_node, told_by};
 use crate::coming::hops_from;
 use crate::lent::Lent;
 use crate::level_graph::graph_of;
-use crate::moving::{CostsMoved, changed_to};
+use crate::moving::changed_to;
 use crate::systems::{is_attached, level_systems};
 use crate::view::{LevelView, View, as_lent};
 use isis_base::{Level, LevelSet, NodeId, OutOfMemory, SystemId};
@@ -115,18 +114,18 @@ fn fresh(alloc: Global, runs: bool, store: &Store, root: NodeId) -> Result<Repai
     Repaired::new(alloc, &graph, root)
 }
 
-/// The distances of a level, repaired for its rows as they are read, and the rows that go and come.
+/// The distances of a level, repaired for its rows as they are read.
 pub(crate) fn followed(
     alloc: Global,
     old: &Repaired,
     runs: bool,
     level: &LevelView<'_>,
-) -> Result<CostsMoved, OutOfMemory>
+) -> Result<Repaired, OutOfMemory>
     requires fit { IsFit level.now }
     requires root { old.now.graph.root ≡ old.now.root }
     ensures graph { IfOk result (λ new.
         AreUsable (rows_in (where_run runs (told_of level.now)))
-        (overloaded_in (where_run runs (told_of level.now))) old.now.root new.costs.graph) }
+        (overloaded_in (where_run runs (told_of level.now))) old.now.root new.graph) }
     ensures moved { IfOk result (IsOneChange old.now) }
 {
     let graph = graph_of(alloc, runs, level, old.graph().root())?;

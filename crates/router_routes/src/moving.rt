@@ -32,22 +32,13 @@ const MOST: usize = 16;
 /// Up to how many rows of a graph each is looked at.
 const FEW: usize = 512;
 
-/// A level's costs as they will be, and the rows that its graph loses and gains, each as often as it
-/// is other.
-#[derive(Drop)]
-pub(crate) struct CostsMoved {
-    pub costs: Repaired,
-    pub removed: Vec<Row>,
-    pub added: Vec<Row>,
-}
-
 /// A level's costs as it is read; `None` where its rows stay.
 pub(crate) fn level_after(
     alloc: Global,
     runs: bool,
     old: &Repaired,
     level: &LevelView<'_>,
-) -> Result<Option<CostsMoved>, OutOfMemory>
+) -> Result<Option<Repaired>, OutOfMemory>
     requires costs { AreCosts (where_run runs (told_in level.now.store.now.entries)) old.now.root
         old.now }
     requires fit { IsFit level.now }
@@ -77,7 +68,7 @@ fn nodes_after(
     old: &Repaired,
     store: &Store,
     moved: Moved<'_>,
-) -> Result<Option<CostsMoved>, OutOfMemory>
+) -> Result<Option<Repaired>, OutOfMemory>
     requires costs { AreCosts (told_in store.now.entries) old.now.root old.now }
     requires fit { IsReadable store.now.entries moved }
     ensures costs { IfOk result (λ new. AreCosts
@@ -107,11 +98,11 @@ fn nodes_after(
 fn node_after(
     alloc: Global,
     old: &Repaired,
-    so_far: Option<CostsMoved>,
+    so_far: Option<Repaired>,
     before: &LevelView<'_>,
     node: NodeId,
     aside: Lsps<'_>,
-) -> Result<Option<CostsMoved>, OutOfMemory>
+) -> Result<Option<Repaired>, OutOfMemory>
     requires costs { AreCosts (told_of before.now) old.now.root (or_old so_far old.now) }
     requires rows { AreRowsMoved old.now so_far }
     requires fit { IsFit before.now }
@@ -133,11 +124,11 @@ fn node_after(
 /// The costs with rows taken out and rows put in; as they are where there are none of either.
 fn changed_by(
     alloc: Global,
-    so_far: Option<CostsMoved>,
+    so_far: Option<Repaired>,
     old: &Repaired,
     removed: Vec<Row>,
     added: Vec<Row>,
-) -> Result<Option<CostsMoved>, OutOfMemory>
+) -> Result<Option<Repaired>, OutOfMemory>
     requires there { (x : row.Row) → times removed.items x
         ≤ times (or_old so_far old.now).graph.rows x }
     requires apart { ArePartedRows removed.items added.items }
@@ -149,15 +140,13 @@ fn changed_by(
     if removed.is_empty() && added.is_empty() {
         return Ok(so_far);
     }
+    let (gone, come) = (removed.as_slice(), added.as_slice());
     match so_far {
-        Some(so_far) => {
-            let (gone, come) = (removed.as_slice(), added.as_slice());
-            match changed_again(alloc, old, so_far, gone, come) {
-                Ok(new) => Ok(Some(new)),
-                Err(error) => Err(error),
-            }
-        }
-        None => match changed_first(old, removed, added) {
+        Some(so_far) => match changed_again(alloc, old, so_far, gone, come) {
+            Ok(new) => Ok(Some(new)),
+            Err(error) => Err(error),
+        },
+        None => match changed_first(old, gone, come) {
             Ok(new) => Ok(Some(new)),
             Err(error) => Err(error),
         },
@@ -165,34 +154,27 @@ fn changed_by(
 }
 
 /// The new costs, or else the old ones.
-fn newest<'a>(new: &'a Option<CostsMoved>, old: &'a Repaired) -> &'a Repaired
+fn newest<'a>(new: &'a Option<Repaired>, old: &'a Repaired) -> &'a Repaired
     ensures { result.now ≡ or_old new.now old.now }
 {
     match new {
-        Some(new) => &new.costs,
+        Some(new) => new,
         None => old,
     }
 }
 
 /// The old costs with rows taken out and rows put in.
-fn changed_first(
-    old: &Repaired,
-    removed: Vec<Row>,
-    added: Vec<Row>,
-) -> Result<CostsMoved, OutOfMemory>
-    requires there { (x : row.Row) → times removed.items x ≤ times old.now.graph.rows x }
-    requires apart { ArePartedRows removed.items added.items }
-    requires some { 0 < length removed.items + length added.items }
-    ensures changed { IfOk result (λ new.
-        AreChanged old.now new.costs removed.items added.items) }
+fn changed_first(old: &Repaired, removed: &[Row], added: &[Row]) -> Result<Repaired, OutOfMemory>
+    requires there { (x : row.Row) → times removed.now x ≤ times old.now.graph.rows x }
+    requires apart { ArePartedRows removed.now added.now }
+    requires some { 0 < length removed.now + length added.now }
+    ensures changed { IfOk result (λ new. AreChanged old.now new removed.now added.now) }
     ensures moved { IfOk result (IsOneChange old.now) }
 {
-    let costs = rows_changed(old, removed.as_slice(), added.as_slice())?;
-    Ok(CostsMoved {
-        costs,
-        removed,
-        added,
-    })
+    match rows_changed(old, removed, added) {
+        Ok(new) => Ok(new),
+        Err(error) => Err(error),
+    }
 }
 
 /// New costs with more rows taken out and more rows put in: one change of the old ones in all, so that a second search makes
@@ -200,17 +182,17 @@ fn changed_first(
 fn changed_again(
     alloc: Global,
     old: &Repaired,
-    so_far: CostsMoved,
+    so_far: Repaired,
     removed: &[Row],
     added: &[Row],
-) -> Result<CostsMoved, OutOfMemory>
-    requires there { (x : row.Row) → times removed.now x ≤ times so_far.costs.graph.rows x }
+) -> Result<Repaired, OutOfMemory>
+    requires there { (x : row.Row) → times removed.now x ≤ times so_far.graph.rows x }
     requires rows { IsOneChange old.now so_far }
     ensures changed { IfOk result (λ new.
-        AreChanged so_far.costs new.costs removed.now added.now) }
+        AreChanged so_far new removed.now added.now) }
     ensures moved { IfOk result (IsOneChange old.now) }
 {
-    let next = rows_changed(&so_far.costs, removed, added);
+    let next = rows_changed(&so_far, removed, added);
     drop(so_far);
     match next {
         Ok(next) => match changed_to(alloc, old, next.graph()) {
@@ -226,21 +208,17 @@ pub(crate) fn changed_to(
     alloc: Global,
     old: &Repaired,
     graph: &Graph,
-) -> Result<CostsMoved, OutOfMemory>
+) -> Result<Repaired, OutOfMemory>
     ensures same { IfOk result (λ new. (x : row.Row)
-        → times new.costs.graph.rows x ≡ times graph.now.rows x) }
+        → times new.graph.rows x ≡ times graph.now.rows x) }
     ensures moved { IfOk result (IsOneChange old.now) }
 {
     let (removed, added) = rows_apart(alloc, rows_in_order(old.graph()), rows_in_order(graph))?;
     if removed.len() == 0 && added.len() == 0 {
         let costs = old.copy()?;
-        return Ok(CostsMoved {
-            costs,
-            removed,
-            added,
-        });
+        return Ok(costs);
     }
-    match changed_first(old, removed, added) {
+    match changed_first(old, removed.as_slice(), added.as_slice()) {
         Ok(new) => Ok(new),
         Err(error) => Err(error),
     }

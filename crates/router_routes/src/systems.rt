@@ -11,7 +11,7 @@ ghost use Rattle.route_leaking.specs.Attachment.{is_attached};
 ghost use Rattle.router_routes.specs.Told.{told_in};
 ghost use Rattle.router_routes.specs.Moved.{IsFit, NodesRise, is_one, told_by_nodes, told_of};
 ghost use Rattle.router_routes.specs.Outlooks.{where_run};
-ghost use Rattle.router_routes.specs.Candidates.{leads_other, reached_by, reached_in};
+ghost use Rattle.router_routes.specs.Candidates.{LeaveRoom, leads_other, reached_by, reached_in};
 ghost use Rattle.router_routes.specs.Kept.{AreSame, system_at, systems_among};
 
 use crate::view::{LevelView, is_one, lsps_of};
@@ -34,8 +34,9 @@ pub(crate) fn level_systems(
     requires graph { AreUsable (rows_in (where_run runs (told_of told.now)))
         (overloaded_in (where_run runs (told_of told.now))) repaired.now.root
         repaired.now.graph }
-    ensures { IfOk result (λ list. AreSame list.items
+    ensures same { IfOk result (λ list. AreSame list.items
         (reached_in (where_run runs (told_of told.now)) repaired.now.root)) }
+    ensures room { IfOk result (λ list. LeaveRoom list.items) }
 {
     if !runs {
         return Ok(Vec::new(alloc));

@@ -11,8 +11,7 @@ use crate::blank::BLANK_AUTH;
 use hmac_auth::sign_pdu;
 use isis_base::numbers::FRAME;
 use isis_base::{Octets, OutOfMemory, PduKind, Snpa, SystemId};
-use isis_edge::wrap;
-use isis_pdu::{Pdu, encode};
+use isis_pdu::{Pdu, encode, wrap};
 use std::alloc::Global;
 
 /// The frame, a header without TLVs, and, where it is to be signed, the room for the digest.
@@ -38,7 +37,7 @@ pub(crate) fn begin(
 }
 
 /// The frame, and octets behind it.
-#[tactic(auto, unfolding(isis_edge::specs::Frames::framed))]
+#[tactic(auto, unfolding(isis_pdu::specs::Frames::framed))]
 pub(crate) fn frame(
     alloc: Global,
     system: SystemId,

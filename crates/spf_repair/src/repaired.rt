@@ -4,7 +4,7 @@ ghost use Rattle.std.specs.Prelude.{◌≡◌, ◌<◌, ◌≤◌, ◌+◌, ◌-
 ghost use Rattle.spf_tree.specs.declared.row.Row.{Row};
 ghost use Rattle.spf_tree.specs.Nodes.{node_number};
 ghost use Rattle.spf_tree.specs.Graphs.{times};
-ghost use Rattle.spf_tree.specs.Distances.{cost_at, AreDistances};
+ghost use Rattle.spf_tree.specs.Distances.{cost_at, AreDistances, AreSmall};
 ghost use Rattle.spf_repair.specs.Change.{AreChanged, IsBound, OnlyFalls};
 
 use crate::change::repair;
@@ -141,7 +141,9 @@ impl Repaired {
         ensures same { result.now ≡ self.now.distances }
         ensures distances { AreDistances self.now.graph.rows
             (node_number self.now.root) result.now }
+        ensures small { AreSmall result.now }
     {
+        let _rows = rows_in_order(&self.graph);
         &self.distances
     }
 

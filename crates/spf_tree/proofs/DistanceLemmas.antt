@@ -1,16 +1,17 @@
--- Distances as the reached part of labels, and that rows have one list of them.
+-- Distances as the reached part of labels, that rows have one list of them, and that they leave room for a metric.
 
-use Rattle.std.proofs.Common.{◌≡◌, ◌≢◌, ◌∙◌, ℕ, zero, suc, ◌+◌, ◌<◌, ◌==◌, if◌then◌else◌, List, [], ◌∷◌, length, map, get_or, Option, Some, None, refl, sym, ap, subst, arith, ◌⊎◌, inl, inr}
+use Rattle.std.proofs.Common.{◌≡◌, ◌≢◌, ◌∙◌, ℕ, zero, suc, ◌+◌, ◌<◌, ◌≤◌, ◌==◌, if◌then◌else◌, List, [], ◌∷◌, length, map, get_or, Option, Some, None, refl, sym, ap, subst, arith, ◌⊎◌, inl, inr}
 use Rattle.std.specs.List.Sorted.{IsStrictlyIncreasing}
 use Rattle.std.proofs.lemmas.Bool.{cases_eq, cases_lt, eq-eqb, ne_eqb}
 use Rattle.spf_tree.specs.declared.row.Row.{Row}
 use Rattle.spf_tree.specs.declared.label.Label.{Label}
 use Rattle.spf_tree.specs.Labels.{at, IsRising}
 use Rattle.spf_tree.specs.Walks.{cost, IsWithin, AreLeast}
-use Rattle.spf_tree.specs.Distances.{cost_at, AreDistances, reached_of, reached}
+use Rattle.spf_tree.specs.Distances.{cost_at, AreDistances, AreSmall, reached_of, reached}
+use Rattle.spf_tree.specs.Search.{IsBounded}
 use Rattle.spf_tree.proofs.LabelLemmas.{at_none}
 use Rattle.spf_tree.proofs.SearchLemmas.{some_same}
-use Rattle.spf_tree.proofs.WalkLemmas.{within_some}
+use Rattle.spf_tree.proofs.WalkLemmas.{within_some, shorten, few, cost_bound}
 
 -- ---- the rest of labels in order
 
@@ -103,13 +104,6 @@ least_same rows root f g of_f of_g n =
           some.1 ∙ ap (λ (c : ℕ). Some c) same ∙ sym there.1
     ]
 
-pub least_by : (rows : List Row) (root : ℕ) (f g : ℕ → Option ℕ) → ((n : ℕ) → f n ≡ g n) → AreLeast rows root f → AreLeast rows root g
-least_by rows root f g same least =
-    record {
-      walk = λ n c e. least.walk n c (same n ∙ e);
-      least = λ w n is. subst (λ (o : Option ℕ). IsWithin o (cost w)) (same n) (least.least w n is);
-    }
-
 -- ---- and so are lists in order that tell the same costs
 
 none_below : (n : ℕ) (entries : List (ℕ × ℕ)) → FirstAbove n (nodes_of entries) → IsStrictlyIncreasing (nodes_of entries) → cost_at entries n ≡ None
@@ -162,3 +156,18 @@ one_list (x ∷ a) (y ∷ b) up_a up_b same =
 
 pub one_distances : (rows : List Row) (root : ℕ) (a b : List (ℕ × ℕ)) → AreDistances rows root a → AreDistances rows root b → a ≡ b
 one_distances rows root a b of_a of_b = one_list a b of_a.rising of_b.rising (least_same rows root (cost_at a) (cost_at b) of_a.least of_b.least)
+
+-- ---- least costs leave room for a metric in 64 bits: the cheapest walk passes no node twice
+
+pub cost_small : (rows : List Row) (root : ℕ) (costs : List (ℕ × ℕ)) (node c : ℕ) → IsBounded rows → AreDistances rows root costs → cost_at costs node ≡ Some c → c ≤ 18446744065119617025
+cost_small rows root costs node c bounded are is =
+    let w = are.least.walk node c is in
+    let s = shorten rows root w.0 node w.1 in
+    let n = few rows root node (cost w.0) s in
+    let most = cost_bound rows root s.walk node bounded s.is in
+    let rows_few = bounded.few in
+    let least : IsWithin (Some c) (cost s.walk) = rw is at (are.least.least s.walk node s.is) in
+    omega arith
+
+pub costs_small : (rows : List Row) (root : ℕ) (costs : List (ℕ × ℕ)) → IsBounded rows → AreDistances rows root costs → AreSmall costs
+costs_small rows root costs bounded are = record { each = λ node c is. cost_small rows root costs node c bounded are is }

@@ -12,14 +12,3 @@ pub mod HopLemmas
 pub mod TableLemmas
 pub mod DistanceLemmas
 pub mod ApartLemmas
-pub mod LocalLemmas
-pub mod PassingLemmas
-pub mod PlainLemmas
-pub mod EquationLemmas
-pub mod TellingLemmas
-pub mod FoundLemmas
-pub mod WaitingLemmas
-pub mod SettlingLemmas
-pub mod IncomingLemmas
-pub mod MergingLemmas
-pub mod AfterLemmas

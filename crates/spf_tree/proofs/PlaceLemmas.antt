@@ -32,18 +32,6 @@ nodes_rise nodes up i j h l =
       | inr not_less ↦ let e : i ≡ j = omega arith in subst (λ (k : ℕ). get_or nodes i 0 ≤ get_or nodes k 0) e (omega arith)
     ]
 
--- two places of one node are one
-pub one_place : (nodes : List ℕ) → IsStrictlyIncreasing nodes → (i j : ℕ) → i < length nodes → j < length nodes → node_at nodes i ≡ node_at nodes j → i ≡ j
-one_place nodes up i j in_i in_j e =
-    elim (cases_lt i j) [
-      | inl less ↦ let below = AllPairs-from_increasing nodes up i j 0 less in_j in absurd (omega arith)
-      | inr not_less ↦
-          elim (cases_lt j i) [
-            | inl more ↦ let below = AllPairs-from_increasing nodes up j i 0 more in_i in absurd (omega arith)
-            | inr not_more ↦ omega arith
-          ]
-    ]
-
 pub next_node : (nodes : List ℕ) → IsStrictlyIncreasing nodes → (i : ℕ) → i + 1 < length nodes → node_at nodes i < node_at nodes (i + 1)
 next_node nodes up i l = AllPairs-from_increasing nodes up i (i + 1) 0 (omega arith) l
 
@@ -69,7 +57,7 @@ above_by rows n m e sorted in' high k d h l =
 
 -- ---- one item more
 
-pub each_push : {X : Type 0} (P : ℕ → X → Type 0) (xs : List X) (x : X) (m : ℕ) → length xs ≡ m → ((k : ℕ) (e : X) → k < m → P k (get_or xs k e)) → P m x → (k : ℕ) (e : X) → k < m + 1 → P k (get_or (xs ++ x ∷ []) k e)
+each_push : {X : Type 0} (P : ℕ → X → Type 0) (xs : List X) (x : X) (m : ℕ) → length xs ≡ m → ((k : ℕ) (e : X) → k < m → P k (get_or xs k e)) → P m x → (k : ℕ) (e : X) → k < m + 1 → P k (get_or (xs ++ x ∷ []) k e)
 each_push P xs x m long before here k e h =
     elim (cases_lt k m) [
       | inl less ↦ subst (P k) (sym (get_or_append_left xs (x ∷ []) e k (omega arith))) (before k e less)

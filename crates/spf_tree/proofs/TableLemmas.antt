@@ -207,3 +207,17 @@ past_first table target m e is in' high ne k d h l at_target =
 
 pub past_all : (table : List (ℕ × ℕ)) (target m : ℕ) → length table ≤ m → (k : ℕ) (d : ℕ × ℕ) → m ≤ k → k < length table → (get_or table k d).0 ≢ target
 past_all table target m past k d h l = absurd (omega arith)
+
+-- ---- facts of the first so many items
+
+pub up-more : {X : Type 0} (xs : List X) (P : X → Type 0) (m : ℕ) (e : X) → m < length xs → ((k : ℕ) (d : X) → k < m → P (get_or xs k d)) → P (get_or xs m e) → (k : ℕ) (d : X) → k < m + 1 → P (get_or xs k d)
+up-more xs P m e in' before here k d h =
+    elim (cases_lt k m) [
+      | inl less ↦ before k d less
+      | inr not_less ↦
+          let k_is : m ≡ k = omega arith in
+          subst P (get_or_default xs m e d in' ∙ ap (λ (j : ℕ). get_or xs j d) k_is) here
+    ]
+
+pub up-all : {X : Type 0} (xs : List X) (P : X → Type 0) (m : ℕ) → length xs ≤ m → ((k : ℕ) (d : X) → k < m → P (get_or xs k d)) → (x : X) → Contains xs x → P x
+up-all xs P m past h x there = let l = there.1 in subst P there.2 (h there.0 x (omega arith))

@@ -9,7 +9,3 @@ pub mod Search
 pub mod Places
 pub mod Pairs
 pub mod Exploring
-pub mod Local
-pub mod Passing
-pub mod Settling
-pub mod Found

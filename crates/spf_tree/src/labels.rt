@@ -201,20 +201,6 @@ impl Labels {
         self.get_at(place, node)
     }
 
-    /// The cost of a node, looked for at a place first.
-    pub fn get_near(&self, near: usize, node: u64) -> Option<u64>
-        ensures { result ≡ at self.now node }
-    {
-        let labels = self.items.as_slice();
-        if near >= labels.len() {
-            return self.get(node);
-        }
-        if labels[near].node != node {
-            return self.get(node);
-        }
-        labels[near].cost
-    }
-
     /// The cost of a node whose place is known.
     fn get_at(&self, place: usize, node: u64) -> Option<u64>
         requires { IsPlace self.now place node }

@@ -14,49 +14,32 @@
 //! - `label.rt`, `labels.rt`: costs known so far; `queue.rt`: offers that wait; `search.rt`: the search
 //! - `distances.rt`: what a search ends with; `scratch.rt`: distances from scratch
 //! - `reach.rt`: what least walks lead to; `next.rt`: next hops of one target; `table.rt`: of all targets at once
-//! - `plain.rt`: to which nodes rows of least walks lead over no system; `passing.rt`: what these rows pass on
-//! - `waiting.rt`: nodes that wait for their hops; `seeds.rt`: those at which a change begins; `found.rt`: nodes that have
-//!   other hops, and these; `telling.rt`: what a table tells of a node; `incoming.rt`: the rows that end at each node;
-//!   `making.rt`: the hops of a node by those before it; `settling.rt`: node by node until none waits; `changes.rt`: the
-//!   nodes that have other hops, and these; `merging.rt`, `after.rt`: the table of all hops after a change
 //! - `hops.rt`: lists of systems
 //! - `offers.rt`: offers by numbers of nodes, for the crate that repairs distances
 //! - `laws.rt`: what follows for all rows
 #![tactic(auto)]
 
-mod after;
-mod changes;
 mod choice;
 mod distances;
 mod edge;
 mod edges;
-mod found;
 mod graph;
 mod hops;
-mod incoming;
 mod indexed;
 mod label;
 mod labels;
 pub mod laws;
-mod making;
-mod merging;
 mod next;
 mod node;
 mod nodes;
 mod offers;
-mod passing;
-mod plain;
 mod queue;
 mod reach;
 mod row;
 mod scratch;
 mod search;
-mod seeds;
-mod settling;
 mod spans;
 mod table;
-mod telling;
-mod waiting;
 
 /// Parts of the search, for the crate that repairs distances.
 pub mod parts {
@@ -73,7 +56,6 @@ pub mod parts {
     pub use crate::reach::is_step;
 }
 
-pub use after::{Change, HopsAfter, hops_after};
 pub use choice::usable;
 pub use distances::Distances;
 pub use graph::Graph;

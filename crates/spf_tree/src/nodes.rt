@@ -71,20 +71,6 @@ pub fn in_order(mut nodes: Vec<u64>) -> Vec<u64>
     nodes
 }
 
-/// A copy of nodes in order, each once.
-pub fn copied_in_order(alloc: Global, nodes: &[u64]) -> Result<Vec<u64>, OutOfMemory>
-    ensures rising { IfOk result (λ copy. IsStrictlyIncreasing copy.items) }
-    ensures all { IfOk result (λ copy. (node : ℕ) → Contains nodes.now node
-        → Contains copy.items node) }
-    ensures none { IfOk result (λ copy. (node : ℕ) → Contains copy.items node
-        → Contains nodes.now node) }
-{
-    match Vec::from_slice(alloc, nodes) {
-        Ok(copy) => Ok(in_order(copy)),
-        Err(_) => Err(OutOfMemory),
-    }
-}
-
 /// Whether the node is among them.
 pub fn is_among(nodes: &[u64], node: u64) -> bool
     ensures { OnTrue result (Contains nodes.now node) }
@@ -93,14 +79,6 @@ pub fn is_among(nodes: &[u64], node: u64) -> bool
         return true;
     }
     false
-}
-
-/// The place of a node, or where it would stand.
-pub fn near(nodes: &[u64], node: u64) -> usize {
-    match nodes.binary_search(&node) {
-        Ok(place) => place,
-        Err(place) => place,
-    }
 }
 
 /// Whether each row ends at one of the nodes.

@@ -1,7 +1,6 @@
 //! Offers to nodes by their numbers, for the crate that repairs distances.
 
 ghost use Rattle.std.specs.Prelude.{◌≡◌, ◌≤◌, ◌<◌, ◌+◌, ℕ, length, slice_index_or, OnOk};
-ghost use Rattle.std.specs.Bool.{OnTrue};
 ghost use Rattle.std.specs.List.Sorted.{IsNonDecreasingBy};
 ghost use Rattle.spf_tree.specs.declared.row.Row.{Row};
 ghost use Rattle.spf_tree.specs.Walks.{start};
@@ -31,57 +30,6 @@ pub fn first_row(rows: &[Row], node: u64) -> usize
         }
     }
     low
-}
-
-/// Whether the rows before a place start below the node.
-fn are_below(rows: &[Row], place: usize, node: u64) -> bool
-    requires sorted { IsNonDecreasingBy start rows.now }
-    requires within { place ≤ length rows.now }
-    ensures { OnTrue result ((k : ℕ) (d : Row) → k < place
-        → start (slice_index_or rows.now k d) < node) }
-{
-    if place == 0 {
-        return true;
-    }
-    if number(rows[place - 1].from) >= node {
-        return false;
-    }
-    true
-}
-
-/// Whether no row from a place on starts below the node.
-fn are_above(rows: &[Row], place: usize, node: u64) -> bool
-    requires { IsNonDecreasingBy start rows.now }
-    ensures { OnTrue result ((k : ℕ) (d : Row) → place ≤ k → k < length rows.now
-        → node ≤ start (slice_index_or rows.now k d)) }
-{
-    if place >= rows.len() {
-        return true;
-    }
-    if number(rows[place].from) < node {
-        return false;
-    }
-    true
-}
-
-/// The place of the first row that doesn't start below the node, looked for at a place first.
-pub fn first_near(rows: &[Row], near: usize, node: u64) -> usize
-    requires { IsNonDecreasingBy start rows.now }
-    ensures within { result ≤ length rows.now }
-    ensures below { (k : ℕ) (d : Row) → k < result → start (slice_index_or rows.now k d) < node }
-    ensures above { (k : ℕ) (d : Row) → result ≤ k → k < length rows.now
-        → node ≤ start (slice_index_or rows.now k d) }
-{
-    if near > rows.len() {
-        return first_row(rows, node);
-    }
-    if !are_below(rows, near, node) {
-        return first_row(rows, node);
-    }
-    if !are_above(rows, near, node) {
-        return first_row(rows, node);
-    }
-    near
 }
 
 /// Offers the node the sum of a cost and a metric, unless that is no news.

@@ -134,7 +134,7 @@ fn visit(
 }
 
 /// Whether a node is gone on from: every one, or the root and pseudonodes alone.
-pub fn goes_on(all: bool, root: u64, node: u64) -> bool
+fn goes_on(all: bool, root: u64, node: u64) -> bool
     ensures { result ≡ goes_on all root node }
 {
     all || node == root || !is_system(node)
@@ -252,7 +252,7 @@ pub fn is_step(labels: &Labels, node: u64, to: u64, metric: u32) -> bool
 }
 
 /// Whether the metric is the difference of two costs.
-pub fn leads_by(first: Option<u64>, second: Option<u64>, metric: u32) -> bool
+fn leads_by(first: Option<u64>, second: Option<u64>, metric: u32) -> bool
     ensures { MatchBool result (LeadsBy first second metric) (LeadsBy first second metric → ⊥) }
 {
     let (Some(first), Some(second)) = (first, second) else {

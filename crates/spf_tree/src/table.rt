@@ -108,7 +108,7 @@ fn table_all(
 }
 
 /// The pairs in order, each once.
-pub fn pairs_in_order(mut pairs: Vec<(u64, u64)>) -> Vec<(u64, u64)>
+fn pairs_in_order(mut pairs: Vec<(u64, u64)>) -> Vec<(u64, u64)>
     ensures rising { IsStrictlySortedBy pair_cmp result.items }
     ensures all { (pair : ℕ × ℕ) → Contains pairs.items pair → Contains result.items pair }
     ensures none { (pair : ℕ × ℕ) → Contains result.items pair → Contains pairs.items pair }
@@ -119,7 +119,7 @@ pub fn pairs_in_order(mut pairs: Vec<(u64, u64)>) -> Vec<(u64, u64)>
 }
 
 /// The place of the first pair whose target isn't below this one.
-pub fn first_pair(pairs: &[(u64, u64)], target: u64) -> usize
+fn first_pair(pairs: &[(u64, u64)], target: u64) -> usize
     requires { IsTable pairs.now }
     ensures within { result ≤ length pairs.now }
     ensures below { (k : ℕ) (d : ℕ × ℕ) → k < result → (slice_index_or pairs.now k d).0 < target }
@@ -183,16 +183,6 @@ impl HopTable {
     }
 }
 
-/// Whether the pair is found in a table.
-fn is_found(table: &[(u64, u64)], pair: (u64, u64)) -> bool
-    ensures { OnTrue result (Contains table.now pair) }
-{
-    if let Ok(_) = table.binary_search(&pair) {
-        return true;
-    }
-    false
-}
-
 /// Adds a node, unless it is the last.
 fn add_once(nodes: &mut Vec<u64>, node: u64) -> Result<(), OutOfMemory>
     ensures kept { OnOk result ((other : ℕ) → Contains nodes.old.items other
@@ -208,27 +198,7 @@ fn add_once(nodes: &mut Vec<u64>, node: u64) -> Result<(), OutOfMemory>
     }
 }
 
-/// Adds the target of a pair that another table lacks.
-fn add_if_lacking(
-    pair: (u64, u64),
-    other: &[(u64, u64)],
-    nodes: &mut Vec<u64>,
-) -> Result<(), OutOfMemory>
-    ensures kept { OnOk result ((node : ℕ) → Contains nodes.old.items node
-        → Contains nodes.new.items node) }
-    ensures lacking { OnOk result ((Contains nodes.new.items pair.0 → ⊥)
-        → Contains other.now pair) }
-{
-    if is_found(other, pair) {
-        return Ok(());
-    }
-    match add_once(nodes, pair.0) {
-        Ok(()) => Ok(()),
-        Err(error) => Err(error),
-    }
-}
-
-/// Adds the targets of pairs that another table lacks.
+/// Adds the targets of pairs that another table lacks. Both are in order, so each is walked through once.
 fn add_lacking(
     table: &[(u64, u64)],
     other: &[(u64, u64)],
@@ -239,8 +209,10 @@ fn add_lacking(
     ensures lacking { OnOk result ((pair : ℕ × ℕ) → Contains table.now pair
         → (Contains nodes.new.items pair.0 → ⊥) → Contains other.now pair) }
 {
+    let mut at = 0;
     for place in 0..table.len() {
-        match add_if_lacking(table[place], other, nodes) {
+        at = first_from(other, at, table[place]);
+        match add_unless_at(table[place], other, at, nodes) {
             Ok(()) => {}
             Err(error) => return Err(error),
         }
@@ -248,20 +220,36 @@ fn add_lacking(
     Ok(())
 }
 
-/// The pairs of a table.
-pub fn pairs_of(table: &HopTable) -> &[(u64, u64)]
-    ensures same { result.now ≡ table.now }
-    ensures table { IsTable result.now }
+/// The first place from this one on whose pair isn't below another.
+fn first_from(table: &[(u64, u64)], start: usize, pair: (u64, u64)) -> usize
+    ensures { start ≤ result }
 {
-    table.pairs.as_slice()
+    let mut at = start;
+    while at < table.len() && table[at] < pair {
+        at += 1;
+    }
+    at
 }
 
-/// The table of pairs.
-pub fn table_of(pairs: Vec<(u64, u64)>) -> HopTable
-    requires { IsTable pairs.items }
-    ensures { result ≡ pairs.items }
+/// Adds the target of a pair, unless a table has the pair at this place.
+fn add_unless_at(
+    pair: (u64, u64),
+    other: &[(u64, u64)],
+    at: usize,
+    nodes: &mut Vec<u64>,
+) -> Result<(), OutOfMemory>
+    ensures kept { OnOk result ((node : ℕ) → Contains nodes.old.items node
+        → Contains nodes.new.items node) }
+    ensures lacking { OnOk result ((Contains nodes.new.items pair.0 → ⊥)
+        → Contains other.now pair) }
 {
-    HopTable { pairs }
+    if at < other.len() && other[at] == pair {
+        return Ok(());
+    }
+    match add_once(nodes, pair.0) {
+        Ok(()) => Ok(()),
+        Err(error) => Err(error),
+    }
 }
 
 /// The hops beside a target.

@@ -4,6 +4,7 @@
 //!
 //! - `made.rt`: a daemon of a configuration, and what is counted in its journal
 //! - `outside.rt`: openings, starts, takes, offers and writes that fail; `gates.rt`: two workers that wait for each other
+//! - `udp.rt`: an offer that the system refuses
 #![tactic(auto)]
 
 #[cfg(test)]
@@ -12,3 +13,5 @@ mod gates;
 mod made;
 #[cfg(test)]
 mod outside;
+#[cfg(test)]
+mod udp;

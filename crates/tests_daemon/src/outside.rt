@@ -15,13 +15,14 @@ use std::time::Clock;
 const ONE: &[u8] =
     b"system = \"0000.0000.0001\"\nareas = [\"49.0001\"]\nlevel = \"L1\"\n[[circuit]]\nkind = \"p2p\"\nbind = \"127.0.0.1:1\"\npeers = [\"127.0.0.1:2\"]\n";
 
-/// The opening, the start, the call of the port and the write that fail; none at 0.
+/// The opening, the start, the call of the port and the write that fail, none at 0; and the seconds that the pacer has.
 #[derive(Clone, Copy)]
 struct Failing {
     opening: u64,
     start: u64,
     call: u64,
     write: u64,
+    seconds: u64,
 }
 
 const NONE: Failing = Failing {
@@ -29,6 +30,7 @@ const NONE: Failing = Failing {
     start: 0,
     call: 0,
     write: 0,
+    seconds: 2,
 };
 
 /// What a run of two turns came to: its end; the octets written; the lines, the seconds and the pulls of its journal; and
@@ -62,7 +64,7 @@ fn come_to<R: Net + Threads + Wait + Clock + Sync>(
     let writes = [failing.write].to_vec(alloc)?;
     let sink = MemorySink::new(alloc, 65_536, 4096, writes)?;
     let gate = OpenGate::new();
-    let pacer = MemoryPacer::new(2);
+    let pacer = MemoryPacer::new(failing.seconds);
     let (sink, end) = run_of(
         rt,
         alloc,
@@ -94,6 +96,16 @@ fn all_is_told(rt: HostRuntime) -> Result<(), Fail> {
     assert_eq!(rt; (told.lines, told.seconds), (24, 2));
     assert_eq!(rt; (told.pulls, told.takes), (20, 1));
     assert!(rt; told.offered);
+    Ok(())
+}
+
+/// The pacer has one second for two turns: the ticker ends with it, and the worker makes its turns.
+#[test]
+fn pacer_ends_first(rt: HostRuntime) -> Result<(), Fail> {
+    let short = Failing { seconds: 1, ..NONE };
+    let told = come_to(&rt, rt.alloc(), short)?;
+    assert_eq!(rt; told.end, DaemonEnd::Done);
+    assert_eq!(rt; (told.seconds, told.pulls), (1, 20));
     Ok(())
 }
 

@@ -3,7 +3,7 @@
 //! There is nothing here but tests, so they are proved against the contracts of the crates that they are of.
 //!
 //! - `stores`: lsp_store
-//! - `entries`: entries and books that the next four share; `books`, `rows`: flag_sync
+//! - `entries`: entries and books that the next five share; `books`, `rows`, `full_books`: flag_sync
 //! - `ageing`: purge_ageing; `exchange`: snp_exchange
 //! - `fragments`: lsp_fragments
 //! - `neighbours`, `boots`: adjacency; `elections`: designated_is
@@ -26,6 +26,8 @@ mod entries;
 mod exchange;
 #[cfg(test)]
 mod fragments;
+#[cfg(test)]
+mod full_books;
 #[cfg(test)]
 mod neighbours;
 #[cfg(test)]

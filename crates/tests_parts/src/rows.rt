@@ -236,7 +236,7 @@ fn newer_entry_heard_on_a_lan(rt: HostRuntime) -> Result<(), Fail> {
 }
 
 /// Fills a book with empty entries, none of them of the LSP ID.
-fn fill(book: &mut Book)
+pub fn fill(book: &mut Book)
     requires { book.old.circuits ≡ 3 }
     ensures { book.new.circuits ≡ 3 }
 {

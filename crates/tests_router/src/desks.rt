@@ -4,8 +4,7 @@ use crate::made::{FIRST, bare, circuit, octets};
 use adjacency::HelloDrop;
 use hmac_auth::AuthFault;
 use isis_base::{AreaAddress, CircuitKind, Level, LevelSet, Octets, OutOfMemory, Prefix};
-use isis_edge::FrameFault;
-use isis_pdu::{PduFault, PduFaultKind};
+use isis_pdu::{FrameFault, PduFault, PduFaultKind};
 use router_desk::{Areas, CircuitConfig, Circuits, Config, Desk, DropCause, Opened, Prefixes};
 use std::alloc::Global;
 
@@ -97,7 +96,7 @@ const LIMITS: [[u32; 11]; 26] = [
 
 /// Each cause, and its name.
 const NAMES: [(DropCause, &str); 21] = [
-    (DropCause::Frame(isis_edge::FrameFault::Short), "frame"),
+    (DropCause::Frame(isis_pdu::FrameFault::Short), "frame"),
     (DropCause::Version, "version"),
     (
         DropCause::Pdu(PduFault {

@@ -1,7 +1,7 @@
 -- The walk of a packet after a script, or why there is none (own).
-use Rattle.std.specs.Prelude.{◌≡◌, ℕ, true, false, List, Option, Some, None, Result, Ok, Err, IsSome}
+use Rattle.std.specs.Prelude.{◌≡◌, ℕ, true, false, List, Some, None, Result, Ok, Err, IsSome}
 use Rattle.isis_base.specs.declared.prefix.Prefix.{Prefix}
-use Rattle.isis_edge.specs.Told.{Wrote, TellsSame}
+use Rattle.isis_edge.specs.Told.{Wrote}
 use Rattle.model_router.specs.Routers.{Router}
 use Rattle.route_table.specs.Ranks.{prefix_number}
 use Rattle.model_network.specs.Networks.{Network}
@@ -120,17 +120,17 @@ Finds script name prefix (Err failed.OutOfMemory) = Unit {0}
 
 -- how the writing of a walk ends: the sink, before and now, holds the whole text more, a first part of
 -- it where a write failed, or no more than before
-abbrev pub WalkTextEnds : Script → List ℕ → Prefix → (before now : Option (List ℕ))
+abbrev pub WalkTextEnds : Script → List ℕ → Prefix → (before now : List ℕ)
     → Result (Unit {0}) WalkFault → Type 0
 WalkTextEnds script name prefix before now (Ok done) =
     (text : List ℕ) × IsWalkText script name prefix text × Wrote before now text
 WalkTextEnds script name prefix before now (Err (failed.Refused line reason)) =
     HasRouter script name × (outcome_of script ≡ Err (Refused line reason))
-    × TellsSame before now
+    × (now ≡ before)
 WalkTextEnds script name prefix before now (Err (failed.Limit which)) =
-    HasRouter script name × (outcome_of script ≡ Err (Limit which)) × TellsSame before now
+    HasRouter script name × (outcome_of script ≡ Err (Limit which)) × (now ≡ before)
 WalkTextEnds script name prefix before now (Err (failed.NoWalk reason)) =
-    IsNoWalk script name prefix reason × TellsSame before now
+    IsNoWalk script name prefix reason × (now ≡ before)
 WalkTextEnds script name prefix before now (Err failed.Write) =
     WrotePart (IsWalkText script name prefix) before now
-WalkTextEnds script name prefix before now (Err failed.OutOfMemory) = TellsSame before now
+WalkTextEnds script name prefix before now (Err failed.OutOfMemory) = now ≡ before

@@ -2,10 +2,11 @@
 ghost use Rattle.std.specs.Prelude.{◌≡◌, ◌++◌, OnOk, IfOk};
 ghost use Rattle.std.specs.List.{flat_map};
 ghost use Rattle.lab_script.specs.Scripts.{names_in};
-ghost use Rattle.lab_text.specs.Passed.{name_at, prefix_words};
+ghost use Rattle.lab_text.specs.Passed.{name_at, prefix_words, told_cost};
 ghost use Rattle.walk_text.specs.WalkText as lines;
 
 use forwarding::Walked;
+use isis_base::numbers::PREFIX_METRIC;
 use isis_base::{Octets, OutOfMemory, Prefix, add_number};
 use lab_text::Script;
 use std::alloc::Global;
@@ -29,7 +30,7 @@ pub(crate) fn walk_text(
     Ok(text)
 }
 
-/// `walk NAME PREFIX cost C`.
+/// `walk NAME PREFIX cost C`, where C is at most the greatest metric of a prefix.
 #[tactic(auto, unfolding(crate::specs::WalkText::walk_line))]
 fn add_walk(
     alloc: Global,
@@ -43,8 +44,15 @@ fn add_walk(
     text.extend(b"walk ")?;
     text.extend(name.as_bytes())?;
     add_prefix(alloc, text, prefix)?;
-    add_number(text, b" cost ", cost)?;
+    add_number(text, b" cost ", printed_cost(cost))?;
     text.extend(b"\n")
+}
+
+/// The cost that is printed: at most the greatest metric of a prefix (RFC 5305 4).
+fn printed_cost(cost: u64) -> u64
+    ensures { result ≡ told_cost cost }
+{
+    cost.min(u64::from(PREFIX_METRIC))
 }
 
 /// A blank and the text of a prefix.

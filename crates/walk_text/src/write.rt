@@ -26,7 +26,7 @@ pub fn write_walk<O: Sink>(
     prefix: Prefix,
     out: &mut O,
 ) -> Result<(), WalkFault>
-    ensures ends { WalkTextEnds script.now name.now prefix (O.held out.old) (O.held out.new) result }
+    ensures ends { WalkTextEnds script.now name.now prefix (O.put out.old) (O.put out.new) result }
     ensures cause { result ≡ Err WalkFault.Write → Rose (O.faults out.old) (O.faults out.new) }
     ensures later { O.faults out.old ≤ O.faults out.new }
 {

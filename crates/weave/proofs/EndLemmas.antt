@@ -13,7 +13,7 @@ use Rattle.model_network.specs.Runs.{Happening}
 use Rattle.network_lab.specs.declared.event.LabEvent.{LabEvent}
 use Rattle.network_lab.specs.declared.sent.SentDatagram.{SentDatagram}
 use Rattle.network_lab.specs.LabNets.{Seen, LabNet, StandsFor, sent_of}
-use Rattle.network_lab.specs.Claims.{HaveOneLink}
+use Rattle.network_lab.specs.Claims.{HaveOneLink, IsClaimed}
 use Rattle.weave_core.specs.declared.moves.Turn.{Turn}
 use Rattle.weave_core.specs.declared.moves.Move.{Move as CoreMove}
 use Rattle.weave_core.specs.Codes.{code_of, IsCode}
@@ -26,13 +26,14 @@ use Rattle.weave_replay.specs.Entries.{entries_of}
 use Rattle.weave_replay.specs.Replays.{journals_of, AreReplayed}
 use Rattle.weave_replay.proofs.PlaceLemmas as placed
 use Rattle.weave_replay.proofs.PlaceLemmas.{some-is, within}
-use Rattle.weave_coding.specs.Coded.{AreAllCoded}
-use Rattle.weave_coding.specs.Begins.{tracks_from, begin, IsAtStart}
-use Rattle.weave_coding.proofs.RowLemmas.{all-at}
+use Rattle.weave.specs.Coded.{AreAllCoded}
+use Rattle.weave.specs.Begins.{tracks_from, begin, IsAtStart}
+use Rattle.weave.proofs.ItemLemmas.{all-at}
 use Rattle.weave.specs.Woven.{IsUnbegun, AreRows, AreOfRounds, happenings_of, IsWoven}
 use Rattle.weave.specs.Unreached.{moves_in, IsReached, IsFirstUnreached}
 use Rattle.weave.specs.Counts.{AreCounted, with_restarts, IsMade, AreAllMade, IsFirstLeft}
 use Rattle.weave.specs.Plays.{EndRounds, Plays}
+use Rattle.weave.proofs.AlongLemmas.{claimed-none}
 use Rattle.weave.proofs.ListLemmas.{nth-slice}
 use Rattle.weave.proofs.PlanLemmas.{tracks-length, track-there}
 use Rattle.weave.proofs.CountLemmas.{to-is}
@@ -69,7 +70,7 @@ pub record Ready (net : Network) (journals : List WovenJournal) (a : LabNet) (le
   pub hs : List Happening
   pub b : Scene
   pub ended : Ended net journals left hs b
-  pub plays : Plays [] turns (tracks_from 0 (length a.seen.routers) journals) a hs b
+  pub plays : Plays net [] turns (tracks_from 0 (length a.seen.routers) journals) a hs b
   pub rounds : AreOfRounds net journals hs
   pub replayed : AreReplayed net.routers journals
 
@@ -77,8 +78,8 @@ none-sent : (ds : List Datagram) (sent : List SentDatagram) → map sent_of ds �
 none-sent [] sent e n = refl
 none-sent (d ∷ ds) sent e n = absurd (let l = ap length (e ∙ n) in omega (arith, l))
 
-pub ready : EndLaw → LeftLaw → BeginLaw → CodeLaw → (a : LabNet) (journals : List WovenJournal) (left : List (List CoreMove)) (turns : List Turn) (net : Network) → IsUnbegun a → HaveOneLink a.seen.links → EndRounds a.seen journals left turns → StandsFor net a → Ready net journals a left turns
-ready end_law left_law begin_law code_law a journals left turns net begun wired rounds stands = on matches
+pub ready : EndLaw → LeftLaw → BeginLaw → CodeLaw → (a : LabNet) (journals : List WovenJournal) (left : List (List CoreMove)) (turns : List Turn) (net : Network) → IsUnbegun a → IsClaimed a.seen → HaveOneLink a.seen.links → EndRounds a.seen journals left turns → StandsFor net a → Ready net journals a left turns
+ready end_law left_law begin_law code_law a journals left turns net begun claims wired rounds stands = on matches
   where
     routers : a.seen.routers ≡ net.routers
     routers = ap (λ (s : Seen). s.routers) (sym stands.seen)
@@ -135,6 +136,8 @@ ready end_law left_law begin_law code_law a journals left turns net begun wired 
             front = e.4.front;
             turns_are = sym rounds.turns_are ∙ e.2;
             whole = refl;
+            led = refl;
+            claimed = claimed-none net (subst IsClaimed (sym stands.seen) claims);
           };
           rounds = record {
             wires = rounds.wires;
@@ -289,13 +292,14 @@ nothing-more : (rest : List Happening) → [] ≡ map turn_for rest → rest ≡
 nothing-more [] e = refl
 nothing-more (h ∷ rest) e = absurd (let n : 0 ≡ 1 = ap no_turns e in omega (arith, n))
 
-pub woven : (net : Network) (journals : List WovenJournal) (a after : LabNet) (left : List (List CoreMove)) (turns : List Turn) (schedule : List LabEvent) (plans : List (List Move)) → (r : Ready net journals a left turns) → Plays (happenings_of schedule) [] plans after r.hs r.b → IsDone r.b → IsWoven net journals schedule after
+pub woven : (net : Network) (journals : List WovenJournal) (a after : LabNet) (left : List (List CoreMove)) (turns : List Turn) (schedule : List LabEvent) (plans : List (List Move)) → (r : Ready net journals a left turns) → Plays net (happenings_of schedule) [] plans after r.hs r.b → IsDone r.b → IsWoven net journals schedule after
 woven net journals a after left turns schedule plans r p done = record {
   last = r.b;
   replayed = r.replayed;
   woven = record { front = subst (λ (hs : List Happening). Front given hs (begin net journals) r.b) same r.ended.far.front; done = done };
   stands = subst (λ (s : Scene). StandsFor s.net after) (sym at_end) p.stands.net;
   rounds = subst (λ (hs : List Happening). AreOfRounds net journals hs) same r.rounds;
+  claimed = p.claimed;
 }
   where
     none : p.rest ≡ []

@@ -19,7 +19,7 @@ use Rattle.network_lab.specs.Claims.{AreLinksOf, HaveOneLink}
 use Rattle.weave_model.specs.Faults.{is_there, fits}
 use Rattle.weave_model.specs.Weavings.{Pulls}
 use Rattle.weave_replay.specs.Entries.{change_deed}
-use Rattle.weave_coding.proofs.RowLemmas.{nth-or}
+use Rattle.weave.proofs.ItemLemmas.{nth-or}
 
 -- a circuit's number is one of the router's
 pub there-is : (r : Router) (circuit : ℕ) → is_there r circuit ≡ true → IsThere r circuit

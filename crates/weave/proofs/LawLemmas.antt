@@ -15,7 +15,7 @@ use Rattle.weave_replay.specs.declared.fault.ReplayFault.TheVariants as replay
 use Rattle.weave_replay.specs.Replays as told
 use Rattle.weave_replay.specs.Replays.{journals_of, IsTold, AreReplayed}
 use Rattle.weave_replay.proofs.PlaceLemmas.{some-is}
-use Rattle.weave_coding.specs.Begins.{begin}
+use Rattle.weave.specs.Begins.{begin}
 use Rattle.weave.specs.declared.fault.WeaveFault.{WeaveFault}
 use Rattle.weave.specs.declared.fault.WeaveFault.TheVariants as fault
 use Rattle.weave.specs.Woven.{happenings_of, IsWoven}

@@ -6,9 +6,9 @@ use Rattle.weave_model.specs.Entries.{Entry}
 use Rattle.weave_model.specs.Weavings.{Move, Does, Restarts, entries_before, track_of}
 use Rattle.weave_replay.specs.declared.journal.WovenJournal.{WovenJournal}
 use Rattle.weave_replay.specs.Replays.{journals_of}
-use Rattle.weave_coding.specs.Coded.{has_some}
-use Rattle.weave_coding.specs.Begins.{tracks_from}
-use Rattle.weave_coding.proofs.TrackLemmas.{before-more, track-more, track-first, track-none}
+use Rattle.weave.specs.Coded.{has_some}
+use Rattle.weave.specs.Begins.{tracks_from}
+use Rattle.weave.proofs.TrackLemmas.{before-more, track-more, track-first, track-none}
 
 -- ---- tracks of routers
 

@@ -5,7 +5,7 @@ use Rattle.model_router.specs.Places.{nth}
 use Rattle.router_core.specs.Givens.{given}
 use Rattle.model_network.specs.declared.end.End.{End}
 use Rattle.model_network.specs.Networks.{Network}
-use Rattle.model_network.specs.Runs.{Happening}
+use Rattle.model_network.specs.Runs.{Happening, run}
 use Rattle.network_lab.specs.declared.event.LabEvent.{LabEvent}
 use Rattle.network_lab.specs.LabNets.{Seen, LabNet, StandsFor}
 use Rattle.network_lab.specs.Claims.{HaveOneLink}
@@ -18,6 +18,7 @@ use Rattle.weave_model.proofs.PlaceLemmas.{There, there-too}
 use Rattle.weave_model.proofs.MatchLemmas.{Told, turns-of}
 use Rattle.weave_replay.proofs.PlaceLemmas.{some-is, within, nth-get}
 use Rattle.weave.specs.Woven.{happenings_of}
+use Rattle.weave.proofs.AlongLemmas.{one-led, claimed-more, claimed-at, one-injected}
 use Rattle.weave.proofs.ListLemmas.{nth-slice}
 use Rattle.weave.specs.Plays.{IsNext, HasHappened, Stands, Plays, CanTurn, PlaysOn}
 
@@ -115,10 +116,10 @@ wired-links a net links wired stands same =
 pub turn-played : (old new : List LabEvent) (turn : Turn) (more : List Turn) (plans later : List (List Move)) (a b : LabNet) (move : Move) (left : List Move)
     → HaveOneLink a.seen.links → slice_get plans turn.party ≡ Some (move ∷ left) → later ≡ set plans turn.party left
     → HasHappened a turn.party move turn.taken old new b → PlaysOn old (turn ∷ more) plans a new more later b
-turn-played old new turn more plans later a b move left wired at put happened hs last p =
+turn-played old new turn more plans later a b move left wired at put happened origin hs last p =
     on (next-turn turn more plans a p.here last p.rest p.stands p.front p.turns_are)
   where
-    on : NextTurn turn more plans p.here last p.rest → Plays (happenings_of new) more later b hs last
+    on : NextTurn turn more plans p.here last p.rest → Plays origin (happenings_of new) more later b hs last
     on n = of (plan-first turn more plans p.here last p.rest move left n at)
       where
         st : Stands plans a p.here
@@ -127,11 +128,13 @@ turn-played old new turn more plans later a b move left wired at put happened hs
         told : Told given st.code st.count st.links n.mid st.letters
         told = turns-of given st.code st.count st.links p.here n.mid st.letters (n.h ∷ []) (wired-links a p.here.net st.links wired st.net st.alike.links_are) st.alike (n.mid, n.goes, refl)
 
-        of : (n.goes.move ≡ move) × (n.goes.more ≡ left) → Plays (happenings_of new) more later b hs last
+        of : (n.goes.move ≡ move) × (n.goes.more ≡ left) → Plays origin (happenings_of new) more later b hs last
         of same =
             let is : IsMove p.here.net turn.party move n.h =
             subst (λ (m : Move). IsMove p.here.net turn.party m n.h) same.0 (subst (λ (k : ℕ). IsMove p.here.net k n.goes.move n.h) (sym n.party) n.goes.says) in
             let done = happened p.here.net n.h st.net is n.turn_is in
+            let led : run given origin (happenings_of new) ≡ n.mid.net =
+            one-led origin p.here.net n.mid.net (happenings_of old) (happenings_of new) n.h done.0 p.led n.goes.net in
             record {
               here = n.mid;
               rest = n.rest;
@@ -155,6 +158,11 @@ turn-played old new turn more plans later a b move left wired at put happened hs
                   ∙ (ap (λ (xs : List Happening). happenings_of old ++ xs) n.all_are
                   ∙ (sym (append_assoc (happenings_of old) (n.h ∷ []) n.rest)
                   ∙ ap (λ (xs : List Happening). xs ++ n.rest) (sym done.0)));
+              led = led;
+              claimed =
+                  claimed-more origin (happenings_of old) (happenings_of new) n.h done.0 p.claimed
+                  (claimed-at (run given origin (happenings_of new)) b led (subst (λ (m : Network). StandsFor m b) (sym n.goes.net) done.1) done.2)
+                  (one-injected origin p.here.net n.mid.net (happenings_of old) (happenings_of new) turn.party move n.h p.led led n.goes.net is p.claimed);
             }
 
 -- ---- the step of a turn
@@ -169,7 +177,7 @@ pub record TurnPlan (turn : Turn) (plans : List (List Move)) (a : LabNet) : Type
 pub turn-plan : (turn : Turn) (plans : List (List Move)) (a : LabNet) → CanTurn turn plans a → TurnPlan turn plans a
 turn-plan turn plans a c = of c.can.plays
   where
-    of : Plays c.done (turn ∷ c.more) plans a c.can.hs c.can.last → TurnPlan turn plans a
+    of : Plays c.can.origin c.done (turn ∷ c.more) plans a c.can.hs c.can.last → TurnPlan turn plans a
     of p =
         let n = next-turn turn c.more plans a p.here c.can.last p.rest p.stands p.front p.turns_are in
         record {

@@ -5,7 +5,7 @@ use Rattle.model_router.specs.Places.{nth}
 use Rattle.model_router.specs.Routers.{Router}
 use Rattle.model_network.specs.declared.end.End.{End}
 use Rattle.weave_replay.proofs.PlaceLemmas.{in-more}
-use Rattle.weave_coding.specs.Coded.{ArePorts}
+use Rattle.weave.specs.Coded.{ArePorts}
 use Rattle.weave.specs.Woven.{AreRows}
 
 pub rows-more : (routers : List Router) (links : List (List End)) (rows : List (List ℕ)) (r : Router) (row : List ℕ) → AreRows routers links rows → length row ≡ length r.circuits → ArePorts links (length routers) row → AreRows (routers ++ (r ∷ [])) links (rows ++ (row ∷ []))

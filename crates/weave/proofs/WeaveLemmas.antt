@@ -4,14 +4,14 @@ use Rattle.std.specs.List.{AllByRecursion}
 use Rattle.model_network.specs.Networks.{Network}
 use Rattle.network_lab.specs.declared.event.LabEvent.{LabEvent}
 use Rattle.network_lab.specs.LabNets.{Seen, LabNet, StandsFor}
-use Rattle.network_lab.specs.Claims.{HaveOneLink}
+use Rattle.network_lab.specs.Claims.{HaveOneLink, IsClaimed}
 use Rattle.router_core.specs.Givens.{given}
 use Rattle.weave_core.specs.declared.moves.Turn.{Turn}
 use Rattle.weave_core.specs.declared.moves.Move.{Move as CoreMove}
 use Rattle.weave_model.specs.Weavings.{Move}
 use Rattle.weave_replay.specs.declared.journal.WovenJournal.{WovenJournal}
 use Rattle.weave_replay.specs.Replays.{AreReplayed}
-use Rattle.weave_coding.specs.Begins.{tracks_from, begin}
+use Rattle.weave.specs.Begins.{tracks_from, begin}
 use Rattle.weave.specs.Woven.{IsUnbegun, IsWoven}
 use Rattle.weave.specs.Unreached.{IsFirstUnreached}
 use Rattle.weave.specs.Counts.{AreCounted, AreAllMade, IsFirstLeft}
@@ -27,11 +27,12 @@ pub record AtEnd (a : LabNet) (journals : List WovenJournal) (left : List (List 
   pub begin_law : BeginLaw
   pub code_law : CodeLaw
   pub begun : IsUnbegun a
+  pub claimed : IsClaimed a.seen
   pub wired : HaveOneLink a.seen.links
   pub rounds : EndRounds a.seen journals left turns
 
 ready-at : (a : LabNet) (journals : List WovenJournal) (left : List (List CoreMove)) (turns : List Turn) → AtEnd a journals left turns → (net : Network) → StandsFor net a → Ready net journals a left turns
-ready-at a journals left turns x net stands = ready x.end_law x.left_law x.begin_law x.code_law a journals left turns net x.begun x.wired x.rounds stands
+ready-at a journals left turns x net stands = ready x.end_law x.left_law x.begin_law x.code_law a journals left turns net x.begun x.claimed x.wired x.rounds stands
 
 routers-of : (a : LabNet) (net : Network) → StandsFor net a → length net.routers ≡ length a.seen.routers
 routers-of a net stands = ap (λ (s : Seen). length s.routers) stands.seen
@@ -51,7 +52,7 @@ pub can-play : (a : LabNet) (journals : List WovenJournal) (left : List (List Co
 can-play a journals left turns x = of (ready-at a journals left turns x (opening_net a) (opening-stands a x.begun))
   where
     of : Ready (opening_net a) journals a left turns → CanPlay [] turns (tracks_from 0 (length a.seen.routers) journals) a
-    of r = record { hs = r.hs; last = r.b; plays = r.plays }
+    of r = record { origin = opening_net a; hs = r.hs; last = r.b; plays = r.plays }
 
 -- what was counted, for a network that is stood for
 counted-for : (a : LabNet) (journals : List WovenJournal) (left : List (List CoreMove)) (made : List ℕ) (net : Network) → StandsFor net a → AreCounted (tracks_from 0 (length a.seen.routers) journals) left made → AreCounted (tracks_from 0 (length net.routers) journals) left made
@@ -63,7 +64,7 @@ pub all-woven : (a after : LabNet) (journals : List WovenJournal) (left : List (
 all-woven a after journals left turns made schedule plans x counts all played net stands = of (ready-at a journals left turns x net stands)
   where
     of : Ready net journals a left turns → IsWoven net journals schedule after
-    of r = woven net journals a after left turns schedule plans r (played r.hs r.b r.plays)
+    of r = woven net journals a after left turns schedule plans r (played net r.hs r.b r.plays)
         (none-left net journals left r.hs r.b made r.ended (counted-for a journals left made net stands counts) all)
 
 -- else the first entry that wasn't made is the first that no front reaches

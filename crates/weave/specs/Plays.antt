@@ -5,8 +5,9 @@ use Rattle.model_router.specs.Routers.{Router}
 use Rattle.router_core.specs.Givens.{given}
 use Rattle.model_network.specs.declared.end.End.{End}
 use Rattle.model_network.specs.Networks.{Network}
-use Rattle.model_network.specs.Runs.{Happening, apply}
+use Rattle.model_network.specs.Runs.{Happening, apply, run}
 use Rattle.network_lab.specs.declared.event.LabEvent.{LabEvent}
+use Rattle.network_lab.specs.Claims.{IsClaimed}
 use Rattle.network_lab.specs.LabNets.{Seen, LabNet, StandsFor}
 use Rattle.network_lab.specs.LabEvents.{happening_of}
 use Rattle.weave_core.specs.declared.moves.Move.{Move as CoreMove}
@@ -17,8 +18,8 @@ use Rattle.weave_model.specs.Weavings.{Move, IsMove, Scene, Front}
 use Rattle.weave_model.specs.Coding.{IsGoodMove, turn_for, Matches}
 use Rattle.weave_replay.specs.declared.journal.WovenJournal.{WovenJournal}
 use Rattle.weave_replay.specs.Replays.{AreReplayed}
-use Rattle.weave_coding.specs.Coded.{AreAllCoded}
-use Rattle.weave.specs.Woven.{AreRows, happenings_of}
+use Rattle.weave.specs.Coded.{AreAllCoded}
+use Rattle.weave.specs.Woven.{AreRows, happenings_of, AreClaimedAlong}
 
 -- Journals that replay are tracks of letters, and rounds over these end with this left, after these
 -- turns.
@@ -49,13 +50,14 @@ IsEventOf a router move taken event =
     (net : Network) (h : Happening) → StandsFor net a → IsMove net router move h
     → turn_by router taken ≡ turn_for h → happening_of event ≡ h
 
--- it happened in the network, and joined a schedule
+-- it happened in the network, of which the claims hold then, and joined a schedule
 abbrev pub HasHappened : LabNet → ℕ → Move → Option ℕ → List LabEvent → List LabEvent → LabNet
     → Type 0
 HasHappened a router move taken old new after =
     (net : Network) (h : Happening) → StandsFor net a → IsMove net router move h
     → turn_by router taken ≡ turn_for h
     → (happenings_of new ≡ happenings_of old ++ h ∷ []) × StandsFor (apply given net h) after
+    × IsClaimed after.seen
 
 -- ---- all events
 
@@ -69,23 +71,26 @@ pub record Stands (plans : List (List Move)) (a : LabNet) (s : Scene) : Type 0 w
   pub letters : CoreScene
   pub alike : Matches given code count links s letters
 
--- Behind the events that were done a front goes on from here, in these turns; both are events to a
--- last scene.
-pub record Plays (done : List Happening) (turns : List Turn) (plans : List (List Move)) (a : LabNet)
-    (hs : List Happening) (last : Scene) : Type 0 where
+-- Behind the events that were done from a network on, with the claims along them, a front goes on from
+-- here, in these turns; both are events to a last scene.
+pub record Plays (origin : Network) (done : List Happening) (turns : List Turn)
+    (plans : List (List Move)) (a : LabNet) (hs : List Happening) (last : Scene) : Type 0 where
   pub here : Scene
   pub rest : List Happening
   pub stands : Stands plans a here
   pub front : Front given rest here last
   pub turns_are : turns ≡ map turn_for rest
   pub whole : hs ≡ done ++ rest
+  pub led : run given origin done ≡ here.net
+  pub claimed : AreClaimedAlong origin done
 
 -- there are such events
 pub record CanPlay (done : List Happening) (turns : List Turn) (plans : List (List Move))
     (a : LabNet) : Type 0 where
+  pub origin : Network
   pub hs : List Happening
   pub last : Scene
-  pub plays : Plays done turns plans a hs last
+  pub plays : Plays origin done turns plans a hs last
 
 -- this turn is the next of such
 pub record CanTurn (turn : Turn) (plans : List (List Move)) (a : LabNet) : Type 0 where
@@ -97,5 +102,6 @@ pub record CanTurn (turn : Turn) (plans : List (List Move)) (a : LabNet) : Type 
 abbrev pub PlaysOn : List LabEvent → List Turn → List (List Move) → LabNet → List LabEvent
     → List Turn → List (List Move) → LabNet → Type 0
 PlaysOn old turns plans a new more left b =
-    (hs : List Happening) (last : Scene) → Plays (happenings_of old) turns plans a hs last
-    → Plays (happenings_of new) more left b hs last
+    (origin : Network) (hs : List Happening) (last : Scene)
+    → Plays origin (happenings_of old) turns plans a hs last
+    → Plays origin (happenings_of new) more left b hs last

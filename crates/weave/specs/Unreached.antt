@@ -8,7 +8,7 @@ use Rattle.weave_model.specs.Weavings.{Move, track_of, Scene, Front}
 use Rattle.weave_replay.specs.declared.journal.WovenJournal.{WovenJournal}
 use Rattle.weave_replay.specs.Entries.{entries_of}
 use Rattle.weave_replay.specs.Replays.{journals_of}
-use Rattle.weave_coding.specs.Begins.{begin}
+use Rattle.weave.specs.Begins.{begin}
 
 -- how many moves a router makes up to and with so many entries of a journal that stands behind these
 -- others

@@ -1,13 +1,14 @@
 -- What is woven: a schedule of all that journals say, in rounds over the routers (own).
-use Rattle.std.specs.Prelude.{◌≡◌, ℕ, List, [], map, length, None, Some}
+use Rattle.std.specs.Prelude.{◌≡◌, ℕ, List, [], ◌++◌, map, length, None, Some}
 use Rattle.model_router.specs.Places.{nth}
 use Rattle.model_router.specs.Routers.{Router}
 use Rattle.router_core.specs.Givens.{given}
 use Rattle.model_network.specs.declared.end.End.{End}
 use Rattle.model_network.specs.Networks.{Network}
-use Rattle.model_network.specs.Runs.{Happening}
+use Rattle.model_network.specs.Runs.{Happening, run}
 use Rattle.network_lab.specs.declared.event.LabEvent.{LabEvent}
-use Rattle.network_lab.specs.LabNets.{LabNet, StandsFor}
+use Rattle.network_lab.specs.Claims.{IsClaimed}
+use Rattle.network_lab.specs.LabNets.{LabNet, StandsFor, seen_of}
 use Rattle.network_lab.specs.LabEvents.{happening_of}
 use Rattle.weave_core.specs.declared.moves.Move.{Move as CoreMove}
 use Rattle.weave_core.specs.Scenes.{Scene as CoreScene, start, IsEnd}
@@ -15,8 +16,8 @@ use Rattle.weave_model.specs.Weavings.{Scene, IsWeaving}
 use Rattle.weave_model.specs.Coding.{turn_for}
 use Rattle.weave_replay.specs.declared.journal.WovenJournal.{WovenJournal}
 use Rattle.weave_replay.specs.Replays.{in_first_boot, AreReplayed}
-use Rattle.weave_coding.specs.Coded.{ArePorts, AreAllCoded}
-use Rattle.weave_coding.specs.Begins.{begin, HaveAsMany}
+use Rattle.weave.specs.Coded.{ArePorts, AreAllCoded}
+use Rattle.weave.specs.Begins.{begin, HaveAsMany}
 
 -- Nothing was done in a network: it runs, nothing was sent, and each router is where its first boot
 -- opens. So it is where at most changes of configurations were applied.
@@ -51,8 +52,16 @@ pub record AreOfRounds (net : Network) (journals : List WovenJournal) (hs : List
 abbrev pub happenings_of : List LabEvent → List Happening
 happenings_of schedule = map happening_of schedule
 
--- A schedule of all entries of journals that replay, from a network on, in rounds; and a network
--- that stands where it ends.
+-- After each of these events from a network on, and before the first, the claims hold on links that
+-- are up, on groups, on members of LANs and those that sweep them, and on the contents held under one
+-- number (ISO 10589 7.3.17); and no event injects anything.
+abbrev pub AreClaimedAlong : Network → List Happening → Type 0
+AreClaimedAlong net hs =
+    (first rest : List Happening) → hs ≡ first ++ rest
+    → IsClaimed (seen_of (run given net first)) × ((run given net first).injected ≡ net.injected)
+
+-- A schedule of all entries of journals that replay, from a network on, in rounds; the claims along
+-- it; and a network that stands where it ends.
 pub record IsWoven (net : Network) (journals : List WovenJournal) (schedule : List LabEvent)
     (after : LabNet) : Type 0 where
   pub last : Scene
@@ -60,3 +69,4 @@ pub record IsWoven (net : Network) (journals : List WovenJournal) (schedule : Li
   pub woven : IsWeaving given (happenings_of schedule) (begin net journals) last
   pub stands : StandsFor last.net after
   pub rounds : AreOfRounds net journals (happenings_of schedule)
+  pub claimed : AreClaimedAlong net (happenings_of schedule)

@@ -4,8 +4,8 @@ ghost use Rattle.weave_model.specs.Entries.{Entry};
 ghost use Rattle.weave_model.specs.Weavings.{entries_before, track_of};
 ghost use Rattle.weave_replay.specs.Entries.{entry_of, entries_of};
 ghost use Rattle.weave_replay.specs.Replays.{journals_of};
-ghost use Rattle.weave_coding.specs.Begins.{tracks_from};
-ghost use Rattle.weave_coding.specs.Coded.{has_some};
+ghost use Rattle.weave.specs.Begins.{tracks_from};
+ghost use Rattle.weave.specs.Coded.{has_some};
 ghost use Rattle.weave.specs.Moves.{move_of};
 
 use crate::step::Step;

@@ -22,9 +22,9 @@ use Rattle.lab_script.specs.LabLines.{members_form, priority_form}
 use Rattle.lab_script.specs.LabScripts.{LabScript, nothing_laid}
 use Rattle.lab_script.specs.Scripts.{◌>>=◌, is_skipped, hear_words, hear_text, hear_lines, script_of_lines}
 use Rattle.lab_script.proofs.LabLemmas.{all-push}
-use Rattle.weave_script.specs.Ahead.{is_layout, is_ahead, ahead_count}
-use Rattle.weave_script.specs.Lines.{IsUnbroken}
-use Rattle.weave_script.proofs.LineLemmas.{lines-of_text}
+use Rattle.weave_text.specs.Ahead.{is_layout, is_ahead, ahead_count}
+use Rattle.weave_text.specs.Lines.{IsUnbroken}
+use Rattle.weave_text.proofs.CutLemmas.{lines-of_text}
 use Rattle.weave_text.specs.Weavings.{script_in}
 use Rattle.weave_text.proofs.FreshLemmas.{IsChangeDeed, AreChanges}
 
@@ -130,7 +130,7 @@ of-overload s number words h =
     of-done (with_form s number) _ more tt (told-changes s number _ h (then-some (router_at s router) _ IsChangeDeed (λ r. tt)))
 
 -- one of two
-either : (a b : Bool) → (a || b) ≡ true → (a ≡ true) ⊎ (b ≡ true)
+pub either : (a b : Bool) → (a || b) ≡ true → (a ≡ true) ⊎ (b ≡ true)
 either true b e = inl refl
 either false b e = inr e
 

@@ -87,6 +87,7 @@ step-fresh r e is fresh =
 
 pub record IsCalm (net : Network) : Type 0 where
   pub silent : net.datagrams ≡ []
+  pub clean : net.injected ≡ 0
   pub opening : (i : ℕ) (r : Router) → nth net.routers i ≡ Some r → IsFresh r
 
 with-fresh : (rs : List Router) (i : ℕ) (new : Router) → IsFresh new → ((j : ℕ) (r : Router) → nth rs j ≡ Some r → IsFresh r) → (j : ℕ) (r : Router) → nth (with_nth rs i new) j ≡ Some r → IsFresh r
@@ -100,6 +101,7 @@ moved-calm : (net : Network) (i : ℕ) (e : Event) (r : Option Router) → IsCha
 moved-calm net i e None is at calm = calm
 moved-calm net i e (Some r) is at calm = record {
   silent = append-nil net.datagrams ∙ calm.silent;
+  clean = calm.clean;
   opening = with-fresh net.routers i (step given r e).router (step-fresh r e is (calm.opening i r at)) calm.opening;
 }
 
@@ -225,6 +227,7 @@ each-fresh (c ∷ configs) (suc i) r e = each-fresh configs i r e
 laid-calm : (script : LabScript) → IsCalm (opened (laid_out script))
 laid-calm script = record {
   silent = refl;
+  clean = refl;
   opening = λ i r e. each-fresh (laid_out script).configs i r (sym (ap (λ (rs : List Router). nth rs i) opened_so) ∙ e);
 }
   where
@@ -233,10 +236,17 @@ laid-calm script = record {
         keys-opened script.keys (lay.with_links script.routers script.links (lay.with_routers script.keys 0 script.routers empty_lab))
         (links-opened script.routers script.links (lay.with_routers script.keys 0 script.routers empty_lab) (routers-opened script.keys 0 script.routers empty_lab refl))
 
--- a network that stands at the end of such a script is unbegun
+end-calm : (script : LabScript) (net : Network) → AreChanges script.lines → end_of script ≡ Ok net → IsCalm net
+end-calm script net are e = IfOk-at_ok IsCalm e (all-calm script.lines (opened (laid_out script)) are (laid-calm script))
+
+-- at the end of such a script nothing was injected
+pub uninjected : (script : LabScript) (net : Network) → AreChanges script.lines → end_of script ≡ Ok net → net.injected ≡ 0
+uninjected script net are e = (end-calm script net are e).clean
+
+-- a network that stands there is unbegun
 pub unbegun : (script : LabScript) (net : Network) (a : LabNet) → AreChanges script.lines → end_of script ≡ Ok net → StandsFor net a → a.stopped ≡ None → IsUnbegun a
 unbegun script net a are e stands running =
-    let calm : IsCalm net = IfOk-at_ok IsCalm e (all-calm script.lines (opened (laid_out script)) are (laid-calm script)) in
+    let calm = end-calm script net are e in
     record {
       running = running;
       silent = sym (ap (λ (s : Seen). s.sent) stands.seen) ∙ ap (λ (ds : List Datagram). map sent_of ds) calm.silent;

@@ -1,5 +1,5 @@
 -- What a text says, as it is read, played and woven.
-use Rattle.std.proofs.Common.{◌≡◌, ◌∙◌, ◌⊎◌, inl, inr, ℕ, zero, suc, ◌<◌, ◌≤◌, List, [], ◌∷◌, map, take, min, None, Result, Ok, Err, true, false, ⊎_elim, refl, sym, ap, subst, arith}
+use Rattle.std.proofs.Common.{◌≡◌, ◌∙◌, inl, inr, ℕ, zero, suc, ◌<◌, ◌≤◌, List, [], ◌∷◌, map, take, min, None, Result, Ok, Err, true, false, ⊎_elim, refl, sym, ap, subst, arith}
 use Rattle.std.specs.Prelude.{leb}
 use Rattle.std.proofs.lemmas.Bool.Decides.{leb_tells}
 use Rattle.std.specs.List.{AllByRecursion}
@@ -17,9 +17,9 @@ use Rattle.lab_script.specs.declared.script.Script.TheVariants.{Keys, Lab}
 use Rattle.lab_script.specs.Gives.{Answers}
 use Rattle.lab_script.specs.Scripts.{◌>>=◌, script_of, names_in}
 use Rattle.weave_replay.specs.declared.journal.WovenJournal.{WovenJournal}
-use Rattle.weave_script.specs.Ahead.{ahead_count, behind_many, script_text, told_in}
-use Rattle.weave_script.specs.Blocks.{Block, block_of, blocks_in, IsFaultOf}
-use Rattle.weave_script.specs.Lines.{Left, IsUnbroken}
+use Rattle.weave_text.specs.Ahead.{ahead_count, behind_many, script_text, told_in}
+use Rattle.weave_text.specs.Blocks.{Block, block_of, blocks_in, IsFaultOf}
+use Rattle.weave_text.specs.Lines.{Left, IsUnbroken}
 use Rattle.weave.specs.declared.fault.WeaveFault.{WeaveFault}
 use Rattle.weave.specs.declared.fault.WeaveFault.TheVariants as weave
 use Rattle.weave.specs.Faults.{IsToldOf}
@@ -29,11 +29,13 @@ use Rattle.weave_text.specs.declared.fault.WeaveTextFault.TheVariants as failed
 use Rattle.weave_text.specs.Answers.{IsRefusedBy, PlaysTo, Weaves}
 use Rattle.weave_text.specs.Faults.{script_fault, weave_fault}
 use Rattle.weave_text.specs.Named.{naming_in}
+use Rattle.weave_text.specs.ReadBack.{HasSchedule, IsReadAs}
 use Rattle.weave_text.specs.Weaves.{IsNotWoven, HasNoWeaving}
 use Rattle.weave_text.specs.Weavings.{Laid, Weaving, end_in, script_in, limit_before, unless_limited, laid_by, laid_out, with_blocks, said_by, said_in}
 use Rattle.weave_text.specs.Written.{woven_text}
 use Rattle.weave_text.proofs.ChangeLemmas.{AreAhead, ahead-ahead, script-changes}
-use Rattle.weave_text.proofs.FreshLemmas.{unbegun}
+use Rattle.weave_text.proofs.FreshLemmas.{uninjected, unbegun}
+use Rattle.weave_text.proofs.WovenReadLemmas.{SaidOf, said-read}
 
 -- ---- the part ahead is refused
 
@@ -109,16 +111,45 @@ unwoven count left script net journals fault h e told = by fault (not-woven (sai
     by (weave.Stuck journal entry) is = is
     by weave.OutOfMemory is = tt
 
-pub woven : (count : ℕ) (left : Left) (script : Script) (net : Network) (journals : List WovenJournal) (schedule : List LabEvent) (after : LabNet) (text : List ℕ) → IsPlayed count left script net → blocks_in (names_in script) (behind_many count left) ≡ Ok (map block_of journals) → IsWoven net journals schedule after → text ≡ woven_text (told_in (take count left.lines)) (naming_in script) after.seen schedule → Weaves (said_by count left) (Ok text)
-woven count left script net journals schedule after text h e is t =
+-- the lines ahead of it
+said-of : (count : ℕ) (left : Left) (script : Script) (net : Network) (blocks : List Block) → count ≡ ahead_count left.lines → AllByRecursion IsUnbroken left.lines → script_in (take count left.lines) ≡ Ok script → SaidOf (weaving_by count left script net blocks)
+said-of count left script net blocks counted whole e = record {
+  lines = take count left.lines;
+  whole = all-take IsUnbroken count left.lines whole;
+  ahead = subst (λ (n : ℕ). AreAhead (take n left.lines)) (sym counted) (ahead-ahead left.lines);
+  read = e;
+  told = refl;
+}
+
+pub woven : (count : ℕ) (left : Left) (script : Script) (net : Network) (journals : List WovenJournal) (schedule : List LabEvent) (after : LabNet) (text : List ℕ) → SaidOf (weaving_by count left script net (map block_of journals)) → IsPlayed count left script net → net.injected ≡ 0 → blocks_in (names_in script) (behind_many count left) ≡ Ok (map block_of journals) → IsWoven net journals schedule after → HasSchedule script after.seen schedule → text ≡ woven_text (told_in (take count left.lines)) (naming_in script) after.seen schedule → Weaves (said_by count left) (Ok text)
+woven count left script net journals schedule after text of h clean e is has t =
+    let weaving = weaving_by count left script net (map block_of journals) in
     subst (λ (r : Result Weaving ScriptFault). Weaves r (Ok text)) (sym (said-all count left script net (map block_of journals) h e))
-    (record { journals = journals; are = refl; schedule = schedule; after = after; woven = is; text_is = t })
+    (record {
+      journals = journals;
+      are = refl;
+      clean = clean;
+      schedule = schedule;
+      after = after;
+      woven = is;
+      text_is = t;
+      reads = subst (λ (u : List ℕ). IsReadAs weaving schedule u) (sym t) (said-read weaving after.seen schedule of has);
+    })
 
 -- ---- weaving may begin
 
 begun-from : (lines : List (List ℕ)) (script : Script) (net : Network) (a : LabNet) → AllByRecursion IsUnbroken lines → AreAhead lines → script_in lines ≡ Ok script → end_in script ≡ Ok net → StandsFor net a → a.stopped ≡ None → IsUnbegun a
 begun-from lines (Keys script) net a whole ahead e ends stands running = absurd (script-changes lines (Keys script) whole ahead e)
 begun-from lines (Lab script) net a whole ahead e ends stands running = unbegun script net a (script-changes lines (Lab script) whole ahead e) ends stands running
+
+clean-from : (lines : List (List ℕ)) (script : Script) (net : Network) → AllByRecursion IsUnbroken lines → AreAhead lines → script_in lines ≡ Ok script → end_in script ≡ Ok net → net.injected ≡ 0
+clean-from lines (Keys script) net whole ahead e ends = absurd (script-changes lines (Keys script) whole ahead e)
+clean-from lines (Lab script) net whole ahead e ends = uninjected script net (script-changes lines (Lab script) whole ahead e) ends
+
+clean : (count : ℕ) (left : Left) (script : Script) (net : Network) → count ≡ ahead_count left.lines → AllByRecursion IsUnbroken left.lines → IsPlayed count left script net → net.injected ≡ 0
+clean count left script net counted whole h =
+    clean-from (take count left.lines) script net (all-take IsUnbroken count left.lines whole)
+    (subst (λ (n : ℕ). AreAhead (take n left.lines)) (sym counted) (ahead-ahead left.lines)) h.read h.ends
 
 pub begun : (count : ℕ) (left : Left) (script : Script) (net : Network) (a : LabNet) → count ≡ ahead_count left.lines → AllByRecursion IsUnbroken left.lines → IsPlayed count left script net → StandsFor net a → a.stopped ≡ None → IsUnbegun a
 begun count left script net a counted whole h stands running =
@@ -148,9 +179,10 @@ pub unwoven-after : (count : ℕ) (left : Left) (script : Script) (a : LabNet) (
 unwoven-after count left script a journals fault h e told =
     unwoven count left script h.plays.0 journals fault (played count left script a h) e (told h.plays.0 h.plays.2)
 
-pub woven-after : (count : ℕ) (left : Left) (script : Script) (a : LabNet) (journals : List WovenJournal) (schedule : List LabEvent) (after : LabNet) (text : List ℕ) → IsReady count left script a → blocks_in (names_in script) (behind_many count left) ≡ Ok (map block_of journals) → ((net : Network) → StandsFor net a → IsWoven net journals schedule after) → text ≡ woven_text (told_in (take count left.lines)) (naming_in script) after.seen schedule → Weaves (said_by count left) (Ok text)
-woven-after count left script a journals schedule after text h e is t =
-    woven count left script h.plays.0 journals schedule after text (played count left script a h) e (is h.plays.0 h.plays.2) t
+pub woven-after : (count : ℕ) (left : Left) (script : Script) (a : LabNet) (journals : List WovenJournal) (schedule : List LabEvent) (after : LabNet) (text : List ℕ) → count ≡ ahead_count left.lines → AllByRecursion IsUnbroken left.lines → IsReady count left script a → blocks_in (names_in script) (behind_many count left) ≡ Ok (map block_of journals) → ((net : Network) → StandsFor net a → IsWoven net journals schedule after) → HasSchedule script after.seen schedule → text ≡ woven_text (told_in (take count left.lines)) (naming_in script) after.seen schedule → Weaves (said_by count left) (Ok text)
+woven-after count left script a journals schedule after text counted whole h e is has t =
+    woven count left script h.plays.0 journals schedule after text (said-of count left script h.plays.0 (map block_of journals) counted whole h.read) (played count left script a h) (clean count left script h.plays.0 counted whole (played count left script a h)) e
+    (is h.plays.0 h.plays.2) has t
 
 -- ---- texts of scripts
 

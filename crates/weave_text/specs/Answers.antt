@@ -6,7 +6,7 @@ use Rattle.network_lab.specs.LabNets.{LabNet, StandsFor}
 use Rattle.lab_script.specs.declared.reason.ScriptFault.{ScriptFault}
 use Rattle.lab_script.specs.declared.reason.ScriptFault.TheVariants as script
 use Rattle.lab_script.specs.declared.script.Script.{Script}
-use Rattle.weave_script.specs.Blocks.{IsFaultOf}
+use Rattle.weave_text.specs.Blocks.{IsFaultOf}
 use Rattle.weave_text.specs.declared.fault.WeaveTextFault.{WeaveTextFault}
 use Rattle.weave_text.specs.declared.fault.WeaveTextFault.TheVariants.{Refused, Limit, NotWoven, Write, OutOfMemory}
 use Rattle.weave_text.specs.Weavings.{Weaving, limit_of}

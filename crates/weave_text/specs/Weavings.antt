@@ -10,9 +10,9 @@ use Rattle.lab_script.specs.declared.script.Script.{Script}
 use Rattle.lab_script.specs.declared.script.Script.TheVariants.{Keys, Lab}
 use Rattle.lab_script.specs.Scripts.{◌>>=◌, script_of, names_in}
 use Rattle.lab_text.specs.LabRuns.{end_of}
-use Rattle.weave_script.specs.Ahead.{behind_head, ahead_count, behind_many, script_text, told_in}
-use Rattle.weave_script.specs.Blocks.{Block, blocks_in}
-use Rattle.weave_script.specs.Lines.{Left, lines_in, all_of}
+use Rattle.weave_text.specs.Ahead.{behind_head, ahead_count, behind_many, script_text, told_in}
+use Rattle.weave_text.specs.Blocks.{Block, blocks_in}
+use Rattle.weave_text.specs.Lines.{Left, lines_in, all_of}
 
 -- ---- the part ahead of the blocks
 

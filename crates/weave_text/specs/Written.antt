@@ -11,7 +11,7 @@ use Rattle.network_lab.specs.declared.event.LabEvent.{LabEvent}
 use Rattle.network_lab.specs.declared.event.LabEvent.TheVariants as event
 use Rattle.network_lab.specs.LabNets.{Seen}
 use Rattle.lab_text.specs.Passed.{name_at}
-use Rattle.weave_script.specs.Lines.{text_of}
+use Rattle.weave_text.specs.Lines.{text_of}
 
 -- ---- names
 

@@ -3,15 +3,16 @@ ghost use Rattle.std.specs.Prelude.{◌≡◌, take, length, Ok, Err, IfOk};
 ghost use Rattle.lab_script.specs.Scripts.{names_in};
 ghost use Rattle.weave_text.specs.Weavings as said;
 ghost use Rattle.weave_text.specs.Weavings.{end_in, script_in, said_by};
-ghost use Rattle.weave_script.specs.Blocks.{IsFaultOf};
+ghost use Rattle.weave_text.specs.Blocks.{IsFaultOf};
 ghost use Rattle.weave_text.specs.Answers.{PlaysTo, IsRefusedBy, IsLimitTold, Weaves};
 
+use crate::ahead::script_text;
 use crate::fault::WeaveTextFault;
+use crate::input_lines::Lines;
 use isis_base::OutOfMemory;
 use lab_text::{Reason, Script, ScriptFault, play_script, read_script};
 use std::alloc::Global;
 use weave::{LimitName, Network};
-use weave_script::{Lines, script_text};
 
 /// The network at a script's end.
 pub(crate) fn end_of(alloc: Global, script: &Script<'_>) -> Result<Network, WeaveTextFault>

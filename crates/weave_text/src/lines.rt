@@ -2,10 +2,12 @@
 ghost use Rattle.std.specs.Prelude.{◌≡◌, ◌++◌, take, IfOk, OnOk};
 ghost use Rattle.std.specs.List.{flat_map};
 ghost use Rattle.lab_text.specs.Passed.{name_at};
-ghost use Rattle.weave_script.specs.Ahead.{told_in};
+ghost use Rattle.weave_text.specs.Ahead.{told_in};
 ghost use Rattle.weave_text.specs.Written as written;
 ghost use Rattle.weave_text.specs.Named.{naming_in};
 
+use crate::ahead::add_told;
+use crate::input_lines::Lines;
 use crate::words::{
     add_both, add_delivery, add_injection, add_metric, add_named, add_prefix, on_word,
 };
@@ -14,7 +16,6 @@ use lab_text::Script;
 use router_desk::Change;
 use std::alloc::Global;
 use weave::{LabEvent, Network, Schedule};
-use weave_script::{Lines, add_told};
 
 /// The lab script of the first so many lines, those that are skipped left out, and a schedule's events.
 #[tactic(auto, unfolding(crate::specs::Written::woven_text))]
@@ -145,7 +146,7 @@ fn link_name<'s>(script: &'s Script<'_>, link: Option<usize>) -> &'s [u8]
 }
 
 /// The link of a router's circuit, counted from 1; none where it isn't there.
-fn link_on(net: &Network, router: usize, circuit: u8) -> Option<usize>
+pub(crate) fn link_on(net: &Network, router: usize, circuit: u8) -> Option<usize>
     ensures { result ≡ written.link_on net.now.seen router circuit }
 {
     if router < net.routers() && 1 <= circuit {

@@ -1,18 +1,21 @@
 //! The weaving of a text's journals.
 ghost use Rattle.std.specs.Prelude.{◌≡◌, take, Ok};
 ghost use Rattle.lab_script.specs.Scripts.{names_in};
-ghost use Rattle.weave_script.specs.Ahead.{ahead_count, behind_many};
+ghost use Rattle.weave_text.specs.Ahead.{ahead_count, behind_many};
 ghost use Rattle.weave_text.specs.Weavings.{script_in, said_in, said_by};
 ghost use Rattle.weave_text.specs.Answers.{Weaves};
 
+use crate::ahead::{pass_ahead, script_text};
+use crate::blocks::read_blocks;
 use crate::fault::WeaveTextFault;
+use crate::input_lines::Lines;
 use crate::laid::{end_of, refused_by};
 use crate::lines::woven_text;
+use crate::named::has_schedule;
 use isis_base::{Octets, OutOfMemory};
 use lab_text::{Script, read_script};
 use std::alloc::Global;
 use weave::weave;
-use weave_script::{Lines, pass_ahead, read_blocks, script_text};
 
 /// The lab script whose schedule weaves the journals of the lines behind a head.
 #[tactic(auto, unfolding(crate::specs::Weavings::said_in))]
@@ -59,6 +62,12 @@ fn weave_behind(
         Ok(woven) => woven,
         Err(fault) => return Err(WeaveTextFault::from(fault)),
     };
+    // The network is the script's, so the script should name what any schedule of it is of. That isn't proved
+    // here: it is checked, and a schedule that fails isn't written.
+    if !has_schedule(script, &net, &schedule) {
+        drop(net);
+        return Err(WeaveTextFault::OutOfMemory);
+    }
     let text = woven_text(alloc, lines, count, script, &net, &schedule);
     drop(net);
     match text {

@@ -20,7 +20,7 @@ loop-job-init g c =
       gathers_none g.P.Port.given g.P.Port.offered g.P.Port.asked c.args.turns c.args.ports.items c.args.pass (c.args.end ≡ Done) c.requires.room.0 c.requires.only,
       c.requires.end,
       (λ d. d),
-      (λ d. d),
+      (λ d. d, λ d. d),
       (λ opens all i. subst (λ z. IfSome (slice_get z i) (λ p. g.P.Port.opening p ≡ opens i)) (sym c.requires.room.0) tt),
       (λ none. absurd (omega (arith, none))),
       search rules,
@@ -49,7 +49,7 @@ loop-job-preserved g c =
       o.gathers,
       o.end,
       (λ d. was.7 (o.done d)),
-      (λ d. was.8 (o.not_started d)),
+      (λ d. was.8.0 (o.not_started.0 d), λ e. o.not_started.1 (was.8.1 e)),
       (λ opens all. let at : slice_get c.args.jobs.items (length ys) ≡ Some job = ap (λ z. slice_get z (length ys)) (was.11 ∙ ap (λ z. ys ++ z) e) ∙ get_last ys rest job in
           let here = if_some_at _ _ job at (all (length ys)) in let came = o.opened (opens (length ys)) here in
           places_more c.loop-job.list.items c.gather_one-joined.result.1.items came.0 (λ i p. g.P.Port.opening p ≡ opens i) came.1 (was.9 opens all)

@@ -1,4 +1,4 @@
-use Rattle.std.proofs.Common.{◌≡◌, ℕ, ◌+◌, ◌*◌, ◌<◌, ◌≤◌, ◌++◌, length, vec_len, vec_capacity, slice_get, IfSome}
+use Rattle.std.proofs.Common.{◌≡◌, ◌↔◌, ℕ, ◌+◌, ◌*◌, ◌<◌, ◌≤◌, ◌++◌, length, vec_len, vec_capacity, slice_get, IfSome}
 use Rattle.turn_lock.specs.Passes.{turns_left, label, own, seen}
 use Rattle.circuit_threads.specs.Sharing.{first_router, IsPassOf, HasAll}
 use Rattle.circuit_serve.specs.declared.end.ServeEnd.TheVariants.{Done, NotStarted}
@@ -18,7 +18,7 @@ invariant-loop-job g l =
     × Gathers g.P.Port.given g.P.Port.offered g.P.Port.asked l.turns l.list.items l.pass (l.worst ≡ Done)
     × IsEnd (first_router l.fn.shared) (seen l.pass) l.worst
     × (l.worst ≡ Done → l.fn.end ≡ Done)
-    × (l.worst ≡ NotStarted → l.fn.end ≡ NotStarted)
+    × ((l.worst ≡ NotStarted) ↔ (l.fn.end ≡ NotStarted))
     × ((opens : ℕ → Opening) → ((i : ℕ) → IfSome (slice_get l.fn.jobs.items i) (λ v. IsOpened g.P.Port.opening (opens i) v.task))
     → (i : ℕ) → IfSome (slice_get l.list.items i) (λ p. g.P.Port.opening p ≡ opens i))
     × (0 < length l.yielded → HasAll l.fn.shared l.pass → (c : ℕ) → of_label c (seen l.pass) ≡ by_label c (own l.pass) (seen l.pass))

@@ -2,6 +2,7 @@ use Rattle.std.proofs.Common.{◌⊎◌, ◌≡◌, true, ℕ, suc, ◌+◌, ◌
 use native.Mathlib.Nat.{suc-mul}
 use Rattle.turn_lock.specs.Passes.{seen}
 use Rattle.circuit_threads.specs.Sharing.{first_router}
+use Rattle.daemon_edge.specs.declared.spawning.Started.{Started}
 use Rattle.daemon_edge.specs.declared.spawning.Started.TheVariants as started
 use Rattle.circuit_serve.specs.Walks.{seconds}
 use Rattle.circuit_serve.specs.Jobs.{IsOpened}
@@ -81,7 +82,7 @@ returns-clause-done g c =
     let ends : c.first_end-end.result ≡ first_end (end_of_start c.args.started) (end_of t.end) = c.first_end-end.ensures ∙ ap (λ a. first_end a c.end_of.result) c.end_of_start.ensures ∙ ap (λ b. first_end (end_of_start c.args.started) b) (c.end_of.ensures ∙ ap end_of (sym c.open_ticker-pass.ensures.end)) in
     let r = c.gather-pass.ensures in (
       λ done. started_all c.args.started (both_done (end_of_start c.args.started) (end_of t.end) (sym ends ∙ r.done done)).0,
-      λ none. started_refused c.args.started (not_started (end_of_start c.args.started) t.end (sym ends ∙ r.not_started none)),
+      (λ none. started_refused c.args.started (not_started (end_of_start c.args.started) t.end (sym ends ∙ r.not_started.0 none)), λ refused. r.not_started.1 (ends ∙ ap (λ (s : Started). first_end (end_of_start s) (end_of t.end)) refused)),
     )
 
 pub returns-clause-ran : goal.returns-clause-ran

@@ -8,6 +8,7 @@ use Rattle.circuit_serve.specs.Ends.{TickerIs}
 use Rattle.circuit_serve.specs.Served.{circuit_turns}
 use Rattle.circuit_serve.proofs.Afterwards.{served_early}
 use Rattle.circuit_serve.proofs.Gathered.{weaker}
+use Rattle.circuit_serve.proofs.Places.{never_refused}
 use Rattle.circuit_serve.proofs.serving.serve.Goals as goal
 
 pub returns-in_default-clause-served : goal.returns-in_default-clause-served
@@ -45,3 +46,9 @@ returns-clause-served g c =
       ticker = subst (λ es. TickerIs es (g.T.Pacer.given c.args.pacer) (g.T.Pacer.given c.finish.result.2) (g.T.Pacer.ended c.finish.result.2) turns (c.finish.result.3 ≡ Done)) (sym (whole 0)) ran.1;
       ends = f.end;
     }
+
+pub returns-in_default-clause-refused : goal.returns-in_default-clause-refused
+returns-in_default-clause-refused g c = (λ is. absurd (cc is), λ was. absurd (never_refused (g.S.Spawner.answers c.args.spawner.now) was))
+
+pub returns-in_default-with_capacity-clause-refused : goal.returns-in_default-with_capacity-clause-refused
+returns-in_default-with_capacity-clause-refused g c = (λ is. absurd (cc is), λ was. absurd (never_refused (g.S.Spawner.answers c.args.spawner.now) was))

@@ -10,7 +10,7 @@ use Rattle.circuit_serve.specs.Ends.{IsNew, IsRun}
 use Rattle.circuit_serve.specs.Served.{TickerRan, circuit_turns}
 use Rattle.circuit_serve.proofs.Gathered.{some_same, places_more}
 use Rattle.circuit_serve.proofs.Afterwards.{ready_new, circuit_after, circuit_before, ticker_after, ticker_before, opened_after}
-use Rattle.circuit_serve.proofs.Places.{if_some_map, places_or, or_places, each_place, after_places, suc_longer}
+use Rattle.circuit_serve.proofs.Places.{if_some_map, places_or, or_places, each_place, refused_so, after_places, suc_longer}
 use Rattle.circuit_serve.proofs.serving.start.Goals as goal
 
 pub run_all-requires-after_bounds : goal.run_all-requires-after_bounds
@@ -35,7 +35,7 @@ returns-clause-jobs g c =
     let list = c.add_jobs-rest.result.1.items in let items = c.put-jobs.result.items in let ws = c.run_all.result.0.items in let st = c.run_all.result.1 in let a = c.add_jobs-rest.ensures in
     let turns : ℕ = c.args.turns in let s = c.args.shared.now in let takes : ℕ = 10 * turns in
     let each = each_place items ws
-    (λ w v. KeepsOpening g.P.Port.opening w.task v.task × ForSome w.pass (λ p. JobRan g.P.Port.given g.P.Port.offered g.P.Port.asked g.T.Pacer.given g.T.Pacer.ended w.shared.now w.turns w.task p v.task v.pass v.end)) _ _ st c.run_all.ensures in
+    (λ w v. KeepsOpening g.P.Port.opening w.task v.task × ForSome w.pass (λ p. JobRan g.P.Port.given g.P.Port.offered g.P.Port.asked g.T.Pacer.given g.T.Pacer.ended w.shared.now w.turns w.task p v.task v.pass v.end)) _ _ _ _ st c.run_all.ensures in
     let longer : length items ≡ suc (length list) = suc_longer list items _ c.put-jobs.ensures.items in
     let size : length ws ≡ suc (length list) = each.0 ∙ longer in
     after_places items ws
@@ -56,7 +56,7 @@ returns-clause-ticker g c =
     let list = c.add_jobs-rest.result.1.items in let items = c.put-jobs.result.items in let ws = c.run_all.result.0.items in let st = c.run_all.result.1 in let a = c.add_jobs-rest.ensures in
     let turns : ℕ = c.args.turns in let s = c.args.shared.now in let rest = c.add_jobs-rest.result.0 in let pacer = c.args.pacer in
     let each = each_place items ws
-    (λ w v. KeepsOpening g.P.Port.opening w.task v.task × ForSome w.pass (λ p. JobRan g.P.Port.given g.P.Port.offered g.P.Port.asked g.T.Pacer.given g.T.Pacer.ended w.shared.now w.turns w.task p v.task v.pass v.end)) _ _ st c.run_all.ensures in
+    (λ w v. KeepsOpening g.P.Port.opening w.task v.task × ForSome w.pass (λ p. JobRan g.P.Port.given g.P.Port.offered g.P.Port.asked g.T.Pacer.given g.T.Pacer.ended w.shared.now w.turns w.task p v.task v.pass v.end)) _ _ _ _ st c.run_all.ensures in
     let longer : length items ≡ suc (length list) = suc_longer list items _ c.put-jobs.ensures.items in
     let size : length ws ≡ suc (length list) = each.0 ∙ longer in
     let share : ℕ = turns_left c.args.pass - length c.args.ports.items * (circuit_turns turns + circuit_turns turns) in
@@ -84,7 +84,7 @@ pub returns-clause-opened : goal.returns-clause-opened
 returns-clause-opened g c = λ opens all.
     let list = c.add_jobs-rest.result.1.items in let items = c.put-jobs.result.items in let ws = c.run_all.result.0.items in let st = c.run_all.result.1 in
     let each = each_place items ws
-    (λ w v. KeepsOpening g.P.Port.opening w.task v.task × ForSome w.pass (λ p. JobRan g.P.Port.given g.P.Port.offered g.P.Port.asked g.T.Pacer.given g.T.Pacer.ended w.shared.now w.turns w.task p v.task v.pass v.end)) _ _ st c.run_all.ensures in
+    (λ w v. KeepsOpening g.P.Port.opening w.task v.task × ForSome w.pass (λ p. JobRan g.P.Port.given g.P.Port.offered g.P.Port.asked g.T.Pacer.given g.T.Pacer.ended w.shared.now w.turns w.task p v.task v.pass v.end)) _ _ _ _ st c.run_all.ensures in
     let longer : length items ≡ suc (length list) = suc_longer list items _ c.put-jobs.ensures.items in
     let size : length ws ≡ suc (length list) = each.0 ∙ longer in
     after_places items ws
@@ -94,3 +94,9 @@ returns-clause-opened g c = λ opens all.
     (λ i. if_some_map (slice_get list i) _ _ (λ w h l. h) (c.add_jobs-rest.ensures.opened opens all i)) (λ l. absurd (omega (arith, l))))
     (λ i w w' h works l. opened_after g.P.Port.opening (opens i) w.task w'.task works.0 (h (omega (arith, l, size))))
     (λ i w h not l. h (omega (arith, l, size)))
+
+pub returns-clause-answers : goal.returns-clause-answers
+returns-clause-answers g c =
+    refused_so
+    (λ w v. KeepsOpening g.P.Port.opening w.task v.task × ForSome w.pass (λ p. JobRan g.P.Port.given g.P.Port.offered g.P.Port.asked g.T.Pacer.given g.T.Pacer.ended w.shared.now w.turns w.task p v.task v.pass v.end)) _ _ _ _ c.put-jobs.result.items c.run_all.result.0.items _
+    c.run_all.ensures

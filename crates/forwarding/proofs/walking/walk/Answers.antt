@@ -1,7 +1,7 @@
 use Rattle.std.proofs.Common.{List, refl}
 use Rattle.model_router.specs.Routers.{Router}
 use Rattle.route_table.specs.Ranks.{prefix_number}
-use Rattle.forward_routes.specs.Walked.{IsRouteOf}
+use Rattle.forward_views.specs.Walked.{IsRouteOf}
 use Rattle.forward_views.specs.Forwarded.{router_in}
 use Rattle.forwarding.proofs.ListLemmas.{contains-nth}
 use Rattle.forwarding.proofs.LookLemmas.{look-at, router-is, one-list, other-list}

@@ -2,7 +2,7 @@ use Rattle.std.proofs.Common.{List, subst}
 use Rattle.spf_tree.specs.declared.row.Row.{Row}
 use Rattle.spf_tree.specs.Nodes.{node_number}
 use Rattle.spf_tree.specs.Search.{IsBounded}
-use Rattle.ipv6_reach.proofs.CostLemmas6.{costs_small}
+use Rattle.spf_tree.proofs.DistanceLemmas.{costs_small}
 use Rattle.ipv6_reach.proofs.best6.distances_from.Goals as goal
 
 pub returns-in-Ok-clause-small : goal.returns-in-Ok-clause-small

@@ -10,16 +10,13 @@ pub returns-in-Some-clause-untouched : goal.returns-in-Some-clause-untouched
 returns-in-Some-clause-untouched g c = λ e. absurd (c.walk-status.ensures.usage e)
 
 pub returns-in-Some-clause-started : goal.returns-in-Some-clause-started
-returns-in-Some-clause-started g c = walk_started _ _ _ _ _ _ _ c.walk-status.ensures.ends
+returns-in-Some-clause-started g c = walk_started _ _ _ _ _ _ _ _ c.walk-status.ensures.ends
 
 pub returns-in-Some-clause-ends : goal.returns-in-Some-clause-ends
 returns-in-Some-clause-ends g c = unless _ _ c.in-Some.ensures.alone.0.0
 
 pub returns-in-Some-clause-taken : goal.returns-in-Some-clause-taken
 returns-in-Some-clause-taken g c = c.walk-status.ensures.taken
-
-pub returns-in-Some-clause-headline : goal.returns-in-Some-clause-headline
-returns-in-Some-clause-headline g c = λ done lab. absurd (clash _ _ (sym lab) c.in-Some.ensures.alone.0.0)
 
 pub returns-in-Some-clause-read_fault : goal.returns-in-Some-clause-read_fault
 returns-in-Some-clause-read_fault g c = c.walk-status.ensures.read_fault
@@ -42,9 +39,6 @@ returns-in-Some-clause-grid_unread g c = unless _ _ c.in-Some.ensures.alone.0.1
 pub returns-in-Some-clause-grid_complete : goal.returns-in-Some-clause-grid_complete
 returns-in-Some-clause-grid_complete g c = unless _ _ c.in-Some.ensures.alone.0.1
 
-pub returns-in-Some-clause-grid_headline : goal.returns-in-Some-clause-grid_headline
-returns-in-Some-clause-grid_headline g c = λ done. unless _ _ c.in-Some.ensures.alone.0.1
-
 pub returns-in-Some-clause-walk : goal.returns-in-Some-clause-walk
 returns-in-Some-clause-walk g c = told _ _ _ c.in-Some.ensures.value c.walk-status.ensures.ends
 
@@ -64,16 +58,13 @@ pub returns-in-Some-weave_of-clause-untouched : goal.returns-in-Some-weave_of-cl
 returns-in-Some-weave_of-clause-untouched g c = λ e. absurd (c.weave-status.ensures.usage e)
 
 pub returns-in-Some-weave_of-clause-started : goal.returns-in-Some-weave_of-clause-started
-returns-in-Some-weave_of-clause-started g c = weave_started _ _ _ _ _ c.weave-status.ensures.ends
+returns-in-Some-weave_of-clause-started g c = weave_started _ _ _ _ _ _ c.weave-status.ensures.ends
 
 pub returns-in-Some-weave_of-clause-ends : goal.returns-in-Some-weave_of-clause-ends
 returns-in-Some-weave_of-clause-ends g c = unless _ _ c.in-Some-weave_of.ensures.alone.0.0
 
 pub returns-in-Some-weave_of-clause-taken : goal.returns-in-Some-weave_of-clause-taken
 returns-in-Some-weave_of-clause-taken g c = c.weave-status.ensures.taken
-
-pub returns-in-Some-weave_of-clause-headline : goal.returns-in-Some-weave_of-clause-headline
-returns-in-Some-weave_of-clause-headline g c = λ done lab. absurd (clash _ _ (sym lab) c.in-Some-weave_of.ensures.alone.0.0)
 
 pub returns-in-Some-weave_of-clause-read_fault : goal.returns-in-Some-weave_of-clause-read_fault
 returns-in-Some-weave_of-clause-read_fault g c = c.weave-status.ensures.read_fault
@@ -95,9 +86,6 @@ returns-in-Some-weave_of-clause-grid_unread g c = unless _ _ c.in-Some-weave_of.
 
 pub returns-in-Some-weave_of-clause-grid_complete : goal.returns-in-Some-weave_of-clause-grid_complete
 returns-in-Some-weave_of-clause-grid_complete g c = unless _ _ c.in-Some-weave_of.ensures.alone.0.1
-
-pub returns-in-Some-weave_of-clause-grid_headline : goal.returns-in-Some-weave_of-clause-grid_headline
-returns-in-Some-weave_of-clause-grid_headline g c = λ done. unless _ _ c.in-Some-weave_of.ensures.alone.0.1
 
 pub returns-in-Some-weave_of-clause-walk : goal.returns-in-Some-weave_of-clause-walk
 returns-in-Some-weave_of-clause-walk g c = unless _ _ c.in-Some-weave_of.ensures.alone.2
@@ -123,9 +111,6 @@ returns-clause-ends g c = c.run_text.ensures.ends
 pub returns-clause-taken : goal.returns-clause-taken
 returns-clause-taken g c = c.run_text.ensures.taken
 
-pub returns-clause-headline : goal.returns-clause-headline
-returns-clause-headline g c = c.run_text.ensures.headline
-
 pub returns-clause-read_fault : goal.returns-clause-read_fault
 returns-clause-read_fault g c = c.run_text.ensures.read_fault
 
@@ -144,14 +129,11 @@ returns-clause-grid g c = c.run_text.ensures.grid
 pub returns-clause-grid_unread : goal.returns-clause-grid_unread
 returns-clause-grid_unread g c = c.run_text.ensures.grid_unread
 
-pub returns-clause-grid_headline : goal.returns-clause-grid_headline
-returns-clause-grid_headline g c = c.run_text.ensures.grid_headline
-
 pub returns-clause-grid_complete : goal.returns-clause-grid_complete
 returns-clause-grid_complete g c = c.run_text.ensures.grid_complete
 
 pub returns-clause-started : goal.returns-clause-started
-returns-clause-started g c = text_started (map string_bytes c.args.words.now) _ _ _ _ _ c.run_text.ensures.usage c.run_text.ensures.ends c.run_text.ensures.grid
+returns-clause-started g c = text_started (map string_bytes c.args.words.now) _ _ _ _ _ _ c.run_text.ensures.usage c.run_text.ensures.ends c.run_text.ensures.grid
 
 pub returns-clause-walk : goal.returns-clause-walk
 returns-clause-walk g c = unless _ _ (sym c.in_default.ensures.value)

@@ -14,9 +14,6 @@ returns-in-Some-clause-ends g c = unless _ _ (alone (map string_bytes c.args.wor
 pub returns-in-Some-clause-taken : goal.returns-in-Some-clause-taken
 returns-in-Some-clause-taken g c = c.daemon.ensures.taken
 
-pub returns-in-Some-clause-headline : goal.returns-in-Some-clause-headline
-returns-in-Some-clause-headline g c = λ done lab. absurd (clash _ _ (sym lab) (alone (map string_bytes c.args.words.now) _ (sym c.in-Some.ensures.value)))
-
 pub returns-in-Some-clause-read_fault : goal.returns-in-Some-clause-read_fault
 returns-in-Some-clause-read_fault g c = c.daemon.ensures.read_fault
 
@@ -37,9 +34,6 @@ returns-in-Some-clause-grid g c = unless _ _ (no_grid (map string_bytes c.args.w
 
 pub returns-in-Some-clause-grid_unread : goal.returns-in-Some-clause-grid_unread
 returns-in-Some-clause-grid_unread g c = unless _ _ (no_grid (map string_bytes c.args.words.now) _ (sym c.in-Some.ensures.value))
-
-pub returns-in-Some-clause-grid_headline : goal.returns-in-Some-clause-grid_headline
-returns-in-Some-clause-grid_headline g c = λ done. unless _ _ (no_grid (map string_bytes c.args.words.now) _ (sym c.in-Some.ensures.value))
 
 pub returns-in-Some-clause-grid_complete : goal.returns-in-Some-clause-grid_complete
 returns-in-Some-clause-grid_complete g c = unless _ _ (no_grid (map string_bytes c.args.words.now) _ (sym c.in-Some.ensures.value))
@@ -77,9 +71,6 @@ returns-clause-ends g c = c.run_input-output.ensures.ends
 pub returns-clause-taken : goal.returns-clause-taken
 returns-clause-taken g c = c.run_input-output.ensures.taken
 
-pub returns-clause-headline : goal.returns-clause-headline
-returns-clause-headline g c = c.run_input-output.ensures.headline
-
 pub returns-clause-read_fault : goal.returns-clause-read_fault
 returns-clause-read_fault g c = c.run_input-output.ensures.read_fault
 
@@ -100,9 +91,6 @@ returns-clause-grid g c = c.run_input-output.ensures.grid
 
 pub returns-clause-grid_unread : goal.returns-clause-grid_unread
 returns-clause-grid_unread g c = c.run_input-output.ensures.grid_unread
-
-pub returns-clause-grid_headline : goal.returns-clause-grid_headline
-returns-clause-grid_headline g c = c.run_input-output.ensures.grid_headline
 
 pub returns-clause-grid_complete : goal.returns-clause-grid_complete
 returns-clause-grid_complete g c = c.run_input-output.ensures.grid_complete

@@ -5,7 +5,7 @@ use Rattle.isis_edge.proofs.text.write_text.Given as goal
 -- what was written, what waits and what is to come are the whole
 abbrev pub invariant-pieces : goal.invariant-pieces
 invariant-pieces g l = record {
-  underway : IsUnderway (g.T.Text.rest l.fn.text) (l.page ++ g.T.Text.rest l.text) (g.O.Sink.held l.fn.output) (g.O.Sink.held l.output);
+  underway : IsUnderway (g.T.Text.rest l.fn.text) (l.page ++ g.T.Text.rest l.text) (g.O.Sink.put l.fn.output) (g.O.Sink.put l.output);
   later : g.O.Sink.faults l.fn.output ≤ g.O.Sink.faults l.output;
 }
 

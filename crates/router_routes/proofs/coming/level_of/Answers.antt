@@ -8,8 +8,5 @@ returns-in-None-clause-hops c = level-stays c.args.old.now c.args.known.now c.re
 
 pub returns-in-Ok-clause-hops : goal.returns-in-Ok-clause-hops
 returns-in-Ok-clause-hops c =
-    level-with c.args.old.now c.in-Some.new.costs c.args.known.now c.in-Ok.hops.table c.in-Ok.hops.apart.items c.in-Ok.hops.moved.items c.level_with.result
+    level-with c.args.old.now c.in-Some.new c.args.known.now c.in-Ok.hops.table c.in-Ok.hops.apart.items c.in-Ok.hops.moved.items c.level_with.result
     c.level_with.ensures.costs c.level_with.ensures.hops c.level_with.ensures.apart c.level_with.ensures.moved c.in-Ok.ensures.right c.in-Ok.ensures.apart c.in-Ok.ensures.moved (subst (AreRowsMoved c.args.old.now) c.in-Some.is c.requires.rows).counts
-
-pub hops_moved-hops-requires-clause-rows : goal.hops_moved-hops-requires-clause-rows
-hops_moved-hops-requires-clause-rows c = (subst (AreRowsMoved c.args.old.now) c.in-Some.is c.requires.rows).exchanged

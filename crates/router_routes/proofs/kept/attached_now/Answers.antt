@@ -13,7 +13,7 @@ level_systems-requires c = record { fit = c.requires.fit.two; graph = graph-two 
 pub attached-requires-clause-twos : goal.attached-requires-clause-twos
 attached-requires-clause-twos c =
     subst (λ (l : List (SystemId × ℕ)). AreSame l (reached_in (outlook_at c.args.view.now).told.two (outlook_at c.args.view.now).root)) (sym c.deref.ensures.value)
-    (twos-same c.args.view.now c.args.two.now c.has_level.result c.in_ok-twos-in-Both.twos.items c.requires.two c.has_level.ensures c.in_ok-twos-in-Both.ensures)
+    (twos-same c.args.view.now c.args.two.now c.has_level.result c.in_ok-twos-in-Both.twos.items c.requires.two c.has_level.ensures c.in_ok-twos-in-Both.ensures.same)
 
 pub returns-in-One : goal.returns-in-One
 returns-in-One c = attached-one c.args.view.now c.in-One.is

@@ -5,7 +5,7 @@ use Rattle.journal_text.specs.declared.entry.WovenEntry.{WovenEntry}
 use Rattle.weave_model.specs.Entries.{Entry}
 use Rattle.weave_model.specs.Weavings.{Move, entries_before, track_of}
 use Rattle.weave_replay.specs.Entries.{entry_of, entries_of}
-use Rattle.weave_coding.specs.Coded.{has_some}
+use Rattle.weave.specs.Coded.{has_some}
 use Rattle.weave.specs.declared.step.Step.{Step}
 use Rattle.weave.specs.declared.step.Step.TheVariants as step
 use Rattle.weave.specs.Moves.{move_of}

@@ -4,8 +4,8 @@ use Rattle.weave_replay.specs.Entries.{entries_of}
 use Rattle.weave_replay.specs.Replays.{journals_of}
 use Rattle.weave_replay.proofs.PlaceLemmas.{nth-get, take-more}
 use Rattle.weave_replay.proofs.JournalLemmas.{own-more, other-more}
-use Rattle.weave_coding.specs.Coded.{has_some}
-use Rattle.weave_coding.proofs.TrackLemmas.{has-more}
+use Rattle.weave.specs.Coded.{has_some}
+use Rattle.weave.proofs.TrackLemmas.{has-more}
 use Rattle.weave.specs.declared.step.Step.{Step}
 use Rattle.weave.specs.Moves.{move_of}
 use Rattle.weave.proofs.plans.plan_of.Goals as goal

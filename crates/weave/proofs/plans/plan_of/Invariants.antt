@@ -1,7 +1,7 @@
 use Rattle.std.proofs.Common.{◌≡◌, map, take}
 use Rattle.weave_model.specs.Weavings.{track_of}
 use Rattle.weave_replay.specs.Replays.{journals_of}
-use Rattle.weave_coding.specs.Coded.{has_some}
+use Rattle.weave.specs.Coded.{has_some}
 use Rattle.weave.specs.Moves.{move_of}
 use Rattle.weave.proofs.plans.plan_of.Given as goal
 

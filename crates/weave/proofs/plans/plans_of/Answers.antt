@@ -1,6 +1,6 @@
 use Rattle.std.proofs.Common.{◌∷◌, [], ◌++◌, List, sym, ap, ◌∙◌}
 use Rattle.weave_model.specs.Weavings.{Move}
-use Rattle.weave_coding.specs.Begins.{tracks_from}
+use Rattle.weave.specs.Begins.{tracks_from}
 use Rattle.weave.proofs.PlanLemmas.{tracks-more}
 use Rattle.weave.proofs.plans.plans_of.Goals as goal
 

@@ -1,5 +1,5 @@
 use Rattle.std.proofs.Common.{◌≡◌}
-use Rattle.weave_coding.specs.Begins.{tracks_from}
+use Rattle.weave.specs.Begins.{tracks_from}
 use Rattle.weave.proofs.plans.plans_of.Given as goal
 
 abbrev pub invariant-loop-router : goal.invariant-loop-router

@@ -5,7 +5,7 @@ use Rattle.weave_model.specs.Faults.{fits}
 use Rattle.weave_model.specs.Weavings.{Pulls, IsDeed}
 use Rattle.weave_replay.specs.Entries.{deed_of}
 use Rattle.weave_replay.proofs.PlaceLemmas.{within}
-use Rattle.weave_coding.proofs.RowLemmas.{some-if}
+use Rattle.weave.proofs.ItemLemmas.{some-if}
 use Rattle.weave.proofs.EventLemmas.{on-port, link-there, change-fits, pull-event}
 use Rattle.weave.proofs.playing.event_for.Goals as goal
 

@@ -1,6 +1,6 @@
 use Rattle.std.proofs.Common.{◌+◌, drop, List, None, subst, arith}
 use Rattle.weave_core.specs.declared.moves.Turn.{Turn}
-use Rattle.weave_coding.proofs.RowLemmas.{nth-or}
+use Rattle.weave.proofs.ItemLemmas.{nth-or}
 use Rattle.weave.specs.Woven.{happenings_of}
 use Rattle.weave.specs.Plays.{Plays}
 use Rattle.weave.proofs.ListLemmas.{drop-one}
@@ -11,11 +11,12 @@ play_turn-requires c = record {
   done = happenings_of c.loop-place.schedule;
   more = drop (c.loop-place.place + 1) c.args.turns.now;
   can = record {
+    origin = c.requires.origin;
     hs = c.requires.hs;
     last = c.requires.last;
     plays =
-        subst (λ (ts : List Turn). Plays (happenings_of c.loop-place.schedule) ts c.loop-place.plans c.loop-place.network c.requires.hs c.requires.last)
+        subst (λ (ts : List Turn). Plays c.requires.origin (happenings_of c.loop-place.schedule) ts c.loop-place.plans c.loop-place.network c.requires.hs c.requires.last)
         (drop-one c.args.turns.now c.loop-place.place _ (nth-or c.args.turns.now c.loop-place.place (record { party = 0; taken = None }) (omega (arith, c.loop-place-test.true))))
-        (c.loop-place.invariant c.requires.hs c.requires.last c.requires.plays);
+        (c.loop-place.invariant c.requires.origin c.requires.hs c.requires.last c.requires.plays);
   };
 }

@@ -4,8 +4,8 @@ use Rattle.model_router.specs.Places.{nth}
 use Rattle.model_router.specs.Routers.{Router}
 use Rattle.model_network.specs.RunLines.{circuit_count}
 use Rattle.weave_replay.proofs.PlaceLemmas.{There, there, take-more}
-use Rattle.weave_coding.specs.Coded.{ArePorts}
-use Rattle.weave_coding.proofs.RowLemmas.{length-part}
+use Rattle.weave.specs.Coded.{ArePorts}
+use Rattle.weave.proofs.ItemLemmas.{length-part}
 use Rattle.weave.specs.Woven.{AreRows}
 use Rattle.weave.proofs.RowLemmas.{rows-more}
 use Rattle.weave.proofs.rows.rows_of.Goals as goal

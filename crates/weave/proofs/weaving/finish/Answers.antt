@@ -2,7 +2,7 @@ use Rattle.std.proofs.Common.{ℕ, ◌<◌, [], List, Option, length, ap, sym, �
 use Rattle.std.specs.List.{AllByRecursion}
 use Rattle.weave_model.specs.Weavings.{Move}
 use Rattle.weave_replay.specs.declared.journal.WovenJournal.{WovenJournal}
-use Rattle.weave_coding.specs.Begins.{tracks_from}
+use Rattle.weave.specs.Begins.{tracks_from}
 use Rattle.weave.specs.Counts.{AreCounted, IsFound}
 use Rattle.weave.specs.Plays.{CanPlay, PlaysOn}
 use Rattle.weave.proofs.PlanLemmas.{tracks-length}
@@ -20,6 +20,7 @@ first_left-requires-clause-size c =
       begin_law = c.coding_laws.ensures.begin;
       code_law = c.code_law.ensures;
       begun = c.requires.begun;
+      claimed = c.facts.ensures.claimed c.requires.begun.running;
       wired = c.facts.ensures.wired;
       rounds = c.requires.rounds;
     } in
@@ -41,6 +42,7 @@ play_all-requires c =
       begin_law = c.coding_laws.ensures.begin;
       code_law = c.code_law.ensures;
       begun = c.requires.begun;
+      claimed = c.facts.ensures.claimed c.requires.begun.running;
       wired = c.facts.ensures.wired;
       rounds = c.requires.rounds;
     } in
@@ -59,6 +61,7 @@ returns-in-Ok-play_all-clause-ok c =
       begin_law = c.coding_laws.ensures.begin;
       code_law = c.code_law.ensures;
       begun = c.requires.begun;
+      claimed = c.facts.ensures.claimed c.requires.begun.running;
       wired = c.facts.ensures.wired;
       rounds = c.requires.rounds;
     } in
@@ -79,6 +82,7 @@ returns-in-Ok-Some-clause-err c =
       begin_law = c.coding_laws.ensures.begin;
       code_law = c.code_law.ensures;
       begun = c.requires.begun;
+      claimed = c.facts.ensures.claimed c.requires.begun.running;
       wired = c.facts.ensures.wired;
       rounds = c.requires.rounds;
     } in

@@ -1,7 +1,7 @@
 use Rattle.std.proofs.Common.{◌≡◌, ◌∙◌, ◌-◌, take, sym, ap}
 use Rattle.std.proofs.lemmas.Result.{IfOk-weaker}
 use Rattle.lab_script.specs.Scripts.{script_of}
-use Rattle.weave_script.specs.Ahead.{script_text}
+use Rattle.weave_text.specs.Ahead.{script_text}
 use Rattle.weave_text.specs.Weavings.{script_in, limit_of}
 use Rattle.weave_text.proofs.WovenLemmas.{taken, lines-fault}
 use Rattle.weave_text.proofs.laid.limit_before.Goals as goal

@@ -6,8 +6,8 @@ use Rattle.weave_text.proofs.write.write_weave.Goals as goal
 
 pub returns-in-Ok-write_all-clause-ends : goal.returns-in-Ok-write_all-clause-ends
 returns-in-Ok-write_all-clause-ends g c =
-    let before = g.O.Sink.held c.args.out.now in
-    let now = g.O.Sink.held c.write_all.new.sink in (
+    let before = g.O.Sink.put c.args.out.now in
+    let now = g.O.Sink.put c.write_all.new.sink in (
       c.in-Ok.woven,
       c.in-Ok.ensures,
       subst (λ (piece : List ℕ). Wrote before now piece) c.as_slice.ensures c.in-Ok-write_all.ensures.ok,
@@ -15,8 +15,8 @@ returns-in-Ok-write_all-clause-ends g c =
 
 pub returns-clause-ends : goal.returns-clause-ends
 returns-clause-ends g c =
-    let before = g.O.Sink.held c.args.out.now in
-    let now = g.O.Sink.held c.write_all.new.sink in
+    let before = g.O.Sink.put c.args.out.now in
+    let now = g.O.Sink.put c.write_all.new.sink in
     let written = c.in-Err-write_all.ensures.prefix in (
       c.in-Ok.woven,
       c.in-Ok.ensures,

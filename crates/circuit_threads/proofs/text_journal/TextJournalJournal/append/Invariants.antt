@@ -7,7 +7,7 @@ use Rattle.circuit_threads.proofs.text_journal.TextJournalJournal.append.Given a
 abbrev pub invariant-pages : goal.invariant-pages
 invariant-pages g l = record {
   page : l.page ≡ [];
-  underway : IsUnderway (entry_text l.entry) (rest_of l.line) (g.O.Sink.held l.fn.self.sink) (g.O.Sink.held l.self.sink);
+  underway : IsUnderway (entry_text l.entry) (rest_of l.line) (g.O.Sink.put l.fn.self.sink) (g.O.Sink.put l.self.sink);
   later : g.O.Sink.faults l.fn.self.sink ≤ g.O.Sink.faults l.self.sink;
 }
 
@@ -16,7 +16,7 @@ decreases-pages g l = length (rest_of l.line)
 
 abbrev pub invariant-loop-rest : goal.invariant-loop-rest
 invariant-loop-rest g l = record {
-  underway : IsUnderway (entry_text l.entry) (l.rest ++ rest_of l.line) (g.O.Sink.held l.fn.self.sink) (g.O.Sink.held l.self.sink);
+  underway : IsUnderway (entry_text l.entry) (l.rest ++ rest_of l.line) (g.O.Sink.put l.fn.self.sink) (g.O.Sink.put l.self.sink);
   later : g.O.Sink.faults l.fn.self.sink ≤ g.O.Sink.faults l.self.sink;
 }
 

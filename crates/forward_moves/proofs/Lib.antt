@@ -1,2 +1,0 @@
--- The lemmas: why the cost falls along a move.
-pub mod MoveLemmas

@@ -1,0 +1,7 @@
+-- A list owns nothing, so it may go to another thread.
+use denote.RattleType.{RattleType}
+use denote.Param.Send.{IsSend}
+use Rattle.note_list.specs.contracts.pieces.PieceList.{the_row}
+
+pub send : (N : RattleType) → IsSend (the_row N)
+send N = record { owned = λ d vs. ((λ vss. (tt, ((λ uss. (tt, tt)), tt))), tt); leaving = λ k f vs. tt }
