@@ -9,7 +9,7 @@ import tempfile
 import time
 from pathlib import Path
 
-from limits import told
+from limits import headed, told
 
 LAUNCHER = Path(__file__).resolve().parent.parent / "isis"
 CRATES = "# below: low, middle\nlow:\nbeside: low\nmiddle: kit low\nisis_daemon: middle\n"
@@ -60,7 +60,7 @@ class Clone:
 
 def answered(run, clone):
     """What is answered without a build."""
-    start = lambda words, text="": run(words, text, program=clone.program, env=clone.environment)
+    start = lambda words, text="": headed(run(words, text, program=clone.program, env=clone.environment))
     for words in (["foo"], ["grid"], ["grid", "9"], ["lab", "lab"], ["weave", "weave"], [""], [b"\xff"], ["--version", "lab"], ["--unproved"], ["--unproved", "foo"]):
         yield f"unbuilt: {words}", told(start(words), 2, "usage", "")
     for words in NO_WALKS:
@@ -79,6 +79,24 @@ def answered(run, clone):
     clone.put("status", "3")
     yield "unbuilt: --unproved and another code", told(start(["--unproved", "lab"]), 3, line, "try -- lab\n")
     yield "unbuilt: nothing was built", "something was" if clone.is_built() else None
+
+
+def helped(run, clone):
+    """Each command's help, also below `isis: usage` where its words are wrong; no line is wider than a terminal."""
+    start = lambda *words: run(words, "", program=clone.program, env=clone.environment)
+    every = start("--help").output
+    for command in re.findall(r"(?m)^  ([a-z-]+[0-9a-z]*) ", every):
+        if command in ("--version", "--help"):
+            continue
+        ended = start(command, "--help")
+        is_own = ended.output.startswith("usage: isis ") and f"isis {command} " in ended.output and ended.output.splitlines()[0] not in every
+        wide = [line for line in ended.output.splitlines() if len(line) > 80]
+        yield f"{command} --help", told(ended, 0) or (None if is_own and not wide else f"wrote {ended.output!r}")
+        wrong = start(command, "--", "--")
+        below = start("--").line if command == "--unproved" else "isis: usage\n" + ended.output
+        right = (wrong.code, wrong.line, wrong.output) == (2, below, "")
+        yield f"{command} with wrong words", None if right else f"ended with {wrong.code} {wrong.line!r}"
+    yield "--help", None if max(map(len, every.splitlines())) <= 80 else "a line is wider than a terminal"
 
 
 def built(run, clone):
@@ -109,7 +127,7 @@ def walked(run, clone):
 
 def numbered(run, clone):
     """The words of `daemon`, and boot numbers that are kept in a file."""
-    start = lambda *words: run(words, "text\n", program=clone.program, env=clone.environment)
+    start = lambda *words: headed(run(words, "text\n", program=clone.program, env=clone.environment))
     for words in (["--boot", "7", "--turns", "5"], ["--turns=86400", "--boot=16777215"]):
         yield f"daemon: {words}", told(start("daemon", *words), 0, "", f"daemon {' '.join(words)}\ntext\n")
     for words in ([], ["--boot", "1"], ["--boot", "0", "--turns", "5"], ["--boot=1", "--boot=1"], ["--boot", "16777216", "--turns", "5"], ["--turns"]):
@@ -165,6 +183,7 @@ def faults(run):
     with tempfile.TemporaryDirectory() as folder:
         clone = Clone(folder)
         yield from answered(run, clone)
+        yield from helped(run, clone)
         yield from built(run, clone)
         yield from walked(run, clone)
         yield from numbered(run, clone)

@@ -13,6 +13,13 @@ def told(ended, code, line="", output=None):
     return None
 
 
+def headed(ended):
+    """The same end with only the program's line, where the launcher explains below it what was refused."""
+    if ended.code in (2, 3, 8, 9):
+        ended.line = ended.line.split("\n")[0] + "\n"
+    return ended
+
+
 def counted(ended, start, count):
     """What is other than a report with so many lines that begin so."""
     found = sum(line.startswith(start) for line in ended.output.splitlines())
@@ -91,6 +98,8 @@ def script_limits(run):
     yield "1,025 routers", told(lab(lab_routers(1025)), 10, "limit routers", "")
     yield "4,096 links", counted(lab(lab_links(128, 64)), "link ", 4096)
     yield "4,097 links", told(lab(lab_links(128, 64) + "link A r1000 r1001 1"), 10, "limit links", "")
+    yield "4,096 links and a LAN", told(lab(lab_links(130, 64) + "lan A 1 r1128 r1129"), 10, "limit links", "")
+    yield "65 circuits of a member of a LAN", told(lab(lab_links(130, 1) + "lan A 1 r1000 r1128"), 10, "limit circuits", "")
     yield "a refusal comes first", told(lab(lab_links(128, 64) + "link A r1000 r1000 1"), 3, "line 4226 again", "")
     for ends in ("r1000 r1127", "r1127 r1001"):
         yield "65 circuits of a router", told(lab(lab_links(128, 1) + f"link A {ends} 1"), 10, "limit circuits", "")

@@ -12,7 +12,7 @@ import threading
 import time
 from pathlib import Path
 
-from limits import INPUT_LIMIT, TWO, told
+from limits import INPUT_LIMIT, TWO, headed, told
 
 LAUNCHER = Path(__file__).resolve().parent.parent / "isis"
 NO_WORDS = [[], [""], ["Lab"], ["lab", "lab"], ["lab "], ["--help"], ["grid"], ["grid", "0"], ["grid", "9"], ["grid", "01"], [b"\xff"]]
@@ -45,8 +45,8 @@ def inputs(run):
     os.close(near)
 
 
-def outputs(run):
-    """An output without room, one that is closed, and a reader that goes away."""
+def outputs(run, code=5, line="write fault"):
+    """An output without room, one that is closed, and a reader that goes away, with the code and the line that it ends with."""
     with open("/dev/full", "wb") as full:
         yield "an output without room", told(run(["lab"], SCRIPT, stdout=full), 5, "write fault")
     yield "no output", told(run(["lab"], SCRIPT, preexec_fn=lambda: os.closerange(1, 2)), 5, "write fault")
@@ -57,7 +57,7 @@ def outputs(run):
     ended = run(["show"], LINES, stdout=far)
     reader.join()
     os.close(far)
-    yield "a reader that goes away", told(ended, 5, "write fault")
+    yield "a reader that goes away", told(ended, code, line)
 
 
 def fed(end, pieces, whole):
@@ -177,6 +177,19 @@ def walks(run):
     os.close(folder)
 
 
+# A system of the second level that the captured LSPs don't have, and what is written of it.
+CAPTURED = "0000.0000.0001"
+
+
+def summaries(run):
+    """A grid's summary, the IPv6 routes and the alternates of a system at each level: an output that is closed is a write fault."""
+    closed = {"preexec_fn": lambda: os.closerange(1, 2)}
+    for words in (["grid", "1"], *([word, level, CAPTURED] for word in ("routes6", "alternates") for level in ("L1", "L2"))):
+        name = " ".join(words)
+        yield name, told(run(words, ""), 0)
+        yield f"{name}, and no output", told(run(words, "", **closed), 5, "write fault")
+
+
 WOVEN = TWO + "link X A B 10\n"
 HELLO = "4953553200000000000100000001831401001101000001000000000001001e0024010104034900018101ccf0050200000101"
 TAKEN = f"journal B\nisis-journal 1\n1 1 take 1 {HELLO} -> done\nend\n"
@@ -199,8 +212,8 @@ def weaves(run):
 
 
 def launcher(run):
-    """The launcher hands on words, input and output, exit code and line; alone it prints help."""
-    start = lambda these, text, **how: run(these, text, program=LAUNCHER, **how)
+    """The launcher hands on words, input and output, exit code and line; alone it prints help. With a reader that goes away it ends as others do."""
+    start = lambda these, text, **how: headed(run(these, text, program=LAUNCHER, **how))
     many = "isis-keys 1\n" + "".join(f"router r{n}\n" for n in range(1025))
     yield "launcher: a script", told(start(["lab"], SCRIPT), 0, "", REPORT)
     yield "launcher: a walk", told(start(WALK, WALKED), 0, "", WALK_TEXT)
@@ -210,14 +223,14 @@ def launcher(run):
     yield "launcher: a refused script", told(start(["lab"], "isis-lab 2\n"), 3, "line 1 head", "")
     yield "launcher: an input too long", told(start(["lab"], "\n" * (INPUT_LIMIT + 1)), 6, "input too long", "")
     yield "launcher: a limit", told(start(["lab"], many), 10, "limit routers", "")
-    for name, fault in (*inputs(start), *outputs(start), *memory(start)):
+    for name, fault in (*inputs(start), *outputs(start, -signal.SIGPIPE, ""), *memory(start)):
         yield f"launcher: {name}", fault
     for these in ([], ["--help"], ["-h"]):
         ended = start(these, "")
-        yield f"launcher: {these}", told(ended, 0) or (None if ended.output.startswith("isis lab ") else "no help")
+        yield f"launcher: {these}", told(ended, 0) or (None if ended.output.startswith("usage: isis COMMAND") else "no help")
 
 
 def faults(run):
     """Each of these runs by name, and what comes out otherwise than it should, if anything does."""
-    for cases in (words, inputs, reads, outputs, writes, killed, readers, memory, walks, weaves, launcher):
+    for cases in (words, inputs, reads, outputs, writes, killed, readers, memory, walks, weaves, summaries, launcher):
         yield from cases(run)

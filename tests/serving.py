@@ -130,6 +130,8 @@ def memory(run):
 
 def faults(run):
     """Each of these runs by name, and what comes out otherwise than it should, if anything does."""
-    for cases in (starts, inputs, outputs, neighbours, memory):
+    import serving_lan
+
+    for cases in (starts, inputs, outputs, neighbours, memory, serving_lan.lan):
         for name, fault in cases(run):
             yield f"daemon: {name}", fault

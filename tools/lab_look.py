@@ -64,10 +64,18 @@ class Look:
             return f"{link.name}, metric {each[0][0]}"
         return f"{link.name}, metric " + ", ".join(f"{metric} at {name}" for metric, name in each)
 
+    def can_meet(self, level, one, other):
+        """Whether two routers can be neighbours at a level: both run it, and at level 1 they are in one area."""
+        one, other = self.script.routers[one], self.script.routers[other]
+        return level in one.runs() and level in other.runs() and (level == "L2" or one.area == other.area)
+
     def link(self, link, lines):
         words = [self.metric(link)]
         states = []
         for _, _, level, *more in lines:
+            if more == ["down"] and not self.can_meet(level, *link.members):
+                words.append(f"{level} not expected: two areas")
+                continue
             if more == ["down"]:
                 states.append("down")
                 words.append(f"{level} down")
@@ -87,7 +95,9 @@ class Look:
             words.append(f"{member}, metric {metric}")
         for level, _, _, system, *swept in lines:
             seen = self.script.systems.get(system, system)
-            if system == "none":
+            if system == "none" and not any(self.can_meet(level, member, other) for other in link.members if other != member):
+                words.append(f"{level} {member} is alone")
+            elif system == "none":
                 states.append("down")
                 words.append(f"{level} {member} sees none")
             elif not swept:

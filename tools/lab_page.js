@@ -56,11 +56,19 @@ function drawPicture(step, before) {
 
 // ---- the report
 
+// A line with the names of routers in place of the systems after `via` and `sees`.
+function named(line) {
+    const words = line.split(" ");
+    const from = words.findIndex((word) => word === "via" || word === "sees");
+    const isSystem = (word, at) => from >= 0 && at > from && Object.hasOwn(run.systems, word);
+    return words.map((word, at) => isSystem(word, at) ? `<span title="${word}">${escaped(run.systems[word])}</span>` : escaped(word)).join(" ");
+}
+
 function lineParts(lines, earlier) {
     const had = new Set(earlier);
     const has = new Set(lines);
-    const here = lines.map((line) => `<div class="line${had.has(line) ? "" : " new"}">${escaped(line)}</div>`);
-    return here.concat(earlier.filter((line) => !has.has(line)).map((line) => `<div class="line gone">${escaped(line)}</div>`));
+    const here = lines.map((line) => `<div class="line${had.has(line) ? "" : " new"}">${named(line)}</div>`);
+    return here.concat(earlier.filter((line) => !has.has(line)).map((line) => `<div class="line gone">${named(line)}</div>`));
 }
 
 // What a router's lines are about, and the words that they begin with; its neighbours are told by the lines of its links and LANs.

@@ -17,7 +17,7 @@ STATES = (
     ("flags", "up, and flags stand: LSPs are on their way or not acknowledged; of a LAN: not swept"),
     ("part", "up on one level, down on the other"),
     ("down", "not up at both ends; of a LAN: the member sees none"),
-    ("none", "no level that both ends run"),
+    ("none", "no level on which both ends can be neighbours"),
 )
 MORE = (
     "a bar of a router: a level that it runs; routers that agree on a level are one group and have one colour",

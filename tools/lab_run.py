@@ -3,6 +3,7 @@
 The program says what is a script: each script is played before it is read here, so what is read here is well formed. Nothing of the
 protocol stands here but where the datagrams of a line `run` go, as docs/TEXTS.md tells it.
 """
+import signal
 import sys
 from bisect import bisect_left
 from pathlib import Path
@@ -240,6 +241,8 @@ def tool(name, usage, work):
     try:
         with UnprovedProgram(name) if is_unproved else Program() as program:
             output = work(names)
+        # a reader may go away, as `head` does; the program's own pipes are closed by now
+        signal.signal(signal.SIGPIPE, signal.SIG_DFL)
         sys.stdout.buffer.write(output)
         sys.stdout.buffer.flush()
     except Told as told:

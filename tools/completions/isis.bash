@@ -19,6 +19,8 @@ _isis() {
         return
     elif [ "$first" = 1 ] && [ "$COMP_CWORD" -gt 2 ] && [ "${COMP_WORDS[1]}" = daemon-next ]; then
         words="--turns"
+    elif [ "$COMP_CWORD" = 2 ] && [[ $words == *--help* && ${COMP_WORDS[2]} == -* ]]; then
+        words="--help"
     elif [ "$COMP_CWORD" != "$first" ]; then
         words=
     fi
