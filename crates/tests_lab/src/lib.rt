@@ -4,3 +4,5 @@
 
 #[cfg(test)]
 mod played;
+#[cfg(test)]
+mod stopped;
