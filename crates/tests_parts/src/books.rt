@@ -4,6 +4,7 @@ ghost use Rattle.std.specs.Prelude.{◌≡◌, IfOk};
 use crate::entries::entry;
 use flag_sync::{Book, Whose};
 use isis_base::{CircuitKind, Key, LspEntry, LspId, OutOfMemory};
+use lsp_store::StoreFault;
 use std::alloc::{AllocError, Global};
 use std::test::Fail;
 
@@ -43,8 +44,8 @@ pub fn bare(alloc: Global) -> Result<Book, OutOfMemory>
     Ok(book)
 }
 
-/// Installs the entry of number 2 and checksum 5, with 900 seconds left.
-fn install(book: &mut Book, alloc: Global) -> Result<(), OutOfMemory>
+/// Installs at an LSP ID an entry of number 2 and checksum 5, with 900 seconds left.
+pub fn install(book: &mut Book, alloc: Global, id: LspId) -> Result<(), StoreFault>
     ensures { book.old.circuits ≡ 3 → book.new.circuits ≡ 3 }
 {
     let key = Key {
@@ -53,11 +54,11 @@ fn install(book: &mut Book, alloc: Global) -> Result<(), OutOfMemory>
     };
     let entry = match entry(alloc, key, 5, 900) {
         Ok(entry) => entry,
-        Err(fault) => return Err(fault),
+        Err(OutOfMemory) => return Err(StoreFault::OutOfMemory),
     };
-    match book.install(LspId::from_number(ID), entry) {
+    match book.install(id, entry) {
         Ok(()) => Ok(()),
-        Err(_) => Err(OutOfMemory),
+        Err((_, fault)) => Err(fault),
     }
 }
 
@@ -69,9 +70,9 @@ pub fn held(alloc: Global) -> Result<Book, OutOfMemory>
         Ok(book) => book,
         Err(fault) => return Err(fault),
     };
-    match install(&mut book, alloc) {
+    match install(&mut book, alloc, LspId::from_number(ID)) {
         Ok(()) => {}
-        Err(fault) => return Err(fault),
+        Err(_) => return Err(OutOfMemory),
     }
     match book.reserve(2) {
         Ok(()) => {}

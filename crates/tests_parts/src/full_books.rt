@@ -1,32 +1,12 @@
 //! A book that holds 65,536 entries: each call that would make another is refused.
 ghost use Rattle.std.specs.Prelude.{◌≡◌};
 
-use crate::books::{bare, said};
-use crate::entries::entry;
+use crate::books::{bare, install, said};
 use crate::rows::fill;
 use flag_sync::{Book, LspHeard, Whose};
-use isis_base::{Key, LspId, OutOfMemory};
 use lsp_store::StoreFault;
 use std::alloc::Global;
 use std::test::Fail;
-
-/// Installs an entry at an LSP ID.
-fn install(book: &mut Book, alloc: Global, id: LspId) -> Result<(), StoreFault>
-    ensures { book.old.circuits ≡ 3 → book.new.circuits ≡ 3 }
-{
-    let key = Key {
-        number: 2,
-        purged: false,
-    };
-    let entry = match entry(alloc, key, 5, 900) {
-        Ok(entry) => entry,
-        Err(OutOfMemory) => return Err(StoreFault::OutOfMemory),
-    };
-    match book.install(id, entry) {
-        Ok(()) => Ok(()),
-        Err((_, fault)) => Err(fault),
-    }
-}
 
 /// What becomes of an LSP that is heard on circuit 1; or, of an own one, of its purge.
 fn heard(book: &mut Book, is_own: bool) -> Option<StoreFault>
