@@ -12,12 +12,16 @@ from pathlib import Path
 from limits import headed, told
 
 LAUNCHER = Path(__file__).resolve().parent.parent / "isis"
+BUILDER = LAUNCHER.parent / "tools" / "lab_program.py"
 CRATES = "# below: low, middle\nlow:\nbeside: low\nmiddle: kit low\nisis_daemon: middle\n"
 # It tells of proofs as rt does: `low` was proved before, so it isn't told of. Files beside the launcher say what goes otherwise.
 RT = """#!/usr/bin/env bash
 case $1 in
 version) echo "rattle-kit-0 logic 0" ;;
-try) echo "$*" && cat && [ ! -e ../../status ] || exit "$(cat ../../status)" ;;
+try)
+    [ "$*" = "try -- lab" ] || exit 9
+    [ ! -e ../../broken ] || { echo "rt: refused" >&2 && exit 1; }
+    echo build >> ../../builds && mkdir "$TMPDIR/rt-try" && cp ../../unproved "$TMPDIR/rt-try/program" && exec sleep 60 ;;
 run)
     echo "rt: chose --jobs 2 for middle" && echo "fn middle::f: proved" && touch ../../begun
     [ ! -e ../../slow ] || exec sleep "$(cat ../../slow)"
@@ -27,6 +31,15 @@ run)
     echo "isis: line 1 head" && exit 3 ;;
 esac
 """
+# What the stand-in builds without a proof.
+PROGRAM = """#!/usr/bin/env bash
+read -r line || { echo "isis: line 1 head" >&2 && exit 3; }
+echo "$*" && echo "$line"
+[ "$line" != wrong ] || { echo "isis: line 1 form" >&2 && exit 3; }
+"""
+BUILDS = "isis: building the program without a proof, once for these sources; this takes two to four minutes\n"
+UNPROVED = "isis: nothing is proved of this run; it is checked as it goes, which is slow\n"
+NO_RT = "rt isn't installed, the command of Rattle's kit, which builds the program; docs/pages has runs to look at without it"
 # A name is a letter and up to 15 letters or digits; behind a prefix's length no bit is set.
 NO_WALKS = [["walk", *words] for words in (
     [], ["A"], ["A", "10.0.0.0/8", "B"], ["", "10.0.0.0/8"], ["1A", "10.0.0.0/8"], ["A-B", "10.0.0.0/8"], ["\u00e9", "10.0.0.0/8"],
@@ -49,7 +62,11 @@ class Clone:
         self.program = shutil.copy(LAUNCHER, self.folder / "isis")
         (self.folder / "bin" / "rt").write_text(RT)
         (self.folder / "bin" / "rt").chmod(0o755)
-        self.environment = {**os.environ, "PATH": f"{self.folder}/bin:{os.environ['PATH']}"}
+        (self.folder / "tools").mkdir()
+        shutil.copy(BUILDER, self.folder / "tools")
+        self.put("unproved", PROGRAM)
+        (self.folder / "unproved").chmod(0o755)
+        self.environment = {**os.environ, "PATH": f"{self.folder}/bin:{os.environ['PATH']}", "XDG_CACHE_HOME": str(self.folder / "cache")}
 
     def put(self, name, text):
         (self.folder / name).write_text(text)
@@ -67,18 +84,42 @@ def answered(run, clone):
         for before in ([], ["--unproved"]):
             yield f"unbuilt: {before + words}", told(start(before + words), 2, "usage", "")
     yield "unbuilt: --version", told(start(["--version"]), 0, "", "isis unknown, rattle-kit-0 logic 0\n")
-    line = "nothing is proved of this run; it is built for itself and checked as it goes, which is slow"
-    yield "unbuilt: --unproved", told(start(["--unproved", "lab"], "a script\n"), 0, line, "try -- lab\na script\n")
-    yield "unbuilt: --unproved walk", told(start(["--unproved", "walk", "A", "10.0.0.0/8"], "a script\n"), 0, line, "try -- walk A 10.0.0.0/8\na script\n")
-    yield "unbuilt: --unproved weave", told(start(["--unproved", "weave"], "a text\n"), 0, line, "try -- weave\na text\n")
-    yield "unbuilt: --unproved grid", told(start(["--unproved", "grid", "8"], "a script\n"), 0, line, "try -- grid 8\n")
-    folder = os.open(clone.folder, os.O_RDONLY)
-    ended = run(["--unproved", "show"], "", program=clone.program, env=clone.environment, stdin=folder)
-    yield "unbuilt: --unproved and a folder as input", told(ended, 4, "read fault", "")
-    os.close(folder)
-    clone.put("status", "3")
-    yield "unbuilt: --unproved and another code", told(start(["--unproved", "lab"]), 3, line, "try -- lab\n")
+    none = Path(clone.folder, "without")
+    none.mkdir()
+    for name in ("bash", "python3", "dirname", "readlink", "find", "setpriv", "mktemp", "rm", "tee", "cat"):
+        (none / name).symlink_to(shutil.which(name))
+    for words in (["lab"], ["--unproved", "lab"]):
+        without = run(words, "a script\n", program=clone.program, env={**clone.environment, "PATH": str(none)})
+        yield f"unbuilt: {words} without rt", told(without, 1, NO_RT, "")
     yield "unbuilt: nothing was built", "something was" if clone.is_built() else None
+
+
+def unproved(run, clone):
+    """Runs without a proof: the first one builds the program, the others take it, until a source changes."""
+    start = lambda words, text="": run(["--unproved", *words], text, program=clone.program, env=clone.environment)
+
+    def fault(name, words, code, lines, output, text="a script\n"):
+        ended = start(words, text)
+        right = (ended.code, ended.line, ended.output) == (code, lines, output)
+        return f"unproved: {name}", None if right else f"ended with {ended.code} {ended.line!r} {ended.output!r}"
+
+    clone.put("broken", "")
+    yield fault("a build that fails", ["lab"], 1, BUILDS + "rt: refused\nisis: the program can't be built\n", "")
+    (clone.folder / "broken").unlink()
+    yield fault("the first run", ["lab"], 0, BUILDS + UNPROVED, "lab\na script\n")
+    began = time.monotonic()
+    for words in (["lab"], ["walk", "A", "10.0.0.0/8"], ["weave"], ["grid", "8"]):
+        yield fault(words[0], words, 0, UNPROVED, " ".join(words) + "\na script\n")
+    yield "unproved: four more runs are quick", None if time.monotonic() - began < 10 else "they take long"
+    yield fault("a script that is refused", ["lab"], 3, UNPROVED + "isis: line 1 form\n", "lab\nwrong\n", "wrong\n")
+    kept = list((clone.folder / "cache" / "isis").iterdir())
+    yield "unproved: one program is kept", None if len(kept) == 1 else f"{kept}"
+    (clone.folder / "crates" / "isis_daemon" / "src" / "main.rt").write_text("changed")
+    yield fault("a changed source", ["lab"], 0, BUILDS + UNPROVED, "lab\na script\n")
+    (clone.folder / "crates" / "beside" / "src").mkdir(parents=True)
+    (clone.folder / "crates" / "beside" / "src" / "lib.rt").write_text("unused")
+    yield fault("a source that it doesn't use", ["lab"], 0, UNPROVED, "lab\na script\n")
+    yield "unproved: nothing was built for the launcher", "something was" if clone.is_built() else None
 
 
 def helped(run, clone):
@@ -183,6 +224,7 @@ def faults(run):
     with tempfile.TemporaryDirectory() as folder:
         clone = Clone(folder)
         yield from answered(run, clone)
+        yield from unproved(run, clone)
         yield from helped(run, clone)
         yield from built(run, clone)
         yield from walked(run, clone)

@@ -1,9 +1,11 @@
-"""The program that the tools of this folder call: the one that lies built, or one that is built for a tool without a proof.
+"""The program that the tools of this folder call: the one that lies built, or one that is built without a proof.
 
 `rt try` builds the program without a proof, with checks at run time, runs it and takes it away. Here it is given a script that plays for
-long; meanwhile the program gets a second name, by which it is called as often as is wanted, and `rt try` is stopped.
+long; meanwhile the program gets a second name, and `rt try` is stopped. The program is kept in the user's folder for caches, by the sum of its
+sources and the kit. Called as a command, this file prints where the program is, and builds it first where none is kept.
 """
 import contextlib
+import hashlib
 import os
 import shutil
 import signal
@@ -13,10 +15,14 @@ import tempfile
 import time
 from pathlib import Path
 
-CRATE = Path(__file__).resolve().parent.parent / "crates" / "isis_daemon"
+TOP = Path(__file__).resolve().parent.parent
+CRATE = TOP / "crates" / "isis_daemon"
 PROGRAM = CRATE / "out" / "isis_daemon"
 UNPROVED = "nothing is proved of this run"
+NO_RT = "rt isn't installed, the command of Rattle's kit, which builds the program; docs/pages has runs to look at without it"
 LONG = "isis-lab 1\nrouter A 0000.0000.0001 49.0001 L1\nrouter B 0000.0000.0002 49.0001 L1\nlink X A B 10\n" + 9 * "run 86400\n"
+# How many programs are kept, and how long each is kept at least, in seconds.
+KEPT, DAY = 3, 86400
 
 
 class Told(Exception):
@@ -53,60 +59,159 @@ class Program:
 
 
 class UnprovedProgram(Program):
-    """One that is built at the first call, and taken away behind the tool's work."""
+    """One that is built without a proof at the first call, unless it is kept."""
 
     note = UNPROVED
 
     def __init__(self, tool):
         self.tool = tool
-        self.built = None
-        self.folder = None
+        self.found = None
 
     def __enter__(self):
         for number in (signal.SIGTERM, signal.SIGHUP):
             signal.signal(number, lambda number, _: sys.exit(128 + number))
-        self.folder = Path(tempfile.mkdtemp(prefix="isis-unproved-"))
         return self
 
-    def __exit__(self, *_):
-        shutil.rmtree(self.folder, ignore_errors=True)
-
     def path(self):
-        if self.built is None:
-            line = f"{UNPROVED}; the program is built for it, which takes a minute or two, and checked as it goes, which is slow"
-            print(f"{self.tool}: {line}", file=sys.stderr, flush=True)
-            self.built = self.build()
-        return self.built
+        if self.found is None:
+            self.found = self.kept()
+            print(f"{self.tool}: {UNPROVED}; it is checked as it goes, which is slow", file=sys.stderr, flush=True)
+        return self.found
 
-    def build(self):
-        room, script, log = (self.folder / name for name in ("room", "script", "log"))
-        room.mkdir()
-        script.write_text(LONG, encoding="ascii")
-        how = {"cwd": CRATE, "env": {**os.environ, "TMPDIR": str(room)}, "stdout": subprocess.DEVNULL}
-        with script.open("rb") as stdin, log.open("wb") as stderr:
-            try:
-                rt = subprocess.Popen(["rt", "try", "--", "lab"], stdin=stdin, stderr=stderr, **how)
-            except OSError as problem:
-                raise Told(f"rt doesn't start: {problem}") from problem
+    def kept(self):
+        """The program that is kept for these sources; where there is none it is built first."""
+        folder = Path(os.environ.get("XDG_CACHE_HOME") or Path.home() / ".cache") / "isis"
+        kept = folder / f"unproved-{source_sum()}"
         try:
-            while (built := self.taken(room)) is None:
-                if rt.poll() is not None:
-                    sys.stderr.write(log.read_text(encoding="utf-8", errors="replace"))
-                    raise Told("the program can't be built")
-                time.sleep(0.05)
-            return built
+            if not kept.is_file():
+                folder.mkdir(parents=True, exist_ok=True)
+                with tempfile.TemporaryDirectory(prefix="build-", dir=folder) as room:
+                    os.replace(Build(self.tool, Path(room)).run(), kept)
+            os.utime(kept)
+            forget(folder)
+        except OSError as problem:
+            raise Told(f"the program can't be kept: {problem}") from problem
+        return kept
+
+
+def used_crates():
+    """The program's crate and those that it uses."""
+    below = {}
+    for line in (TOP / "crates.txt").read_text(encoding="utf-8").splitlines():
+        left, _, right = line.partition(":")
+        below[(left.split() or [""])[0]] = right.split()
+    found = [CRATE.name]
+    for name in found:
+        found += [it for it in below.get(name, []) if it in below and it not in found]
+    return sorted(found)
+
+
+def source_sum():
+    """A sum of all that the program is built of."""
+    try:
+        kit = subprocess.run(["rt", "version"], stdin=subprocess.DEVNULL, capture_output=True, check=False).stdout
+    except OSError as problem:
+        raise Told(NO_RT) from problem
+    total = hashlib.sha256(kit)
+    for crate in used_crates():
+        for path in sorted(it for part in ("src", "specs") for it in (TOP / "crates" / crate / part).rglob("*") if it.is_file()):
+            total.update(f"{path.relative_to(TOP)}\n".encode() + hashlib.sha256(path.read_bytes()).digest())
+    return total.hexdigest()[:16]
+
+
+def forget(folder):
+    """Removes programs that were not used for a day, but for the last few, and what a killed build left."""
+    with contextlib.suppress(OSError):
+        places = sorted(folder.iterdir(), key=lambda it: it.stat().st_mtime, reverse=True)
+        for place in places[KEPT:]:
+            if place.stat().st_mtime + DAY < time.time():
+                shutil.rmtree(place) if place.is_dir() else place.unlink()
+
+
+class Build:
+    """A build without a proof, in a folder of its own."""
+
+    def __init__(self, tool, folder):
+        self.tool, self.folder, self.room = tool, folder, folder / "room"
+
+    def run(self):
+        """Where the program is, once it is built."""
+        script, log = self.folder / "script", self.folder / "log"
+        self.room.mkdir()
+        script.write_text(LONG, encoding="ascii")
+        how = {"cwd": CRATE, "env": {**os.environ, "TMPDIR": str(self.room)}, "stdout": subprocess.DEVNULL}
+        print(f"{self.tool}: building the program without a proof, once for these sources; this takes two to four minutes", file=sys.stderr, flush=True)
+        with script.open("rb") as stdin, log.open("wb") as stderr:
+            rt = subprocess.Popen(["rt", "try", "--", "lab"], stdin=stdin, stderr=stderr, **how)
+        try:
+            return self.waited(rt, log)
         finally:
             rt.terminate()
             rt.wait()
 
-    def taken(self, room):
+    def waited(self, rt, log):
+        progress = Progress(self.tool)
+        with progress:
+            while (built := self.taken()) is None:
+                if rt.poll() is not None:
+                    progress.clear()
+                    sys.stderr.write(log.read_text(encoding="utf-8", errors="replace"))
+                    raise Told("the program can't be built")
+                progress.report("compiling" if any(self.room.glob("*/*/")) else "reading the sources")
+                time.sleep(0.05)
+            return built
+
+    def taken(self):
         """The program by its second name, as soon as it answers as it should."""
         own = self.folder / "isis"
         with contextlib.suppress(OSError):
-            for path in room.rglob("program"):
+            for path in self.room.rglob("program"):
                 own.unlink(missing_ok=True)
                 own.hardlink_to(path)
                 ran = subprocess.run([own, "lab"], stdin=subprocess.DEVNULL, capture_output=True, check=False)
                 if ran.stderr == b"isis: line 1 head\n":
                     return own
         return None
+
+
+class Progress:
+    """How long a build takes so far: on a terminal in one line that is written over, elsewhere by a line each 30 seconds."""
+
+    def __init__(self, tool):
+        self.tool, self.begun, self.reported = tool, time.monotonic(), 0
+        self.is_terminal = sys.stderr.isatty()
+
+    def __enter__(self):
+        return self
+
+    def __exit__(self, *_):
+        self.clear()
+
+    def report(self, what):
+        seconds = int(time.monotonic() - self.begun)
+        if seconds < self.reported + (1 if self.is_terminal else 30):
+            return
+        self.reported = seconds
+        line = f"{self.tool}: {what}, {seconds // 60}:{seconds % 60:02} so far"
+        print(f"\r\x1b[K{line}" if self.is_terminal else line, end="" if self.is_terminal else "\n", file=sys.stderr, flush=True)
+
+    def clear(self):
+        if self.is_terminal:
+            print("\r\x1b[K", end="", file=sys.stderr, flush=True)
+
+
+def main():
+    """Prints where the program without a proof is, for the launcher."""
+    try:
+        with UnprovedProgram("isis") as program:
+            print(program.kept())
+    except Told as told:
+        print(f"isis: {told}", file=sys.stderr)
+        return told.code
+    except KeyboardInterrupt:
+        return 130
+    return 0
+
+
+if __name__ == "__main__":
+    sys.exit(main())
