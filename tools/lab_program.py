@@ -107,12 +107,12 @@ def used_crates():
 
 
 def source_sum():
-    """A sum of all that the program is built of."""
-    try:
-        kit = subprocess.run(["rt", "version"], stdin=subprocess.DEVNULL, capture_output=True, check=False).stdout
-    except OSError as problem:
-        raise Told(NO_RT) from problem
-    total = hashlib.sha256(kit)
+    """A sum of all that the program is built of; the kit's part is where its command is, how long it is and how old, since it takes long to answer."""
+    rt = shutil.which("rt")
+    if rt is None:
+        raise Told(NO_RT)
+    kit = os.stat(rt)
+    total = hashlib.sha256(f"{os.path.realpath(rt)} {kit.st_size} {kit.st_mtime_ns}\n".encode())
     for crate in used_crates():
         for path in sorted(it for part in ("src", "specs") for it in (TOP / "crates" / crate / part).rglob("*") if it.is_file()):
             total.update(f"{path.relative_to(TOP)}\n".encode() + hashlib.sha256(path.read_bytes()).digest())
