@@ -8,11 +8,16 @@ const labels = Array.from(document.querySelectorAll("[data-label]"));
 const edges = Array.from(document.querySelectorAll("[data-edge]"));
 const MOST = 300;
 const COLUMN = 72;
+// How long packets move, and how many of them, and how long a step is shown, in milliseconds.
+const MOVE = 900;
+const PACKETS = 60;
+const PAUSE = 1000;
 let now = 0;
 // The part of the report that is shown: a router by its name, a link or LAN as `link NAME`, or all.
 let chosen = run.routers.length > 8 ? run.routers[0] : "";
 let timer = null;
 let whole = false;
+let frame = 0;
 
 function linesOf(step, name) {
     return run.blocks[step.blocks[run.parts.indexOf(name)]].map((line) => run.lines[line]);
@@ -54,6 +59,119 @@ function drawPicture(step, before) {
     });
 }
 
+// ---- packets that move along links
+
+const isStill = matchMedia("(prefers-reduced-motion: reduce)");
+
+// The ways of a datagram to its receivers: paths, each from its start or from its end, and whether it arrives.
+function waysOf(row) {
+    const link = run.links.find((it) => it.name === row.it.link);
+    const pathOf = (name) => edges.find((edge) => edge.getAttribute("data-edge") === name).querySelector("path");
+    if (row.from === null) {
+        return [];
+    }
+    return row.ends.map(([name, state]) => ({
+        isLost: state !== "taken",
+        parts: link.isLan ? [[pathOf(`${link.name}/${row.from}`), false], [pathOf(`${link.name}/${name}`), true]]
+            : [[pathOf(link.name), row.from === [...link.members].sort()[0]]],
+    }));
+}
+
+function pointOf(way, share) {
+    const place = Math.min(share * way.parts.length, way.parts.length - 0.001);
+    const [path, isForward] = way.parts[Math.floor(place)];
+    const along = isForward ? place % 1 : 1 - (place % 1);
+    return path.getPointAtLength(along * path.getTotalLength());
+}
+
+function kindOf(row) {
+    const word = (run.lines[row.it.shown[0]] || "").split(" ")[2] || "";
+    return ["lsp", "snp"].find((kind) => word.includes(kind)) || "hello";
+}
+
+function movePackets(step) {
+    cancelAnimationFrame(frame);
+    document.querySelectorAll(".packet").forEach((it) => it.remove());
+    if (isStill.matches || !edges.length) {
+        return;
+    }
+    const rows = rowsOf(step).slice(0, PACKETS);
+    const packets = rows.flatMap((row, at) => waysOf(row).map((way) => {
+        const drawn = document.createElementNS("http://www.w3.org/2000/svg", "circle");
+        drawn.setAttribute("class", "packet " + kindOf(row));
+        drawn.setAttribute("r", "6");
+        return { way, drawn, begins: (at / rows.length) * 0.5 };
+    }));
+    const begun = performance.now();
+    const move = (time) => {
+        const share = (time - begun) / MOVE;
+        for (const { way, drawn, begins } of packets) {
+            const passed = (share - begins) * 2;
+            const isSeen = passed >= 0 && passed < (way.isLost ? 0.6 : 1);
+            if (isSeen) {
+                const point = pointOf(way, passed);
+                drawn.setAttribute("cx", point.x);
+                drawn.setAttribute("cy", point.y);
+                edges[0].parentNode.append(drawn);
+            } else {
+                drawn.remove();
+            }
+        }
+        frame = share < 1 ? requestAnimationFrame(move) : 0;
+    };
+    frame = packets.length ? requestAnimationFrame(move) : 0;
+}
+
+// ---- the table of LSPs
+
+// An LSP ID with its router's name in place of the system, where the script has that system.
+function lspName(id) {
+    const system = id.slice(0, 14);
+    return Object.hasOwn(run.systems, system) ? run.systems[system] + id.slice(14) : id;
+}
+
+// What each router holds at a level: LSP ID, then router, then sequence number and state.
+function heldAt(step, level) {
+    const held = new Map();
+    for (const name of run.routers) {
+        for (const [word, , itsLevel, id, number, state] of linesOf(step, name).map((line) => line.split(" "))) {
+            if (itsLevel === level && (word === "lsp" || word === "letgo")) {
+                held.set(id, (held.get(id) || new Map()).set(name, word === "lsp" ? { number: Number(number), isPurged: state === "purged" } : null));
+            }
+        }
+    }
+    return new Map([...held].sort(([one], [other]) => (one < other ? -1 : 1)));
+}
+
+// Of two copies of an LSP the one with the greater number is newer, and of one number the purged one.
+const isNewer = (one, other) => one.number > other.number || (one.number === other.number && one.isPurged && !other.isPurged);
+
+function lspCell(held, newest, before) {
+    const text = held ? held.number + (held.isPurged ? " purged" : "") : held === null ? "forgotten" : "\u2013";
+    const kind = !held ? "missing" : newest && isNewer(newest, held) ? "older" : "newest";
+    const isNow = JSON.stringify(held) !== JSON.stringify(before);
+    const label = kind === "older" ? ` aria-label="${text}, older"` : text === "\u2013" ? ' aria-label="not held"' : "";
+    return `<td class="${kind}${isNow ? " now" : ""}"${label}>${text}</td>`;
+}
+
+function lspTable(step, before, level) {
+    const held = heldAt(step, level);
+    const earlier = heldAt(before, level);
+    const names = run.routers.filter((name) => run.levels[name].includes(level));
+    const rows = [...held].map(([id, copies]) => {
+        const newest = [...copies.values()].filter((it) => it).reduce((one, it) => (!one || isNewer(it, one) ? it : one), null);
+        const cells = names.map((name) => lspCell(copies.get(name), newest, (earlier.get(id) || new Map()).get(name)));
+        return `<tr><th scope="row" title="${id}">${escaped(lspName(id))}</th>${cells.join("")}</tr>`;
+    });
+    const heads = names.map((name) => `<th scope="col">${escaped(name)}</th>`).join("");
+    return rows.length ? `<table><caption>${level}: sequence numbers</caption><tr><th scope="col">LSP</th>${heads}</tr>${rows.join("")}</table>` : "";
+}
+
+function drawLsps(step, before) {
+    const tables = ["L1", "L2"].map((level) => lspTable(step, before, level)).join("");
+    part("lsps").innerHTML = tables ? `<div>${tables}</div>` + '<p class="soft">A marked field has an older copy than another router; a frame, what this step changed.</p>' : "<p>none</p>";
+}
+
 // ---- the report
 
 // A line with the names of routers in place of the systems after `via` and `sees`.
@@ -64,14 +182,31 @@ function named(line) {
     return words.map((word, at) => isSystem(word, at) ? `<span title="${word}">${escaped(run.systems[word])}</span>` : escaped(word)).join(" ");
 }
 
+// Below the line of a link: of which LSP IDs there are flags at each end, and which an end holds newer than the other.
+function behind(line) {
+    const [word, name, level, state] = line.split(" ");
+    if (word !== "link" || state !== "up") {
+        return "";
+    }
+    const { members } = run.links.find((link) => link.name === name);
+    const listed = (what, ids) => ids.length ? [`<div class="under">${what} ${ids.map(lspName).map(escaped).join(", ")}</div>`] : [];
+    const flags = run.steps[now].flags[`${name} ${level}`] || [[], []];
+    const held = heldAt(run.steps[now], level);
+    const ahead = members.map((own, at) => [...held].filter(([, copies]) => {
+        const [its, other] = [copies.get(own), copies.get(members[1 - at])];
+        return its && (other === undefined || other && isNewer(its, other));
+    }).map(([id]) => id));
+    return members.flatMap((own, at) => [...listed(`flags at ${own}:`, flags[at]), ...listed(`${own} ahead in`, ahead[at])]).join("");
+}
+
 function lineParts(lines, earlier) {
     const had = new Set(earlier);
     const has = new Set(lines);
-    const here = lines.map((line) => `<div class="line${had.has(line) ? "" : " new"}">${named(line)}</div>`);
+    const here = lines.map((line) => `<div class="line${had.has(line) ? "" : " new"}">${named(line)}</div>${behind(line)}`);
     return here.concat(earlier.filter((line) => !has.has(line)).map((line) => `<div class="line gone">${named(line)}</div>`));
 }
 
-// What a router's lines are about, and the words that they begin with; its neighbours are told by the lines of its links and LANs.
+// What a router's lines are about, and the words that they begin with; its neighbours are in the lines of its links and LANs.
 const ABOUT = [["Router", ["router"]], ["LSPs", ["lsp", "letgo"]], ["Neighbours", ["link", "lan"]], ["Routes", ["route"]], ["Drops", ["drop"]]];
 
 function routerLines(step, name) {
@@ -141,7 +276,7 @@ function ladderRow(row, names) {
     const first = escaped(fields[0] || `no PDU: ${row.it.hex}`);
     const more = fields.slice(1).map((line) => `<div>${escaped(line)}</div>`).join("");
     const drawn = `<svg class="ladder" width="${names.length * COLUMN + COLUMN}" height="${height}">${lives}${arrows}${start}</svg>`;
-    return `<tr><td>${drawn}</td><td><span class="soft">${head}</span><details><summary>${first}</summary>${more}</details></td></tr>`;
+    return `<tr class="row"><td>${drawn}</td><td><span class="soft">${head}</span><details><summary>${first}</summary>${more}</details></td></tr>`;
 }
 
 function drawLadder(step) {
@@ -175,7 +310,8 @@ function show(place) {
     const step = run.steps[now];
     part("slider").value = now;
     const every = run.every > 1 ? `, shown in steps of ${run.every}` : "";
-    part("at").textContent = `step ${step.count} of ${run.steps[run.steps.length - 1].count}${every}: ${told(step)}`;
+    part("at").textContent = `step ${step.count} of ${run.steps[run.steps.length - 1].count}${every}: ${told(step)}${changes(step)}`;
+    part("slider").setAttribute("aria-valuetext", `step ${step.count}`);
     Array.from(part("script").children).forEach((line, at) => {
         const isHere = at + 1 === step.line;
         line.setAttribute("class", isHere ? "line here" : "line");
@@ -185,6 +321,8 @@ function show(place) {
     });
     again();
     drawLadder(step);
+    drawLsps(step, run.steps[Math.max(0, now - 1)]);
+    movePackets(step);
 }
 
 function again() {
@@ -192,6 +330,33 @@ function again() {
     const before = run.steps[Math.max(0, now - 1)];
     drawPicture(step, before);
     drawReport(step, before);
+    history.replaceState(null, "", `#${step.count}${chosen ? "/" + encodeURIComponent(chosen) : ""}`);
+}
+
+// Whether something is sent or a line of the report changes in a step.
+const isEvent = run.steps.map((step, at) => at > 0 && (step.rows.length > 0 ||
+    ["blocks", "nodes", "edges"].some((part) => String(step[part]) !== String(run.steps[at - 1][part]))));
+
+function eventFrom(place, way) {
+    let found = place;
+    while (found > 0 && found < run.steps.length - 1 && !isEvent[found]) {
+        found += way;
+    }
+    return found;
+}
+
+function drawMarks() {
+    const last = Math.max(1, run.steps.length - 1);
+    part("marks").innerHTML = isEvent.map((is, at) => (is ? `<rect x="${(at / last) * 1000 - 1.5}" width="3" height="8"/>` : "")).join("");
+}
+
+// What a step did, in words.
+function changes(step) {
+    const before = run.steps[Math.max(0, now - 1)];
+    const sent = rowsOf(step).length;
+    const parts = run.parts.filter((_, at) => step.blocks[at] !== before.blocks[at] && !["whole", "report"].includes(run.parts[at]));
+    const sends = sent ? `; ${sent} datagram${sent === 1 ? "" : "s"}` : "";
+    return sends + (parts.length ? `; changed: ${parts.join(", ")}` : "");
 }
 
 function choose(name) {
@@ -201,7 +366,7 @@ function choose(name) {
 
 function play(isOn) {
     clearInterval(timer);
-    timer = isOn ? setInterval(() => (now + 1 < run.steps.length ? show(now + 1) : play(false)), 700) : null;
+    timer = isOn ? setInterval(() => (now + 1 < run.steps.length ? show(eventFrom(now + 1, 1)) : play(false)), PAUSE) : null;
     part("play").textContent = isOn ? "pause" : "play";
 }
 
@@ -214,7 +379,38 @@ function toggle() {
 
 const KEYS = {
     ArrowRight: () => show(now + 1), ArrowLeft: () => show(now - 1), Home: () => show(0), End: () => show(run.steps.length - 1), " ": toggle,
+    n: () => show(eventFrom(now + 1, 1)), p: () => show(eventFrom(now - 1, -1)),
 };
+
+// The step and the part that the address names, as `#44/B`; else the first step.
+function showAddress(names) {
+    const [count, name] = location.hash.slice(1).split("/").map(decodeURIComponent);
+    chosen = names.includes(name) ? name : chosen;
+    const place = run.steps.findIndex((step) => step.count >= Number(count));
+    show(place < 0 ? run.steps.length - 1 : place);
+}
+
+// Whether the picture has its own size, and is scrolled, or that of its column.
+function setFull(isFull) {
+    part("picture").classList.toggle("full", isFull);
+    part("size").textContent = isFull ? "fit to width" : "full size";
+}
+
+// Routers and the lines of links are buttons, also for the keyboard and for a screen reader.
+function asButton(element) {
+    const name = partOf(element);
+    element.setAttribute("tabindex", "0");
+    element.setAttribute("role", "button");
+    element.setAttribute("aria-label", run.routers.includes(name) ? `router ${name}` : name);
+    element.addEventListener("click", () => choose(name));
+    element.addEventListener("keydown", (event) => {
+        if (event.key === "Enter" || event.key === " ") {
+            event.preventDefault();
+            event.stopPropagation();
+            choose(name);
+        }
+    });
+}
 
 function begin() {
     part("script").innerHTML = run.script.map((line) => `<div class="line">${escaped(line) || " "}</div>`).join("");
@@ -230,8 +426,16 @@ function begin() {
     part("back").addEventListener("click", () => show(now - 1));
     part("on").addEventListener("click", () => show(now + 1));
     part("play").addEventListener("click", toggle);
-    nodes.forEach((node) => node.addEventListener("click", () => choose(partOf(node))));
-    labels.forEach((label) => label.addEventListener("click", () => choose(partOf(label))));
+    part("earlier").addEventListener("click", KEYS.p);
+    part("later").addEventListener("click", KEYS.n);
+    part("size").addEventListener("click", () => setFull(!part("picture").classList.contains("full")));
+    nodes.forEach(asButton);
+    labels.forEach(asButton);
+    const drawn = document.querySelector("#picture svg");
+    drawn.setAttribute("role", "group");
+    document.querySelector("main").classList.toggle("broad", Number(drawn.getAttribute("width")) > 800);
+    setFull(Number(drawn.getAttribute("width")) > 2 * part("net").clientWidth);
+    drawMarks();
     document.addEventListener("keydown", (event) => {
         const tag = event.target ? event.target.tagName : "";
         const isTaken = tag === "SELECT" || (event.key === " " && ["BUTTON", "SUMMARY"].includes(tag));
@@ -240,7 +444,8 @@ function begin() {
             KEYS[event.key]();
         }
     });
-    show(0);
+    addEventListener("hashchange", () => showAddress(names));
+    showAddress(names);
 }
 
 begin();

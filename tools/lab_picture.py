@@ -173,11 +173,10 @@ class Picture:
         boxes = [*self.boxes.values(), *self.labels.values()] or [Box(0, 0, 0, 0)]
         left, top = min(box.left for box in boxes) - MARGIN, min(box.top for box in boxes) - HEAD
         bottom = max(box.top + box.height for box in boxes) - top + MARGIN
-        legend, below = legend_part(bottom, [] if is_page else told(report))
-        width = max([box.left + box.width - left + MARGIN for box in boxes] + [max(map(len, legend_texts(report))) * LETTER + 90])
+        legend, below = ([], bottom) if is_page else legend_part(bottom, told(report))
+        letters = len(self.title) if is_page else max(map(len, legend_texts(report)))
+        width = max([box.left + box.width - left + MARGIN for box in boxes] + [letters * LETTER + 90])
         size = f'width="{width:.0f}" height="{below:.0f}" viewBox="0 0 {width:.0f} {below:.0f}"'
-        # in a page it may shrink by a third, and no more
-        size += f' style="min-width:{min(width, max(400, width * 2 / 3)):.0f}px"' if is_page else ""
         title = escape(self.title)
         head = f'<svg xmlns="http://www.w3.org/2000/svg" {size} role="img"><title>{title}</title>'
         head += "" if is_page else f"<style>{style()}</style>"
@@ -242,6 +241,17 @@ def told(report):
 
 def legend_texts(report):
     return [text for _, text in STATES] + list(MORE) + told(report)
+
+
+def legend_list():
+    """The legend as items of a list of a page."""
+    sample = '<svg viewBox="0 0 44 14" aria-hidden="true">{}</svg>'
+    items = [(sample.format(f'<g class="edge {state}"><path fill="none" stroke="#57606a" d="M2 8 h40"/></g>'), text) for state, text in STATES]
+    bars = "".join(f'<g class="chip g{place}">{rect_part(2 + 21 * place, 1, 18, 12, 4)}</g>' for place in (0, 1))
+    items += [(sample.format(bars if not place else ""), text) for place, text in enumerate(MORE)]
+    dots = "".join(f'<circle class="packet {kind}" cx="{8 + 14 * place}" cy="7" r="5"/>' for place, kind in enumerate(("hello", "lsp", "snp")))
+    items.append((sample.format(dots), "datagrams on their way: hellos, LSPs, and CSNPs or PSNPs; one that is lost ends before its receiver"))
+    return "".join(f"<li>{drawn}<span>{escape(text)}</span></li>" for drawn, text in items)
 
 
 def legend_part(top, lines):
