@@ -19,7 +19,7 @@ COMPLETIONS = {
     f"{TOP}/isis ": COMMANDS + LAUNCHERS, f"{TOP}/isis --u": ["--unproved"], f"{TOP}/isis --unproved ": SHORT,
     f"{TOP}/isis --unproved grid ": SIZES, f"{TOP}/isis --unproved lab ": [], f"{TOP}/isis --unproved walk ": [],
     f"{TOP}/isis --unproved daemon ": [],
-    f"{TOP}/isis --unproved daemon-next ": [], f"{TOP}/isis lab -": ["--help"], "isis daemon-next state ": ["--turns"], "isis daemon ": ["--boot", "--turns"],
+    f"{TOP}/isis --unproved daemon-next ": [], f"{TOP}/isis lab -": ["--help"], "isis daemon-next state ": ["--turns", "--journals"], "isis daemon ": ["--boot", "--turns"],
     "isis daemon --boot 1 --t": ["--turns"],
 }
 COMPLETE = """source "$1"

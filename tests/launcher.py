@@ -174,7 +174,9 @@ def numbered(run, clone):
     for words in ([], ["--boot", "1"], ["--boot", "0", "--turns", "5"], ["--boot=1", "--boot=1"], ["--boot", "16777216", "--turns", "5"], ["--turns"]):
         yield f"daemon: {words}", told(start("daemon", *words), 2, "usage", "")
     state = clone.folder / "state"
-    for words in ([], [state], [state, "--boot", "5", "--turns", "5"], [state, "--turns", "5", "--turns", "5"], ["", "--turns", "5"]):
+    turns, journals = ["--turns", "5"], ["--journals", clone.folder]
+    for words in ([], [state], [state, "--boot", "5", *turns], [state, *turns, *turns], ["", *turns], [state, *turns, "--journals"],
+                  [state, *turns, "--journals="], [state, *turns, *journals, *journals], [state, *journals]):
         yield f"daemon-next: {words}", told(start("daemon-next", *words), 2, "usage", "")
     for before, boot in ((None, 1), ("1\n", 2), ("16777214", 16777215)):
         if before:
@@ -188,6 +190,17 @@ def numbered(run, clone):
         yield f"daemon-next behind {before!r}", fault or (None if state.read_text() == before else "kept another number")
     for file, what in ((clone.folder, "read"), (clone.folder / "none" / "state", "written")):
         yield f"daemon-next where it can't be {what}", told(start("daemon-next", file, "--turns", "5"), 1, f"{file} can't be {what}", "")
+    clone.put("state", "6\n")
+    for boot, words in ((7, [*turns, *journals]), (8, [f"--journals={clone.folder}", *turns])):
+        fault, journal = told(start("daemon-next", state, *words), 0, "", ""), clone.folder / f"{boot}.journal"
+        yield f"daemon-next names journal {boot}", fault or (None if journal.read_text() == f"daemon --boot {boot} --turns 5\ntext\n" else "another journal")
+    clone.put("state", "6\n")
+    line = f"{clone.folder}/7.journal is there, or can't be written"
+    yield "daemon-next where the journal is there", told(start("daemon-next", state, *turns, *journals), 1, line, "")
+    none = clone.folder / "none"
+    line = f"{none} isn't a folder in which journals can be written"
+    fault = told(start("daemon-next", state, *turns, "--journals", none), 1, line, "")
+    yield "daemon-next without a folder of journals", fault or (None if state.read_text() == "7\n" else "took a number")
     yield "daemon-next leaves no file", None if {"state"} == {it.name for it in clone.folder.glob("state*")} else "it left one"
 
 

@@ -18,7 +18,7 @@ _isis() {
         mapfile -t COMPREPLY < <(compgen -f -- "${COMP_WORDS[COMP_CWORD]}")
         return
     elif [ "$first" = 1 ] && [ "$COMP_CWORD" -gt 2 ] && [ "${COMP_WORDS[1]}" = daemon-next ]; then
-        words="--turns"
+        words="--turns --journals"
     elif [ "$COMP_CWORD" = 2 ] && [[ $words == *--help* && ${COMP_WORDS[2]} == -* ]]; then
         words="--help"
     elif [ "$COMP_CWORD" != "$first" ]; then
