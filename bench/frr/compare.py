@@ -18,10 +18,10 @@ UNUSABLE, GREATEST, PURGED_FOR = 16777215, 4261412864, 60
 class Held:
     """What the router of a journal holds, by what it took and sent, and what it dropped."""
 
-    def __init__(self, node):
+    def __init__(self, node, journal=None):
         self.own, self.seconds, self.drops = pdus.undotted(node.system), 0, Counter()
         self.lsps = {1: {}, 2: {}}
-        for line in node.journal.read_text(encoding="ascii", errors="replace").split("\n")[1:-1]:
+        for line in (journal or node.journal).read_text(encoding="ascii", errors="replace").split("\n")[1:-1]:
             left, _, right = line.partition(" -> ")
             event, reply = left.split(" ")[2:], right.split(" ")
             self.seconds += event[0] == "second"
@@ -130,13 +130,14 @@ def databases(net):
 
 
 def replayed(node):
-    """The routes of a daemon, by prefix: rank, cost and next hops; and what goes wrong in the replay."""
+    """The routes of a daemon, by prefix: rank, cost and next hops; what goes wrong in the replay; and what it holds by the same journal."""
     copy = node.journal.with_suffix(".copy")
     shutil.copyfile(node.journal, copy)
     words = [TOP / "examples" / "daemons" / "replay", "--program", node.net.program, copy, node.toml]
     ran = subprocess.run(words, capture_output=True, text=True, check=False)
     routes = {it[2]: (it[3], int(it[4]), set(it[6:])) for it in (line.split(" ") for line in ran.stdout.splitlines()) if it[0] == "route"}
-    return routes, [f"{node.name}: replay ends with {ran.returncode}: {ran.stderr.strip()}"] if ran.returncode else []
+    wrong = [f"{node.name}: replay ends with {ran.returncode}: {ran.stderr.strip()}"] if ran.returncode else []
+    return routes, wrong, Held(node, copy)
 
 
 def wanted(node, held):
@@ -153,9 +154,9 @@ def our_routes(net):
     """How many routes of daemons were compared, and a line for each that differs."""
     count, faults = 0, []
     for node in net.each(Ours):
-        routes, wrong = replayed(node)
+        routes, wrong, held = replayed(node)
         faults += wrong
-        for prefix, route in wanted(node, Held(node)).items():
+        for prefix, route in wanted(node, held).items():
             if routes.get(prefix, ("",))[0] != "own":
                 count += 1
                 faults += [] if routes.get(prefix) == route else [f"{node.name}: {prefix}: {routes.get(prefix)}, by the LSPs {route}"]
