@@ -335,7 +335,11 @@ leaked-keys rank down routes =
     ∙ sym (map-map (λ (b : ℕ × Way). (b.0, leaked_metric b.1.1)) said key (filter (has_rank rank) routes) (λ r. refl))
     ∙ ap (map (λ (b : ℕ × Way). (b.0, leaked_metric b.1.1))) (sym (filter-map (has_way (rank_number rank)) (has_rank rank) key routes (λ r. refl)))
 
-pub leaks-are : (o : Outlook) (routes : List Route) (level : Level) → AreRoutesOf o routes → leaked_by level routes ≡ leaks_of o level
+-- routes of an outlook's candidates leak what it does, whatever their next hops are
+pub leaks-by : (o : Outlook) (hop_to : Candidate → ℕ → Type 0) (routes : List Route) (level : Level) → AreRoutes hop_to (candidates_of o) routes → leaked_by level routes ≡ leaks_of o level
 unfolding leaks_of
-leaks-are o routes level.One are = leaked-keys rank.Two true routes ∙ ap (leaked_of 2) (keys-are _ (candidates_of o) routes are)
-leaks-are o routes level.Two are = leaked-keys rank.One false routes ∙ ap (leaked_of 1) (keys-are _ (candidates_of o) routes are)
+leaks-by o hop_to routes level.One are = leaked-keys rank.Two true routes ∙ ap (leaked_of 2) (keys-are hop_to (candidates_of o) routes are)
+leaks-by o hop_to routes level.Two are = leaked-keys rank.One false routes ∙ ap (leaked_of 1) (keys-are hop_to (candidates_of o) routes are)
+
+pub leaks-are : (o : Outlook) (routes : List Route) (level : Level) → AreRoutesOf o routes → leaked_by level routes ≡ leaks_of o level
+leaks-are o routes level are = leaks-by o _ routes level are

@@ -3,6 +3,7 @@ pub mod CostLemmas
 pub mod ToldLemmas
 pub mod GraphLemmas
 pub mod LeakLemmas
+pub mod UnleakedLemmas
 pub mod CandidateLemmas
 pub mod DifferenceLemmas
 pub mod IdLemmas

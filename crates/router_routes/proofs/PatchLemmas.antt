@@ -63,6 +63,10 @@ pub routes-listed : (o : Outlook) (one two : RepairedOf) (t u : List (ℕ × ℕ
 routes-listed o one two t u cs routes a b h k same are =
     routes_by (IsListedHop t u) (IsHopTo (graph_in o.told.one o.root) (graph_in o.told.two o.root)) cs (candidates_of o) routes (λ c. (same c).1) (λ c. (same c).0) (listed-hop o one two t u a b h k) are
 
+-- routes of candidates are those of the same candidates in another order
+pub routes-same : (hop_to : Candidate → ℕ → Type 0) (cs ds : List Candidate) (routes : List Route) → AreSame cs ds → AreRoutes hop_to cs routes → AreRoutes hop_to ds routes
+routes-same hop_to cs ds routes same are = routes_by hop_to hop_to cs ds routes (λ c. (same c).1) (λ c. (same c).0) (λ c hop. ((λ x. x), (λ x. x))) are
+
 -- tables that agree on a node
 still-by : (t u v w : List (ℕ × ℕ)) (rank : Rank) (origin : ℕ) → ((hop : ℕ) → Contains t (origin, hop) ↔ Contains v (origin, hop)) → ((hop : ℕ) → Contains u (origin, hop) ↔ Contains w (origin, hop)) → (hop : ℕ) → IsListedBy t u rank origin hop ↔ IsListedBy v w rank origin hop
 still-by t u v w Own origin one two hop = ((λ h. h), (λ h. h))

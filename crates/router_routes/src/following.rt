@@ -102,7 +102,12 @@ impl Following {
 }
 
 /// The distances of a level from scratch.
-fn fresh(alloc: Global, runs: bool, store: &Store, root: NodeId) -> Result<Repaired, OutOfMemory>
+pub(crate) fn fresh(
+    alloc: Global,
+    runs: bool,
+    store: &Store,
+    root: NodeId,
+) -> Result<Repaired, OutOfMemory>
     ensures graph { IfOk result (λ new.
         AreUsable (rows_in (where_run runs (told_in store.now.entries)))
         (overloaded_in (where_run runs (told_in store.now.entries))) root new.graph) }
@@ -170,6 +175,7 @@ fn made(
     ensures two { IfOk result (λ f. f.levels.two ≡ two) }
 {
     let tables = tables_of(alloc, view, &reached, &one, &two)?;
+    let told = Bucketed::new(alloc, reached.told.as_slice())?;
     Ok(Following {
         alloc,
         one,
@@ -178,21 +184,21 @@ fn made(
         hops_two: tables.hops_two,
         routes: tables.routes,
         attached: reached.attached,
-        told: tables.told,
+        told,
         defaults: reached.defaults,
     })
 }
 
 /// What both levels tell of prefixes, the ways by default, and whether the router is attached.
 #[derive(Drop)]
-struct Reached {
+pub(crate) struct Reached {
     pub told: Vec<Candidate>,
     pub defaults: Vec<Candidate>,
     pub attached: bool,
 }
 
 /// What these distances reach.
-fn all_reached(
+pub(crate) fn all_reached(
     alloc: Global,
     view: &View<'_>,
     one: &Repaired,
@@ -233,17 +239,16 @@ pub(crate) fn attached(
     }
 }
 
-/// Each level's nodes beside their next hops, the routes, and what both levels tell, in buckets.
+/// Each level's nodes beside their next hops, and the routes.
 #[derive(Drop)]
-struct Tables {
-    hops_one: HopTable,
-    hops_two: HopTable,
-    routes: Routes,
-    told: Bucketed,
+pub(crate) struct Tables {
+    pub hops_one: HopTable,
+    pub hops_two: HopTable,
+    pub routes: Routes,
 }
 
-/// The next hops by these distances, the routes of what is reached, and that in buckets.
-fn tables_of(
+/// The next hops by these distances, and the routes of what is reached.
+pub(crate) fn tables_of(
     alloc: Global,
     view: &View<'_>,
     reached: &Reached,
@@ -257,7 +262,6 @@ fn tables_of(
     ensures one { IfOk result (λ t. AreHopsOf one.now t.hops_one) }
     ensures two { IfOk result (λ t. AreHopsOf two.now t.hops_two) }
     ensures routes { IfOk result (λ t. AreRoutesOf (outlook_at view.now) t.routes) }
-    ensures told { IfOk result (λ t. AreSame (all_in t.told) reached.now.told.items) }
 {
     let candidates = all_candidates(
         alloc,
@@ -269,11 +273,9 @@ fn tables_of(
     let hops_one = hops_from(alloc, one)?;
     let hops_two = hops_from(alloc, two)?;
     let routes = routes_by(alloc, candidates.as_slice(), &hops_one, &hops_two)?;
-    let told = Bucketed::new(alloc, reached.told.as_slice())?;
     Ok(Tables {
         hops_one,
         hops_two,
         routes,
-        told,
     })
 }

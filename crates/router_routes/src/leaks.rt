@@ -8,6 +8,7 @@ use crate::following::Following;
 use isis_base::{Level, OutOfMemory, Prefix};
 use isis_tlv::PrefixItem;
 use route_leaking::{down_into_l1, up_into_l2};
+use route_table::Routes;
 use std::alloc::Global;
 
 impl Following {
@@ -18,23 +19,30 @@ impl Following {
         ensures { (o : Outlook) → IsFollowing o self.now
             → IfOk result (λ list. map pair_of list.items ≡ leaks_of o level) }
     {
-        let items = self.leaked(level)?;
+        let items = leaked(self.alloc, &self.routes, level)?;
         pairs_of(self.alloc, items.as_slice())
     }
+}
 
-    /// What is leaked into a level, as it is told there.
-    fn leaked(&self, level: Level) -> Result<Vec<PrefixItem>, OutOfMemory>
-        ensures { IfOk result (λ items. items.items ≡ leaked_items level self.now.routes) }
-    {
-        match level {
-            Level::One => down_into_l1(self.alloc, &self.routes),
-            Level::Two => up_into_l2(self.alloc, &self.routes),
-        }
+/// What these routes leak into a level, as it is told there.
+pub(crate) fn leaked(
+    alloc: Global,
+    routes: &Routes,
+    level: Level,
+) -> Result<Vec<PrefixItem>, OutOfMemory>
+    ensures { IfOk result (λ items. items.items ≡ leaked_items level routes.now) }
+{
+    match level {
+        Level::One => down_into_l1(alloc, routes),
+        Level::Two => up_into_l2(alloc, routes),
     }
 }
 
 /// Prefixes with their metrics.
-fn pairs_of(alloc: Global, items: &[PrefixItem]) -> Result<Vec<(Prefix, u32)>, OutOfMemory>
+pub(crate) fn pairs_of(
+    alloc: Global,
+    items: &[PrefixItem],
+) -> Result<Vec<(Prefix, u32)>, OutOfMemory>
     ensures { IfOk result (λ list. list.items ≡ map item_pair items.now) }
 {
     let mut list = Vec::new(alloc);

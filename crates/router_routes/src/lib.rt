@@ -14,7 +14,7 @@
 //! - `differences.rt`: the rows that two graphs don't share
 //! - `told.rt`: what will be told by some nodes; `view.rt`: the same where their LSPs are read aside
 //! - `near.rt`: the rows that start or end at a node; `moving.rt`: a level's costs once some nodes tell other LSPs
-//! - `following.rt`: the value that follows a router's databases; `leaks.rt`: what it leaks
+//! - `following.rt`: the value that follows a router's databases; `leaks.rt`: what it leaks; `asked.rt`: both when asked
 //! - `ahead.rt`: what will follow once this is told; `coming.rt`: that put in the place of what follows
 //! - `hops_moved.rt`: a level's next hops then; `kept.rt`: what stays where some nodes moved
 //! - `same.rt`: candidates and prefixes compared; `numbers.rt`: numbers in order
@@ -24,6 +24,7 @@
 #![tactic(auto)]
 
 mod ahead;
+mod asked;
 mod bucketed;
 mod buckets_after;
 mod candidates;
@@ -49,6 +50,7 @@ mod told;
 mod touched;
 mod view;
 
+pub use asked::Leaked;
 pub use coming::Coming;
 pub use following::Following;
 pub use lent::Lent;

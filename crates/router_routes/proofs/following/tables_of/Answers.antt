@@ -1,7 +1,6 @@
 use Rattle.std.proofs.Common.{List, sym, subst}
 use Rattle.isis_base.specs.declared.level.Level.TheVariants as level
 use Rattle.route_table.specs.declared.candidate.Candidate.{Candidate}
-use Rattle.router_routes.specs.Buckets.{all_in}
 use Rattle.router_routes.specs.Candidates.{candidates_of, defaults}
 use Rattle.router_routes.specs.Kept.{AreSame, told_candidates}
 use Rattle.router_routes.specs.Moved.{outlook_at}
@@ -30,6 +29,3 @@ returns-clause-routes c =
     let o = outlook_at c.args.view.now in
     let same = subst (λ (l : List Candidate). AreSame l (candidates_of o)) (sym c.as_slice-3.ensures.value) c.in_ok-candidates.ensures in
     routes-listed o c.args.one.now c.args.two.now c.in_ok-hops_one.hops_one c.in_ok-hops_two.hops_two c.as_slice-3.result.now c.in_ok-routes.routes c.requires.one c.requires.two c.in_ok-hops_one.ensures c.in_ok-hops_two.ensures same c.in_ok-routes.ensures
-
-pub returns-clause-told : goal.returns-clause-told
-returns-clause-told c = subst (λ (l : List Candidate). AreSame (all_in c.in_ok-told.told) l) c.as_slice-4.ensures.value c.in_ok-told.ensures
