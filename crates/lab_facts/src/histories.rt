@@ -10,7 +10,7 @@ use crate::history::History;
 use crate::levels_to_see::LevelsToSee;
 use isis_base::{Level, LspId, OutOfMemory};
 use note_list::NoteList;
-use router_core::Router;
+use router_core::{Keeping, Parts, Router};
 use std::alloc::Global;
 use std::marker::Model;
 
@@ -21,7 +21,7 @@ pub struct Histories {
     alloc: Global,
     one: History,
     two: History,
-    past: NoteList<Router, u8>,
+    past: NoteList<Parts, u8>,
 }
 
 impl Model for Histories {
@@ -50,7 +50,7 @@ impl Histories {
     }
 
     /// Sees a router's state after an event. At `OutOfMemory` all that was seen is forgotten.
-    pub fn note(&mut self, router: &Router) -> Result<(), OutOfMemory>
+    pub fn note<K: Keeping>(&mut self, router: &Router<K>) -> Result<(), OutOfMemory>
         ensures ok { OnOk result (self.new ≡ router.now ∷ self.old) }
         ensures err { OnErr result (self.new ≡ []) }
     {
@@ -63,7 +63,11 @@ impl Histories {
 
     /// The same after an event of which it is known that these levels are enough: what the router holds live of its own
     /// LSP IDs of each other level was all seen before.
-    pub fn note_after(&mut self, router: &Router, levels: LevelsToSee) -> Result<(), OutOfMemory>
+    pub fn note_after<K: Keeping>(
+        &mut self,
+        router: &Router<K>,
+        levels: LevelsToSee,
+    ) -> Result<(), OutOfMemory>
         requires { AreEnough levels self.old router.now }
         ensures ok { OnOk result (self.new ≡ router.now ∷ self.old) }
         ensures err { OnErr result (self.new ≡ []) }
@@ -77,7 +81,7 @@ impl Histories {
                 return Err(error);
             }
         }
-        self.past.push(router);
+        self.past.push(router.parts());
         Ok(())
     }
 
@@ -94,10 +98,10 @@ impl Histories {
 }
 
 /// Both levels see a router's state, where they are looked at.
-fn note_levels(
+fn note_levels<K: Keeping>(
     one: &mut History,
     two: &mut History,
-    router: &Router,
+    router: &Router<K>,
     levels: LevelsToSee,
 ) -> Result<(), OutOfMemory>
     ensures { OnOk result ((past : List ModelRouter) → AreEnough levels past router.now
@@ -108,9 +112,9 @@ fn note_levels(
 }
 
 /// A level sees a router's state, where it is looked at.
-fn note_level(
+fn note_level<K: Keeping>(
     history: &mut History,
-    router: &Router,
+    router: &Router<K>,
     level: Level,
     looked_at: bool,
 ) -> Result<(), OutOfMemory>

@@ -20,6 +20,10 @@
 //! - `laws.rt`: that all LSP IDs are covered exactly where it is told so: a function without a body, whose contract is the law
 //! - `histories.rt`: what the routers of a network held, on both levels; `levels_to_see.rt`: which of them are looked at
 //! - `history.rt`: the history of a level; `said.rt`: contents that are kept; `look.rt`: how contents compare with the first ones
+//!
+//! Choices (own):
+//!
+//! - Groups are made by merging labels, pair by pair; `AreGroups` says what they mean.
 #![tactic(auto)]
 
 mod cells;

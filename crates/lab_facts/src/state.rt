@@ -7,7 +7,7 @@ ghost use Rattle.lab_facts.specs.LinkStates.{state_of, no_state};
 
 use crate::counts::{count_end, excepted};
 use isis_base::Level;
-use router_core::Router;
+use router_core::{Keeping, Router};
 
 /// How the two ends of a link stand to each other at a level: whether it is up at both; how many
 /// SRM flags stand on it at each (ISO 10589 7.3.15); in how many LSP IDs each end is ahead of the
@@ -22,10 +22,10 @@ pub struct LinkState {
 
 /// The state of a link at a level. Where an end doesn't run the level it isn't up, and all numbers
 /// are 0. It takes no memory.
-pub fn link_state(
-    near: &Router,
+pub fn link_state<K: Keeping>(
+    near: &Router<K>,
     near_circuit: u8,
-    far: &Router,
+    far: &Router<K>,
     far_circuit: u8,
     level: Level,
 ) -> LinkState
@@ -54,7 +54,13 @@ pub fn link_state(
 }
 
 /// Whether both ends have an up adjacency of a level.
-fn are_up(near: &Router, near_circuit: u8, far: &Router, far_circuit: u8, level: Level) -> bool
+fn are_up<K: Keeping>(
+    near: &Router<K>,
+    near_circuit: u8,
+    far: &Router<K>,
+    far_circuit: u8,
+    level: Level,
+) -> bool
     requires near { IsThere near.now near_circuit }
     requires far { IsThere far.now far_circuit }
     ensures { result ≡ (opens (nth near.now.circuits (near_circuit - 1)) level

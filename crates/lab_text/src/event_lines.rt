@@ -19,12 +19,12 @@ use crate::lay_out::lay_out;
 use isis_base::{Octets, OutOfMemory};
 use lab_script::{LabDeed, LabLine, LabScript, Reason, ScriptFault};
 use model_network::PduWord;
-use network_lab::{LabEvent, LabFault, Network};
+use network_lab::{Asked, LabEvent, LabFault, Network};
 use router_desk::Change;
 use std::alloc::Global;
 
-/// The network at the end of a lab script. The first line whose event is refused, or which passes
-/// a limit, is told. At Ok the claims hold after each event of the script, where nothing was injected
+/// The network at the end of a lab script, played by routers without routes: each router's routes are computed at the end. The
+/// first line whose event is refused, or which passes a limit, is told. At Ok the claims hold after each event of the script, where nothing was injected
 /// (ISO 10589 7.3.15.2, 7.3.17):
 ///
 /// - links: each end of a link that is up names the other, and what one end holds the other holds as
@@ -37,6 +37,22 @@ use std::alloc::Global;
 /// The claims on links and on groups speak of LSP IDs that neither end, or no router of the group, let
 /// go; the other two of all.
 pub fn play(alloc: Global, script: &LabScript<'_>) -> Result<Network, ScriptFault>
+    ensures value { Played result (end_of script.now) }
+    ensures laid { IfOk result (λ net.
+        IsLaid (length script.now.routers) script.now.links net.seen) }
+    ensures claimed { OnOk result (IsClaimedRun script.now) }
+{
+    match played(alloc, script) {
+        Ok(net) => match net.with_routes() {
+            Ok(net) => Ok(net),
+            Err(OutOfMemory) => Err(ScriptFault::OutOfMemory),
+        },
+        Err(fault) => Err(fault),
+    }
+}
+
+/// The same network, whose routers keep no routes.
+fn played(alloc: Global, script: &LabScript<'_>) -> Result<Network<Asked>, ScriptFault>
     ensures value { Played result (end_of script.now) }
     ensures laid { IfOk result (λ net.
         IsLaid (length script.now.routers) script.now.links net.seen) }
@@ -58,7 +74,11 @@ pub fn play(alloc: Global, script: &LabScript<'_>) -> Result<Network, ScriptFaul
 }
 
 /// Plays the event lines in order, up to the first that is refused.
-fn play_lines(alloc: Global, net: &mut Network, script: &LabScript<'_>) -> Result<(), ScriptFault>
+fn play_lines(
+    alloc: Global,
+    net: &mut Network<Asked>,
+    script: &LabScript<'_>,
+) -> Result<(), ScriptFault>
     requires laid { IsLaid (length script.now.routers) script.now.links net.old.seen }
     requires goes_on { net.old.stopped ≡ None }
     ensures value { (m : ModelNetwork) → StandsFor m net.old
@@ -79,7 +99,7 @@ fn play_lines(alloc: Global, net: &mut Network, script: &LabScript<'_>) -> Resul
 /// One event line.
 fn play_line(
     alloc: Global,
-    net: &mut Network,
+    net: &mut Network<Asked>,
     script: &LabScript<'_>,
     line: &LabLine<'_>,
 ) -> Result<(), ScriptFault>
@@ -156,7 +176,7 @@ fn play_line(
 
 /// Another metric of a router's circuit.
 fn play_metric(
-    net: &mut Network,
+    net: &mut Network<Asked>,
     script: &LabScript<'_>,
     line: usize,
     router: usize,
@@ -180,7 +200,7 @@ fn play_metric(
 }
 
 /// The number of a router's circuit at a place.
-fn circuit_of(net: &Network, router: usize, place: usize) -> u8
+fn circuit_of(net: &Network<Asked>, router: usize, place: usize) -> u8
     requires router { router < length net.now.seen.routers }
     requires there { IfSome (nth net.now.seen.routers router)
         (λ r. place < length r.circuits) }
@@ -192,7 +212,7 @@ fn circuit_of(net: &Network, router: usize, place: usize) -> u8
 
 /// Octets are injected.
 fn play_injection(
-    net: &mut Network,
+    net: &mut Network<Asked>,
     script: &LabScript<'_>,
     line: usize,
     router: usize,
@@ -221,7 +241,7 @@ fn play_injection(
 
 /// A change of a router's configuration.
 fn play_change(
-    net: &mut Network,
+    net: &mut Network<Asked>,
     line: usize,
     router: usize,
     change: Change,
@@ -238,7 +258,7 @@ fn play_change(
 }
 
 /// One event.
-fn play_event(net: &mut Network, line: usize, event: LabEvent) -> Result<(), ScriptFault>
+fn play_event(net: &mut Network<Asked>, line: usize, event: LabEvent) -> Result<(), ScriptFault>
     requires goes_on { net.old.stopped ≡ None }
     requires there { IsEvent net.old.seen event }
     ensures value { (m : ModelNetwork) → StandsFor m net.old
@@ -274,7 +294,7 @@ fn fault_at(line: usize, fault: LabFault) -> ScriptFault
 }
 
 /// A datagram is told, where it was sent before.
-fn tell(net: &Network, line: usize, datagram: usize) -> Result<(), ScriptFault>
+fn tell(net: &Network<Asked>, line: usize, datagram: usize) -> Result<(), ScriptFault>
     requires goes_on { net.now.stopped ≡ None }
     ensures { (m : ModelNetwork) → StandsFor m net.now
         → Plays result net.now (play_deed m line (deed.Dump datagram)) }
@@ -290,7 +310,7 @@ fn tell(net: &Network, line: usize, datagram: usize) -> Result<(), ScriptFault>
 
 /// Seconds of a line `run`.
 fn play_run(
-    net: &mut Network,
+    net: &mut Network<Asked>,
     line: usize,
     seconds: u32,
     without: Option<PduWord>,

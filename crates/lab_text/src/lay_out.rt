@@ -14,11 +14,11 @@ ghost use Rattle.lab_text.specs.Setups.{HasRouters, HasLinks, HasScope, HasEnd, 
 use crate::router_config::config_of;
 use isis_base::{CircuitKind, OutOfMemory};
 use lab_script::{End, KeyScope, LabKey, LabLink, LabRouter, LabScript};
-use network_lab::{LabFault, Network};
+use network_lab::{Asked, LabFault, Network};
 use std::alloc::Global;
 
 /// The network before the script's events.
-pub(crate) fn lay_out(alloc: Global, script: &LabScript<'_>) -> Result<Network, OutOfMemory>
+pub(crate) fn lay_out(alloc: Global, script: &LabScript<'_>) -> Result<Network<Asked>, OutOfMemory>
     ensures laid { IfOk result (λ net. net ≡ laid_out script.now) }
     ensures is { IfOk result (λ net. IsLaid (length script.now.routers) script.now.links net.seen) }
     ensures stands { IfOk result (λ net. StandsFor (opened net) net) }
@@ -36,7 +36,11 @@ pub(crate) fn lay_out(alloc: Global, script: &LabScript<'_>) -> Result<Network, 
 }
 
 /// Adds all that the setup lines say to an empty network.
-fn set_up(alloc: Global, net: &mut Network, script: &LabScript<'_>) -> Result<(), OutOfMemory>
+fn set_up(
+    alloc: Global,
+    net: &mut Network<Asked>,
+    script: &LabScript<'_>,
+) -> Result<(), OutOfMemory>
     requires { net.old ≡ empty_lab }
     ensures value { OnOk result (net.new ≡ laid_out script.now) }
     ensures has { OnOk result (HasLinks (length script.now.routers) script.now.links net.new) }
@@ -53,7 +57,11 @@ fn set_up(alloc: Global, net: &mut Network, script: &LabScript<'_>) -> Result<()
 }
 
 /// Adds the routers, each without a circuit.
-fn add_routers(alloc: Global, net: &mut Network, script: &LabScript<'_>) -> Result<(), OutOfMemory>
+fn add_routers(
+    alloc: Global,
+    net: &mut Network<Asked>,
+    script: &LabScript<'_>,
+) -> Result<(), OutOfMemory>
     requires { net.old ≡ empty_lab }
     ensures value { OnOk result (net.new
         ≡ layout.with_routers script.now.keys 0 script.now.routers net.old) }
@@ -74,7 +82,7 @@ fn add_routers(alloc: Global, net: &mut Network, script: &LabScript<'_>) -> Resu
 /// Adds the router of this number.
 fn add_router(
     alloc: Global,
-    net: &mut Network,
+    net: &mut Network<Asked>,
     keys: &[LabKey<'_>],
     number: usize,
     router: &LabRouter<'_>,
@@ -95,7 +103,11 @@ fn add_router(
 }
 
 /// Adds the links and LANs.
-fn add_links(alloc: Global, net: &mut Network, script: &LabScript<'_>) -> Result<(), OutOfMemory>
+fn add_links(
+    alloc: Global,
+    net: &mut Network<Asked>,
+    script: &LabScript<'_>,
+) -> Result<(), OutOfMemory>
     requires { HasLinks (length script.now.routers) [] net.old }
     ensures value { OnOk result (net.new
         ≡ layout.with_links script.now.routers script.now.links net.old) }
@@ -115,7 +127,7 @@ fn add_links(alloc: Global, net: &mut Network, script: &LabScript<'_>) -> Result
 /// Adds a link or LAN where there is room for one.
 fn add_laid(
     alloc: Global,
-    net: &mut Network,
+    net: &mut Network<Asked>,
     routers: &[LabRouter<'_>],
     link: &LabLink<'_>,
 ) -> Result<(), OutOfMemory>
@@ -132,7 +144,7 @@ fn add_laid(
 }
 
 /// Adds a point-to-point link where there is room for one.
-fn add_point(net: &mut Network, link: &LabLink<'_>) -> Result<(), OutOfMemory>
+fn add_point(net: &mut Network<Asked>, link: &LabLink<'_>) -> Result<(), OutOfMemory>
     requires kind { link.now.kind ≡ kind.PointToPoint }
     requires next { IsNextLink net.old link.now }
     requires early { net.old.begun ≡ false }
@@ -151,7 +163,7 @@ fn add_point(net: &mut Network, link: &LabLink<'_>) -> Result<(), OutOfMemory>
 /// Adds a LAN where there is room for one; each of its circuits has the priority of its router.
 fn add_lan(
     alloc: Global,
-    net: &mut Network,
+    net: &mut Network<Asked>,
     routers: &[LabRouter<'_>],
     link: &LabLink<'_>,
 ) -> Result<(), OutOfMemory>
@@ -189,7 +201,7 @@ fn routers_of(alloc: Global, ends: &[End]) -> Result<Vec<usize>, OutOfMemory>
 
 /// Gives each of these ends the priority of its router.
 fn set_priorities(
-    net: &mut Network,
+    net: &mut Network<Asked>,
     routers: &[LabRouter<'_>],
     ends: &[End],
 ) -> Result<(), OutOfMemory>
@@ -208,7 +220,11 @@ fn set_priorities(
 }
 
 /// Gives an end the priority of its router.
-fn set_priority(net: &mut Network, routers: &[LabRouter<'_>], end: &End) -> Result<(), OutOfMemory>
+fn set_priority(
+    net: &mut Network<Asked>,
+    routers: &[LabRouter<'_>],
+    end: &End,
+) -> Result<(), OutOfMemory>
     requires there { HasEnd net.old end.now }
     requires priorities { AllByRecursion (λ router. router.priority ≤ 127) routers.now }
     requires early { net.old.begun ≡ false }
@@ -234,7 +250,11 @@ fn priority_of(routers: &[LabRouter<'_>], router: usize) -> u8
 }
 
 /// Sets the keys of circuits.
-fn set_keys(alloc: Global, net: &mut Network, script: &LabScript<'_>) -> Result<(), OutOfMemory>
+fn set_keys(
+    alloc: Global,
+    net: &mut Network<Asked>,
+    script: &LabScript<'_>,
+) -> Result<(), OutOfMemory>
     requires { HasLinks (length script.now.routers) script.now.links net.old }
     ensures value { OnOk result (net.new ≡ layout.with_keys script.now.keys net.old) }
     ensures has { OnOk result (HasLinks (length script.now.routers) script.now.links net.new) }
@@ -250,7 +270,7 @@ fn set_keys(alloc: Global, net: &mut Network, script: &LabScript<'_>) -> Result<
 }
 
 /// Sets a key, where it is that of a circuit.
-fn set_key(alloc: Global, net: &mut Network, key: &LabKey<'_>) -> Result<(), OutOfMemory>
+fn set_key(alloc: Global, net: &mut Network<Asked>, key: &LabKey<'_>) -> Result<(), OutOfMemory>
     requires early { net.old.begun ≡ false }
     requires there { HasScope net.old key.now.router key.now.scope }
     requires key { IsKey key.now.key }

@@ -9,6 +9,11 @@
 //! - `run.rt`: the run of a script; `lab_run.rt`: that of a lab script, and `playing.rt` the network at its end; `report.rt`: the report of
 //!   a keys script, made as it is written, and `left.rt` what is still to come of it
 //! - `fault.rt`: why a script can't be run
+//!
+//! Choices (own):
+//!
+//! - `play_script` says why there is no network by `RunFault`, of which it never gives `Write`; `run_script` plays
+//!   by it.
 #![tactic(auto)]
 
 mod event_lines;

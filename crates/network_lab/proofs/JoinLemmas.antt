@@ -50,13 +50,13 @@ pub all-behind : {A : Type 0} (P : A → Type 0) (xs now : List A) (x : A) → n
 all-behind P xs now x is h p = subst (AllByRecursion P) (sym is) (all-append P xs (x ∷ []) h (p, tt))
 
 -- one router was made ready, and those behind it are left
-pub joined-turn : (list now : List Joined) (left members : List ℕ) (d : ℕ) (j : Joined) → 1 ≤ length left → j.router ≡ get_or left 0 d → now ≡ list ++ (j ∷ []) → map (λ (j : Joined). j.router) list ++ left ≡ members → map (λ (j : Joined). j.router) now ++ take (length left - 1) (drop 1 left) ≡ members
+pub joined-turn : {K : Type 0} → (list now : List (Joined K)) (left members : List ℕ) (d : ℕ) (j : Joined K) → 1 ≤ length left → j.router ≡ get_or left 0 d → now ≡ list ++ (j ∷ []) → map (λ (j : Joined K). j.router) list ++ left ≡ members → map (λ (j : Joined K). j.router) now ++ take (length left - 1) (drop 1 left) ≡ members
 joined-turn list now left members d j h e is whole =
-    ap (λ (js : List Joined). map (λ (j : Joined). j.router) js ++ take (length left - 1) (drop 1 left)) is
-    ∙ (ap (λ (ns : List ℕ). ns ++ take (length left - 1) (drop 1 left)) (map-append (λ (j : Joined). j.router) list (j ∷ []))
-    ∙ (append_assoc (map (λ (j : Joined). j.router) list) (j.router ∷ []) (take (length left - 1) (drop 1 left))
-    ∙ (ap (λ (n : ℕ). map (λ (j : Joined). j.router) list ++ (n ∷ take (length left - 1) (drop 1 left))) e
-    ∙ (ap (λ (ns : List ℕ). map (λ (j : Joined). j.router) list ++ ns) (sym (opens-at left d h)) ∙ whole))))
+    ap (λ (js : List (Joined _)). map (λ (j : Joined _). j.router) js ++ take (length left - 1) (drop 1 left)) is
+    ∙ (ap (λ (ns : List ℕ). ns ++ take (length left - 1) (drop 1 left)) (map-append (λ (j : Joined _). j.router) list (j ∷ []))
+    ∙ (append_assoc (map (λ (j : Joined _). j.router) list) (j.router ∷ []) (take (length left - 1) (drop 1 left))
+    ∙ (ap (λ (n : ℕ). map (λ (j : Joined _). j.router) list ++ (n ∷ take (length left - 1) (drop 1 left))) e
+    ∙ (ap (λ (ns : List ℕ). map (λ (j : Joined _). j.router) list ++ ns) (sym (opens-at left d h)) ∙ whole))))
 
 -- routers that have room
 pub rest-room : (configs : List Config) (left : List ℕ) (d : ℕ) → 1 ≤ length left → has_full configs left ≡ false → has_full configs (take (length left - 1) (drop 1 left)) ≡ false
@@ -74,12 +74,16 @@ pub all-valid : (configs : List Config) → AllByRecursion IsFit configs → All
 all-valid [] h = tt
 all-valid (c ∷ configs) h = (h.0.valid, all-valid configs h.1)
 
-pub routers-less : (joined : List Joined) (members : List ℕ) (m n : ℕ) → map (λ (j : Joined). j.router) joined ≡ members → m ≡ n → AllByRecursion (λ i. i < m) members → AllByRecursion (λ (j : Joined). j.router < n) joined
-routers-less joined members m n is same all = of joined (subst (AllByRecursion (λ i. i < n)) (sym is) (subst (λ (k : ℕ). AllByRecursion (λ i. i < k) members) same all))
+pub routers-less : {K : Type 0} → (joined : List (Joined K)) (members : List ℕ) (m n : ℕ) → map (λ (j : Joined K). j.router) joined ≡ members → m ≡ n → AllByRecursion (λ i. i < m) members → AllByRecursion (λ (j : Joined K). j.router < n) joined
+routers-less {K} joined members m n is same all = of joined (subst (AllByRecursion (λ i. i < n)) (sym is) (subst (λ (k : ℕ). AllByRecursion (λ i. i < k) members) same all))
   where
-    of : (js : List Joined) → AllByRecursion (λ i. i < n) (map (λ (j : Joined). j.router) js) → AllByRecursion (λ (j : Joined). j.router < n) js
+    of : (js : List (Joined K)) → AllByRecursion (λ i. i < n) (map (λ (j : Joined K). j.router) js) → AllByRecursion (λ (j : Joined K). j.router < n) js
     of [] h = tt
     of (j ∷ js) h = (h.0, of js h.1)
+
+-- of those that are left, one less
+pub left-less : {K : Type 0} → (m n : ℕ) (all rest : List (Joined K)) (j : Joined K) → all ≡ j ∷ rest → m ≡ n → AllByRecursion (λ (x : Joined K). x.router < n) all → AllByRecursion (λ (x : Joined K). x.router < m) rest
+left-less {K} m n all rest j is same h = subst (λ (k : ℕ). AllByRecursion (λ (x : Joined K). x.router < k) rest) (sym same) (subst (AllByRecursion (λ (x : Joined K). x.router < n)) is h).1
 
 -- ---- a link without ends
 
@@ -259,18 +263,18 @@ net-end ports base row configs rs ds n ts begun stopped kind metric i p config h
 -- ---- all routers of the link
 
 -- the next circuits of routers, each in what was made before it
-abbrev ends_with : List Joined → List Config → List End
+abbrev ends_with : {K : Type 0} → List (Joined K) → List Config → List End
 ends_with [] configs = []
 ends_with (j ∷ joined) configs = next_end configs j.router ∷ ends_with joined (with_nth configs j.router j.setup.config)
 
-abbrev AreJoined : List Config → List (List ℕ) → ℕ → CircuitConfig → List Joined → Type 0
+abbrev AreJoined : {K : Type 0} → List Config → List (List ℕ) → ℕ → CircuitConfig → List (Joined K) → Type 0
 AreJoined configs ports link c joined = AllByRecursion (IsJoined configs ports link c) joined
 
-abbrev routers_in : List Joined → List ℕ
-routers_in joined = map (λ (j : Joined). j.router) joined
+abbrev routers_in : {K : Type 0} → List (Joined K) → List ℕ
+routers_in joined = map (λ (j : Joined _). j.router) joined
 
 -- what was made ready stays so, as another router's parts are put in
-joined-later : (configs : List Config) (ports : List (List ℕ)) (link : ℕ) (c : CircuitConfig) (i : ℕ) (config : Config) (list : List ℕ) (joined : List Joined) → AreJoined configs ports link c joined → AllByRecursion (λ r. i ≢ r) (routers_in joined) → AreJoined (with_nth configs i config) (with_nth ports i list) link c joined
+joined-later : {K : Type 0} → (configs : List Config) (ports : List (List ℕ)) (link : ℕ) (c : CircuitConfig) (i : ℕ) (config : Config) (list : List ℕ) (joined : List (Joined K)) → AreJoined configs ports link c joined → AllByRecursion (λ r. i ≢ r) (routers_in joined) → AreJoined (with_nth configs i config) (with_nth ports i list) link c joined
 joined-later configs ports link c i config list [] h off = tt
 joined-later configs ports link c i config list (j ∷ joined) h off = (one h.0, joined-later configs ports link c i config list joined h.1 off.1)
   where
@@ -299,7 +303,7 @@ pub off-nobody : (routers : List ℕ) → AreOff [] routers
 off-nobody [] = tt
 off-nobody (r ∷ routers) = (tt, off-nobody routers)
 
-net-all : (joined : List Joined) (ports : List (List ℕ)) (base : List (List End)) (row : List End) (configs : List Config) (rs : List Router) (ds : List SentDatagram) (n : ℕ) (ts : Notes) (begun : Bool) (stopped : Option LabFault) (kind : CircuitKind) (metric : ℕ)
+net-all : {K : Type 0} → (joined : List (Joined K)) (ports : List (List ℕ)) (base : List (List End)) (row : List End) (configs : List Config) (rs : List Router) (ds : List SentDatagram) (n : ℕ) (ts : Notes) (begun : Bool) (stopped : Option LabFault) (kind : CircuitKind) (metric : ℕ)
     → IsNet ports (map by_router (base ++ (row ∷ []))) (lab configs rs (base ++ (row ∷ [])) ds n ts begun stopped) → begun ≡ false → metric ≤ 16777215
     → AreJoined configs ports (length base) (new_circuit kind metric) joined → AreDistinct (routers_in joined) → AreOff row (routers_in joined)
     → IsNet (ports_with joined ports) (map by_router (base ++ ((row ++ ends_with joined configs) ∷ []))) (lab (configs_with joined configs) (routers_with joined rs) (base ++ ((row ++ ends_with joined configs) ∷ [])) ds n ts begun stopped)
@@ -342,7 +346,7 @@ net-all (j ∷ joined) ports base row configs rs ds n ts begun stopped kind metr
 
 -- ---- the same as one after another
 
-ends-same : (joined : List Joined) (configs old : List Config) → AreDistinct (routers_in joined) → AllByRecursion (λ r. nth configs r ≡ nth old r) (routers_in joined) → ends_with joined configs ≡ map (next_end old) (routers_in joined)
+ends-same : {K : Type 0} → (joined : List (Joined K)) (configs old : List Config) → AreDistinct (routers_in joined) → AllByRecursion (λ r. nth configs r ≡ nth old r) (routers_in joined) → ends_with joined configs ≡ map (next_end old) (routers_in joined)
 ends-same [] configs old distinct same = refl
 ends-same (j ∷ joined) configs old distinct same =
     both (ap (λ (o : Option Config). at-count (circuit_count o)) same.0) (ends-same joined (with_nth configs j.router j.setup.config) old distinct.1 (others (routers_in joined) distinct.0 same.1))
@@ -361,7 +365,7 @@ all-same : (configs : List Config) (rs : List ℕ) → AllByRecursion (λ r. nth
 all-same configs [] = tt
 all-same configs (r ∷ rs) = (refl, all-same configs rs)
 
-with-all : (joined : List Joined) (ports : List (List ℕ)) (links : List (List End)) (configs : List Config) (rs : List Router) (ds : List SentDatagram) (n : ℕ) (ts : Notes) (begun : Bool) (stopped : Option LabFault) (link : ℕ) (c : CircuitConfig)
+with-all : {K : Type 0} → (joined : List (Joined K)) (ports : List (List ℕ)) (links : List (List End)) (configs : List Config) (rs : List Router) (ds : List SentDatagram) (n : ℕ) (ts : Notes) (begun : Bool) (stopped : Option LabFault) (link : ℕ) (c : CircuitConfig)
     → AreJoined configs ports link c joined → AreDistinct (routers_in joined)
     → lab (configs_with joined configs) (routers_with joined rs) links ds n ts begun stopped ≡ with_circuits c (routers_in joined) (lab configs rs links ds n ts begun stopped)
 with-all [] ports links configs rs ds n ts begun stopped link c are distinct = refl
@@ -375,8 +379,8 @@ with-all (j ∷ joined) ports links configs rs ds n ts begun stopped link c are 
 
 -- ---- the whole
 
-pub join-all : (ports ports_now : List (List ℕ)) (ordered ordered_now links links_now : List (List End)) (configs configs_now : List Config) (rs rs_now : List Router) (ds : List SentDatagram) (n : ℕ) (ts : Notes) (begun : Bool) (stopped : Option LabFault) (old : LabNet)
-    (members : List ℕ) (kind : CircuitKind) (metric link : ℕ) (joined : List Joined) (row row_ordered : List End)
+pub join-all : {K : Type 0} → (ports ports_now : List (List ℕ)) (ordered ordered_now links links_now : List (List End)) (configs configs_now : List Config) (rs rs_now : List Router) (ds : List SentDatagram) (n : ℕ) (ts : Notes) (begun : Bool) (stopped : Option LabFault) (old : LabNet)
+    (members : List ℕ) (kind : CircuitKind) (metric link : ℕ) (joined : List (Joined K)) (row row_ordered : List End)
     → lab configs rs links ds n ts begun stopped ≡ old → IsNet ports ordered (lab configs rs links ds n ts begun stopped) → old.begun ≡ false
     → AreDistinct members → metric ≤ 16777215 → link ≡ length links
     → AreJoined configs ports link (new_circuit kind metric) joined → routers_in joined ≡ members

@@ -10,7 +10,7 @@ use Rattle.network_lab.specs.LabNets.{router_of, with_circuit}
 
 -- a router's configuration and router with this circuit more, and its ports with this link more
 pub record IsJoined (configs : List Config) (ports : List (List ℕ)) (link : ℕ) (c : CircuitConfig)
-    (j : Joined) : Type 0 where
+    {K : Type 0} (j : Joined K) : Type 0 where
   pub config : Config
   pub list : List ℕ
   pub config_at : nth configs j.router ≡ Some config
@@ -22,22 +22,22 @@ pub record IsJoined (configs : List Config) (ports : List (List ℕ)) (link : �
   pub ports_is : j.ports ≡ list ++ link ∷ []
 
 -- one more stands at the end, of this router, of which this holds
-pub record Adds (P : Joined → Type 0) (number : ℕ) (old new : List Joined) : Type 0 where
-  pub joined : Joined
+pub record Adds {K : Type 0} (P : Joined K → Type 0) (number : ℕ) (old new : List (Joined K)) : Type 0 where
+  pub joined : Joined K
   pub holds : P joined
   pub router : joined.router ≡ number
   pub added : new ≡ old ++ joined ∷ []
 
-abbrev pub configs_with : List Joined → List Config → List Config
+abbrev pub configs_with : {K : Type 0} → List (Joined K) → List Config → List Config
 configs_with [] configs = configs
 configs_with (j ∷ joined) configs =
     configs_with joined (with_nth configs j.router j.setup.config)
 
-abbrev pub routers_with : List Joined → List Router → List Router
+abbrev pub routers_with : {K : Type 0} → List (Joined K) → List Router → List Router
 routers_with [] routers = routers
 routers_with (j ∷ joined) routers =
     routers_with joined (with_nth routers j.router j.setup.router)
 
-abbrev pub ports_with : List Joined → List (List ℕ) → List (List ℕ)
+abbrev pub ports_with : {K : Type 0} → List (Joined K) → List (List ℕ) → List (List ℕ)
 ports_with [] ports = ports
 ports_with (j ∷ joined) ports = ports_with joined (with_nth ports j.router j.ports)

@@ -15,7 +15,7 @@ use Rattle.network_lab.specs.LabNets.{Seen, LabNet, nothing_noted, router_of, Ar
 use Rattle.network_lab.specs.Reached.{AreSmall, HasRun}
 
 -- what is seen of the fields
-abbrev pub seen_in : Inside → Seen
+abbrev pub seen_in : {K : Type 0} → Inside K → Seen
 seen_in a = record {
   routers = a.routers.items;
   links = a.links.items;
@@ -25,7 +25,7 @@ seen_in a = record {
 }
 
 -- the network that the fields stand for
-abbrev pub lab_of : Inside → LabNet
+abbrev pub lab_of : {K : Type 0} → Inside K → LabNet
 lab_of a = record {
   configs = a.configs.items;
   seen = seen_in a;
@@ -97,5 +97,5 @@ pub record IsNet (ports : List (List ℕ)) (ordered : List (List End)) (net : La
   pub setup : net.begun ≡ false → IsSetUp net.configs net.seen
   pub run : net.begun ≡ true → net.stopped ≡ None → net.seen.injected ≡ 0 → HasRun net.seen
 
-abbrev pub IsSoundLab : Inside → Type 0
+abbrev pub IsSoundLab : {K : Type 0} → Inside K → Type 0
 IsSoundLab a = IsNet a.ports.items a.ordered.items (lab_of a)

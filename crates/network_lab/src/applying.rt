@@ -24,10 +24,10 @@ use crate::taking::{restart_at, take_at, taking_at};
 use isis_base::Octets;
 use isis_base::numbers::{BOOT_LIMIT, PREFIX_LIMIT};
 use lab_keys::{LabFault, LimitName};
-use router_core::{NodeEvent, Router};
+use router_core::{Keeping, NodeEvent, Router};
 use router_desk::{Change, Config};
 
-impl Network {
+impl<K: Keeping> Network<K> {
     /// One event. Whatever network of the model this network stood for, it then stands for that
     /// network after the event. `NotSent`, `NotOn`, `Limit(Prefixes)` and `Limit(Boots)` come exactly
     /// where the event is refused, which changes nothing; `Limit(Datagrams)` where it sends past
@@ -287,7 +287,7 @@ impl Network {
 }
 
 /// Why a router's configuration isn't changed.
-fn change_fault(router: &Router, change: Change) -> Option<LabFault>
+fn change_fault<K: Keeping>(router: &Router<K>, change: Change) -> Option<LabFault>
     ensures { result ≡ unless_changes (Some router.now) change }
 {
     match change {

@@ -5,8 +5,9 @@ ghost use Rattle.model_network.specs.RunLines.{circuit_count, link_of as link_at
 
 use crate::network::Network;
 use crate::places::{count_at, number_at};
+use router_core::Keeping;
 
-impl Network {
+impl<K: Keeping> Network<K> {
     /// How many datagrams were sent, of which there are few enough.
     pub(crate) fn sent_count(&self) -> usize
         ensures count { result ≡ length self.now.seen.sent }

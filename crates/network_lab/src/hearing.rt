@@ -30,7 +30,7 @@ use flag_sync::Book;
 use isis_base::{CircuitKind, Level, LspEntry, LspId, OutOfMemory};
 use isis_pdu::Pdu;
 use lab_facts::SweepKey;
-use router_core::{NodeEvent, Router};
+use router_core::{Keeping, NodeEvent, Router};
 use router_desk::laws::{passed_law, reading_law};
 use router_desk::{Heard, Opened, Seen, hear};
 use std::alloc::Global;
@@ -42,7 +42,7 @@ pub(crate) struct Hearing {
     pub(crate) heard: Option<HeardRange>,
 }
 
-impl Network {
+impl<K: Keeping> Network<K> {
     /// What a router hears in a datagram on its circuit of the datagram's link; the datagram and the circuit are
     /// counted from 1.
     pub(crate) fn hearing(
@@ -70,9 +70,9 @@ impl Network {
 }
 
 /// What a router hears in a datagram on a circuit, counted from 1.
-fn heard_by(
+fn heard_by<K: Keeping>(
     alloc: Global,
-    r: &Router,
+    r: &Router<K>,
     router: usize,
     circuit: u8,
     datagram: &SentDatagram,
@@ -93,8 +93,8 @@ fn heard_by(
 }
 
 /// A range with the moment at which a router hears it in a datagram.
-fn at_moment(
-    r: &Router,
+fn at_moment<K: Keeping>(
+    r: &Router<K>,
     router: usize,
     datagram: &SentDatagram,
     range: Option<CsnpRange>,
@@ -127,9 +127,9 @@ fn count_of(changes: Changes, level: Level) -> u64
 
 /// The range of a CSNP on a LAN in which nothing would set a flag (ISO 10589 7.3.15.2). Of CSNPs on LANs alone
 /// anything is decoded a second time.
-fn unflagged_in(
+fn unflagged_in<K: Keeping>(
     alloc: Global,
-    r: &Router,
+    r: &Router<K>,
     opened: &Opened,
 ) -> Result<Option<CsnpRange>, OutOfMemory>
     requires there { IsThere r.now opened.now.circuit }
@@ -159,9 +159,9 @@ fn is_lan(kind: CircuitKind) -> bool
 }
 
 /// The same of a PDU on a LAN.
-fn unflagged_pdu(
+fn unflagged_pdu<K: Keeping>(
     alloc: Global,
-    r: &Router,
+    r: &Router<K>,
     seen: &Seen<'_>,
 ) -> Result<Option<CsnpRange>, OutOfMemory>
     requires run { is_run r.now.config.runs (kind_of (pdu_view seen.now.pdu)) ≡ true }
@@ -179,9 +179,9 @@ fn unflagged_pdu(
 }
 
 /// The same of a CSNP.
-fn unflagged_csnp(
+fn unflagged_csnp<K: Keeping>(
     alloc: Global,
-    r: &Router,
+    r: &Router<K>,
     seen: &Seen<'_>,
 ) -> Result<Option<CsnpRange>, OutOfMemory>
     requires number { has_number (pdu_view seen.now.pdu) ≡ true }
@@ -198,7 +198,7 @@ fn unflagged_csnp(
 }
 
 /// The same of what a router hears on a LAN.
-fn unflagged_heard(r: &Router, heard: &Heard<'_>) -> Option<CsnpRange>
+fn unflagged_heard<K: Keeping>(r: &Router<K>, heard: &Heard<'_>) -> Option<CsnpRange>
     requires run { IsSnpRun r.now (message_of heard.now) }
     ensures { (c : ModelCircuit) → c.lan ≡ true
         → range_view result ≡ hears.unflagged_range r.now c (message_of heard.now) }
@@ -221,8 +221,8 @@ fn unflagged_heard(r: &Router, heard: &Heard<'_>) -> Option<CsnpRange>
 }
 
 /// A range of a level, where neither that nor the entries would set a flag.
-fn unflagged_range(
-    r: &Router,
+fn unflagged_range<K: Keeping>(
+    r: &Router<K>,
     level: Level,
     first: LspId,
     last: LspId,

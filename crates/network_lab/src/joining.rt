@@ -16,16 +16,16 @@ use crate::setup::{Setup, put_setup, setup_of};
 use isis_base::numbers::CIRCUIT_LIMIT;
 use isis_base::{CircuitKind, List, OutOfMemory};
 use model_network::End;
-use router_core::Router;
+use router_core::{Keeping, Router};
 use router_desk::{CircuitConfig, Config};
 use std::alloc::Global;
 
 /// What becomes of a router that a link or LAN joins: its setup with a circuit more, and the links
 /// of its circuits.
 #[derive(Drop)]
-pub(crate) struct Joined {
+pub(crate) struct Joined<K: Keeping> {
     pub(crate) router: usize,
-    pub(crate) setup: Setup,
+    pub(crate) setup: Setup<K>,
     pub(crate) ports: List<usize>,
 }
 
@@ -117,7 +117,7 @@ fn place_behind(ends: &[End], router: usize) -> usize
 }
 
 /// What becomes of each of these routers, which have room for a circuit more.
-pub(crate) fn joined_all(
+pub(crate) fn joined_all<K: Keeping>(
     alloc: Global,
     configs: &[Config],
     ports: &[List<usize>],
@@ -125,7 +125,7 @@ pub(crate) fn joined_all(
     link: usize,
     kind: CircuitKind,
     metric: u32,
-) -> Result<Vec<Joined>, OutOfMemory>
+) -> Result<Vec<Joined<K>>, OutOfMemory>
     requires valid { AllByRecursion IsValid configs.now }
     requires same { length ports.now ≡ length configs.now }
     requires there { AllByRecursion (λ i. i < length configs.now) members.now }
@@ -148,8 +148,8 @@ pub(crate) fn joined_all(
 }
 
 /// Adds what becomes of a router.
-fn join(
-    list: &mut Vec<Joined>,
+fn join<K: Keeping>(
+    list: &mut Vec<Joined<K>>,
     configs: &[Config],
     ports: &[List<usize>],
     router: usize,
@@ -178,7 +178,7 @@ fn join(
 }
 
 /// What becomes of a router.
-fn joined_at(
+fn joined_at<K: Keeping>(
     alloc: Global,
     configs: &[Config],
     ports: &[List<usize>],
@@ -186,7 +186,7 @@ fn joined_at(
     link: usize,
     kind: CircuitKind,
     metric: u32,
-) -> Result<Joined, OutOfMemory>
+) -> Result<Joined<K>, OutOfMemory>
     requires valid { AllByRecursion IsValid configs.now }
     requires same { length ports.now ≡ length configs.now }
     requires there { router < length configs.now }
@@ -206,12 +206,12 @@ fn joined_at(
 }
 
 /// A configuration with a circuit more.
-fn with_new(
+fn with_new<K: Keeping>(
     alloc: Global,
     config: &Config,
     kind: CircuitKind,
     metric: u32,
-) -> Result<Setup, OutOfMemory>
+) -> Result<Setup<K>, OutOfMemory>
     requires valid { IsValid config.now }
     requires room { length config.now.circuits < 64 }
     requires metric { metric ≤ 16777215 }
@@ -233,11 +233,11 @@ fn with_new(
 }
 
 /// Each of these routers becomes what was made ready.
-pub(crate) fn put_all(
+pub(crate) fn put_all<K: Keeping>(
     configs: &mut Vec<Config>,
-    routers: &mut Vec<Router>,
+    routers: &mut Vec<Router<K>>,
     ports: &mut Vec<List<usize>>,
-    joined: Vec<Joined>,
+    joined: Vec<Joined<K>>,
 )
     requires configs { AllByRecursion (λ j. j.router < length configs.old.items) joined.items }
     requires routers { AllByRecursion (λ j. j.router < length routers.old.items) joined.items }

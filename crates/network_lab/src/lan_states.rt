@@ -14,9 +14,9 @@ use isis_base::{Level, SystemId};
 use lab_facts::SweepKey;
 use model_network::End;
 use model_router::laws::identifiers::system_law;
-use router_core::Router;
+use router_core::{Keeping, Router};
 
-impl Network {
+impl<K: Keeping> Network<K> {
     /// Whom a member of a LAN has designated at a level (ISO 10589 8.4.5), and whether it is swept by that: it took all
     /// of a set of CSNPs without a flag, at the present boots and counts of changed keys of both, and these are still
     /// counted (7.3.15.2). `None` and false on a point-to-point link, and where the level isn't run.
@@ -78,7 +78,7 @@ impl Network {
 }
 
 /// The system that a router has designated on a circuit, counted from 1, at a level that it runs.
-fn designated_by(router: &Router, circuit: u8, level: Level) -> Option<SystemId>
+fn designated_by<K: Keeping>(router: &Router<K>, circuit: u8, level: Level) -> Option<SystemId>
     requires { IsThere router.now circuit }
     ensures number { option_map system_number result
         ≡ state.seen_by (Some router.now) (Some (circuit - 1)) level }
@@ -94,7 +94,7 @@ fn designated_by(router: &Router, circuit: u8, level: Level) -> Option<SystemId>
 }
 
 /// The router of a system among ends.
-fn router_in(routers: &[Router], ends: &[End], system: SystemId) -> Option<usize>
+fn router_in<K: Keeping>(routers: &[Router<K>], ends: &[End], system: SystemId) -> Option<usize>
     ensures router { result ≡ router_among routers.now (system_number system) ends.now }
     ensures there { IfSome result (λ router. router < length routers.now) }
 {
@@ -107,7 +107,7 @@ fn router_in(routers: &[Router], ends: &[End], system: SystemId) -> Option<usize
 }
 
 /// Whether a router has a system ID; where it isn't there it has none.
-fn is_of(routers: &[Router], router: usize, system: SystemId) -> bool
+fn is_of<K: Keeping>(routers: &[Router<K>], router: usize, system: SystemId) -> bool
     ensures of { result ≡ state.has_system (nth routers.now router) (system_number system) }
     ensures there { result ≡ true → router < length routers.now }
 {
@@ -118,7 +118,7 @@ fn is_of(routers: &[Router], router: usize, system: SystemId) -> bool
 }
 
 /// Whether a router has a system ID.
-fn has_system(router: &Router, system: SystemId) -> bool
+fn has_system<K: Keeping>(router: &Router<K>, system: SystemId) -> bool
     ensures { result ≡ (router.now.config.system == system_number system) }
 {
     let own = router.desk().system();

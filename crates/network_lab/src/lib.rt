@@ -6,11 +6,17 @@
 //! - `laws.rt`: what holds of every network
 //! - `setup.rt`: how it is set up; `joining.rt`: the routers that a link or LAN joins
 //! - `config_changes.rt`: configurations with the changes of a run
-//! - `applying.rt`: one event; `running.rt`: a line `run`
+//! - `applying.rt`: one event; `running.rt`: a line `run`; `routed.rt`: its routers keep their routes from then on
 //! - `states.rt`: how links stand, and which routers agree; `lan_state.rt`, `lan_states.rt`: how the members of LANs do
 //! - `hearing.rt`, `heard_range.rt`: the ranges of CSNPs that routers hear on LANs without a flag
 //! - `notes.rt`: what is noted of a run
 //! - `taking.rt`: a router of a list takes an event; `ends.rt`, `places.rt`: circuits, ends, places
+//!
+//! Choices (own):
+//!
+//! - Each router's configuration is kept with the changes of its run; a prefix that is given again comes last; no
+//!   clause ties it to the state.
+//! - Own LSP IDs are looked at only where a count of changes rose, as long as nothing was injected (`note_after`).
 #![tactic(auto)]
 
 mod applying;
@@ -26,6 +32,7 @@ pub mod laws;
 mod network;
 mod notes;
 mod places;
+mod routed;
 mod running;
 mod sent;
 mod setup;
@@ -38,5 +45,5 @@ pub use lab_keys::{KeyNet, LINK_LIMIT, LabFault, LimitName, ROUTER_LIMIT};
 pub use lan_state::LanState;
 pub use model_network::PduWord;
 pub use network::Network;
-pub use router_core::Router;
+pub use router_core::{Asked, Keeping, Kept, Machine, Router};
 pub use sent::{Changes, SentDatagram};

@@ -18,7 +18,7 @@ use isis_base::{Level, List, LspId};
 use lab_facts::{Histories, Sweeps};
 use lab_keys::LabFault;
 use model_network::End;
-use router_core::Router;
+use router_core::{Keeping, Kept, Router};
 use router_desk::Config;
 use std::alloc::Global;
 use std::marker::Model;
@@ -27,10 +27,10 @@ use std::marker::Model;
 /// for the run of the events that were applied to it, whatever of it is delivered, in whichever
 /// order, and how often.
 #[derive(Drop)]
-pub struct Network {
+pub struct Network<K: Keeping = Kept> {
     pub(crate) alloc: Global,
     pub(crate) configs: Vec<Config>,
-    pub(crate) routers: Vec<Router>,
+    pub(crate) routers: Vec<Router<K>>,
     pub(crate) links: Vec<List<End>>,
     // of each link its ends in order of their routers
     pub(crate) ordered: Vec<List<End>>,
@@ -43,7 +43,7 @@ pub struct Network {
     pub(crate) stopped: Option<LabFault>,
 }
 
-impl Model for Network {
+impl<K: Keeping> Model for Network<K> {
     ghost use Rattle.network_lab.specs.LabNets.{LabNet};
     ghost use Rattle.network_lab.specs.LabInside.{lab_of, IsSoundLab};
 
@@ -54,9 +54,9 @@ impl Model for Network {
     ghost invariant = { IsSoundLab };
 }
 
-impl Network {
+impl<K: Keeping> Network<K> {
     /// The network without routers. It takes no memory.
-    pub fn new(alloc: Global) -> Network
+    pub fn new(alloc: Global) -> Network<K>
         ensures { result ≡ empty_lab }
     {
         Network {
@@ -98,7 +98,7 @@ impl Network {
     }
 
     /// A router, by its number.
-    pub fn router(&self, router: usize) -> &Router
+    pub fn router(&self, router: usize) -> &Router<K>
         requires { router < length self.now.seen.routers }
         ensures { nth self.now.seen.routers router ≡ Some result.now }
     {

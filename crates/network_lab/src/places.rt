@@ -11,7 +11,7 @@ ghost use Rattle.network_lab.specs.LabTakings.{counts_at};
 use crate::sent::{Changes, SentDatagram};
 use isis_base::{Level, List};
 use model_network::End;
-use router_core::Router;
+use router_core::{Keeping, Router};
 
 /// The place of a router's circuit among ends.
 pub(crate) fn place_on(ends: &[End], router: usize) -> Option<usize>
@@ -73,7 +73,7 @@ pub(crate) fn one_more(count: u64) -> u64
 }
 
 /// The boot of a router, 0 where it isn't there.
-pub(crate) fn boot_at(routers: &[Router], router: usize) -> u32
+pub(crate) fn boot_at<K: Keeping>(routers: &[Router<K>], router: usize) -> u32
     ensures { result ≡ boot_of (nth routers.now router) }
 {
     match routers.get(router) {
@@ -83,7 +83,7 @@ pub(crate) fn boot_at(routers: &[Router], router: usize) -> u32
 }
 
 /// The counts of changed keys of a router, 0 where it isn't there.
-pub(crate) fn changes_at(routers: &[Router], router: usize) -> Changes
+pub(crate) fn changes_at<K: Keeping>(routers: &[Router<K>], router: usize) -> Changes
     ensures { result ≡ counts_at (nth routers.now router) }
 {
     match routers.get(router) {

@@ -16,6 +16,7 @@ use crate::network::Network;
 use isis_base::numbers::FRAME;
 use lab_keys::LabFault;
 use model_network::PduWord;
+use router_core::Keeping;
 
 /// What a line `run` leaves out: PDUs of a kind aren't delivered, and a router has no seconds, no
 /// pulls and no deliveries.
@@ -70,7 +71,7 @@ fn is_of(word: PduWord, octets: &[u8]) -> bool
     }
 }
 
-impl Network {
+impl<K: Keeping> Network<K> {
     /// So many seconds in which what is sent is delivered at once: the events of a line `run`. It
     /// answers `Limit(Datagrams)`, where the first 262,144 datagrams are kept, as `apply` does, or
     /// `OutOfMemory`, and nothing else; then each later call answers the same. At Ok the claim of

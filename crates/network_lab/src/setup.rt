@@ -18,11 +18,11 @@ use isis_base::{CircuitKind, List, Octets, OutOfMemory};
 use lab_keys::{LINK_LIMIT, LabFault, LimitName, ROUTER_LIMIT};
 use model_network::End;
 use model_router::laws::identifiers::system_law;
-use router_core::Router;
+use router_core::{Keeping, Router};
 use router_desk::{CircuitConfig, Circuits, Config};
 use std::alloc::{AllocError, Global};
 
-impl Network {
+impl<K: Keeping> Network<K> {
     /// Adds a router and answers its number, counted from 0. `Limit(Routers)` exactly where 1,024
     /// are there.
     pub fn add_router(&mut self, config: Config) -> Result<usize, LabFault>
@@ -195,9 +195,9 @@ impl Network {
 }
 
 /// Makes room for one more router.
-fn make_room(
+fn make_room<K: Keeping>(
     configs: &mut Vec<Config>,
-    routers: &mut Vec<Router>,
+    routers: &mut Vec<Router<K>>,
     ports: &mut Vec<List<usize>>,
 ) -> Result<(), AllocError>
     ensures configs { configs.new.items ≡ configs.old.items }
@@ -214,13 +214,13 @@ fn make_room(
 
 /// A configuration, and the router of it at its start.
 #[derive(Drop)]
-pub(crate) struct Setup {
+pub(crate) struct Setup<K: Keeping> {
     pub(crate) config: Config,
-    pub(crate) router: Router,
+    pub(crate) router: Router<K>,
 }
 
 /// The router of a configuration at its start, with the configuration.
-pub(crate) fn setup_of(alloc: Global, config: Config) -> Result<Setup, OutOfMemory>
+pub(crate) fn setup_of<K: Keeping>(alloc: Global, config: Config) -> Result<Setup<K>, OutOfMemory>
     requires { IsValid config }
     ensures config { IfOk result (λ setup. setup.config ≡ config) }
     ensures router { IfOk result (λ setup. setup.router ≡ router_of config) }
@@ -236,12 +236,12 @@ pub(crate) fn setup_of(alloc: Global, config: Config) -> Result<Setup, OutOfMemo
 }
 
 /// A configuration with another circuit at a place.
-fn changed_at(
+fn changed_at<K: Keeping>(
     alloc: Global,
     config: &Config,
     place: usize,
     circuit: &CircuitConfig,
-) -> Result<Setup, OutOfMemory>
+) -> Result<Setup<K>, OutOfMemory>
     requires valid { IsValid config.now }
     requires circuit { IsCircuit circuit.now }
     ensures config { IfOk result (λ setup. setup.config
@@ -312,11 +312,11 @@ fn make_link_room(
 }
 
 /// Another configuration of a router before the run, with the router of it.
-pub(crate) fn put_setup(
+pub(crate) fn put_setup<K: Keeping>(
     configs: &mut Vec<Config>,
-    routers: &mut Vec<Router>,
+    routers: &mut Vec<Router<K>>,
     router: usize,
-    setup: Setup,
+    setup: Setup<K>,
 )
     requires there { (router < length configs.old.items) × (router < length routers.old.items) }
     ensures configs { configs.new.items ≡ with_nth configs.old.items router setup.config }

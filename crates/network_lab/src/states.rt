@@ -13,9 +13,9 @@ use crate::network::Network;
 use isis_base::{CircuitKind, Level, OutOfMemory};
 use lab_facts::{Groups, LinkState, joined_groups, link_state};
 use model_network::End;
-use router_core::Router;
+use router_core::{Keeping, Router};
 
-impl Network {
+impl<K: Keeping> Network<K> {
     /// How the two ends of a point-to-point link stand at a level. All its numbers are 0 where an
     /// end doesn't run the level, and of a LAN. Where the link is up, the run wasn't stopped and nothing was
     /// injected, no end is ahead in more LSP IDs than its SRM flags on the link (ISO 10589 7.3.17).
@@ -91,7 +91,7 @@ impl Network {
     }
 
     /// The router of an end.
-    fn router_of(&self, end: End) -> &Router
+    fn router_of(&self, end: End) -> &Router<K>
         requires { IsEndIn self.now.seen.routers end }
         ensures { nth self.now.seen.routers end.router ≡ Some result.now }
     {

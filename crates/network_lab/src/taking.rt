@@ -28,7 +28,7 @@ use isis_base::{Level, Octets, OutOfMemory};
 use lab_facts::{Histories, LevelsToSee, Sweeps};
 use lab_keys::{LabFault, LimitName};
 use model_router::laws::adjacencies::step_bonds;
-use router_core::{NodeEvent, Reply, Router};
+use router_core::{Keeping, NodeEvent, Reply, Router};
 use router_desk::laws::reading_law;
 
 /// The most datagrams of a network.
@@ -37,8 +37,8 @@ pub(crate) const SENT_LIMIT: usize = 262144;
 /// A router takes an event: what it sends on the link joins what was sent, its state what is noted, and the range that it
 /// heard too, where it takes that. Where all that it held live of its own LSP IDs was seen before, a level of which no key
 /// changed isn't looked at.
-pub(crate) fn take_at(
-    routers: &mut Vec<Router>,
+pub(crate) fn take_at<K: Keeping>(
+    routers: &mut Vec<Router<K>>,
     sent: &mut Vec<SentDatagram>,
     notes: &mut Notes,
     router: usize,
@@ -101,9 +101,9 @@ fn stands(before: u64, now: u64) -> bool
 }
 
 /// A router's state after an event is noted, and the range that it heard, where it takes that.
-fn note(
+fn note<K: Keeping>(
     notes: &mut Notes,
-    routers: &[Router],
+    routers: &[Router<K>],
     router: usize,
     reply: &Reply,
     heard: Option<HeardRange>,
@@ -121,9 +121,9 @@ fn note(
 }
 
 /// A router's state is noted.
-fn note_state(
+fn note_state<K: Keeping>(
     histories: &mut Histories,
-    routers: &[Router],
+    routers: &[Router<K>],
     router: usize,
     levels: LevelsToSee,
 ) -> Result<(), OutOfMemory>
@@ -138,9 +138,9 @@ fn note_state(
 }
 
 /// The range that a router heard joins those that were taken, where it takes that.
-fn keep(
+fn keep<K: Keeping>(
     sweeps: &mut Sweeps,
-    routers: &[Router],
+    routers: &[Router<K>],
     router: usize,
     reply: &Reply,
     heard: Option<HeardRange>,
@@ -161,7 +161,12 @@ fn keep(
 }
 
 /// Whether a range that a router heard is taken: the datagram isn't dropped, and no key changed.
-fn is_kept(routers: &[Router], router: usize, reply: &Reply, range: HeardRange) -> bool
+fn is_kept<K: Keeping>(
+    routers: &[Router<K>],
+    router: usize,
+    reply: &Reply,
+    range: HeardRange,
+) -> bool
     ensures { (r : model.Router) (place : ℕ) (m : events.Reply) → Answers r place m reply.now
         → nth routers.now router ≡ Some r
         → result ≡ (is_taken m && (book_of r range.key.level).changes == range.key.changes) }
@@ -181,7 +186,7 @@ fn is_dropped(reply: &Reply) -> bool
 }
 
 /// How many changes of keys a level's database of a router has had.
-fn count_at(routers: &[Router], router: usize, level: Level) -> u64
+fn count_at<K: Keeping>(routers: &[Router<K>], router: usize, level: Level) -> u64
     ensures { IfSome (nth routers.now router) (λ r. result ≡ (book_of r level).changes) }
 {
     match routers.get(router) {
@@ -222,7 +227,11 @@ fn send(
 }
 
 /// A router takes an event. At `OutOfMemory` it is as it was.
-fn step_at(routers: &mut Vec<Router>, router: usize, event: NodeEvent) -> Result<Reply, OutOfMemory>
+fn step_at<K: Keeping>(
+    routers: &mut Vec<Router<K>>,
+    router: usize,
+    event: NodeEvent,
+) -> Result<Reply, OutOfMemory>
     requires there { router < length routers.old.items }
     requires fits { IfSome (nth routers.old.items router) (λ r. Fits r event) }
     ensures state { OnOk result (IfSome (nth routers.old.items router) (λ r. routers.new.items
@@ -300,7 +309,10 @@ fn post_all(
 }
 
 /// A router restarts in its next boot. At `OutOfMemory` it is as it was.
-pub(crate) fn restart_at(routers: &mut Vec<Router>, router: usize) -> Result<(), OutOfMemory>
+pub(crate) fn restart_at<K: Keeping>(
+    routers: &mut Vec<Router<K>>,
+    router: usize,
+) -> Result<(), OutOfMemory>
     requires there { router < length routers.old.items }
     requires boot { boot_of (nth routers.old.items router) < 16777215 }
     ensures state { OnOk result (IfSome (nth routers.old.items router) (λ r. routers.new.items
@@ -315,7 +327,12 @@ pub(crate) fn restart_at(routers: &mut Vec<Router>, router: usize) -> Result<(),
 }
 
 /// The event in which a router takes octets on a circuit, counted from 1.
-pub(crate) fn taking_at(routers: &[Router], router: usize, circuit: u8, octets: Octets) -> NodeEvent
+pub(crate) fn taking_at<K: Keeping>(
+    routers: &[Router<K>],
+    router: usize,
+    circuit: u8,
+    octets: Octets,
+) -> NodeEvent
     requires there { router < length routers.now }
     requires circuit { IfSome (nth routers.now router) (λ r. IsThere r circuit) }
     ensures fits { IfSome (nth routers.now router) (λ r. Fits r result) }

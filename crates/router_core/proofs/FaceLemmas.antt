@@ -1,5 +1,6 @@
 -- What own LSPs look at of circuits is their faces.
-use Rattle.std.proofs.Common.{◌≡◌, ℕ, ◌+◌, ◌*◌, Bool, ◌&&◌, ◌||◌, List, [], ◌∷◌, ◌++◌, Option, Some, None, if◌then◌else◌, option_map, refl, sym, ap, ◌∙◌}
+use Rattle.std.proofs.Common.{◌≡◌, ℕ, ◌+◌, ◌*◌, ◌≤◌, Bool, false, ◌&&◌, ◌||◌, List, [], ◌∷◌, ◌++◌, Option, Some, None, if◌then◌else◌, option_map, refl, sym, ap, ◌∙◌}
+use Rattle.std.specs.List.{AllByRecursion}
 use Rattle.isis_base.specs.declared.level.Level.{Level}
 use Rattle.isis_base.specs.declared.level.Level.TheVariants as level
 use Rattle.model_router.specs.Both.{at}
@@ -10,6 +11,7 @@ use Rattle.model_router.specs.Elections.{Candidate, better, elect, designated, o
 use Rattle.model_router.specs.Givens.{Given}
 use Rattle.model_router.specs.LspNeighbours.{all_nodes, lan_node, lan_nodes, nodes_of, point_node, put_node, put_nodes}
 use Rattle.model_router.specs.Wanted.{addresses_of, with_address, pseudonode_lsp, pseudonode_lsps, system_lsp, wanted}
+use Rattle.router_core.specs.Machines.{IsFit}
 use Rattle.router_core.specs.Settled.{heard_face, neighbour_face, face, faces}
 
 -- ---- a LAN
@@ -120,3 +122,13 @@ pub wanted-faces : (given : Given) (before r t : Router) (l : Level) → t.confi
 unfolding wanted
 wanted-faces given before r t l e f =
     rw (system-same given before r t l e f, pseudonodes-same r t l e f) (ap (λ (config : Config). if at config.runs l then system_lsp given before r l ++ pseudonode_lsps r l 0 r.circuits else []) e)
+
+-- ---- what a level that isn't run wants, and the metrics of circuits
+
+pub none-wanted : (given : Given) (before r : Router) (l : Level) → at r.config.runs l ≡ false → wanted given before r l ≡ []
+unfolding wanted
+none-wanted given before r l e = rw e refl
+
+pub fit-metrics : (cs : List Circuit) → AllByRecursion IsFit cs → AllByRecursion (λ (c : Circuit). c.metric ≤ 16777215) cs
+fit-metrics [] all = tt
+fit-metrics (c ∷ cs) all = (all.0.metric, fit-metrics cs all.1)

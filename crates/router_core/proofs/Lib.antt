@@ -25,6 +25,7 @@ pub mod RouteLemmas
 mod LeakedUpLemmas
 mod MovedLemmas
 mod CountLemmas
+mod KeepingLemmas
 mod OutbidLemmas
 mod AsideLemmas
 mod NodesLemmas

@@ -1,5 +1,5 @@
 -- A second by circuits that say what the router's do then, in which a level passes in place, and is followed by drafts where there are some.
-use Rattle.std.proofs.Common.{◌≡◌, ◌∙◌, ℕ, Bool, true, false, List, Option, None, Some, map, is_some, refl, sym, ap, subst}
+use Rattle.std.proofs.Common.{◌≡◌, ◌∙◌, ℕ, Bool, true, false, List, Option, None, Some, map, is_some, refl, sym, ap, subst, not, ◌||◌}
 use Rattle.isis_base.specs.declared.level.Level.{Level}
 use Rattle.isis_base.specs.declared.level.Level.TheVariants as level
 use Rattle.model_router.specs.Both.{at}
@@ -124,32 +124,51 @@ pub false-true : {A : Type 0} → false ≡ true → A
 false-true e = absurd (cc)
 
 -- one that is marked, and rests
-pub resting-second : (r : Router) (l : Level) (cs : List Circuit) → IsResting (level_of r l) → IsSettledAt r l × (faces cs ≡ faces r.circuits) → IsLevelSecond r l cs (record { wants = None; movers = None; settled = true })
-resting-second r l cs rest marked = record {
+pub resting-second : (asked : Bool) (r : Router) (l : Level) (cs : List Circuit) → IsResting (level_of r l) → IsSettledAt r l × (faces cs ≡ faces r.circuits) → IsLevelSecond asked r l cs (record { wants = None; movers = None; unasked = false; settled = true })
+resting-second asked r l cs rest marked = record {
   is_later = λ q a b. settled-later q l (level_of r l) cs (wanted given r q l) rest.rests (marked-wants r q l cs marked a b);
   made = tt;
-  shifted = λ of-old of-new runs. told-seen (book_of r l) (level_later (level_of r l) l cs).book of-old of-new (later-seen (level_of r l) l cs rest.last);
+  answers = λ _. refl;
+  shifted = λ _ of-old of-new runs. told-seen (book_of r l) (level_later (level_of r l) l cs).book of-old of-new (later-seen (level_of r l) l cs rest.last);
   still = λ h. refl;
   says = λ h q a b. marked-wants r q l cs marked a b;
 }
 
 -- one of which nothing is issued and purged
-pub calm-second : (r : Router) (l : Level) (cs : List Circuit) (wants : List (ℕ × Contents)) (settled : Bool) → IsCalmWith (level_of r l) wants settled → AreWantedWith r l cs wants → IsLevelSecond r l cs (record { wants = None; movers = None; settled = settled })
-calm-second r l cs wants settled calm are = record {
+pub calm-second : (asked : Bool) (r : Router) (l : Level) (cs : List Circuit) (wants : List (ℕ × Contents)) (settled : Bool) → IsCalmWith (level_of r l) wants settled → AreWantedWith r l cs wants → IsLevelSecond asked r l cs (record { wants = None; movers = None; unasked = false; settled = settled })
+calm-second asked r l cs wants settled calm are = record {
   is_later = λ q a b. later-same given q l (level_of r l) cs (aged (level_of r l).own) wants (wanted given r q l) refl (are q a b) calm.quiet;
   made = tt;
-  shifted = λ of-old of-new runs. told-seen (book_of r l) (level_later (level_of r l) l cs).book of-old of-new (later-seen (level_of r l) l cs calm.last);
+  answers = λ _. refl;
+  shifted = λ _ of-old of-new runs. told-seen (book_of r l) (level_later (level_of r l) l cs).book of-old of-new (later-seen (level_of r l) l cs calm.last);
   still = λ h. refl;
   says = λ h q a b. subst (λ (ws : List (ℕ × Contents)). IsSettled (level_of r l).own ws) (are q a b) (calm.said h);
 }
 
+pub either-false : (a b : Bool) → a ≡ false → b ≡ false → (a || b) ≡ false
+either-false a b of-a of-b = ap (λ (x : Bool). x || b) of-a ∙ of-b
+
+pub first-false : (a b : Bool) → (a || b) ≡ false → a ≡ false
+first-false true b e = absurd (cc)
+first-false false b e = refl
+
+pub second-false : (a b : Bool) → (a || b) ≡ false → b ≡ false
+second-false true b e = absurd (cc)
+second-false false b e = e
+
+not-false : (b : Bool) → not b ≡ false → b ≡ true
+not-false true e = refl
+not-false false e = absurd (cc)
+
 -- one that is followed
-pub renewed-second : (r : Router) (l : Level) (cs : List Circuit) (ws : List DraftView) (wants : List (ℕ × Contents)) (movers : Option Movers) → wants_of ws ≡ wants → AreWantedWith r l cs wants → AreMade (is_some (at r.config.keys l)) l ws
-    → IsShiftedTo movers r l (renew given r l (level_later (level_of r l) l cs) wants).book → IsLevelSecond r l cs (record { wants = Some ws; movers = movers; settled = false })
-renewed-second r l cs ws wants movers says are made moved = record {
+pub renewed-second : (asked unasked : Bool) (r : Router) (l : Level) (cs : List Circuit) (ws : List DraftView) (wants : List (ℕ × Contents)) (movers : Option Movers) → wants_of ws ≡ wants → AreWantedWith r l cs wants → AreMade (is_some (at r.config.keys l)) l ws
+    → unasked ≡ not asked → (asked ≡ true → IsShiftedTo movers r l (renew given r l (level_later (level_of r l) l cs) wants).book)
+    → IsLevelSecond asked r l cs (record { wants = Some ws; movers = movers; unasked = unasked; settled = false })
+renewed-second asked unasked r l cs ws wants movers says are made un moved = record {
   is_later = λ q a b. ap (λ (xs : List (ℕ × Contents)). renew given r l (level_later (level_of r l) l cs) xs) (says ∙ are q a b) ∙ sym (renew-config q r l (level_later (level_of r l) l cs) (wanted given r q l) a);
   made = made;
-  shifted = subst (λ (xs : List (ℕ × Contents)). IsShiftedTo movers r l (renew given r l (level_later (level_of r l) l cs) xs).book) (sym says) moved;
+  answers = λ a. un ∙ ap not a;
+  shifted = λ u. subst (λ (xs : List (ℕ × Contents)). IsShiftedTo movers r l (renew given r l (level_later (level_of r l) l cs) xs).book) (sym says) (moved (not-false asked (sym un ∙ u)));
   still = λ h. false-true h;
   says = λ h. false-true h;
 }

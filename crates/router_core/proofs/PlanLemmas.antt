@@ -60,8 +60,8 @@ outlook-stays r cause = refl
 abbrev pub dropped : DropCause → Marks → Plan
 dropped cause marks = record { deed = deed.Dropped cause; reply = reply.Dropped cause; told = told.Nothing; marks = marks }
 
-pub drop-plan : (r : Router) (cause : DropCause) (marks : Marks) → AreTrue marks r → (circuit : ℕ) (m : model.Message) → IsThere r circuit → IfSome (nth r.circuits (circuit - 1)) (λ c. drop_of r (circuit - 1) c m ≡ Some (name_of cause)) → IsPlan r (model.Take (circuit - 1) m) (dropped cause marks)
-drop-plan r cause marks true_of circuit m here why = record { ready = tt; state = parts.state; reply = parts.reply; told = parts.told; marks = parts.marks }
+pub drop-plan : (r : Router) (cause : DropCause) (marks : Marks) → AreTrue marks r → (asked : Bool) (circuit : ℕ) (m : model.Message) → IsThere r circuit → IfSome (nth r.circuits (circuit - 1)) (λ c. drop_of r (circuit - 1) c m ≡ Some (name_of cause)) → IsPlan asked r (model.Take (circuit - 1) m) (dropped cause marks)
+drop-plan r cause marks true_of asked circuit m here why = record { ready = tt; state = parts.state; reply = parts.reply; told = λ _. parts.told; marks = parts.marks }
   where
     is : (x : Circuit) × (nth r.circuits (circuit - 1) ≡ Some x)
     is = there r.circuits (circuit - 1) (omega (arith, here))
@@ -136,18 +136,19 @@ told-ordered old new told.Nothing is = tt
 told-ordered old new (told.Entry m) is = tt
 told-ordered old new (told.Levels one two) is = (is.rise_one, is.rise_two)
 told-ordered old new (told.Prefixes own) is = tt
+told-ordered old new told.Unasked is = tt
 
-pub sound-of : (r : Router) (event : model.Event) (plan : Plan) → IsPlan r event plan → IsReached (step given r event).router → IsSound r plan
-sound-of r event plan is reached =
+pub sound-of : (asked : Bool) (r : Router) (event : model.Event) (plan : Plan) → IsPlan asked r event plan → IsReached (step given r event).router → IsSound asked r plan
+sound-of asked r event plan is reached =
     let same = sym is.state in
     record {
       ready = is.ready;
-      told = subst (λ (q : Router). AreTold (outlook_of r) (outlook_of q) plan.told) same is.told;
+      told = λ a. subst (λ (q : Router). AreTold (outlook_of r) (outlook_of q) plan.told) same (is.told a);
       marks = subst (AreTrue plan.marks) same is.marks;
       reached = subst IsReached same reached;
     }
 
-pub planned-reply : (r t : Router) (event : model.Event) (plan : Plan) (a : Reply) → IsPlan r event plan → t ≡ committed r plan.deed → a ≡ plan.reply → Answers t (place_of event) (step given r event).reply a
-planned-reply r t event plan a is state same =
+pub planned-reply : (asked : Bool) (r t : Router) (event : model.Event) (plan : Plan) (a : Reply) → IsPlan asked r event plan → t ≡ committed r plan.deed → a ≡ plan.reply → Answers t (place_of event) (step given r event).reply a
+planned-reply asked r t event plan a is state same =
     subst (λ (q : Router). Answers q (place_of event) (step given r event).reply a) (sym (state ∙ is.state))
     (subst (λ (x : Reply). Answers (step given r event).router (place_of event) (step given r event).reply x) (sym same) is.reply)

@@ -33,7 +33,7 @@ use Rattle.lsp_store.specs.Databases as store
 use Rattle.lsp_store.specs.Databases.{Database}
 use Rattle.flag_sync.specs.declared.flag_row.FlagRow.{FlagRow}
 use Rattle.flag_sync.specs.BookStates as sync
-use Rattle.flag_sync.specs.BookStates.{BookState, cells_of}
+use Rattle.flag_sync.specs.BookStates.{AreBeside, BookState, cells_of}
 use Rattle.router_sending.proofs.DraftLemmas.{id-again}
 use Rattle.lsp_view.specs.Views.{own_node}
 use Rattle.router_wanted.specs.Views.{prefix_pair}
@@ -69,10 +69,25 @@ told-cells [] rows long ids = refl
 told-cells (e ∷ entries) [] long ids = absurd (omega (arith, long))
 told-cells (e ∷ entries) (row ∷ rows) long ids = told-step e row entries rows ids.0 (told-cells entries rows (omega (arith, long)) ids.1) (store.is_live e.1) refl
 
+rows-beside : (entries : List (LspId × Entry)) (rows : List (LspId × FlagRow)) → AreBeside entries rows → length rows ≡ length entries
+rows-beside [] [] is = refl
+rows-beside [] (row ∷ rows) is = absurd is
+rows-beside (e ∷ entries) [] is = absurd is
+rows-beside (e ∷ entries) (row ∷ rows) is = let n = rows-beside entries rows is.1 in omega (arith, n)
+
+-- rows that lie beside entries are as many
+pub beside-long : (entries : List (LspId × Entry)) (lent rows : List (LspId × FlagRow)) → lent ≡ rows → AreBeside entries lent → length rows ≡ length entries
+beside-long entries lent rows same is = ap length (sym same) ∙ rows-beside entries lent is
+
 pub told-book : (b mine : BookState) (lent : Database) → b ≡ mine → lent ≡ b.store → length b.rows ≡ length b.store.entries → AllByRecursion (λ (p : LspId × Entry). IsId p.0) lent.entries → told_by (sync.book_of mine).cells ≡ told_in lent.entries
 told-book b mine lent e f long ids =
     subst (λ (x : BookState). told_by (sync.book_of x).cells ≡ told_in lent.entries) e
     (told-cells b.store.entries b.rows long (subst (λ (d : Database). AllByRecursion (λ (p : LspId × Entry). IsId p.0) d.entries) f ids) ∙ ap (λ (d : Database). told_in d.entries) (sym f))
+
+-- a level that routes see as run is run
+pub outlook-runs : (r : Router) (l : Level) → at (outlook_of r).runs l ≡ at r.config.runs l
+unfolding outlook_of
+outlook-runs r l = refl
 
 -- ---- one's own prefixes
 

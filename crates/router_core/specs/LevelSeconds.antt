@@ -1,5 +1,5 @@
 -- What a second makes of a level, before it passes (own).
-use Rattle.std.specs.Prelude.{◌≡◌, ℕ, Bool, true, List, Option, None}
+use Rattle.std.specs.Prelude.{◌≡◌, ℕ, Bool, true, false, List, Option, None}
 use Rattle.isis_base.specs.declared.level.Level.{Level}
 use Rattle.model_router.specs.Both.{at}
 use Rattle.model_router.specs.Books.{Book}
@@ -50,11 +50,12 @@ AreSettledBy r level circuits =
     → IsSettled (level_of r level).own (wanted given r q level)
 
 -- what a level is followed by, what its nodes tell then, and whether its own LSPs say what is wanted, with the circuits as they then
--- are; where they do, it isn't followed (own)
-pub record IsLevelSecond (r : Router) (level : Level) (circuits : List Circuit) (s : LevelSecond) : Type 0 where
+-- are; where they do, it isn't followed. What nodes tell is said where it was asked (own)
+pub record IsLevelSecond (asked : Bool) (r : Router) (level : Level) (circuits : List Circuit) (s : LevelSecond) : Type 0 where
   pub is_later : IsLaterAt r level s.wants circuits
   pub made : AreDrafted r level s.wants
-  pub shifted : IsShiftedTo s.movers r level
+  pub answers : asked ≡ true → s.unasked ≡ false
+  pub shifted : s.unasked ≡ false → IsShiftedTo s.movers r level
       (followed r level s.wants (level_later (level_of r level) level circuits)).book
   pub still : s.settled ≡ true → s.wants ≡ None
   pub says : s.settled ≡ true → AreSettledBy r level circuits

@@ -4,6 +4,7 @@ pub mod Givens
 pub mod Calm
 pub mod Events
 pub mod Replies
+pub mod Keeping
 pub mod Reached
 pub mod Machines
 pub mod Sending

@@ -15,7 +15,7 @@ use Rattle.router_sending.specs.Drafts.{DraftView}
 use Rattle.router_desk.specs.Desks.{desk_circuit}
 use Rattle.router_levels.specs.Views.{state_of}
 use Rattle.router_core.specs.Givens.{given}
-use Rattle.router_core.specs.declared.machine.Machine.TheInside.{Inside}
+use Rattle.router_core.specs.declared.parts.Parts.TheInside.{Inside}
 
 -- the router that the parts are
 abbrev pub machine_of : Inside → Router

@@ -196,12 +196,13 @@ pub record AreMovedIn (old new : Outlook) (level : Level) (nodes : List NodeId)
   pub moved : AreMovedTo nodes told (at old.told level) (at new.told level)
 
 -- nothing changes; or an LSP ID of one level tells this entry, or some nodes of both levels tell these LSPs, or own prefixes
--- are these, and all else stays (own)
+-- are these, and all else stays; nothing is said where it wasn't asked (own)
 abbrev pub AreTold : Outlook → Outlook → Told → Type 0
 AreTold old new told.Nothing = new ≡ old
 AreTold old new (told.Entry m) = IsPutAt old new m.level m.id m.entry
 AreTold old new (told.Levels one two) = AreMovedOn old new one two
 AreTold old new (told.Prefixes own) = new ≡ record old { prefixes = prefixes_by own }
+AreTold old new told.Unasked = ⊥
 
 -- nodes that are told stand in order, each once (own)
 abbrev pub AreInOrder : Told → Type 0
@@ -209,19 +210,20 @@ AreInOrder told.Nothing = Unit {0}
 AreInOrder (told.Entry m) = Unit {0}
 AreInOrder (told.Levels one two) = AreRising one × AreRising two
 AreInOrder (told.Prefixes own) = Unit {0}
+AreInOrder told.Unasked = Unit {0}
 
--- what a plan says is the machine's step (own)
-pub record IsPlan (r : Router) (event : model.Event) (plan : Plan) : Type 0 where
+-- what a plan says is the machine's step, and what routes look at then where that is asked for (own)
+pub record IsPlan (asked : Bool) (r : Router) (event : model.Event) (plan : Plan) : Type 0 where
   pub ready : IsReady r plan.deed
   pub state : committed r plan.deed ≡ (step given r event).router
   pub reply : Answers (step given r event).router (place_of event) (step given r event).reply
       plan.reply
-  pub told : AreTold (outlook_of r) (outlook_of (step given r event).router) plan.told
+  pub told : asked ≡ true → AreTold (outlook_of r) (outlook_of (step given r event).router) plan.told
   pub marks : AreTrue plan.marks (step given r event).router
 
--- a deed is ready, and the plan tells and marks what it makes of the router, which can be reached (own)
-pub record IsSound (r : Router) (plan : Plan) : Type 0 where
+-- a deed is ready, and the plan marks, and tells where that is asked for, what it makes of the router, which can be reached (own)
+pub record IsSound (asked : Bool) (r : Router) (plan : Plan) : Type 0 where
   pub ready : IsReady r plan.deed
-  pub told : AreTold (outlook_of r) (outlook_of (committed r plan.deed)) plan.told
+  pub told : asked ≡ true → AreTold (outlook_of r) (outlook_of (committed r plan.deed)) plan.told
   pub marks : AreTrue plan.marks (committed r plan.deed)
   pub reached : IsReached (committed r plan.deed)

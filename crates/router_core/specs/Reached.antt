@@ -1,5 +1,5 @@
 -- What always holds of a router (own).
-use Rattle.std.specs.Prelude.{◌≡◌, ◌≤◌, length}
+use Rattle.std.specs.Prelude.{◌≡◌, ◌≤◌, length, Option, IfSome}
 use Rattle.model_router.specs.Sorted.{RisesFrom}
 use Rattle.model_router.specs.Routers.{Router}
 use Rattle.model_router.specs.AdjacencyLaws.{FollowsAdjacencies, AreBonds, AreIdle}
@@ -22,8 +22,8 @@ pub record IsReached (r : Router) : Type 0 where
   pub few : length r.config.prefixes ≤ 4096
   pub prefixes : RisesFrom 0 r.config.prefixes
 
--- it is reached, its routes follow it, and its marks are true
-pub record IsWhole (r : Router) (f : FollowingOf) (marks : Marks) : Type 0 where
+-- it is reached, its routes follow it where they are kept, and its marks are true
+pub record IsWhole (r : Router) (kept : Option FollowingOf) (marks : Marks) : Type 0 where
   pub reached : IsReached r
-  pub following : IsFollowing (outlook_of r) f
+  pub following : IfSome kept (IsFollowing (outlook_of r))
   pub marks_hold : AreTrue marks r

@@ -14,13 +14,13 @@ ghost use Rattle.router_core.specs.Events.{IsThere};
 ghost use Rattle.router_core.specs.Designated.{designated_system};
 ghost use Rattle.router_core.specs.NamedBoots.{named_boot};
 
-use crate::machine::Machine;
+use crate::parts::Parts;
 use isis_base::{Level, Prefix, SystemId};
 use model_router::laws::states::count_laws;
 use model_router::{DropName, has_level};
 use router_desk::Desk;
 
-impl Machine {
+impl Parts {
     /// How often a cause of a drop was met.
     pub(crate) fn drops(&self, cause: DropName) -> u64
         ensures { result ≡ drops_of self.now.drops cause }

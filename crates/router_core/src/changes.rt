@@ -9,11 +9,11 @@ ghost use Rattle.router_core.specs.Givens.{given};
 ghost use Rattle.router_core.specs.Reached.{IsReached};
 
 use crate::at::set_metric_at;
-use crate::machine::Machine;
+use crate::parts::Parts;
 use isis_base::{OutOfMemory, Prefix};
 use router_desk::Change;
 
-impl Machine {
+impl Parts {
     /// A change of the configuration (own). At `OutOfMemory` the router is as it was.
     pub(crate) fn change(&mut self, change: Change) -> Result<(), OutOfMemory>
         requires fits { FitsChange self.old change }

@@ -2,11 +2,11 @@
 ghost use Rattle.std.specs.Prelude.{◌≡◌, OnOk, OnErr};
 ghost use Rattle.router_core.specs.Plans.{committed, IsReady};
 
-use crate::machine::Machine;
+use crate::parts::Parts;
 use crate::plan::Deed;
 use isis_base::OutOfMemory;
 
-impl Machine {
+impl Parts {
     /// Does what was planned. It may want memory for room; then the router is as it was.
     pub(crate) fn commit(&mut self, deed: Deed<'_>) -> Result<(), OutOfMemory>
         requires { IsReady self.old deed }

@@ -6,7 +6,7 @@ ghost use Rattle.flag_sync.specs.BookStates as books;
 ghost use Rattle.router_core.specs.Due.{IsDue, IsDueAt};
 ghost use Rattle.router_core.specs.Events.{IsThere};
 
-use crate::machine::Machine;
+use crate::parts::Parts;
 use flag_sync::Book;
 use isis_base::Level;
 use router_circuits::Circuit;
@@ -27,7 +27,7 @@ pub(crate) struct Due {
     pub(crate) two: LevelDue,
 }
 
-impl Machine {
+impl Parts {
     /// What is due on a circuit (ISO 10589 7.3.15.3, 7.3.15.4, 7.3.17, 8.2.3, 8.4.1).
     pub(crate) fn due(&self, circuit: u8) -> Due
         requires { IsThere self.now circuit }

@@ -15,12 +15,12 @@ ghost use Rattle.router_core.specs.Events.{IsThere};
 ghost use Rattle.router_core.specs.Settled.{LeavesFace};
 
 use crate::at::{hear_lan_at, hear_point_at, test_lan_at, test_point_at};
-use crate::machine::Machine;
 use crate::own::own_of;
+use crate::parts::Parts;
 use adjacency::{HelloDrop, HelloFields};
 use isis_base::{Level, OutOfMemory};
 
-impl Machine {
+impl Parts {
     /// A circuit hears a point-to-point hello: whether it isn't from the neighbour that was kept.
     pub(crate) fn hear_point(
         &mut self,

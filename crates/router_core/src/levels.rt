@@ -17,14 +17,14 @@ ghost use Rattle.router_desk.specs.Opening.{envelope_of};
 ghost use Rattle.router_core.specs.Givens.{given};
 ghost use Rattle.router_core.specs.Events.{IsThere};
 
-use crate::machine::Machine;
+use crate::parts::Parts;
 use flag_sync::LspHeard;
 use isis_base::{Level, OutOfMemory};
 use router_desk::{DropCause, Envelope};
 use router_levels::LevelParts;
 use router_sending::{Draft, lent_key};
 
-impl Machine {
+impl Parts {
     /// A level.
     pub(crate) fn level(&self, level: Level) -> &LevelParts
         ensures state { state_of result.now ≡ level_of self.now level }

@@ -5,8 +5,8 @@
 //! memory for is made before its first change, so a step that wants memory leaves the router as it
 //! was (own).
 //!
-//! - `router.rt`: the router; `event.rt`, `reply.rt`, `datagrams.rt`: events and answers
-//! - `machine.rt`: its parts, and what they have in common
+//! - `router.rt`: the router; `keeping.rt`: whether it keeps its routes; `event.rt`, `reply.rt`, `datagrams.rt`: events and answers
+//! - `parts.rt`: its parts, and what they have in common
 //! - `read.rt`: an event as what it says; `plan.rt`, `plan_hello.rt`, `plan_lsp.rt`, `plan_outbid.rt`, `plan_snp.rt`, `plan_change.rt`,
 //!   `plan_second.rt`: what will be done; `told.rt`, `snp_told.rt`, `renewing.rt`, `movers.rt`, `aside.rt`,
 //!   `refresh.rt`: what routes look at then; `commit.rt`: that is done
@@ -21,6 +21,20 @@
 //! - `due.rt`: what is due on a circuit; `pull.rt`, `pull_parts.rt`, `hello_sending.rt`, `sending.rt`: what is due is sent, planned too
 //! - `at.rt`: one circuit of a list changes
 //! - `reached.rt`: what always holds, as laws; `laws.rt`: what follows for all routers
+//!
+//! Choices (own):
+//!
+//! - A hello is tested when it is planned and when it is taken, so that its circuit needn't be copied
+//!   (`Circuit::point_after`).
+//! - What is due at a pull is asked once (`Due`), and the plan carries the answers, so that the commit asks nothing.
+//! - A second that issues own LSPs is foreseen (`movers_by`): only the list of own LSPs is copied, and room is taken
+//!   before the second passes.
+//! - An SNP has a draft for each issued LSP it names; changed nodes are found on their own LSPs (`told_by_entries`,
+//!   `Sight`); others cost look-ups.
+//! - A mark stays at seconds in which no holding time ends, pulls, PDUs that change no key, and hellos that leave
+//!   the adjacency's `face`.
+//! - The router is a value of the machine's type that is reached (`IsReached`); router_desk's types are passed on,
+//!   so that a caller names one crate.
 #![tactic(auto)]
 
 mod aside;
@@ -34,13 +48,14 @@ mod event;
 mod faces;
 mod hello_sending;
 mod hellos;
+mod keeping;
 pub mod laws;
 mod levels;
-mod machine;
 mod making;
 mod marks;
 mod movers;
 mod own;
+mod parts;
 mod passing;
 mod plan;
 mod plan_change;
@@ -74,6 +89,8 @@ mod wanted;
 
 pub use datagrams::Datagrams;
 pub use event::NodeEvent;
+pub use keeping::{Asked, Keeping, Kept};
+pub use parts::Parts;
 pub use reply::Reply;
-pub use router::Router;
+pub use router::{Machine, Router};
 pub use router_desk::{Change, CircuitConfig, Config, Desk, DropCause, DropName, Opened};

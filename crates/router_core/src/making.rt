@@ -6,7 +6,7 @@ ghost use Rattle.router_desk.specs.Desks.{is_lan, kind_of_circuit};
 ghost use Rattle.router_desk.specs.Limits.{IsValid};
 ghost use Rattle.router_levels.specs.Views.{state_of};
 
-use crate::machine::Machine;
+use crate::parts::Parts;
 use crate::prefixes::OwnPrefixes;
 use crate::together::both;
 use isis_base::{CircuitKind, Octets, OutOfMemory};
@@ -15,9 +15,9 @@ use router_desk::{CircuitConfig, Config, Desk};
 use router_levels::LevelParts;
 use std::alloc::Global;
 
-impl Machine {
+impl Parts {
     /// The router of a configuration at its start, in a boot.
-    pub(crate) fn new(alloc: Global, config: &Config, boot: u32) -> Result<Machine, OutOfMemory>
+    pub(crate) fn new(alloc: Global, config: &Config, boot: u32) -> Result<Parts, OutOfMemory>
         requires valid { IsValid config.now }
         ensures { IfOk result (λ machine.
             machine ≡ start (config_of config.now) boot (circuits_of config.now)) }
@@ -30,7 +30,7 @@ impl Machine {
             prefixes,
         );
         match both(own, levels) {
-            Ok((((desk, areas), prefixes), (one, two))) => Ok(Machine {
+            Ok((((desk, areas), prefixes), (one, two))) => Ok(Parts {
                 alloc,
                 desk,
                 areas,
@@ -51,7 +51,7 @@ impl Machine {
     }
 
     /// The opening state of another boot, of the configuration as changed so far.
-    pub(crate) fn restarted(&self, boot: u32) -> Result<Machine, OutOfMemory>
+    pub(crate) fn restarted(&self, boot: u32) -> Result<Parts, OutOfMemory>
         ensures { IfOk result (λ machine.
             machine ≡ start self.now.config boot self.now.circuits) }
     {
@@ -63,7 +63,7 @@ impl Machine {
             self.prefixes.copy(),
         );
         match both(own, parts) {
-            Ok((((desk, areas), prefixes), (circuits, (one, two)))) => Ok(Machine {
+            Ok((((desk, areas), prefixes), (circuits, (one, two)))) => Ok(Parts {
                 alloc,
                 desk,
                 areas,

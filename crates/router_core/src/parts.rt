@@ -18,9 +18,9 @@ use router_levels::LevelParts;
 use std::alloc::Global;
 use std::marker::Model;
 
-/// The parts of a router. Contracts see them as the router's model has them.
+/// The parts of a router but for its routes. Contracts see them as the router's model has them.
 #[derive(Drop)]
-pub(crate) struct Machine {
+pub struct Parts {
     pub(crate) alloc: Global,
     pub(crate) desk: Desk,
     pub(crate) areas: Areas,
@@ -34,7 +34,7 @@ pub(crate) struct Machine {
     pub(crate) drops: [u64; 21],
 }
 
-impl Model for Machine {
+impl Model for Parts {
     ghost use Rattle.model_router.specs.Routers as model;
     ghost use Rattle.router_core.specs.Machines.{machine_of, IsLaid};
 
@@ -45,7 +45,7 @@ impl Model for Machine {
     ghost invariant = { IsLaid };
 }
 
-impl Machine {
+impl Parts {
     /// One more datagram is dropped for a cause; the count stands still at its type's end.
     pub(crate) fn count_drop(&mut self, cause: DropName)
         ensures { self.new ≡ record self.old { drops = count_drop self.old.drops cause } }

@@ -1,5 +1,5 @@
 //! What a router will do at an event, made before anything changes.
-ghost use Rattle.std.specs.Prelude.{◌≡◌, ℕ, ◌-◌, Some, IfOk, IfSome};
+ghost use Rattle.std.specs.Prelude.{◌≡◌, ℕ, ◌-◌, Bool, Some, is_some, IfOk, IfSome};
 ghost use Rattle.model_router.specs.Events as model;
 ghost use Rattle.model_router.specs.Places.{nth};
 ghost use Rattle.model_router.specs.Receiving.{drop_of};
@@ -14,8 +14,8 @@ ghost use Rattle.router_core.specs.Reads.{event_in, FitsHeard, FitsRead};
 ghost use Rattle.router_core.specs.Settled.{AreTrue};
 
 use crate::due::Due;
-use crate::machine::Machine;
 use crate::marks::Marks;
+use crate::parts::Parts;
 use crate::read::Read;
 use crate::reply::Reply;
 use crate::told::Told;
@@ -68,7 +68,7 @@ pub(crate) enum Deed<'a> {
     },
 }
 
-/// What is done, what is answered, what changes of what routes look at, and the marks as they will be.
+/// What is done, what is answered, what changes of what routes look at where that is asked for, and the marks as they will be.
 #[derive(Drop)]
 pub(crate) struct Plan<'a> {
     pub(crate) deed: Deed<'a>,
@@ -77,24 +77,24 @@ pub(crate) struct Plan<'a> {
     pub(crate) marks: Marks,
 }
 
-impl Machine {
-    /// How an event that was read is done.
+impl Parts {
+    /// How an event that was read is done. What changes of what routes look at is found out where they follow the router.
     pub(crate) fn plan<'a>(
         &self,
         read: &'a Read<'a>,
-        following: &Following,
+        following: Option<&Following>,
         marks: Marks,
     ) -> Result<Plan<'a>, OutOfMemory>
         requires fits { FitsRead self.now read.now }
         requires reached { IsReached self.now }
-        requires following { IsFollowing (outlook_of self.now) following.now }
+        requires following { IfSome following (λ f. IsFollowing (outlook_of self.now) f.now) }
         requires marks { AreTrue marks self.now }
-        ensures { IfOk result (IsPlan self.now (event_in read.now)) }
+        ensures { IfOk result (IsPlan (is_some following.entry) self.now (event_in read.now)) }
     {
         match read {
             Read::Second => self.plan_second(following, marks),
             Read::Pull { circuit } => self.plan_pull(*circuit, marks),
-            Read::Change(change) => self.plan_change(*change),
+            Read::Change(change) => self.plan_change(*change, following.is_some()),
             Read::Refused { circuit: _, cause } => Ok(self.plan_drop(*cause, marks)),
             Read::Heard { circuit, heard } => self.plan_heard(*circuit, heard, following, marks),
         }
@@ -105,14 +105,14 @@ impl Machine {
         &self,
         circuit: u8,
         heard: &'a Heard<'a>,
-        following: &Following,
+        following: Option<&Following>,
         marks: Marks,
     ) -> Result<Plan<'a>, OutOfMemory>
         requires fits { FitsHeard self.now circuit heard.now }
         requires reached { IsReached self.now }
-        requires following { IsFollowing (outlook_of self.now) following.now }
+        requires following { IfSome following (λ f. IsFollowing (outlook_of self.now) f.now) }
         requires marks { AreTrue marks self.now }
-        ensures { IfOk result (IsPlan self.now (model.Take (circuit - 1) (message_of heard.now))) }
+        ensures { IfOk result (IsPlan (is_some following.entry) self.now (model.Take (circuit - 1) (message_of heard.now))) }
     {
         match heard {
             Heard::PointHello(hello) => Ok(self.plan_point_hello(circuit, hello, marks)),
@@ -138,10 +138,10 @@ impl Machine {
     /// The plan of a datagram that is dropped.
     pub(crate) fn plan_drop<'a>(&self, cause: DropCause, marks: Marks) -> Plan<'a>
         requires { AreTrue marks self.now }
-        ensures { (circuit : ℕ) (m : model.Message) → IsThere self.now circuit
+        ensures { (asked : Bool) (circuit : ℕ) (m : model.Message) → IsThere self.now circuit
             → IfSome (nth self.now.circuits (circuit - 1)) (λ c.
             drop_of self.now (circuit - 1) c m ≡ Some (name_of cause))
-            → IsPlan self.now (model.Take (circuit - 1) m) result }
+            → IsPlan asked self.now (model.Take (circuit - 1) m) result }
     {
         Plan {
             deed: Deed::Dropped(cause),

@@ -1,5 +1,5 @@
 //! What a hello will do: it is dropped, or taken.
-ghost use Rattle.std.specs.Prelude.{◌≡◌, ◌-◌, true, false, IfSome};
+ghost use Rattle.std.specs.Prelude.{◌≡◌, ◌-◌, Bool, true, false, IfSome};
 ghost use Rattle.model_router.specs.Events as model;
 ghost use Rattle.model_router.specs.Places.{nth};
 ghost use Rattle.router_desk.specs.Heard.{hello_heard};
@@ -8,8 +8,8 @@ ghost use Rattle.router_core.specs.Plans.{IsPlan};
 ghost use Rattle.router_core.specs.Reached.{IsReached};
 ghost use Rattle.router_core.specs.Settled.{AreTrue};
 
-use crate::machine::Machine;
 use crate::marks::Marks;
+use crate::parts::Parts;
 use crate::plan::{Deed, Plan};
 use crate::reached::outlook_laws;
 use crate::reply::Reply;
@@ -18,7 +18,7 @@ use isis_base::Level;
 use router_circuits::hello_sizes;
 use router_desk::{DropCause, HelloHeard};
 
-impl Machine {
+impl Parts {
     /// The plan of a point-to-point hello (ISO 10589 8.2.4). Marks stay where own LSPs will say the same of the adjacency.
     pub(crate) fn plan_point_hello<'a>(
         &self,
@@ -30,7 +30,7 @@ impl Machine {
         requires kind { IfSome (nth self.now.circuits (circuit - 1)) (λ c. c.lan ≡ false) }
         requires reached { IsReached self.now }
         requires marks { AreTrue marks self.now }
-        ensures { IsPlan self.now
+        ensures { (asked : Bool) → IsPlan asked self.now
             (model.Take (circuit - 1) (model.PointHelloHeard (hello_heard hello.now))) result }
     {
         outlook_laws();
@@ -59,7 +59,7 @@ impl Machine {
         requires kind { IfSome (nth self.now.circuits (circuit - 1)) (λ c. c.lan ≡ true) }
         requires reached { IsReached self.now }
         requires marks { AreTrue marks self.now }
-        ensures { IsPlan self.now
+        ensures { (asked : Bool) → IsPlan asked self.now
             (model.Take (circuit - 1) (model.LanHelloHeard level (hello_heard hello.now))) result }
     {
         outlook_laws();

@@ -1,6 +1,6 @@
 //! The plan of an LSP: whether it is dropped, and else the row that it meets, what is answered, and what its node tells
 //! then.
-ghost use Rattle.std.specs.Prelude.{◌≡◌, ◌-◌, ◌<◌, ◌≤◌, ◌⊎◌, true, length, None, IfOk, IfSome};
+ghost use Rattle.std.specs.Prelude.{◌≡◌, ◌-◌, ◌<◌, ◌≤◌, ◌⊎◌, true, length, None, is_some, IfOk, IfSome};
 ghost use Rattle.model_router.specs.Places.{nth};
 ghost use Rattle.model_router.specs.Receiving.{lsp_drop};
 ghost use Rattle.model_router.specs.Steps.{step};
@@ -17,8 +17,8 @@ ghost use Rattle.router_core.specs.Reached.{IsReached};
 ghost use Rattle.router_core.specs.Settled.{AreTrue};
 
 use crate::aside::teller;
-use crate::machine::Machine;
 use crate::marks::Marks;
+use crate::parts::Parts;
 use crate::plan::{Deed, Plan};
 use crate::reached::outlook_laws;
 use crate::told::Told;
@@ -27,23 +27,23 @@ use isis_base::{Level, OutOfMemory};
 use router_desk::Envelope;
 use router_routes::Following;
 
-impl Machine {
+impl Parts {
     /// The plan of an LSP that came (ISO 10589 7.3.15.1).
     pub(crate) fn plan_lsp<'a>(
         &self,
         circuit: u8,
         from: (Level, Envelope),
         lsp: &LspHeard<'a>,
-        following: &Following,
+        following: Option<&Following>,
         marks: Marks,
     ) -> Result<Plan<'a>, OutOfMemory>
         requires there { IsThere self.now circuit }
         requires number { 0 < lsp.now.entry.number }
         requires octets { 27 ≤ length lsp.now.octets.now }
         requires reached { IsReached self.now }
-        requires following { IsFollowing (outlook_of self.now) following.now }
+        requires following { IfSome following (λ f. IsFollowing (outlook_of self.now) f.now) }
         requires marks { AreTrue marks self.now }
-        ensures { IfOk result (IsPlan self.now (lsp_event circuit from.0 from.1 lsp.now)) }
+        ensures { IfOk result (IsPlan (is_some following.entry) self.now (lsp_event circuit from.0 from.1 lsp.now)) }
     {
         let (level, envelope) = from;
         match self.lsp_cause(circuit, level, envelope, lsp) {
@@ -53,7 +53,7 @@ impl Machine {
         let row = self.row_met(level, lsp);
         match bid_of(row) {
             Some(above) => self.plan_outbid(circuit, from, lsp, above, following),
-            None => self.plan_row(circuit, from, lsp, row, marks),
+            None => self.plan_row(circuit, from, lsp, row, following.is_some(), marks),
         }
     }
 
@@ -71,6 +71,7 @@ impl Machine {
         from: (Level, Envelope),
         lsp: &LspHeard<'a>,
         row: LspAnswer,
+        asked: bool,
         marks: Marks,
     ) -> Result<Plan<'a>, OutOfMemory>
         requires there { IsThere self.now circuit }
@@ -82,11 +83,11 @@ impl Machine {
         requires row { row ≡ answer_of (row_met self.now from.0 lsp.now) lsp.now }
         requires other { (is_calm_answer row ≡ true) ⊎ (is_moving row ≡ true) }
         requires marks { AreTrue marks self.now }
-        ensures { IfOk result (IsPlan self.now (lsp_event circuit from.0 from.1 lsp.now)) }
+        ensures { IfOk result (IsPlan asked self.now (lsp_event circuit from.0 from.1 lsp.now)) }
     {
         let (level, _envelope) = from;
         let reply = self.acknowledged(circuit, level, lsp, row)?;
-        let (told, marks) = self.told_by_lsp(circuit, from, lsp, row, marks)?;
+        let (told, marks) = self.told_by_lsp(circuit, from, lsp, row, asked, marks)?;
         let deed = Deed::Lsp {
             circuit,
             level,
@@ -101,14 +102,15 @@ impl Machine {
         })
     }
 
-    /// What changes of what routes look at where an LSP meets a row by which no own one is outbid, and the marks as they will
-    /// be.
+    /// What changes of what routes look at, where that is asked for, once an LSP meets a row by which no own one is outbid; and
+    /// the marks as they will be.
     fn told_by_lsp(
         &self,
         circuit: u8,
         from: (Level, Envelope),
         lsp: &LspHeard<'_>,
         row: LspAnswer,
+        asked: bool,
         marks: Marks,
     ) -> Result<(Told, Marks), OutOfMemory>
         requires there { IsThere self.now circuit }
@@ -118,7 +120,7 @@ impl Machine {
         requires row { row ≡ answer_of (row_met self.now from.0 lsp.now) lsp.now }
         requires other { (is_calm_answer row ≡ true) ⊎ (is_moving row ≡ true) }
         requires marks { AreTrue marks self.now }
-        ensures told { IfOk result (λ both. AreTold (outlook_of self.now)
+        ensures told { IfOk result (λ both. asked ≡ true → AreTold (outlook_of self.now)
             (outlook_of (step given self.now (lsp_event circuit from.0 from.1 lsp.now)).router)
             both.0) }
         ensures marks { IfOk result (λ both. AreTrue both.1
@@ -127,6 +129,9 @@ impl Machine {
         outlook_laws();
         if is_calm_row(row) {
             return Ok((Told::Nothing, marks.after()));
+        }
+        if !asked {
+            return Ok((Told::Unasked, Marks::none()));
         }
         if self.is_refresh(circuit, from, lsp, row) {
             return Ok((Told::Nothing, Marks::none()));

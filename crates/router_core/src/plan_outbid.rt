@@ -1,11 +1,13 @@
 //! The plan of an LSP that outbids one's own (ISO 10589 7.3.16.1).
-ghost use Rattle.std.specs.Prelude.{◌≡◌, ◌+◌, ◌-◌, ◌<◌, ◌≤◌, length, map, None, IfOk, IfSome};
+ghost use Rattle.std.specs.Prelude.{◌≡◌, ◌+◌, ◌-◌, ◌<◌, ◌≤◌, true, length, map, None, is_some, IfOk, IfSome};
 ghost use Rattle.std.specs.List.{AllByRecursion};
 ghost use Rattle.isis_base.specs.Identifiers.{lsp_number};
 ghost use Rattle.model_router.specs.Both.{at};
 ghost use Rattle.model_router.specs.Good.{IsIssuable};
 ghost use Rattle.model_router.specs.Places.{nth};
 ghost use Rattle.model_router.specs.Receiving.{lsp_drop};
+ghost use Rattle.model_router.specs.Routers.{Router};
+ghost use Rattle.lsp_store.specs.declared.entry.Entry as entries;
 ghost use Rattle.model_router.specs.Wanted as model;
 ghost use Rattle.flag_sync.specs.Heard.{answer_of, heard_of};
 ghost use Rattle.flag_sync.specs.declared.heard.LspAnswer.TheVariants as answer;
@@ -16,13 +18,15 @@ ghost use Rattle.router_routes.specs.Outlooks.{outlook_of};
 ghost use Rattle.router_core.specs.Events.{IsThere};
 ghost use Rattle.router_core.specs.Givens.{given};
 ghost use Rattle.router_core.specs.Machines.{draft_at};
-ghost use Rattle.router_core.specs.Plans.{IsAbove, IsIssuedAt, IsPlan, lsp_event, row_met};
+ghost use Rattle.router_core.specs.Plans.{AreTold, IsAbove, IsIssuedAt, IsPlan, lsp_event, row_met};
+ghost use Rattle.router_core.specs.Puts.{IsWith};
 ghost use Rattle.router_core.specs.Reached.{IsReached};
 
 use crate::aside::no_entry;
-use crate::machine::Machine;
 use crate::marks::Marks;
+use crate::parts::Parts;
 use crate::plan::{Deed, Plan};
+use crate::told::Told;
 use flag_sync::{LspAnswer, LspHeard};
 use isis_base::{Level, LspId, OutOfMemory};
 use lsp_store::Entry;
@@ -31,7 +35,7 @@ use router_routes::Following;
 use router_sending::{Draft, Issued};
 use router_wanted::Wanted;
 
-impl Machine {
+impl Parts {
     /// The plan of an LSP that outbids one's own: it is issued anew above it at once, and purged at the last number.
     pub(crate) fn plan_outbid<'a>(
         &self,
@@ -39,29 +43,22 @@ impl Machine {
         from: (Level, Envelope),
         lsp: &LspHeard<'a>,
         above: u32,
-        following: &Following,
+        following: Option<&Following>,
     ) -> Result<Plan<'a>, OutOfMemory>
         requires there { IsThere self.now circuit }
         requires number { 0 < lsp.now.entry.number }
         requires octets { 27 ≤ length lsp.now.octets.now }
         requires reached { IsReached self.now }
-        requires following { IsFollowing (outlook_of self.now) following.now }
+        requires following { IfSome following (λ f. IsFollowing (outlook_of self.now) f.now) }
         requires kept { IfSome (nth self.now.circuits (circuit - 1)) (λ c.
             lsp_drop self.now (circuit - 1) c from.0 (envelope_of from.1) (heard_of lsp.now) ≡ None) }
         requires row { answer.Outbid above ≡ answer_of (row_met self.now from.0 lsp.now) lsp.now }
-        ensures { IfOk result (IsPlan self.now (lsp_event circuit from.0 from.1 lsp.now)) }
+        ensures { IfOk result (IsPlan (is_some following.entry) self.now (lsp_event circuit from.0 from.1 lsp.now)) }
     {
         let (level, _envelope) = from;
         let id = lsp.entry.id;
         let reply = self.acknowledged(circuit, level, lsp, LspAnswer::Outbid { above })?;
-        let (draft, entry) = self.answer_above(level, id, above, following)?;
-        let told = match self.told_with(level, id, entry) {
-            Ok(told) => told,
-            Err(error) => {
-                drop(draft);
-                return Err(error);
-            }
-        };
+        let (draft, told) = self.answer_above(level, id, above, following)?;
         let deed = Deed::Lsp {
             circuit,
             level,
@@ -76,27 +73,53 @@ impl Machine {
         })
     }
 
-    /// A draft of what is wanted of an own LSP ID, and the entry that tells what its LSP does once it is outbid at a number.
+    /// A draft of what is wanted of an own LSP ID, and what changes of what routes look at, where that is asked for, once its LSP
+    /// is outbid at a number.
     fn answer_above(
         &self,
         level: Level,
         id: LspId,
         above: u32,
-        following: &Following,
-    ) -> Result<(Draft, Entry), OutOfMemory>
-        requires { IsFollowing (outlook_of self.now) following.now }
+        following: Option<&Following>,
+    ) -> Result<(Draft, Told), OutOfMemory>
+        requires following { IfSome following (λ f. IsFollowing (outlook_of self.now) f.now) }
         ensures draft { IfOk result (λ both. both.0 ≡ draft_at self.now level id) }
-        ensures entry { IfOk result (λ both. IsAbove self.now level id above both.1) }
+        ensures told { IfOk result (λ both. is_some following.entry ≡ true → (t : Router)
+            → ((e : entries.Entry) → IsAbove self.now level id above e → IsWith self.now t level id e)
+            → AreTold (outlook_of self.now) (outlook_of t) both.1) }
     {
         let wanted = self.wanted(level, following)?;
-        let entry = self.entry_above(&wanted, level, id, above)?;
+        let told = self.told_above(&wanted, level, id, above, following.is_some())?;
         match self.draft_in(&wanted, level, id) {
-            Ok(draft) => Ok((draft, entry)),
+            Ok(draft) => Ok((draft, told)),
             Err(error) => {
-                drop(entry);
+                drop(told);
                 Err(error)
             }
         }
+    }
+
+    /// What changes of what routes look at, where that is asked for, once an own LSP is outbid at a number.
+    fn told_above(
+        &self,
+        wanted: &[Wanted],
+        level: Level,
+        id: LspId,
+        above: u32,
+        asked: bool,
+    ) -> Result<Told, OutOfMemory>
+        requires wanted { map wanted_of wanted.now ≡ model.wanted given self.now self.now level }
+        requires issuable { AllByRecursion
+            (λ w. IsIssuable (at self.now.config.keys level) (contents_of w)) wanted.now }
+        ensures { IfOk result (λ told. asked ≡ true → (t : Router)
+            → ((e : entries.Entry) → IsAbove self.now level id above e → IsWith self.now t level id e)
+            → AreTold (outlook_of self.now) (outlook_of t) told) }
+    {
+        if !asked {
+            return Ok(Told::Unasked);
+        }
+        let entry = self.entry_above(wanted, level, id, above)?;
+        self.told_with(level, id, entry)
     }
 
     /// The entry of an own LSP once it is outbid at a number; an empty one at the last, since what is kept then is purged.

@@ -1,5 +1,5 @@
 //! The plan of a second (own).
-ghost use Rattle.std.specs.Prelude.{◌≡◌, ◌≤◌, true, List, None, length, map, IfOk, IfSome};
+ghost use Rattle.std.specs.Prelude.{◌≡◌, ◌≤◌, true, false, List, None, is_some, length, map, IfOk, IfSome};
 ghost use Rattle.std.specs.List.{AllByRecursion};
 ghost use Rattle.model_router.specs.Both.{at};
 ghost use Rattle.model_router.specs.Events as model;
@@ -18,9 +18,9 @@ ghost use Rattle.router_core.specs.Reached.{IsReached};
 ghost use Rattle.router_core.specs.Settled.{AreTrue, IsSettledAt, faces};
 ghost use Rattle.router_core.specs.Shifts.{AreMovedOn};
 
-use crate::machine::Machine;
 use crate::marks::Marks;
 use crate::movers::Movers;
+use crate::parts::Parts;
 use crate::plan::{Deed, Plan};
 use crate::quiet::{is_quiet, is_settled};
 use crate::renewal::drafts_of;
@@ -36,27 +36,28 @@ use router_routes::Following;
 use router_wanted::Wanted;
 
 /// What a second makes of a level: it passes in place, and is then followed by drafts of what it `wants`, where there are some;
-/// these nodes tell other things then; and where it is `settled`, its own LSPs say what is then wanted.
+/// these nodes tell other things then, unless that wasn't asked; and where it is `settled`, its own LSPs say what is then wanted.
 #[derive(Drop)]
 struct LevelSecond {
     wants: Option<Wants>,
     movers: Option<Movers>,
+    unasked: bool,
     settled: bool,
 }
 
-impl Machine {
+impl Parts {
     /// The plan of a second. Circuits are copied only where an adjacency's time ends. What is wanted is made only for levels that
     /// aren't marked, and a level is followed only where one of its own LSPs is to be issued or purged, or a live entry's time
     /// ends (own).
     pub(crate) fn plan_second<'a>(
         &self,
-        following: &Following,
+        following: Option<&Following>,
         marks: Marks,
     ) -> Result<Plan<'a>, OutOfMemory>
         requires reached { IsReached self.now }
-        requires following { IsFollowing (outlook_of self.now) following.now }
+        requires following { IfSome following (λ f. IsFollowing (outlook_of self.now) f.now) }
         requires marks { AreTrue marks self.now }
-        ensures { IfOk result (IsPlan self.now model.Second) }
+        ensures { IfOk result (IsPlan (is_some following.entry) self.now model.Second) }
     {
         let copies = copies_then(self.alloc, &self.circuits)?;
         let circuits = seen_then(&copies, &self.circuits);
@@ -73,7 +74,8 @@ impl Machine {
             one: one.settled,
             two: two.settled,
         };
-        let (told, marks) = told_of(one.movers, two.movers, settled);
+        let unasked = one.unasked | two.unasked;
+        let (told, marks) = told_of(unasked, one.movers, two.movers, settled);
         Ok(Plan {
             deed: Deed::Second {
                 copies,
@@ -92,20 +94,21 @@ impl Machine {
         &self,
         circuits: &[Circuit],
         level: Level,
-        following: &Following,
+        following: Option<&Following>,
         marked: bool,
     ) -> Result<LevelSecond, OutOfMemory>
         requires few { length circuits.now ≤ 64 }
         requires fit { AllByRecursion IsFit circuits.now }
-        requires following { IsFollowing (outlook_of self.now) following.now }
+        requires following { IfSome following (λ f. IsFollowing (outlook_of self.now) f.now) }
         requires marked { marked ≡ true
             → IsSettledAt self.now level × (faces circuits.now ≡ faces self.now.circuits) }
-        ensures { IfOk result (IsLevelSecond self.now level circuits.now) }
+        ensures { IfOk result (IsLevelSecond (is_some following.entry) self.now level circuits.now) }
     {
         if marked && self.rests(level) {
             return Ok(LevelSecond {
                 wants: None,
                 movers: None,
+                unasked: false,
                 settled: true,
             });
         }
@@ -116,10 +119,11 @@ impl Machine {
                 Ok(LevelSecond {
                     wants: None,
                     movers: None,
+                    unasked: false,
                     settled,
                 })
             }
-            Ok(None) => self.level_renewed(level, wanted),
+            Ok(None) => self.level_renewed(level, wanted, following.is_some()),
             Err(error) => {
                 drop(wanted);
                 Err(error)
@@ -161,15 +165,20 @@ impl Machine {
     }
 
     /// What a second makes of a level that then wants these own LSPs, and is followed.
-    fn level_renewed(&self, level: Level, wanted: Vec<Wanted>) -> Result<LevelSecond, OutOfMemory>
+    fn level_renewed(
+        &self,
+        level: Level,
+        wanted: Vec<Wanted>,
+        asked: bool,
+    ) -> Result<LevelSecond, OutOfMemory>
         requires issuable { AllByRecursion
             (λ w. IsIssuable (at self.now.config.keys level) (contents_of w)) wanted.items }
         requires rises { RisesFrom 0 (map wanted_of wanted.items) }
         ensures { IfOk result (λ second. (circuits : List Circuit)
             → AreWantedWith self.now level circuits (map wanted_of wanted.items)
-            → IsLevelSecond self.now level circuits second) }
+            → IsLevelSecond asked self.now level circuits second) }
     {
-        let movers = match self.movers_by(level, &wanted) {
+        let movers = match self.movers_by(level, &wanted, asked) {
             Ok(movers) => movers,
             Err(error) => {
                 drop(wanted);
@@ -180,6 +189,7 @@ impl Machine {
             Ok(wants) => Ok(LevelSecond {
                 wants: Some(wants),
                 movers,
+                unasked: !asked,
                 settled: false,
             }),
             Err(error) => {
@@ -190,15 +200,18 @@ impl Machine {
     }
 }
 
-/// What is told once these nodes of both levels tell other things, and the marks as they will be: none where any does.
-fn told_of(one: Option<Movers>, two: Option<Movers>, marks: Marks) -> (Told, Marks)
-    ensures told { (old new : Outlook) → AreMovedOn old new one two → AreTold old new result.0 }
-    ensures marks { (r : Router) → (one ≡ None → two ≡ None → AreTrue marks r)
+/// What is told once these nodes of both levels tell other things, unless that wasn't asked, and the marks as they will be: none
+/// where any does, or that isn't known.
+fn told_of(unasked: bool, one: Option<Movers>, two: Option<Movers>, marks: Marks) -> (Told, Marks)
+    ensures told { (old new : Outlook) → unasked ≡ false → AreMovedOn old new one two
+        → AreTold old new result.0 }
+    ensures marks { (r : Router) → (unasked ≡ false → one ≡ None → two ≡ None → AreTrue marks r)
         → AreTrue result.1 r }
 {
-    match (one, two) {
-        (None, None) => (Told::Nothing, marks),
-        (one, two) => (Told::Levels { one, two }, Marks::none()),
+    match (unasked, one, two) {
+        (false, None, None) => (Told::Nothing, marks),
+        (false, one, two) => (Told::Levels { one, two }, Marks::none()),
+        (true, _, _) => (Told::Unasked, Marks::none()),
     }
 }
 

@@ -1,5 +1,5 @@
 //! The plan of a sequence number PDU: whether it is dropped, and else what its entries change of what nodes tell.
-ghost use Rattle.std.specs.Prelude.{◌≡◌, ◌-◌, true, None, is_none, IfOk, IfSome};
+ghost use Rattle.std.specs.Prelude.{◌≡◌, ◌-◌, true, None, is_none, is_some, IfOk, IfSome};
 ghost use Rattle.isis_base.specs.Identifiers.{lsp_number};
 ghost use Rattle.model_router.specs.declared.whose.Whose.{Whose};
 ghost use Rattle.model_router.specs.Books.{cell_at};
@@ -23,8 +23,8 @@ ghost use Rattle.router_core.specs.Plans.{AreTold, IsPlan};
 ghost use Rattle.router_core.specs.Reached.{IsReached};
 ghost use Rattle.router_core.specs.Settled.{AreTrue};
 
-use crate::machine::Machine;
 use crate::marks::Marks;
+use crate::parts::Parts;
 use crate::plan::{Deed, Plan};
 use crate::reached::outlook_laws;
 use crate::reply::Reply;
@@ -34,7 +34,7 @@ use isis_base::{Level, LspEntry, LspId, Order3, OutOfMemory, SystemId, newer};
 use router_desk::Envelope;
 use router_routes::Following;
 
-impl Machine {
+impl Parts {
     /// The plan of a sequence number PDU that came (ISO 10589 7.3.15.2).
     pub(crate) fn plan_snp<'a>(
         &self,
@@ -43,14 +43,14 @@ impl Machine {
         from: (Envelope, SystemId),
         range: Option<(LspId, LspId)>,
         entries: &'a [LspEntry],
-        following: &Following,
+        following: Option<&Following>,
         marks: Marks,
     ) -> Result<Plan<'a>, OutOfMemory>
         requires there { IsThere self.now circuit }
         requires reached { IsReached self.now }
-        requires following { IsFollowing (outlook_of self.now) following.now }
+        requires following { IfSome following (λ f. IsFollowing (outlook_of self.now) f.now) }
         requires marks { AreTrue marks self.now }
-        ensures { IfOk result (IsPlan self.now (model.Take (circuit - 1)
+        ensures { IfOk result (IsPlan (is_some following.entry) self.now (model.Take (circuit - 1)
             (model.SnpHeard level (envelope_of from.0) (system_number from.1) (range_of range)
             (entries_of entries.now)))) }
     {
@@ -83,7 +83,8 @@ impl Machine {
         })
     }
 
-    /// What changes of what routes look at once a sequence number PDU is taken, and the marks as they will be.
+    /// What changes of what routes look at, where that is asked for, once a sequence number PDU is taken; and the marks as they
+    /// will be.
     fn told_by_snp(
         &self,
         circuit: u8,
@@ -91,17 +92,17 @@ impl Machine {
         from: (Envelope, SystemId),
         range: Option<(LspId, LspId)>,
         entries: &[LspEntry],
-        following: &Following,
+        following: Option<&Following>,
         marks: Marks,
     ) -> Result<(Told, Marks), OutOfMemory>
         requires there { IsThere self.now circuit }
         requires reached { IsReached self.now }
-        requires following { IsFollowing (outlook_of self.now) following.now }
+        requires following { IfSome following (λ f. IsFollowing (outlook_of self.now) f.now) }
         requires kept { IfSome (nth self.now.circuits (circuit - 1)) (λ c. None
             ≡ snp_drop self.now (circuit - 1) c level (envelope_of from.0) (system_number from.1)
             (is_none (range_of range))) }
         requires marks { AreTrue marks self.now }
-        ensures told { IfOk result (λ both. AreTold (outlook_of self.now)
+        ensures told { IfOk result (λ both. is_some following.entry ≡ true → AreTold (outlook_of self.now)
             (outlook_of (step given self.now (model.Take (circuit - 1)
             (model.SnpHeard level (envelope_of from.0) (system_number from.1) (range_of range)
             (entries_of entries.now)))).router) both.0) }
@@ -113,6 +114,9 @@ impl Machine {
         outlook_laws();
         if self.are_clear(level, entries) {
             return Ok((Told::Nothing, marks.after()));
+        }
+        if following.is_none() {
+            return Ok((Told::Unasked, Marks::none()));
         }
         match self.told_by_entries(level, entries, following) {
             Ok(told) => Ok((told, Marks::none())),

@@ -1,5 +1,5 @@
 //! What is due on a circuit is sent.
-ghost use Rattle.std.specs.Prelude.{◌≡◌, ◌≤◌, ◌<◌, ◌-◌, ◌^◌, ◌++◌, ◌==◌, ◌&&◌, ℕ, length, map, nat_lt, OnOk, IfOk, IfSome};
+ghost use Rattle.std.specs.Prelude.{◌≡◌, ◌≤◌, ◌<◌, ◌-◌, ◌^◌, ◌++◌, ◌==◌, ◌&&◌, ℕ, Bool, length, map, nat_lt, OnOk, IfOk, IfSome};
 ghost use Rattle.model_router.specs.Both.{at};
 ghost use Rattle.model_router.specs.Configs.{Config};
 ghost use Rattle.model_router.specs.Events as event;
@@ -24,8 +24,8 @@ ghost use Rattle.router_core.specs.Settled.{AreTrue};
 use crate::datagrams::Datagrams;
 use crate::due::{Due, LevelDue};
 use crate::hello_sending::put_hellos;
-use crate::machine::Machine;
 use crate::marks::Marks;
+use crate::parts::Parts;
 use crate::plan::{Deed, Plan};
 use crate::reached::outlook_laws;
 use crate::reply::Reply;
@@ -38,14 +38,14 @@ use router_sending::Sender;
 use router_sending::laws::sendable_law;
 use std::alloc::Global;
 
-impl Machine {
+impl Parts {
     /// The plan of a pull: what is due on the circuit is sent (ISO 10589 7.3.15.3 to 7.3.15.5, 7.3.17, 8.2.3, 8.4.1): the
     /// hello, and for each level that is open there the CSNP set, LSPs and PSNPs.
     pub(crate) fn plan_pull<'a>(&self, circuit: u8, marks: Marks) -> Result<Plan<'a>, OutOfMemory>
         requires there { IsThere self.now circuit }
         requires reached { IsReached self.now }
         requires marks { AreTrue marks self.now }
-        ensures { IfOk result (IsPlan self.now (event.Pull (circuit - 1))) }
+        ensures { (asked : Bool) → IfOk result (IsPlan asked self.now (event.Pull (circuit - 1))) }
     {
         outlook_laws();
         let due = self.due(circuit);

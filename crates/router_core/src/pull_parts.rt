@@ -12,11 +12,11 @@ ghost use Rattle.router_core.specs.Pulled as pulled;
 
 use crate::at::{answer_sent_at, csnp_sent_at, hello_sent_at};
 use crate::due::LevelDue;
-use crate::machine::Machine;
+use crate::parts::Parts;
 use flag_sync::Book;
 use isis_base::Level;
 
-impl Machine {
+impl Parts {
     /// What is held of a level with its flags.
     pub(crate) fn book(&self, level: Level) -> &Book
         ensures book { books.book_of result.now ≡ book_of self.now level }

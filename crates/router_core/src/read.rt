@@ -9,7 +9,7 @@ ghost use Rattle.router_core.specs.Machines.{FitsKind};
 ghost use Rattle.router_core.specs.Reads.{event_in, FitsRead};
 
 use crate::event::NodeEvent;
-use crate::machine::Machine;
+use crate::parts::Parts;
 use isis_base::OutOfMemory;
 use isis_base::laws::octets_law;
 use model_datagram::laws::good_law;
@@ -28,7 +28,7 @@ pub(crate) enum Read<'a> {
     Heard { circuit: u8, heard: Heard<'a> },
 }
 
-impl Machine {
+impl Parts {
     /// What an event says.
     pub(crate) fn read<'a>(&self, event: &'a NodeEvent) -> Result<Read<'a>, OutOfMemory>
         requires { Fits self.now event.now }

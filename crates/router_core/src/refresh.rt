@@ -14,8 +14,7 @@ ghost use Rattle.router_core.specs.Givens.{given};
 ghost use Rattle.router_core.specs.Plans.{lsp_event, row_met};
 ghost use Rattle.router_core.specs.Refreshes.{IsRefresh, TellsAgain};
 
-use crate::machine::Machine;
-use crate::routes::has_rows;
+use crate::parts::Parts;
 use flag_sync::{LspAnswer, LspHeard};
 use isis_base::Level;
 use isis_base::fields::behind_header;
@@ -23,7 +22,7 @@ use isis_base::laws::lsp_id_law;
 use lsp_store::{Entry, Store, is_live};
 use router_desk::Envelope;
 
-impl Machine {
+impl Parts {
     /// Whether an LSP that met a row is stored, and tells routes what was held of its LSP ID.
     pub(crate) fn is_refresh(
         &self,
@@ -44,9 +43,7 @@ impl Machine {
         if !is_stored(row) {
             return false;
         }
-        if !has_rows(book) {
-            return false;
-        }
+        let _rows = book.flag_pages();
         let store = book.store();
         let _entries = store.len();
         lsp_id_law(lsp.entry.id);

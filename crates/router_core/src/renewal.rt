@@ -1,5 +1,5 @@
 //! The own LSPs that a level wants, and drafts of them.
-ghost use Rattle.std.specs.Prelude.{◌≡◌, ◌≤◌, length, map, is_some, option_copied, IfOk};
+ghost use Rattle.std.specs.Prelude.{◌≡◌, ◌≤◌, true, length, map, is_some, option_copied, IfOk, IfSome};
 ghost use Rattle.std.specs.List.{AllByRecursion};
 ghost use Rattle.model_router.specs.Both.{at};
 ghost use Rattle.model_router.specs.Good.{IsIssuable};
@@ -9,40 +9,44 @@ ghost use Rattle.model_router.specs.Wanted as model;
 ghost use Rattle.router_wanted.specs.Views.{contents_of, wanted_of};
 ghost use Rattle.router_levels.specs.Drafts.{wants_of};
 ghost use Rattle.router_routes.specs.Outlooks.{outlook_of};
+ghost use Rattle.router_routes.specs.Candidates.{attached_of};
 ghost use Rattle.router_routes.specs.Following.{IsFollowing};
+ghost use Rattle.router_routes.specs.Leaks.{leaks_of, pair_of};
 ghost use Rattle.router_core.specs.Givens.{given};
 ghost use Rattle.router_core.specs.Machines.{IsFit};
 ghost use Rattle.router_core.specs.Settled.{faces};
 ghost use Rattle.router_core.specs.Seconds.{IsMade};
 
-use crate::machine::Machine;
+use crate::parts::Parts;
 use isis_base::{Level, OutOfMemory};
 use router_circuits::Circuit;
 use router_levels::Wants;
-use router_routes::Following;
+use router_routes::{Following, Leaked};
 use router_sending::Draft;
 use router_wanted::{Wanted, wanted_lsps};
 use std::alloc::Global;
 
-impl Machine {
+impl Parts {
     /// The own LSPs that a level wants where the circuits are these, by LSP ID (ISO 10589 7.3.6), by
-    /// what the routes leak and whether the router is attached.
+    /// what the routes leak and whether the router is attached. None in a level that isn't run.
     pub(crate) fn wanted_with(
         &self,
         circuits: &[Circuit],
         level: Level,
-        following: &Following,
+        following: Option<&Following>,
     ) -> Result<Vec<Wanted>, OutOfMemory>
         requires few { length circuits.now ≤ 64 }
         requires fit { AllByRecursion IsFit circuits.now }
-        ensures wanted { (before r : Router) → IsFollowing (outlook_of before) following.now
-            → r.config ≡ self.now.config → faces r.circuits ≡ faces circuits.now
-            → IfOk result (λ list. map wanted_of list.items
-            ≡ model.wanted given before r level) }
+        requires following { IfSome following (λ f. IsFollowing (outlook_of self.now) f.now) }
+        ensures wanted { (r : Router) → r.config ≡ self.now.config → faces r.circuits ≡ faces circuits.now
+            → IfOk result (λ list. map wanted_of list.items ≡ model.wanted given self.now r level) }
         ensures issuable { IfOk result (λ list. AllByRecursion
             (λ w. IsIssuable (at self.now.config.keys level) (contents_of w)) list.items) }
         ensures rises { IfOk result (λ list. RisesFrom 0 (map wanted_of list.items)) }
     {
+        if !self.runs(level) {
+            return Ok(Vec::new(self.alloc));
+        }
         let base = router_wanted::Wants {
             system: self.desk.system(),
             areas: self.areas.as_slice(),
@@ -52,16 +56,32 @@ impl Machine {
             prefixes: self.prefixes.as_slice(),
             signed: self.desk.key(level).is_some(),
         };
-        let leaks = following.leaks(level)?;
-        let attached = following.attached();
+        let leaked = self.leaked(level, following)?;
         wanted_lsps(
             self.alloc,
             &base,
             circuits,
             level,
-            leaks.as_slice(),
-            attached,
+            leaked.prefixes.as_slice(),
+            leaked.attached,
         )
+    }
+
+    /// What is leaked into a level that is run, and whether the router is attached: by what follows it, or else computed.
+    fn leaked(&self, level: Level, following: Option<&Following>) -> Result<Leaked, OutOfMemory>
+        requires runs { at self.now.config.runs level ≡ true }
+        requires following { IfSome following (λ f. IsFollowing (outlook_of self.now) f.now) }
+        ensures prefixes { IfOk result
+            (λ leaked. map pair_of leaked.prefixes.items ≡ leaks_of (outlook_of self.now) level) }
+        ensures attached { IfOk result (λ leaked. leaked.attached ≡ attached_of (outlook_of self.now)) }
+    {
+        match following {
+            Some(following) => Ok(Leaked {
+                prefixes: following.leaks(level)?,
+                attached: following.attached(),
+            }),
+            None => self.lent().leaked(self.alloc, level),
+        }
     }
 }
 

@@ -32,11 +32,10 @@ ghost use Rattle.router_core.specs.Seconds.{level_later};
 ghost use Rattle.router_core.specs.Shifts.{IsShifted};
 
 use crate::aside::{no_entry, put_in, put_part};
-use crate::machine::Machine;
 use crate::movers::Movers;
+use crate::parts::Parts;
 use crate::plan_second::is_ending;
 use crate::quiet::says_same;
-use crate::routes::has_rows;
 use crate::snp_told::with_node;
 use crate::wanted::said_of;
 use isis_base::laws::lsp_id_law;
@@ -49,30 +48,32 @@ use router_wanted::Wanted;
 use spf_tree::parts::number;
 use std::alloc::Global;
 
-impl Machine {
-    /// The nodes of a level that tell other things once its second passed and these own LSPs are followed; none in a level that
-    /// isn't run, and `None` where the same is told. That each entry of a database has its row of flags is looked at as by
-    /// `told_with`.
+impl Parts {
+    /// The nodes of a level that tell other things once its second passed and these own LSPs are followed, where that is asked for;
+    /// none in a level that isn't run, and `None` where the same is told.
     pub(crate) fn movers_by(
         &self,
         level: Level,
         wanted: &[Wanted],
+        asked: bool,
     ) -> Result<Option<Movers>, OutOfMemory>
         requires issuable { AllByRecursion
             (λ w. IsIssuable (at self.now.config.keys level) (contents_of w)) wanted.now }
         requires rises { RisesFrom 0 (map wanted_of wanted.now) }
-        ensures { IfOk result (λ movers. (circuits : List Circuit) → IsShiftedTo movers self.now level
+        ensures { asked ≡ true → IfOk result (λ movers. (circuits : List Circuit)
+            → IsShiftedTo movers self.now level
             (own.renew given self.now level (level_later (level_of self.now level) level circuits)
             (map wanted_of wanted.now)).book) }
     {
+        if !asked {
+            return Ok(None);
+        }
         if !self.runs(level) {
             return Ok(None);
         }
         let on = self.level(level);
         let book = on.book();
-        if !has_rows(book) {
-            return Err(OutOfMemory);
-        }
+        let _rows = book.flag_pages();
         let store = book.store();
         let _entries = store.len();
         let mut later = on.own().copy()?;

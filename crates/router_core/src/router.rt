@@ -18,21 +18,21 @@ ghost use Rattle.isis_base.specs.Prefixes.{prefix_number};
 ghost use Rattle.router_desk.specs.Configs.{config_of, circuits_of};
 ghost use Rattle.router_desk.specs.Desks.{desk_of};
 ghost use Rattle.router_desk.specs.Limits.{IsValid};
-ghost use Rattle.router_routes.specs.Outlooks.{outlook_of};
+ghost use Rattle.router_routes.specs.Outlooks.{Outlook, outlook_of};
 ghost use Rattle.router_routes.specs.Candidates.{attached_of, AreRoutesOf};
 ghost use Rattle.router_routes.specs.Following.{IsFollowing, IsLevel};
-ghost use Rattle.router_routes.specs.Coming.{FitsIn, IsPut};
-ghost use Rattle.router_routes.specs.Counts.{Counts};
+ghost use Rattle.router_routes.specs.Coming.{FitsIn, IsComing};
 ghost use Rattle.router_core.specs.Givens.{given};
 ghost use Rattle.router_core.specs.Events.{event_of, Fits, IsThere};
-ghost use Rattle.router_core.specs.Plans.{AreTold, committed, IsReady, IsSound};
-ghost use Rattle.router_core.specs.Settled.{AreTrue};
+ghost use Rattle.router_core.specs.Plans.{AreInOrder, AreTold, committed, IsReady, IsSound};
+ghost use Rattle.router_core.specs.Keeping.{AreCounted, IsPutIn};
 ghost use Rattle.router_core.specs.Replies.{Answers};
-ghost use Rattle.router_core.specs.Reached.{IsReached};
+ghost use Rattle.router_core.specs.Reached.{IsReached, IsWhole};
 
 use crate::event::NodeEvent;
-use crate::machine::Machine;
+use crate::keeping::{Asked, Keeping, Kept};
 use crate::marks::Marks;
+use crate::parts::Parts;
 use crate::plan::{Deed, Plan};
 use crate::reached::{event_octets, reached_laws, start_reached};
 use crate::reply::Reply;
@@ -42,36 +42,39 @@ use isis_base::{Level, OutOfMemory, Prefix, SystemId};
 use purge_ageing::LetGo;
 use route_table::Routes;
 use router_desk::{Config, Desk, DropName};
-use router_routes::{Coming, Following};
+use router_routes::Coming;
 use spf_repair::Repaired;
 use std::alloc::Global;
 use std::marker::Model;
 
 /// One router. Contracts see it as the machine of model_router, in a state that is reached: what always
-/// holds of such states, `facts` tells. Its routes follow its databases, and levels are marked whose own
-/// LSPs say what is wanted.
+/// holds of such states, `facts` tells. Levels are marked whose own LSPs say what is wanted. Its routes follow its databases at
+/// each event; those of a `Machine` are computed when asked for.
 #[derive(Drop)]
-pub struct Router {
-    machine: Machine,
-    following: Following,
+pub struct Router<K: Keeping = Kept> {
+    parts: Parts,
+    kept: K,
     marks: Marks,
 }
 
-impl Model for Router {
+/// A router that keeps no routes.
+pub type Machine = Router<Asked>;
+
+impl<K: Keeping> Model for Router<K> {
     ghost use Rattle.model_router.specs.Routers as model;
     ghost use Rattle.router_core.specs.Reached.{IsWhole};
 
     ghost Value = { model.Router };
 
-    ghost view = { λ r. r.machine };
+    ghost view = { λ r. r.parts };
 
-    ghost invariant = { λ r. IsWhole r.machine r.following r.marks };
+    ghost invariant = { λ r. IsWhole r.parts (K.kept r.kept) r.marks };
 }
 
-impl Router {
+impl<K: Keeping> Router<K> {
     /// The router of a configuration at its start, in a boot of three octets that isn't 0. At
     /// `OutOfMemory` the configuration comes back.
-    pub fn new(alloc: Global, config: Config, boot: u32) -> Result<Router, (Config, OutOfMemory)>
+    pub fn new(alloc: Global, config: Config, boot: u32) -> Result<Router<K>, (Config, OutOfMemory)>
         requires valid { IsValid config }
         requires boot { (1 ≤ boot) × (boot ≤ 16777215) }
         ensures start { IfOk result (λ router. router
@@ -80,11 +83,11 @@ impl Router {
         ensures back { IfErr result (λ back. back.0 ≡ config) }
     {
         start_reached(&config, boot);
-        let machine = match Machine::new(alloc, &config, boot) {
-            Ok(machine) => machine,
+        let parts = match Parts::new(alloc, &config, boot) {
+            Ok(parts) => parts,
             Err(error) => return Err((config, error)),
         };
-        match begun(machine) {
+        match begun(parts) {
             Ok(router) => {
                 drop(config);
                 Ok(router)
@@ -97,26 +100,19 @@ impl Router {
     pub fn facts(&self)
         ensures { IsReached self.now }
     {
-        let _ = &self.machine;
+        let _ = &self.parts;
     }
 
     /// The opening state of another boot, which isn't 0, of the configuration as changed so far.
-    pub fn restarted(&self, boot: u32) -> Result<Router, OutOfMemory>
+    pub fn restarted(&self, boot: u32) -> Result<Router<K>, OutOfMemory>
         requires boot { (1 ≤ boot) × (boot ≤ 16777215) }
         ensures start { IfOk result (λ router. router
             ≡ start self.now.config boot self.now.circuits) }
         ensures reached { IfOk result (λ router. IsReached router) }
     {
         reached_laws();
-        let machine = self.machine.restarted(boot)?;
-        begun(machine)
-    }
-
-    /// What never changes of its configuration.
-    pub fn desk(&self) -> &Desk
-        ensures { result.now ≡ desk_of self.now.config self.now.circuits }
-    {
-        self.machine.desk()
+        let parts = self.parts.restarted(boot)?;
+        begun(parts)
     }
 
     /// An event: the state and the answer are the machine's. At `OutOfMemory` the router is as it
@@ -133,77 +129,31 @@ impl Router {
     {
         reached_laws();
         event_octets(&event);
-        let read = self.machine.read(&event)?;
-        let plan = self.machine.plan(&read, &self.following, self.marks)?;
-        self.step_planned(plan)
+        let read = self.parts.read(&event)?;
+        let plan = self.parts.plan(&read, self.kept.following(), self.marks)?;
+        done(&mut self.parts, &mut self.kept, &mut self.marks, plan)
     }
 
-    /// What was planned is done, and the answer is the plan's. At `OutOfMemory` the router is as it was.
-    fn step_planned(&mut self, plan: Plan<'_>) -> Result<Reply, OutOfMemory>
-        requires { IsSound self.old plan }
-        ensures state { OnOk result (self.new ≡ committed self.old plan.entry.deed) }
-        ensures reply { IfOk result (λ reply. reply ≡ plan.entry.reply) }
-        ensures err { OnErr result (self.new ≡ self.old) }
+    /// The routes of the router as it is, computed now: for each prefix the best way over the live LSPs of its databases (RFC
+    /// 5302 3.2).
+    pub fn best_routes(&self) -> Result<Routes, OutOfMemory>
+        ensures { IfOk result (AreRoutesOf (outlook_of self.now)) }
     {
-        let Plan {
-            deed,
-            reply,
-            told,
-            marks,
-        } = plan;
-        match self.follow(deed, told, marks) {
-            Ok(()) => Ok(reply),
-            Err(error) => {
-                drop(reply);
-                Err(error)
-            }
-        }
+        self.parts.lent().routes(self.parts.alloc)
     }
 
-    /// A deed is done that tells routes this; then these marks hold.
-    fn follow(&mut self, deed: Deed<'_>, told: Told, marks: Marks) -> Result<(), OutOfMemory>
-        requires ready { IsReady self.old deed }
-        requires told { AreTold (outlook_of self.old) (outlook_of (committed self.old deed)) told }
-        requires marks { AreTrue marks (committed self.old deed) }
-        requires reached { IsReached (committed self.old deed) }
-        ensures state { OnOk result (self.new ≡ committed self.old deed.entry) }
-        ensures err { OnErr result (self.new ≡ self.old) }
+    /// All of it but its routes.
+    pub fn parts(&self) -> &Parts
+        ensures { result.now ≡ self.now }
     {
-        match advance(&mut self.machine, &mut self.following, deed, told) {
-            Ok(()) => {
-                self.marks = marks;
-                Ok(())
-            }
-            Err(error) => Err(error),
-        }
+        &self.parts
     }
 
-    /// The routes of the router as it is: for each prefix the best way over the live LSPs of its
-    /// databases (RFC 5302 3.2).
-    pub fn routes(&self) -> &Routes
-        ensures { AreRoutesOf (outlook_of self.now) result.now }
+    /// What never changes of its configuration.
+    pub fn desk(&self) -> &Desk
+        ensures { result.now ≡ desk_of self.now.config self.now.circuits }
     {
-        self.following.routes()
-    }
-
-    /// A level's least costs from the router's own node, over the rows of live LSPs that may be walked
-    /// (ISO 10589 7.2.8, C.2); `None` exactly where the level isn't run.
-    pub fn repaired(&self, level: Level) -> Option<&Repaired>
-        ensures { MatchOption result (at self.now.config.runs level ≡ false)
-            (λ repaired. (at self.now.config.runs level ≡ true)
-            × IsLevel (outlook_of self.now) level repaired.now) }
-    {
-        if !self.machine.runs(level) {
-            return None;
-        }
-        Some(self.following.repaired(level))
-    }
-
-    /// Whether the router is attached to another area (ISO 10589 7.2.9.2).
-    pub fn attached(&self) -> bool
-        ensures { result ≡ attached_of (outlook_of self.now) }
-    {
-        self.following.attached()
+        self.parts.desk()
     }
 
     /// A level's database; `None` exactly where the level isn't run.
@@ -212,8 +162,8 @@ impl Router {
             (λ book. (at self.now.config.runs level ≡ true)
             × (book_in book.now ≡ (level_of self.now level).book)) }
     {
-        if self.machine.runs(level) {
-            return Some(self.machine.book(level));
+        if self.parts.runs(level) {
+            return Some(self.parts.book(level));
         }
         None
     }
@@ -222,14 +172,14 @@ impl Router {
     pub fn database(&self, level: Level) -> &Book
         ensures { book_in result.now ≡ book_of self.now level }
     {
-        self.machine.book(level)
+        self.parts.book(level)
     }
 
     /// The LSP IDs of a level that were let go since the start.
     pub fn let_go(&self, level: Level) -> &LetGo
         ensures { result.now ≡ (level_of self.now level).gone }
     {
-        self.machine.level(level).gone()
+        self.parts.level(level).gone()
     }
 
     /// Whether a circuit, counted from 1, has an up adjacency of a level.
@@ -237,7 +187,7 @@ impl Router {
         requires { IsThere self.now circuit }
         ensures { result ≡ opens (nth self.now.circuits (circuit - 1)) level }
     {
-        self.machine.up(circuit, level)
+        self.parts.up(circuit, level)
     }
 
     /// The boot number that the neighbour of a point-to-point circuit, counted from 1, tells: its extended circuit ID
@@ -246,7 +196,7 @@ impl Router {
         requires { IsThere self.now circuit }
         ensures { IfSome (nth self.now.circuits (circuit - 1)) (λ c. result ≡ named_boot c) }
     {
-        self.machine.names_boot(circuit)
+        self.parts.names_boot(circuit)
     }
 
     /// The designated system of a LAN and level (ISO 10589 8.4.5), of the circuit counted from 1;
@@ -256,7 +206,7 @@ impl Router {
         ensures { IfSome (nth self.now.circuits (circuit - 1)) (λ c. option_map system_number result
             ≡ designated_system self.now.config (circuit - 1) c level) }
     {
-        self.machine.designated(circuit, level)
+        self.parts.designated(circuit, level)
     }
 
     /// How many changes of keys a level's database has had since the start: entries that came and went, and other keys; the
@@ -264,57 +214,137 @@ impl Router {
     pub fn changes(&self, level: Level) -> u64
         ensures { result ≡ (book_of self.now level).changes }
     {
-        self.machine.changes(level)
+        self.parts.changes(level)
     }
 
     /// How often a cause of a drop was met.
     pub fn drops(&self, cause: DropName) -> u64
         ensures { result ≡ drops_of self.now.drops cause }
     {
-        self.machine.drops(cause)
+        self.parts.drops(cause)
     }
 
     /// The boot.
     pub fn boot(&self) -> u32
         ensures { result ≡ self.now.boot }
     {
-        self.machine.boot()
+        self.parts.boot()
     }
 
     /// Whether a prefix is one of its own.
     pub fn has_prefix(&self, prefix: Prefix) -> bool
         ensures { result ≡ is_some (find self.now.config.prefixes (prefix_number prefix)) }
     {
-        self.machine.has_prefix(prefix)
+        self.parts.has_prefix(prefix)
     }
 
     /// The number of its own prefixes.
     pub fn prefix_count(&self) -> usize
         ensures { result ≡ length self.now.config.prefixes }
     {
-        self.machine.prefix_count()
+        self.parts.prefix_count()
     }
 }
 
-/// A deed is done that tells routes this, and what follows the router then stands in its place. A level's count of repairs rises
-/// by one exactly where some row that may be walked is there another number of times than before.
-fn advance(
-    machine: &mut Machine,
-    following: &mut Following,
+impl Router {
+    /// The routes of the router as it is: for each prefix the best way over the live LSPs of its
+    /// databases (RFC 5302 3.2).
+    pub fn routes(&self) -> &Routes
+        ensures { AreRoutesOf (outlook_of self.now) result.now }
+    {
+        self.kept.following.routes()
+    }
+
+    /// A level's least costs from the router's own node, over the rows of live LSPs that may be walked
+    /// (ISO 10589 7.2.8, C.2); `None` exactly where the level isn't run.
+    pub fn repaired(&self, level: Level) -> Option<&Repaired>
+        ensures { MatchOption result (at self.now.config.runs level ≡ false)
+            (λ repaired. (at self.now.config.runs level ≡ true)
+            × IsLevel (outlook_of self.now) level repaired.now) }
+    {
+        if !self.parts.runs(level) {
+            return None;
+        }
+        Some(self.kept.following.repaired(level))
+    }
+
+    /// Whether the router is attached to another area (ISO 10589 7.2.9.2).
+    pub fn attached(&self) -> bool
+        ensures { result ≡ attached_of (outlook_of self.now) }
+    {
+        self.kept.following.attached()
+    }
+}
+
+impl Router<Asked> {
+    /// The same router, which keeps its routes from now on.
+    pub fn with_routes(self) -> Result<Router, OutOfMemory>
+        ensures { IfOk result (λ router. router ≡ self) }
+    {
+        let Router { parts, kept, marks } = self;
+        drop(kept);
+        match followed(&parts) {
+            Ok(kept) => Ok(Router { parts, kept, marks }),
+            Err(error) => {
+                drop(parts);
+                Err(error)
+            }
+        }
+    }
+}
+
+/// What was planned is done, and the answer is the plan's. At `OutOfMemory` the router is as it was. A level's count of repairs
+/// rises by one exactly where some row that may be walked is there another number of times than before.
+fn done<K: Keeping>(
+    parts: &mut Parts,
+    kept: &mut K,
+    marks: &mut Marks,
+    plan: Plan<'_>,
+) -> Result<Reply, OutOfMemory>
+    requires sound { IsSound (is_some (K.kept kept.old)) parts.old plan }
+    requires whole { IsWhole parts.old (K.kept kept.old) marks.old }
+    ensures state { OnOk result (parts.new ≡ committed parts.old plan.entry.deed) }
+    ensures reply { IfOk result (λ reply. reply ≡ plan.entry.reply) }
+    ensures whole { IsWhole parts.new (K.kept kept.new) marks.new }
+    ensures counted { OnOk result (AreCounted (K.kept kept.old) (K.kept kept.new)) }
+    ensures err { OnErr result (parts.new ≡ parts.old) }
+{
+    let Plan {
+        deed,
+        reply,
+        told,
+        marks: after,
+    } = plan;
+    match advance(parts, kept, deed, told) {
+        Ok(()) => {
+            *marks = after;
+            Ok(reply)
+        }
+        Err(error) => {
+            drop(reply);
+            Err(error)
+        }
+    }
+}
+
+/// A deed is done that tells routes this, and what then follows the router, where anything does, stands in its place.
+fn advance<K: Keeping>(
+    parts: &mut Parts,
+    kept: &mut K,
     deed: Deed<'_>,
     told: Told,
 ) -> Result<(), OutOfMemory>
-    requires ready { IsReady machine.old deed }
-    requires told { AreTold (outlook_of machine.old) (outlook_of (committed machine.old deed)) told }
-    requires follows { IsFollowing (outlook_of machine.old) following.old }
-    ensures state { OnOk result (machine.new ≡ committed machine.old deed.entry) }
-    ensures follows { OnOk result (IsFollowing (outlook_of machine.new) following.new) }
-    ensures counted { OnOk result ((level : level.Level)
-        → Counts (at following.old.levels level) (at following.new.levels level)) }
-    ensures err { OnErr result (machine.new ≡ machine.old) }
-    ensures kept { OnErr result (following.new ≡ following.old) }
+    requires ready { IsReady parts.old deed }
+    requires told { is_some (K.kept kept.old) ≡ true
+        → AreTold (outlook_of parts.old) (outlook_of (committed parts.old deed)) told }
+    requires follows { IfSome (K.kept kept.old) (IsFollowing (outlook_of parts.old)) }
+    ensures state { OnOk result (parts.new ≡ committed parts.old deed.entry) }
+    ensures follows { OnOk result (IfSome (K.kept kept.new) (IsFollowing (outlook_of parts.new))) }
+    ensures counted { OnOk result (AreCounted (K.kept kept.old) (K.kept kept.new)) }
+    ensures err { OnErr result (parts.new ≡ parts.old) }
+    ensures kept { OnErr result (K.kept kept.new ≡ K.kept kept.old) }
 {
-    let next = match machine.following_told(following, &told) {
+    let next = match next_told(parts, kept, &told) {
         Ok(next) => next,
         Err(error) => {
             drop(told);
@@ -323,52 +353,68 @@ fn advance(
         }
     };
     drop(told);
-    match machine.commit(deed) {
+    match parts.commit(deed) {
         Ok(()) => {}
         Err(error) => {
             drop(next);
             return Err(error);
         }
     }
-    put_next(following, next);
+    put_next(kept, next);
     Ok(())
 }
 
+/// What follows the router once it tells this, where anything does; `None` where that is what follows it now.
+fn next_told<K: Keeping>(
+    parts: &Parts,
+    kept: &K,
+    told: &Told,
+) -> Result<Option<Coming>, OutOfMemory>
+    requires follows { IfSome (K.kept kept.now) (IsFollowing (outlook_of parts.now)) }
+    requires order { is_some (K.kept kept.now) ≡ true → AreInOrder told.now }
+    ensures { IfOk result (λ next. (new : Outlook)
+        → (is_some (K.kept kept.now) ≡ true → AreTold (outlook_of parts.now) new told.now)
+        → IfSome (K.kept kept.now) (λ f. MatchOption next (IsFollowing new f) (λ c. IsComing new f c))) }
+{
+    match kept.following() {
+        Some(following) => parts.following_told(following, told),
+        None => Ok(None),
+    }
+}
+
 /// What comes stands in the place of what follows the router, where anything comes.
-fn put_next(following: &mut Following, next: Option<Coming>)
-    requires { IfSome next (λ c. FitsIn following.old.routes c.routes) }
-    ensures { MatchOption next (following.new ≡ following.old)
-        (λ c. IsPut following.old c following.new) }
+fn put_next<K: Keeping>(kept: &mut K, next: Option<Coming>)
+    requires { IfSome next (λ c. IfSome (K.kept kept.old) (λ f. FitsIn f.routes c.routes)) }
+    ensures { MatchOption next (K.kept kept.new ≡ K.kept kept.old)
+        (λ c. IsPutIn (K.kept kept.old) c (K.kept kept.new)) }
 {
     match next {
-        Some(next) => following.put(next),
+        Some(next) => kept.put(next),
         None => {}
     }
 }
 
-/// The router of a machine at its start.
-fn begun(machine: Machine) -> Result<Router, OutOfMemory>
-    requires { IsReached machine }
-    ensures { IfOk result (λ router. router ≡ machine) }
+/// The router of these parts at its start.
+fn begun<K: Keeping>(parts: Parts) -> Result<Router<K>, OutOfMemory>
+    requires { IsReached parts }
+    ensures { IfOk result (λ router. router ≡ parts) }
 {
-    match followed(machine.alloc, &machine) {
-        Ok(following) => Ok(Router {
-            machine,
-            following,
+    match followed(&parts) {
+        Ok(kept) => Ok(Router {
+            parts,
+            kept,
             marks: Marks::none(),
         }),
         Err(error) => {
-            drop(machine);
+            drop(parts);
             Err(error)
         }
     }
 }
 
-/// What follows a router from the start on. No level's costs were repaired yet.
-fn followed(alloc: Global, machine: &Machine) -> Result<Following, OutOfMemory>
-    ensures follows { IfOk result (λ f. IsFollowing (outlook_of machine.now) f) }
-    ensures uncounted { IfOk result (λ f. (f.levels.one.changes ≡ 0) × (f.levels.two.changes ≡ 0)) }
+/// What follows a router from the start on, where anything does.
+fn followed<K: Keeping>(parts: &Parts) -> Result<K, OutOfMemory>
+    ensures { IfOk result (λ k. IfSome (K.kept k) (IsFollowing (outlook_of parts.now))) }
 {
-    let lent = machine.lent()?;
-    Following::new(alloc, &lent)
+    K::begun(parts.alloc, &parts.lent())
 }

@@ -15,7 +15,7 @@ ghost use Rattle.router_core.specs.Seconds.{bare_later, later, seen_then};
 ghost use Rattle.router_core.specs.Settled.{faces};
 
 use crate::at::{idle_at, second_at};
-use crate::machine::Machine;
+use crate::parts::Parts;
 use crate::passing::{pass, ready_to_pass};
 use crate::wanted::key_of;
 use isis_base::{Level, OutOfMemory, SystemId};
@@ -23,7 +23,7 @@ use router_circuits::Circuit;
 use router_levels::Wants;
 use std::alloc::Global;
 
-impl Machine {
+impl Parts {
     /// A second passes (ISO 10589 7.3.5, 7.3.15.3 to 7.3.15.5, 7.3.16.3, 8.2.3 to 8.2.5, 8.4.1, 8.4.2), as it was planned by
     /// these copies of the circuits, if any, and by drafts of what a level then wants where it is followed. At `OutOfMemory` the
     /// router is as it was.

@@ -1,5 +1,5 @@
 //! What nodes tell once entries of a sequence number PDU are taken by which own LSPs are outbid, or others purged.
-ghost use Rattle.std.specs.Prelude.{◌≡◌, ℕ, ◌++◌, ◌∷◌, [], List, true, map, Option, Some, IfOk, OnOk};
+ghost use Rattle.std.specs.Prelude.{◌≡◌, ℕ, ◌++◌, ◌∷◌, [], List, true, map, Option, Some, IfOk, IfSome, OnOk};
 ghost use Rattle.std.specs.List.{AllByRecursion};
 ghost use Rattle.isis_base.specs.Identifiers.{lsp_number};
 ghost use Rattle.isis_base.specs.declared.identifiers.NodeId.{NodeId};
@@ -22,9 +22,8 @@ ghost use Rattle.router_core.specs.Plans.{AreTold};
 ghost use Rattle.router_core.specs.Reached.{IsReached};
 
 use crate::aside::{no_entry, put_in, put_part};
-use crate::machine::Machine;
 use crate::movers::Movers;
-use crate::routes::has_rows;
+use crate::parts::Parts;
 use crate::told::{Told, told_at};
 use flag_sync::Whose;
 use isis_base::laws::lsp_id_law;
@@ -35,18 +34,17 @@ use router_wanted::Wanted;
 use spf_tree::parts::number;
 use std::alloc::Global;
 
-impl Machine {
+impl Parts {
     /// What is told once a level takes these entries (ISO 10589 7.3.15.2): own LSPs that are outbid are issued anew (7.3.16.1),
-    /// and others purged that are held with another checksum (7.3.16.2). Nothing in a level that isn't run. That each entry of a
-    /// database has its row of flags is looked at as by `told_with`.
+    /// and others purged that are held with another checksum (7.3.16.2). Nothing in a level that isn't run.
     pub(crate) fn told_by_entries(
         &self,
         level: Level,
         entries: &[LspEntry],
-        following: &Following,
+        following: Option<&Following>,
     ) -> Result<Told, OutOfMemory>
         requires reached { IsReached self.now }
-        requires following { IsFollowing (outlook_of self.now) following.now }
+        requires following { IfSome following (λ f. IsFollowing (outlook_of self.now) f.now) }
         ensures { IfOk result (λ told. (place : ℕ) (range : Option (ℕ × ℕ))
             → AreTold (outlook_of self.now) (outlook_of (with_level self.now level
             (take_snp (scene_of given self.now level) (level_of self.now level)
@@ -56,9 +54,7 @@ impl Machine {
             return Ok(Told::Nothing);
         }
         let book = self.level(level).book();
-        if !has_rows(book) {
-            return Err(OutOfMemory);
-        }
+        let _rows = book.flag_pages();
         let store = book.store();
         let _entries = store.len();
         let nodes = nodes_apart(self.alloc, store, entries)?;
@@ -81,9 +77,9 @@ impl Machine {
         store: &Store,
         nodes: &[NodeId],
         entries: &[LspEntry],
-        following: &Following,
+        following: Option<&Following>,
     ) -> Result<Store, OutOfMemory>
-        requires following { IsFollowing (outlook_of self.now) following.now }
+        requires following { IfSome following (λ f. IsFollowing (outlook_of self.now) f.now) }
         requires shown { IsShown self.now level store.now.entries }
         requires nodes { AreSeven nodes.now }
         requires covered { AllByRecursion (IsCovered self.now level nodes.now) entries.now }

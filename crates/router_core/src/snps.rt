@@ -15,13 +15,13 @@ ghost use Rattle.router_desk.specs.Opening.{envelope_of};
 ghost use Rattle.router_core.specs.Givens.{given};
 ghost use Rattle.router_core.specs.Events.{IsThere};
 
-use crate::machine::Machine;
+use crate::parts::Parts;
 use designated_is::are_same_systems;
 use isis_base::{Level, LspEntry, LspId, OutOfMemory, SystemId};
 use router_desk::{DropCause, Envelope};
 use router_sending::{Draft, lent_key};
 
-impl Machine {
+impl Parts {
     /// Why a sequence number PDU is dropped, if it is (ISO 10589 7.3.15.2); `partial` for a PSNP.
     pub(crate) fn snp_cause(
         &self,

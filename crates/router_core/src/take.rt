@@ -14,13 +14,13 @@ ghost use Rattle.router_core.specs.Events.{IsThere};
 ghost use Rattle.router_core.specs.Replies.{Answers, datagrams_of};
 
 use crate::datagrams::Datagrams;
-use crate::machine::Machine;
+use crate::parts::Parts;
 use crate::reply::Reply;
 use flag_sync::{LspAnswer, LspHeard};
 use isis_base::{Level, LspEntry, OutOfMemory};
 use router_sending::{Sender, psnp};
 
-impl Machine {
+impl Parts {
     /// What is answered to an LSP that meets a row: a purge that isn't held is acknowledged at once on a
     /// point-to-point circuit (ISO 10589 7.3.16.4).
     pub(crate) fn acknowledged(

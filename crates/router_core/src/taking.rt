@@ -6,12 +6,12 @@ ghost use Rattle.router_desk.specs.Heard.{hello_heard};
 ghost use Rattle.router_core.specs.Givens.{given};
 ghost use Rattle.router_core.specs.Plans.{IsHelloReady};
 
-use crate::machine::Machine;
+use crate::parts::Parts;
 use isis_base::{Level, OutOfMemory};
 use router_circuits::hello_sizes;
 use router_desk::HelloHeard;
 
-impl Machine {
+impl Parts {
     /// A point-to-point hello is taken (ISO 10589 8.2.4). At `OutOfMemory` the router is as it was.
     pub(crate) fn take_point_hello(
         &mut self,

@@ -13,10 +13,9 @@ ghost use Rattle.router_core.specs.Plans.{AreInOrder, AreMovedIn, AreTold};
 ghost use Rattle.router_core.specs.Puts.{IsWith};
 ghost use Rattle.router_core.specs.Shifts.{AreRising, IsMovedOn};
 
-use crate::machine::Machine;
 use crate::movers::Movers;
+use crate::parts::Parts;
 use crate::prefixes::OwnPrefixes;
-use crate::routes::has_rows;
 use isis_base::laws::lsp_id_law;
 use isis_base::{Level, LspId, OutOfMemory};
 use lsp_store::Entry;
@@ -24,7 +23,7 @@ use lsp_view::Lsps;
 use router_routes::{Coming, Following, Moved};
 
 /// What an event changes of what routes look at: nothing, what one LSP ID tells in a level, what some nodes of both levels do, or
-/// one's own prefixes.
+/// one's own prefixes; or it wasn't asked, since no routes follow the router.
 #[derive(Drop)]
 pub(crate) enum Told {
     Nothing,
@@ -34,6 +33,7 @@ pub(crate) enum Told {
         two: Option<Movers>,
     },
     Prefixes(OwnPrefixes),
+    Unasked,
 }
 
 /// An entry that takes the place of what is held of an LSP ID in a level.
@@ -44,10 +44,8 @@ pub(crate) struct Moving {
     pub(crate) entry: Entry,
 }
 
-impl Machine {
-    /// What is told once an entry takes the place of what is held of an LSP ID; nothing in a level that isn't run. That each
-    /// entry of a database has its row of flags is looked at, since the databases don't tell it; where one had none, that would
-    /// count as a want of memory.
+impl Parts {
+    /// What is told once an entry takes the place of what is held of an LSP ID; nothing in a level that isn't run.
     pub(crate) fn told_with(
         &self,
         level: Level,
@@ -61,9 +59,7 @@ impl Machine {
             return Ok(Told::Nothing);
         }
         let book = self.level(level).book();
-        if !has_rows(book) {
-            return Err(OutOfMemory);
-        }
+        let _rows = book.flag_pages();
         let store = book.store();
         let _entries = store.len();
         lsp_id_law(id);
@@ -84,14 +80,15 @@ impl Machine {
         match told {
             Told::Nothing => Ok(None),
             Told::Entry(moving) => {
-                let lent = self.lent()?;
+                let lent = self.lent();
                 following.ahead(&lent, moving.level, moving.id, &moving.entry)
             }
             Told::Levels { one, two } => {
-                let lent = self.lent()?;
+                let lent = self.lent();
                 following.after(&lent, &told_by(one, two))
             }
             Told::Prefixes(own) => self.following_with(following, own),
+            Told::Unasked => Ok(None),
         }
     }
 
@@ -106,7 +103,7 @@ impl Machine {
             → o ≡ record (outlook_of self.now) { prefixes = prefixes_by own.now }
             → MatchOption next (IsFollowing o following.now) (λ c. IsComing o following.now c)) }
     {
-        let lent = self.lent()?;
+        let lent = self.lent();
         following.with_prefixes(&lent, own.as_slice())
     }
 }

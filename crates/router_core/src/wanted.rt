@@ -17,14 +17,14 @@ ghost use Rattle.router_routes.specs.Following.{IsFollowing};
 ghost use Rattle.router_core.specs.Givens.{given};
 ghost use Rattle.router_core.specs.Machines.{AreWantedFor, draft_at};
 
-use crate::machine::Machine;
+use crate::parts::Parts;
 use isis_base::{Level, LevelSet, LspEntry, LspId, Octets, OutOfMemory};
 use router_desk::Desk;
 use router_routes::Following;
 use router_sending::Draft;
 use router_wanted::Wanted;
 
-impl Machine {
+impl Parts {
     /// The key of a level's LSPs and sequence number PDUs (RFC 5304 3).
     pub(crate) fn level_key(&self, level: Level) -> Option<&[u8]>
         ensures { option_copied result ≡ at self.now.config.keys level }
@@ -36,9 +36,9 @@ impl Machine {
     pub(crate) fn wanted(
         &self,
         level: Level,
-        following: &Following,
+        following: Option<&Following>,
     ) -> Result<Vec<Wanted>, OutOfMemory>
-        requires { IsFollowing (outlook_of self.now) following.now }
+        requires { IfSome following (λ f. IsFollowing (outlook_of self.now) f.now) }
         ensures wanted { IfOk result (λ list. map wanted_of list.items
             ≡ model.wanted given self.now self.now level) }
         ensures issuable { IfOk result (λ list. AllByRecursion
@@ -74,9 +74,9 @@ impl Machine {
         &self,
         level: Level,
         entries: &[LspEntry],
-        following: &Following,
+        following: Option<&Following>,
     ) -> Result<Vec<Option<Draft>>, OutOfMemory>
-        requires { IsFollowing (outlook_of self.now) following.now }
+        requires { IfSome following (λ f. IsFollowing (outlook_of self.now) f.now) }
         ensures ready { IfOk result (λ drafts. AreReady (is_some (at self.now.config.keys level))
             (level_of self.now level).own entries.now drafts.items) }
         ensures said { IfOk result (λ drafts. AreAnswers (at self.now.config.keys level)
@@ -102,9 +102,9 @@ impl Machine {
         &self,
         level: Level,
         entries: &[LspEntry],
-        following: &Following,
+        following: Option<&Following>,
     ) -> Result<Vec<Wanted>, OutOfMemory>
-        requires { IsFollowing (outlook_of self.now) following.now }
+        requires { IfSome following (λ f. IsFollowing (outlook_of self.now) f.now) }
         ensures wanted { IfOk result (λ list. AllByRecursion
             (λ e. AreWantedFor self.now level (lsp_number e.id) (map wanted_of list.items)) entries.now) }
         ensures issuable { IfOk result (λ list. AllByRecursion

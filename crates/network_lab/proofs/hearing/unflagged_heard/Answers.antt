@@ -13,7 +13,7 @@ use Rattle.network_lab.specs.Hearing.{unflagged_range}
 use Rattle.network_lab.proofs.hearing.unflagged_heard.Goals as goal
 
 pub returns-in-Some : goal.returns-in-Some
-returns-in-Some c on lan =
+returns-in-Some g c on lan =
     let r = c.args.r.now in
     let from = c.in-Snp.from in
     let source = c.in-Snp.source in

@@ -5,7 +5,7 @@ use Rattle.network_lab.proofs.JoinLemmas.{all-behind, joined-turn, rest-room, al
 use Rattle.network_lab.proofs.joining.joined_all.Goals as goal
 
 pub loop-left-preserved : goal.loop-left-preserved
-loop-left-preserved c =
+loop-left-preserved g c =
     let left = c.loop-left.left.now in
     let more = c.in-Ok.ensures in
     record {

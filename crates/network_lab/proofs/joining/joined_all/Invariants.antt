@@ -8,12 +8,12 @@ use Rattle.network_lab.proofs.joining.joined_all.Given as goal
 
 -- those so far were made ready, and those that are left have room
 abbrev pub invariant-loop-left : goal.invariant-loop-left
-invariant-loop-left l = record {
+invariant-loop-left g l = record {
   joined : AllByRecursion (IsJoined l.configs l.ports l.link (new_circuit l.kind l.metric)) l.list.items;
-  routers : map (λ (j : Joined). j.router) l.list.items ++ l.left ≡ l.members;
+  routers : map (λ (j : Joined _). j.router) l.list.items ++ l.left ≡ l.members;
   there : AllByRecursion (λ i. i < length l.configs) l.left;
   room : cause.has_full l.configs l.left ≡ false;
 }
 
 abbrev pub decreases-loop-left : goal.decreases-loop-left
-decreases-loop-left l = length l.left
+decreases-loop-left g l = length l.left

@@ -10,7 +10,7 @@ snoc : {A : Type 0} {xs ys : List A} {x y : A} → xs ≡ ys → x ≡ y → xs 
 snoc e f = cc
 
 pub invariant_of-self-2 : goal.invariant_of-self-2
-invariant_of-self-2 c =
+invariant_of-self-2 g c =
     let i = c.self.inside in
     router-more i.ports.items _ i.ordered.items i.links.items i.configs.items _ i.routers.items _ i.sent.items i.injected i.notes i.begun i.stopped c.args.config
     c.self.invariant (ap (λ (l : LabNet). l.begun) c.self.view_is ∙ c.requires.setup) c.requires.valid (subst IsReached c.in_ok-setup.ensures.router c.in_ok-setup.ensures.reached) c.requires.bare c.setup_of.ensures.system (subst (λ (l : LabNet). AllByRecursion (λ (other : Config). other.system ≢ c.args.config.system) l.configs) (sym c.self.view_is) c.requires.fresh)

@@ -6,7 +6,7 @@ use Rattle.network_lab.proofs.ReadLemmas.{circuits-is}
 use Rattle.network_lab.proofs.network.Network.circuits.Goals as goal
 
 pub returns : goal.returns
-returns c =
+returns g c =
     let s = ap (λ (l : LabNet). length l.seen.routers) c.self.view_is in
     ap length c.as_slice.ensures
     ∙ (circuits-is c.self.inside.routers.items c.self.inside.ports.items c.args.router c.index.result.now c.self.invariant.routers (omega (arith, c.requires, s)) c.index.ensures

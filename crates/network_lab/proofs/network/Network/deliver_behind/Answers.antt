@@ -7,14 +7,14 @@ use Rattle.network_lab.proofs.LoopLemmas.{left-grows, behind-step, behind-end, s
 use Rattle.network_lab.proofs.network.Network.deliver_behind.Goals as goal
 
 pub loop-count-init : goal.loop-count-init
-loop-count-init c = record {
+loop-count-init g c = record {
   rises = omega arith;
   goes = starts (line.deliver_behind given c.args.out.without c.args.out.except (line.datagram_limit - (c.args.first - c.args.first)) c.args.first) (line.deliver_behind given c.args.out.without c.args.out.except line.datagram_limit c.args.first) c.args.self.now c.requires.running
       (λ net s. ap (λ (n : ℕ). line.deliver_behind given c.args.out.without c.args.out.except n c.args.first net) (fuel-start c.args.first));
 }
 
 pub loop-count-preserved : goal.loop-count-preserved
-loop-count-preserved c = record {
+loop-count-preserved g c = record {
   rises = let r = c.loop-count.invariant.rises in omega (arith, r);
   goes = goes (line.deliver_behind given c.args.out.without c.args.out.except (line.datagram_limit - (c.loop-count.count - c.args.first)) c.loop-count.count) (line.deliver_behind given c.args.out.without c.args.out.except (line.datagram_limit - (c.loop-count.count + 1 - c.args.first)) (c.loop-count.count + 1)) (line.deliver_behind given c.args.out.without c.args.out.except line.datagram_limit c.args.first) (deliver_numbered c.args.out.without c.args.out.except (c.loop-count.count + 1))
       c.args.self.now c.loop-count.self c.deliver_one.new.self c.loop-count.invariant.goes c.in-Ok.ensures
@@ -24,10 +24,10 @@ loop-count-preserved c = record {
 }
 
 pub loop-count-smaller : goal.loop-count-smaller
-loop-count-smaller c = let t = c.loop-count-test.true in let f = c.sent_count.ensures.few in omega (arith, t, f)
+loop-count-smaller g c = let t = c.loop-count-test.true in let f = c.sent_count.ensures.few in omega (arith, t, f)
 
 pub returns-in-Err : goal.returns-in-Err
-returns-in-Err c =
+returns-in-Err g c =
     stops (line.deliver_behind given c.args.out.without c.args.out.except (line.datagram_limit - (c.loop-count.count - c.args.first)) c.loop-count.count) (line.deliver_behind given c.args.out.without c.args.out.except line.datagram_limit c.args.first) (deliver_numbered c.args.out.without c.args.out.except (c.loop-count.count + 1))
     c.args.self.now c.loop-count.self c.deliver_one.new.self c.in-Err.fault c.loop-count.invariant.goes c.in-Err.ensures
     (λ net s. left-grows (line.deliver_behind given c.args.out.without c.args.out.except (line.datagram_limit - (c.loop-count.count - c.args.first)) c.loop-count.count) (line.deliver_behind given c.args.out.without c.args.out.except (line.datagram_limit - (c.loop-count.count + 1 - c.args.first)) (c.loop-count.count + 1)) (deliver_numbered c.args.out.without c.args.out.except (c.loop-count.count + 1)) net
@@ -37,6 +37,6 @@ returns-in-Err c =
     (behind-grows given c.args.out.without c.args.out.except (line.datagram_limit - (c.loop-count.count + 1 - c.args.first)) (c.loop-count.count + 1)))
 
 pub returns : goal.returns
-returns c = ends (line.deliver_behind given c.args.out.without c.args.out.except (line.datagram_limit - (c.loop-count.count - c.args.first)) c.loop-count.count) (line.deliver_behind given c.args.out.without c.args.out.except line.datagram_limit c.args.first) c.args.self.now c.loop-count.self c.loop-count.invariant.goes
+returns g c = ends (line.deliver_behind given c.args.out.without c.args.out.except (line.datagram_limit - (c.loop-count.count - c.args.first)) c.loop-count.count) (line.deliver_behind given c.args.out.without c.args.out.except line.datagram_limit c.args.first) c.args.self.now c.loop-count.self c.loop-count.invariant.goes
     (λ net s. behind-end c.args.out.without c.args.out.except (line.datagram_limit - (c.loop-count.count - c.args.first)) c.loop-count.count net
     (let t = c.loop-count-test.false in let f = c.sent_count.ensures.count in let m = sent-count net c.loop-count.self s in omega (arith, t, f, m)))

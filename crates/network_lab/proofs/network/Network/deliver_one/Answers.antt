@@ -9,7 +9,7 @@ use Rattle.network_lab.proofs.LoopLemmas.{numbered-get, idles, one-out, one-in}
 use Rattle.network_lab.proofs.network.Network.deliver_one.Goals as goal
 
 pub returns-then-is_left_out : goal.returns-then-is_left_out
-returns-then-is_left_out c =
+returns-then-is_left_out g c =
     let sent = ap (λ (l : LabNet). l.seen.sent) c.self.view_is in
     let here = subst (λ (n : ℕ). (1 ≤ c.args.number) × (c.args.number ≤ n)) (sym (ap length sent)) c.requires.there in
     let q = ap (λ (xs : List SentDatagram). numbered xs c.args.number) (sym sent) ∙ numbered-get c.self.inside.sent.items c.args.number c.index-datagram.result.now here c.index-datagram.ensures in
@@ -18,7 +18,7 @@ returns-then-is_left_out c =
     (ap (line.is_left_out c.args.out.without) (sym c.as_slice.ensures) ∙ (sym c.is_left_out.ensures ∙ c.if-is_left_out.true)))
 
 pub returns : goal.returns
-returns c =
+returns g c =
     let sent = ap (λ (l : LabNet). l.seen.sent) c.self.view_is in
     let here = subst (λ (n : ℕ). (1 ≤ c.args.number) × (c.args.number ≤ n)) (sym (ap length sent)) c.requires.there in
     let q = ap (λ (xs : List SentDatagram). numbered xs c.args.number) (sym sent) ∙ numbered-get c.self.inside.sent.items c.args.number c.index-datagram.result.now here c.index-datagram.ensures in

@@ -11,14 +11,14 @@ use Rattle.network_lab.proofs.PortLemmas.{links-of}
 use Rattle.network_lab.proofs.network.Network.ports.Goals as goal
 
 pub returns-clause-size : goal.returns-clause-size
-returns-clause-size c =
+returns-clause-size g c =
     let s = ap (λ (l : LabNet). length l.seen.routers) c.self.view_is in
     ap length c.as_slice.ensures
     ∙ (circuits-is c.self.inside.routers.items c.self.inside.ports.items c.args.router c.index.result.now c.self.invariant.routers (omega (arith, c.requires, s)) c.index.ensures
     ∙ ap (λ (l : LabNet). circuit_count (nth l.seen.routers c.args.router)) c.self.view_is)
 
 pub returns-clause-on : goal.returns-clause-on
-returns-clause-on c =
+returns-clause-on g c =
     let s = ap (λ (l : LabNet). length l.seen.routers) c.self.view_is in
     let m = sym (length-map c.self.inside.routers.items (λ (r : Router). length r.circuits)) ∙ (ap length c.self.invariant.routers ∙ length-map c.self.inside.ports.items length) in
     let at = nth-get c.self.inside.ports.items c.args.router c.index.result.now (omega (arith, c.requires, s, m)) c.index.ensures in

@@ -12,8 +12,8 @@ use Rattle.router_core.specs.declared.reply.Reply.TheVariants as reply
 use Rattle.router_core.specs.Replies.{Answers}
 use Rattle.router_core.proofs.AckLemmas.{row-is, purge-rank, acknowledges, done, row-answer, met-purge, not-false}
 use Rattle.router_core.proofs.IdleLemmas.{each-some, from-some}
-use Rattle.router_core.proofs.machine.Machine.acknowledged.Goals.{in_default-via-in-AckPurge+else-is_point, in_default-via-in_default}
-use Rattle.router_core.proofs.machine.Machine.acknowledged.Goals as goal
+use Rattle.router_core.proofs.parts.Parts.acknowledged.Goals.{in_default-via-in-AckPurge+else-is_point, in_default-via-in_default}
+use Rattle.router_core.proofs.parts.Parts.acknowledged.Goals as goal
 
 -- src/take.rt
 pub returns-in_ok-out-in-AckPurge : goal.returns-in_ok-out-in-AckPurge

@@ -5,7 +5,7 @@ use Rattle.router_core.specs.Due.{IsDueAt}
 use Rattle.router_core.specs.Pulled.{after_hello, after_level}
 use Rattle.router_core.proofs.DueLemmas.{after-hello-due, after-level-due, hello-due, one-due, two-due}
 use Rattle.router_core.proofs.SentLemmas.{hello-length, level-length}
-use Rattle.router_core.proofs.machine.Machine.all_gone.Goals as goal
+use Rattle.router_core.proofs.parts.Parts.all_gone.Goals as goal
 
 -- src/pull.rt
 pub hello_gone-requires-clause-due : goal.hello_gone-requires-clause-due

@@ -4,7 +4,7 @@ use Rattle.model_router.specs.Numbers.{system_number}
 use Rattle.model_router.specs.Routers.{Router, level_of}
 use Rattle.model_router.specs.Takes.{whose_of}
 use Rattle.router_core.proofs.AsideLemmas.{issued-held}
-use Rattle.router_core.proofs.machine.Machine.answer_told.Goals as goal
+use Rattle.router_core.proofs.parts.Parts.answer_told.Goals as goal
 
 -- src/snp_told.rt
 pub entry_above-requires-clause-wanted : goal.entry_above-requires-clause-wanted

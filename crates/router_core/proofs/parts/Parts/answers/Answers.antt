@@ -4,7 +4,7 @@ use Rattle.model_router.specs.Receiving.{scene_of}
 use Rattle.model_router.specs.Routers.{level_of}
 use Rattle.router_core.specs.Givens.{given}
 use Rattle.router_core.proofs.WantedLemmas.{ready-end, said-end}
-use Rattle.router_core.proofs.machine.Machine.answers.Goals as goal
+use Rattle.router_core.proofs.parts.Parts.answers.Goals as goal
 
 -- src/wanted.rt
 pub returns-clause-ready : goal.returns-clause-ready

@@ -10,7 +10,7 @@ use Rattle.router_wanted.specs.Views.{wanted_of}
 use Rattle.router_levels.specs.Drafts.{AreAnswers, AreReady}
 use Rattle.router_core.specs.Givens.{given}
 use Rattle.router_core.specs.Machines.{AreWantedFor}
-use Rattle.router_core.proofs.machine.Machine.answers.Given as goal
+use Rattle.router_core.proofs.parts.Parts.answers.Given as goal
 
 -- what is wanted is all where an entry that is left is issued; drafts of what is left, behind those that are made, are drafts of all
 abbrev pub invariant-loop-left : goal.invariant-loop-left

@@ -2,7 +2,7 @@ use Rattle.std.proofs.Common.{length}
 use Rattle.model_router.specs.Routers.{book_of}
 use Rattle.flag_sync.specs.Heard.{entries_of}
 use Rattle.router_core.specs.Calm.{AreClear}
-use Rattle.router_core.proofs.machine.Machine.are_clear.Given as goal
+use Rattle.router_core.proofs.parts.Parts.are_clear.Given as goal
 
 -- what is left decides
 abbrev pub invariant-loop-left : goal.invariant-loop-left

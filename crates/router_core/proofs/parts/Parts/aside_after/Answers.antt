@@ -2,7 +2,7 @@ use Rattle.std.proofs.Common.{sym, subst}
 use Rattle.model_router.specs.Routers.{level_of}
 use Rattle.router_core.specs.Asides.{IsHeldAside}
 use Rattle.router_core.proofs.NodesLemmas.{start-aside}
-use Rattle.router_core.proofs.machine.Machine.aside_after.Goals as goal
+use Rattle.router_core.proofs.parts.Parts.aside_after.Goals as goal
 
 -- src/snp_told.rt
 pub returns-in-Ok : goal.returns-in-Ok

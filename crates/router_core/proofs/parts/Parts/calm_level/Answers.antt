@@ -6,7 +6,7 @@ use Rattle.router_core.specs.Seconds.{IsQuiet}
 use Rattle.router_core.specs.Settled.{IsSettled}
 use Rattle.router_core.proofs.PassedLemmas.{false-true}
 use Rattle.router_core.proofs.SettledLemmas.{aged, lasting-is, own-is, settled-quiet}
-use Rattle.router_core.proofs.machine.Machine.calm_level.Goals as goal
+use Rattle.router_core.proofs.parts.Parts.calm_level.Goals as goal
 
 -- src/plan_second.rt
 pub returns-then-rests : goal.returns-then-rests

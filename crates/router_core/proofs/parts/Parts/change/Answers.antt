@@ -5,7 +5,7 @@ use Rattle.isis_base.specs.Prefixes.{prefix_number}
 use Rattle.router_core.specs.Events.{change_of, FitsChange}
 use Rattle.router_core.specs.Givens.{given}
 use Rattle.router_core.proofs.ChangeLemmas.{metric-change, prefix-change, overload-change}
-use Rattle.router_core.proofs.machine.Machine.change.Goals as goal
+use Rattle.router_core.proofs.parts.Parts.change.Goals as goal
 
 -- src/changes.rt
 pub returns-in-Metric-clause-state : goal.returns-in-Metric-clause-state

@@ -4,7 +4,7 @@ use Rattle.model_router.specs.Routers.{with_circuit}
 use Rattle.model_router.specs.Pulls.{with_part, is_csnp_due, csnp_sent}
 use Rattle.router_core.specs.Pulled.{after_csnps}
 use Rattle.router_core.proofs.PullLemmas.{gone-then, gone-else}
-use Rattle.router_core.proofs.machine.Machine.csnps_gone.Goals as goal
+use Rattle.router_core.proofs.parts.Parts.csnps_gone.Goals as goal
 
 -- src/pull_parts.rt
 pub returns-then-due : goal.returns-then-due

@@ -16,7 +16,7 @@ use Rattle.router_core.proofs.IdleLemmas.{from-some}
 use Rattle.isis_base.specs.declared.level.Level.TheVariants as level
 use Rattle.model_router.specs.Good.{IsGoodBook}
 use Rattle.router_core.proofs.SendingLemmas.{may-of, all-out}
-use Rattle.router_core.proofs.machine.Machine.datagrams_due.Goals as goal
+use Rattle.router_core.proofs.parts.Parts.datagrams_due.Goals as goal
 
 -- src/pull.rt
 pub put_due_hellos-requires-clause-due : goal.put_due_hellos-requires-clause-due

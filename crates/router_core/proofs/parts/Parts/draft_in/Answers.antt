@@ -4,8 +4,8 @@ use Rattle.model_router.specs.Both.{at}
 use Rattle.router_wanted.specs.Views.{contents_of}
 use Rattle.router_core.proofs.WantedLemmas.{none-issuable}
 use Rattle.router_core.proofs.IdleLemmas.{from-some}
-use Rattle.router_core.proofs.machine.Machine.draft_in.Goals.{in-Some+in_ok-copy-in-Some, in-None}
-use Rattle.router_core.proofs.machine.Machine.draft_in.Goals as goal
+use Rattle.router_core.proofs.parts.Parts.draft_in.Goals.{in-Some+in_ok-copy-in-Some, in-None}
+use Rattle.router_core.proofs.parts.Parts.draft_in.Goals as goal
 
 -- src/wanted.rt
 pub new-requires-2 : goal.new-requires-2

@@ -2,7 +2,7 @@ use Rattle.std.proofs.Common.{ℕ, get_or, ap, ◌∙◌}
 use Rattle.model_router.specs.Drops.{drop_place, drops_of}
 use Rattle.model_router.specs.Routers.{Router}
 use Rattle.router_core.proofs.ChangeLemmas.{index-nth}
-use Rattle.router_core.proofs.machine.Machine.drops.Goals as goal
+use Rattle.router_core.proofs.parts.Parts.drops.Goals as goal
 
 -- src/asked.rt
 pub returns : goal.returns

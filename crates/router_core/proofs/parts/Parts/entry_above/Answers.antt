@@ -2,7 +2,7 @@ use Rattle.std.proofs.Common.{ℕ, ◌+◌, ◌≤◌, inl, inr, subst, arith}
 use Rattle.std.proofs.lemmas.Result.{IfOk-weaker}
 use Rattle.router_core.specs.Plans.{IsIssuedAt}
 use Rattle.router_core.proofs.OutbidLemmas.{is-last, not-last}
-use Rattle.router_core.proofs.machine.Machine.entry_above.Goals as goal
+use Rattle.router_core.proofs.parts.Parts.entry_above.Goals as goal
 
 -- src/plan_outbid.rt
 pub returns-in-Some : goal.returns-in-Some

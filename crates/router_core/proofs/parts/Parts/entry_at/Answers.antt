@@ -3,7 +3,7 @@ use Rattle.std.specs.Option.{option_copied}
 use Rattle.isis_base.specs.Identifiers.{lsp_number}
 use Rattle.router_sending.specs.Drafts.{DraftView, IsIssuedCell}
 use Rattle.router_core.specs.Givens.{is_attached, leaks_of}
-use Rattle.router_core.proofs.machine.Machine.entry_at.Goals as goal
+use Rattle.router_core.proofs.parts.Parts.entry_at.Goals as goal
 
 -- src/plan_outbid.rt
 pub returns : goal.returns

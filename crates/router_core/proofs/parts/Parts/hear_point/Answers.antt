@@ -10,7 +10,7 @@ use Rattle.router_circuits.specs.Hellos.{hello_of}
 use Rattle.router_core.specs.Machines.{machine_of}
 use Rattle.router_core.proofs.ShapeLemmas.{point-set}
 use Rattle.router_core.proofs.SecondLemmas.{same-count}
-use Rattle.router_core.proofs.machine.Machine.hear_point.Goals as goal
+use Rattle.router_core.proofs.parts.Parts.hear_point.Goals as goal
 
 -- src/hellos.rt
 pub returns-clause-tested : goal.returns-clause-tested

@@ -2,7 +2,7 @@ use Rattle.std.proofs.Common.{◌-◌, ◌==◌, arith}
 use Rattle.model_router.specs.Routers.{with_circuit}
 use Rattle.router_core.specs.Pulled.{after_hello}
 use Rattle.router_core.proofs.PullLemmas.{gone-then, gone-else}
-use Rattle.router_core.proofs.machine.Machine.hello_gone.Goals as goal
+use Rattle.router_core.proofs.parts.Parts.hello_gone.Goals as goal
 
 -- src/pull_parts.rt
 pub returns-then-due : goal.returns-then-due

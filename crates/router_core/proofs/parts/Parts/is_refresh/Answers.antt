@@ -16,7 +16,8 @@ use Rattle.router_core.specs.Refreshes.{IsRefresh}
 use Rattle.router_core.proofs.IdleLemmas.{from-some}
 use Rattle.router_core.proofs.OpenLemmas.{there}
 use Rattle.router_core.proofs.RefreshLemmas.{outlook-same}
-use Rattle.router_core.proofs.machine.Machine.is_refresh.Goals as goal
+use Rattle.router_core.proofs.RouteLemmas.{beside-long}
+use Rattle.router_core.proofs.parts.Parts.is_refresh.Goals as goal
 
 -- src/refresh.rt
 pub returns : goal.returns
@@ -37,5 +38,5 @@ returns c =
     let ids = subst (λ (d : Database). AllByRecursion (λ (p : LspId × Entry). IsId p.0) d.entries) c.store-store.ensures c.len-entries.ensures.ids in
     let rises = subst (λ (d : Database). RisesFrom 0 d.entries) c.store-store.ensures c.len-entries.ensures.rises in
     λ held.
-    outlook-same r place l from heard is.0 v c.args.row is.1 kept c.requires.row (c.is_stored.ensures c.if-not-is_stored.false) of_book (c.has_rows.ensures c.if-not-has_rows.false) c.lsp_id_law.ensures ids rises
+    outlook-same r place l from heard is.0 v c.args.row is.1 kept c.requires.row (c.is_stored.ensures c.if-not-is_stored.false) of_book (beside-long v.store.entries c.flag_pages-rows.result.now.entries v.rows c.flag_pages-rows.ensures.rows c.flag_pages-rows.ensures.beside) c.lsp_id_law.ensures ids rises
     (subst (λ (d : Database). IsRefresh (find d.entries (lsp_number heard.entry.id)) heard) c.store-store.ensures (c.is_held.ensures held))

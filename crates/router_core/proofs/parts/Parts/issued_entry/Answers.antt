@@ -5,7 +5,7 @@ use Rattle.model_router.specs.Both.{at}
 use Rattle.model_router.specs.Good.{IsIssuable}
 use Rattle.router_sending.specs.Drafts.{DraftView, IsIssuedCell}
 use Rattle.router_core.specs.Givens.{is_attached, leaks_of}
-use Rattle.router_core.proofs.machine.Machine.issued_entry.Goals as goal
+use Rattle.router_core.proofs.parts.Parts.issued_entry.Goals as goal
 
 -- src/renewing.rt
 pub new-requires : goal.new-requires

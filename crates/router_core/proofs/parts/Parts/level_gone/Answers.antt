@@ -6,7 +6,7 @@ use Rattle.model_router.specs.SnpLists.{owed}
 use Rattle.router_core.specs.Pulled.{after_lsps}
 use Rattle.router_core.proofs.DueLemmas.{csnps-at, open-at, psnps-stay}
 use Rattle.router_core.proofs.PullLemmas.{csnps-length, level-then, level-else}
-use Rattle.router_core.proofs.machine.Machine.level_gone.Goals as goal
+use Rattle.router_core.proofs.parts.Parts.level_gone.Goals as goal
 
 -- src/pull_parts.rt
 pub lsps_sent-requires : goal.lsps_sent-requires

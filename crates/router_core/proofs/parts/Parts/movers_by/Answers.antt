@@ -16,23 +16,24 @@ use Rattle.router_core.specs.Seconds.{level_later}
 use Rattle.router_core.specs.Shifts.{IsShifted}
 use Rattle.router_core.proofs.NodesLemmas.{shown-in}
 use Rattle.router_core.proofs.RenewalLemmas.{later-ahead, renewed-moved}
+use Rattle.router_core.proofs.RouteLemmas.{beside-long}
 use Rattle.router_core.proofs.SettledLemmas.{aged, own-is}
 use Rattle.router_core.proofs.ShiftLemmas.{clash}
-use Rattle.router_core.proofs.machine.Machine.movers_by.Goals as goal
+use Rattle.router_core.proofs.parts.Parts.movers_by.Goals as goal
 
 -- src/renewing.rt
 pub returns-then-not-runs : goal.returns-then-not-runs
-returns-then-not-runs c circuits of-old of-new runs = clash (sym runs ∙ sym c.runs.ensures ∙ c.if-not-runs.true)
+returns-then-not-runs c _ circuits of-old of-new runs = clash (sym runs ∙ sym c.runs.ensures ∙ c.if-not-runs.true)
 
 -- src/renewing.rt
 pub returns-in-Ok : goal.returns-in-Ok
-returns-in-Ok c circuits of-old of-new =
+returns-in-Ok c _ circuits of-old of-new =
     let r = c.args.self.now in
     let l = c.args.level in
     let v = c.book-book.result.now in
     let held = c.store-store.result.now.entries in
     let of_book : sync.book_of v ≡ book_of r l = ap sync.book_of c.book-book.ensures ∙ ap (λ (s : LevelState). s.book) c.level-on.ensures.state in
-    let long = c.has_rows.ensures c.if-not-has_rows.false in
+    let long = beside-long v.store.entries c.flag_pages-rows.result.now.entries v.rows c.flag_pages-rows.ensures.rows c.flag_pages-rows.ensures.beside in
     let ids = c.len-entries.ensures.ids in
     let rises = c.len-entries.ensures.rises in
     let own = own-is c.level-on.result.now c.own.result.now (level_of r l) c.own.ensures c.level-on.ensures.state in

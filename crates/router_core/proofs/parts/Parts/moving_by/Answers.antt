@@ -12,7 +12,7 @@ use Rattle.router_core.specs.Plans.{IsTeller, is_moving, lsp_event}
 use Rattle.router_core.proofs.IdleLemmas.{from-some}
 use Rattle.router_core.proofs.MovedLemmas.{heard-with}
 use Rattle.router_core.proofs.OpenLemmas.{there}
-use Rattle.router_core.proofs.machine.Machine.moving_by.Goals as goal
+use Rattle.router_core.proofs.parts.Parts.moving_by.Goals as goal
 
 -- src/plan_lsp.rt
 pub returns : goal.returns

@@ -6,7 +6,7 @@ use Rattle.router_desk.specs.Configs.{config_of, circuit_of, circuits_of, prefix
 use Rattle.router_desk.specs.Desks.{DeskView, desk_circuit}
 use Rattle.router_core.specs.Machines.{IsFit}
 use Rattle.router_core.proofs.StartLemmas.{start-same, config-fits, length-mapped, started-is, same-points}
-use Rattle.router_core.proofs.machine.Machine.new.Goals as goal
+use Rattle.router_core.proofs.parts.Parts.new.Goals as goal
 
 -- src/making.rt
 pub invariant_of-result : goal.invariant_of-result

@@ -9,7 +9,7 @@ use Rattle.router_desk.specs.Opening.{SeenView, message_of, seen_at}
 use Rattle.router_core.specs.Machines.{FitsKind}
 use Rattle.router_core.proofs.IdleLemmas.{each-some}
 use Rattle.router_core.proofs.OpenLemmas.{seen-kind, there}
-use Rattle.router_core.proofs.machine.Machine.opened_facts.Goals as goal
+use Rattle.router_core.proofs.parts.Parts.opened_facts.Goals as goal
 
 -- src/read.rt
 pub returns-clause-good : goal.returns-clause-good

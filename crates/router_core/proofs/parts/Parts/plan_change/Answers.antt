@@ -4,7 +4,7 @@ use Rattle.model_router.specs.Steps.{step}
 use Rattle.router_core.specs.Events.{change_of}
 use Rattle.router_core.specs.Givens.{given}
 use Rattle.router_core.proofs.StepLemmas.{change-reply}
-use Rattle.router_core.proofs.machine.Machine.plan_change.Goals as goal
+use Rattle.router_core.proofs.parts.Parts.plan_change.Goals as goal
 
 -- src/plan_change.rt
 pub returns : goal.returns

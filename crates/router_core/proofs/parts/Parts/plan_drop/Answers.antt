@@ -1,5 +1,5 @@
 use Rattle.router_core.proofs.PlanLemmas.{drop-plan}
-use Rattle.router_core.proofs.machine.Machine.plan_drop.Goals as goal
+use Rattle.router_core.proofs.parts.Parts.plan_drop.Goals as goal
 
 -- src/plan.rt
 pub returns : goal.returns

@@ -18,7 +18,7 @@ use Rattle.router_core.proofs.OutbidLemmas.{outbid-with, turned}
 use Rattle.router_core.proofs.PlanLemmas.{kept-room}
 use Rattle.router_core.proofs.StepLemmas.{taken-step}
 use Rattle.router_core.proofs.TakenLemmas.{lsp-taken}
-use Rattle.router_core.proofs.machine.Machine.plan_outbid.Goals as goal
+use Rattle.router_core.proofs.parts.Parts.plan_outbid.Goals as goal
 
 -- src/plan_outbid.rt
 pub returns : goal.returns
@@ -56,6 +56,6 @@ returns c =
       };
       state = both.0;
       reply = subst (λ (x : Router). Answers x place (step given r (lsp_event c.args.circuit l c.args.from.1 lsp)).reply c.in_ok-reply.reply) both.0 both.1;
-      told = c.in-Ok.ensures u (outbid-with r place l from lsp x.0 c.args.above _ x.1 free c.requires.row c.in_ok-draft.ensures.entry);
+      told = λ asked. c.in_ok-draft.ensures.told asked u (λ e is-above. outbid-with r place l from lsp x.0 c.args.above e x.1 free c.requires.row is-above);
       marks = c.none.ensures u;
     }

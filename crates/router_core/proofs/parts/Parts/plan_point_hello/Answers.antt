@@ -12,11 +12,11 @@ use Rattle.router_core.specs.Givens.{given}
 use Rattle.router_core.specs.Plans.{IsHelloReady}
 use Rattle.router_core.specs.Settled.{LeavesFace}
 use Rattle.router_core.proofs.HelloLemmas.{hello-marks, hello-reply, some-of}
-use Rattle.router_core.proofs.machine.Machine.plan_point_hello.Goals as goal
+use Rattle.router_core.proofs.parts.Parts.plan_point_hello.Goals as goal
 
 -- src/plan_hello.rt
 pub returns-in-Ok : goal.returns-in-Ok
-returns-in-Ok c =
+returns-in-Ok c asked =
     let r = c.args.self.now in
     let place = c.args.circuit - 1 in
     let h = hello_heard c.args.hello.now in
@@ -35,7 +35,7 @@ returns-in-Ok c =
       ready = ready;
       state = refl;
       reply = hello-reply r c.args.circuit m ready t (λ x. refl);
-      told = stays;
+      told = λ _. stays;
       marks = c.or.ensures t (λ e. hello-marks r c.args.circuit h c.args.marks ready
           (some-of (nth r.circuits place) (λ x. c.in-Ok.alike ≡ true → LeavesFace x r.config h) (λ x. LeavesFace x r.config h) (λ x f. f e)
           (subst (λ (y : Hello). IfSome (nth r.circuits place) (λ x. c.in-Ok.alike ≡ true → LeavesFace x r.config y)) words c.in-Ok.ensures.alike))
@@ -45,10 +45,10 @@ returns-in-Ok c =
 
 -- src/plan_hello.rt
 pub returns-in-Err : goal.returns-in-Err
-returns-in-Err c =
+returns-in-Err c asked =
     let r = c.args.self.now in
     let place = c.args.circuit - 1 in
     let h = hello_heard c.args.hello.now in
     let words : hello_of c.fields-fields.result ≡ h = sym c.hello_sizes.ensures.same ∙ c.fields-fields.ensures in
-    c.plan_drop.ensures c.args.circuit (model.PointHelloHeard h) c.requires.there
+    c.plan_drop.ensures asked c.args.circuit (model.PointHelloHeard h) c.requires.there
     (subst (λ (x : Hello). IfSome (nth r.circuits place) (λ y. point_drop r.config (extended_of r.boot place) y.boots x ≡ Some (drop_name c.in-Err.refused))) words c.in-Err.ensures.tested)

@@ -10,11 +10,11 @@ use Rattle.router_core.proofs.IdleLemmas.{from-some}
 use Rattle.router_core.proofs.OpenLemmas.{there}
 use Rattle.router_core.proofs.SentLemmas.{due-sent}
 use Rattle.router_core.proofs.StepLemmas.{pull-reply}
-use Rattle.router_core.proofs.machine.Machine.plan_pull.Goals as goal
+use Rattle.router_core.proofs.parts.Parts.plan_pull.Goals as goal
 
 -- src/pull.rt
 pub returns : goal.returns
-returns c =
+returns c asked =
     let r = c.args.self.now in
     let place = c.args.circuit - 1 in
     let pulls = event.Pull place in
@@ -29,6 +29,6 @@ returns c =
       reply = pull-reply r (step given r pulls).router place out
           (due-sent r place is.0 out c.requires.reached.idle is.1
           (from-some (λ y. out ≡ map (λ (says : Sent). datagram r.config r.boot place y says) (all_due r place y)) (nth r.circuits place) is.0 is.1 c.in_ok-out.ensures));
-      told = stays;
+      told = λ _. stays;
       marks = c.after.ensures r pulls c.requires.marks tt stays tt;
     }

@@ -14,7 +14,7 @@ use Rattle.router_core.proofs.OutbidLemmas.{turned}
 use Rattle.router_core.proofs.PlanLemmas.{kept-room, no-bid}
 use Rattle.router_core.proofs.StepLemmas.{taken-step}
 use Rattle.router_core.proofs.TakenLemmas.{lsp-taken}
-use Rattle.router_core.proofs.machine.Machine.plan_row.Goals as goal
+use Rattle.router_core.proofs.parts.Parts.plan_row.Goals as goal
 
 -- src/plan_lsp.rt
 pub returns : goal.returns

@@ -1,4 +1,4 @@
-use Rattle.std.proofs.Common.{◌≡◌, ◌∙◌, List, map, length, refl, ap, subst}
+use Rattle.std.proofs.Common.{◌≡◌, ◌∙◌, false, List, is_some, map, length, refl, ap, subst}
 use Rattle.isis_base.specs.declared.level.Level.TheVariants as level
 use Rattle.model_router.specs.Events as model
 use Rattle.model_router.specs.Routers.{Circuit, Router}
@@ -8,9 +8,9 @@ use Rattle.router_core.specs.Givens.{given}
 use Rattle.router_core.specs.LevelSeconds.{IsLevelSecond}
 use Rattle.router_core.specs.Seconds.{later, seen_then}
 use Rattle.router_core.specs.Settled.{faces}
-use Rattle.router_core.proofs.PassedLemmas.{passed-is, passed-marks, passed-moved, unmoved}
+use Rattle.router_core.proofs.PassedLemmas.{either-false, first-false, second-false, passed-is, passed-marks, passed-moved, unmoved}
 use Rattle.router_core.proofs.StepLemmas.{second-done}
-use Rattle.router_core.proofs.machine.Machine.plan_second.Goals as goal
+use Rattle.router_core.proofs.parts.Parts.plan_second.Goals as goal
 
 -- src/plan_second.rt
 pub returns : goal.returns
@@ -27,15 +27,16 @@ returns c =
     subst (λ (cs : List Circuit). length (seen_then c.in_ok-copies.copies cs) ≡ length cs) own c.in_ok-copies.ensures.count in
     let seen : c.seen_then-circuits.result.now ≡ list =
     c.seen_then-circuits.ensures ∙ ap (λ (cs : List Circuit). seen_then c.in_ok-copies.copies cs) (c.deref-2.ensures.value ∙ ap (λ (q : Router). q.circuits) c.self.view_is) in
-    let first : IsLevelSecond r level.One list one = subst (λ (cs : List Circuit). IsLevelSecond r level.One cs one) seen c.in_ok-one.ensures in
-    let second : IsLevelSecond r level.Two list two = subst (λ (cs : List Circuit). IsLevelSecond r level.Two cs two) seen c.in-Ok.ensures in
+    let asked = is_some c.args.following in
+    let first : IsLevelSecond asked r level.One list one = subst (λ (cs : List Circuit). IsLevelSecond asked r level.One cs one) seen c.in_ok-one.ensures in
+    let second : IsLevelSecond asked r level.Two list two = subst (λ (cs : List Circuit). IsLevelSecond asked r level.Two cs two) seen c.in-Ok.ensures in
     let is = passed-is r one.wants two.wants list later first.is_later second.is_later in
-    let moved = passed-moved r one.wants two.wants list one.movers two.movers c.requires.reached is first.shifted second.shifted in
+    let moved = λ (u : one.unasked ≡ false) (v : two.unasked ≡ false). passed-moved r one.wants two.wants list one.movers two.movers c.requires.reached is (first.shifted u) (second.shifted v) in
     record {
       ready = record { later = later; count = count; one = first.is_later; two = second.is_later; made_one = first.made; made_two = second.made };
       state = refl;
       reply = second-done r t;
-      told = c.told_of-told.ensures.told (outlook_of r) (outlook_of t) moved;
-      marks = c.told_of-told.ensures.marks t (λ none-one none-two.
-          passed-marks r one.wants two.wants list _ later is (unmoved (outlook_of r) (outlook_of t) one.movers two.movers none-one none-two moved) first.still first.says second.still second.says);
+      told = λ a. c.told_of-told.ensures.told (outlook_of r) (outlook_of t) (either-false one.unasked two.unasked (first.answers a) (second.answers a)) (moved (first.answers a) (second.answers a));
+      marks = c.told_of-told.ensures.marks t (λ un none-one none-two.
+          passed-marks r one.wants two.wants list _ later is (unmoved (outlook_of r) (outlook_of t) one.movers two.movers none-one none-two (moved (first-false one.unasked two.unasked un) (second-false one.unasked two.unasked un))) first.still first.says second.still second.says);
     }

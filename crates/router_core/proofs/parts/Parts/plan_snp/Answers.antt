@@ -1,4 +1,4 @@
-use Rattle.std.proofs.Common.{◌≡◌, ◌-◌, Bool, Some, None, IfSome, subst}
+use Rattle.std.proofs.Common.{◌≡◌, ◌-◌, Bool, Some, None, is_some, IfSome, subst}
 use Rattle.model_router.specs.Events as model
 use Rattle.model_router.specs.Numbers.{system_number}
 use Rattle.model_router.specs.Places.{nth}
@@ -14,7 +14,7 @@ use Rattle.router_core.specs.Replies.{Answers}
 use Rattle.router_core.specs.declared.reply.Reply.TheVariants as reply
 use Rattle.router_core.proofs.PlanLemmas.{caused, snp-planned}
 use Rattle.router_core.proofs.TakenLemmas.{none-same}
-use Rattle.router_core.proofs.machine.Machine.plan_snp.Goals as goal
+use Rattle.router_core.proofs.parts.Parts.plan_snp.Goals as goal
 
 -- src/plan_snp.rt
 pub returns-in-Some : goal.returns-in-Some
@@ -24,7 +24,7 @@ returns-in-Some c =
     let l = c.args.level in
     let from = envelope_of c.args.from.0 in
     let source = system_number c.args.from.1 in
-    c.plan_drop.ensures c.args.circuit (model.SnpHeard l from source (range_of c.args.range) (entries_of c.args.entries.now)) c.requires.there
+    c.plan_drop.ensures (is_some c.args.following) c.args.circuit (model.SnpHeard l from source (range_of c.args.range) (entries_of c.args.entries.now)) c.requires.there
     (subst (λ (b : Bool). IfSome (nth r.circuits place) (λ x. snp_drop r place x l from source b ≡ Some (name_of c.in-Some.cause))) (none-same c.args.range c.is_none.result c.is_none.ensures)
     (caused (nth r.circuits place) (λ x. snp_drop r place x l from source c.is_none.result) c.snp_cause.result c.in-Some.cause c.in-Some.is c.snp_cause.ensures))
 

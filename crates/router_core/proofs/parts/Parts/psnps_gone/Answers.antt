@@ -6,7 +6,7 @@ use Rattle.model_router.specs.Places.{nth}
 use Rattle.model_router.specs.Pulls.{with_part}
 use Rattle.router_core.specs.Pulled.{after_psnps, answer_gone}
 use Rattle.router_core.proofs.PullLemmas.{gone-then, gone-else, then-answered}
-use Rattle.router_core.proofs.machine.Machine.psnps_gone.Goals as goal
+use Rattle.router_core.proofs.parts.Parts.psnps_gone.Goals as goal
 
 -- src/pull_parts.rt
 pub returns-then-due : goal.returns-then-due

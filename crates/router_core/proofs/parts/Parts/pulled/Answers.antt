@@ -5,7 +5,7 @@ use Rattle.model_router.specs.Steps.{step}
 use Rattle.router_core.specs.Givens.{given}
 use Rattle.router_core.proofs.PullLemmas.{on-there}
 use Rattle.router_core.proofs.SentLemmas.{all-length, pulled-step}
-use Rattle.router_core.proofs.machine.Machine.pulled.Goals as goal
+use Rattle.router_core.proofs.parts.Parts.pulled.Goals as goal
 
 -- src/pull.rt
 pub settle-requires : goal.settle-requires

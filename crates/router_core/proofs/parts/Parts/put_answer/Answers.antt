@@ -6,7 +6,7 @@ use Rattle.model_router.specs.Takes.{take_entry}
 use Rattle.router_core.specs.Asides.{IsHeldAside}
 use Rattle.router_core.specs.Givens.{given}
 use Rattle.router_core.proofs.AsideLemmas.{answer-aside, stays-aside}
-use Rattle.router_core.proofs.machine.Machine.put_answer.Goals as goal
+use Rattle.router_core.proofs.parts.Parts.put_answer.Goals as goal
 
 -- src/snp_told.rt
 pub returns-then-not-is_apart_in : goal.returns-then-not-is_apart_in

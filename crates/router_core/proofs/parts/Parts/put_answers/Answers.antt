@@ -4,7 +4,7 @@ use Rattle.isis_base.specs.Identifiers.{lsp_number}
 use Rattle.router_wanted.specs.Views.{wanted_of}
 use Rattle.router_core.specs.Machines.{AreWantedFor}
 use Rattle.router_core.proofs.NodesLemmas.{come-end, come-first, come-turn, rest-all}
-use Rattle.router_core.proofs.machine.Machine.put_answers.Goals as goal
+use Rattle.router_core.proofs.parts.Parts.put_answers.Goals as goal
 
 -- src/snp_told.rt
 pub loop-left-init : goal.loop-left-init

@@ -5,7 +5,7 @@ use Rattle.isis_base.specs.Identifiers.{lsp_number}
 use Rattle.router_wanted.specs.Views.{wanted_of}
 use Rattle.router_core.specs.Machines.{AreWantedFor}
 use Rattle.router_core.proofs.NodesLemmas.{Come}
-use Rattle.router_core.proofs.machine.Machine.put_answers.Given as goal
+use Rattle.router_core.proofs.parts.Parts.put_answers.Given as goal
 
 -- what is aside is that of some level, which the entries that are left bring where all bring the first one
 abbrev pub invariant-loop-left : goal.invariant-loop-left

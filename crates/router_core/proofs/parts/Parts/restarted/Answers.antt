@@ -6,7 +6,7 @@ use Rattle.model_router.specs.Starts.{started}
 use Rattle.router_desk.specs.Desks.{DeskView, desk_circuit}
 use Rattle.router_core.specs.Machines.{IsFit}
 use Rattle.router_core.proofs.StartLemmas.{started-fit, started-desk, length-mapped}
-use Rattle.router_core.proofs.machine.Machine.restarted.Goals as goal
+use Rattle.router_core.proofs.parts.Parts.restarted.Goals as goal
 
 -- src/making.rt
 pub invariant_of-result : goal.invariant_of-result

@@ -2,7 +2,7 @@ use Rattle.std.proofs.Common.{◌∙◌, sym, ap}
 use Rattle.model_router.specs.Routers.{level_of}
 use Rattle.lsp_fragments.specs.Issues.{all_rest}
 use Rattle.router_core.proofs.SettledLemmas.{lasting-is, own-is}
-use Rattle.router_core.proofs.machine.Machine.rests.Goals as goal
+use Rattle.router_core.proofs.parts.Parts.rests.Goals as goal
 
 -- src/plan_second.rt
 pub returns : goal.returns

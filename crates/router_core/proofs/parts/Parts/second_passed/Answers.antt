@@ -12,7 +12,7 @@ use Rattle.router_core.specs.Plans.{IsSecondReady}
 use Rattle.router_core.specs.Seconds.{followed, level_later, seen_then}
 use Rattle.router_core.proofs.SecondLemmas.{second-of, later-part}
 use Rattle.router_core.proofs.StepLemmas.{second-step}
-use Rattle.router_core.proofs.machine.Machine.second_passed.Goals as goal
+use Rattle.router_core.proofs.parts.Parts.second_passed.Goals as goal
 
 -- src/second.rt
 pub returns-clause-state : goal.returns-clause-state

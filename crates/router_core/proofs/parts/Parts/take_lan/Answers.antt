@@ -10,7 +10,7 @@ use Rattle.router_circuits.specs.Hellos.{hello_of}
 use Rattle.router_circuits.proofs.ChangeLemmas.{ok-of}
 use Rattle.router_core.proofs.HelloLemmas.{none-refused}
 use Rattle.router_core.proofs.IdleLemmas.{each-some, from-some, heard-with}
-use Rattle.router_core.proofs.machine.Machine.take_lan.Goals as goal
+use Rattle.router_core.proofs.parts.Parts.take_lan.Goals as goal
 
 -- src/hellos.rt
 pub unreachable-requires : goal.unreachable-requires

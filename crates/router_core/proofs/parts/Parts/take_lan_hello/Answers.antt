@@ -8,7 +8,7 @@ use Rattle.model_router.specs.Places.{nth}
 use Rattle.router_circuits.specs.Hellos.{hello_of}
 use Rattle.router_desk.specs.Heard.{hello_heard}
 use Rattle.router_core.proofs.HelloLemmas.{hello-state, on-ok}
-use Rattle.router_core.proofs.machine.Machine.take_lan_hello.Goals as goal
+use Rattle.router_core.proofs.parts.Parts.take_lan_hello.Goals as goal
 
 -- src/taking.rt
 pub take_lan-requires-clause-passes : goal.take_lan-requires-clause-passes

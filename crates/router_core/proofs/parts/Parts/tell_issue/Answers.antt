@@ -4,7 +4,7 @@ use Rattle.model_router.specs.OwnLsps.{issue_cell}
 use Rattle.router_wanted.specs.Views.{contents_of}
 use Rattle.router_core.specs.Givens.{given}
 use Rattle.router_core.proofs.SightLemmas.{sight-issued}
-use Rattle.router_core.proofs.machine.Machine.tell_issue.Goals as goal
+use Rattle.router_core.proofs.parts.Parts.tell_issue.Goals as goal
 
 -- src/renewing.rt
 pub returns-in-Ok : goal.returns-in-Ok

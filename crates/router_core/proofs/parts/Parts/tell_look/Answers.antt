@@ -6,7 +6,7 @@ use Rattle.router_core.specs.Renewals.{sight_of}
 use Rattle.router_core.proofs.AsideLemmas.{named}
 use Rattle.router_core.proofs.RenewalLemmas.{look-issues, look-retires, look-waits}
 use Rattle.router_core.proofs.SightLemmas.{sight-purged}
-use Rattle.router_core.proofs.machine.Machine.tell_look.Goals as goal
+use Rattle.router_core.proofs.parts.Parts.tell_look.Goals as goal
 
 -- src/renewing.rt
 pub returns-in-Wait-clause-ahead : goal.returns-in-Wait-clause-ahead

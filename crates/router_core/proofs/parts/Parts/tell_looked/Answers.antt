@@ -6,7 +6,7 @@ use Rattle.router_wanted.specs.Views.{contents_of}
 use Rattle.router_core.proofs.NodesLemmas.{rest-all}
 use Rattle.router_core.proofs.RenewalLemmas.{look-end, look-first, look-turn}
 use Rattle.router_core.proofs.WantedLemmas.{all-first, opens-at}
-use Rattle.router_core.proofs.machine.Machine.tell_looked.Goals as goal
+use Rattle.router_core.proofs.parts.Parts.tell_looked.Goals as goal
 
 -- src/renewing.rt
 pub loop-left-init : goal.loop-left-init

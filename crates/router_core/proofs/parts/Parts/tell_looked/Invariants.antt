@@ -5,7 +5,7 @@ use Rattle.model_router.specs.Good.{IsIssuable}
 use Rattle.router_wanted.specs.declared.wanted.Wanted.{Wanted}
 use Rattle.router_wanted.specs.Views.{contents_of}
 use Rattle.router_core.proofs.RenewalLemmas.{Looks}
-use Rattle.router_core.proofs.machine.Machine.tell_looked.Given as goal
+use Rattle.router_core.proofs.parts.Parts.tell_looked.Given as goal
 
 -- what is told is what the fragments so far bring, and so many entries are held then
 abbrev pub invariant-loop-left : goal.invariant-loop-left

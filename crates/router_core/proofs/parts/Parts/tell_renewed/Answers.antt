@@ -5,7 +5,7 @@ use Rattle.router_wanted.specs.Views.{wanted_of}
 use Rattle.router_core.specs.Givens.{given}
 use Rattle.router_core.specs.Renewals.{sight_of, staying}
 use Rattle.router_core.proofs.RenewalLemmas.{renewed-aside}
-use Rattle.router_core.proofs.machine.Machine.tell_renewed.Goals as goal
+use Rattle.router_core.proofs.parts.Parts.tell_renewed.Goals as goal
 
 -- src/renewing.rt
 pub returns-in-Ok : goal.returns-in-Ok

@@ -6,7 +6,7 @@ use Rattle.model_router.specs.Routers.{Circuit, Router}
 use Rattle.adjacency.specs.Changes.{IsTested}
 use Rattle.router_circuits.specs.Hellos.{hello_of}
 use Rattle.router_core.specs.Machines.{machine_of}
-use Rattle.router_core.proofs.machine.Machine.test_lan.Goals as goal
+use Rattle.router_core.proofs.parts.Parts.test_lan.Goals as goal
 
 -- src/hellos.rt
 pub test_lan_at-requires-clause-there : goal.test_lan_at-requires-clause-there

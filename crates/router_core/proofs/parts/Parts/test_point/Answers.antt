@@ -6,7 +6,7 @@ use Rattle.adjacency.specs.Changes.{IsTested}
 use Rattle.router_circuits.specs.Hellos.{hello_of}
 use Rattle.router_core.specs.Machines.{machine_of}
 use Rattle.router_core.specs.Settled.{LeavesFace}
-use Rattle.router_core.proofs.machine.Machine.test_point.Goals as goal
+use Rattle.router_core.proofs.parts.Parts.test_point.Goals as goal
 
 -- src/hellos.rt
 pub test_point_at-requires-clause-there : goal.test_point_at-requires-clause-there

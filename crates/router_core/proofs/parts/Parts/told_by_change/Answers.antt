@@ -8,11 +8,11 @@ use Rattle.router_routes.specs.Outlooks.{outlook_of, prefixes_by}
 use Rattle.router_core.specs.Events.{change_of}
 use Rattle.router_core.specs.Givens.{given}
 use Rattle.router_core.proofs.RouteLemmas.{prefix-outlook, metric-outlook, overload-outlook}
-use Rattle.router_core.proofs.machine.Machine.told_by_change.Goals as goal
+use Rattle.router_core.proofs.parts.Parts.told_by_change.Goals as goal
 
 -- src/plan_change.rt
 pub returns-in-Ok : goal.returns-in-Ok
-returns-in-Ok c =
+returns-in-Ok c _ =
     let r = c.args.self.now in
     let prefix = prefix_number c.in-Prefix.prefix in
     let metric = c.in-Prefix.metric in
@@ -22,14 +22,14 @@ returns-in-Ok c =
 
 -- src/plan_change.rt
 pub returns-in-Metric : goal.returns-in-Metric
-returns-in-Metric c =
+returns-in-Metric c _ =
     let r = c.args.self.now in
     subst (λ (change : Change). outlook_of (step given r (change_of change)).router ≡ outlook_of r) (sym c.in-Metric.is)
     (metric-outlook given r (c.in-Metric.circuit - 1) c.in-Metric.metric)
 
 -- src/plan_change.rt
 pub returns-in-Overload : goal.returns-in-Overload
-returns-in-Overload c =
+returns-in-Overload c _ =
     let r = c.args.self.now in
     subst (λ (change : Change). outlook_of (step given r (change_of change)).router ≡ outlook_of r) (sym c.in-Overload.is)
     (overload-outlook given r c.in-Overload.on)

@@ -18,8 +18,8 @@ use Rattle.router_core.specs.Asides.{IsCovered, IsHeldAside, IsShown}
 use Rattle.router_core.specs.Givens.{given}
 use Rattle.router_core.proofs.AsideLemmas.{snp-aside}
 use Rattle.router_core.proofs.NodesLemmas.{all-covered, aside-moved, level-config, level-other, moved-in, shown-in}
-use Rattle.router_core.proofs.RouteLemmas.{unrun-outlook}
-use Rattle.router_core.proofs.machine.Machine.told_by_entries.Goals as goal
+use Rattle.router_core.proofs.RouteLemmas.{beside-long, unrun-outlook}
+use Rattle.router_core.proofs.parts.Parts.told_by_entries.Goals as goal
 
 -- src/snp_told.rt
 pub returns-then-not-runs : goal.returns-then-not-runs
@@ -40,7 +40,7 @@ aside_after-requires-clause-shown c =
     let ids = subst (λ (d : Database). AllByRecursion (λ (p : LspId × Entry). IsId p.0) d.entries) c.store-store.ensures c.len-entries.ensures.ids in
     let rises = subst (λ (d : Database). RisesFrom 0 d.entries) c.store-store.ensures c.len-entries.ensures.rises in
     subst (λ (d : Database). IsShown r l d.entries) (sym c.store-store.ensures)
-    (shown-in r l v of_book (c.has_rows.ensures c.if-not-has_rows.false) ids rises (c.requires.reached.speaking.sorted.on l))
+    (shown-in r l v of_book (beside-long v.store.entries c.flag_pages-rows.result.now.entries v.rows c.flag_pages-rows.ensures.rows c.flag_pages-rows.ensures.beside) ids rises (c.requires.reached.speaking.sorted.on l))
 
 -- src/snp_told.rt
 pub aside_after-requires-clause-covered : goal.aside_after-requires-clause-covered
@@ -65,7 +65,7 @@ returns-in-Ok c place range =
     let ids = subst (λ (d : Database). AllByRecursion (λ (p : LspId × Entry). IsId p.0) d.entries) c.store-store.ensures c.len-entries.ensures.ids in
     let rises = subst (λ (d : Database). RisesFrom 0 d.entries) c.store-store.ensures c.len-entries.ensures.rises in
     let shown = subst (λ (d : Database). IsShown r l d.entries) (sym c.store-store.ensures)
-    (shown-in r l v of_book (c.has_rows.ensures c.if-not-has_rows.false) ids rises (c.requires.reached.speaking.sorted.on l)) in
+    (shown-in r l v of_book (beside-long v.store.entries c.flag_pages-rows.result.now.entries v.rows c.flag_pages-rows.ensures.rows c.flag_pages-rows.ensures.beside) ids rises (c.requires.reached.speaking.sorted.on l)) in
     c.told_at.ensures (outlook_of r) (outlook_of (with_level r l s))
     (moved-in r l s nodes (told_in told) (sym c.runs.ensures ∙ c.if-not-runs.false) c.in_ok-nodes.ensures.rises
     (aside-moved r l nodes s told c.store-store.result.now.entries held shown c.len-told.ensures.ids c.len-told.ensures.rises))

@@ -1,6 +1,6 @@
 use Rattle.std.proofs.Common.{◌∙◌, sym}
 use Rattle.router_core.proofs.PlanLemmas.{moving-of}
-use Rattle.router_core.proofs.machine.Machine.told_by_lsp.Goals as goal
+use Rattle.router_core.proofs.parts.Parts.told_by_lsp.Goals as goal
 
 -- src/plan_lsp.rt
 pub moving_by-requires-clause-moving : goal.moving_by-requires-clause-moving

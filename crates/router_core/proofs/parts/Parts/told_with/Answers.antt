@@ -10,8 +10,8 @@ use Rattle.model_router.specs.Routers.{LevelState, book_of, level_of}
 use Rattle.flag_sync.specs.BookStates as sync
 use Rattle.router_levels.specs.Views.{state_of}
 use Rattle.router_core.proofs.MovedLemmas.{put-tells}
-use Rattle.router_core.proofs.RouteLemmas.{unrun-outlook}
-use Rattle.router_core.proofs.machine.Machine.told_with.Goals as goal
+use Rattle.router_core.proofs.RouteLemmas.{beside-long, unrun-outlook}
+use Rattle.router_core.proofs.parts.Parts.told_with.Goals as goal
 
 -- src/told.rt
 pub returns : goal.returns
@@ -25,7 +25,7 @@ returns c =
     let runs : at r.config.runs l ≡ true = sym c.runs.ensures ∙ c.if-not-runs.false in
     let ids = subst (λ (d : Database). AllByRecursion (λ (p : LspId × Entry). IsId p.0) d.entries) c.store-store.ensures c.len-entries.ensures.ids in
     let rises = subst (λ (d : Database). RisesFrom 0 d.entries) c.store-store.ensures c.len-entries.ensures.rises in
-    λ t w. put-tells r t l runs id c.args.entry w v of_book (c.has_rows.ensures c.if-not-has_rows.false) c.lsp_id_law.ensures ids rises
+    λ t w. put-tells r t l runs id c.args.entry w v of_book (beside-long v.store.entries c.flag_pages-rows.result.now.entries v.rows c.flag_pages-rows.ensures.rows c.flag_pages-rows.ensures.beside) c.lsp_id_law.ensures ids rises
 
 -- src/told.rt
 pub returns-then-not-runs : goal.returns-then-not-runs

@@ -4,4 +4,4 @@ use Rattle.router_core.proofs.router.Router.restarted.Goals as goal
 
 -- src/router.rt
 pub begun-requires : goal.begun-requires
-begun-requires c = subst IsReached (sym c.in_ok-machine.ensures) (c.reached_laws.ensures.restart c.self.inside.machine c.args.boot c.self.invariant.reached (omega (arith, c.requires)))
+begun-requires g c = subst IsReached (sym c.in_ok-parts.ensures) (c.reached_laws.ensures.restart c.self.inside.parts c.args.boot c.self.invariant.reached (omega (arith, c.requires)))
