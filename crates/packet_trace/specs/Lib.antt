@@ -1,0 +1,2 @@
+-- The definitions: what becomes of a packet at a router.
+pub mod Steps

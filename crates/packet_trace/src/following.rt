@@ -1,0 +1,33 @@
+//! The packet followed to its end.
+ghost use Rattle.std.specs.Prelude.{◌<◌, length, IfOk};
+ghost use Rattle.trace_core.specs.Traces.{IsTraced, by};
+ghost use Rattle.packet_trace.specs.Steps.{step_at};
+
+use crate::forwarder::Forwarder;
+use crate::packets::Packets;
+use isis_base::OutOfMemory;
+use std::alloc::Global;
+use trace_core::{Traced, trace};
+
+/// Follows a packet to an address from a router, each time by the route that the router looks up and its first next hop. The
+/// way ends where the packet is at a router whose own the prefix is, is lost, or comes to a router where it was. Routers are
+/// numbered by their places. It takes memory for their places on the way.
+pub fn follow(
+    alloc: Global,
+    forwarders: &[Forwarder],
+    from: usize,
+    address: u32,
+) -> Result<Traced, OutOfMemory>
+    requires { from < length forwarders.now }
+    ensures { IfOk result (λ traced.
+        IsTraced (by (step_at forwarders.now address)) from traced) }
+{
+    let packets = Packets {
+        forwarders,
+        address,
+    };
+    match trace(alloc, &packets, from) {
+        Ok(traced) => Ok(traced),
+        Err(_) => Err(OutOfMemory),
+    }
+}
