@@ -77,3 +77,20 @@ route_at forwarders address place = route_of address (slice_get forwarders place
 abbrev pub step_at : List Forwarder → ℕ → ℕ → Step
 step_at forwarders address place =
     step_by (map node_of forwarders) (route_at forwarders address place)
+
+-- ---- whichever next hop is taken
+
+-- one step for each next hop; where there is none the packet is lost
+abbrev pub steps_on : List ℕ → List ℕ → List Step
+steps_on nodes [] = Lost ∷ []
+steps_on nodes (hop ∷ hops) = map (λ (h : ℕ). step_to (place_of nodes h)) (hop ∷ hops)
+
+abbrev pub steps_by : List ℕ → Option Route → List Step
+steps_by nodes None = Lost ∷ []
+steps_by nodes (Some route) =
+    if rank_number route.rank == 0 then Home ∷ [] else steps_on nodes route.hops
+
+-- what may become of the packet at the router of a place
+abbrev pub steps_at : List Forwarder → ℕ → ℕ → List Step
+steps_at forwarders address place =
+    steps_by (map node_of forwarders) (route_at forwarders address place)

@@ -6,7 +6,7 @@
 //!
 //! - `forwarder.rt`: what packets meet at a router: its system ID and its routes
 //! - `packets.rt`: what becomes of a packet at each router; `nodes.rt`: which router a system is
-//! - `following.rt`: the packet followed to its end
+//! - `following.rt`: the packet followed to its end, and what may become of it whichever next hops it takes
 //! - `laws.rt`: laws, functions without a body
 #![tactic(auto)]
 
@@ -16,7 +16,7 @@ pub mod laws;
 mod nodes;
 mod packets;
 
-pub use following::follow;
+pub use following::{follow, outcomes};
 pub use forwarder::Forwarder;
 pub use nodes::place_of;
 pub use packets::route_at;

@@ -1,13 +1,16 @@
 //! What becomes of a packet at each router.
-ghost use Rattle.std.specs.Prelude.{◌≡◌, length, map, Some, None, MatchOption};
+ghost use Rattle.std.specs.Prelude.{◌≡◌, ◌<◌, ◌==◌, ℕ, List, length, map, Some, None, MatchOption, slice_get};
+ghost use Rattle.route_table.specs.Ranks.{rank_number};
+ghost use Rattle.spf_tree.specs.Nodes.{system_node};
 ghost use Rattle.trace_core.specs.Traces.{IsInside, by};
 ghost use Rattle.packet_trace.specs.Steps as steps;
 
 use crate::forwarder::Forwarder;
 use crate::nodes::place_of;
+use isis_base::SystemId;
 use route_table::laws::routes_laws;
 use route_table::{Rank, Route};
-use trace_core::{Places, Step};
+use trace_core::{Places, Step, Ways};
 
 /// Packets to an address, over routers.
 #[derive(Drop)]
@@ -24,6 +27,26 @@ impl<'a> Places for Packets<'a> {
     fn step(&self, place: usize) -> Step {
         match route_at(self.forwarders, self.address, place) {
             Some(route) => step_by(self.forwarders, route),
+            None => Step::Lost,
+        }
+    }
+}
+
+impl<'a> Ways for Packets<'a> {
+    ghost many = { λ p. length p.forwarders.now };
+
+    ghost ways = { λ p. steps.steps_at p.forwarders.now p.address };
+
+    fn count(&self, place: usize) -> usize {
+        match route_at(self.forwarders, self.address, place) {
+            Some(route) => way_count(route),
+            None => 1,
+        }
+    }
+
+    fn way(&self, place: usize, number: usize) -> Step {
+        match route_at(self.forwarders, self.address, place) {
+            Some(route) => way_by(self.forwarders, route, number),
             None => Step::Lost,
         }
     }
@@ -55,14 +78,56 @@ fn step_by(forwarders: &[Forwarder], route: &Route) -> Step
     ensures inside { IsInside (length forwarders.now) result }
     ensures is { result ≡ steps.step_by (map steps.node_of forwarders.now) (Some route.now) }
 {
-    if route.rank == Rank::Own {
+    if is_own(route) {
         return Step::Home;
     }
     match route.hops.get(0) {
-        Some(system) => match place_of(forwarders, system) {
-            Some(next) => Step::On(next),
-            None => Step::Lost,
-        },
+        Some(system) => step_to(forwarders, system),
         None => Step::Lost,
     }
+}
+
+/// What becomes of a packet that is handed to a system.
+fn step_to(forwarders: &[Forwarder], system: SystemId) -> Step
+    ensures inside { IsInside (length forwarders.now) result }
+    ensures is { result ≡ steps.step_to
+        (steps.place_of (map steps.node_of forwarders.now) (system_node system)) }
+{
+    match place_of(forwarders, system) {
+        Some(next) => Step::On(next),
+        None => Step::Lost,
+    }
+}
+
+/// How many ways there are by a route: one for each next hop, and one where there is none.
+fn way_count(route: &Route) -> usize
+    ensures { (nodes : List ℕ) → result ≡ length (steps.steps_by nodes (Some route.now)) }
+{
+    if is_own(route) {
+        return 1;
+    }
+    route.hops.len().max(1)
+}
+
+/// What becomes of a packet by a route and its next hop of this number.
+fn way_by(forwarders: &[Forwarder], route: &Route, number: usize) -> Step
+    requires { number < length (steps.steps_by (map steps.node_of forwarders.now) (Some route.now)) }
+    ensures inside { IsInside (length forwarders.now) result }
+    ensures is { slice_get (steps.steps_by (map steps.node_of forwarders.now) (Some route.now)) number
+        ≡ Some result }
+{
+    if is_own(route) {
+        return Step::Home;
+    }
+    match route.hops.get(number) {
+        Some(system) => step_to(forwarders, system),
+        None => Step::Lost,
+    }
+}
+
+/// Whether a route is the router's own.
+fn is_own(route: &Route) -> bool
+    ensures { result ≡ (rank_number route.now.rank == 0) }
+{
+    route.rank == Rank::Own
 }

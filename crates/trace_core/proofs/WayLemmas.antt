@@ -15,7 +15,7 @@ use Rattle.trace_core.specs.Traces.{AreMoves, IsNew, AreOnce}
 -- ---- lists of places
 
 -- the only item of a list of one
-one-item : (x p : ℕ) → Contains (x ∷ []) p → x ≡ p
+pub one-item : (x p : ℕ) → Contains (x ∷ []) p → x ≡ p
 one-item x p (zero, low, is) = is
 one-item x p (suc k, low, is) = absurd (omega (arith, low))
 

@@ -1,7 +1,7 @@
 //! What becomes of a packet at one place, and on its whole way.
 
 /// What becomes of a packet at a place (own).
-#[derive(Clone, Copy, Debug)]
+#[derive(Clone, Copy, Debug, PartialEq, Eq)]
 pub enum Step {
     /// The packet is at home: it arrived.
     Home,

@@ -1,0 +1,4 @@
+-- Lemmas.
+mod PlaceLemmas
+mod ArriveLemmas
+mod ForwarderLemmas
