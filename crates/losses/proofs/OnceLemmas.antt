@@ -1,7 +1,7 @@
 -- The schedules of a tree are all, each once.
-use Rattle.std.proofs.Common.{◌≡◌, ℕ, zero, suc, ◌+◌, ◌≤◌, ◌<◌, ◌⊎◌, inl, inr, Bool, true, false, List, [], ◌∷◌, ◌++◌, refl, sym, ap, ◌∙◌, subst, arith}
+use Rattle.std.proofs.Common.{◌≡◌, ℕ, zero, suc, ◌+◌, ◌≤◌, ◌⊎◌, inl, inr, Bool, true, false, List, [], ◌∷◌, ◌++◌, refl, sym, ap, ◌∙◌, subst, arith}
 use Rattle.std.proofs.lemmas.List.{append_assoc}
-use Rattle.losses.specs.Trees.{Tree, Ends, Comes, behind, quiet_cost, cost_of, losses_in, places_from}
+use Rattle.losses.specs.Trees.{Tree, Ends, Comes, quiet_cost, cost_of, losses_in, places_from}
 use Rattle.losses.specs.Schedules.{Schedule, schedules, with_losses}
 use Rattle.losses.specs.Claims.{LosesAmong, AreApart, AreAllOnce}
 use Rattle.losses.proofs.TreeLemmas.{behind-nil}

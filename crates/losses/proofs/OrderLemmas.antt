@@ -1,8 +1,8 @@
 -- Worst costs are in one order, so that they are joined in any order.
-use Rattle.std.proofs.Common.{◌≡◌, ℕ, ◌+◌, ◌<◌, ◌==◌, nat_lt, ◌⊎◌, inl, inr, Bool, true, false, List, [], ◌∷◌, if◌then◌else◌, refl, sym, ap, ◌∙◌, subst, arith}
+use Rattle.std.proofs.Common.{◌≡◌, ℕ, ◌<◌, ◌==◌, nat_lt, ◌⊎◌, inl, inr, Bool, true, false, List, [], ◌∷◌, if◌then◌else◌, refl, sym, ap, ◌∙◌, subst, arith}
 use Rattle.std.proofs.lemmas.Bool.{cases_eq}
 use Rattle.std.proofs.lemmas.Bool.Decides.{nat_tests}
-use Rattle.losses.specs.Parts.{is_sooner, Worst, is_worse, worse_of, Sum, joined, nothing_known, AreJoined}
+use Rattle.losses.specs.Parts.{is_sooner, Worst, is_worse, worse_of, Sum, joined, AreJoined}
 
 differ : (b : Bool) → b ≡ true → b ≡ false → ⊥
 differ true t f = let e : false ≡ true = sym f in grind (arith, nat_tests, e)

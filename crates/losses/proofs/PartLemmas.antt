@@ -1,10 +1,9 @@
 -- Parts are all schedules, each in one.
-use Rattle.std.proofs.Common.{◌≡◌, ℕ, zero, suc, ◌+◌, ◌-◌, ◌%◌, ◌<◌, ◌≤◌, ◌==◌, ◌⊎◌, inl, inr, Bool, true, false, List, [], ◌∷◌, ◌++◌, length, if◌then◌else◌, refl, sym, ap, ◌∙◌, subst, arith}
+use Rattle.std.proofs.Common.{◌≡◌, ℕ, zero, suc, ◌+◌, ◌-◌, ◌%◌, ◌<◌, ◌==◌, inl, inr, Bool, true, false, List, [], ◌∷◌, ◌++◌, length, if◌then◌else◌, refl, sym, ap, ◌∙◌, subst, arith}
 use Rattle.std.specs.List.{AllByRecursion}
 use Rattle.std.proofs.lemmas.List.{append_assoc, append-nil, length-append}
 use Rattle.std.proofs.lemmas.List.Sums.{fold-append}
 use Rattle.std.proofs.lemmas.Nat.{mod_below}
-use Rattle.std.proofs.lemmas.Bool.{cases_eq}
 use Rattle.std.proofs.lemmas.Bool.Decides.{nat_tests}
 use Rattle.losses.specs.declared.fault.LossesFault.{LossesFault}
 use Rattle.losses.specs.declared.fault.LossesFault.TheVariants.{TooMany, Limit, OutOfMemory}
@@ -13,7 +12,7 @@ use Rattle.losses.specs.Schedules.{Schedule, schedules, with_losses}
 use Rattle.losses.specs.Counts.{Count, nothing, with_one, with_all}
 use Rattle.losses.specs.Claims.{LosesAmong, IsWorst}
 use Rattle.losses.specs.Parts.{part_of, of_part}
-use Rattle.losses.specs.PartsLeft.{first_schedule, lost_here, part_losses}
+use Rattle.losses.specs.PartsLeft.{first_schedule, part_losses}
 use Rattle.losses.specs.Causes.{Cause}
 use Rattle.losses.proofs.TreeLemmas.{counted-all}
 use Rattle.losses.proofs.WorstLemmas.{worst}

@@ -1,5 +1,5 @@
 -- Turns of a run whose deliveries arrive.
-use Rattle.std.proofs.Common.{◌≡◌, ℕ, zero, suc, ◌+◌, ◌-◌, ◌%◌, ◌==◌, if◌then◌else◌, ◌<◌, ◌≤◌, length, take, Bool, true, false, List, [], ◌∷◌, ◌++◌, Result, Ok, Err, refl, sym, ap, ◌∙◌, subst, arith}
+use Rattle.std.proofs.Common.{◌≡◌, ℕ, zero, suc, ◌+◌, ◌-◌, ◌%◌, ◌==◌, if◌then◌else◌, ◌<◌, ◌≤◌, length, take, Bool, true, false, List, [], ◌∷◌, ◌++◌, Result, Err, refl, sym, ap, ◌∙◌, subst, arith}
 use Rattle.std.proofs.lemmas.List.{append_assoc, append-nil, length-append, take-append-le}
 use Rattle.std.proofs.Math.Seq.{take-append_seam, take-length}
 use Rattle.std.proofs.lemmas.List.Sums.{fold-append}
@@ -10,7 +10,7 @@ use Rattle.losses.specs.declared.fault.LossesFault.{LossesFault}
 use Rattle.losses.specs.declared.fault.LossesFault.TheVariants.{TooMany, Limit, OutOfMemory}
 use Rattle.losses.specs.Trees.{Tree, Ends, Comes, behind, quiet_cost, quiet_length, losses_in}
 use Rattle.losses.specs.Schedules.{Schedule, schedules, with_losses}
-use Rattle.losses.specs.Counts.{Count, nothing, with_one, with_all}
+use Rattle.losses.specs.Counts.{Count, with_one, with_all}
 use Rattle.losses.specs.PartsLeft.{first_schedule, lost_here, part_losses}
 use Rattle.losses.specs.Causes.{Cause, IsFull, fault_of}
 

@@ -1,5 +1,5 @@
-use Rattle.std.proofs.Common.{ℕ, ◌+◌, ◌-◌, take, ◌<◌, ◌≡◌, ap, sym, ◌∙◌, refl, ◌++◌, ◌∷◌, [], true, false, arith}
-use Rattle.losses.specs.Trees.{Tree, behind, losses_in, quiet_length, quiet_cost}
+use Rattle.std.proofs.Common.{◌+◌, ◌-◌, ap, ◌∙◌, refl, ◌++◌, ◌∷◌, [], false, arith}
+use Rattle.losses.specs.Trees.{behind, losses_in, quiet_length}
 use Rattle.losses.specs.Schedules.{schedules, with_losses}
 use Rattle.losses.proofs.TreeLemmas.{follows-on, going-on, going-all, going-cause, none-more, none-left, begun-told, kept-first, turned, fewer, same-losses, split-at, put-loses}
 use Rattle.losses.proofs.exploring.+follow.Goals as goal

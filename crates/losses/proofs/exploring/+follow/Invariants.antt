@@ -1,4 +1,4 @@
-use Rattle.std.proofs.Common.{◌≡◌, ℕ, ◌+◌, ◌≤◌, length, take}
+use Rattle.std.proofs.Common.{◌≡◌, ◌+◌, ◌≤◌, length, take}
 use Rattle.losses.specs.Trees.{Tree, behind, losses_in, quiet_length}
 use Rattle.losses.specs.Schedules.{schedules, with_losses}
 use Rattle.losses.proofs.TreeLemmas.{Going}

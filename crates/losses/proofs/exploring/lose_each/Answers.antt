@@ -1,4 +1,4 @@
-use Rattle.std.proofs.Common.{List, Bool, ◌+◌, ap, sym, ◌∙◌, refl, ◌++◌, ◌∷◌, [], true, false, arith}
+use Rattle.std.proofs.Common.{◌+◌, ap, sym, ◌∙◌, refl, ◌++◌, ◌∷◌, [], true, false, arith}
 use Rattle.losses.specs.Trees.{behind, losses_in, quiet_length}
 use Rattle.losses.specs.Counts.{with_all}
 use Rattle.losses.specs.PartsLeft.{lost_here, part_losses}

@@ -1,4 +1,4 @@
-use Rattle.std.proofs.Common.{◌≡◌, ℕ, ◌+◌, []}
+use Rattle.std.proofs.Common.{◌≡◌, ◌+◌, []}
 use Rattle.losses.specs.Trees.{Tree, behind, losses_in, quiet_length}
 use Rattle.losses.specs.PartsLeft.{part_losses}
 use Rattle.losses.proofs.TreeLemmas.{Going}

@@ -1,0 +1,4 @@
+mod PlainLemmas
+mod UnrollLemmas
+mod RanLemmas
+mod GrowLemmas
