@@ -1,0 +1,19 @@
+//! What lost deliveries do to the last line of a script, as a text (own).
+//!
+//! - `words.rt`: how many losses, and which part of all schedules, words ask for
+//! - `part_words.rt`: a part by its number and how many there are
+//! - `said.rt`: what a text says; `naming.rt`: lost deliveries with the names of their routers
+//! - `lines.rt`: the text
+#![tactic(auto)]
+
+mod lines;
+mod naming;
+mod part_words;
+mod said;
+mod words;
+
+pub use lines::losses_text;
+pub use naming::name_losses;
+pub use part_words::PartOf;
+pub use said::{Losses, NamedLoss};
+pub use words::{read_most, read_part};
