@@ -1,4 +1,4 @@
-mod PlainLemmas
+pub mod PlainLemmas
 mod UnrollLemmas
 mod RanLemmas
 mod GrowLemmas

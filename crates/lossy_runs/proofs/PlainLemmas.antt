@@ -8,8 +8,9 @@ use Rattle.model_network.specs.Networks.{Datagram, octets_of, Network}
 use Rattle.model_network.specs.Runs.{PullOn, Deliver, apply}
 use Rattle.model_network.specs.RunLines.{is_excepted, is_left_out, by_router, ends_of, datagram_limit, links_at, tick_each}
 use Rattle.model_network.specs.RunLines as plain
+use Rattle.lossy_runs.specs.LossyRuns.{run_second, run_line}
 use Rattle.lossy_runs.specs.LossyRuns.{Fated, by_fate, with_fate, on_net, deliver_each, deliver_one, where_found, deliver_behind, pull_one, pull_links, pull_each}
-use Rattle.lossy_runs.specs.Claims.{IsPlain}
+use Rattle.lossy_runs.specs.Claims.{IsPlain, IsPlainLine}
 
 -- no fate is left, and the network is this
 record IsFree (s : Fated) (net : Network) : Type 0 where
@@ -81,6 +82,23 @@ pulls given without except router (suc count) s net f = by (λ s net f. pulls gi
     by more false = more (pull_links given without except router (links_at s.net router) s) (plain.pull_links given without except router (links_at net router) net)
         (subst (λ (m : Network). IsFree (pull_links given without except router (links_at m router) s) (plain.pull_links given without except router (links_at net router) net)) (sym f.net_is)
         (links given without except router (links_at net router) s net f))
+
+free-second : (given : Given) (without : Option PduWord) (except : Option ℕ) (s : Fated) (net : Network) → IsFree s net
+    → IsFree (run_second given without except s) (plain.run_second given without except net)
+free-second given without except s net f =
+    subst (λ (m : Network). IsFree (pull_each given without except 0 (length m.routers) (on_net (tick_each given except 0 (length m.routers)) s)) (plain.run_second given without except net)) (sym f.net_is)
+    (pulls given without except 0 (length net.routers) (on_net (tick_each given except 0 (length net.routers)) s) (tick_each given except 0 (length net.routers) net)
+    (record { none = f.none; net_is = ap (tick_each given except 0 (length net.routers)) f.net_is }))
+
+free-line : (is_good : Network → Bool) (given : Given) (without : Option PduWord) (except : Option ℕ) (seconds second last : ℕ) (s : Fated) (net : Network) → IsFree s net
+    → (run_line is_good given without except seconds second last s).sent ≡ length (plain.run_line given without except seconds net).datagrams
+free-line is_good given without except zero second last s net f = ap (λ (n : Network). length n.datagrams) f.net_is
+free-line is_good given without except (suc seconds) second last s net f =
+    free-line is_good given without except seconds (second + 1) (if is_good (run_second given without except s).net then last else second + 1)
+    (run_second given without except s) (plain.run_second given without except net) (free-second given without except s net f)
+
+pub plain-line : IsPlainLine
+plain-line is_good given without except seconds net = free-line is_good given without except seconds 0 0 (record { net = net; fates = []; place = 0; lost = [] }) net (record { none = refl; net_is = refl })
 
 pub plain-second : IsPlain
 plain-second given without except net place lost =

@@ -41,6 +41,12 @@ IsPlain = (given : Given) (without : Option PduWord) (except : Option ℕ) (net 
     → (run_second given without except (record { net = net; fates = []; place = place; lost = lost })).net
     ≡ plain.run_second given without except net
 
+-- a line in which all deliveries arrive sends what the plain one sends (own)
+abbrev pub IsPlainLine : Type 0
+IsPlainLine = (is_good : Network → Bool) (given : Given) (without : Option PduWord) (except : Option ℕ) (seconds : ℕ) (net : Network)
+    → (looked is_good given without except seconds net []).sent
+    ≡ length (plain.run_line given without except seconds net).datagrams
+
 -- The tree has each run with losses: what it costs, how many deliveries come up after those that had a
 -- fate, and the places of those that are lost (own).
 pub record IsUnrolled (is_good : Network → Bool) (given : Given) (without : Option PduWord) (except : Option ℕ)

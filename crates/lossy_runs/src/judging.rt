@@ -30,6 +30,7 @@ pub trait Judge<L: Lab> {
 }
 
 /// A line `run` that is played again and again from one network.
+#[derive(Drop)]
 pub struct LossyRun<'r, L: Lab, J: Judge<L>> {
     /// Where fates and losses are kept.
     pub alloc: Global,
