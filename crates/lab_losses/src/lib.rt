@@ -1,0 +1,18 @@
+//! Lost deliveries in the last line of a lab script (own).
+//!
+//! The network before that line is made anew for each schedule: the script's other lines are played again.
+//!
+//! - `replay.rt`: a network of network_lab as lossy_runs uses it
+//! - `kinds.rt`: the kinds of PDUs that a line leaves out
+//! - `finding.rt`: the call that finds the worst
+//! - `groups.rt`: whether its groups are those at the end of the line where nothing is lost
+#![tactic(auto)]
+
+mod finding;
+mod groups;
+mod kinds;
+mod replay;
+
+pub use finding::{Found, find_losses};
+pub use groups::SameGroups;
+pub use replay::Replay;
