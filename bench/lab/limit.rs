@@ -1,10 +1,11 @@
-//! The least that a grid of IS-IS routers takes in plain Rust, each route kept at each store: the seconds, pulls and
+//! The least that a grid of IS-IS routers takes in plain Rust: the seconds, pulls and
 //! deliveries of `isis grid`, each datagram written and read as octets, its checksum made and tested. It knows what a grid
 //! needs and no more: level 1, links, one LSP a system, nothing purged, no keys.
 //!
-//!   limit SIDE repair|scratch|none [SECONDS] [PREFIXES]
+//!   limit SIDE repair|scratch|end|none [SECONDS] [PREFIXES]
 //!
-//! `repair` changes costs, next hops and routes where a store moves them; `scratch` makes them all anew; `none` has none.
+//! `repair` changes costs, next hops and routes where a store moves them; `scratch` makes them all anew; `end` has them once, when all is
+//! over; `none` has none.
 use std::cmp::Reverse;
 use std::collections::{BTreeMap, BinaryHeap, HashMap};
 
@@ -243,6 +244,23 @@ impl Paths {
         prefixes.sort_unstable();
         prefixes.dedup();
         for prefix in prefixes {
+            self.route(prefix);
+        }
+    }
+
+    /// All routes of these LSPs, each with its system.
+    fn all_routes<'a>(&mut self, own: u64, lsps: impl Iterator<Item = (u64, &'a [u8])>) {
+        self.place(own);
+        for (system, lsp) in lsps {
+            let node = self.place(system);
+            let (rows, ways) = self.read(lsp);
+            self.tell(node, ways);
+            self.nodes[node].rows = rows;
+            self.nodes[node].live = true;
+        }
+        self.first = self.nodes[0].rows.iter().map(|row| row.0).collect();
+        self.anew();
+        for prefix in self.tellers.keys().copied().collect::<Vec<_>>() {
             self.route(prefix);
         }
     }
@@ -733,6 +751,12 @@ fn main() {
                     sent.push(datagram);
                 }
             }
+        }
+    }
+    if words[2] == "end" {
+        for router in &mut routers {
+            let lsps = router.entries.iter().map(|entry| (entry.id >> 16, entry.lsp.as_slice()));
+            router.paths.all_routes(router.system, lsps);
         }
     }
     let routes: Vec<_> = routers.iter().flat_map(|router| router.paths.routes.values()).collect();
