@@ -50,7 +50,7 @@ fn fault_of_script(alloc: Global, script: &Script<'_>) -> Option<RunFault> {
 }
 
 fn fault_of_net(net: &Network) -> Option<RunFault> {
-    if is_joined(net) & are_repaired(net) {
+    if is_joined(net) & are_computed(net) {
         None
     } else {
         Some(RunFault::OutOfMemory)
@@ -71,10 +71,9 @@ fn is_joined(net: &Network) -> bool {
         && net.ports(1).len() == 1
 }
 
-/// Whether each router's distances of level 1 were repaired once: the rows between the two become usable in one event, and
-/// seconds in which nothing changes repair nothing.
-fn are_repaired(net: &Network) -> bool {
-    net.routers() == 2 && repairs(net, 0) == Some(1) && repairs(net, 1) == Some(1)
+/// Whether each router's distances of level 1 were never repaired: they are computed once, at the script's end.
+fn are_computed(net: &Network) -> bool {
+    net.routers() == 2 && repairs(net, 0) == Some(0) && repairs(net, 1) == Some(0)
 }
 
 /// How often a router's distances of level 1 were repaired.
