@@ -1,7 +1,5 @@
 -- The lemmas, a module for each topic.
-pub mod StartLemmas
 pub mod LookupLemmas
-pub mod ShiftLemmas
 pub mod OrderLemmas
 pub mod HopLemmas
 pub mod OneLemmas

@@ -11,7 +11,7 @@ use Rattle.std.proofs.lemmas.List.Sums.{sum_by-cons}
 use Rattle.route_table.specs.declared.route.Route.{Route}
 use Rattle.route_table.specs.declared.patch.Patch.{Patch}
 use Rattle.route_table.specs.Ranks.{prefix_number}
-use Rattle.route_table.specs.Lookups.{AreClimbable}
+use Rattle.route_table.specs.Routes.{AreRising}
 use Rattle.route_table.specs.Patches.{AreInTurn, Fits, HaveRoom, coming, is_routed, more_by, room_of}
 use Rattle.route_table.specs.Putting.{IsFree, IsHeld, IsPutIn}
 
@@ -143,19 +143,19 @@ pub fits-none : {X : Type 0} (routes : List Route) (list : List Patch) (f : X �
 fits-none routes list f None fits is = fits
 fits-none routes list f (Some x) fits is = absurd (let e : Some x ≡ None = is in cc)
 
-pub still-room : (old new : List Route) (links others : List (Option ℕ)) (many room more : ℕ) → HaveRoom old links room → length old + many ≤ room_of (length old) → length new ≤ length old + many → room ≤ more → AreClimbable new others → HaveRoom new others more
-still-room old new links others many room more have fits few wider climbable =
+pub still-room : (old new : List Route) (many room more : ℕ) → HaveRoom old room → length old + many ≤ room_of (length old) → length new ≤ length old + many → room ≤ more → AreRising new → HaveRoom new more
+still-room old new many room more have fits few wider rising =
     let enough = have.enough in
     let within = room-within (length new) (length old) (omega arith) in
-    record { climbable = climbable; enough = omega arith }
+    record { rising = rising; enough = omega arith }
 
-pub other-room : (old new : List Route) (others : List (Option ℕ)) (many room : ℕ) → room_of (length old + many) ≤ room → length new ≤ length old + many → AreClimbable new others → HaveRoom new others room
-other-room old new others many room fits few climbable =
+pub other-room : (old new : List Route) (many room : ℕ) → room_of (length old + many) ≤ room → length new ≤ length old + many → AreRising new → HaveRoom new room
+other-room old new many room fits few rising =
     let within = room-more (length new) (length old + many) few in
-    record { climbable = climbable; enough = omega arith }
+    record { rising = rising; enough = omega arith }
 
-pub copied-room : (old new : List Route) (links others : List (Option ℕ)) (room more : ℕ) → new ≡ old → others ≡ links → HaveRoom old links room → room_of (length old) ≤ more → HaveRoom new others more
-copied-room old new links others room more routes_are links_are have enough = record {
-  climbable = subst (λ (ls : List (Option ℕ)). AreClimbable new ls) (sym links_are) (subst (λ (rs : List Route). AreClimbable rs links) (sym routes_are) have.climbable);
-  enough = subst (λ (rs : List Route). room_of (length rs) ≤ more) (sym routes_are) enough;
+pub copied-room : (old new : List Route) (room more : ℕ) → new ≡ old → HaveRoom old room → room_of (length old) ≤ more → HaveRoom new more
+copied-room old new room more same have enough = record {
+  rising = subst AreRising (sym same) have.rising;
+  enough = subst (λ (rs : List Route). room_of (length rs) ≤ more) (sym same) enough;
 }

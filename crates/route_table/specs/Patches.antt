@@ -1,7 +1,8 @@
 -- Routes of which some prefixes are looked at anew. All of it own.
 
 use Rattle.std.specs.Prelude.{◌≡◌, ℕ, ◌==◌, ◌+◌, ◌*◌, ◌/◌, ◌≤◌, ◌<◌, ◌-◌, nat_le, if◌then◌else◌, ◌⊎◌, ◌↔◌, Bool, true, false}
-use Rattle.std.specs.Prelude.{List, [], length, slice_index_or, Option, Some, None, IfSome}
+use Rattle.std.specs.Prelude.{List, [], length, slice_index_or, Option, Some, None, IfSome, Vec}
+use Rattle.std.specs.declared.alloc.Global.{Global}
 use Rattle.std.specs.List.{Contains, list_any, sum_by}
 use Rattle.std.specs.Option.{MatchOption}
 use Rattle.spf_tree.specs.Nodes.{node_number}
@@ -9,9 +10,7 @@ use Rattle.route_table.specs.declared.candidate.Candidate.{Candidate}
 use Rattle.route_table.specs.declared.route.Route.{Route}
 use Rattle.route_table.specs.Ranks.{prefix_number}
 use Rattle.route_table.specs.Routes.{IsRoute, AreRising}
-use Rattle.route_table.specs.Lookups.{AreClimbable}
 use Rattle.route_table.specs.declared.patch.Patch.{Patch}
-use Rattle.route_table.specs.declared.patch.Room.{Room}
 use Rattle.isis_base.specs.declared.prefix.Prefix.{Prefix}
 
 -- whether a prefix has a patch
@@ -64,15 +63,15 @@ abbrev pub TakesNoMore : List Route → PatchesOf → Type 0
 TakesNoMore routes patches =
     length routes + coming routes patches.list ≤ room_of (length routes) → patches.room ≡ None
 
--- a table's routes and links, with room for so many
-pub record HaveRoom (routes : List Route) (links : List (Option ℕ)) (room : ℕ) : Type 0 where
-  pub climbable : AreClimbable routes links
+-- a table's routes, with room for so many
+pub record HaveRoom (routes : List Route) (room : ℕ) : Type 0 where
+  pub rising : AreRising routes
   pub enough : room_of (length routes) ≤ room
 
 -- the room, if any, has no routes yet
-pub record ArePatchesWithRoom (list : List Patch) (room : Option Room) : Type 0 where
+pub record ArePatchesWithRoom (list : List Patch) (room : Option (Vec Route Global)) : Type 0 where
   pub turn : AreInTurn list
-  pub empty : IfSome room (λ r. r.routes.items ≡ [])
+  pub empty : IfSome room (λ r. r.items ≡ [])
 
 -- the routes of the patches, and the old ones for other prefixes, in order
 pub record IsPatched (old : List Route) (patches : List Patch) (routes : List Route) : Type 0 where

@@ -1,6 +1,6 @@
 -- A patch put into routes. All of it own.
 
-use Rattle.std.specs.Prelude.{◌≡◌, ℕ, ◌+◌, ◌≤◌, ◌<◌, ◌⊎◌, List, length, slice_index_or, Option, Some}
+use Rattle.std.specs.Prelude.{◌≡◌, ℕ, ◌≤◌, ◌<◌, ◌⊎◌, List, length, slice_index_or, Option, Some}
 use Rattle.std.specs.List.{Contains}
 use Rattle.route_table.specs.declared.candidate.Candidate.{Candidate}
 use Rattle.route_table.specs.declared.route.Route.{Route}
@@ -40,18 +40,3 @@ abbrev pub IsFree : List Route → ℕ → Type 0
 IsFree routes n =
     (k : ℕ) (d : Route) → k < length routes
     → prefix_number (slice_index_or routes k d).prefix ≡ n → ⊥
-
--- the place is in both, and each route before it is for the prefix that was at its place
-pub record HaveSameStart (old new : List Route) (place : ℕ) : Type 0 where
-  pub within : place ≤ length old
-  pub inside : place ≤ length new
-  pub each : (k : ℕ) (d : Route) → k < place → prefix_number (slice_index_or new k d).prefix
-      ≡ prefix_number (slice_index_or old k d).prefix
-
--- one route came at the place, and those from it on stand one place further on
-pub record HasOneMore (old new : List Route) (place : ℕ) : Type 0 where
-  pub start : HaveSameStart old new place
-  pub count : length new ≡ length old + 1
-  pub behind : (k : ℕ) (d : Route) → place ≤ k → k < length old
-      → prefix_number (slice_index_or new (k + 1) d).prefix
-      ≡ prefix_number (slice_index_or old k d).prefix

@@ -63,7 +63,7 @@ pub fn routes_by(
         Err(error) => return Err(error),
     };
     match best_of(alloc, sorted.as_slice(), one, two) {
-        Ok(routes) => of(alloc, routes),
+        Ok(routes) => of(routes),
         Err(error) => Err(error),
     }
 }

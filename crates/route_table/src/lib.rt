@@ -6,7 +6,7 @@
 //!
 //! - `rank.rt`: ranks; `candidate.rt`: what a prefix may be reached by; `route.rt`: a route
 //! - `order.rt`: candidates in order; `hops.rt`: next hops of several candidates; `best.rt`: the routes made of them
-//! - `table.rt`: the table; `links.rt`: from each route to the one that encloses it, by which an address is looked up
+//! - `table.rt`: the table; `lookup.rt`: the longest prefix of an address
 //! - `patch.rt`: what some prefixes' routes become; `putting.rt`: that put in; `room.rt`: the room that tables have for it
 //! - `laws.rt`: what follows for all candidates
 #![tactic(auto)]
@@ -15,7 +15,7 @@ mod best;
 mod candidate;
 mod hops;
 pub mod laws;
-mod links;
+mod lookup;
 mod order;
 mod patch;
 mod putting;

@@ -1,6 +1,6 @@
 //! What some prefixes' routes become.
 
-ghost use Rattle.std.specs.Prelude.{◌≡◌, ◌≤◌, ◌<◌, ◌↔◌, [], ℕ, true, false, length, slice_index_or, vec_capacity, vec_len, IfOk};
+ghost use Rattle.std.specs.Prelude.{◌≡◌, ◌≤◌, ◌<◌, ◌↔◌, ℕ, true, false, length, slice_index_or, IfOk};
 ghost use Rattle.std.specs.Bool.{MatchBool};
 ghost use Rattle.route_table.specs.declared.candidate.Candidate.{Candidate};
 ghost use Rattle.route_table.specs.Ranks.{prefix_number};
@@ -29,23 +29,16 @@ pub struct Patch {
     pub route: Option<Route>,
 }
 
-/// Room for routes, and for their links (own).
-#[derive(Drop, Debug)]
-pub struct Room {
-    pub(crate) routes: Vec<Route>,
-    pub(crate) links: Vec<Option<usize>>,
-}
-
 /// What some prefixes' routes become, in order of prefix, with the room that putting them in takes, where the table that
 /// they fit has none for the routes that come (own).
 #[derive(Drop, Debug)]
 pub struct Patches {
     pub(crate) list: Vec<Patch>,
-    pub(crate) room: Option<Room>,
+    pub(crate) room: Option<Vec<Route>>,
 }
 
 impl Model for Patches {
-    ghost use Rattle.std.specs.Prelude.{vec_capacity, vec_len, min};
+    ghost use Rattle.std.specs.Prelude.{vec_capacity};
     ghost use Rattle.std.specs.Option.{option_map};
     ghost use Rattle.route_table.specs.Patches.{PatchesOf, AreInTurn, ArePatchesWithRoom};
 
@@ -53,7 +46,7 @@ impl Model for Patches {
 
     ghost view = { λ p. record {
       list = p.list.items;
-      room = option_map (λ r. min (vec_capacity r.routes) (vec_len r.links)) p.room;
+      room = option_map (λ r. vec_capacity r) p.room;
     } };
 
     ghost invariant = { λ p. ArePatchesWithRoom p.list.items p.room };
@@ -201,25 +194,11 @@ fn with_room(alloc: Global, held: &[Route], list: Vec<Patch>) -> Result<Patches,
     if many <= room_of(held.len())? {
         return Ok(Patches { list, room: None });
     }
-    match room_for(alloc, room_of(many)?) {
+    match Vec::with_capacity(alloc, room_of(many)?) {
         Ok(room) => Ok(Patches {
             list,
             room: Some(room),
         }),
-        Err(error) => Err(error),
-    }
-}
-
-/// Room for so many routes, and for their links.
-fn room_for(alloc: Global, many: usize) -> Result<Room, OutOfMemory>
-    ensures routes { IfOk result (λ r. (r.routes.items ≡ []) × (many ≤ vec_capacity r.routes)) }
-    ensures links { IfOk result (λ r. many ≤ vec_len r.links) }
-{
-    match Vec::with_capacity(alloc, many) {
-        Ok(routes) => match vec![in alloc; None; many] {
-            Ok(links) => Ok(Room { routes, links }),
-            Err(_) => Err(OutOfMemory),
-        },
         Err(_) => Err(OutOfMemory),
     }
 }

@@ -1,81 +1,32 @@
 //! Patches put into a table's routes, in place.
 
-ghost use Rattle.std.specs.Prelude.{◌≡◌, ◌≤◌, ◌<◌, ◌+◌, ℕ, Some, None, length, min, vec_len, vec_capacity, IfSome};
+ghost use Rattle.std.specs.Prelude.{◌≡◌, ◌≤◌, ◌+◌, Some, None, vec_len, vec_capacity, IfSome};
 ghost use Rattle.std.specs.Bool.{MatchBool};
 ghost use Rattle.route_table.specs.Ranks.{prefix_number};
 ghost use Rattle.route_table.specs.Routes.{AreRising};
-ghost use Rattle.route_table.specs.Lookups.{AreClimbable};
 ghost use Rattle.route_table.specs.Patches.{AreInTurn, IsPatched, coming, more_by};
-ghost use Rattle.route_table.specs.Putting.{HasOneMore, HaveSameStart, IsFree, IsHeld, IsPlaceOf, IsPutIn};
+ghost use Rattle.route_table.specs.Putting.{IsFree, IsHeld, IsPlaceOf, IsPutIn};
 
-use crate::links::{close_links, links_from, shift_links};
 use crate::order::prefix_number;
 use crate::patch::Patch;
 use crate::route::Route;
 
-/// Puts patches in, for which there is room: the first place at which a route came or went, or how many there are where none did.
-pub fn put_all(routes: &mut Vec<Route>, list: Vec<Patch>) -> usize
+/// Puts patches in, for which there is room.
+pub fn put_all(routes: &mut Vec<Route>, list: Vec<Patch>)
     requires rising { AreRising routes.old.items }
     requires turn { AreInTurn list.items }
     requires room { vec_len routes.old + coming routes.old.items list.items ≤ vec_capacity routes.old }
     ensures patched { IsPatched routes.old.items list.items routes.new.items }
     ensures few { vec_len routes.new ≤ vec_len routes.old + coming routes.old.items list.items }
     ensures room { vec_capacity routes.old ≤ vec_capacity routes.new }
-    ensures start { HaveSameStart routes.old.items routes.new.items result }
-{
-    let mut first = routes.len();
-    for patch in list {
-        let place = put_in(routes, patch);
-        first = first.min(place);
-    }
-    first
-}
-
-/// Puts a few patches in, for which there is room, with the links that each of them changes.
-pub fn put_few(routes: &mut Vec<Route>, links: &mut Vec<Option<usize>>, list: Vec<Patch>)
-    requires climbable { AreClimbable routes.old.items links.old.items }
-    requires turn { AreInTurn list.items }
-    requires fits { vec_len routes.old + coming routes.old.items list.items
-        ≤ min (vec_capacity routes.old) (vec_len links.old) }
-    ensures patched { IsPatched routes.old.items list.items routes.new.items }
-    ensures climbable { AreClimbable routes.new.items links.new.items }
-    ensures few { vec_len routes.new ≤ vec_len routes.old + coming routes.old.items list.items }
-    ensures routes { vec_capacity routes.old ≤ vec_capacity routes.new }
-    ensures links { vec_len links.new ≡ vec_len links.old }
 {
     for patch in list {
-        put_linked(routes, links, patch);
+        put_in(routes, patch);
     }
 }
 
-/// A prefix's route becomes what a patch says, with the links.
-fn put_linked(routes: &mut Vec<Route>, links: &mut Vec<Option<usize>>, patch: Patch)
-    requires climbable { AreClimbable routes.old.items links.old.items }
-    requires own { IfSome patch.route (λ r. prefix_number r.prefix ≡ prefix_number patch.prefix) }
-    requires room { vec_len routes.old + more_by routes.old.items (prefix_number patch.prefix) patch.route
-        ≤ min (vec_capacity routes.old) (vec_len links.old) }
-    ensures put { IsPutIn routes.old.items (prefix_number patch.prefix) patch.route routes.new.items }
-    ensures climbable { AreClimbable routes.new.items links.new.items }
-    ensures few { vec_len routes.new
-        ≤ vec_len routes.old + more_by routes.old.items (prefix_number patch.prefix) patch.route }
-    ensures routes { vec_capacity routes.old ≤ vec_capacity routes.new }
-    ensures links { vec_len links.new ≡ vec_len links.old }
-{
-    let many = routes.len();
-    let place = put_in(routes, patch);
-    if routes.len() > many {
-        shift_links(links, routes.as_slice(), place);
-        return;
-    }
-    if routes.len() < many {
-        close_links(links, routes.as_slice(), place);
-        return;
-    }
-    links_from(links, routes.as_slice(), place);
-}
-
-/// A prefix's route becomes what a patch says: the place at which a route came or went, or how many there are where none did.
-fn put_in(routes: &mut Vec<Route>, patch: Patch) -> usize
+/// A prefix's route becomes what a patch says.
+fn put_in(routes: &mut Vec<Route>, patch: Patch)
     requires old { AreRising routes.old.items }
     requires own { IfSome patch.route (λ r. prefix_number r.prefix ≡ prefix_number patch.prefix) }
     requires room { vec_len routes.old + more_by routes.old.items (prefix_number patch.prefix) patch.route
@@ -84,11 +35,6 @@ fn put_in(routes: &mut Vec<Route>, patch: Patch) -> usize
     ensures few { vec_len routes.new
         ≤ vec_len routes.old + more_by routes.old.items (prefix_number patch.prefix) patch.route }
     ensures room { vec_capacity routes.old ≤ vec_capacity routes.new }
-    ensures start { HaveSameStart routes.old.items routes.new.items result }
-    ensures went { vec_len routes.new < vec_len routes.old
-        → HasOneMore routes.new.items routes.old.items result }
-    ensures came { vec_len routes.old < vec_len routes.new
-        → HasOneMore routes.old.items routes.new.items result }
 {
     let wanted = prefix_number(patch.prefix);
     let place = place_of(routes.as_slice(), wanted);
@@ -99,7 +45,7 @@ fn put_in(routes: &mut Vec<Route>, patch: Patch) -> usize
 }
 
 /// A prefix has this route, whose place this is.
-fn put_route(routes: &mut Vec<Route>, wanted: u64, place: usize, route: Route) -> usize
+fn put_route(routes: &mut Vec<Route>, wanted: u64, place: usize, route: Route)
     requires old { AreRising routes.old.items }
     requires at { IsPlaceOf routes.old.items wanted place }
     requires own { prefix_number route.prefix ≡ wanted }
@@ -108,35 +54,25 @@ fn put_route(routes: &mut Vec<Route>, wanted: u64, place: usize, route: Route) -
     ensures put { IsPutIn routes.old.items wanted (Some route) routes.new.items }
     ensures few { vec_len routes.new ≤ vec_len routes.old + more_by routes.old.items wanted (Some route) }
     ensures room { vec_capacity routes.old ≤ vec_capacity routes.new }
-    ensures start { HaveSameStart routes.old.items routes.new.items result }
-    ensures more { vec_len routes.old ≤ vec_len routes.new }
-    ensures came { vec_len routes.old < vec_len routes.new
-        → HasOneMore routes.old.items routes.new.items result }
 {
     if is_held(routes.as_slice(), wanted, place) {
         routes[place] = route;
-        return routes.len();
+        return;
     }
     routes.insert(place, route).unwrap();
-    place
 }
 
 /// A prefix has no route, where its place would be this.
-fn take_out(routes: &mut Vec<Route>, wanted: u64, place: usize) -> usize
+fn take_out(routes: &mut Vec<Route>, wanted: u64, place: usize)
     requires old { AreRising routes.old.items }
     requires at { IsPlaceOf routes.old.items wanted place }
     ensures put { IsPutIn routes.old.items wanted None routes.new.items }
     ensures few { vec_len routes.new ≤ vec_len routes.old }
     ensures room { vec_capacity routes.old ≤ vec_capacity routes.new }
-    ensures start { HaveSameStart routes.old.items routes.new.items result }
-    ensures went { vec_len routes.new < vec_len routes.old
-        → HasOneMore routes.new.items routes.old.items result }
 {
     if is_held(routes.as_slice(), wanted, place) {
         routes.remove(place);
-        return place;
     }
-    routes.len()
 }
 
 /// Whether the prefix has a route.

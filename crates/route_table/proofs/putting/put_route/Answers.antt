@@ -1,12 +1,10 @@
 use Rattle.std.proofs.Common.{List, subst, arith}
-use Rattle.std.proofs.lemmas.List.{length-set}
 use Rattle.route_table.specs.declared.route.Route.{Route}
-use Rattle.route_table.specs.Putting.{HaveSameStart, IsFree, IsHeld, IsPutIn}
+use Rattle.route_table.specs.Putting.{IsFree, IsHeld, IsPutIn}
 use Rattle.std.specs.Prelude.{Some}
 use Rattle.std.proofs.Common.{sym}
 use Rattle.route_table.proofs.PutLemmas.{set-in, insert-in}
 use Rattle.route_table.proofs.RoomLemmas.{more-free}
-use Rattle.route_table.proofs.StartLemmas.{start-insert, start-set}
 use Rattle.route_table.proofs.putting.put_route.Goals as goal
 
 pub returns-then-is_held-clause-put : goal.returns-then-is_held-clause-put
@@ -20,17 +18,6 @@ returns-clause-put c =
     let items = rw c.unwrap.ensures at c.insert.ensures.items in
     subst (λ (list : List Route). IsPutIn c.args.routes.now.items c.args.wanted (Some c.args.route) list) (sym items)
     (insert-in c.args.routes.now.items c.args.wanted c.args.place c.requires.old c.requires.at free c.args.route c.requires.own)
-
-pub returns-then-is_held-clause-start : goal.returns-then-is_held-clause-start
-returns-then-is_held-clause-start c =
-    let held = subst (λ (list : List Route). IsHeld list c.args.wanted c.args.place) c.as_slice.ensures.value c.if-is_held.ensures in
-    start-set c.args.routes.now.items c.args.wanted c.args.place c.args.route c.len.result (omega (arith, c.len.ensures, c.args.routes.now.ok.0, length-set c.args.routes.now.items c.args.place c.args.route)) held c.requires.own
-
-pub returns-clause-start : goal.returns-clause-start
-returns-clause-start c =
-    let items = rw c.unwrap.ensures at c.insert.ensures.items in
-    subst (λ (list : List Route). HaveSameStart c.args.routes.now.items list c.args.place) (sym items)
-    (start-insert c.args.routes.now.items c.args.place c.args.route c.requires.at.within)
 
 pub unwrap-requires : goal.unwrap-requires
 unwrap-requires c =

@@ -12,7 +12,4 @@ invariant_of-result c =
     let routes : c.loop-route.routes.items ≡ own.routes.items =
     c.loop-route.invariant.items ∙ take_all c.loop-route.route-index c.args.self.now (omega (arith, long, c.loop-route-test.false)) ∙ sym c.self.view_is in
     let many = c.in_ok-many.ensures ∙ ap (λ (n : ℕ). room_of n) (c.len.ensures ∙ own.routes.ok.0) in
-    let links = c.in-Ok-from_slice.ensures.items ∙ c.as_slice.ensures.value in
-    let links_long = ap (λ z. length z) links in
-    copied-room own.routes.items c.loop-route.routes.items own.links.items c.in-Ok-from_slice.links.items _ _ routes links c.self.invariant
-    (omega (arith, many, c.loop-route.invariant.room, c.self.invariant.enough, links_long, own.links.ok.0, c.in-Ok-from_slice.links.ok.0))
+    copied-room own.routes.items c.loop-route.routes.items _ _ routes c.self.invariant (omega (arith, many, c.loop-route.invariant.room))
