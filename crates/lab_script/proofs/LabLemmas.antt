@@ -20,7 +20,7 @@ use Rattle.lab_script.specs.declared.setup.LabRouter.{LabRouter}
 use Rattle.lab_script.specs.declared.setup.KeyScope.{KeyScope}
 use Rattle.lab_script.specs.declared.setup.KeyScope.TheVariants as scope
 use Rattle.lab_script.specs.Counts.{has_twice}
-use Rattle.lab_script.specs.LabScripts.{LabScript, has_system, end_routers, is_among, is_end, circuit_count, place_among, place_on, place_at, next_ends, link_between}
+use Rattle.lab_script.specs.LabScripts.{LabScript, with_last, has_system, end_routers, is_among, is_end, circuit_count, place_among, place_on, place_at, next_ends, link_between}
 use Rattle.lab_script.specs.declared.deeds.LabLine.{LabLine}
 use Rattle.lab_script.specs.LabJudged.{has_begun, is_full, is_some_full}
 use Rattle.lab_script.specs.LabSound.{AreDistinct, HasEnds, IsLaidLink, IsKeyScope, IsLabKey, IsDeed, IsSoundLab}
@@ -264,3 +264,21 @@ pub room-next : (links : List LabLink) (ns : List ℕ) → is_some_full links ns
 room-next links [] none = tt
 room-next links (r ∷ ns) none =
     (room-left links r (none-first (is_full links r) (is_some_full links ns) none), room-next links ns (none-behind (is_full links r) (is_some_full links ns) none))
+
+-- ---- a script without its last line
+
+all-front : (P : LabLine → Type 0) (lines : List LabLine) (line : LabLine) → AllByRecursion P (lines ++ line ∷ []) → AllByRecursion P lines
+all-front P [] line all = tt
+all-front P (l ∷ lines) line all = (all.0, all-front P lines line all.1)
+
+pub IsSoundLab-front : (s : LabScript) (line : LabLine) → IsSoundLab (with_last s line) → IsSoundLab s
+IsSoundLab-front s line h = record {
+  routers = h.routers;
+  links = h.links;
+  systems = h.systems;
+  priorities = h.priorities;
+  laid = h.laid;
+  circuits = h.circuits;
+  keys = h.keys;
+  lines = all-front (λ l. IsDeed (length s.routers) s.links l.deed) s.lines line h.lines;
+}

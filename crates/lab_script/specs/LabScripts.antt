@@ -1,5 +1,5 @@
 -- What a lab script says, with its routers, links and circuits numbered (own).
-use Rattle.std.specs.Prelude.{ℕ, ◌==◌, Bool, List, [], ◌∷◌, map, Option, Some, None, option_and_then, if◌then◌else◌}
+use Rattle.std.specs.Prelude.{ℕ, ◌==◌, Bool, List, [], ◌∷◌, ◌++◌, map, Option, Some, None, option_and_then, if◌then◌else◌}
 use Rattle.std.specs.List.{count_by, list_any, slice_get}
 use Rattle.std.specs.Str.{bytes_eq}
 use Rattle.isis_base.specs.declared.identifiers.SystemId.{SystemId}
@@ -19,6 +19,10 @@ pub record LabScript : Type 0 where
 
 abbrev pub nothing_laid : LabScript
 nothing_laid = record { routers = []; links = []; keys = []; lines = [] }
+
+-- one more event line behind all others
+abbrev pub with_last : LabScript → LabLine → LabScript
+with_last script line = record script { lines = script.lines ++ line ∷ [] }
 
 abbrev pub router_names : List LabRouter → List (List ℕ)
 router_names routers = map (λ router. router.name) routers

@@ -1,10 +1,11 @@
 //! A lab script, line by line.
-ghost use Rattle.std.specs.Prelude.{◌≡◌, ◌<◌, ◌≤◌, false, Ok, length, IfOk, IfSome};
+ghost use Rattle.std.specs.Prelude.{◌≡◌, ◌<◌, ◌≤◌, [], false, Ok, length, IfOk, IfSome};
 ghost use Rattle.std.specs.List.{AllByRecursion};
+ghost use Rattle.std.specs.Option.{MatchOption};
 ghost use Rattle.lab_script.specs.Gives.{Gives, Answers};
 ghost use Rattle.lab_script.specs.LabJudged as judged;
 ghost use Rattle.lab_script.specs.LabLines.{IsInRange, IsDeedInRange, IsKeyLength, HasMembers};
-ghost use Rattle.lab_script.specs.LabScripts.{nothing_laid, router_names, link_names, place_at, circuit_count};
+ghost use Rattle.lab_script.specs.LabScripts.{nothing_laid, with_last, router_names, link_names, place_at, circuit_count};
 ghost use Rattle.lab_script.specs.LabSound.{IsSoundLab, IsDeed, IsKeyScope, IsEnd, IsCircuit, HasEnds};
 ghost use Rattle.lab_script.specs.Names.{number_of_name};
 ghost use Rattle.line_cuts.specs.Words.{texts, words_of};
@@ -102,6 +103,17 @@ impl<'a> LabScript<'a> {
         ensures sound { IsSoundLab self.now }
     {
         self.lines.as_slice()
+    }
+
+    /// Takes the last event line off, where there is one.
+    pub fn pop_line(&mut self) -> Option<LabLine<'a>>
+        ensures { MatchOption result ((self.new ≡ self.old) × (self.old.lines ≡ []))
+            (λ line. self.old ≡ with_last self.new line) }
+    {
+        let Some(line) = self.lines.pop() else {
+            return None;
+        };
+        Some(line)
     }
 
     /// The routers' names, in the order of their numbers.

@@ -34,14 +34,14 @@ impl<K: Keeping> Network<K> {
     }
 
     /// The number of ends of a link.
-    pub(crate) fn ends_count(&self, link: usize) -> usize
+    pub fn ends_count(&self, link: usize) -> usize
         ensures { result ≡ length (by_router (ends_of (nth self.now.seen.links link))) }
     {
         count_at(&self.ordered, link)
     }
 
     /// The router of an end of a link, in order of routers.
-    pub(crate) fn end_router(&self, link: usize, place: usize) -> usize
+    pub fn end_router(&self, link: usize, place: usize) -> usize
         requires { place < length (by_router (ends_of (nth self.now.seen.links link))) }
         ensures router { IfSome (nth (by_router (ends_of (nth self.now.seen.links link))) place)
             (λ e. result ≡ e.router) }
