@@ -42,7 +42,7 @@ pub fn play(alloc: Global, script: &LabScript<'_>) -> Result<Network, ScriptFaul
         IsLaid (length script.now.routers) script.now.links net.seen) }
     ensures claimed { OnOk result (IsClaimedRun script.now) }
 {
-    match played(alloc, script) {
+    match play_machines(alloc, script) {
         Ok(net) => match net.with_routes() {
             Ok(net) => Ok(net),
             Err(OutOfMemory) => Err(ScriptFault::OutOfMemory),
@@ -52,7 +52,7 @@ pub fn play(alloc: Global, script: &LabScript<'_>) -> Result<Network, ScriptFaul
 }
 
 /// The same network, whose routers keep no routes.
-fn played(alloc: Global, script: &LabScript<'_>) -> Result<Network<Asked>, ScriptFault>
+pub fn play_machines(alloc: Global, script: &LabScript<'_>) -> Result<Network<Asked>, ScriptFault>
     ensures value { Played result (end_of script.now) }
     ensures laid { IfOk result (λ net.
         IsLaid (length script.now.routers) script.now.links net.seen) }

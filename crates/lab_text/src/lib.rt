@@ -26,7 +26,7 @@ mod report;
 mod router_config;
 mod run;
 
-pub use event_lines::play;
+pub use event_lines::{play, play_machines};
 pub use fault::RunFault;
 pub use lab_keys::LimitName;
 pub use lab_script::{

@@ -3,7 +3,7 @@ use Rattle.network_lab.specs.LabNets.{LabNet}
 use Rattle.lab_text.specs.Layouts.{opened}
 use Rattle.lab_text.specs.LabRuns.{play_all}
 use Rattle.lab_text.proofs.ClaimLemmas.{claimed-run}
-use Rattle.lab_text.proofs.event_lines.played.Goals as goal
+use Rattle.lab_text.proofs.event_lines.play_machines.Goals as goal
 
 pub returns-in-Ok-play_lines-clause-claimed : goal.returns-in-Ok-play_lines-clause-claimed
 returns-in-Ok-play_lines-clause-claimed c =
