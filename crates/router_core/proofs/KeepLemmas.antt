@@ -12,7 +12,7 @@ use Rattle.model_router.specs.Adjacencies.{Handshake, Hello, Neighbour, PointAdj
 use Rattle.model_router.specs.Routers.{Circuit, CircuitLevel, LanNeighbour, LevelState, Router, book_of, with_level, with_circuit, level_of}
 use Rattle.model_router.specs.Elections.{idle_all}
 use Rattle.model_router.specs.Hellos.{follow, point_circuit, take_point}
-use Rattle.model_router.specs.Events.{Message, Refused, PointHelloHeard, LanHelloHeard, LspHeard, SnpHeard, Event, Second, Take, Pull, Metric, Overload, Prefix, Done, Outcome, settled}
+use Rattle.model_router.specs.Events.{Envelope, Message, Refused, PointHelloHeard, LanHelloHeard, LspHeard, SnpHeard, Event, Second, Take, Pull, Metric, Overload, Prefix, Done, Outcome, settled}
 use Rattle.model_router.specs.Seconds.{is_over, held_less, point_kept, point_less, point_over, heard_less, some_over, time_over}
 use Rattle.model_router.specs.SnpLists.{owed}
 use Rattle.model_router.specs.Pulls.{csnp_sent, Sending, on_circuit, at_circuit, pull_hello, pull_csnp, pull_lsps, pull_psnp, pull_level, pull, with_part, is_csnp_due}
@@ -34,7 +34,7 @@ use Rattle.model_router.proofs.BookLemmas.{choose}
 use Rattle.router_core.specs.Seconds.{later}
 use Rattle.router_core.specs.Calm.{is_calm_row, is_calm_entry, AreClear, IsCalmMessage, IsCalm}
 use Rattle.router_core.proofs.CalmLemmas.{take-face, clear-face}
-use Rattle.router_core.specs.Settled.{lan_face, heard_face, level_face, neighbour_face, point_face, face, faces, IsAside, IsNoHello, Keeps, LeavesFace}
+use Rattle.router_core.specs.Settled.{lan_face, heard_face, level_face, neighbour_face, point_face, face, faces, IsAside, IsNoBid, IsNoHello, Keeps, LeavesFace}
 
 true-false : true ≡ false → ⊥
 true-false e = cc
@@ -187,18 +187,27 @@ later-faces (c ∷ cs) e = of (time_over c) refl e (later-faces cs)
 
 -- ---- a datagram that isn't a hello
 
-lsp-own : (scene : Scene) (state : LevelState) (place : ℕ) (w : Whose) (h : Heard) (row : LspCase) → is_calm_row row ≡ true → (lsp_taken scene state place w h row).own ≡ state.own
-lsp-own scene state place w h lsp.Outbid calm = absurd (true-false (sym calm))
-lsp-own scene state place w h lsp.PurgedOwn calm = refl
-lsp-own scene state place w h lsp.AckPurge calm = refl
-lsp-own scene state place w h lsp.Confused calm = refl
-lsp-own scene state place w h lsp.Stored calm = refl
-lsp-own scene state place w h lsp.Same calm = refl
-lsp-own scene state place w h lsp.Older calm = refl
+lsp-own : (scene : Scene) (state : LevelState) (place : ℕ) (w : Whose) (h : Heard) (row : LspCase) → (row ≡ lsp.Outbid → ⊥) → (lsp_taken scene state place w h row).own ≡ state.own
+lsp-own scene state place w h lsp.Outbid other = absurd (other refl)
+lsp-own scene state place w h lsp.PurgedOwn other = refl
+lsp-own scene state place w h lsp.AckPurge other = refl
+lsp-own scene state place w h lsp.Confused other = refl
+lsp-own scene state place w h lsp.Stored other = refl
+lsp-own scene state place w h lsp.Same other = refl
+lsp-own scene state place w h lsp.Older other = refl
 
-take-own : (scene : Scene) (state : LevelState) (place : ℕ) (w : Whose) (h : Heard) → is_calm_row (met state.book w h) ≡ true → (take_lsp scene state place w h).own ≡ state.own
+calm-other : (row : LspCase) → is_calm_row row ≡ true → row ≡ lsp.Outbid → ⊥
+calm-other row calm e = true-false (sym calm ∙ ap is_calm_row e)
+
+take-own : (scene : Scene) (state : LevelState) (place : ℕ) (w : Whose) (h : Heard) → (met state.book w h ≡ lsp.Outbid → ⊥) → (take_lsp scene state place w h).own ≡ state.own
 unfolding take_lsp
-take-own scene state place w h calm = lsp-own scene state place w h (met state.book w h) calm
+take-own scene state place w h other = lsp-own scene state place w h (met state.book w h) other
+
+heard-keeps : (given : Given) (r : Router) (place : ℕ) (c : Circuit) (l : Level) (from : Envelope) (h : Heard) → IsNoBid r l h → Keeps r (taken given r place c (LspHeard l from h)).router
+heard-keeps given r place c l from h other =
+    let state = level_of r l in
+    let w = whose_of r.config.system state h.id in
+    keeps-level r l (take_lsp (scene_of given r l) state place w h) (take-own (scene_of given r l) state place w h other)
 
 entry-own : (scene : Scene) (state : LevelState) (place : ℕ) (w : Whose) (h : SnpEntry) (row : SnpCase) → is_calm_entry row ≡ true → (entry_taken scene state place w h row).own ≡ state.own
 entry-own scene state place w h snp.Nothing e = refl
@@ -235,30 +244,32 @@ taken-keeps : (given : Given) (r : Router) (place : ℕ) (c : Circuit) (m : Mess
 taken-keeps given r place c (Refused cause) calm aside = keeps-refl r
 taken-keeps given r place c (PointHelloHeard h) calm aside = absurd aside
 taken-keeps given r place c (LanHelloHeard l h) calm aside = absurd aside
-taken-keeps given r place c (LspHeard l from h) calm aside =
-    let state = level_of r l in
-    let w = whose_of r.config.system state h.id in
-    keeps-level r l (take_lsp (scene_of given r l) state place w h) (take-own (scene_of given r l) state place w h calm)
+taken-keeps given r place c (LspHeard l from h) calm aside = heard-keeps given r place c l from h (calm-other _ calm)
 taken-keeps given r place c (SnpHeard l from source range entries) calm aside =
     keeps-level r l (take_snp (scene_of given r l) (level_of r l) r.config.system place range entries) (snp-own (scene_of given r l) (level_of r l) r.config.system place range entries calm)
 
-drop-keeps : (given : Given) (r : Router) (place : ℕ) (c : Circuit) (m : Message) (o : Option DropName) → IsCalmMessage r m → IsNoHello m → Keeps r (take_or_drop given r place c m o).router
-drop-keeps given r place c m (Some cause) calm aside = record { config = refl; circuits = refl; one = refl; two = refl }
-drop-keeps given r place c m None calm aside = keeps-trans r (taken given r place c m).router _ (taken-keeps given r place c m calm aside) (settled-keeps (taken given r place c m))
+drop-keeps : (given : Given) (r : Router) (place : ℕ) (c : Circuit) (m : Message) (o : Option DropName) → Keeps r (taken given r place c m).router → Keeps r (take_or_drop given r place c m o).router
+drop-keeps given r place c m (Some cause) keeps = record { config = refl; circuits = refl; one = refl; two = refl }
+drop-keeps given r place c m None keeps = keeps-trans r (taken given r place c m).router _ keeps (settled-keeps (taken given r place c m))
 
-take-keeps : (given : Given) (r : Router) (place : ℕ) (m : Message) (o : Option Circuit) → IsCalmMessage r m → IsNoHello m → Keeps r (take given r place m o).router
-take-keeps given r place m None calm aside = keeps-refl r
-take-keeps given r place m (Some c) calm aside = drop-keeps given r place c m (drop_of r place c m) calm aside
+take-keeps : (given : Given) (r : Router) (place : ℕ) (m : Message) (o : Option Circuit) → ((c : Circuit) → Keeps r (taken given r place c m).router) → Keeps r (take given r place m o).router
+take-keeps given r place m None keeps = keeps-refl r
+take-keeps given r place m (Some c) keeps = drop-keeps given r place c m (drop_of r place c m) (keeps c)
 
 -- what is calm and no hello, second or change leaves all that own LSPs are made from
 pub step-keeps : (given : Given) (r : Router) (event : Event) → IsCalm r event → IsAside event → Keeps r (step given r event).router
 unfolding step
 step-keeps given r Second calm aside = absurd aside
-step-keeps given r (Take place m) calm aside = take-keeps given r place m (nth r.circuits place) calm aside
+step-keeps given r (Take place m) calm aside = take-keeps given r place m (nth r.circuits place) (λ c. taken-keeps given r place c m calm aside)
 step-keeps given r (Pull place) calm aside = keeps-trans r (pull r place).router _ (pull-keeps r place) (settled-keeps (sent_all (pull r place)))
 step-keeps given r (Metric place metric) calm aside = absurd aside
 step-keeps given r (Overload on) calm aside = absurd aside
 step-keeps given r (Prefix prefix metric) calm aside = absurd aside
+
+-- so does an LSP by which no own one is outbid
+pub lsp-keeps : (given : Given) (r : Router) (place : ℕ) (l : Level) (from : Envelope) (h : Heard) → IsNoBid r l h → Keeps r (step given r (Take place (LspHeard l from h))).router
+unfolding step
+lsp-keeps given r place l from h other = take-keeps given r place (LspHeard l from h) (nth r.circuits place) (λ c. heard-keeps given r place c l from h other)
 
 -- ---- a point-to-point hello
 

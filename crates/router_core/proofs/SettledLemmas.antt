@@ -5,10 +5,13 @@ use Rattle.std.proofs.lemmas.Bool.Decides.{nat_tests}
 use Rattle.std.specs.List.{AllByRecursion}
 use Rattle.isis_base.specs.declared.level.Level.{Level}
 use Rattle.isis_base.specs.declared.level.Level.TheVariants as level
+use Rattle.model_router.specs.Both.{at}
 use Rattle.model_router.specs.Books.{risen}
+use Rattle.model_router.specs.Configs.{Config}
 use Rattle.model_router.specs.Maps.{find, each}
 use Rattle.model_router.specs.OwnLsps.{is_due, renew, same_contents}
 use Rattle.model_router.specs.Routers.{Circuit, Contents, Issued, LevelState, Router, level_of}
+use Rattle.model_router.specs.Routers as routers
 use Rattle.model_router.specs.Seconds.{older}
 use Rattle.model_router.specs.Wanted.{system_lsp, wanted}
 use Rattle.model_router.proofs.MapLemmas.{find-each}
@@ -17,11 +20,13 @@ use Rattle.lsp_fragments.specs.Kept.{OwnState}
 use Rattle.flag_sync.specs.BookStates.{BookState, book_of}
 use Rattle.router_levels.specs.Views.{LevelView, state_of}
 use Rattle.router_core.specs.Calm.{AreLasting}
-use Rattle.router_routes.specs.Outlooks.{outlook_of}
+use Rattle.router_routes.specs.Outlooks.{outlook_of, where_run}
+use Rattle.router_routes.specs.Told.{told_by}
+use Rattle.router_routes.proofs.UnleakedLemmas.{unleaked-one, unleaked-two}
 use Rattle.router_core.specs.declared.marks.Marks.{Marks}
-use Rattle.router_core.specs.Givens.{given}
+use Rattle.router_core.specs.Givens.{given, leaks_of}
 use Rattle.router_core.specs.Seconds.{IsQuiet, Waits, level_later, numbers}
-use Rattle.router_core.specs.Settled.{AreTrue, IsSettled, IsSettledAt, Keeps, Says, faces, is_said}
+use Rattle.router_core.specs.Settled.{AreTrue, IsSettled, IsSettledAt, Keeps, Says, faces, is_said, runs_both}
 use Rattle.router_core.proofs.FaceLemmas.{wanted-faces}
 use Rattle.router_core.proofs.QuietLemmas.{later-same}
 
@@ -118,6 +123,50 @@ keeps-settled r t l k e s =
 -- marks stay true
 pub marks-keep : (marks : Marks) (r t : Router) → Keeps r t → outlook_of t ≡ outlook_of r → AreTrue marks r → AreTrue marks t
 marks-keep marks r t k e m = record { one = λ h. keeps-settled r t level.One k e (m.one h); two = λ h. keeps-settled r t level.Two k e (m.two h) }
+
+-- ---- a router of one level
+
+alone-one : (a : Router) → a.config.runs.two ≡ false → leaks_of a level.One ≡ []
+unfolding outlook_of
+alone-one a none = unleaked-one (outlook_of a) (ap (λ (t : Bool). where_run t (told_by (routers.book_of a level.Two).cells)) none)
+
+alone-two : (a : Router) → a.config.runs.one ≡ false → leaks_of a level.Two ≡ []
+unfolding outlook_of
+alone-two a none = unleaked-two (outlook_of a) (ap (λ (t : Bool). where_run t (told_by (routers.book_of a level.One).cells)) none)
+
+wanted-one : (a b r : Router) → r.config.runs.two ≡ false → leaks_of a level.One ≡ [] → leaks_of b level.One ≡ [] → wanted given a r level.One ≡ wanted given b r level.One
+unfolding wanted system_lsp
+wanted-one a b r none f g = rw (none, f, g) refl
+
+wanted-two : (a b r : Router) → leaks_of a level.Two ≡ [] → leaks_of b level.Two ≡ [] → wanted given a r level.Two ≡ wanted given b r level.Two
+unfolding wanted system_lsp
+wanted-two a b r f g = rw (f, g) refl
+
+wanted-none : (a b r : Router) (l : Level) → at r.config.runs l ≡ false → wanted given a r l ≡ wanted given b r l
+unfolding wanted
+wanted-none a b r l none = rw none refl
+
+-- what is wanted there looks at no routes
+wanted-alone : (a b r : Router) (l : Level) → a.config ≡ r.config → b.config ≡ r.config → runs_both r ≡ false → wanted given a r l ≡ wanted given b r l
+wanted-alone a b r l e f alone = by-runs r.config.runs.one r.config.runs.two refl refl alone l
+  where
+    by-runs : (one two : Bool) → r.config.runs.one ≡ one → r.config.runs.two ≡ two → (one && two) ≡ false → (l : Level) → wanted given a r l ≡ wanted given b r l
+    by-runs true true is also both l = absurd (true-false both)
+    by-runs false two is also both level.One = wanted-none a b r level.One is
+    by-runs false two is also both level.Two = wanted-two a b r (alone-two a (ap (λ (c : Config). c.runs.one) e ∙ is)) (alone-two b (ap (λ (c : Config). c.runs.one) f ∙ is))
+    by-runs true false is also both level.One = wanted-one a b r also (alone-one a (ap (λ (c : Config). c.runs.two) e ∙ also)) (alone-one b (ap (λ (c : Config). c.runs.two) f ∙ also))
+    by-runs true false is also both level.Two = wanted-none a b r level.Two also
+
+alone-settled : (r t : Router) (l : Level) → Keeps r t → runs_both r ≡ false → IsSettledAt r l → IsSettledAt t l
+alone-settled r t l k alone s =
+    let both = ap (λ (c : Config). c.runs.one && c.runs.two) k.config ∙ alone in
+    subst (λ (own : List (ℕ × Issued)). IsSettled own (wanted given t t l)) (sym (own-stays r t l k))
+    (subst (λ (wants : List (ℕ × Contents)). IsSettled (level_of r l).own wants)
+    (sym (wanted-alone t r t l refl (sym k.config) both ∙ wanted-faces given r r t l k.config k.circuits)) s)
+
+-- so marks stay true whatever routes are
+pub marks-alone : (marks : Marks) (r t : Router) → Keeps r t → runs_both r ≡ false → AreTrue marks r → AreTrue marks t
+marks-alone marks r t k alone m = record { one = λ h. alone-settled r t level.One k alone (m.one h); two = λ h. alone-settled r t level.Two k alone (m.two h) }
 
 -- ---- a level that is settled, a second later
 

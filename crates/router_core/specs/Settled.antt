@@ -1,6 +1,6 @@
 -- Own LSPs that say what is wanted, and what leaves them so (ISO 10589 7.3.6; that it is marked:
 -- own).
-use Rattle.std.specs.Prelude.{◌≡◌, ℕ, Bool, true, false, List, [], ◌∷◌, map, Option, Some, None, IfSome}
+use Rattle.std.specs.Prelude.{◌≡◌, ℕ, Bool, true, false, ◌&&◌, List, [], ◌∷◌, map, Option, Some, None, IfSome}
 use Rattle.std.specs.List.{AllByRecursion}
 use Rattle.std.specs.Option.{option_map}
 use Rattle.isis_base.specs.declared.level.Level.{Level}
@@ -10,7 +10,11 @@ use Rattle.model_router.specs.Configs.{Config}
 use Rattle.model_router.specs.Events.{Message, Refused, PointHelloHeard, LanHelloHeard, LspHeard, SnpHeard, Event, Second, Take, Pull, Metric, Overload, Prefix}
 use Rattle.model_router.specs.Maps.{find}
 use Rattle.model_router.specs.OwnLsps.{same_contents}
-use Rattle.model_router.specs.Routers.{Circuit, CircuitLevel, Contents, Issued, LanNeighbour, Router, level_of}
+use Rattle.model_router.specs.Cells.{Heard}
+use Rattle.model_router.specs.LspTable.{met}
+use Rattle.model_router.specs.Takes.{whose_of}
+use Rattle.model_router.specs.declared.lsp_case.LspCase.TheVariants as lsp
+use Rattle.model_router.specs.Routers.{Circuit, CircuitLevel, Contents, Issued, LanNeighbour, Router, book_of, level_of}
 use Rattle.model_router.specs.Wanted.{wanted}
 use Rattle.router_core.specs.Givens.{given}
 use Rattle.router_core.specs.Seconds.{numbers}
@@ -38,6 +42,14 @@ IsSettledAt r level = IsSettled (level_of r level).own (wanted given r r level)
 pub record AreTrue (marks : Marks) (r : Router) : Type 0 where
   pub one : marks.one ≡ true → IsSettledAt r level.One
   pub two : marks.two ≡ true → IsSettledAt r level.Two
+
+-- whether a router runs both levels, so that its routes of one are leaked into the other (RFC 5302 3)
+abbrev pub runs_both : Router → Bool
+runs_both r = r.config.runs.one && r.config.runs.two
+
+-- an LSP outbids no own one (7.3.16.1)
+abbrev pub IsNoBid : Router → Level → Heard → Type 0
+IsNoBid r l h = met (book_of r l) (whose_of r.config.system (level_of r l) h.id) h ≡ lsp.Outbid → ⊥
 
 -- ---- what own LSPs look at of circuits (7.3.7 to 7.3.10)
 

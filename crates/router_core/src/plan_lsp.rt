@@ -130,14 +130,15 @@ impl Parts {
         if is_calm_row(row) {
             return Ok((Told::Nothing, marks.after()));
         }
+        let marks = marks.after_lsp(self.runs(Level::One) & self.runs(Level::Two));
         if !asked {
-            return Ok((Told::Unasked, Marks::none()));
+            return Ok((Told::Unasked, marks));
         }
         if self.is_refresh(circuit, from, lsp, row) {
-            return Ok((Told::Nothing, Marks::none()));
+            return Ok((Told::Nothing, marks));
         }
         match self.moving_by(circuit, from, lsp, row) {
-            Ok(told) => Ok((told, Marks::none())),
+            Ok(told) => Ok((told, marks)),
             Err(error) => Err(error),
         }
     }

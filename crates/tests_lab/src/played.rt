@@ -50,7 +50,7 @@ fn fault_of_script(alloc: Global, script: &Script<'_>) -> Option<RunFault> {
 }
 
 fn fault_of_net(net: &Network) -> Option<RunFault> {
-    if is_joined(net) & are_computed(net) {
+    if is_joined(net) & are_computed(net) & has_routes(net) {
         None
     } else {
         Some(RunFault::OutOfMemory)
@@ -81,4 +81,16 @@ fn repairs(net: &Network, router: usize) -> Option<u64>
     requires { router < length net.now.seen.routers }
 {
     Some(net.router(router).repaired(Level::One)?.changes())
+}
+
+/// Whether the best routes of the first router, computed anew, are as many as those that it has.
+fn has_routes(net: &Network) -> bool {
+    if net.routers() == 0 {
+        return false;
+    }
+    let router = net.router(0);
+    match router.best_routes() {
+        Ok(routes) => routes.list().len() == router.routes().list().len(),
+        Err(_) => false,
+    }
 }

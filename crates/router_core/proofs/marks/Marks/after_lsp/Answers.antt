@@ -8,5 +8,5 @@ use Rattle.router_core.proofs.marks.Marks.after_lsp.Goals as goal
 
 -- src/marks.rt
 pub returns : goal.returns
-returns c = λ r place l from h is true other.
-marks-alone c.args.self r (step given r (Take place (LspHeard l from h))).router (lsp-keeps given r place l from h other) (sym is ∙ c.if-both.false) true
+returns c = λ r place l from h is held other.
+    marks-alone c.args.self r (step given r (Take place (LspHeard l from h))).router (lsp-keeps given r place l from h other) (sym is ∙ c.if-both.false) held
