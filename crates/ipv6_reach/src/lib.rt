@@ -26,6 +26,11 @@ mod route6;
 mod text6;
 mod took;
 
+/// What a capture holds, for crates that look for more in it.
+pub mod parts {
+    pub use crate::capture::store;
+}
+
 pub use best6::routes6;
 pub use capture::Capture;
 pub use item6::Prefix6Item;
