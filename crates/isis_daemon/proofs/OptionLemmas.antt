@@ -4,8 +4,7 @@ use Rattle.std.specs.Str.{bytes_eq}
 use Rattle.std.proofs.lemmas.Slice.Eq.{bytes_eq-Decides}
 use Rattle.isis_base.specs.declared.identifiers.SystemId.{SystemId}
 use Rattle.isis_base.specs.declared.level.Level.{Level}
-use Rattle.isis_daemon.specs.declared.command.Command.TheVariants.{Routes6, Alternates}
-use Rattle.isis_daemon.specs.Commands.{command_of, captured_of, level_in, system_in, grid_size_of, walk_of, weave_of}
+use Rattle.isis_daemon.specs.Commands.{command_of, captured_of, captured_by, level_in, system_in, grid_size_of, walk_of, weave_of}
 use Rattle.isis_daemon.specs.Options.{name_in, value_in, pieces_of, options_of, daemon_of}
 
 fails : (b : Bool) → ¬ (b ≡ true) → b ≡ false
@@ -59,7 +58,7 @@ value_none (x ∷ word) none =
 
 -- ---- words that ask for a daemon ask for no text of an input
 
-captured_none : (l : Option Level) (s : Option SystemId) → option_and_then (λ level. option_and_then (λ system. if bytes_eq (codes "daemon") (codes "routes6") then Some (Routes6 level system) else if bytes_eq (codes "daemon") (codes "alternates") then Some (Alternates level system) else None) s) l ≡ None
+captured_none : (l : Option Level) (s : Option SystemId) → option_and_then (λ level. option_and_then (λ system. captured_by (codes "daemon") level system) s) l ≡ None
 captured_none None s = refl
 captured_none (Some level) None = refl
 captured_none (Some level) (Some system) = refl

@@ -6,8 +6,7 @@ use Rattle.std.proofs.lemmas.Slice.Eq.{bytes_eq-Decides}
 use Rattle.isis_base.specs.declared.identifiers.SystemId.{SystemId}
 use Rattle.isis_base.specs.declared.level.Level.{Level}
 use Rattle.isis_base.specs.declared.prefix.Prefix.{Prefix}
-use Rattle.isis_daemon.specs.declared.command.Command.TheVariants.{Routes6, Alternates}
-use Rattle.isis_daemon.specs.Commands.{AreNoText, level_in, system_in, walk_of, asked_of}
+use Rattle.isis_daemon.specs.Commands.{AreNoText, captured_by, level_in, system_in, walk_of, asked_of}
 use Rattle.isis_daemon.specs.Options.{daemon_of}
 use Rattle.lab_script.specs.declared.reason.ScriptFault.{ScriptFault}
 use Rattle.lab_script.specs.declared.reason.ScriptFault.TheVariants as script
@@ -19,7 +18,7 @@ use Rattle.isis_daemon.specs.WalkEnds.{IsRefusedScript, IsWalkable, WalkEndsOn}
 abbrev pub AreOfWalk : List (List ℕ) → Type 0
 AreOfWalk words = AreNoText words × (daemon_of words ≡ None)
 
-captured_none : (l : Option Level) (s : Option SystemId) → option_and_then (λ level. option_and_then (λ system. if bytes_eq (codes "walk") (codes "routes6") then Some (Routes6 level system) else if bytes_eq (codes "walk") (codes "alternates") then Some (Alternates level system) else None) s) l ≡ None
+captured_none : (l : Option Level) (s : Option SystemId) → option_and_then (λ level. option_and_then (λ system. captured_by (codes "walk") level system) s) l ≡ None
 captured_none None s = refl
 captured_none (Some level) None = refl
 captured_none (Some level) (Some system) = refl
@@ -60,3 +59,4 @@ walked_done name prefix text put put' status.NotStarted can write h = absurd h
 walked_done name prefix text put put' (status.LabLimit which) can write h = absurd (refused_none name text prefix (script.Limit which) can h.0)
 walked_done name prefix text put put' (status.WeaveRefused journal entry why) can write h = absurd h
 walked_done name prefix text put put' (status.NoWalk why) can write h = absurd (can.walks why h.0)
+walked_done name prefix text put put' (status.Absent what) can write h = absurd h

@@ -12,7 +12,7 @@ use Rattle.std.specs.Str.{bytes_eq}
 use Rattle.line_cuts.specs.Fields.{prefix_of}
 use Rattle.lab_script.specs.Fields.{name_of}
 use Rattle.isis_daemon.specs.declared.command.Command.{Command}
-use Rattle.isis_daemon.specs.declared.command.Command.TheVariants.{Lab, Show, Routes6, Alternates}
+use Rattle.isis_daemon.specs.declared.command.Command.TheVariants.{Lab, Show, Routes, Routes6, Alternates}
 use Rattle.isis_daemon.specs.Options.{daemon_of}
 
 -- a level, `L1` or `L2`
@@ -25,12 +25,16 @@ level_in word =
 abbrev pub system_in : List ℕ → Option SystemId
 system_in word = option_map system_from (text_octets SYSTEM_TEXT word)
 
--- `routes6` or `alternates`, of a level and a system
+-- `routes`, `routes6` or `alternates`, of a level and a system
+abbrev pub captured_by : List ℕ → Level → SystemId → Option Command
+captured_by word level system =
+    if bytes_eq word (codes "routes") then Some (Routes level system)
+    else if bytes_eq word (codes "routes6") then Some (Routes6 level system)
+    else if bytes_eq word (codes "alternates") then Some (Alternates level system) else None
+
 abbrev pub captured_of : List ℕ → List ℕ → List ℕ → Option Command
 captured_of word level system =
-    option_and_then (λ level. option_and_then (λ system.
-    if bytes_eq word (codes "routes6") then Some (Routes6 level system)
-    else if bytes_eq word (codes "alternates") then Some (Alternates level system) else None)
+    option_and_then (λ level. option_and_then (λ system. captured_by word level system)
     (system_in system)) (level_in level)
 
 -- one word, `lab` or `show`; or a word of captured LSPs, a level and a system

@@ -57,6 +57,7 @@ DaemonEndsOn o octets status.TooLong = ⊥
 DaemonEndsOn o octets (status.LabLimit which) = ⊥
 DaemonEndsOn o octets (status.WeaveRefused journal entry reason) = ⊥
 DaemonEndsOn o octets (status.NoWalk reason) = ⊥
+DaemonEndsOn o octets (status.Absent what) = ⊥
 
 -- how the run of a daemon ends, by what its input gave, before and afterwards: the input wasn't read whole, and the router
 -- never was; or it was, and its octets come to this (own)

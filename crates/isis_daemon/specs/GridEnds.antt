@@ -35,3 +35,4 @@ GridEnds size put put' (status.LabLimit which) =
     (grid_end size ≡ Err (Limit which)) × (put' ≡ put)
 GridEnds size put put' (status.WeaveRefused journal entry reason) = ⊥
 GridEnds size put put' (status.NoWalk reason) = ⊥
+GridEnds size put put' (status.Absent what) = ⊥

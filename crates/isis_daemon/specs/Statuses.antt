@@ -15,7 +15,7 @@ use Rattle.lab_script.specs.declared.reason.ScriptFault.TheVariants as script
 use Rattle.lab_text.specs.declared.fault.RunFault.{RunFault}
 use Rattle.lab_text.specs.declared.fault.RunFault.TheVariants as run
 use Rattle.isis_daemon.specs.declared.status.Status.{Status}
-use Rattle.isis_daemon.specs.declared.status.Status.TheVariants.{Done, Usage, ScriptRefused, ReadFault, WriteFault, TooLong, OutOfMemory, ConfigRefused, NotStarted, LabLimit, WeaveRefused, NoWalk}
+use Rattle.isis_daemon.specs.declared.status.Status.TheVariants.{Done, Usage, ScriptRefused, ReadFault, WriteFault, TooLong, OutOfMemory, ConfigRefused, NotStarted, LabLimit, WeaveRefused, NoWalk, Absent}
 use Rattle.lab_script.specs.Reasons.{reason_word}
 use Rattle.walk_text.specs.declared.fault.WalkFault.{WalkFault}
 use Rattle.walk_text.specs.declared.fault.WalkFault.TheVariants as walk
@@ -23,6 +23,7 @@ use Rattle.walk_text.specs.Reasons as why
 use Rattle.weave_text.specs.declared.fault.WeaveTextFault.{WeaveTextFault}
 use Rattle.weave_text.specs.declared.fault.WeaveTextFault.TheVariants as weave
 use Rattle.weave_text.specs.Reasons as unwoven
+use Rattle.capture_text.specs.Absences.{absence_text}
 
 -- what ends a run whose script can't be read (own)
 abbrev pub script_status : ScriptFault → Status
@@ -90,8 +91,9 @@ status_code NotStarted = 9
 status_code (LabLimit which) = 10
 status_code (WeaveRefused journal entry reason) = 11
 status_code (NoWalk reason) = 12
+status_code (Absent what) = 0
 
--- what stands on standard error; at 0 nothing is printed (own)
+-- what stands on standard error; of what is done nothing is printed (own)
 abbrev pub status_line : Status → List ℕ
 status_line Done = codes "isis: done"
 status_line Usage = codes "isis: usage"
@@ -109,3 +111,4 @@ status_line (WeaveRefused journal entry reason) =
     codes "isis: journal " ++ decimal journal ++ codes " entry " ++ decimal entry ++ codes " "
     ++ unwoven.reason_word reason
 status_line (NoWalk reason) = codes "isis: no walk " ++ why.reason_word reason
+status_line (Absent what) = codes "isis: " ++ absence_text what

@@ -1,7 +1,7 @@
 //! What the words after the program's name ask for.
 ghost use Rattle.std.specs.Prelude.{◌≡◌, ◌≤◌, [], ◌∷◌, map, string_bytes, None, IfSome};
 ghost use Rattle.std.specs.Option.{option_map};
-ghost use Rattle.isis_daemon.specs.Commands.{command_of, captured_of, level_in, system_in, grid_size_of, size_of, walk_of, weave_of, asked_of, AreNoText};
+ghost use Rattle.isis_daemon.specs.Commands.{command_of, captured_of, captured_by, level_in, system_in, grid_size_of, size_of, walk_of, weave_of, asked_of, AreNoText};
 ghost use Rattle.isis_daemon.specs.Options.{daemon_of};
 
 use isis_base::{Level, Prefix, SystemId, read_system};
@@ -15,6 +15,8 @@ pub enum Command {
     Lab,
     /// `show`: the fields of PDUs.
     Show,
+    /// `routes`: the IPv4 routes of a system, by captured LSPs of a level (RFC 5302).
+    Routes { level: Level, system: SystemId },
     /// `routes6`: the IPv6 routes of a system, by captured LSPs of a level (RFC 5308).
     Routes6 { level: Level, system: SystemId },
     /// `alternates`: the loop-free alternates of a system, by captured LSPs of a level (RFC 5286).
@@ -58,6 +60,16 @@ fn captured_of(word: &str, level: &str, system: &str) -> Option<Command>
 {
     let level = level_in(level)?;
     let system = system_in(system)?;
+    captured_by(word, level, system)
+}
+
+/// The command of captured LSPs that a word is, of this level and system.
+fn captured_by(word: &str, level: Level, system: SystemId) -> Option<Command>
+    ensures { result ≡ captured_by word.now level system }
+{
+    if word == "routes" {
+        return Some(Command::Routes { level, system });
+    }
     if word == "routes6" {
         return Some(Command::Routes6 { level, system });
     }

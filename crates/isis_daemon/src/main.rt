@@ -4,17 +4,20 @@
 //! hex text, each one PDU, and writes their fields. `isis grid N`, with N from 1 to 8, runs a grid of N rows and as many
 //! columns of routers, and writes a summary. `isis walk NAME PREFIX` reads a script as `lab` does, and writes the walk of a
 //! packet from a router to a prefix. `isis weave` reads the setup lines of a script and journals of daemons, weaves the journals
-//! into one schedule, and writes it as a script. Where the exit code isn't 0, the status's line stands on standard error.
+//! into one schedule, and writes it as a script. Where the exit code isn't 0, the status's line stands on standard error, and where
+//! captured LSPs lack the system that is asked for. `isis routes`, `routes6` and `alternates` with a level and a system read such LSPs,
+//! and write the system's IPv4 routes, its IPv6 routes or its loop-free alternates.
 //! `isis daemon --boot N --turns N` reads a configuration from standard input, opens a UDP port for each of its
 //! circuits, runs its router, and writes the router's journal.
 //!
 //! - `run.rt`: the call `run`, from the octets read to the octets written; `inputs.rt`: that of all but a daemon
-//! - `texts.rt`: what makes a text of its input
+//! - `texts.rt`: what makes a text of its input; `captured.rt`: that of captured LSPs
 //! - `command.rt`, `options.rt`: what the words ask for; `status.rt`: how a run ends
 //! - `grid.rt`: the run of a grid; `walk.rt`: a walk after a script; `weaving.rt`: journals woven; `daemon.rt`: a router over its circuits' ports
 //! - `show.rt`: the call `show`, line by line; `show/lines.rt` the lines of a PDU, and `shown.rt` what is still to come
 #![tactic(auto)]
 
+mod captured;
 mod command;
 mod daemon;
 mod grid;

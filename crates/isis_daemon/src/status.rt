@@ -2,6 +2,7 @@
 ghost use Rattle.std.specs.Prelude.{◌≡◌, Some};
 ghost use Rattle.isis_daemon.specs.Statuses.{script_status, run_status, whole_status, text_status, walk_status, weave_status, config_status, daemon_status, status_code, status_line};
 
+use capture_text::Absence;
 use daemon_config::{ConfigFault, ConfigKey, ConfigKind};
 use daemon_run::DaemonEnd;
 use isis_edge::{TextFailed, WholeFault};
@@ -56,6 +57,10 @@ pub enum Status {
     NoWalk {
         reason: WalkReason,
     },
+    /// The whole text was written, but captured LSPs lack this of the system that was asked for.
+    Absent {
+        what: Absence,
+    },
 }
 
 impl Status {
@@ -76,6 +81,7 @@ impl Status {
             Status::LabLimit { .. } => 10,
             Status::WeaveRefused { .. } => 11,
             Status::NoWalk { .. } => 12,
+            Status::Absent { .. } => 0,
         }
     }
 }
@@ -101,6 +107,7 @@ impl fmt::Display for Status {
                 reason,
             } => write!(f, "isis: journal {journal} entry {entry} {reason}"),
             Status::NoWalk { reason } => write!(f, "isis: no walk {reason}"),
+            Status::Absent { what } => write!(f, "isis: {what}"),
         }
     }
 }
