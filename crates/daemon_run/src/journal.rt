@@ -36,7 +36,7 @@ pub(crate) fn serve_with_journal<
     gate: &G,
     turns: u64,
 ) -> (Vec<Q>, O, T, DaemonEnd)
-    requires turns { (1 ≤ turns) × (turns ≤ 86400) }
+    requires turns { (1 ≤ turns) × (turns ≤ 1000000000000) }
     requires circuits { (length ports.items ≡ length router.circuits) × (1 ≤ length ports.items)
         × (length ports.items ≤ 64) }
     requires fresh { (i : ℕ) → IfSome (slice_get ports.items i)
@@ -82,7 +82,7 @@ fn serve_journal<
     gate: &G,
     turns: u64,
 ) -> (Vec<Q>, O, T, DaemonEnd)
-    requires turns { (1 ≤ turns) × (turns ≤ 86400) }
+    requires turns { (1 ≤ turns) × (turns ≤ 1000000000000) }
     requires circuits { (length ports.items ≡ length router.circuits) × (1 ≤ length ports.items)
         × (length ports.items ≤ 64) }
     requires fresh { (i : ℕ) → IfSome (slice_get ports.items i)

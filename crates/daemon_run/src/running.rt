@@ -18,7 +18,7 @@ use std::thread::Threads;
 use std::time::Clock;
 
 /// Runs a daemon: the router of a configuration, in a boot, with a port at the place of each of its circuits, for so
-/// many turns, which are 1 to 86,400. The output gets the journal, and comes back beside the pacer. It waits until all
+/// many turns, which are 1 to 10^12. The output gets the journal, and comes back beside the pacer. It waits until all
 /// workers have ended.
 pub fn run_daemon<
     O: Sink + Drop,
@@ -43,7 +43,7 @@ pub fn run_daemon<
     requires valid { IsValid config }
     requires circuits { (length places ≡ length config.circuits) × (1 ≤ length places) }
     requires boot { (1 ≤ boot) × (boot ≤ 16777215) }
-    requires turns { (1 ≤ turns) × (turns ≤ 86400) }
+    requires turns { (1 ≤ turns) × (turns ≤ 1000000000000) }
     ensures ran { DaemonRan config places boot turns (T.given pacer) (T.given result.1)
         (T.ended result.1)
         (O.put output) (O.put result.0) (P.opened ports.old) (P.opened ports.new)
