@@ -11,10 +11,11 @@
 //! - `spawning.rt`: workers, and the threads that they work in
 //! - `memory_ports.rt`, `kept.rt`: ports in memory, and what they keep; `memory_pacer.rt`: a pacer in memory
 //! - `faults.rt`: faults counted
-//! - `udp.rt`: ports over UDP; `sleep_pacer.rt`: a pacer that sleeps
+//! - `udp.rt`: ports over UDP; `sleep_pacer.rt`: a pacer that sleeps; `first_second.rt`: a gate that it opens
 #![tactic(auto)]
 
 mod faults;
+mod first_second;
 mod kept;
 mod memory_pacer;
 mod memory_ports;
@@ -26,6 +27,7 @@ mod sleep_pacer;
 mod spawning;
 mod udp;
 
+pub use first_second::FirstSecond;
 pub use isis_base::List as PlaceList;
 pub use memory_pacer::MemoryPacer;
 pub use memory_ports::{MemoryPort, MemoryPorts};

@@ -32,7 +32,7 @@ mod weaving;
 
 use crate::run::run;
 use crate::status::Status;
-use daemon_edge::{OpenGate, SleepPacer, ThreadSpawner, UdpPorts};
+use daemon_edge::{FirstSecond, SleepPacer, ThreadSpawner, UdpPorts};
 use isis_edge::{StdSink, StdSource};
 use std::process::ExitCode;
 use std::{env, io};
@@ -56,7 +56,7 @@ fn main(rt: HostRuntime) -> ExitCode {
             let output = StdSink::new(rt.stdout());
             let mut ports = UdpPorts::new();
             let mut spawner = ThreadSpawner::new(Vec::new(rt.alloc()));
-            let gate = OpenGate::new();
+            let gate = FirstSecond::new();
             run(
                 &rt,
                 rt.alloc(),
@@ -65,7 +65,7 @@ fn main(rt: HostRuntime) -> ExitCode {
                 output,
                 &mut ports,
                 &mut spawner,
-                SleepPacer::new(),
+                SleepPacer::new(&gate),
                 &gate,
             )
             .2
