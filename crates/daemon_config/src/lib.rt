@@ -37,5 +37,6 @@ mod settings;
 mod shapes;
 
 pub use fault::{ConfigFault, ConfigKey, ConfigKind};
+pub use numbers::read_host;
 pub use reader::read_config;
 pub use settings::Settings;

@@ -20,7 +20,7 @@ pub(crate) fn read_address(text: &[u8]) -> Option<Address>
 
 /// Reads an IPv4 address, as `10.0.0.1`.
 #[tactic(auto, using(crate::proofs::NumberLemmas::not_four), unfolding(crate::specs::Fields::host_of, crate::specs::Fields::host_number))]
-pub(crate) fn read_host(text: &[u8]) -> Option<u32>
+pub fn read_host(text: &[u8]) -> Option<u32>
     ensures { result ≡ host_of text.now }
 {
     let (first, second, third, fourth) = four_parts(text)?;

@@ -1,4 +1,4 @@
 -- Lemmas.
-mod PlaceLemmas
+pub mod PlaceLemmas
 mod ArriveLemmas
-mod ForwarderLemmas
+pub mod ForwarderLemmas

@@ -24,6 +24,11 @@ contains-map f [] x h = absurd (let l = h.1 in omega (arith, l))
 contains-map f (y ∷ xs) x (zero, l, e) = (0, omega arith, ap f e)
 contains-map f (y ∷ xs) x (suc k, l, e) = Contains-append_right (f y ∷ []) (map f xs) (f x) (contains-map f xs x (k, (omega (arith, l)), e))
 
+pub of-map : {X Y : Type 0} (f : X → Y) (xs : List X) (y : Y) → Contains (map f xs) y → (x : X) × Contains xs x × (f x ≡ y)
+of-map f [] y h = absurd (let l = h.1 in omega (arith, l))
+of-map f (x ∷ xs) y (zero, l, e) = (x, (0, omega arith, refl), e)
+of-map f (x ∷ xs) y (suc k, l, e) = let r = of-map f xs y (k, omega (arith, l), e) in (r.0, Contains-append_right (x ∷ []) xs r.0 r.1, r.2)
+
 pub first-there : (xs : List ℕ) (x : ℕ) → slice_get xs 0 ≡ Some x → Contains xs x
 first-there [] x e = absurd (cc)
 first-there (y ∷ xs) x e = (0, omega arith, some-same y x e)

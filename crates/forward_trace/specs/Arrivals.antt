@@ -1,9 +1,10 @@
 -- A packet that arrived (RFC 1195 3.10; the form: own).
-use Rattle.std.specs.Prelude.{◌≡◌, ℕ, List, Some}
+use Rattle.std.specs.Prelude.{◌≡◌, ℕ, true, false, List, Some}
 use Rattle.std.specs.List.{Contains}
 use Rattle.model_router.specs.Places.{nth}
 use Rattle.route_table.specs.declared.route.Route.{Route}
 use Rattle.route_table.specs.Lookups.{IsLongest}
+use Rattle.trace_core.specs.declared.outcomes.Outcomes.{Outcomes}
 use Rattle.trace_core.specs.declared.step.End.TheVariants as ended
 use Rattle.trace_core.specs.declared.step.Traced.{Traced}
 use Rattle.forward_views.specs.Walked.{RouterOf, IsRouteOf}
@@ -26,3 +27,7 @@ pub record IsArrived (looks : List Look) (prefix : ℕ) (owner : Look) (route : 
   pub at : nth looks last ≡ Some owner
   pub moves : List (RouterOf × ℕ)
   pub reached : IsReached looks prefix owner route moves (router_in owner)
+
+-- it arrives, whichever next hops it takes
+abbrev pub arrives_alone : Outcomes
+arrives_alone = record { arrives = true; loops = false; lost = false }

@@ -5,15 +5,17 @@ ghost use Rattle.model_router.specs.Places.{nth};
 ghost use Rattle.model_router.specs.Routers.{Router};
 ghost use Rattle.route_table.specs.declared.route.Route.{Route};
 ghost use Rattle.router_routes.specs.Candidates.{AreRoutesOf};
+ghost use Rattle.trace_core.specs.declared.outcomes.Outcomes.{Outcomes};
 ghost use Rattle.trace_core.specs.declared.step.Traced.{Traced};
 ghost use Rattle.trace_core.specs.Traces.{IsTraced, by};
+ghost use Rattle.trace_core.specs.Whichever.{AreOutcomes};
 ghost use Rattle.packet_trace.specs.declared.forwarder.Forwarder.{Forwarder};
-ghost use Rattle.packet_trace.specs.Steps.{step_at};
+ghost use Rattle.packet_trace.specs.Steps.{step_at, steps_at};
 ghost use Rattle.forward_views.specs.Walked.{IsRouteOf};
 ghost use Rattle.forward_views.specs.Looks.{Look, outlook, AreAlike, IsOwner};
 ghost use Rattle.forward_views.specs.Forwarded.{router_in};
 ghost use Rattle.forward_trace.specs.Forwarders.{forwarder_of, AreForwarders};
-ghost use Rattle.forward_trace.specs.Arrivals.{AreFound, IsArrived};
+ghost use Rattle.forward_trace.specs.Arrivals.{AreFound, IsArrived, arrives_alone};
 
 use forward_views::laws::forward_law;
 use packet_trace::laws::lookup_law;
@@ -28,6 +30,20 @@ pub fn trace_law()
         → nth looks from ≡ Some first → IsRouteOf (router_in first) prefix route
         → IsTraced (by (step_at (map forwarder_of looks) address)) from traced
         → IsArrived looks prefix owner route traced }
+{
+    forward_law();
+    routes_laws();
+}
+
+/// There it arrives whichever next hops it takes: nothing else may become of it.
+pub fn whichever_law()
+    ensures { (looks : List Look) (prefix address from : ℕ) (owner first : Look) (route : Route)
+        (traced : Traced) (outcomes : Outcomes)
+        → AreAlike looks → IsOwner looks prefix owner → AreFound looks prefix address
+        → nth looks from ≡ Some first → IsRouteOf (router_in first) prefix route
+        → IsTraced (by (step_at (map forwarder_of looks) address)) from traced
+        → AreOutcomes (steps_at (map forwarder_of looks) address) from outcomes
+        → outcomes ≡ arrives_alone }
 {
     forward_law();
     routes_laws();

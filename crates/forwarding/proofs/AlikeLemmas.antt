@@ -70,6 +70,21 @@ told-said (pair ∷ cells) = by (told-said cells) (is_live pair.1.rank) refl
         ∙ ap (λ (l : List (ℕ × (ℕ × List ℕ))). (lsp_number (lsp_id pair.0), (pair.1.flags, drop 27 pair.1.octets)) ∷ l) rest)
     by rest false t = rw (t) rest
 
+-- ---- places
+
+-- no two places have one node
+pub one-place : (routers : List Router) (looks : List Look) → AreLooks routers looks → ((i : ℕ) (r : Router) → nth routers i ≡ Some r → IsReached r) → AreDistinct (systems_of routers)
+    → (p q : ℕ) (a b : Look) → nth looks p ≡ Some a → nth looks q ≡ Some b → root_of a ≡ root_of b → p ≡ q
+one-place routers looks are reached distinct p q a b at of e =
+    let m : ℕ = a.router.config.system in let n : ℕ = b.router.config.system in
+    let x = root-number m (reached p a.router (router-at routers looks are p a at)).speaking.sender.system in
+    let y = root-number n (reached q b.router (router-at routers looks are q b of)).speaking.sender.system in
+    let roots : m * 65536 ≡ n * 65536 = sym (root-is a ∙ x) ∙ (e ∙ (root-is b ∙ y)) in
+    let same : m ≡ n = omega (arith, roots) in
+    distinct-at (systems_of routers) p q n distinct
+    (nth-map (λ (r : Router). r.config.system) routers p ∙ (ap (option_map (λ (r : Router). r.config.system)) (router-at routers looks are p a at) ∙ ap Some same))
+    (nth-map (λ (r : Router). r.config.system) routers q ∙ ap (option_map (λ (r : Router). r.config.system)) (router-at routers looks are q b of))
+
 -- ---- all together
 
 pub are-alike : (routers : List Router) (looks : List Look) → AreLooks routers looks → ((i : ℕ) (r : Router) → nth routers i ≡ Some r → IsReached r) → AreDistinct (systems_of routers) → AreTested looks → AreAlike looks
@@ -108,12 +123,4 @@ are-alike routers looks are reached distinct tested = record {
     one : (a b : Look) → Contains looks a → Contains looks b → root_of a ≡ root_of b → a ≡ b
     one a b h k e =
         let at = nth-contains looks a h in let of = nth-contains looks b k in
-        let m : ℕ = a.router.config.system in let n : ℕ = b.router.config.system in
-        let p = root-number m (is-reached a h).speaking.sender.system in
-        let q = root-number n (is-reached b k).speaking.sender.system in
-        let roots : m * 65536 ≡ n * 65536 = sym (root-is a ∙ p) ∙ (e ∙ (root-is b ∙ q)) in
-        let same : m ≡ n = omega (arith, roots) in
-        let places : at.0 ≡ of.0 = distinct-at (systems_of routers) at.0 of.0 n distinct
-        (nth-map (λ (r : Router). r.config.system) routers at.0 ∙ (ap (option_map (λ (r : Router). r.config.system)) (router-at routers looks are at.0 a at.1) ∙ ap Some same))
-        (nth-map (λ (r : Router). r.config.system) routers of.0 ∙ ap (option_map (λ (r : Router). r.config.system)) (router-at routers looks are of.0 b of.1)) in
-        some-same a b (sym at.1 ∙ (ap (nth looks) places ∙ of.1))
+        some-same a b (sym at.1 ∙ (ap (nth looks) (one-place routers looks are reached distinct at.0 of.0 a b at.1 of.1 e) ∙ of.1))

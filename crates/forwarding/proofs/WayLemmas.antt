@@ -48,7 +48,7 @@ one-more (z ∷ xs) (w ∷ ys) x y e = ap suc (one-more xs ys x y (omega (arith,
 -- ---- next hops
 
 -- one's own route has none
-no-hop : (looks : List Look) (look : Look) (route : Route) (hop : ℕ) → AreAlike looks → Contains looks look → Contains look.routes route → rank_number route.rank ≡ 0 → Contains route.hops hop → ⊥
+pub no-hop : (looks : List Look) (look : Look) (route : Route) (hop : ℕ) → AreAlike looks → Contains looks look → Contains look.routes route → rank_number route.rank ≡ 0 → Contains route.hops hop → ⊥
 no-hop looks look route hop alike there has own h =
     let of = (alike.routes_are look there).each route has in
     let c = (of.hops hop).0 h in

@@ -87,7 +87,7 @@ fn test_all(alloc: Global, network: &Network) -> Result<(), ForwardFault>
 }
 
 /// Each router has its routes, and what always holds of it. It does nothing.
-fn facts_of(network: &Network)
+pub(crate) fn facts_of(network: &Network)
     ensures looks { (looks : List Look) × AreLooks network.now.seen.routers looks }
     ensures reached { (i : ℕ) (r : model.Router) → nth network.now.seen.routers i ≡ Some r
         → IsReached r }

@@ -10,9 +10,10 @@
 //! - `test.rt`: the first router that fails a test; `alone.rt`, `same_view.rt`, `settled.rt`, `no_zero.rt`: the tests of one
 //!   router; `strangers.rt`: LSPs of none of the routers; `owners.rt`: routes of a prefix
 //! - `level_one.rt`: the database of level 1 that a router has; `nodes.rt`: nodes as numbers
-//! - `fault.rt`, `walked.rt`: what is answered
+//! - `fault.rt`, `walked.rt`: what is answered; `alike.rt`: what routers that passed the tests have in common
 #![tactic(auto)]
 
+mod alike;
 mod alone;
 mod answer;
 mod fault;
@@ -27,6 +28,7 @@ mod test;
 mod walked;
 mod walking;
 
+pub use alike::alike_facts;
 pub use answer::forward;
 pub use fault::ForwardFault;
 pub use walked::Walked;

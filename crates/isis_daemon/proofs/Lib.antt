@@ -6,5 +6,6 @@ pub mod ShowLemmas
 mod InputLemmas
 mod TakenLemmas
 mod OptionLemmas
+mod TraceLemmas
 mod WalkLemmas
 mod WeaveLemmas

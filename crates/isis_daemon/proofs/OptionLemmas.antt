@@ -5,7 +5,7 @@ use Rattle.std.proofs.lemmas.Slice.Eq.{bytes_eq-Decides}
 use Rattle.isis_base.specs.declared.identifiers.SystemId.{SystemId}
 use Rattle.isis_base.specs.declared.level.Level.{Level}
 use Rattle.isis_daemon.specs.declared.command.Command.TheVariants.{Routes6, Alternates}
-use Rattle.isis_daemon.specs.Commands.{command_of, captured_of, level_in, system_in, grid_size_of, walk_of, weave_of}
+use Rattle.isis_daemon.specs.Commands.{command_of, captured_of, level_in, system_in, grid_size_of, walk_of, trace_of, weave_of}
 use Rattle.isis_daemon.specs.Options.{name_in, value_in, pieces_of, options_of, daemon_of}
 
 fails : (b : Bool) → ¬ (b ≡ true) → b ≡ false
@@ -88,7 +88,7 @@ clash x o some none = cc (some ∙ none)
 pub told : {A : Type 0} (x : A) (o : Option A) (P : A → Type 0) → Some x ≡ o → P x → IfSome o P
 told x o P some is = subst (λ z. IfSome z P) some is
 
--- ---- nor do they ask for a grid, a walk or a weaving
+-- ---- nor do they ask for a grid, a walk, a trace or a weaving
 
 named : (word : List ℕ) (words : List (List ℕ)) (x : ℕ × ℕ) → daemon_of (word ∷ words) ≡ Some x → word ≡ codes "daemon"
 named word words x is = (bytes_eq-Decides word (codes "daemon")).0 (hit (bytes_eq word (codes "daemon")) is)
@@ -109,6 +109,13 @@ no_walk (word ∷ []) x is = refl
 no_walk (word ∷ name ∷ []) x is = refl
 no_walk (word ∷ name ∷ prefix ∷ []) x is = subst (λ (w : List ℕ). walk_of (w ∷ name ∷ prefix ∷ []) ≡ None) (sym (named word (name ∷ prefix ∷ []) x is)) refl
 no_walk (word ∷ name ∷ prefix ∷ next ∷ words) x is = refl
+
+pub no_trace : (words : List (List ℕ)) (x : ℕ × ℕ) → daemon_of words ≡ Some x → trace_of words ≡ None
+no_trace [] x is = refl
+no_trace (word ∷ []) x is = refl
+no_trace (word ∷ name ∷ []) x is = refl
+no_trace (word ∷ name ∷ address ∷ []) x is = subst (λ (w : List ℕ). trace_of (w ∷ name ∷ address ∷ []) ≡ None) (sym (named word (name ∷ address ∷ []) x is)) refl
+no_trace (word ∷ name ∷ address ∷ next ∷ words) x is = refl
 
 pub no_weave : (words : List (List ℕ)) (x : ℕ × ℕ) → daemon_of words ≡ Some x → weave_of words ≡ None
 no_weave [] x is = refl

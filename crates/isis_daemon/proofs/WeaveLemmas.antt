@@ -17,17 +17,18 @@ use Rattle.isis_daemon.specs.declared.status.Status.{Status}
 use Rattle.isis_daemon.specs.declared.status.Status.TheVariants as status
 use Rattle.isis_daemon.specs.Runs.{IsDoneUnlessMemory}
 use Rattle.isis_daemon.specs.WeaveEnds.{WeaveEndsOn, CanBeWoven}
-use Rattle.isis_daemon.specs.Commands.{AreNoText, walk_of, weave_of}
+use Rattle.isis_daemon.specs.Commands.{AreNoText, walk_of, trace_of, weave_of}
 use Rattle.isis_daemon.specs.Options.{daemon_of}
 
 abbrev pub AreOfWeave : List (List ℕ) → Type 0
-AreOfWeave words = AreNoText words × (daemon_of words ≡ None) × (walk_of words ≡ None)
+AreOfWeave words =
+    AreNoText words × (daemon_of words ≡ None) × (walk_of words ≡ None) × (trace_of words ≡ None)
 
 weave-alone : (words : List (List ℕ)) (x : Unit {0}) → Some x ≡ weave_of words → AreOfWeave words
 weave-alone [] x is = absurd (cc is)
 weave-alone (word ∷ []) x is =
     subst (λ (w : List ℕ). AreOfWeave (w ∷ [])) (sym ((bytes_eq-Decides word (codes "weave")).0 (hit (bytes_eq word (codes "weave")) is)))
-    ((refl, refl), refl, refl)
+    ((refl, refl), refl, refl, refl)
   where
     hit : (b : Bool) → Some x ≡ (if b then Some tt else None) → b ≡ true
     hit true e = refl

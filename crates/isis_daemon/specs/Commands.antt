@@ -9,6 +9,7 @@ use Rattle.isis_base.specs.declared.texts.TheConstants.{SYSTEM_TEXT}
 use Rattle.isis_base.specs.Identifiers.{system_from}
 use Rattle.isis_base.specs.Misfit.{text_octets}
 use Rattle.std.specs.Str.{bytes_eq}
+use Rattle.daemon_config.specs.Fields.{host_of}
 use Rattle.line_cuts.specs.Fields.{prefix_of}
 use Rattle.lab_script.specs.Fields.{name_of}
 use Rattle.isis_daemon.specs.declared.command.Command.{Command}
@@ -71,6 +72,21 @@ walk_of (word ∷ name ∷ prefix ∷ []) =
     if bytes_eq word (codes "walk") then asked_of name prefix else None
 walk_of (word ∷ name ∷ prefix ∷ next ∷ words) = None
 
+-- a name and an IPv4 address
+abbrev pub tracing_of : List ℕ → List ℕ → Option (List ℕ × ℕ)
+tracing_of name address =
+    option_and_then (λ n. option_map (λ a. (n, a)) (host_of address)) (name_of name)
+
+-- the name of a router and the address that the words ask to follow a packet between: `trace` and
+-- these two
+abbrev pub trace_of : List (List ℕ) → Option (List ℕ × ℕ)
+trace_of [] = None
+trace_of (word ∷ []) = None
+trace_of (word ∷ name ∷ []) = None
+trace_of (word ∷ name ∷ address ∷ []) =
+    if bytes_eq word (codes "trace") then tracing_of name address else None
+trace_of (word ∷ name ∷ address ∷ next ∷ words) = None
+
 -- whether the words ask for a weaving: `weave` alone
 abbrev pub weave_of : List (List ℕ) → Option (Unit {0})
 weave_of [] = None
@@ -81,11 +97,13 @@ weave_of (word ∷ next ∷ words) = None
 abbrev pub AreNoText : List (List ℕ) → Type 0
 AreNoText words = (command_of words ≡ None) × (grid_size_of words ≡ None)
 
--- words that ask for no text of an input, for no grid, no walk and no weaving
+-- words that ask for no text of an input, for no grid, no walk, no trace and no weaving
 abbrev pub AreNoInput : List (List ℕ) → Type 0
-AreNoInput words = AreNoText words × (walk_of words ≡ None) × (weave_of words ≡ None)
+AreNoInput words =
+    AreNoText words × (walk_of words ≡ None) × (trace_of words ≡ None) × (weave_of words ≡ None)
 
 -- words that ask for nothing
 abbrev pub AreNone : List (List ℕ) → Type 0
 AreNone words =
-    AreNoText words × (daemon_of words ≡ None) × (walk_of words ≡ None) × (weave_of words ≡ None)
+    AreNoText words × (daemon_of words ≡ None) × (walk_of words ≡ None) × (trace_of words ≡ None)
+    × (weave_of words ≡ None)

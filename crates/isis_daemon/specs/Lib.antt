@@ -1,5 +1,5 @@
 -- The definitions: commands, daemon ends, grid ends, headline, options, runs, show text, shown left,
--- statuses, walk ends.
+-- statuses, trace ends, walk ends.
 pub mod Commands
 pub mod DaemonEnds
 pub mod GridEnds
@@ -9,5 +9,6 @@ pub mod Runs
 pub mod ShowText
 pub mod ShownLeft
 pub mod Statuses
+pub mod TraceEnds
 pub mod WalkEnds
 pub mod WeaveEnds

@@ -1,9 +1,10 @@
 //! What the words after the program's name ask for.
 ghost use Rattle.std.specs.Prelude.{◌≡◌, ◌≤◌, [], ◌∷◌, map, string_bytes, None, IfSome};
 ghost use Rattle.std.specs.Option.{option_map};
-ghost use Rattle.isis_daemon.specs.Commands.{command_of, captured_of, level_in, system_in, grid_size_of, size_of, walk_of, weave_of, asked_of, AreNoText};
+ghost use Rattle.isis_daemon.specs.Commands.{command_of, captured_of, level_in, system_in, grid_size_of, size_of, walk_of, trace_of, weave_of, asked_of, tracing_of, AreNoText};
 ghost use Rattle.isis_daemon.specs.Options.{daemon_of};
 
+use daemon_config::read_host;
 use isis_base::{Level, Prefix, SystemId, read_system};
 use lab_text::read_name;
 use line_cuts::read_prefix_word;
@@ -26,6 +27,13 @@ pub enum Command {
 pub struct WalkAsked<'a> {
     pub name: &'a str,
     pub prefix: Prefix,
+}
+
+/// What `trace` is asked for: a router by its name, and an IPv4 address.
+#[derive(Drop)]
+pub struct TraceAsked<'a> {
+    pub name: &'a str,
+    pub address: u32,
 }
 
 /// The command that the words are, if they are one.
@@ -120,12 +128,24 @@ pub fn walk_of(words: &[String]) -> Option<WalkAsked<'_>>
     asked_in(words)
 }
 
+/// What the words ask for which are `trace`, a name and an address. Such words ask for nothing else.
+pub fn trace_of(words: &[String]) -> Option<TraceAsked<'_>>
+    ensures value { option_map (λ asked. (asked.name.now, asked.address)) result
+        ≡ trace_of (map string_bytes words.now) }
+    ensures alone { IfSome result (λ _. AreNoText (map string_bytes words.now)
+        × (daemon_of (map string_bytes words.now) ≡ None)
+        × (walk_of (map string_bytes words.now) ≡ None)) }
+{
+    trace_in(words)
+}
+
 /// Whether the words are `weave` alone. Such words ask for nothing else.
 pub fn weave_of(words: &[String]) -> Option<()>
     ensures value { result ≡ weave_of (map string_bytes words.now) }
     ensures alone { IfSome result (λ _. AreNoText (map string_bytes words.now)
         × (daemon_of (map string_bytes words.now) ≡ None)
-        × (walk_of (map string_bytes words.now) ≡ None)) }
+        × (walk_of (map string_bytes words.now) ≡ None)
+        × (trace_of (map string_bytes words.now) ≡ None)) }
 {
     weave_in(words)
 }
@@ -167,5 +187,32 @@ fn asked_of<'a>(name: &'a [u8], prefix: &[u8]) -> Option<WalkAsked<'a>>
     Some(WalkAsked {
         name: name.letters(),
         prefix,
+    })
+}
+
+/// What the words ask for.
+fn trace_in(words: &[String]) -> Option<TraceAsked<'_>>
+    ensures { option_map (λ asked. (asked.name.now, asked.address)) result
+        ≡ trace_of (map string_bytes words.now) }
+{
+    let [word, name, address] = words else {
+        return None;
+    };
+    if word.as_str() != "trace" {
+        return None;
+    }
+    tracing_of(name.as_bytes(), address.as_bytes())
+}
+
+/// A name and an address.
+fn tracing_of<'a>(name: &'a [u8], address: &[u8]) -> Option<TraceAsked<'a>>
+    ensures { option_map (λ asked. (asked.name.now, asked.address)) result
+        ≡ tracing_of name.now address.now }
+{
+    let name = read_name(name)?;
+    let address = read_host(address)?;
+    Some(TraceAsked {
+        name: name.letters(),
+        address,
     })
 }

@@ -1,17 +1,19 @@
-//! What needs no ports and no threads: a walk, a weaving, and what makes a text of its input.
+//! What needs no ports and no threads: a walk, a trace, a weaving, and what makes a text of its input.
 ghost use Rattle.std.specs.Prelude.{◌≡◌, ◌≤◌, ℕ, List, map, string_bytes, IfSome, IsOk, ◌↔◌};
 ghost use Rattle.isis_edge.specs.Faults.{Rose};
 ghost use Rattle.isis_edge.specs.Told.{Took};
 ghost use Rattle.lab_grid.specs.GridRuns.{grid_end};
-ghost use Rattle.isis_daemon.specs.Commands.{command_of, grid_size_of, walk_of, weave_of, AreNoInput};
+ghost use Rattle.isis_daemon.specs.Commands.{command_of, grid_size_of, walk_of, trace_of, weave_of, AreNoInput};
 ghost use Rattle.isis_daemon.specs.GridEnds.{GridEnds};
 ghost use Rattle.isis_daemon.specs.Runs.{Ends, IsTaken, IsTakenWithin, IsDoneUnlessMemory};
+ghost use Rattle.isis_daemon.specs.TraceEnds.{TraceEnds, IsTraceable};
 ghost use Rattle.isis_daemon.specs.WalkEnds.{WalkEnds, IsWalkable};
 ghost use Rattle.isis_daemon.specs.WeaveEnds.{WeaveEnds, CanBeWoven};
 
-use crate::command::{walk_of, weave_of};
+use crate::command::{trace_of, walk_of, weave_of};
 use crate::status::Status;
 use crate::texts::run_text;
+use crate::trace::trace;
 use crate::walk::walk;
 use crate::weaving::weave;
 use isis_edge::{Sink, Source};
@@ -59,6 +61,14 @@ pub(crate) fn run_input<I: Source, O: Sink>(
         → ¬ Rose (I.faults input.old) (I.faults input.new)
         → ¬ Rose (O.faults output) (O.faults result.0)
         → IsDoneUnlessMemory result.1) }
+    ensures trace { IfSome (trace_of (map string_bytes words.now)) (λ asked.
+        TraceEnds asked.0 asked.1 (I.gave input.old) (I.gave input.new) (I.ended input.new) (O.put output)
+        (O.put result.0) result.1) }
+    ensures trace_complete { IfSome (trace_of (map string_bytes words.now)) (λ asked.
+        (octets : List ℕ) → Took (I.gave input.old) (I.gave input.new) octets → IsTraceable asked.0 octets
+        → ¬ Rose (I.faults input.old) (I.faults input.new)
+        → ¬ Rose (O.faults output) (O.faults result.0)
+        → IsDoneUnlessMemory result.1) }
     ensures weave { IfSome (weave_of (map string_bytes words.now)) (λ _.
         WeaveEnds (I.gave input.old) (I.gave input.new) (I.ended input.new) (O.put output) (O.put result.0)
         result.1) }
@@ -71,6 +81,10 @@ pub(crate) fn run_input<I: Source, O: Sink>(
     let mut output = output;
     if let Some(asked) = walk_of(words) {
         let status = walk(alloc, asked.name, asked.prefix, input, &mut output);
+        return (output, status);
+    }
+    if let Some(asked) = trace_of(words) {
+        let status = trace(alloc, asked.name, asked.address, input, &mut output);
         return (output, status);
     }
     if let Some(()) = weave_of(words) {

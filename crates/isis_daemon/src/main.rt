@@ -3,15 +3,17 @@
 //! `isis lab` reads a script from standard input and writes its report to standard output. `isis show` reads lines of
 //! hex text, each one PDU, and writes their fields. `isis grid N`, with N from 1 to 8, runs a grid of N rows and as many
 //! columns of routers, and writes a summary. `isis walk NAME PREFIX` reads a script as `lab` does, and writes the walk of a
-//! packet from a router to a prefix. `isis weave` reads the setup lines of a script and journals of daemons, weaves the journals
-//! into one schedule, and writes it as a script. Where the exit code isn't 0, the status's line stands on standard error.
+//! packet from a router to a prefix. `isis trace NAME ADDRESS` reads a script too, and writes what becomes of a packet from a
+//! router to an address. `isis weave` reads the setup lines of a script and journals of daemons, weaves the journals into one
+//! schedule, and writes it as a script. Where the exit code isn't 0, the status's line stands on standard error.
 //! `isis daemon --boot N --turns N` reads a configuration from standard input, opens a UDP port for each of its
 //! circuits, runs its router, and writes the router's journal.
 //!
 //! - `run.rt`: the call `run`, from the octets read to the octets written; `inputs.rt`: that of all but a daemon
 //! - `texts.rt`: what makes a text of its input
 //! - `command.rt`, `options.rt`: what the words ask for; `status.rt`: how a run ends
-//! - `grid.rt`: the run of a grid; `walk.rt`: a walk after a script; `weaving.rt`: journals woven; `daemon.rt`: a router over its circuits' ports
+//! - `grid.rt`: the run of a grid; `walk.rt`, `trace.rt`: a walk and a trace after a script; `weaving.rt`: journals woven; `daemon.rt`: a
+//!   router over its circuits' ports
 //! - `show.rt`: the call `show`, line by line; `show/lines.rt` the lines of a PDU, and `shown.rt` what is still to come
 #![tactic(auto)]
 
@@ -27,6 +29,7 @@ mod status;
 #[cfg(test)]
 mod tests;
 mod texts;
+mod trace;
 mod walk;
 mod weaving;
 

@@ -3,11 +3,12 @@ ghost use Rattle.std.specs.Prelude.{◌≡◌, ◌≤◌, ◌↔◌, ◌⊎◌, 
 ghost use Rattle.isis_edge.specs.Faults.{Rose};
 ghost use Rattle.isis_edge.specs.Told.{Took};
 ghost use Rattle.lab_grid.specs.GridRuns.{grid_end};
-ghost use Rattle.isis_daemon.specs.Commands.{command_of, grid_size_of, walk_of, weave_of, AreNone};
+ghost use Rattle.isis_daemon.specs.Commands.{command_of, grid_size_of, walk_of, trace_of, weave_of, AreNone};
 ghost use Rattle.isis_daemon.specs.DaemonEnds.{DaemonEnds, IsConfiguration};
 ghost use Rattle.isis_daemon.specs.GridEnds.{GridEnds};
 ghost use Rattle.isis_daemon.specs.Options.{daemon_of};
 ghost use Rattle.isis_daemon.specs.Runs.{Ends, IsTaken, IsTakenWithin, IsDoneUnlessMemory};
+ghost use Rattle.isis_daemon.specs.TraceEnds.{TraceEnds, IsTraceable};
 ghost use Rattle.isis_daemon.specs.WalkEnds.{WalkEnds, IsWalkable};
 ghost use Rattle.isis_daemon.specs.WeaveEnds.{WeaveEnds, CanBeWoven};
 
@@ -27,7 +28,8 @@ use std::time::Clock;
 /// daemon needs. The words are tested first, then the input is read, of which at most 16,777,217 octets are taken. Of `lab`
 /// it is a script, which is read and played, and at last the report is written; of `show` it is shown line by line. At
 /// `grid N` no input is read: the script of a grid is run, and its summary is written. Of `walk` it is a script, after which
-/// a packet is walked from a router to a prefix. Of `weave` it has setup and change lines of a script, and journals, which are
+/// a packet is walked from a router to a prefix, and of `trace` one after which a packet is followed from a router to an
+/// address. Of `weave` it has setup and change lines of a script, and journals, which are
 /// woven into a schedule. Of `daemon` it is a configuration: a port is opened at each circuit's
 /// place, and the router runs until its seconds and turns are made.
 ///
@@ -38,7 +40,8 @@ use std::time::Clock;
 /// that sweeps it, whatever they let go; and what is held under one number has the same contents, unless the LSP ID is
 /// doubled. Each `route` line is the best route over that router's own databases. At `grid N` and status 0 the same
 /// holds of the grid's script. At `walk` and status 0 the text tells a walk that arrives, whichever next hops a packet
-/// takes, at the one router whose own the prefix is, at the cost that it tells (RFC 1195 3.10). At `weave` and status 0 the
+/// takes, at the one router whose own the prefix is, at the cost that it tells (RFC 1195 3.10). At `trace` and status 0 the
+/// text is what becomes of a packet by each router's own best routes, whether routers agree or not. At `weave` and status 0 the
 /// text is a lab script whose schedule is a weaving of the journals: each router's events are those of its journals, which its
 /// machine answers as they say, and each take is a delivery of an earlier datagram with those octets. At `daemon` and status 0
 /// the octets written are the journal of one history of the router, from its start on, and each circuit's port gave and was
@@ -118,6 +121,14 @@ pub fn run<
         (O.put result.0) result.2) }
     ensures walk_complete { IfSome (walk_of (map string_bytes words.now)) (λ asked.
         (octets : List ℕ) → Took (I.gave input.old) (I.gave input.new) octets → IsWalkable asked.0 asked.1 octets
+        → ¬ Rose (I.faults input.old) (I.faults input.new)
+        → ¬ Rose (O.faults output) (O.faults result.0)
+        → IsDoneUnlessMemory result.2) }
+    ensures trace { IfSome (trace_of (map string_bytes words.now)) (λ asked.
+        TraceEnds asked.0 asked.1 (I.gave input.old) (I.gave input.new) (I.ended input.new) (O.put output)
+        (O.put result.0) result.2) }
+    ensures trace_complete { IfSome (trace_of (map string_bytes words.now)) (λ asked.
+        (octets : List ℕ) → Took (I.gave input.old) (I.gave input.new) octets → IsTraceable asked.0 octets
         → ¬ Rose (I.faults input.old) (I.faults input.new)
         → ¬ Rose (O.faults output) (O.faults result.0)
         → IsDoneUnlessMemory result.2) }

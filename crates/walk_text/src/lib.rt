@@ -5,6 +5,8 @@
 //!
 //! - `write.rt`: the call that writes a walk; `find.rt`: the walk, or why there is none; `lines.rt`: its text
 //! - `reason.rt`: why there is no walk; `fault.rt`: why none was written
+//!
+//! `parts` has what other texts of packets are written with.
 #![tactic(auto)]
 
 mod fault;
@@ -12,6 +14,11 @@ mod find;
 mod lines;
 mod reason;
 mod write;
+
+/// What other texts of packets are written with.
+pub mod parts {
+    pub use crate::lines::{add_hops, add_prefix, name_of, printed_cost};
+}
 
 pub use fault::WalkFault;
 pub use reason::WalkReason;

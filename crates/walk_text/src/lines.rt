@@ -49,14 +49,14 @@ fn add_walk(
 }
 
 /// The cost that is printed: at most the greatest metric of a prefix (RFC 5305 4).
-fn printed_cost(cost: u64) -> u64
+pub fn printed_cost(cost: u64) -> u64
     ensures { result ≡ told_cost cost }
 {
     cost.min(u64::from(PREFIX_METRIC))
 }
 
 /// A blank and the text of a prefix.
-fn add_prefix(alloc: Global, text: &mut Octets, prefix: Prefix) -> Result<(), OutOfMemory>
+pub fn add_prefix(alloc: Global, text: &mut Octets, prefix: Prefix) -> Result<(), OutOfMemory>
     ensures { OnOk result (text.new ≡ text.old ++ prefix_words prefix) }
 {
     let words = match format!(in alloc; "{prefix}") {
@@ -79,7 +79,11 @@ fn add_via(text: &mut Octets, script: &Script<'_>, routers: &[usize]) -> Result<
 }
 
 /// A blank and the name of each router.
-fn add_hops(text: &mut Octets, script: &Script<'_>, routers: &[usize]) -> Result<(), OutOfMemory>
+pub fn add_hops(
+    text: &mut Octets,
+    script: &Script<'_>,
+    routers: &[usize],
+) -> Result<(), OutOfMemory>
     ensures { OnOk result (text.new
         ≡ text.old ++ flat_map (lines.hop_words (names_in script.now)) routers.now) }
 {
@@ -103,7 +107,7 @@ fn add_hop(text: &mut Octets, script: &Script<'_>, router: usize) -> Result<(), 
 
 /// The name of a router; nothing where there is none of this number.
 #[tactic(auto, unfolding(lab_text::specs::Passed::name_at))]
-fn name_of<'s>(script: &'s Script<'_>, router: usize) -> &'s str
+pub fn name_of<'s>(script: &'s Script<'_>, router: usize) -> &'s str
     ensures { result.now ≡ name_at (names_in script.now) router }
 {
     match script.name(router) {

@@ -1,5 +1,5 @@
 use Rattle.std.proofs.Common.{map, string_bytes, refl, sym, arith}
-use Rattle.isis_daemon.proofs.OptionLemmas.{alone, no_grid, no_walk, no_weave, clash, told, unless}
+use Rattle.isis_daemon.proofs.OptionLemmas.{alone, no_grid, no_walk, no_trace, no_weave, clash, told, unless}
 use Rattle.isis_daemon.proofs.run.run.Goals as goal
 
 pub returns-in-Some-clause-usage : goal.returns-in-Some-clause-usage
@@ -50,8 +50,14 @@ returns-in-Some-clause-walk g c = unless _ _ (no_walk (map string_bytes c.args.w
 pub returns-in-Some-clause-walk_complete : goal.returns-in-Some-clause-walk_complete
 returns-in-Some-clause-walk_complete g c = unless _ _ (no_walk (map string_bytes c.args.words.now) _ (sym c.in-Some.ensures.value))
 
+pub returns-in-Some-clause-trace : goal.returns-in-Some-clause-trace
+returns-in-Some-clause-trace g c = unless _ _ (no_trace (map string_bytes c.args.words.now) _ (sym c.in-Some.ensures.value))
+
 pub returns-in-Some-clause-weave : goal.returns-in-Some-clause-weave
 returns-in-Some-clause-weave g c = unless _ _ (no_weave (map string_bytes c.args.words.now) _ (sym c.in-Some.ensures.value))
+
+pub returns-in-Some-clause-trace_complete : goal.returns-in-Some-clause-trace_complete
+returns-in-Some-clause-trace_complete g c = unless _ _ (no_trace (map string_bytes c.args.words.now) _ (sym c.in-Some.ensures.value))
 
 pub returns-in-Some-clause-weave_complete : goal.returns-in-Some-clause-weave_complete
 returns-in-Some-clause-weave_complete g c = unless _ _ (no_weave (map string_bytes c.args.words.now) _ (sym c.in-Some.ensures.value))
@@ -60,7 +66,7 @@ pub returns-in-Some-clause-aside : goal.returns-in-Some-clause-aside
 returns-in-Some-clause-aside g c = λ none. absurd (clash _ _ c.in-Some.ensures.value none)
 
 pub returns-clause-usage : goal.returns-clause-usage
-returns-clause-usage g c = (λ e. let no = c.run_input-output.ensures.usage.0 e in (no.0, sym c.in_default.ensures.value, no.1, no.2), λ none. c.run_input-output.ensures.usage.1 (none.0, none.2, none.3))
+returns-clause-usage g c = (λ e. let no = c.run_input-output.ensures.usage.0 e in (no.0, sym c.in_default.ensures.value, no.1, no.2, no.3), λ none. c.run_input-output.ensures.usage.1 (none.0, none.2, none.3, none.4))
 
 pub returns-clause-untouched : goal.returns-clause-untouched
 returns-clause-untouched g c = c.run_input-output.ensures.untouched
@@ -101,8 +107,14 @@ returns-clause-walk g c = c.run_input-output.ensures.walk
 pub returns-clause-walk_complete : goal.returns-clause-walk_complete
 returns-clause-walk_complete g c = c.run_input-output.ensures.walk_complete
 
+pub returns-clause-trace : goal.returns-clause-trace
+returns-clause-trace g c = c.run_input-output.ensures.trace
+
 pub returns-clause-weave : goal.returns-clause-weave
 returns-clause-weave g c = c.run_input-output.ensures.weave
+
+pub returns-clause-trace_complete : goal.returns-clause-trace_complete
+returns-clause-trace_complete g c = c.run_input-output.ensures.trace_complete
 
 pub returns-clause-weave_complete : goal.returns-clause-weave_complete
 returns-clause-weave_complete g c = c.run_input-output.ensures.weave_complete

@@ -1,0 +1,3 @@
+-- Lemmas.
+mod ForwarderLemmas
+mod WalkLemmas

@@ -1,0 +1,15 @@
+//! The trace of a packet after a lab script, as a text.
+//!
+//! A script is played, and at its end a packet to an address is followed from one of its routers by each router's own routes
+//! (RFC 1195 3.10), whether the routers agree or not. The form of the text is this project's own.
+//!
+//! - `write.rt`: the call that writes a trace; `find.rt`: the trace, or why there is none; `lines.rt`: its text
+//! - `forwarders.rt`: the routers of a network as packets meet them
+#![tactic(auto)]
+
+mod find;
+mod forwarders;
+mod lines;
+mod write;
+
+pub use write::write_trace;
