@@ -5,7 +5,7 @@ use Rattle.std.proofs.lemmas.Slice.Eq.{bytes_eq-Decides}
 use Rattle.isis_base.specs.declared.identifiers.SystemId.{SystemId}
 use Rattle.isis_base.specs.declared.level.Level.{Level}
 use Rattle.isis_daemon.specs.declared.command.Command.TheVariants.{Routes6, Alternates}
-use Rattle.isis_daemon.specs.Commands.{command_of, captured_of, level_in, system_in, grid_size_of, walk_of, trace_of, weave_of}
+use Rattle.isis_daemon.specs.Commands.{command_of, losses_of, three_of, level_in, system_in, grid_size_of, walk_of, trace_of, weave_of}
 use Rattle.isis_daemon.specs.Options.{name_in, value_in, pieces_of, options_of, daemon_of}
 
 fails : (b : Bool) → ¬ (b ≡ true) → b ≡ false
@@ -64,6 +64,13 @@ captured_none None s = refl
 captured_none (Some level) None = refl
 captured_none (Some level) (Some system) = refl
 
+named : (word : List ℕ) (words : List (List ℕ)) (x : ℕ × ℕ) → daemon_of (word ∷ words) ≡ Some x → word ≡ codes "daemon"
+named word words x is = (bytes_eq-Decides word (codes "daemon")).0 (hit (bytes_eq word (codes "daemon")) is)
+  where
+    hit : (b : Bool) → (if b then options_of (pieces_of words) else None) ≡ Some x → b ≡ true
+    hit true e = refl
+    hit false e = absurd (cc e)
+
 pub alone : (words : List (List ℕ)) (x : ℕ × ℕ) → daemon_of words ≡ Some x → command_of words ≡ None
 alone [] x is = refl
 alone (word ∷ []) x is = absurd (none (bytes_eq word (codes "daemon")) is)
@@ -71,13 +78,8 @@ alone (word ∷ []) x is = absurd (none (bytes_eq word (codes "daemon")) is)
     none : (b : Bool) → (if b then options_of [] else None) ≡ Some x → ⊥
     none true e = cc e
     none false e = cc e
-alone (word ∷ l ∷ []) x is = refl
-alone (word ∷ l ∷ s ∷ []) x is =
-    subst (λ (w : List ℕ). captured_of w l s ≡ None) (sym ((bytes_eq-Decides word (codes "daemon")).0 (hit (bytes_eq word (codes "daemon")) is))) (captured_none (level_in l) (system_in s))
-  where
-    hit : (b : Bool) → (if b then options_of (pieces_of (l ∷ s ∷ [])) else None) ≡ Some x → b ≡ true
-    hit true e = refl
-    hit false e = absurd (cc e)
+alone (word ∷ l ∷ []) x is = subst (λ (w : List ℕ). losses_of w l ≡ None) (sym (named word (l ∷ []) x is)) refl
+alone (word ∷ l ∷ s ∷ []) x is = subst (λ (w : List ℕ). three_of w l s ≡ None) (sym (named word (l ∷ s ∷ []) x is)) (captured_none (level_in l) (system_in s))
 alone (word ∷ l ∷ s ∷ next ∷ words) x is = refl
 
 -- what is asked for isn't none
@@ -89,13 +91,6 @@ pub told : {A : Type 0} (x : A) (o : Option A) (P : A → Type 0) → Some x ≡
 told x o P some is = subst (λ z. IfSome z P) some is
 
 -- ---- nor do they ask for a grid, a walk, a trace or a weaving
-
-named : (word : List ℕ) (words : List (List ℕ)) (x : ℕ × ℕ) → daemon_of (word ∷ words) ≡ Some x → word ≡ codes "daemon"
-named word words x is = (bytes_eq-Decides word (codes "daemon")).0 (hit (bytes_eq word (codes "daemon")) is)
-  where
-    hit : (b : Bool) → (if b then options_of (pieces_of words) else None) ≡ Some x → b ≡ true
-    hit true e = refl
-    hit false e = absurd (cc e)
 
 pub no_grid : (words : List (List ℕ)) (x : ℕ × ℕ) → daemon_of words ≡ Some x → grid_size_of words ≡ None
 no_grid [] x is = refl

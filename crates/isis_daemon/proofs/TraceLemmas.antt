@@ -60,3 +60,5 @@ traced_done name address text put put' status.NotStarted can write h = absurd h
 traced_done name address text put put' (status.LabLimit which) can write h = absurd (refused_none name text (script.Limit which) can h.0)
 traced_done name address text put put' (status.WeaveRefused journal entry why) can write h = absurd h
 traced_done name address text put put' (status.NoWalk why) can write h = absurd (can.traces why h.0)
+traced_done name address text put put' status.ScheduleLimit can write h = absurd h
+traced_done name address text put put' (status.NoLosses why) can write h = absurd h

@@ -60,3 +60,5 @@ walked_done name prefix text put put' status.NotStarted can write h = absurd h
 walked_done name prefix text put put' (status.LabLimit which) can write h = absurd (refused_none name text prefix (script.Limit which) can h.0)
 walked_done name prefix text put put' (status.WeaveRefused journal entry why) can write h = absurd h
 walked_done name prefix text put put' (status.NoWalk why) can write h = absurd (can.walks why h.0)
+walked_done name prefix text put put' status.ScheduleLimit can write h = absurd h
+walked_done name prefix text put put' (status.NoLosses why) can write h = absurd h

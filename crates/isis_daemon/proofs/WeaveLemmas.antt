@@ -70,3 +70,5 @@ woven_done law text put put' status.NotStarted can write h = absurd h
 woven_done law text put put' (status.LabLimit which) can write h = absurd (limit-none law (weaving_of text) which can.1 h.0)
 woven_done law text put put' (status.WeaveRefused journal entry why) can write h = absurd (unwoven-none law (weaving_of text) journal entry why can.1 h.0)
 woven_done law text put put' (status.NoWalk why) can write h = absurd h
+woven_done law text put put' status.ScheduleLimit can write h = absurd h
+woven_done law text put put' (status.NoLosses why) can write h = absurd h

@@ -1,5 +1,5 @@
 -- What the words after the program's name ask for (own).
-use Rattle.std.specs.Prelude.{◌≡◌, ℕ, ◌-◌, nat_le, ◌&&◌, List, [], ◌∷◌, Option, Some, None, codes, option_and_then, if◌then◌else◌}
+use Rattle.std.specs.Prelude.{◌≡◌, ℕ, ◌-◌, nat_le, ◌&&◌, List, [], ◌∷◌, Option, Some, None, codes, IfSome, option_and_then, if◌then◌else◌}
 use Rattle.std.specs.Option.{option_map}
 use Rattle.isis_base.specs.declared.identifiers.SystemId.{SystemId}
 use Rattle.isis_base.specs.declared.level.Level.{Level}
@@ -13,7 +13,9 @@ use Rattle.daemon_config.specs.Fields.{host_of}
 use Rattle.line_cuts.specs.Fields.{prefix_of}
 use Rattle.lab_script.specs.Fields.{name_of}
 use Rattle.isis_daemon.specs.declared.command.Command.{Command}
-use Rattle.isis_daemon.specs.declared.command.Command.TheVariants.{Lab, Show, Routes6, Alternates}
+use Rattle.isis_daemon.specs.declared.command.Command.TheVariants.{Lab, Show, Routes6, Alternates, Losses}
+use Rattle.losses_text.specs.Words.{most_in, part_in}
+use Rattle.lab_losses.specs.ScriptLosses.{IsAskedPart}
 use Rattle.isis_daemon.specs.Options.{daemon_of}
 
 -- a level, `L1` or `L2`
@@ -34,15 +36,40 @@ captured_of word level system =
     else if bytes_eq word (codes "alternates") then Some (Alternates level system) else None)
     (system_in system)) (level_in level)
 
--- one word, `lab` or `show`; or a word of captured LSPs, a level and a system
+-- `losses` of at most so many lost deliveries, in all schedules
+abbrev pub losses_of : List ℕ → List ℕ → Option Command
+losses_of word most =
+    if bytes_eq word (codes "losses") then option_map (λ most. Losses most None) (most_in most)
+    else None
+
+-- the same in a part of all schedules
+abbrev pub losses_in : List ℕ → List ℕ → Option Command
+losses_in most part =
+    option_and_then (λ most. option_map (λ part. Losses most (Some part)) (part_in part)) (most_in most)
+
+-- a word and two behind it
+abbrev pub three_of : List ℕ → List ℕ → List ℕ → Option Command
+three_of word first second =
+    if bytes_eq word (codes "losses") then losses_in first second
+    else captured_of word first second
+
+-- a command's part is one of so many
+abbrev pub IsAskedCommand : Command → Type 0
+IsAskedCommand Lab = Unit {0}
+IsAskedCommand Show = Unit {0}
+IsAskedCommand (Routes6 level system) = Unit {0}
+IsAskedCommand (Alternates level system) = Unit {0}
+IsAskedCommand (Losses most part) = IfSome part IsAskedPart
+
+-- one word, `lab` or `show`; `losses` with how many and a part; or a word of captured LSPs, a level and a system
 abbrev pub command_of : List (List ℕ) → Option Command
 command_of [] = None
 command_of (word ∷ []) =
     if bytes_eq word (codes "lab") then Some Lab else if bytes_eq word (codes "show")
     then Some Show else None
-command_of (word ∷ level ∷ []) = None
-command_of (word ∷ level ∷ system ∷ []) = captured_of word level system
-command_of (word ∷ level ∷ system ∷ next ∷ words) = None
+command_of (word ∷ first ∷ []) = losses_of word first
+command_of (word ∷ first ∷ second ∷ []) = three_of word first second
+command_of (word ∷ first ∷ second ∷ next ∷ words) = None
 
 -- a number from 1 to 8, in its one digit
 abbrev pub size_of : List ℕ → Option ℕ

@@ -57,6 +57,8 @@ DaemonEndsOn o octets status.TooLong = ⊥
 DaemonEndsOn o octets (status.LabLimit which) = ⊥
 DaemonEndsOn o octets (status.WeaveRefused journal entry reason) = ⊥
 DaemonEndsOn o octets (status.NoWalk reason) = ⊥
+DaemonEndsOn o octets status.ScheduleLimit = ⊥
+DaemonEndsOn o octets (status.NoLosses reason) = ⊥
 
 -- how the run of a daemon ends, by what its input gave, before and afterwards: the input wasn't read whole, and the router
 -- never was; or it was, and its octets come to this (own)

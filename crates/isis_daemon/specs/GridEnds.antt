@@ -35,3 +35,5 @@ GridEnds size put put' (status.LabLimit which) =
     (grid_end size ≡ Err (Limit which)) × (put' ≡ put)
 GridEnds size put put' (status.WeaveRefused journal entry reason) = ⊥
 GridEnds size put put' (status.NoWalk reason) = ⊥
+GridEnds size put put' status.ScheduleLimit = ⊥
+GridEnds size put put' (status.NoLosses reason) = ⊥

@@ -5,6 +5,7 @@ pub mod DaemonEnds
 pub mod GridEnds
 pub mod Headline
 pub mod Options
+pub mod LossesRuns
 pub mod Runs
 pub mod ShowText
 pub mod ShownLeft

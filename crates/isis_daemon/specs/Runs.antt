@@ -6,11 +6,13 @@ use Rattle.lab_script.specs.declared.reason.ScriptFault.TheVariants.{Refused, Li
 use Rattle.lab_script.specs.Scripts.{◌>>=◌, script_of}
 use Rattle.lab_text.specs.Runs.{IsReport, outcome_of, WrotePart}
 use Rattle.isis_daemon.specs.declared.command.Command.{Command}
-use Rattle.isis_daemon.specs.declared.command.Command.TheVariants.{Lab, Show, Routes6, Alternates}
+use Rattle.isis_daemon.specs.declared.command.Command.TheVariants.{Lab, Show, Routes6, Alternates, Losses}
 use Rattle.isis_daemon.specs.declared.status.Status.{Status}
 use Rattle.isis_daemon.specs.declared.status.Status.TheVariants as status
 use Rattle.capture_text.specs.Routes6Text.{IsRoutes6Text}
 use Rattle.capture_text.specs.AlternatesText.{IsAlternatesText}
+use Rattle.lab_losses.specs.declared.reason.LossesReason.{LossesReason}
+use Rattle.isis_daemon.specs.LossesRuns.{HasLosses, HasTooMany, LacksLosses, RefusesLosses, TellsLosses}
 use Rattle.isis_daemon.specs.ShowText.{shown_text}
 use Rattle.isis_daemon.specs.Headline.{IsHeadline}
 
@@ -18,20 +20,42 @@ use Rattle.isis_daemon.specs.Headline.{IsHeadline}
 abbrev pub input_limit : ℕ
 input_limit = 16777216
 
--- a text is what a command makes of an input: of a script its report, of PDUs their fields, and of captured LSPs
--- the IPv6 routes or the alternates of a system
+-- a text is what a command makes of an input: of a script its report, or what lost deliveries do to its last line; of PDUs
+-- their fields; and of captured LSPs the IPv6 routes or the alternates of a system
 abbrev pub IsTextOf : Command → List ℕ → List ℕ → Type 0
 IsTextOf Lab input text = IsOkAnd (script_of input) (λ script. IsReport script text)
 IsTextOf Show input text = text ≡ shown_text input
 IsTextOf (Routes6 level system) input text = IsRoutes6Text level system input text
 IsTextOf (Alternates level system) input text = IsAlternatesText level system input text
+IsTextOf (Losses most part) input text = TellsLosses most part input text
 
--- what a command comes to: an end, or what refuses its input
-abbrev pub outcome : Command → List ℕ → Result (Unit {0}) ScriptFault
-outcome Lab input = script_of input >>= λ script. outcome_of script
-outcome Show input = Ok tt
-outcome (Routes6 level system) input = Ok tt
-outcome (Alternates level system) input = Ok tt
+-- what a script comes to: an end, or what refuses it
+abbrev pub script_outcome : List ℕ → Result (Unit {0}) ScriptFault
+script_outcome input = script_of input >>= λ script. outcome_of script
+
+-- what refuses the input of a command
+abbrev pub IsRefusedBy : Command → List ℕ → ScriptFault → Type 0
+IsRefusedBy Lab input fault = script_outcome input ≡ Err fault
+IsRefusedBy Show input fault = ⊥
+IsRefusedBy (Routes6 level system) input fault = ⊥
+IsRefusedBy (Alternates level system) input fault = ⊥
+IsRefusedBy (Losses most part) input fault = RefusesLosses most part input fault
+
+-- a command has too many schedules of lost deliveries
+abbrev pub AreTooMany : Command → List ℕ → Type 0
+AreTooMany Lab input = ⊥
+AreTooMany Show input = ⊥
+AreTooMany (Routes6 level system) input = ⊥
+AreTooMany (Alternates level system) input = ⊥
+AreTooMany (Losses most part) input = HasTooMany most part input
+
+-- a command has no lost deliveries to tell of, for this reason
+abbrev pub Lacks : Command → List ℕ → LossesReason → Type 0
+Lacks Lab input reason = ⊥
+Lacks Show input reason = ⊥
+Lacks (Routes6 level system) input reason = ⊥
+Lacks (Alternates level system) input reason = ⊥
+Lacks (Losses most part) input reason = LacksLosses input reason
 
 -- the input gave no more than its first octets, at most one more than it may have
 abbrev pub IsTakenWithin : (gave gave' : List ℕ) → Type 0
@@ -58,6 +82,8 @@ IsNotRead gave gave' status.NotStarted = ⊥
 IsNotRead gave gave' (status.LabLimit which) = ⊥
 IsNotRead gave gave' (status.WeaveRefused journal entry reason) = ⊥
 IsNotRead gave gave' (status.NoWalk reason) = ⊥
+IsNotRead gave gave' status.ScheduleLimit = ⊥
+IsNotRead gave gave' (status.NoLosses reason) = ⊥
 
 -- how a run that reads an input ends, by how it ends on octets: the input wasn't read whole, and nothing was written; or it
 -- was, and its octets come to this
@@ -78,18 +104,23 @@ IsDone Show octets put put' = WroteText Show octets put put'
 IsDone (Routes6 level system) octets put put' = WroteText (Routes6 level system) octets put put'
 IsDone (Alternates level system) octets put put' =
     WroteText (Alternates level system) octets put put'
+IsDone (Losses most part) octets put put' = WroteText (Losses most part) octets put put'
 
 -- how a command's run on octets ends: the status has its cause in them; and the whole text was written, a prefix of it, or
 -- nothing
 abbrev pub EndsOn : Command → List ℕ → (put put' : List ℕ) → Status → Type 0
 EndsOn command octets put put' status.Done = IsDone command octets put put'
-EndsOn command octets put put' (status.ScriptRefused line reason) = (command ≡ Lab)
-    × (outcome command octets ≡ Err (Refused line reason)) × (put' ≡ put)
+EndsOn command octets put put' (status.ScriptRefused line reason) =
+    IsRefusedBy command octets (Refused line reason) × (put' ≡ put)
 EndsOn command octets put put' status.WriteFault = WrotePart (IsTextOf command octets) put put'
 EndsOn command octets put put' status.OutOfMemory =
     (put' ≡ put) ⊎ WrotePart (IsTextOf command octets) put put'
-EndsOn command octets put put' (status.LabLimit which) = (command ≡ Lab)
-    × (outcome command octets ≡ Err (Limit which)) × (put' ≡ put)
+EndsOn command octets put put' (status.LabLimit which) =
+    IsRefusedBy command octets (Limit which) × (put' ≡ put)
+EndsOn command octets put put' status.ScheduleLimit =
+    AreTooMany command octets × (put' ≡ put)
+EndsOn command octets put put' (status.NoLosses reason) =
+    Lacks command octets reason × (put' ≡ put)
 EndsOn command octets put put' status.Usage = ⊥
 EndsOn command octets put put' status.ReadFault = ⊥
 EndsOn command octets put put' status.TooLong = ⊥
@@ -104,9 +135,17 @@ abbrev pub Ends : Command → (gave gave' : List ℕ) → (ended : Bool) → (pu
 Ends command gave gave' ended put put' end =
     OnInput (λ octets. EndsOn command octets put put') gave gave' ended put put' end
 
+-- a command comes to its end on an input
+abbrev pub ComesToEnd : Command → List ℕ → Type 0
+ComesToEnd Lab input = IsOk (script_outcome input)
+ComesToEnd Show input = Unit {0}
+ComesToEnd (Routes6 level system) input = Unit {0}
+ComesToEnd (Alternates level system) input = Unit {0}
+ComesToEnd (Losses most part) input = HasLosses most part input
+
 -- an input that a command takes to its end
 abbrev pub IsTaken : Command → List ℕ → Type 0
-IsTaken command input = (length input ≤ input_limit) × IsOk (outcome command input)
+IsTaken command input = (length input ≤ input_limit) × ComesToEnd command input
 
 -- done, or there was no memory for it
 abbrev pub IsDoneUnlessMemory : Status → Type 0

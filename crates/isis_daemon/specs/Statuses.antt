@@ -15,11 +15,14 @@ use Rattle.lab_script.specs.declared.reason.ScriptFault.TheVariants as script
 use Rattle.lab_text.specs.declared.fault.RunFault.{RunFault}
 use Rattle.lab_text.specs.declared.fault.RunFault.TheVariants as run
 use Rattle.isis_daemon.specs.declared.status.Status.{Status}
-use Rattle.isis_daemon.specs.declared.status.Status.TheVariants.{Done, Usage, ScriptRefused, ReadFault, WriteFault, TooLong, OutOfMemory, ConfigRefused, NotStarted, LabLimit, WeaveRefused, NoWalk}
+use Rattle.isis_daemon.specs.declared.status.Status.TheVariants.{Done, Usage, ScriptRefused, ReadFault, WriteFault, TooLong, OutOfMemory, ConfigRefused, NotStarted, LabLimit, WeaveRefused, NoWalk, ScheduleLimit, NoLosses}
 use Rattle.lab_script.specs.Reasons.{reason_word}
 use Rattle.walk_text.specs.declared.fault.WalkFault.{WalkFault}
 use Rattle.walk_text.specs.declared.fault.WalkFault.TheVariants as walk
 use Rattle.walk_text.specs.Reasons as why
+use Rattle.lab_losses.specs.declared.fault.WriteFault.TheVariants as lost
+use Rattle.lab_losses.specs.declared.fault.WriteFault as failed
+use Rattle.lab_losses.specs.ScriptLosses as losses
 use Rattle.weave_text.specs.declared.fault.WeaveTextFault.{WeaveTextFault}
 use Rattle.weave_text.specs.declared.fault.WeaveTextFault.TheVariants as weave
 use Rattle.weave_text.specs.Reasons as unwoven
@@ -44,6 +47,15 @@ walk_status (walk.Limit which) = LabLimit which
 walk_status (walk.NoWalk reason) = NoWalk reason
 walk_status walk.Write = WriteFault
 walk_status walk.OutOfMemory = OutOfMemory
+
+-- what ends a run whose losses weren't written to their end (own)
+abbrev pub losses_status : failed.WriteFault → Status
+losses_status (lost.Refused line reason) = ScriptRefused line reason
+losses_status (lost.Limit which) = LabLimit which
+losses_status lost.Schedules = ScheduleLimit
+losses_status (lost.NoLosses reason) = NoLosses reason
+losses_status lost.Write = WriteFault
+losses_status lost.OutOfMemory = OutOfMemory
 
 -- what ends a run whose weaving wasn't written to its end (own)
 abbrev pub weave_status : WeaveTextFault → Status
@@ -90,6 +102,8 @@ status_code NotStarted = 9
 status_code (LabLimit which) = 10
 status_code (WeaveRefused journal entry reason) = 11
 status_code (NoWalk reason) = 12
+status_code ScheduleLimit = 10
+status_code (NoLosses reason) = 13
 
 -- what stands on standard error; at 0 nothing is printed (own)
 abbrev pub status_line : Status → List ℕ
@@ -109,3 +123,5 @@ status_line (WeaveRefused journal entry reason) =
     codes "isis: journal " ++ decimal journal ++ codes " entry " ++ decimal entry ++ codes " "
     ++ unwoven.reason_word reason
 status_line (NoWalk reason) = codes "isis: no walk " ++ why.reason_word reason
+status_line ScheduleLimit = codes "isis: limit schedules"
+status_line (NoLosses reason) = codes "isis: no losses " ++ losses.reason_word reason

@@ -8,10 +8,9 @@ use Rattle.lab_text.specs.Runs.{WrotePart}
 use Rattle.walk_text.specs.declared.reason.WalkReason.{WalkReason}
 use Rattle.walk_text.specs.Walks.{HasRouter}
 use Rattle.trace_text.specs.Traces.{IsTraceText, IsNoTrace}
-use Rattle.isis_daemon.specs.declared.command.Command.TheVariants.{Lab}
 use Rattle.isis_daemon.specs.declared.status.Status.{Status}
 use Rattle.isis_daemon.specs.declared.status.Status.TheVariants as status
-use Rattle.isis_daemon.specs.Runs.{input_limit, outcome, OnInput}
+use Rattle.isis_daemon.specs.Runs.{input_limit, script_outcome, OnInput}
 use Rattle.isis_daemon.specs.WalkEnds.{IsRefusedScript}
 
 -- a text is the trace after the script that an input is read as, from the router of a name to an address
@@ -44,6 +43,8 @@ TraceEndsOn name address octets put put' status.TooLong = ⊥
 TraceEndsOn name address octets put put' (status.ConfigRefused what key) = ⊥
 TraceEndsOn name address octets put put' status.NotStarted = ⊥
 TraceEndsOn name address octets put put' (status.WeaveRefused journal entry reason) = ⊥
+TraceEndsOn name address octets put put' status.ScheduleLimit = ⊥
+TraceEndsOn name address octets put put' (status.NoLosses reason) = ⊥
 
 -- how the run of a trace ends, by what its input gave and its output was given, before and afterwards
 abbrev pub TraceEnds : List ℕ → ℕ → (gave gave' : List ℕ) → (ended : Bool) → (put put' : List ℕ)
@@ -55,5 +56,5 @@ TraceEnds name address gave gave' ended put put' end =
 -- script that has a router of the name
 pub record IsTraceable (name : List ℕ) (input : List ℕ) : Type 0 where
   pub fits : length input ≤ input_limit
-  pub runs : IsOk (outcome Lab input)
+  pub runs : IsOk (script_outcome input)
   pub traces : (reason : WalkReason) → HasNoTrace name input reason → ⊥

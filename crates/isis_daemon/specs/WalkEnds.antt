@@ -8,10 +8,9 @@ use Rattle.lab_script.specs.Scripts.{script_of}
 use Rattle.lab_text.specs.Runs.{WrotePart}
 use Rattle.walk_text.specs.declared.reason.WalkReason.{WalkReason}
 use Rattle.walk_text.specs.Walks.{HasRouter, IsWalkText, IsNoWalk}
-use Rattle.isis_daemon.specs.declared.command.Command.TheVariants.{Lab}
 use Rattle.isis_daemon.specs.declared.status.Status.{Status}
 use Rattle.isis_daemon.specs.declared.status.Status.TheVariants as status
-use Rattle.isis_daemon.specs.Runs.{input_limit, outcome, OnInput}
+use Rattle.isis_daemon.specs.Runs.{input_limit, script_outcome, OnInput}
 
 -- a text is the walk after the script that an input is read as, from the router of a name to a prefix
 abbrev pub TellsWalk : List ℕ → Prefix → List ℕ → List ℕ → Type 0
@@ -27,7 +26,7 @@ HasNoWalk name prefix input reason =
 -- else it isn't run
 abbrev pub IsRefusedScript : List ℕ → List ℕ → ScriptFault → Type 0
 IsRefusedScript name input fault =
-    (outcome Lab input ≡ Err fault) × IfOk (script_of input) (λ script. HasRouter script name)
+    (script_outcome input ≡ Err fault) × IfOk (script_of input) (λ script. HasRouter script name)
 
 -- how the run of a walk on octets ends: the status has its cause in them; and the whole text was written, a prefix of it where
 -- a write failed, or nothing
@@ -49,6 +48,8 @@ WalkEndsOn name prefix octets put put' status.TooLong = ⊥
 WalkEndsOn name prefix octets put put' (status.ConfigRefused what key) = ⊥
 WalkEndsOn name prefix octets put put' status.NotStarted = ⊥
 WalkEndsOn name prefix octets put put' (status.WeaveRefused journal entry reason) = ⊥
+WalkEndsOn name prefix octets put put' status.ScheduleLimit = ⊥
+WalkEndsOn name prefix octets put put' (status.NoLosses reason) = ⊥
 
 -- how the run of a walk ends, by what its input gave and its output was given, before and afterwards
 abbrev pub WalkEnds : List ℕ → Prefix → (gave gave' : List ℕ) → (ended : Bool) → (put put' : List ℕ)
@@ -60,5 +61,5 @@ WalkEnds name prefix gave gave' ended put put' end =
 -- told against a walk
 pub record IsWalkable (name : List ℕ) (prefix : Prefix) (input : List ℕ) : Type 0 where
   pub fits : length input ≤ input_limit
-  pub runs : IsOk (outcome Lab input)
+  pub runs : IsOk (script_outcome input)
   pub walks : (reason : WalkReason) → HasNoWalk name prefix input reason → ⊥

@@ -1,13 +1,14 @@
 //! What the words after the program's name ask for.
 ghost use Rattle.std.specs.Prelude.{◌≡◌, ◌≤◌, [], ◌∷◌, map, string_bytes, None, IfSome};
 ghost use Rattle.std.specs.Option.{option_map};
-ghost use Rattle.isis_daemon.specs.Commands.{command_of, captured_of, level_in, system_in, grid_size_of, size_of, walk_of, trace_of, weave_of, asked_of, tracing_of, AreNoText};
+ghost use Rattle.isis_daemon.specs.Commands.{command_of, captured_of, losses_of, losses_in, three_of, IsAskedCommand, level_in, system_in, grid_size_of, size_of, walk_of, trace_of, weave_of, asked_of, tracing_of, AreNoText};
 ghost use Rattle.isis_daemon.specs.Options.{daemon_of};
 
 use daemon_config::read_host;
 use isis_base::{Level, Prefix, SystemId, read_system};
 use lab_text::read_name;
 use line_cuts::read_prefix_word;
+use losses_text::{PartOf, read_most, read_part};
 
 /// What the words after the program's name ask to be done with an input.
 #[derive(Clone, Copy, Debug, PartialEq, Eq)]
@@ -20,6 +21,8 @@ pub enum Command {
     Routes6 { level: Level, system: SystemId },
     /// `alternates`: the loop-free alternates of a system, by captured LSPs of a level (RFC 5286).
     Alternates { level: Level, system: SystemId },
+    /// `losses`: what at most so many lost deliveries do to the last line of a script, in a part of all schedules or in all.
+    Losses { most: u32, part: Option<PartOf> },
 }
 
 /// What `walk` is asked for: a router by its name, and a prefix.
@@ -38,18 +41,21 @@ pub struct TraceAsked<'a> {
 
 /// The command that the words are, if they are one.
 pub fn command_of(words: &[String]) -> Option<Command>
-    ensures { result ≡ command_of (map string_bytes words.now) }
+    ensures value { result ≡ command_of (map string_bytes words.now) }
+    ensures asked { IfSome result IsAskedCommand }
 {
     match words {
         [word] => text_command(word.as_str()),
-        [word, level, system] => captured_of(word.as_str(), level.as_str(), system.as_str()),
+        [word, most] => losses_of(word.as_str(), most.as_str()),
+        [word, first, second] => three_of(word.as_str(), first.as_str(), second.as_str()),
         _ => None,
     }
 }
 
 /// The command that one word is.
 fn text_command(word: &str) -> Option<Command>
-    ensures { result ≡ command_of (word.now ∷ []) }
+    ensures value { result ≡ command_of (word.now ∷ []) }
+    ensures asked { IfSome result IsAskedCommand }
 {
     if word == "lab" {
         return Some(Command::Lab);
@@ -60,9 +66,46 @@ fn text_command(word: &str) -> Option<Command>
     None
 }
 
+/// `losses` of at most so many lost deliveries, in all schedules.
+fn losses_of(word: &str, most: &str) -> Option<Command>
+    ensures value { result ≡ losses_of word.now most.now }
+    ensures asked { IfSome result IsAskedCommand }
+{
+    if word != "losses" {
+        return None;
+    }
+    let most = read_most(most.as_bytes())?;
+    Some(Command::Losses { most, part: None })
+}
+
+/// The command that a word and two behind it are.
+fn three_of(word: &str, first: &str, second: &str) -> Option<Command>
+    ensures value { result ≡ three_of word.now first.now second.now }
+    ensures asked { IfSome result IsAskedCommand }
+{
+    if word == "losses" {
+        return losses_in(first, second);
+    }
+    captured_of(word, first, second)
+}
+
+/// `losses` of at most so many lost deliveries, in a part of all schedules.
+fn losses_in(most: &str, part: &str) -> Option<Command>
+    ensures value { result ≡ losses_in most.now part.now }
+    ensures asked { IfSome result IsAskedCommand }
+{
+    let most = read_most(most.as_bytes())?;
+    let part = read_part(part.as_bytes())?;
+    Some(Command::Losses {
+        most,
+        part: Some(part),
+    })
+}
+
 /// The command of captured LSPs that a word, a level and a system are.
 fn captured_of(word: &str, level: &str, system: &str) -> Option<Command>
-    ensures { result ≡ captured_of word.now level.now system.now }
+    ensures value { result ≡ captured_of word.now level.now system.now }
+    ensures asked { IfSome result IsAskedCommand }
 {
     let level = level_in(level)?;
     let system = system_in(system)?;

@@ -1,10 +1,11 @@
 //! How a run of the program ended.
 ghost use Rattle.std.specs.Prelude.{◌≡◌, Some};
-ghost use Rattle.isis_daemon.specs.Statuses.{script_status, run_status, whole_status, text_status, walk_status, weave_status, config_status, daemon_status, status_code, status_line};
+ghost use Rattle.isis_daemon.specs.Statuses.{script_status, run_status, whole_status, text_status, walk_status, losses_status, weave_status, config_status, daemon_status, status_code, status_line};
 
 use daemon_config::{ConfigFault, ConfigKey, ConfigKind};
 use daemon_run::DaemonEnd;
 use isis_edge::{TextFailed, WholeFault};
+use lab_losses::{LossesReason, WriteFault};
 use lab_text::{Reason, RunFault, ScriptFault};
 use network_lab::LimitName;
 use std::fmt;
@@ -56,6 +57,12 @@ pub enum Status {
     NoWalk {
         reason: WalkReason,
     },
+    /// There are more than 16,777,216 schedules of lost deliveries. Nothing was written.
+    ScheduleLimit,
+    /// There are no lost deliveries to tell of, and why. Nothing was written.
+    NoLosses {
+        reason: LossesReason,
+    },
 }
 
 impl Status {
@@ -76,6 +83,8 @@ impl Status {
             Status::LabLimit { .. } => 10,
             Status::WeaveRefused { .. } => 11,
             Status::NoWalk { .. } => 12,
+            Status::ScheduleLimit => 10,
+            Status::NoLosses { .. } => 13,
         }
     }
 }
@@ -101,6 +110,8 @@ impl fmt::Display for Status {
                 reason,
             } => write!(f, "isis: journal {journal} entry {entry} {reason}"),
             Status::NoWalk { reason } => write!(f, "isis: no walk {reason}"),
+            Status::ScheduleLimit => write!(f, "isis: limit schedules"),
+            Status::NoLosses { reason } => write!(f, "isis: no losses {reason}"),
         }
     }
 }
@@ -163,6 +174,21 @@ impl From<WalkFault> for Status {
             WalkFault::NoWalk(reason) => Status::NoWalk { reason },
             WalkFault::Write => Status::WriteFault,
             WalkFault::OutOfMemory => Status::OutOfMemory,
+        }
+    }
+}
+
+impl From<WriteFault> for Status {
+    ghost from_gives = { λ fault status. status ≡ losses_status fault };
+
+    fn from(fault: WriteFault) -> Status {
+        match fault {
+            WriteFault::Refused { line, reason } => Status::ScriptRefused { line, reason },
+            WriteFault::Limit(which) => Status::LabLimit { which },
+            WriteFault::Schedules => Status::ScheduleLimit,
+            WriteFault::NoLosses(reason) => Status::NoLosses { reason },
+            WriteFault::Write => Status::WriteFault,
+            WriteFault::OutOfMemory => Status::OutOfMemory,
         }
     }
 }

@@ -3,7 +3,8 @@ ghost use Rattle.std.specs.Prelude.{◌≡◌, ◌≤◌, ℕ, List, length, map
 ghost use Rattle.isis_edge.specs.Faults.{Rose};
 ghost use Rattle.isis_edge.specs.Told.{Took};
 ghost use Rattle.lab_grid.specs.GridRuns.{grid_end};
-ghost use Rattle.isis_daemon.specs.Commands.{command_of, grid_size_of, AreNoText};
+ghost use Rattle.lab_losses.specs.ScriptLosses.{IsAskedPart};
+ghost use Rattle.isis_daemon.specs.Commands.{command_of, grid_size_of, AreNoText, IsAskedCommand};
 ghost use Rattle.isis_daemon.specs.GridEnds.{GridEnds};
 ghost use Rattle.isis_daemon.specs.Runs.{input_limit, EndsOn, Ends, IsTaken, IsTakenWithin, IsDoneUnlessMemory};
 
@@ -14,7 +15,9 @@ use crate::status::{INPUT_LIMIT, Status};
 use capture_text::{write_alternates, write_routes6};
 use isis_base::{Level, SystemId};
 use isis_edge::{Sink, Source, read_whole, write_text};
+use lab_losses::write_losses;
 use lab_text::{read_script, run_script};
+use losses_text::PartOf;
 use std::alloc::Global;
 
 /// Runs what makes a text of its input, or of nothing. The words are tested first, then the input is read.
@@ -71,6 +74,7 @@ pub(crate) fn execute<I: Source, O: Sink>(
     input: &mut I,
     output: &mut O,
 ) -> Status
+    requires asked { IsAskedCommand command }
     ensures ends { Ends command (I.gave input.old) (I.gave input.new) (I.ended input.new) (O.put output.old)
         (O.put output.new) result }
     ensures taken { IsTakenWithin (I.gave input.old) (I.gave input.new) }
@@ -94,7 +98,8 @@ pub(crate) fn execute<I: Source, O: Sink>(
 
 /// Writes a command's text of what was read.
 fn put_text<O: Sink>(alloc: Global, command: Command, octets: &[u8], output: &mut O) -> Status
-    requires { length octets.now ≤ input_limit }
+    requires fits { length octets.now ≤ input_limit }
+    requires asked { IsAskedCommand command }
     ensures ends { EndsOn command octets.now (O.put output.old) (O.put output.new) result }
     ensures write_fault { result ≡ Status.WriteFault
         → Rose (O.faults output.old) (O.faults output.new) }
@@ -109,6 +114,7 @@ fn put_text<O: Sink>(alloc: Global, command: Command, octets: &[u8], output: &mu
         Command::Alternates { level, system } => {
             put_alternates(alloc, level, system, octets, output)
         }
+        Command::Losses { most, part } => put_losses(alloc, most, part, octets, output),
     }
 }
 
@@ -127,6 +133,31 @@ fn lab<O: Sink>(alloc: Global, text: &[u8], output: &mut O) -> Status
     let end = run_script(alloc, &script, output);
     drop(script);
     match end {
+        Ok(()) => Status::Done,
+        Err(fault) => Status::from(fault),
+    }
+}
+
+/// Plays a script, its last line with each way of losing so many deliveries, and writes what comes of it.
+fn put_losses<O: Sink>(
+    alloc: Global,
+    most: u32,
+    part: Option<PartOf>,
+    text: &[u8],
+    output: &mut O,
+) -> Status
+    requires part { IfSome part IsAskedPart }
+    ensures ends { EndsOn (Command.Losses most part) text.now (O.put output.old)
+        (O.put output.new) result }
+    ensures write_fault { result ≡ Status.WriteFault
+        → Rose (O.faults output.old) (O.faults output.new) }
+    ensures later { O.faults output.old ≤ O.faults output.new }
+{
+    let script = match read_script(alloc, text) {
+        Ok(script) => script,
+        Err(fault) => return Status::from(fault),
+    };
+    match write_losses(alloc, script, most, part, output) {
         Ok(()) => Status::Done,
         Err(fault) => Status::from(fault),
     }

@@ -1,0 +1,4 @@
+pub mod Replays
+pub mod Alike
+pub mod Finds
+pub mod ScriptLosses
