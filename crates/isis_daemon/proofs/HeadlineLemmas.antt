@@ -1,5 +1,5 @@
 -- The headline, from the report that was written and from what holds after each event.
-use Rattle.std.proofs.Common.{◌≡◌, ℕ, List, Option, Result, Ok, Err, IsOkAnd, refl}
+use Rattle.std.proofs.Common.{◌≡◌, ℕ, List, Result, Ok, Err, IsOkAnd, refl}
 use Rattle.isis_edge.specs.Told.{Wrote}
 use Rattle.model_network.specs.Networks.{Network}
 use Rattle.network_lab.specs.LabNets.{seen_of}

@@ -4,7 +4,9 @@ mod GridLemmas
 pub mod HeadlineLemmas
 pub mod ShowLemmas
 mod InputLemmas
+mod LossesLemmas
 mod TakenLemmas
+mod TextLemmas
 mod OptionLemmas
 mod TraceLemmas
 mod WalkLemmas

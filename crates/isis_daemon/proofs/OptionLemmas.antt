@@ -1,11 +1,11 @@
 -- The name and the value of an option.
-use Rattle.std.proofs.Common.{◌≡◌, ◌∙◌, ℕ, zero, suc, ◌+◌, ◌<◌, ◌==◌, Bool, true, false, if◌then◌else◌, List, [], ◌∷◌, length, get_or, take, drop, Option, Some, None, IfSome, option_and_then, codes, refl, sym, ap, subst, arith}
+use Rattle.std.proofs.Common.{◌≡◌, ◌∙◌, ℕ, zero, suc, ◌+◌, ◌<◌, ◌≤◌, ◌==◌, map, Bool, true, false, if◌then◌else◌, List, [], ◌∷◌, length, get_or, take, drop, Option, Some, None, IfSome, option_and_then, codes, refl, sym, ap, subst, arith}
 use Rattle.std.specs.Str.{bytes_eq}
 use Rattle.std.proofs.lemmas.Slice.Eq.{bytes_eq-Decides}
 use Rattle.isis_base.specs.declared.identifiers.SystemId.{SystemId}
 use Rattle.isis_base.specs.declared.level.Level.{Level}
 use Rattle.isis_daemon.specs.declared.command.Command.TheVariants.{Routes6, Alternates}
-use Rattle.isis_daemon.specs.Commands.{command_of, losses_of, three_of, level_in, system_in, grid_size_of, walk_of, trace_of, weave_of}
+use Rattle.isis_daemon.specs.Commands.{command_of, losses_of, three_of, level_in, system_in, grid_size_of, size_of, walk_of, trace_of, weave_of}
 use Rattle.isis_daemon.specs.Options.{name_in, value_in, pieces_of, options_of, daemon_of}
 
 fails : (b : Bool) → ¬ (b ≡ true) → b ≡ false
@@ -116,3 +116,26 @@ pub no_weave : (words : List (List ℕ)) (x : ℕ × ℕ) → daemon_of words �
 no_weave [] x is = refl
 no_weave (word ∷ []) x is = subst (λ (w : List ℕ). weave_of (w ∷ []) ≡ None) (sym (named word [] x is)) refl
 no_weave (word ∷ next ∷ words) x is = refl
+
+-- ---- words that ask for a grid ask for no text of an input
+
+pub grid_alone : (asked : Option ℕ) (words : List (List ℕ)) → asked ≡ grid_size_of words → IfSome asked (λ _. command_of words ≡ None)
+grid_alone None words is = tt
+grid_alone (Some size) [] is = absurd (cc is)
+grid_alone (Some size) (word ∷ []) is = absurd (cc is)
+grid_alone (Some size) (word ∷ number ∷ []) is =
+    subst (λ (w : List ℕ). losses_of w number ≡ None) (sym ((bytes_eq-Decides word (codes "grid")).0 (hit (bytes_eq word (codes "grid")) is))) refl
+  where
+    hit : (b : Bool) → Some size ≡ (if b then size_of number else None) → b ≡ true
+    hit true e = refl
+    hit false e = absurd (cc e)
+grid_alone (Some size) (word ∷ number ∷ next ∷ words) is = absurd (cc is)
+
+-- ---- more than three words ask for no text of an input
+
+pub no_command : {X : Type 0} (f : X → List ℕ) (words : List X) → 4 ≤ length words → command_of (map f words) ≡ None
+no_command f [] le = absurd (omega arith)
+no_command f (w ∷ []) le = absurd (omega arith)
+no_command f (w ∷ x ∷ []) le = absurd (omega arith)
+no_command f (w ∷ x ∷ y ∷ []) le = absurd (omega arith)
+no_command f (w ∷ x ∷ y ∷ z ∷ words) le = refl

@@ -1,12 +1,10 @@
 -- How the run of a trace ends (own).
-use Rattle.std.specs.Prelude.{◌≡◌, ℕ, ◌≤◌, Bool, List, length, IfOk, Err, IsOk, IsOkAnd}
+use Rattle.std.specs.Prelude.{◌≡◌, ℕ, ◌≤◌, Bool, List, length, IsOk, IsOkAnd}
 use Rattle.isis_edge.specs.Told.{Wrote}
-use Rattle.lab_script.specs.declared.reason.ScriptFault.{ScriptFault}
 use Rattle.lab_script.specs.declared.reason.ScriptFault.TheVariants.{Refused, Limit}
 use Rattle.lab_script.specs.Scripts.{script_of}
 use Rattle.lab_text.specs.Runs.{WrotePart}
 use Rattle.walk_text.specs.declared.reason.WalkReason.{WalkReason}
-use Rattle.walk_text.specs.Walks.{HasRouter}
 use Rattle.trace_text.specs.Traces.{IsTraceText, IsNoTrace}
 use Rattle.isis_daemon.specs.declared.status.Status.{Status}
 use Rattle.isis_daemon.specs.declared.status.Status.TheVariants as status

@@ -144,6 +144,14 @@ pub fn grid_size_of(words: &[String]) -> Option<u8>
     ensures small { IfSome result (λ size. (1 ≤ size) × (size ≤ 8)) }
     ensures alone { IfSome result (λ _. command_of (map string_bytes words.now) ≡ None) }
 {
+    size_in(words)
+}
+
+/// How many rows and columns the words ask for.
+fn size_in(words: &[String]) -> Option<u8>
+    ensures size { result ≡ grid_size_of (map string_bytes words.now) }
+    ensures small { IfSome result (λ size. (1 ≤ size) × (size ≤ 8)) }
+{
     if words.len() != 2 || words[0].as_str() != "grid" {
         return None;
     }

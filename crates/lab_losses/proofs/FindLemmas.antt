@@ -1,5 +1,5 @@
 -- What is found is said of the groups at the end of the line, where nothing is lost.
-use Rattle.std.proofs.Common.{◌≡◌, ℕ, ◌+◌, ◌-◌, ◌≤◌, ◌<◌, Bool, List, [], Option, length, refl, sym, ap, ◌∙◌, subst, arith}
+use Rattle.std.proofs.Common.{◌≡◌, ℕ, ◌+◌, ◌-◌, Bool, List, [], Option, length, sym, ap, ◌∙◌, subst, arith}
 use Rattle.model_network.specs.declared.word.PduWord.{PduWord}
 use Rattle.model_network.specs.Networks.{Network}
 use Rattle.model_network.specs.RunLines.{run_line}
@@ -9,7 +9,7 @@ use Rattle.losses.specs.declared.player.Stop.TheVariants as stop
 use Rattle.losses.specs.declared.fault.LossesFault.{LossesFault}
 use Rattle.losses.specs.declared.part.Part.{Part}
 use Rattle.losses.specs.Schedules.{Schedule, schedules}
-use Rattle.losses.specs.Counts.{Count, nothing, with_all}
+use Rattle.losses.specs.Counts.{nothing, with_all}
 use Rattle.losses.specs.Parts.{of_part}
 use Rattle.losses.specs.Causes.{Cause, fault_of}
 use Rattle.lossy_runs.specs.declared.look.Look.{Look}

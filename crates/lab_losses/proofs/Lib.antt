@@ -1,3 +1,4 @@
 mod ReplayLemmas
 mod AlikeLemmas
 mod FindLemmas
+mod ScriptLemmas

@@ -1,5 +1,5 @@
 -- What is found of the last line of a script (own).
-use Rattle.std.specs.Prelude.{◌≡◌, ℕ, ◌+◌, ◌-◌, Bool, List, [], Option}
+use Rattle.std.specs.Prelude.{◌≡◌, ℕ, ◌+◌, ◌-◌, Bool, [], Option}
 use Rattle.isis_base.specs.declared.level.Level.TheVariants as level
 use Rattle.model_network.specs.declared.word.PduWord.{PduWord}
 use Rattle.model_network.specs.Networks.{Network}

@@ -1,5 +1,5 @@
 -- A script's network in its run (own).
-use Rattle.std.specs.Prelude.{◌≡◌, ℕ, Bool, false, List, Result, Ok, Err, None}
+use Rattle.std.specs.Prelude.{◌≡◌, Bool, false, Result, Ok, Err, None}
 use Rattle.model_network.specs.Networks.{Network}
 use Rattle.network_lab.specs.LabNets.{LabNet, StandsFor}
 use Rattle.lab_keys.specs.declared.faults.LabFault.{LabFault}

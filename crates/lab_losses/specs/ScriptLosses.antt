@@ -1,7 +1,6 @@
 -- What lost deliveries do to the last event line of a script, as a text, or why there is none (own).
-use Rattle.std.specs.Prelude.{◌≡◌, ◌⊎◌, ℕ, ◌-◌, ◌≤◌, true, false, List, map, Option, Some, None, Result, Ok, Err, codes}
+use Rattle.std.specs.Prelude.{◌≡◌, ◌⊎◌, ℕ, ◌-◌, ◌≤◌, true, false, List, [], map, Option, Some, None, Result, Ok, Err, codes}
 use Rattle.isis_edge.specs.Told.{Wrote}
-use Rattle.model_network.specs.declared.word.PduWord.{PduWord}
 use Rattle.model_network.specs.Networks.{Network}
 use Rattle.network_lab.specs.Passed.{given}
 use Rattle.lab_keys.specs.declared.faults.LimitName.{LimitName}

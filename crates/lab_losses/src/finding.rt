@@ -48,7 +48,7 @@ pub fn find_losses(
     part: Part,
 ) -> Result<Found, LossesFault>
     requires seconds { seconds ≤ 86400 }
-    requires except { IfSome except (λ router. router < length replay.now.net.seen.routers) }
+    requires except { IfSome except (λ router. router < length replay.now.script.now.routers) }
     requires part { 0 < part.of }
     ensures found { IfOk result (λ found. (net : ModelNetwork) → IsReplay replay.now.script.now replay.now.went_on replay.now.net net
         → IsFound net seconds without except most part found) }
@@ -98,13 +98,13 @@ fn goal_of(
     except: Option<usize>,
 ) -> Result<SameGroups, Stop>
     requires seconds { seconds ≤ 86400 }
-    requires except { IfSome except (λ router. router < length replay.now.net.seen.routers) }
+    requires except { IfSome except (λ router. router < length replay.now.script.now.routers) }
     ensures goal { IfOk result (λ judge. (net : ModelNetwork) → IsReplay replay.now.script.now replay.now.went_on replay.now.net net
         → IsGoal (run_line given without except seconds net) judge) }
     ensures stop { IfErr result (λ stop. (net : ModelNetwork) → IsReplay replay.now.script.now replay.now.went_on replay.now.net net
         → StopCause (length (run_line given without except seconds net).datagrams) stop) }
 {
-    let mut plain = match replay.copy() {
+    let mut plain = match replay.again() {
         Ok(plain) => plain,
         Err(_) => return Err(Stop::OutOfMemory),
     };

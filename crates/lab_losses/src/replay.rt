@@ -52,6 +52,22 @@ impl<'a, 's> Replay<'a, 's> {
         }
     }
 
+    /// The network at the script's end once more. Only one to which nothing was done since is made again.
+    pub(crate) fn again(&self) -> Result<Replay<'a, 's>, OutOfMemory>
+        ensures replay { IfOk result (λ copy. (net : ModelNetwork)
+            → IsReplay self.now.script.now self.now.went_on self.now.net net
+            → IsReplay copy.script.now copy.went_on copy.net net) }
+        ensures laid { IfOk result (λ copy. length copy.net.seen.routers ≡ length self.now.script.now.routers) }
+    {
+        if self.went_on {
+            return Err(OutOfMemory);
+        }
+        match Replay::begin(self.alloc, self.script) {
+            Ok(copy) => Ok(copy),
+            Err(_) => Err(OutOfMemory),
+        }
+    }
+
     /// The network as it stands.
     pub(crate) fn net(&self) -> &Network<Asked>
         ensures { result.now ≡ self.now.net }
@@ -160,12 +176,9 @@ impl<'a, 's> Lab for Replay<'a, 's> {
     ghost stands = { λ r net. IsReplay r.script.now r.went_on r.net net };
 
     fn copy(&self) -> Result<Replay<'a, 's>, OutOfMemory> {
-        if self.went_on {
-            return Err(OutOfMemory);
-        }
-        match Replay::begin(self.alloc, self.script) {
+        match self.again() {
             Ok(copy) => Ok(copy),
-            Err(_) => Err(OutOfMemory),
+            Err(error) => Err(error),
         }
     }
 

@@ -1,5 +1,5 @@
 //! The call that writes what lost deliveries do to the last line of a script.
-ghost use Rattle.std.specs.Prelude.{◌≡◌, ◌≤◌, Err, IfSome, IfOk, length, IfErr};
+ghost use Rattle.std.specs.Prelude.{◌≡◌, ◌≤◌, ◌<◌, Err, IfSome, IfOk, length};
 ghost use Rattle.isis_edge.specs.Faults.{Rose};
 ghost use Rattle.line_cuts.specs.Words.{texts};
 ghost use Rattle.lab_script.specs.LabScripts.{router_names};
@@ -44,7 +44,7 @@ pub fn write_losses<O: Sink>(
     out: &mut O,
 ) -> Result<(), WriteFault>
     requires part { IfSome part IsAskedPart }
-    ensures ends { LossesTextEnds script most part (O.put out.old) (O.put out.new) result }
+    ensures ends { LossesTextEnds script.entry most part (O.put out.old) (O.put out.new) result }
     ensures cause { result ≡ Err WriteFault.Write → Rose (O.faults out.old) (O.faults out.new) }
     ensures later { O.faults out.old ≤ O.faults out.new }
 {
@@ -66,7 +66,7 @@ fn text_of(
     part: Option<PartOf>,
 ) -> Result<Octets, WriteFault>
     requires part { IfSome part IsAskedPart }
-    ensures { Tells script most part result }
+    ensures { Tells script.entry most part result }
 {
     let Script::Lab(mut script) = script else {
         return Err(WriteFault::NoLosses(LossesReason::Keys));

@@ -1,5 +1,5 @@
 -- Where there is a walk, a packet that is followed goes along it.
-use Rattle.std.proofs.Common.{◌≡◌, ◌≢◌, ℕ, zero, suc, ◌≤◌, ◌<◌, Bool, true, false, List, [], ◌∷◌, map, length, if◌then◌else◌, get_or, Option, Some, None, refl, sym, ap, ◌∙◌, subst, arith}
+use Rattle.std.proofs.Common.{◌≡◌, ◌≢◌, ℕ, ◌≤◌, Bool, true, false, List, [], ◌∷◌, map, if◌then◌else◌, get_or, Some, refl, sym, ap, ◌∙◌, subst, arith}
 use Rattle.std.specs.Prelude.{slice_get}
 use Rattle.std.specs.List.{Contains}
 use Rattle.std.specs.List.Sorted.{IsStrictlyIncreasing}
@@ -127,11 +127,11 @@ pub as-walked : TraceLaw → WhicheverLaw → OneLongest
     → (trace : Trace) → trace.forwarders.items ≡ map forwarder_of looks
     → way.IsTraced (way.by (step_at trace.forwarders.items address)) from trace.traced → AreOutcomes (steps_at trace.forwarders.items address) from trace.outcomes → AreLookedUpAs trace.forwarders.items address prefix
     → IsAsWalked from address walked trace
-as-walked law any one looks from address prefix walked w alike apart trace same t o as = record {
+as-walked law any one looks from address prefix walked w alike apart trace same t o looked = record {
   arrives = arrived.arrives;
   places = traced.places_are
       ∙ ap (λ (ps : List ℕ). from ∷ ps)
-          (same-way looks number address one alike apart found from w.last traced.last walked.routers.items traced.more w.path (stays looks number address one alike apart found w.owner w.last w.owned w.ends) traced.moves home);
+      (same-way looks number address one alike apart found from w.last traced.last walked.routers.items traced.more w.path (stays looks number address one alike apart found w.owner w.last w.owned w.ends) traced.moves home);
   route = w.route;
   goes_by = ap (λ (fs : List Forwarder). route_at fs address from) same ∙ goes-by looks number address one alike apart found from w.first w.route w.at w.has;
   cost = w.cost;
@@ -145,7 +145,7 @@ as-walked law any one looks from address prefix walked w alike apart trace same 
     traced = subst (λ (fs : List Forwarder). way.IsTraced (way.by (step_at fs address)) from trace.traced) same t
 
     found : AreFound looks number address
-    found = λ look route there has. subst (λ (fs : List Forwarder). AreLookedUpAs fs address prefix) same as (forwarder_of look) route (contains-map forwarder_of looks look there) has.0 has.1
+    found = λ look route there has. subst (λ (fs : List Forwarder). AreLookedUpAs fs address prefix) same looked (forwarder_of look) route (contains-map forwarder_of looks look there) has.0 has.1
 
     arrived : IsArrived looks number w.owner w.route trace.traced
     arrived = law looks number address from w.owner w.first w.route trace.traced alike w.owned found w.at w.has traced

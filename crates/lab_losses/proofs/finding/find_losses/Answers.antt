@@ -1,6 +1,6 @@
-use Rattle.std.proofs.Common.{◌+◌, refl, sym}
+use Rattle.std.proofs.Common.{◌+◌, refl}
 use Rattle.lab_losses.specs.Finds.{agrees_as}
-use Rattle.lab_losses.proofs.FindLemmas.{judged, part_list, same-judge, plain-cause, look-cause, worst-cause, found-is}
+use Rattle.lab_losses.proofs.FindLemmas.{judged, part_list, same-judge, plain-cause, worst-cause, found-is}
 use Rattle.lab_losses.proofs.finding.find_losses.Goals as goal
 
 pub returns-in-Err-clause-cause : goal.returns-in-Err-clause-cause
@@ -8,6 +8,11 @@ returns-in-Err-clause-cause c net r =
     plain-cause (agrees_as c.args.without c.args.except c.args.seconds net) c.args.without c.args.except c.args.seconds net c.args.most 0
     (part_list (agrees_as c.args.without c.args.except c.args.seconds net) c.args.without c.args.except c.args.seconds net c.args.most c.args.part) c.in-Err.stop c.from.result
     c.from.ensures (c.in-Err.ensures.stop net r)
+
+pub returns-in-Err-worst_losses-clause-cause : goal.returns-in-Err-worst_losses-clause-cause
+returns-in-Err-worst_losses-clause-cause c net r =
+    worst-cause (agrees_as c.args.without c.args.except c.args.seconds net) (judged c.in-Ok.judge) c.args.without c.args.except c.args.seconds net c.args.most c.args.part c.in-Err-worst_losses.fault
+    (same-judge c.args.without c.args.except c.args.seconds net c.in-Ok.judge (c.in-Ok.ensures.goal net r)) (c.in-Err-worst_losses.ensures.cause net r)
 
 pub returns-clause-found : goal.returns-clause-found
 returns-clause-found c net r =
