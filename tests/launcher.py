@@ -48,7 +48,7 @@ NO_WALKS = [["walk", *words] for words in (
     ["10.0.0.0/8", "A"],
 )]
 WALKS = [["a", "0.0.0.0/0"], ["Z9", "10.0.0.0/7"], ["abcdefghijklmnop", "255.255.255.255/32"], ["lab", "128.0.0.0/1"]]
-BEGUN = "isis: proving and building the program; the first time this takes about 40 minutes on four processors\n"
+BEGUN = "isis: proving and building the program; the first time this takes an hour and a half on four processors\n"
 
 
 class Clone:
