@@ -35,7 +35,7 @@ kept-follows o (Some c) None (Some new) comes is = absurd (cc)
 kept-follows o None (Some old) (Some new) comes is = follows-next o None old new comes (some-same new old is)
 kept-follows o (Some c) (Some old) (Some new) comes is = follows-next o (Some c) old new comes is
 
-pub kept-fits : (o : Outlook) (next : Option Coming) (old : Option FollowingOf) → Comes o next old → IfSome next (λ c. IfSome old (λ f. FitsIn f.routes c.routes))
+pub kept-fits : (o : Outlook) (next : Option Coming) (old : Option FollowingOf) → Comes o next old → IfSome next (λ c. IfSome old (λ f. FitsIn f c))
 kept-fits o None old comes = tt
 kept-fits o (Some c) None comes = tt
 kept-fits o (Some c) (Some old) comes = next-fits o (Some c) old comes

@@ -286,6 +286,6 @@ follows-next o None old new follows is = subst (IsFollowing o) (sym is) follows
 follows-next o (Some c) old new comes is = comes.follows new is
 
 -- there is room for what comes
-pub next-fits : (o : Outlook) (next : Option Coming) (old : FollowingOf) → MatchOption next (IsFollowing o old) (λ c. IsComing o old c) → IfSome next (λ c. FitsIn old.routes c.routes)
+pub next-fits : (o : Outlook) (next : Option Coming) (old : FollowingOf) → MatchOption next (IsFollowing o old) (λ c. IsComing o old c) → IfSome next (λ c. FitsIn old c)
 next-fits o None old follows = tt
 next-fits o (Some c) old comes = comes.fits

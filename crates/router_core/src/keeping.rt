@@ -26,7 +26,7 @@ pub trait Keeping: Drop {
 
     /// What comes is put in its place.
     fn put(&mut self, next: Coming)
-        requires { IfSome (kept self.old) (λ f. FitsIn f.routes next.routes) }
+        requires { IfSome (kept self.old) (λ f. FitsIn f next) }
         ensures { IsPutIn (kept self.old) next (kept self.new) };
 }
 

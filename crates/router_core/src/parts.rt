@@ -46,6 +46,13 @@ impl Model for Parts {
 }
 
 impl Parts {
+    /// The circuits, the first of which is circuit 1.
+    pub fn circuits(&self) -> &[Circuit]
+        ensures { result.now ≡ self.now.circuits }
+    {
+        self.circuits.as_slice()
+    }
+
     /// One more datagram is dropped for a cause; the count stands still at its type's end.
     pub(crate) fn count_drop(&mut self, cause: DropName)
         ensures { self.new ≡ record self.old { drops = count_drop self.old.drops cause } }

@@ -384,7 +384,7 @@ fn next_told<K: Keeping>(
 
 /// What comes stands in the place of what follows the router, where anything comes.
 fn put_next<K: Keeping>(kept: &mut K, next: Option<Coming>)
-    requires { IfSome next (λ c. IfSome (K.kept kept.old) (λ f. FitsIn f.routes c.routes)) }
+    requires { IfSome next (λ c. IfSome (K.kept kept.old) (λ f. FitsIn f c)) }
     ensures { MatchOption next (K.kept kept.new ≡ K.kept kept.old)
         (λ c. IsPutIn (K.kept kept.old) c (K.kept kept.new)) }
 {

@@ -12,9 +12,9 @@ use Rattle.spf_tree.specs.Distances.{cost_at}
 use Rattle.spf_tree.proofs.SearchLemmas.{contains_first, contains_rest, contains_cases, contains_none}
 use Rattle.route_table.specs.declared.candidate.Candidate.{Candidate}
 use Rattle.router_routes.specs.Moved.{HaveIds, told_by_nodes, AreNodes, is_among, is_beside}
-use Rattle.router_routes.specs.Candidates.{reached_by, system_candidates}
+use Rattle.router_routes.specs.Candidates.{reached_by, system_ways}
 use Rattle.router_routes.specs.Kept.{AreSame, CostBeside, stays, systems_among, IsTelling}
-use Rattle.router_routes.proofs.KeptLemmas.{filter-in, in-filter, stays-told, moved-in, added-in, telling}
+use Rattle.router_routes.proofs.KeptLemmas.{filter-in, in-filter, stays-told, moved-in, added-in, telling-ways}
 
 abbrev Pair : Type 0
 Pair = LspId × Entry
@@ -42,6 +42,13 @@ append-to xs ys us vs f g x there =
 
 pub same-append : {X : Type 0} (xs ys us vs : List X) → AreSame xs us → AreSame ys vs → AreSame (xs ++ ys) (us ++ vs)
 same-append xs ys us vs f g x = (append-to xs ys us vs (λ y. (f y).0) (λ y. (g y).0) x, append-to us vs xs ys (λ y. (f y).1) (λ y. (g y).1) x)
+
+-- of a test that both pass
+pub same-filter : {X : Type 0} (p : X → Bool) (xs ys : List X) → AreSame xs ys → AreSame (filter p xs) (filter p ys)
+same-filter p xs ys same x = (
+  λ there. (let o = filter-in p xs x there in in-filter p ys x ((same x).0 o.0) o.1),
+  λ there. (let o = filter-in p ys x there in in-filter p xs x ((same x).1 o.0) o.1),
+)
 
 any-step : {X : Type 0} (p : X → Bool) (x : X) (xs : List X) → (list_any p xs ≡ true → (y : X) × Contains xs y × (p y ≡ true)) → (t : Bool) → p x ≡ t → (t || list_any p xs) ≡ true → (y : X) × Contains (x ∷ xs) y × (p y ≡ true)
 any-step p x xs rest true is any = (x, contains_first x xs, is)
@@ -123,51 +130,31 @@ module _ (nodes : List NodeId) (node-ids : AreNodes nodes) where
     pub level-from : (c : Candidate) → Contains New c → (Contains Old c × (stays nodes c ≡ true)) ⊎ Contains Added c
     level-from c there = from-step c there (is_among nodes (node_number c.origin)) refl
 
-  -- of one level: what stays, and what those nodes tell
-  module _ (f : List Pair → Reached → List Candidate) (is : IsTelling f) (told later : List Pair) (told-are : HaveIds told) (later-are : HaveIds later) (same : told_by_nodes (is_beside nodes) told ≡ told_by_nodes (is_beside nodes) later) (root : ℕ) (d e : List (ℕ × ℕ)) (costs : CostBeside nodes d e) (kept list : List Candidate) (are : AreSame kept (flat_map (f told) (flat_map (reached_by (cost_at d) root) told))) (is-list : list ≡ filter (stays nodes) kept ++ flat_map (f later) (systems_among (cost_at e) root nodes)) where
-    one-to : (c : Candidate) → Contains (filter (stays nodes) kept ++ flat_map (f later) (systems_among (cost_at e) root nodes)) c → Contains (flat_map (f later) (flat_map (reached_by (cost_at e) root) later)) c
-    one-to c there =
-        level-to f is told later told-are later-are same root d e costs c
-        (elim (Contains-append_cases (filter (stays nodes) kept) (flat_map (f later) (systems_among (cost_at e) root nodes)) c there) [
-          | inl here ↦ let o = filter-in (stays nodes) kept c here in inl ((are c).0 o.0, o.1)
-          | inr more ↦ inr more
-        ])
-
-    one-from : (c : Candidate) → Contains (flat_map (f later) (flat_map (reached_by (cost_at e) root) later)) c → Contains (filter (stays nodes) kept ++ flat_map (f later) (systems_among (cost_at e) root nodes)) c
-    one-from c there =
-        elim (level-from f is told later told-are later-are same root d e costs c there) [
-          | inl old ↦ Contains-append_left (filter (stays nodes) kept) (flat_map (f later) (systems_among (cost_at e) root nodes)) c (in-filter (stays nodes) kept c ((are c).1 old.0) old.1)
-          | inr added ↦ Contains-append_right (filter (stays nodes) kept) (flat_map (f later) (systems_among (cost_at e) root nodes)) c added
-        ]
-
-    pub one-kept : AreSame list (flat_map (f later) (flat_map (reached_by (cost_at e) root) later))
-    one-kept = same-both list _ _ (same-refl list _ is-list) (λ c. (one-to c, one-from c))
-
   -- of both levels
   module _ (t1 t2 u1 u2 : List Pair) (i1 : HaveIds t1) (i2 : HaveIds t2) (j1 : HaveIds u1) (j2 : HaveIds u2) (s1 : told_by_nodes (is_beside nodes) t1 ≡ told_by_nodes (is_beside nodes) u1) (s2 : told_by_nodes (is_beside nodes) t2 ≡ told_by_nodes (is_beside nodes) u2) (root : ℕ) (d1 d2 e1 e2 : List (ℕ × ℕ)) (c1 : CostBeside nodes d1 e1) (c2 : CostBeside nodes d2 e2) where
     abbrev Old1 : List Candidate
-    Old1 = flat_map (system_candidates level.One t1) (flat_map (reached_by (cost_at d1) root) t1)
+    Old1 = flat_map (system_ways level.One t1) (flat_map (reached_by (cost_at d1) root) t1)
 
     abbrev Old2 : List Candidate
-    Old2 = flat_map (system_candidates level.Two t2) (flat_map (reached_by (cost_at d2) root) t2)
+    Old2 = flat_map (system_ways level.Two t2) (flat_map (reached_by (cost_at d2) root) t2)
 
     abbrev New1 : List Candidate
-    New1 = flat_map (system_candidates level.One u1) (flat_map (reached_by (cost_at e1) root) u1)
+    New1 = flat_map (system_ways level.One u1) (flat_map (reached_by (cost_at e1) root) u1)
 
     abbrev New2 : List Candidate
-    New2 = flat_map (system_candidates level.Two u2) (flat_map (reached_by (cost_at e2) root) u2)
+    New2 = flat_map (system_ways level.Two u2) (flat_map (reached_by (cost_at e2) root) u2)
 
     abbrev Add1 : List Candidate
-    Add1 = flat_map (system_candidates level.One u1) (systems_among (cost_at e1) root nodes)
+    Add1 = flat_map (system_ways level.One u1) (systems_among (cost_at e1) root nodes)
 
     abbrev Add2 : List Candidate
-    Add2 = flat_map (system_candidates level.Two u2) (systems_among (cost_at e2) root nodes)
+    Add2 = flat_map (system_ways level.Two u2) (systems_among (cost_at e2) root nodes)
 
     to-one : (c : Candidate) → (Contains Old1 c × (stays nodes c ≡ true)) ⊎ Contains Add1 c → Contains New1 c
-    to-one = level-to (system_candidates level.One) (telling level.One) t1 u1 i1 j1 s1 root d1 e1 c1
+    to-one = level-to (system_ways level.One) (telling-ways level.One) t1 u1 i1 j1 s1 root d1 e1 c1
 
     to-two : (c : Candidate) → (Contains Old2 c × (stays nodes c ≡ true)) ⊎ Contains Add2 c → Contains New2 c
-    to-two = level-to (system_candidates level.Two) (telling level.Two) t2 u2 i2 j2 s2 root d2 e2 c2
+    to-two = level-to (system_ways level.Two) (telling-ways level.Two) t2 u2 i2 j2 s2 root d2 e2 c2
 
     both-to : (kept : List Candidate) → AreSame kept (Old1 ++ Old2) → (c : Candidate) → Contains (filter (stays nodes) kept ++ (Add1 ++ Add2)) c → Contains (New1 ++ New2) c
     both-to kept are c there =
@@ -192,12 +179,12 @@ module _ (nodes : List NodeId) (node-ids : AreNodes nodes) where
     both-from kept are c there =
         elim (Contains-append_cases New1 New2 c there) [
           | inl one ↦
-              elim (level-from (system_candidates level.One) (telling level.One) t1 u1 i1 j1 s1 root d1 e1 c1 c one) [
+              elim (level-from (system_ways level.One) (telling-ways level.One) t1 u1 i1 j1 s1 root d1 e1 c1 c one) [
                 | inl old ↦ stay-in kept are c (Contains-append_left Old1 Old2 c old.0) old.1
                 | inr added ↦ Contains-append_right (filter (stays nodes) kept) (Add1 ++ Add2) c (Contains-append_left Add1 Add2 c added)
               ]
           | inr two ↦
-              elim (level-from (system_candidates level.Two) (telling level.Two) t2 u2 i2 j2 s2 root d2 e2 c2 c two) [
+              elim (level-from (system_ways level.Two) (telling-ways level.Two) t2 u2 i2 j2 s2 root d2 e2 c2 c two) [
                 | inl old ↦ stay-in kept are c (Contains-append_right Old1 Old2 c old.0) old.1
                 | inr added ↦ Contains-append_right (filter (stays nodes) kept) (Add1 ++ Add2) c (Contains-append_right Add1 Add2 c added)
               ]

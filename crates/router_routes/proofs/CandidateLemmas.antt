@@ -1,5 +1,5 @@
 -- Candidates as they are put together.
-use Rattle.std.proofs.Common.{◌≡◌, ◌∙◌, ℕ, Bool, true, false, List, [], ◌∷◌, ◌++◌, if◌then◌else◌, map, Option, Some, refl, sym, ap, subst, ◌&&◌, append-nil, ◌⊎◌, inl, inr}
+use Rattle.std.proofs.Common.{◌≡◌, ◌∙◌, ℕ, Bool, true, false, List, [], ◌∷◌, ◌++◌, map, Option, Some, refl, sym, ap, subst, ◌&&◌, append-nil, ◌⊎◌, inl, inr}
 use Rattle.std.specs.List.{flat_map}
 use Rattle.isis_base.specs.declared.identifiers.SystemId.{SystemId}
 use Rattle.isis_base.specs.declared.identifiers.NodeId.{NodeId}
@@ -23,23 +23,17 @@ use Rattle.router_routes.specs.Following.{IsLevel}
 use Rattle.router_routes.proofs.GraphLemmas.{IsGraphOf}
 use Rattle.router_routes.specs.Told.{told_in}
 use Rattle.router_routes.specs.Outlooks.{where_run, outlook_in}
-use Rattle.router_routes.specs.Candidates.{reached_in, system_candidates, level_candidates, attached_of, has_bit, default_by, default_of, defaults}
-use Rattle.router_routes.specs.Kept.{told_candidates}
+use Rattle.router_routes.specs.Candidates.{reached_in, system_ways, level_ways, ways_of, attached_of, has_bit, default_by, default_of}
 
 abbrev Told : Type 0
 Told = List (LspId × Entry)
 
 -- ---- a level that isn't run tells nothing
 
-told-where-run : (level : Level) (runs : Bool) (told : Told) (root : NodeId) (systems : List (SystemId × ℕ)) → systems ≡ reached_in (where_run runs told) root → flat_map (system_candidates level told) systems ≡ level_candidates level (where_run runs told) root
-unfolding level_candidates reached_in
-told-where-run level true told root systems same = ap (flat_map (system_candidates level told)) same
-told-where-run level false told root systems same = ap (flat_map (system_candidates level told)) same
-
-defaults-where-run : (runs : Bool) (told : Told) (root : NodeId) (systems : List (SystemId × ℕ)) → systems ≡ reached_in (where_run runs told) root → flat_map (default_of told) systems ≡ defaults (where_run runs told) root
-unfolding defaults reached_in
-defaults-where-run true told root systems same = ap (flat_map (default_of told)) same
-defaults-where-run false told root systems same = ap (flat_map (default_of told)) same
+told-where-run : (level : Level) (runs : Bool) (told : Told) (root : NodeId) (systems : List (SystemId × ℕ)) → systems ≡ reached_in (where_run runs told) root → flat_map (system_ways level told) systems ≡ level_ways level (where_run runs told) root
+unfolding level_ways reached_in
+told-where-run level true told root systems same = ap (flat_map (system_ways level told)) same
+told-where-run level false told root systems same = ap (flat_map (system_ways level told)) same
 
 -- ---- all of them
 
@@ -47,39 +41,24 @@ two : {X : Type 0} (l m n a b : List X) → l ≡ [] → m ≡ l ++ a → n ≡ 
 two l m n a b e f g = g ∙ ap (λ (x : List _). x ++ b) (f ∙ ap (λ (x : List _). x ++ a) e)
 
 module _ (view : View) (ones twos : List (SystemId × ℕ)) (is-one : ones ≡ reached_in (outlook_at view).told.one (outlook_at view).root) (is-two : twos ≡ reached_in (outlook_at view).told.two (outlook_at view).root) where
-  pub told-are : (l m n : List Candidate) → l ≡ [] → m ≡ l ++ flat_map (system_candidates level.One (told_of view.one)) ones → n ≡ m ++ flat_map (system_candidates level.Two (told_of view.two)) twos → n ≡ told_candidates (outlook_at view)
-  unfolding outlook_at told_candidates
+  pub told-are : (l m n : List Candidate) → l ≡ [] → m ≡ l ++ flat_map (system_ways level.One (told_of view.one)) ones → n ≡ m ++ flat_map (system_ways level.Two (told_of view.two)) twos → n ≡ ways_of (outlook_at view)
+  unfolding outlook_at ways_of
   told-are l m n e f g =
       let one = told-where-run level.One (runs_of view.levels).one (told_of view.one) (own_node view.system) ones is-one in
       let other = told-where-run level.Two (runs_of view.levels).two (told_of view.two) (own_node view.system) twos is-two in
       two l m n _ _ e (f ∙ ap (λ (x : List Candidate). l ++ x) one) (g ∙ ap (λ (x : List Candidate). m ++ x) other)
 
-pub ways-are : (view : View) (ones : List (SystemId × ℕ)) → ones ≡ reached_in (outlook_at view).told.one (outlook_at view).root → flat_map (default_of (told_of view.one)) ones ≡ defaults (outlook_at view).told.one (outlook_at view).root
-unfolding outlook_at
-ways-are view ones is = defaults-where-run (runs_of view.levels).one (told_of view.one) (own_node view.system) ones is
-
 -- nodes of a level that isn't run tell nothing
-no-told : (level : Level) (systems : List (SystemId × ℕ)) → flat_map (system_candidates level []) systems ≡ []
+no-told : (level : Level) (systems : List (SystemId × ℕ)) → flat_map (system_ways level []) systems ≡ []
 unfolding reach_in
-no-told level [] = refl
-no-told level (s ∷ systems) = no-told level systems
+no-told level.One [] = refl
+no-told level.One (s ∷ systems) = no-told level.One systems
+no-told level.Two [] = refl
+no-told level.Two (s ∷ systems) = no-told level.Two systems
 
-no-ways : (systems : List (SystemId × ℕ)) → flat_map (default_of []) systems ≡ []
-no-ways [] = refl
-no-ways (s ∷ systems) = no-ways systems
-
-pub level-none-told : (level : Level) (runs : Bool) (told : Told) (systems : List (SystemId × ℕ)) (list : List Candidate) → runs ≡ false → list ≡ list ++ flat_map (system_candidates level (where_run runs told)) systems
+pub level-none-told : (level : Level) (runs : Bool) (told : Told) (systems : List (SystemId × ℕ)) (list : List Candidate) → runs ≡ false → list ≡ list ++ flat_map (system_ways level (where_run runs told)) systems
 level-none-told level true told systems list is = absurd (let e : true ≡ false = is in cc)
 level-none-told level false told systems list is = sym (append-nil list) ∙ ap (λ (x : List Candidate). list ++ x) (sym (no-told level systems))
-
-pub ways-none : (view : View) (systems : List (SystemId × ℕ)) → (runs_of view.levels).one ≡ false → [] ≡ flat_map (default_of (outlook_at view).told.one) systems
-unfolding outlook_at
-ways-none view systems is = subst (λ (r : Bool). [] ≡ flat_map (default_of (where_run r (told_of view.one))) systems) (sym is) (sym (no-ways systems))
-
--- whether the way by default counts, told by its parts
-pub where-two : (list firm ways : List Candidate) (t : Bool) → (t ≡ true → list ≡ firm ++ ways) → (t ≡ false → list ≡ firm) → list ≡ firm ++ (if t then ways else [])
-where-two list firm ways true f g = f refl
-where-two list firm ways false f g = g refl ∙ sym (append-nil firm)
 
 -- ---- the way by default
 

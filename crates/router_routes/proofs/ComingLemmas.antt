@@ -1,5 +1,5 @@
 -- What will follow a router, by its parts.
-use Rattle.std.proofs.Common.{◌≡◌, ◌∙◌, ◌↔◌, ℕ, Bool, List, [], Option, None, Some, refl, sym, ap, subst}
+use Rattle.std.proofs.Common.{◌≡◌, ◌∙◌, ◌↔◌, ℕ, List, [], Option, None, Some, refl, sym, ap, subst}
 use Rattle.std.specs.Prelude.{IfSome, MatchOption}
 use Rattle.std.specs.List.{Contains}
 use Rattle.isis_base.specs.declared.identifiers.NodeId.{NodeId}
@@ -17,56 +17,41 @@ use Rattle.router_routes.specs.declared.coming.LevelAfter.{LevelAfter}
 use Rattle.router_routes.specs.declared.coming.LevelsAfter.{LevelsAfter}
 use Rattle.router_routes.specs.declared.coming.ReachedAfter.{ReachedAfter}
 use Rattle.router_routes.specs.Outlooks.{Outlook}
-use Rattle.router_routes.specs.Candidates.{defaults}
+use Rattle.router_routes.specs.Candidates.{ways_of}
 use Rattle.router_routes.specs.Counts.{Counts}
 use Rattle.router_routes.specs.Following.{AreHopsOf, FollowingOf, IsFollowing, IsLevel}
-use Rattle.router_routes.specs.Kept.{AreSame, AreReached, AreAmong, AreBeside, CostBeside, told_candidates}
+use Rattle.router_routes.specs.Kept.{AreAmong, AreBeside, CostBeside}
+use Rattle.router_routes.specs.Ways.{AreWays, HaveRoom, RowsOf, put_all}
 use Rattle.router_routes.specs.Moved.{AreNodes, or_old}
-use Rattle.router_routes.specs.Coming.{AreLevels, AreLevelsBeside, AreLevelsOf, AreOfOneRoot, AreRoutesAfter, CostsStay, FitsIn, HaveNumbers, HopsStay, IsComing, IsLevelAfter, costs_after, hops_after, list_after, moved_in, told_then, AreReachedAfter}
-use Rattle.router_routes.proofs.BesideLemmas.{same-both}
+use Rattle.router_routes.specs.Coming.{AreLevels, AreLevelsBeside, AreLevelsOf, AreOfOneRoot, AreRoutesAfter, CostsStay, FitsIn, HaveNumbers, HopsStay, IsComing, IsLevelAfter, costs_after, hops_after, moved_in, AreReachedAfter}
 use Rattle.router_routes.proofs.SameLemmas.{beside-more, cost-apart, cost-refl}
 
 hops-of : (a b : RepairedOf) (s t : List (ℕ × ℕ)) → a ≡ b → s ≡ t → AreHopsOf b t → AreHopsOf a s
 hops-of a b s t e g are = subst (λ (r : RepairedOf). AreHopsOf r s) (sym e) (subst (λ (l : List (ℕ × ℕ)). AreHopsOf b l) (sym g) are)
 
-pub coming-is : (o : Outlook) (f : FollowingOf) (c : Coming) → AreLevels o f (record { one = c.one; two = c.two }) → AreReached o (told_then c.told f.told) (list_after c.defaults f.defaults) c.attached → AreRoutesAfter o f.routes c.routes → IsComing o f c
-coming-is o f c are reached routes =
+pub coming-is : (o : Outlook) (f : FollowingOf) (c : Coming) (after : ReachedAfter) → after.told ≡ c.told → after.attached ≡ c.attached → AreLevels o f (record { one = c.one; two = c.two }) → AreReachedAfter o f after → AreRoutesAfter o f.routes c.routes → IsComing o f c
+coming-is o f c after told bit are reached routes =
     record {
-      fits = routes.fits;
+      fits = record { routes = routes.fits; told = subst (HaveRoom f.told) told reached.room };
       follows = λ g put. record {
         one = subst (λ (r : RepairedOf). IsLevel o level.One r) (sym put.one) are.one;
         two = subst (λ (r : RepairedOf). IsLevel o level.Two r) (sym put.two) are.two;
         hops_one = hops-of g.levels.one (costs_after c.one f.levels.one) g.hops.one (hops_after c.one f.hops.one) put.one put.hops_one are.hops_one.right;
         hops_two = hops-of g.levels.two (costs_after c.two f.levels.two) g.hops.two (hops_after c.two f.hops.two) put.two put.hops_two are.hops_two.right;
         routes = routes.right g.routes put.routes;
-        attached = put.attached ∙ reached.attached;
-        told = same-both g.told (told_then c.told f.told) (told_candidates o) put.told reached.told;
-        defaults = subst (λ (l : List Candidate). AreSame l (defaults o.told.one o.root)) (sym put.defaults) reached.ways;
+        attached = put.attached ∙ sym bit ∙ reached.attached;
+        told = subst (λ (rows : List (ℕ × List Candidate)). AreWays rows (ways_of o)) (ap (λ (a : RowsOf). put_all f.told.rows a.rows) told ∙ sym put.told) reached.told;
       };
       count_one = are.hops_one.counts;
       count_two = are.hops_two.counts;
     }
 
 -- all that is reached stays
-pub all-stays : (o : Outlook) (f : FollowingOf) (reached : ReachedAfter) → ((old : List Candidate) → told_then reached.told old ≡ old) → reached.defaults ≡ None → reached.attached ≡ f.attached → AreReachedAfter o f reached → AreReached o f.told f.defaults f.attached
-all-stays o f reached stays barred same are =
-    record {
-      told = subst (λ (l : List Candidate). AreSame l (told_candidates o)) (stays f.told) are.told;
-      ways = subst (λ (q : _). AreSame (list_after q f.defaults) (defaults o.told.one o.root)) barred are.ways;
-      attached = sym same ∙ are.attached;
-    }
-
--- the same, as it is read
-pub reached-seen : (o : Outlook) (f : FollowingOf) (reached : ReachedAfter) (told ways : List Candidate) (bit : Bool) → told ≡ told_then reached.told f.told → ways ≡ list_after reached.defaults f.defaults → bit ≡ reached.attached → AreReachedAfter o f reached → AreReached o told ways bit
-reached-seen o f reached told ways bit e g h are =
-    record {
-      told = subst (λ (l : List Candidate). AreSame l (told_candidates o)) (sym e) are.told;
-      ways = subst (λ (l : List Candidate). AreSame l (defaults o.told.one o.root)) (sym g) are.ways;
-      attached = h ∙ are.attached;
-    }
+pub all-stays : (o : Outlook) (f : FollowingOf) (reached : ReachedAfter) → reached.told.rows ≡ [] → AreReachedAfter o f reached → AreWays f.told.rows (ways_of o)
+all-stays o f reached none are = subst (λ (rows : List (ℕ × List Candidate)). AreWays (put_all f.told.rows rows) (ways_of o)) none are.told
 
 -- there is room for what comes
-pub next-fits : (o : Outlook) (f : FollowingOf) (next : Option Coming) → MatchOption next (IsFollowing o f) (λ c. IsComing o f c) → IfSome next (λ c. FitsIn f.routes c.routes)
+pub next-fits : (o : Outlook) (f : FollowingOf) (next : Option Coming) → MatchOption next (IsFollowing o f) (λ c. IsComing o f c) → IfSome next (λ c. FitsIn f c)
 next-fits o f None follows = tt
 next-fits o f (Some c) comes = comes.fits
 

@@ -7,6 +7,7 @@ use Rattle.isis_base.specs.declared.identifiers.SystemId.{SystemId}
 use Rattle.isis_base.specs.declared.identifiers.NodeId.{NodeId}
 use Rattle.isis_base.specs.declared.identifiers.LspId.{LspId}
 use Rattle.isis_base.specs.declared.level.Level.{Level}
+use Rattle.isis_base.specs.declared.level.Level.TheVariants as level
 use Rattle.isis_base.specs.Identifiers.{IsId}
 use Rattle.isis_base.specs.declared.prefix.Prefix.{Prefix}
 use Rattle.isis_base.specs.Prefixes.{prefix_from}
@@ -21,7 +22,7 @@ use Rattle.lsp_view.specs.Views.{own_node, number_of, where_live, lead_of, where
 use Rattle.route_table.specs.declared.rank.Rank.TheVariants as rank
 use Rattle.route_table.specs.declared.candidate.Candidate.{Candidate}
 use Rattle.router_routes.specs.Moved.{HaveIds, told_by_nodes, is_among, is_beside}
-use Rattle.router_routes.specs.Candidates.{with_cost, leads_other, reached_by, told_candidate, system_candidates, has_bit, default_by, default_of}
+use Rattle.router_routes.specs.Candidates.{with_cost, leads_other, reached_by, told_candidate, system_candidates, system_ways, has_bit, default_by, default_of}
 use Rattle.router_routes.specs.Kept.{stays, system_at, systems_among, CostBeside, IsTelling}
 use Rattle.router_routes.proofs.IdLemmas.{number-0, stands}
 use Rattle.router_routes.proofs.NodeLemmas.{lead-by, reach-by}
@@ -303,7 +304,7 @@ lead-step : (l : Level) (s : Reached) (o : Option Entry) (items : List PrefixIte
 lead-step l s None items c there = absurd (contains_none c there)
 lead-step l s (Some e) items c there = (e, refl)
 
-pub telling : (l : Level) → IsTelling (system_candidates l)
+telling : (l : Level) → IsTelling (system_candidates l)
 unfolding reach_in
 telling l = record {
   origin = λ told s c there. origin-of l s (reach_in told s.0) c there;
@@ -327,9 +328,32 @@ default-step told s c true is there = (default-origin s (prefix_from 0 0) c ther
     some-lead (Some e) f = (e, refl)
 default-step told s c false is there = absurd (contains_none c there)
 
-pub telling-default : IsTelling default_of
+telling-default : IsTelling default_of
 telling-default = record {
   origin = λ told s c there. (default-step told s c (has_bit told s) refl there).0;
   lead = λ told s c there. (default-step told s c (has_bit told s) refl there).1;
   same = λ told later s lead reach. ap (λ (o : Option Entry). if attached_at o then default_by (prefix_from 0 0) s else []) lead;
+}
+
+-- what a system tells in a level, ways by default too
+pub telling-ways : (l : Level) → IsTelling (system_ways l)
+telling-ways level.One = record {
+  origin = λ told s c there.
+      elim (Contains-append_cases (system_candidates level.One told s) (default_of told s) c there) [
+        | inl tells ↦ (telling level.One).origin told s c tells
+        | inr way ↦ telling-default.origin told s c way
+      ];
+  lead = λ told s c there.
+      elim (Contains-append_cases (system_candidates level.One told s) (default_of told s) c there) [
+        | inl tells ↦ (telling level.One).lead told s c tells
+        | inr way ↦ telling-default.lead told s c way
+      ];
+  same = λ told later s lead reach.
+      ap (λ (l : List Candidate). l ++ default_of told s) ((telling level.One).same told later s lead reach)
+      ∙ ap (λ (l : List Candidate). system_candidates level.One later s ++ l) (telling-default.same told later s lead reach);
+}
+telling-ways level.Two = record {
+  origin = λ told s c there. (telling level.Two).origin told s c there;
+  lead = λ told s c there. (telling level.Two).lead told s c there;
+  same = λ told later s lead reach. (telling level.Two).same told later s lead reach;
 }

@@ -24,12 +24,12 @@ pub mod SameLemmas
 pub mod SystemLemmas
 pub mod AttachedLemmas
 pub mod GoneLemmas
-pub mod BucketLemmas
-pub mod ReplacedLemmas
-pub mod RemadeLemmas
+pub mod RowLemmas
+pub mod WayLemmas
+pub mod WeighedLemmas
+pub mod ApartLemmas
 pub mod NumberLemmas
 pub mod ComingLemmas
 pub mod OwnLemmas
 pub mod PatchLemmas
-pub mod PartLemmas
 pub mod PutLemmas

@@ -1,6 +1,6 @@
 -- Candidates of two outlooks that reach the same, and what follows a router then.
-use Rattle.std.proofs.Common.{◌≡◌, ◌∙◌, ℕ, ◌<◌, Bool, true, false, ◌&&◌, not, List, [], ◌∷◌, ◌++◌, map, filter, refl, sym, ap, subst, arith, inl, inr, if◌then◌else◌}
-use Rattle.std.specs.List.{AllByRecursion, Contains, flat_map, list_any}
+use Rattle.std.proofs.Common.{◌≡◌, ◌∙◌, ℕ, ◌<◌, Bool, true, false, ◌&&◌, not, List, [], ◌∷◌, ◌++◌, map, filter, refl, sym, ap, subst, arith, inl, inr}
+use Rattle.std.specs.List.{AllByRecursion, Contains, flat_map}
 use Rattle.std.proofs.lemmas.List.Elements.{Contains-append_left, Contains-push, Contains-push_cases}
 use Rattle.isis_base.specs.declared.identifiers.SystemId.{SystemId}
 use Rattle.isis_base.specs.declared.identifiers.NodeId.{NodeId}
@@ -9,9 +9,8 @@ use Rattle.isis_base.specs.declared.prefix.Prefix.{Prefix}
 use Rattle.isis_base.specs.declared.level.Level.TheVariants as level
 use Rattle.isis_base.specs.Identifiers.{IsId, lsp_number}
 use Rattle.isis_base.proofs.ArrayLemmas.{lsp_number-one}
-use Rattle.model_router.specs.Both.{runs_of}
+use Rattle.model_router.specs.Both.{Both, runs_of}
 use Rattle.lsp_store.specs.declared.entry.Entry.{Entry}
-use Rattle.lsp_view.specs.Views.{own_node}
 use Rattle.spf_tree.specs.Nodes.{node_number}
 use Rattle.spf_tree.specs.Distances.{cost_at, AreDistances}
 use Rattle.spf_repair.specs.Changes.{RepairedOf}
@@ -21,9 +20,10 @@ use Rattle.route_table.proofs.OrderLemmas.{routes_by}
 use Rattle.router_routes.specs.declared.lent.Lent.{Lent}
 use Rattle.router_routes.specs.declared.view.View.{View}
 use Rattle.router_routes.specs.Outlooks.{Outlook, graph_in, outlook_in, where_run}
-use Rattle.router_routes.specs.Candidates.{reached_in, reached_by, system_candidates, level_candidates, default_of, defaults, own_candidate, attached_of, is_for_all, firm_candidates, has_defaults, candidates_of}
+use Rattle.router_routes.specs.Candidates.{reached_in, reached_by, system_ways, level_ways, ways_of, own_candidate, attached_of, may_default, is_weighed, weighed_of}
 use Rattle.router_routes.specs.Following.{FollowingOf, IsFollowing, IsLevel}
-use Rattle.router_routes.specs.Kept.{AreSame, AreAmong, AreBeside, AreReached, CostBeside, HaveToldIds, stays, systems_among, told_candidates}
+use Rattle.router_routes.specs.Kept.{AreSame, AreAmong, AreBeside, CostBeside, HaveToldIds, stays, systems_among, ways_by}
+use Rattle.router_routes.specs.Ways.{AreWays}
 use Rattle.router_routes.specs.Moved.{AreFit, HaveIds, outlook_at, told_of, AreNodes, is_among}
 use Rattle.router_routes.proofs.GraphLemmas.{reached-are, hop-same}
 use Rattle.spf_tree.proofs.SearchLemmas.{contains_cases, contains_none}
@@ -31,8 +31,10 @@ use Rattle.router_routes.proofs.IdLemmas.{number-0}
 use Rattle.router_routes.proofs.MovedLemmas.{told-ids}
 use Rattle.router_routes.proofs.AfterLemmas.{list-more}
 use Rattle.router_routes.proofs.ViewLemmas.{level-ids}
-use Rattle.router_routes.proofs.KeptLemmas.{among-in, in-among, telling-default}
-use Rattle.router_routes.proofs.BesideLemmas.{same-refl, same-both, same-back, same-append, any-same, one-kept, both-kept}
+use Rattle.router_routes.proofs.KeptLemmas.{among-in, in-among}
+use Rattle.router_routes.proofs.BesideLemmas.{same-refl, same-back, same-append, same-filter, both-kept}
+use Rattle.router_routes.proofs.WayLemmas.{ways-one}
+use Rattle.router_routes.proofs.WeighedLemmas.{routes-weighed, weighed-routes}
 
 abbrev Pair : Type 0
 Pair = LspId × Entry
@@ -42,64 +44,36 @@ AreCostsOf r = AreDistances r.graph.rows (node_number r.root) r.distances
 
 -- ---- candidates
 
-where-same : (a b : Bool) (xs ys us vs : List Candidate) → a ≡ b → AreSame xs us → AreSame ys vs → AreSame (xs ++ (if a then ys else [])) (us ++ (if b then vs else []))
-where-same true true xs ys us vs e f g = same-append xs ys us vs f g
-where-same false false xs ys us vs e f g = same-append xs [] us [] f (same-refl [] [] refl)
-where-same true false xs ys us vs e f g = absurd (let h : true ≡ false = e in cc)
-where-same false true xs ys us vs e f g = absurd (let h : false ≡ true = e in cc)
-
-pub firm-told : (o : Outlook) → firm_candidates o ≡ map (own_candidate o.root) o.prefixes ++ told_candidates o
-unfolding firm_candidates told_candidates
-firm-told o = refl
-
-module _ (o : Outlook) (told ways : List Candidate) (same : AreSame told (told_candidates o)) (ways-same : AreSame ways (defaults o.told.one o.root)) where
-  abbrev Firm : List Candidate
-  Firm = map (own_candidate o.root) o.prefixes ++ told
-
-  pub firm-same : AreSame Firm (firm_candidates o)
-  firm-same = same-both Firm _ (firm_candidates o) (same-append (map (own_candidate o.root) o.prefixes) told (map (own_candidate o.root) o.prefixes) (told_candidates o) (same-refl _ _ refl) same) (same-refl _ _ (sym (firm-told o)))
-
-  pub has-same : (attached : Bool) → attached ≡ attached_of o → ((o.runs.one && not attached) && not (list_any is_for_all Firm)) ≡ has_defaults o
-  has-same attached e =
-      ap (λ (t : Bool). (o.runs.one && not t) && not (list_any is_for_all Firm)) e
-      ∙ ap (λ (t : Bool). (o.runs.one && not (attached_of o)) && not t) (any-same is_for_all Firm (firm_candidates o) firm-same)
-
-  pub all-same : (has : Bool) → has ≡ has_defaults o → AreSame (Firm ++ (if has then ways else [])) (candidates_of o)
-  unfolding candidates_of
-  all-same has e = where-same has (has_defaults o) Firm ways (firm_candidates o) (defaults o.told.one o.root) e firm-same ways-same
-
--- two outlooks with the same members have the same candidates
-pub candidates-same : (o p : Outlook) (told ways : List Candidate) → p.root ≡ o.root → p.runs ≡ o.runs → p.prefixes ≡ o.prefixes → attached_of o ≡ attached_of p → AreSame told (told_candidates o) → AreSame ways (defaults o.told.one o.root) → AreSame told (told_candidates p) → AreSame ways (defaults p.told.one p.root) → AreSame (candidates_of o) (candidates_of p)
-candidates-same o p told ways root runs prefixes attached a b c d =
-    let firm : map (own_candidate o.root) o.prefixes ++ told ≡ map (own_candidate p.root) p.prefixes ++ told =
-    ap (λ (n : NodeId). map (own_candidate n) o.prefixes ++ told) (sym root) ∙ ap (λ (ps : List (Prefix × ℕ)). map (own_candidate p.root) ps ++ told) (sym prefixes) in
-    let has : has_defaults o ≡ has_defaults p =
-    sym (has-same o told ways a b (attached_of o) refl)
-    ∙ ap (λ (r : Bool). (r && not (attached_of o)) && not (list_any is_for_all (map (own_candidate o.root) o.prefixes ++ told))) (sym (ap (λ (r : _). r.one) runs))
-    ∙ ap (λ (cs : List Candidate). (p.runs.one && not (attached_of o)) && not (list_any is_for_all cs)) firm
-    ∙ has-same p told ways c d (attached_of o) attached in
-    let one = all-same o told ways a b (has_defaults o) refl in
-    let two = all-same p told ways c d (has_defaults o) has in
-    same-both (candidates_of o) _ (candidates_of p) (same-back _ (candidates_of o) one)
-    (subst (λ (cs : List Candidate). AreSame (cs ++ (if has_defaults o then ways else [])) (candidates_of p)) (sym firm) two)
+-- two outlooks whose levels tell the same have the same candidates
+pub weighed-by : (o p : Outlook) → p.root ≡ o.root → p.runs ≡ o.runs → p.prefixes ≡ o.prefixes → attached_of o ≡ attached_of p → AreSame (ways_of o) (ways_of p) → AreSame (weighed_of o) (weighed_of p)
+unfolding weighed_of
+weighed-by o p root runs prefixes attached same =
+    let own : map (own_candidate o.root) o.prefixes ≡ map (own_candidate p.root) p.prefixes =
+    ap (λ (n : NodeId). map (own_candidate n) o.prefixes) (sym root) ∙ ap (λ (ps : List (Prefix × ℕ)). map (own_candidate p.root) ps) (sym prefixes) in
+    let may : may_default o ≡ may_default p =
+    ap (λ (r : Both Bool). r.one && not (attached_of o)) (sym runs) ∙ ap (λ (t : Bool). p.runs.one && not t) attached in
+    same-append (map (own_candidate o.root) o.prefixes) (filter (is_weighed (may_default o)) (ways_of o)) (map (own_candidate p.root) p.prefixes) (filter (is_weighed (may_default p)) (ways_of p)) (same-refl _ _ own)
+    (subst (λ (t : Bool). AreSame (filter (is_weighed (may_default o)) (ways_of o)) (filter (is_weighed t) (ways_of p))) may (same-filter (is_weighed (may_default o)) (ways_of o) (ways_of p) same))
 
 -- ---- routes
 
 -- what follows a router follows it where its costs are right still and it reaches the same
-pub stays-following : (o p : Outlook) (f : FollowingOf) → IsFollowing o f → p.root ≡ o.root → p.runs ≡ o.runs → p.prefixes ≡ o.prefixes → IsLevel p level.One f.levels.one → IsLevel p level.Two f.levels.two → AreSame f.told (told_candidates p) → AreSame f.defaults (defaults p.told.one p.root) → f.attached ≡ attached_of p → IsFollowing p f
-stays-following o p f is root runs prefixes one two told ways attached =
+pub stays-following : (o p : Outlook) (f : FollowingOf) → IsFollowing o f → p.root ≡ o.root → p.runs ≡ o.runs → p.prefixes ≡ o.prefixes → IsLevel p level.One f.levels.one → IsLevel p level.Two f.levels.two → AreWays f.told.rows (ways_of p) → f.attached ≡ attached_of p → IsFollowing p f
+stays-following o p f is root runs prefixes one two told attached =
+    let old = IsHopTo (graph_in o.told.one o.root) (graph_in o.told.two o.root) in
+    let new = IsHopTo (graph_in p.told.one p.root) (graph_in p.told.two p.root) in
+    let same = weighed-by o p root runs prefixes (sym is.attached ∙ attached) (ways-one f.told.rows (ways_of o) (ways_of p) is.told told) in
     record {
       one = one;
       two = two;
       hops_one = is.hops_one;
       hops_two = is.hops_two;
       routes =
-          let same = candidates-same o p f.told f.defaults root runs prefixes (sym is.attached ∙ attached) is.told is.defaults told ways in
-          routes_by (IsHopTo (graph_in o.told.one o.root) (graph_in o.told.two o.root)) (IsHopTo (graph_in p.told.one p.root) (graph_in p.told.two p.root)) (candidates_of o) (candidates_of p) f.routes (λ c. (same c).1) (λ c. (same c).0)
-          (λ c hop. hop-same o p f.levels.one f.levels.two is.one is.two one two c hop) is.routes;
+          weighed-routes new p f.routes
+          (routes_by old new (weighed_of o) (weighed_of p) f.routes (λ c. (same c).1) (λ c. (same c).0)
+          (λ c hop. hop-same o p f.levels.one f.levels.two is.one is.two one two c hop) (routes-weighed old o f.routes is.routes));
       attached = attached;
       told = told;
-      defaults = ways;
     }
 
 -- ---- what is reached once some nodes moved
@@ -126,14 +100,6 @@ module _ (o p : Outlook) (nodes : List NodeId) (node-ids : AreNodes nodes) (besi
         ap (λ (n : NodeId). flat_map (reached_by (cost_at n1.distances) (node_number n)) p.told.one) (sym beside.root)
         ∙ reached-are p.told.one p.root n1.graph ln1.graph n1.distances (subst (λ (n : NodeId). AreDistances n1.graph.rows (node_number n) n1.distances) ln1.root b1)
 
-    pub ways-after : (kept list : List Candidate) → AreSame kept (defaults o.told.one o.root) → list ≡ filter (stays nodes) kept ++ flat_map (default_of p.told.one) (systems_among (cost_at n1.distances) (node_number n1.graph.root) nodes) → AreSame list (defaults p.told.one p.root)
-    unfolding defaults
-    ways-after kept list are is =
-        subst (λ (s : List (SystemId × ℕ)). AreSame list (flat_map (default_of p.told.one) s)) reach-new-1
-        (one-kept nodes node-ids default_of telling-default o.told.one p.told.one old-ids.one new-ids.one beside.one (node_number o.root) o1.distances n1.distances c1 kept list
-        (subst (λ (s : List (SystemId × ℕ)). AreSame kept (flat_map (default_of o.told.one) s)) (sym reach-old-1) are)
-        (subst (λ (n : ℕ). list ≡ filter (stays nodes) kept ++ flat_map (default_of p.told.one) (systems_among (cost_at n1.distances) n nodes)) root-one is))
-
     module _ (a2 : AreCosts o2) (b2 : AreCosts n2) (c2 : CostBeside nodes o2.distances n2.distances) where
       root-two : node_number n2.graph.root ≡ node_number o.root
       root-two = ap node_number (ln2.graph.from ∙ beside.root)
@@ -146,79 +112,40 @@ module _ (o p : Outlook) (nodes : List NodeId) (node-ids : AreNodes nodes) (besi
           ap (λ (n : NodeId). flat_map (reached_by (cost_at n2.distances) (node_number n)) p.told.two) (sym beside.root)
           ∙ reached-are p.told.two p.root n2.graph ln2.graph n2.distances (subst (λ (n : NodeId). AreDistances n2.graph.rows (node_number n) n2.distances) ln2.root b2)
 
-      old-told : flat_map (system_candidates level.One o.told.one) (flat_map (reached_by (cost_at o1.distances) (node_number o.root)) o.told.one) ++ flat_map (system_candidates level.Two o.told.two) (flat_map (reached_by (cost_at o2.distances) (node_number o.root)) o.told.two) ≡ told_candidates o
-      unfolding told_candidates level_candidates
+      old-told : flat_map (system_ways level.One o.told.one) (flat_map (reached_by (cost_at o1.distances) (node_number o.root)) o.told.one) ++ flat_map (system_ways level.Two o.told.two) (flat_map (reached_by (cost_at o2.distances) (node_number o.root)) o.told.two) ≡ ways_of o
+      unfolding ways_of level_ways
       old-told =
-          ap (λ (s : List (SystemId × ℕ)). flat_map (system_candidates level.One o.told.one) s ++ flat_map (system_candidates level.Two o.told.two) (flat_map (reached_by (cost_at o2.distances) (node_number o.root)) o.told.two)) reach-old-1
-          ∙ ap (λ (s : List (SystemId × ℕ)). flat_map (system_candidates level.One o.told.one) (reached_in o.told.one o.root) ++ flat_map (system_candidates level.Two o.told.two) s) reach-old-2
+          ap (λ (s : List (SystemId × ℕ)). flat_map (system_ways level.One o.told.one) s ++ flat_map (system_ways level.Two o.told.two) (flat_map (reached_by (cost_at o2.distances) (node_number o.root)) o.told.two)) reach-old-1
+          ∙ ap (λ (s : List (SystemId × ℕ)). flat_map (system_ways level.One o.told.one) (reached_in o.told.one o.root) ++ flat_map (system_ways level.Two o.told.two) s) reach-old-2
 
-      new-told : flat_map (system_candidates level.One p.told.one) (flat_map (reached_by (cost_at n1.distances) (node_number o.root)) p.told.one) ++ flat_map (system_candidates level.Two p.told.two) (flat_map (reached_by (cost_at n2.distances) (node_number o.root)) p.told.two) ≡ told_candidates p
-      unfolding told_candidates level_candidates
+      new-told : flat_map (system_ways level.One p.told.one) (flat_map (reached_by (cost_at n1.distances) (node_number o.root)) p.told.one) ++ flat_map (system_ways level.Two p.told.two) (flat_map (reached_by (cost_at n2.distances) (node_number o.root)) p.told.two) ≡ ways_of p
+      unfolding ways_of level_ways
       new-told =
-          ap (λ (s : List (SystemId × ℕ)). flat_map (system_candidates level.One p.told.one) s ++ flat_map (system_candidates level.Two p.told.two) (flat_map (reached_by (cost_at n2.distances) (node_number o.root)) p.told.two)) reach-new-1
-          ∙ ap (λ (s : List (SystemId × ℕ)). flat_map (system_candidates level.One p.told.one) (reached_in p.told.one p.root) ++ flat_map (system_candidates level.Two p.told.two) s) reach-new-2
+          ap (λ (s : List (SystemId × ℕ)). flat_map (system_ways level.One p.told.one) s ++ flat_map (system_ways level.Two p.told.two) (flat_map (reached_by (cost_at n2.distances) (node_number o.root)) p.told.two)) reach-new-1
+          ∙ ap (λ (s : List (SystemId × ℕ)). flat_map (system_ways level.One p.told.one) (reached_in p.told.one p.root) ++ flat_map (system_ways level.Two p.told.two) s) reach-new-2
 
-      pub told-after : (kept list : List Candidate) → AreSame kept (told_candidates o)
-          → list ≡ filter (stays nodes) kept ++ (flat_map (system_candidates level.One p.told.one) (systems_among (cost_at n1.distances) (node_number n1.graph.root) nodes) ++ flat_map (system_candidates level.Two p.told.two) (systems_among (cost_at n2.distances) (node_number n2.graph.root) nodes))
-          → AreSame list (told_candidates p)
+      pub told-after : (kept list : List Candidate) → AreSame kept (ways_of o)
+          → list ≡ filter (stays nodes) kept ++ (flat_map (system_ways level.One p.told.one) (systems_among (cost_at n1.distances) (node_number n1.graph.root) nodes) ++ flat_map (system_ways level.Two p.told.two) (systems_among (cost_at n2.distances) (node_number n2.graph.root) nodes))
+          → AreSame list (ways_of p)
       told-after kept list are is =
           subst (λ (cs : List Candidate). AreSame list cs) new-told
           (both-kept nodes node-ids o.told.one o.told.two p.told.one p.told.two old-ids.one old-ids.two new-ids.one new-ids.two beside.one beside.two (node_number o.root) o1.distances o2.distances n1.distances n2.distances c1 c2 kept list
           (subst (λ (cs : List Candidate). AreSame kept cs) (sym old-told) are)
-          (subst (λ (n : ℕ). list ≡ filter (stays nodes) kept ++ (flat_map (system_candidates level.One p.told.one) (systems_among (cost_at n1.distances) (node_number o.root) nodes) ++ flat_map (system_candidates level.Two p.told.two) (systems_among (cost_at n2.distances) n nodes))) root-two
-          (subst (λ (n : ℕ). list ≡ filter (stays nodes) kept ++ (flat_map (system_candidates level.One p.told.one) (systems_among (cost_at n1.distances) n nodes) ++ flat_map (system_candidates level.Two p.told.two) (systems_among (cost_at n2.distances) (node_number n2.graph.root) nodes))) root-one is)))
+          (subst (λ (n : ℕ). list ≡ filter (stays nodes) kept ++ (flat_map (system_ways level.One p.told.one) (systems_among (cost_at n1.distances) (node_number o.root) nodes) ++ flat_map (system_ways level.Two p.told.two) (systems_among (cost_at n2.distances) n nodes))) root-two
+          (subst (λ (n : ℕ). list ≡ filter (stays nodes) kept ++ (flat_map (system_ways level.One p.told.one) (systems_among (cost_at n1.distances) n nodes) ++ flat_map (system_ways level.Two p.told.two) (systems_among (cost_at n2.distances) (node_number n2.graph.root) nodes))) root-one is)))
 
--- ---- as they are put together
+-- those that stay, and those that come
+pub come-are : (o p : Outlook) (f : FollowingOf) → IsFollowing o f → (nodes : List NodeId) → AreNodes nodes → AreBeside nodes o p → HaveToldIds o → HaveToldIds p → (n1 n2 : RepairedOf) → IsLevel p level.One n1 → IsLevel p level.Two n2 → AreCostsOf f.levels.one → AreCostsOf f.levels.two → AreCostsOf n1 → AreCostsOf n2
+    → CostBeside nodes f.levels.one.distances n1.distances → CostBeside nodes f.levels.two.distances n2.distances → AreSame (filter (stays nodes) (ways_of o) ++ ways_by p n1 n2 nodes) (ways_of p)
+come-are o p f is nodes ids beside old-ids new-ids n1 n2 ln1 ln2 a1 a2 b1 b2 c1 c2 =
+    told-after o p nodes ids beside old-ids new-ids f.levels.one f.levels.two n1 n2 is.one is.two ln1 ln2 a1 b1 c1 a2 b2 c2 (ways_of o) (filter (stays nodes) (ways_of o) ++ ways_by p n1 n2 nodes) (same-refl (ways_of o) (ways_of o) refl) refl
 
-pub counted : (view : View) (told ways firm : List Candidate) (attached has : Bool) → AreSame told (told_candidates (outlook_at view)) → AreSame ways (defaults (outlook_at view).told.one (outlook_at view).root) → attached ≡ attached_of (outlook_at view)
-    → firm ≡ map (own_candidate (outlook_at view).root) (outlook_at view).prefixes ++ told → has ≡ (((runs_of view.levels).one && not attached) && not (list_any is_for_all firm)) → has ≡ has_defaults (outlook_at view)
-unfolding outlook_at
-counted view told ways firm attached has same ways-same is firm-is has-is =
-    has-is ∙ ap (λ (cs : List Candidate). ((runs_of view.levels).one && not attached) && not (list_any is_for_all cs)) firm-is ∙ has-same (outlook_at view) told ways same ways-same attached is
-
-pub firm-by : (view : View) (told l m n : List Candidate) → l ≡ [] → m ≡ l ++ map (own_candidate (own_node view.system)) view.prefixes.now → n ≡ m ++ told → n ≡ map (own_candidate (outlook_at view).root) (outlook_at view).prefixes ++ told
-unfolding outlook_at
-firm-by view told l m n e f g = g ∙ ap (λ (x : List Candidate). x ++ told) (f ∙ ap (λ (x : List Candidate). x ++ map (own_candidate (own_node view.system)) view.prefixes.now) e)
-
--- ---- what is reached once some nodes moved, as it is kept
-
-module _ (o p : Outlook) (f : FollowingOf) (is : IsFollowing o f) (nodes : List NodeId) (node-ids : AreNodes nodes) (beside : AreBeside nodes o p) (old-ids : HaveToldIds o) (new-ids : HaveToldIds p) (n1 n2 : RepairedOf) (ln1 : IsLevel p level.One n1) (ln2 : IsLevel p level.Two n2) (a1 : AreCostsOf f.levels.one) (a2 : AreCostsOf f.levels.two) (b1 : AreCostsOf n1) (b2 : AreCostsOf n2) (c1 : CostBeside nodes f.levels.one.distances n1.distances) (c2 : CostBeside nodes f.levels.two.distances n2.distances) (come ways : List Candidate)
-    (come-is : come ≡ flat_map (system_candidates level.One p.told.one) (systems_among (cost_at n1.distances) (node_number n1.graph.root) nodes) ++ flat_map (system_candidates level.Two p.told.two) (systems_among (cost_at n2.distances) (node_number n2.graph.root) nodes))
-    (ways-is : ways ≡ flat_map (default_of p.told.one) (systems_among (cost_at n1.distances) (node_number n1.graph.root) nodes)) where
-  told-list : (list : List Candidate) → list ≡ filter (stays nodes) f.told ++ come → AreSame list (told_candidates p)
-  told-list list e = told-after o p nodes node-ids beside old-ids new-ids f.levels.one f.levels.two n1 n2 is.one is.two ln1 ln2 a1 b1 c1 a2 b2 c2 f.told list is.told (e ∙ ap (λ (cs : List Candidate). filter (stays nodes) f.told ++ cs) come-is)
-
-  ways-list : (list : List Candidate) → list ≡ filter (stays nodes) f.defaults ++ ways → AreSame list (defaults p.told.one p.root)
-  ways-list list e = ways-after o p nodes node-ids beside old-ids new-ids f.levels.one f.levels.two n1 n2 is.one is.two ln1 ln2 a1 b1 c1 f.defaults list is.defaults (e ∙ ap (λ (cs : List Candidate). filter (stays nodes) f.defaults ++ cs) ways-is)
-
-  -- those that stay, and those that come
-  pub reached-now : (list others : List Candidate) (bit : Bool) → AreSame list (filter (stays nodes) f.told ++ come) → AreSame others (filter (stays nodes) f.defaults ++ ways) → bit ≡ attached_of p → AreReached p list others bit
-  reached-now list others bit e g h =
-      record {
-        told = same-both list (filter (stays nodes) f.told ++ come) (told_candidates p) e (told-list (filter (stays nodes) f.told ++ come) refl);
-        ways = same-both others (filter (stays nodes) f.defaults ++ ways) (defaults p.told.one p.root) g (ways-list (filter (stays nodes) f.defaults ++ ways) refl);
-        attached = h;
-      }
-
--- what nodes told, and what all others did
-abbrev pub went-of : Outlook → FollowingOf → List NodeId → List Candidate
-went-of o f nodes =
-    flat_map (system_candidates level.One o.told.one) (systems_among (cost_at f.levels.one.distances) (node_number f.levels.one.graph.root) nodes)
-    ++ flat_map (system_candidates level.Two o.told.two) (systems_among (cost_at f.levels.two.distances) (node_number f.levels.two.graph.root) nodes)
-
-pub went-are : (o : Outlook) (f : FollowingOf) → IsFollowing o f → (nodes : List NodeId) → AreNodes nodes → HaveToldIds o → AreCostsOf f.levels.one → AreCostsOf f.levels.two → (went : List Candidate) → went ≡ went-of o f nodes → AreSame f.told (filter (stays nodes) f.told ++ went)
-went-are o f is nodes ids told-ids a1 a2 went e =
+-- those that stay, and those that go
+pub went-are : (o : Outlook) (f : FollowingOf) → IsFollowing o f → (nodes : List NodeId) → AreNodes nodes → HaveToldIds o → AreCostsOf f.levels.one → AreCostsOf f.levels.two → AreSame (ways_of o) (filter (stays nodes) (ways_of o) ++ ways_by o f.levels.one f.levels.two nodes)
+went-are o f is nodes ids told-ids a1 a2 =
     let here : AreBeside nodes o o = record { root = refl; areas = refl; runs = refl; one = refl; two = refl } in
     let same-costs : (d : List (ℕ × ℕ)) → CostBeside nodes d d = λ d m id none. refl in
-    let list = filter (stays nodes) f.told ++ went in
-    same-both f.told (told_candidates o) list is.told
-    (same-back list (told_candidates o)
-    (told-after o o nodes ids here told-ids told-ids f.levels.one f.levels.two f.levels.one f.levels.two is.one is.two is.one is.two a1 a1 (same-costs f.levels.one.distances) a2 a2 (same-costs f.levels.two.distances) f.told list is.told
-    (ap (λ (cs : List Candidate). filter (stays nodes) f.told ++ cs) e)))
-
--- what follows a router reaches that
-pub following-reached : (o : Outlook) (f : FollowingOf) → IsFollowing o f → AreReached o f.told f.defaults f.attached
-following-reached o f is = record { told = is.told; ways = is.defaults; attached = is.attached }
+    same-back _ (ways_of o) (come-are o o f is nodes ids here told-ids told-ids f.levels.one f.levels.two is.one is.two a1 a2 a1 a2 (same-costs f.levels.one.distances) (same-costs f.levels.two.distances))
 
 pub beside-more : (some all : List NodeId) (o p : Outlook) → AreAmong some all → AreBeside some o p → AreBeside all o p
 beside-more some all o p more is = record { root = is.root; areas = is.areas; runs = is.runs; one = list-more some all o.told.one p.told.one more is.one; two = list-more some all o.told.two p.told.two more is.two }
@@ -287,19 +214,13 @@ pub costs-of : (r : RepairedOf) (d : List (ℕ × ℕ)) → d ≡ r.distances �
 costs-of r d same are = subst (AreDistances r.graph.rows (node_number r.root)) same are
 
 pub told-by-nodes : (view : View) (s t : List (SystemId × ℕ)) (l m n : List Candidate) (one two : Bool) → one ≡ (runs_of view.levels).one → two ≡ (runs_of view.levels).two → l ≡ []
-    → m ≡ l ++ flat_map (system_candidates level.One (where_run one (told_of view.one))) s → n ≡ m ++ flat_map (system_candidates level.Two (where_run two (told_of view.two))) t → n ≡ flat_map (system_candidates level.One (outlook_at view).told.one) s ++ flat_map (system_candidates level.Two (outlook_at view).told.two) t
+    → m ≡ l ++ flat_map (system_ways level.One (where_run one (told_of view.one))) s → n ≡ m ++ flat_map (system_ways level.Two (where_run two (told_of view.two))) t → n ≡ flat_map (system_ways level.One (outlook_at view).told.one) s ++ flat_map (system_ways level.Two (outlook_at view).told.two) t
 unfolding outlook_at
 told-by-nodes view s t l m n one two a b none e f =
     f
-    ∙ ap (λ (x : List Candidate). x ++ flat_map (system_candidates level.Two (where_run two (told_of view.two))) t) (e ∙ ap (λ (x : List Candidate). x ++ flat_map (system_candidates level.One (where_run one (told_of view.one))) s) none)
-    ∙ ap (λ (r : Bool). flat_map (system_candidates level.One (where_run r (told_of view.one))) s ++ flat_map (system_candidates level.Two (where_run two (told_of view.two))) t) a
-    ∙ ap (λ (r : Bool). flat_map (system_candidates level.One (where_run (runs_of view.levels).one (told_of view.one))) s ++ flat_map (system_candidates level.Two (where_run r (told_of view.two))) t) b
-
-pub ways-by-nodes : (view : View) (s t : List (SystemId × ℕ)) (l n : List Candidate) → (runs_of view.levels).one ≡ true → l ≡ [] → n ≡ l ++ flat_map (default_of (told_of view.one)) s → s ≡ t → n ≡ flat_map (default_of (outlook_at view).told.one) t
-unfolding outlook_at
-ways-by-nodes view s t l n run none e same =
-    e ∙ ap (λ (x : List Candidate). x ++ flat_map (default_of (told_of view.one)) s) none ∙ ap (flat_map (default_of (told_of view.one))) same
-    ∙ ap (λ (r : Bool). flat_map (default_of (where_run r (told_of view.one))) t) (sym run)
+    ∙ ap (λ (x : List Candidate). x ++ flat_map (system_ways level.Two (where_run two (told_of view.two))) t) (e ∙ ap (λ (x : List Candidate). x ++ flat_map (system_ways level.One (where_run one (told_of view.one))) s) none)
+    ∙ ap (λ (r : Bool). flat_map (system_ways level.One (where_run r (told_of view.one))) s ++ flat_map (system_ways level.Two (where_run two (told_of view.two))) t) a
+    ∙ ap (λ (r : Bool). flat_map (system_ways level.One (where_run (runs_of view.levels).one (told_of view.one))) s ++ flat_map (system_ways level.Two (where_run r (told_of view.two))) t) b
 
 pub among-trans : (a b c : List NodeId) → AreAmong a b → AreAmong b c → AreAmong a c
 among-trans a b c f g n is = g n (f n is)

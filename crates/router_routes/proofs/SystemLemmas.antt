@@ -22,12 +22,12 @@ use Rattle.router_routes.specs.declared.view.LevelView.{LevelView}
 use Rattle.router_routes.specs.declared.view.View.{View}
 use Rattle.router_routes.specs.Outlooks.{where_run}
 use Rattle.router_routes.specs.Told.{told_in, told_pair}
-use Rattle.router_routes.specs.Candidates.{attached_of, default_of, defaults, reached_by, reached_in, system_candidates}
+use Rattle.router_routes.specs.Candidates.{attached_of, reached_by, reached_in, system_ways, ways_of}
 use Rattle.router_routes.specs.Following.{IsLevel}
-use Rattle.router_routes.specs.Kept.{AreSame, told_candidates}
+use Rattle.router_routes.specs.Kept.{AreSame}
 use Rattle.router_routes.specs.Moved.{FitMoved, IsFit, IsReadable, is_among, is_beside, is_one, outlook_at, told_after, told_by_nodes, told_moved, told_of}
 use Rattle.router_routes.proofs.GraphLemmas.{IsGraphOf, level-reached}
-use Rattle.router_routes.proofs.CandidateLemmas.{attached-both, reached-one, reached-two, told-are, ways-are}
+use Rattle.router_routes.proofs.CandidateLemmas.{attached-both, reached-one, reached-two, told-are}
 use Rattle.router_routes.proofs.MovedLemmas.{by-all, told-ids, told-rises}
 use Rattle.router_routes.proofs.AfterLemmas.{after-among, after-beside}
 use Rattle.router_routes.proofs.KeptLemmas.{flat-in, in-flat}
@@ -149,17 +149,12 @@ module _ (view : View) (ones twos : List Reached) (one : AreSame ones (reached_i
   abbrev Twos : List Reached
   Twos = reached_in (outlook_at view).told.two (outlook_at view).root
 
-  pub told-same : AreSame twos Twos → (l m n : List Candidate) → l ≡ [] → m ≡ l ++ flat_map (system_candidates level.One (told_of view.one)) ones → n ≡ m ++ flat_map (system_candidates level.Two (told_of view.two)) twos → AreSame n (told_candidates (outlook_at view))
+  pub told-same : AreSame twos Twos → (l m n : List Candidate) → l ≡ [] → m ≡ l ++ flat_map (system_ways level.One (told_of view.one)) ones → n ≡ m ++ flat_map (system_ways level.Two (told_of view.two)) twos → AreSame n (ways_of (outlook_at view))
   told-same two l m n e f g =
-      same-both n (flat_map (system_candidates level.One (told_of view.one)) ones ++ flat_map (system_candidates level.Two (told_of view.two)) twos) (told_candidates (outlook_at view))
-      (same-refl n _ (g ∙ ap (λ (x : List Candidate). x ++ flat_map (system_candidates level.Two (told_of view.two)) twos) (f ∙ ap (λ (x : List Candidate). x ++ flat_map (system_candidates level.One (told_of view.one)) ones) e)))
-      (subst (λ (l : List Candidate). AreSame (flat_map (system_candidates level.One (told_of view.one)) ones ++ flat_map (system_candidates level.Two (told_of view.two)) twos) l) (told-are view Ones Twos refl refl [] _ _ refl refl refl)
-      (same-append (flat_map (system_candidates level.One (told_of view.one)) ones) (flat_map (system_candidates level.Two (told_of view.two)) twos) _ _ (same-flat (system_candidates level.One (told_of view.one)) ones Ones one) (same-flat (system_candidates level.Two (told_of view.two)) twos Twos two)))
-
-  pub ways-same : (l n : List Candidate) → l ≡ [] → n ≡ l ++ flat_map (default_of (told_of view.one)) ones → AreSame n (defaults (outlook_at view).told.one (outlook_at view).root)
-  ways-same l n e f =
-      same-both n (flat_map (default_of (told_of view.one)) ones) _ (same-refl n _ (f ∙ ap (λ (x : List Candidate). x ++ flat_map (default_of (told_of view.one)) ones) e))
-      (subst (λ (l : List Candidate). AreSame (flat_map (default_of (told_of view.one)) ones) l) (ways-are view Ones refl) (same-flat (default_of (told_of view.one)) ones Ones one))
+      same-both n (flat_map (system_ways level.One (told_of view.one)) ones ++ flat_map (system_ways level.Two (told_of view.two)) twos) (ways_of (outlook_at view))
+      (same-refl n _ (g ∙ ap (λ (x : List Candidate). x ++ flat_map (system_ways level.Two (told_of view.two)) twos) (f ∙ ap (λ (x : List Candidate). x ++ flat_map (system_ways level.One (told_of view.one)) ones) e)))
+      (subst (λ (l : List Candidate). AreSame (flat_map (system_ways level.One (told_of view.one)) ones ++ flat_map (system_ways level.Two (told_of view.two)) twos) l) (told-are view Ones Twos refl refl [] _ _ refl refl refl)
+      (same-append (flat_map (system_ways level.One (told_of view.one)) ones) (flat_map (system_ways level.Two (told_of view.two)) twos) _ _ (same-flat (system_ways level.One (told_of view.one)) ones Ones one) (same-flat (system_ways level.Two (told_of view.two)) twos Twos two)))
 
 any-map : {X Y : Type 0} (p : Y → Bool) (f : X → Y) (xs : List X) → list_any p (map f xs) ≡ list_any (λ x. p (f x)) xs
 any-map p f [] = refl

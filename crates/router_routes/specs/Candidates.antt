@@ -1,6 +1,6 @@
 -- What prefixes may be reached by (RFC 5302 3.2): one's own, what the systems tell that a level
 -- reaches, and the way by default to systems that are attached.
-use Rattle.std.specs.Prelude.{ℕ, ◌+◌, ◌≤◌, ◌==◌, Bool, ◌&&◌, not, List, [], ◌∷◌, ◌++◌, map, Option, Some, None, if◌then◌else◌}
+use Rattle.std.specs.Prelude.{ℕ, ◌+◌, ◌≤◌, ◌==◌, Bool, true, false, ◌&&◌, ◌||◌, not, List, [], ◌∷◌, ◌++◌, filter, map, Option, Some, None, if◌then◌else◌}
 use Rattle.std.specs.List.{AllByRecursion, list_any, flat_map}
 use Rattle.isis_base.specs.declared.identifiers.SystemId.{SystemId}
 use Rattle.isis_base.specs.declared.identifiers.NodeId.{NodeId}
@@ -106,11 +106,26 @@ default_of told system =
 unfoldable pub defaults : List (LspId × Entry) → NodeId → List Candidate
 defaults told root = flat_map (default_of told) (reached_in told root)
 
+-- ---- what levels tell
+
+-- what a system tells: prefixes, and in level 1 the way by default where it is attached
+abbrev pub system_ways : Level → List (LspId × Entry) → SystemId × ℕ → List Candidate
+system_ways level.One told system =
+    system_candidates level.One told system ++ default_of told system
+system_ways level.Two told system = system_candidates level.Two told system
+
+unfoldable pub level_ways : Level → List (LspId × Entry) → NodeId → List Candidate
+level_ways level told root = flat_map (system_ways level told) (reached_in told root)
+
+-- what both levels tell
+unfoldable pub ways_of : Outlook → List Candidate
+ways_of o = level_ways level.One o.told.one o.root ++ level_ways level.Two o.told.two o.root
+
+-- ---- all of them
+
 -- whether a candidate is for 0.0.0.0/0 (own)
 abbrev pub is_for_all : Candidate → Bool
 is_for_all c = c.prefix.address == 0 && c.prefix.length == 0
-
--- ---- all of them
 
 -- all but those by default (RFC 5302 3.2)
 unfoldable pub firm_candidates : Outlook → List Candidate
@@ -128,6 +143,26 @@ has_defaults o =
 unfoldable pub candidates_of : Outlook → List Candidate
 candidates_of o =
     firm_candidates o ++ (if has_defaults o then defaults o.told.one o.root else [])
+
+-- ---- the same, with ways by default beside others for 0.0.0.0/0, which stand before them (own)
+
+abbrev pub is_default : Rank → Bool
+is_default rank.Own = false
+is_default rank.One = false
+is_default rank.Two = false
+is_default rank.OneDown = false
+is_default rank.Default = true
+
+-- whether ways by default may count: in level 1 of a router that isn't attached itself
+abbrev pub may_default : Outlook → Bool
+may_default o = o.runs.one && not (attached_of o)
+
+abbrev pub is_weighed : Bool → Candidate → Bool
+is_weighed may c = may || not (is_default c.rank)
+
+unfoldable pub weighed_of : Outlook → List Candidate
+weighed_of o =
+    map (own_candidate o.root) o.prefixes ++ filter (is_weighed (may_default o)) (ways_of o)
 
 -- ---- the routes of a router (RFC 5302 3.2)
 

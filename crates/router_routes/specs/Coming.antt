@@ -1,27 +1,22 @@
 -- What will follow a router, before it stands in the place of what does. All of it own.
-use Rattle.std.specs.Prelude.{◌≡◌, ◌↔◌, ℕ, true, List, [], Option, Some, None, Vec}
+use Rattle.std.specs.Prelude.{◌≡◌, ◌↔◌, ℕ, true, List, [], Option, Some, None}
 use Rattle.std.specs.List.{Contains}
-use Rattle.std.specs.declared.alloc.Global.{Global}
 use Rattle.isis_base.specs.declared.identifiers.NodeId.{NodeId}
 use Rattle.isis_base.specs.declared.level.Level.TheVariants as level
 use Rattle.isis_base.specs.Identifiers.{IsId}
 use Rattle.spf_tree.specs.Nodes.{node_number}
 use Rattle.spf_tree.specs.Distances.{cost_at}
 use Rattle.spf_repair.specs.Changes.{RepairedOf}
-use Rattle.route_table.specs.declared.candidate.Candidate.{Candidate}
 use Rattle.route_table.specs.declared.route.Route.{Route}
-use Rattle.route_table.specs.Patches.{Fits, IsPatched}
+use Rattle.route_table.specs.Patches.{Fits, IsPatched, PatchesOf}
 use Rattle.router_routes.specs.declared.coming.Coming.{Coming}
 use Rattle.router_routes.specs.declared.coming.LevelAfter.{LevelAfter}
 use Rattle.router_routes.specs.declared.coming.LevelsAfter.{LevelsAfter}
 use Rattle.router_routes.specs.declared.coming.ReachedAfter.{ReachedAfter}
-use Rattle.router_routes.specs.declared.coming.RoutesAfter.{RoutesAfter}
-use Rattle.router_routes.specs.declared.coming.RoutesAfter.TheVariants.{Made, Patched}
-use Rattle.router_routes.specs.declared.coming.ToldAfter.{ToldAfter}
 use Rattle.router_routes.specs.Outlooks.{Outlook}
-use Rattle.router_routes.specs.Buckets.{made_or, with_buckets}
-use Rattle.router_routes.specs.Candidates.{AreRoutesOf}
-use Rattle.router_routes.specs.Kept.{AreBeside, AreReached, AreSame, CostBeside}
+use Rattle.router_routes.specs.Candidates.{AreRoutesOf, attached_of, ways_of}
+use Rattle.router_routes.specs.Kept.{AreBeside, CostBeside}
+use Rattle.router_routes.specs.Ways.{AreWays, HaveRoom, put_all}
 use Rattle.router_routes.specs.Moved.{AreNodes, is_among, or_old}
 use Rattle.router_routes.specs.Counts.{Counts}
 use Rattle.router_routes.specs.Following.{AreHopsOf, FollowingOf, IsFollowing, IsLevel}
@@ -104,38 +99,25 @@ pub record AreLevelsBeside (nodes : List NodeId) (o p : Outlook) (f : FollowingO
 
 -- ---- what is reached
 
--- new candidates, or else the old ones
-abbrev pub list_after : Option (Vec Candidate Global) → List Candidate → List Candidate
-list_after None old = old
-list_after (Some new) old = new.items
-
--- what levels tell then: all of it anew or as it was, but for the buckets that are others
-abbrev pub told_then : ToldAfter → List Candidate → List Candidate
-told_then told old = with_buckets told.buckets.items (made_or told.made old)
-
--- these are reached, where the rest stays
-abbrev pub AreReachedAfter : Outlook → FollowingOf → ReachedAfter → Type 0
-AreReachedAfter o f reached =
-    AreReached o (told_then reached.told f.told) (list_after reached.defaults f.defaults) reached.attached
+-- once its rows are put in, this is what is reached, and there is room for them
+pub record AreReachedAfter (o : Outlook) (f : FollowingOf) (reached : ReachedAfter) : Type 0 where
+  pub told : AreWays (put_all f.told.rows reached.told.rows) (ways_of o)
+  pub room : HaveRoom f.told reached.told
+  pub attached : reached.attached ≡ attached_of o
 
 -- ---- routes
 
--- a table made anew, or patches that fit the one that is there
-abbrev pub FitsIn : List Route → RoutesAfter → Type 0
-FitsIn old (Made routes) = Unit {0}
-FitsIn old (Patched patches) = Fits old patches
-
--- the routes once these have come
-abbrev pub ArePut : List Route → RoutesAfter → List Route → Type 0
-ArePut old (Made routes) new = new ≡ routes
-ArePut old (Patched patches) new = IsPatched old patches.list new
-
--- routes that are right once they have come
-pub record AreRoutesAfter (o : Outlook) (old : List Route) (routes : RoutesAfter) : Type 0 where
-  pub fits : FitsIn old routes
-  pub right : (new : List Route) → ArePut old routes new → AreRoutesOf o new
+-- routes that are right once these patches are put in
+pub record AreRoutesAfter (o : Outlook) (old : List Route) (patches : PatchesOf) : Type 0 where
+  pub fits : Fits old patches
+  pub right : (new : List Route) → IsPatched old patches.list new → AreRoutesOf o new
 
 -- ---- all of it
+
+-- there is room for the routes and the candidates that come
+pub record FitsIn (f : FollowingOf) (c : Coming) : Type 0 where
+  pub routes : Fits f.routes c.routes
+  pub told : HaveRoom f.told c.told
 
 -- what follows a router once this has come
 pub record IsPut (old : FollowingOf) (c : Coming) (new : FollowingOf) : Type 0 where
@@ -143,14 +125,13 @@ pub record IsPut (old : FollowingOf) (c : Coming) (new : FollowingOf) : Type 0 w
   pub two : new.levels.two ≡ costs_after c.two old.levels.two
   pub hops_one : new.hops.one ≡ hops_after c.one old.hops.one
   pub hops_two : new.hops.two ≡ hops_after c.two old.hops.two
-  pub routes : ArePut old.routes c.routes new.routes
+  pub routes : IsPatched old.routes c.routes.list new.routes
   pub attached : new.attached ≡ c.attached
-  pub told : AreSame new.told (told_then c.told old.told)
-  pub defaults : new.defaults ≡ list_after c.defaults old.defaults
+  pub told : new.told.rows ≡ put_all old.told.rows c.told.rows
 
 -- once this has come, what follows a router follows what routes look at
 pub record IsComing (o : Outlook) (f : FollowingOf) (c : Coming) : Type 0 where
-  pub fits : FitsIn f.routes c.routes
+  pub fits : FitsIn f c
   pub follows : (g : FollowingOf) → IsPut f c g → IsFollowing o g
   pub count_one : HasCount f.levels.one c.one
   pub count_two : HasCount f.levels.two c.two

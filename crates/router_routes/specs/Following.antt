@@ -9,19 +9,17 @@ use Rattle.spf_repair.specs.Changes.{RepairedOf}
 use Rattle.model_router.specs.Both.{Both}
 use Rattle.route_table.specs.declared.route.Route.{Route}
 use Rattle.router_routes.specs.Outlooks.{Outlook, IsGraph}
-use Rattle.route_table.specs.declared.candidate.Candidate.{Candidate}
-use Rattle.router_routes.specs.Candidates.{AreRoutesOf, attached_of, defaults}
-use Rattle.router_routes.specs.Kept.{AreSame, told_candidates}
+use Rattle.router_routes.specs.Candidates.{AreRoutesOf, attached_of, ways_of}
+use Rattle.router_routes.specs.Ways.{AreWays, WaysOf}
 
--- each level's repaired distances, and its nodes beside their next hops; the routes, whether the router is attached, what both
--- levels tell of prefixes, and the ways by default
+-- each level's repaired distances, and its nodes beside their next hops; the routes, whether the router is attached, and by prefix
+-- what both levels tell
 pub record FollowingOf : Type 0 where
   pub levels : Both RepairedOf
   pub hops : Both (List (ℕ × ℕ))
   pub routes : List Route
   pub attached : Bool
-  pub told : List Candidate
-  pub defaults : List Candidate
+  pub told : WaysOf
 
 -- a level's distances are from the router's own node over the rows that may be walked
 pub record IsLevel (o : Outlook) (level : Level) (repaired : RepairedOf) : Type 0 where
@@ -41,5 +39,4 @@ pub record IsFollowing (o : Outlook) (f : FollowingOf) : Type 0 where
   pub hops_two : AreHopsOf f.levels.two f.hops.two
   pub routes : AreRoutesOf o f.routes
   pub attached : f.attached ≡ attached_of o
-  pub told : AreSame f.told (told_candidates o)
-  pub defaults : AreSame f.defaults (defaults o.told.one o.root)
+  pub told : AreWays f.told.rows (ways_of o)

@@ -10,10 +10,11 @@ use Rattle.lsp_store.specs.declared.entry.Entry.{Entry}
 use Rattle.lsp_view.specs.Views.{own_node, lead_of, reach_in}
 use Rattle.spf_tree.specs.Nodes.{node_number}
 use Rattle.spf_tree.specs.Distances.{cost_at}
+use Rattle.spf_repair.specs.Changes.{RepairedOf}
 use Rattle.route_table.specs.declared.candidate.Candidate.{Candidate}
 use Rattle.router_routes.specs.Moved.{HaveIds, is_among, is_beside, told_by_nodes}
 use Rattle.router_routes.specs.Outlooks.{Outlook}
-use Rattle.router_routes.specs.Candidates.{with_cost, level_candidates, attached_of, defaults}
+use Rattle.router_routes.specs.Candidates.{with_cost, system_ways, ways_of, attached_of}
 
 -- two lists have the same members
 abbrev pub AreSame : {X : Type 0} → List X → List X → Type 0
@@ -33,15 +34,17 @@ system_at costs root node =
 abbrev pub systems_among : (ℕ → Option ℕ) → ℕ → List NodeId → List (SystemId × ℕ)
 systems_among costs root nodes = flat_map (system_at costs root) nodes
 
--- what both levels tell of prefixes
-unfoldable pub told_candidates : Outlook → List Candidate
-told_candidates o =
-    level_candidates level.One o.told.one o.root ++ level_candidates level.Two o.told.two o.root
+-- what nodes tell in both levels at these costs
+abbrev pub ways_by : Outlook → RepairedOf → RepairedOf → List NodeId → List Candidate
+ways_by o one two nodes =
+    flat_map (system_ways level.One o.told.one)
+    (systems_among (cost_at one.distances) (node_number one.graph.root) nodes)
+    ++ flat_map (system_ways level.Two o.told.two)
+    (systems_among (cost_at two.distances) (node_number two.graph.root) nodes)
 
--- these are what both levels tell, the ways by default, and whether the router is attached
-pub record AreReached (o : Outlook) (list others : List Candidate) (bit : Bool) : Type 0 where
-  pub told : AreSame list (told_candidates o)
-  pub ways : AreSame others (defaults o.told.one o.root)
+-- these are what both levels tell, and whether the router is attached
+pub record AreReached (o : Outlook) (list : List Candidate) (bit : Bool) : Type 0 where
+  pub told : AreSame list (ways_of o)
   pub attached : bit ≡ attached_of o
 
 -- all nodes but some tell the same in both levels, and else own prefixes alone may move

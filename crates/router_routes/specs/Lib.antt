@@ -4,7 +4,7 @@ pub mod Told
 pub mod Costs
 pub mod Outlooks
 pub mod Candidates
-pub mod Buckets
+pub mod Ways
 pub mod Leaks
 pub mod Differences
 pub mod Counts

@@ -12,7 +12,7 @@ ghost use Rattle.router_routes.specs.Kept.{AreBeside};
 ghost use Rattle.router_routes.specs.Touched.{IsReachedAfter};
 ghost use Rattle.router_routes.specs.Moved.{AreFit, AreMoved, AreRowsMoved, AreViewed, IsInOrder, IsMovedAt, IsPutAt, NodesRise, nodes_of, or_old, outlook_at};
 
-use crate::coming::{Coming, LevelsAfter, ReachedAfter, RoutesAfter, all_stays, level_of};
+use crate::coming::{Coming, LevelsAfter, ReachedAfter, all_stays, level_of};
 use crate::following::Following;
 use crate::kept::{moved, told_nodes};
 use crate::lent::Lent;
@@ -24,6 +24,7 @@ use isis_base::{Level, LspId, NodeId, OutOfMemory, Prefix};
 use lsp_store::{Entry, Store};
 use lsp_view::Lsps;
 use model_router::has_level;
+use route_table::Patches;
 use spf_repair::Repaired;
 
 impl Following {
@@ -33,7 +34,7 @@ impl Following {
         requires follows { IsFollowing (outlook_in lent.now) self.now }
         requires one { IsInOrder told.now.one }
         requires two { IsInOrder told.now.two }
-        ensures fits { IfOk result (λ next. IfSome next (λ c. FitsIn self.now.routes c.routes)) }
+        ensures fits { IfOk result (λ next. IfSome next (λ c. FitsIn self.now c)) }
         ensures moves { IfOk result (λ next. (o : Outlook) → AreMoved (outlook_in lent.now) o told.now
             → MatchOption next (IsFollowing o self.now) (λ c. IsComing o self.now c)) }
     {
@@ -68,7 +69,7 @@ impl Following {
         entry: &Entry,
     ) -> Result<Option<Coming>, OutOfMemory>
         requires follows { IsFollowing (outlook_in lent.now) self.now }
-        ensures fits { IfOk result (λ next. IfSome next (λ c. FitsIn self.now.routes c.routes)) }
+        ensures fits { IfOk result (λ next. IfSome next (λ c. FitsIn self.now c)) }
         ensures moves { IfOk result (λ next. (o : Outlook)
             → IsPutAt (outlook_in lent.now) o level id entry.now
             → MatchOption next (IsFollowing o self.now) (λ c. IsComing o self.now c)) }
@@ -88,7 +89,7 @@ impl Following {
         prefixes: &[(Prefix, u32)],
     ) -> Result<Option<Coming>, OutOfMemory>
         requires follows { IsFollowing (outlook_in lent.now) self.now }
-        ensures fits { IfOk result (λ next. IfSome next (λ c. FitsIn self.now.routes c.routes)) }
+        ensures fits { IfOk result (λ next. IfSome next (λ c. FitsIn self.now c)) }
         ensures moves { IfOk result (λ next. (o : Outlook)
             → o ≡ record (outlook_in lent.now) { prefixes = prefixes.now }
             → MatchOption next (IsFollowing o self.now) (λ c. IsComing o self.now c)) }
@@ -234,7 +235,7 @@ impl Following {
         requires fit { AreFit view.now }
         requires levels { AreLevelsBeside nodes.now (outlook_in lent.now) (outlook_at view.now)
             self.now levels }
-        requires reached { IsReachedAfter nodes.now (outlook_at view.now) self.now reached }
+        requires reached { IsReachedAfter nodes.now (outlook_in lent.now) (outlook_at view.now) self.now reached }
         ensures { IfOk result (λ c. IsComing (outlook_at view.now) self.now c) }
     {
         self.still_law(lent, view, nodes, &levels);
@@ -316,14 +317,13 @@ impl Following {
 }
 
 /// What comes by these parts.
-fn coming_of(levels: LevelsAfter, reached: ReachedAfter, routes: RoutesAfter) -> Coming
+fn coming_of(levels: LevelsAfter, reached: ReachedAfter, routes: Patches) -> Coming
     ensures { (o : Outlook) (f : FollowingOf) → AreLevels o f levels
         → AreReachedAfter o f reached → AreRoutesAfter o f.routes routes → IsComing o f result }
 {
     let LevelsAfter { one, two } = levels;
     let ReachedAfter {
         told,
-        defaults,
         attached,
         prefixes: _,
     } = reached;
@@ -333,7 +333,6 @@ fn coming_of(levels: LevelsAfter, reached: ReachedAfter, routes: RoutesAfter) ->
         routes,
         attached,
         told,
-        defaults,
     }
 }
 

@@ -75,14 +75,13 @@ impl Lent<'_> {
 
     /// The routes of what is reached, without their next hops.
     fn unrouted(&self, alloc: Global, reached: &Reached) -> Result<Routes, OutOfMemory>
-        requires { AreReached (outlook_in self.now) reached.now.told.items reached.now.defaults.items reached.now.attached }
+        requires { AreReached (outlook_in self.now) reached.now.told.items reached.now.attached }
         ensures { IfOk result (λ routes. (level : Level) → leaked_by level routes ≡ leaks_of (outlook_in self.now) level) }
     {
         let candidates = all_candidates(
             alloc,
             &as_lent(self),
             reached.told.as_slice(),
-            reached.defaults.as_slice(),
             reached.attached,
         )?;
         let hops = hops_from(

@@ -1,100 +1,101 @@
 //! What prefixes may be reached by (RFC 5302 3.2).
-ghost use Rattle.std.specs.Prelude.{[], ◌≡◌, ◌≤◌, ◌++◌, ◌&&◌, true, not, map, filter, IfOk, OnOk};
-ghost use Rattle.std.specs.List.{flat_map, list_any};
+ghost use Rattle.std.specs.Prelude.{[], ◌≡◌, ◌≤◌, ◌++◌, ◌&&◌, not, map, filter, IfOk, OnOk};
+ghost use Rattle.std.specs.List.{flat_map};
 ghost use Rattle.std.specs.List.Sorted.{IsStrictlyIncreasing};
 ghost use Rattle.model_router.specs.Both.{runs_of};
 ghost use Rattle.lsp_view.specs.Views.{own_node};
-ghost use Rattle.route_table.specs.Patches.{is_moved};
 ghost use Rattle.router_routes.specs.Moved.{IsFit, AreFit, told_of, outlook_at};
-ghost use Rattle.router_routes.specs.Buckets.{all_in, with_buckets};
-ghost use Rattle.router_routes.specs.Candidates.{LeaveRoom, reached_in, rank_in, told_candidate, system_candidates, own_candidate, defaults, default_of, is_for_all, candidates_of};
-ghost use Rattle.router_routes.specs.Kept.{AreReached, AreSame, told_candidates};
-ghost use Rattle.router_routes.specs.Touched.{is_for};
+ghost use Rattle.router_routes.specs.Candidates.{LeaveRoom, attached_of, default_of, is_default, is_weighed, own_candidate, rank_in, reached_in, system_ways, told_candidate, ways_of, weighed_of};
+ghost use Rattle.router_routes.specs.Kept.{AreReached, AreSame};
+ghost use Rattle.router_routes.specs.Ways.{AreWays, is_for, put_all, weighed_at};
 
-use crate::bucketed::Bucketed;
-use crate::buckets_after::{BucketAfter, part_after};
 use crate::numbers::is_one_of;
 use crate::view::{LevelView, View, lsps_of};
+use crate::ways::{RowsAfter, Ways, ways_then};
 use isis_base::{Level, LevelSet, NodeId, OutOfMemory, Prefix, SystemId};
 use isis_tlv::PrefixItem;
 use model_router::has_level;
 use route_table::{Candidate, Rank};
 use std::alloc::Global;
 
-/// All candidates of a router: its own prefixes, what both levels tell, and the ways by default where they count.
+/// All candidates of a router: its own prefixes, and what levels tell, with ways by default where they may count.
 pub(crate) fn all_candidates(
     alloc: Global,
     view: &View<'_>,
     told: &[Candidate],
-    ways: &[Candidate],
     attached: bool,
 ) -> Result<Vec<Candidate>, OutOfMemory>
-    requires { AreReached (outlook_at view.now) told.now ways.now attached }
-    ensures { IfOk result (λ list. AreSame list.items (candidates_of (outlook_at view.now))) }
-{
-    let mut list = firm_candidates(alloc, view, told)?;
-    if has_defaults(view.levels, attached, list.as_slice()) {
-        add_all(&mut list, ways)?;
-    }
-    Ok(list)
-}
-
-/// All but those by default.
-fn firm_candidates(
-    alloc: Global,
-    view: &View<'_>,
-    told: &[Candidate],
-) -> Result<Vec<Candidate>, OutOfMemory>
-    ensures { IfOk result (λ list. list.items
-        ≡ map (own_candidate (outlook_at view.now).root) (outlook_at view.now).prefixes ++ told.now) }
+    requires { AreReached (outlook_at view.now) told.now attached }
+    ensures { IfOk result (λ list. AreSame list.items (weighed_of (outlook_at view.now))) }
 {
     let mut list = with_room(alloc, told.len())?;
     add_own(&mut list, own_node(view.system), view.prefixes)?;
-    add_all(&mut list, told)?;
+    add_weighed(&mut list, told, may_default(view.levels, attached))?;
     Ok(list)
 }
 
-/// Those of a router's candidates that are for prefixes of these numbers, of which one is that of
-/// 0.0.0.0/0.
+/// Those of a router's candidates that are for prefixes of these numbers, once these rows are put in.
 pub(crate) fn candidates_for(
     alloc: Global,
     view: &View<'_>,
-    told: &Bucketed,
-    after: &[BucketAfter],
-    ways: &[Candidate],
+    table: &Ways,
+    after: &RowsAfter,
     attached: bool,
     numbers: &[u64],
 ) -> Result<Vec<Candidate>, OutOfMemory>
-    requires reached { AreReached (outlook_at view.now)
-        (with_buckets after.now (all_in told.now)) ways.now attached }
+    requires told { AreWays (put_all table.now.rows after.now.rows) (ways_of (outlook_at view.now)) }
+    requires attached { attached ≡ attached_of (outlook_at view.now) }
     requires rising { IsStrictlyIncreasing numbers.now }
-    requires all { is_moved numbers.now 0 ≡ true }
     ensures { IfOk result (λ list. AreSame list.items
-        (filter (is_for numbers.now) (candidates_of (outlook_at view.now)))) }
+        (filter (is_for numbers.now) (weighed_of (outlook_at view.now)))) }
 {
-    let mut list = firm_for(alloc, view, told, after, numbers)?;
-    if has_defaults(view.levels, attached, list.as_slice()) {
-        add_all(&mut list, ways)?;
-    }
+    let mut list = with_room(alloc, numbers.len())?;
+    add_own_for(&mut list, own_node(view.system), view.prefixes, numbers)?;
+    let may = may_default(view.levels, attached);
+    add_rows(&mut list, table, after, may, numbers)?;
     Ok(list)
 }
 
-/// Those of all but the ways by default.
-fn firm_for(
-    alloc: Global,
-    view: &View<'_>,
-    told: &Bucketed,
-    after: &[BucketAfter],
+/// Adds the candidates of some rows, as they will be, ways by default where these may count.
+fn add_rows(
+    list: &mut Vec<Candidate>,
+    table: &Ways,
+    after: &RowsAfter,
+    may: bool,
     numbers: &[u64],
-) -> Result<Vec<Candidate>, OutOfMemory>
-    requires { IsStrictlyIncreasing numbers.now }
-    ensures { IfOk result (λ list. AreSame list.items
-        (filter (is_for numbers.now) (map (own_candidate (outlook_at view.now).root)
-        (outlook_at view.now).prefixes ++ with_buckets after.now (all_in told.now)))) }
+) -> Result<(), OutOfMemory>
+    ensures { OnOk result (list.new.items ≡ list.old.items
+        ++ flat_map (weighed_at may (put_all table.now.rows after.now.rows)) numbers.now) }
 {
-    let mut list = part_after(alloc, told, after, numbers)?;
-    add_own_for(&mut list, own_node(view.system), view.prefixes, numbers)?;
-    Ok(list)
+    for number in numbers {
+        match add_weighed(list, ways_then(table, after, *number), may) {
+            Ok(()) => {}
+            Err(error) => return Err(error),
+        }
+    }
+    Ok(())
+}
+
+/// Adds candidates, ways by default where these may count.
+fn add_weighed(list: &mut Vec<Candidate>, ways: &[Candidate], may: bool) -> Result<(), OutOfMemory>
+    ensures { OnOk result (list.new.items ≡ list.old.items ++ filter (is_weighed may) ways.now) }
+{
+    for way in ways {
+        if may || !is_default(way.rank) {
+            match list.push(*way) {
+                Ok(()) => {}
+                Err(_) => return Err(OutOfMemory),
+            }
+        }
+    }
+    Ok(())
+}
+
+/// Whether a rank is that of ways by default.
+fn is_default(rank: Rank) -> bool
+    ensures { result ≡ is_default rank }
+{
+    matches!(rank, Rank::Default)
 }
 
 /// Adds those of one's own prefixes that are of these numbers.
@@ -119,30 +120,7 @@ fn add_own_for(
     Ok(())
 }
 
-/// Adds those of some candidates that are for prefixes of these numbers.
-pub(crate) fn add_for(
-    list: &mut Vec<Candidate>,
-    candidates: &[Candidate],
-    numbers: &[u64],
-) -> Result<(), OutOfMemory>
-    requires { IsStrictlyIncreasing numbers.now }
-    ensures { OnOk result (list.new.items ≡ list.old.items
-        ++ filter (is_for numbers.now) candidates.now) }
-{
-    let mut left = candidates;
-    while let [first, more @ ..] = left {
-        if is_one_of(numbers, first.prefix.to_number()) {
-            match list.push(*first) {
-                Ok(()) => {}
-                Err(_) => return Err(OutOfMemory),
-            }
-        }
-        left = more;
-    }
-    Ok(())
-}
-
-/// What the levels tell, where these are the systems that they reach.
+/// What levels tell, where these are the systems that they reach.
 pub(crate) fn told_by(
     alloc: Global,
     view: &View<'_>,
@@ -156,7 +134,7 @@ pub(crate) fn told_by(
         (reached_in (outlook_at view.now).told.two (outlook_at view.now).root) }
     requires room_one { LeaveRoom ones.now }
     requires room_two { LeaveRoom twos.now }
-    ensures { IfOk result (λ list. AreSame list.items (told_candidates (outlook_at view.now))) }
+    ensures { IfOk result (λ list. AreSame list.items (ways_of (outlook_at view.now))) }
 {
     let mut list = with_room(alloc, ones.len())?;
     add_told(alloc, &mut list, Level::One, &view.one, ones)?;
@@ -164,49 +142,21 @@ pub(crate) fn told_by(
     Ok(list)
 }
 
-/// The ways by default, where these are the systems that level 1 reaches.
-pub(crate) fn defaults_by(
-    alloc: Global,
-    view: &View<'_>,
-    ones: &[(SystemId, u64)],
-) -> Result<Vec<Candidate>, OutOfMemory>
-    requires fit { AreFit view.now }
-    requires ones { AreSame ones.now
-        (reached_in (outlook_at view.now).told.one (outlook_at view.now).root) }
-    ensures { IfOk result (λ list. AreSame list.items
-        (defaults (outlook_at view.now).told.one (outlook_at view.now).root)) }
-{
-    let mut list = Vec::new(alloc);
-    add_defaults(&mut list, &view.one, ones)?;
-    Ok(list)
-}
-
-/// Adds candidates.
-pub(crate) fn add_all(list: &mut Vec<Candidate>, more: &[Candidate]) -> Result<(), OutOfMemory>
-    ensures { OnOk result (list.new.items ≡ list.old.items ++ more.now) }
-{
-    match list.extend_from_slice(more) {
-        Ok(()) => Ok(()),
-        Err(_) => Err(OutOfMemory),
-    }
-}
-
-/// The empty list, with room for so many candidates, one for each system.
-fn with_room(alloc: Global, systems: usize) -> Result<Vec<Candidate>, OutOfMemory>
+/// The empty list, with room for so many candidates.
+fn with_room(alloc: Global, many: usize) -> Result<Vec<Candidate>, OutOfMemory>
     ensures { IfOk result (λ list. list.items ≡ []) }
 {
-    match Vec::with_capacity(alloc, systems) {
+    match Vec::with_capacity(alloc, many) {
         Ok(list) => Ok(list),
         Err(_) => Err(OutOfMemory),
     }
 }
 
-/// Whether the way by default counts.
-fn has_defaults(levels: LevelSet, attached: bool, firm: &[Candidate]) -> bool
-    ensures { result ≡ (((runs_of levels).one && not attached)
-        && not (list_any is_for_all firm.now)) }
+/// Whether ways by default may count: where level 1 is run, and the router isn't attached itself.
+fn may_default(levels: LevelSet, attached: bool) -> bool
+    ensures { result ≡ ((runs_of levels).one && not attached) }
 {
-    has_level(levels, Level::One) && !attached && !has_for_all(firm)
+    has_level(levels, Level::One) && !attached
 }
 
 /// The node that a system is.
@@ -260,7 +210,7 @@ pub(crate) fn add_told(
     requires fit { IsFit told.now }
     requires room { LeaveRoom systems.now }
     ensures { OnOk result (list.new.items ≡ list.old.items
-        ++ flat_map (system_candidates level (told_of told.now)) systems.now) }
+        ++ flat_map (system_ways level (told_of told.now)) systems.now) }
 {
     let (mut items, mut listed) = (Vec::new(alloc), Vec::new(alloc));
     for reached in systems {
@@ -284,13 +234,17 @@ fn add_system(
     requires fit { IsFit told.now }
     requires room { reached.1 ≤ 18446744065119617025 }
     ensures { OnOk result (list.new.items ≡ list.old.items
-        ++ system_candidates level (told_of told.now) reached) }
+        ++ system_ways level (told_of told.now) reached) }
 {
     let (system, cost) = reached;
     let lsps = lsps_of(told, system);
     lsps.kept();
     lsps.reach_into(items, listed, system)?;
-    add_items(list, level, system, cost, items.as_slice())
+    add_items(list, level, system, cost, items.as_slice())?;
+    match level {
+        Level::One => add_default(list, told, system, cost),
+        Level::Two => Ok(()),
+    }
 }
 
 /// Adds prefixes that a system tells.
@@ -335,37 +289,6 @@ fn rank_in(level: Level, down: bool) -> Rank
         Level::One => { if down { Rank::OneDown } else { Rank::One } }
         Level::Two => Rank::Two,
     }
-}
-
-/// Whether some candidate is for 0.0.0.0/0.
-fn has_for_all(list: &[Candidate]) -> bool
-    ensures { result ≡ list_any is_for_all list.now }
-{
-    for candidate in list {
-        if candidate.prefix.address() == 0 && candidate.prefix.length() == 0 {
-            return true;
-        }
-    }
-    false
-}
-
-/// Adds the way by default to each of these systems that is attached.
-pub(crate) fn add_defaults(
-    list: &mut Vec<Candidate>,
-    told: &LevelView<'_>,
-    systems: &[(SystemId, u64)],
-) -> Result<(), OutOfMemory>
-    requires { IsFit told.now }
-    ensures { OnOk result (list.new.items ≡ list.old.items
-        ++ flat_map (default_of (told_of told.now)) systems.now) }
-{
-    for reached in systems {
-        match add_default(list, told, reached.0, reached.1) {
-            Ok(()) => {}
-            Err(error) => return Err(error),
-        }
-    }
-    Ok(())
 }
 
 /// Adds the way by default to a system, where it is attached.

@@ -1,34 +1,28 @@
 //! What will follow a router, and that put in the place of what does (own).
-ghost use Rattle.std.specs.Prelude.{◌≡◌, ℕ, true, List, None, IfOk};
-ghost use Rattle.route_table.specs.declared.candidate.Candidate as declared;
+ghost use Rattle.std.specs.Prelude.{[], ◌≡◌, ℕ, true, List, IfOk};
 ghost use Rattle.spf_repair.specs.Changes.{RepairedOf};
 ghost use Rattle.router_routes.specs.Following.{AreHopsOf};
-ghost use Rattle.router_routes.specs.Buckets.{all_in, made_or};
-ghost use Rattle.router_routes.specs.Kept.{AreSame};
 ghost use Rattle.router_routes.specs.Moved.{AreRowsMoved, or_old};
-ghost use Rattle.router_routes.specs.Coming.{AreOfOneRoot, ArePut, FitsIn, IsLevelAfter, IsPut, costs_after, hops_after, list_after, told_then};
+ghost use Rattle.router_routes.specs.Coming.{AreOfOneRoot, FitsIn, IsLevelAfter, IsPut, costs_after, hops_after};
 
-use crate::bucketed::{Bucketed, put_all};
-use crate::buckets_after::BucketAfter;
 use crate::following::Following;
 use crate::hops_moved::{HopsMoved, hops_moved};
+use crate::ways::RowsAfter;
 use isis_base::{OutOfMemory, Prefix};
-use route_table::{Candidate, Patches, Routes};
+use route_table::Patches;
 use spf_repair::Repaired;
 use spf_tree::{HopTable, all_next_hops};
 use std::alloc::Global;
 
-/// What of a router's graphs and routes will be others: each level's costs and next hops, where they don't stay; the routes;
-/// whether it is attached; what its levels tell of prefixes, and the ways by default, each where it doesn't stay. `Following::put`
-/// puts it in.
+/// What of a router's graphs and routes will be others: each level's costs and next hops, where they don't stay; what some prefixes'
+/// routes and candidates become; whether it is attached. `Following::put` puts it in.
 #[derive(Drop)]
 pub struct Coming {
     pub(crate) one: Option<LevelAfter>,
     pub(crate) two: Option<LevelAfter>,
-    pub(crate) routes: RoutesAfter,
+    pub(crate) routes: Patches,
     pub(crate) attached: bool,
-    pub(crate) told: ToldAfter,
-    pub(crate) defaults: Option<Vec<Candidate>>,
+    pub(crate) told: RowsAfter,
 }
 
 /// A level's costs, and its nodes beside their next hops, as they will be; the nodes whose next hops may be others then, and those
@@ -48,34 +42,19 @@ pub(crate) struct LevelsAfter {
     pub two: Option<LevelAfter>,
 }
 
-/// What levels tell of prefixes as it will be: all of it made anew or as it was, but for the buckets that are others.
-#[derive(Drop)]
-pub(crate) struct ToldAfter {
-    pub made: Option<Bucketed>,
-    pub buckets: Vec<BucketAfter>,
-}
-
-/// What is reached once some nodes moved: what levels tell of prefixes, and the ways by default, `None` where they stay; whether
-/// the router is attached; and the prefixes that these nodes told and tell, in any order, of which some may be there twice.
+/// What is reached once some nodes moved: the candidates of some prefixes; whether the router is attached; and the prefixes that these
+/// nodes told and tell, in any order, of which some may be there twice.
 #[derive(Drop)]
 pub(crate) struct ReachedAfter {
-    pub told: ToldAfter,
-    pub defaults: Option<Vec<Candidate>>,
+    pub told: RowsAfter,
     pub attached: bool,
     pub prefixes: Vec<Prefix>,
-}
-
-/// The routes as they will be: made anew, or what some prefixes' routes become.
-#[derive(Drop)]
-pub(crate) enum RoutesAfter {
-    Made(Routes),
-    Patched(Patches),
 }
 
 impl Following {
     /// Puts in what comes. It takes no memory, and can't fail.
     pub fn put(&mut self, coming: Coming)
-        requires { FitsIn self.old.routes coming.routes }
+        requires { FitsIn self.old coming }
         ensures { IsPut self.old coming self.new }
     {
         let Coming {
@@ -84,14 +63,12 @@ impl Following {
             routes,
             attached,
             told,
-            defaults,
         } = coming;
         put_level(&mut self.one, &mut self.hops_one, one);
         put_level(&mut self.two, &mut self.hops_two, two);
-        put_routes(&mut self.routes, routes);
+        self.routes.put(routes);
         self.attached = attached;
-        put_told(&mut self.told, told);
-        put_list(&mut self.defaults, defaults);
+        self.told.put(told);
     }
 }
 
@@ -112,46 +89,6 @@ fn put_level(costs: &mut Repaired, hops: &mut HopTable, new: Option<LevelAfter>)
             *hops = table;
         }
         None => {}
-    }
-}
-
-/// Puts in what levels tell.
-fn put_told(table: &mut Bucketed, told: ToldAfter)
-    ensures { AreSame (all_in table.new) (told_then told (all_in table.old)) }
-{
-    let ToldAfter { made, buckets } = told;
-    put_made(table, made);
-    put_all(table, buckets);
-}
-
-/// Puts in a table made anew, where it comes.
-fn put_made(table: &mut Bucketed, made: Option<Bucketed>)
-    ensures { all_in table.new ≡ made_or made (all_in table.old) }
-{
-    match made {
-        Some(made) => *table = made,
-        None => {}
-    }
-}
-
-/// Puts in candidates, where they come.
-fn put_list(list: &mut Vec<Candidate>, new: Option<Vec<Candidate>>)
-    ensures { list.new.items ≡ list_after new list.old.items }
-{
-    match new {
-        Some(new) => *list = new,
-        None => {}
-    }
-}
-
-/// Puts in the routes.
-fn put_routes(routes: &mut Routes, new: RoutesAfter)
-    requires { FitsIn routes.old new }
-    ensures { ArePut routes.old new routes.new }
-{
-    match new {
-        RoutesAfter::Made(made) => *routes = made,
-        RoutesAfter::Patched(patches) => routes.put(patches),
     }
 }
 
@@ -231,61 +168,10 @@ pub(crate) fn newest_hops<'a>(new: &'a Option<LevelAfter>, old: &'a HopTable) ->
     }
 }
 
-/// The new candidates, or else the old ones.
-pub(crate) fn newest_list<'a>(
-    new: &'a Option<Vec<Candidate>>,
-    old: &'a [Candidate],
-) -> &'a [Candidate]
-    ensures { result.now ≡ list_after new.now old.now }
-{
-    match new {
-        Some(new) => new.as_slice(),
-        None => old,
-    }
-}
-
-/// The table made anew, or else the old one.
-pub(crate) fn newest_table<'a>(made: &'a Option<Bucketed>, old: &'a Bucketed) -> &'a Bucketed
-    ensures { all_in result.now ≡ made_or made.now (all_in old.now) }
-{
-    match made {
-        Some(made) => made,
-        None => old,
-    }
-}
-
-/// What levels tell where this is the whole table.
-pub(crate) fn told_anew(alloc: Global, table: Bucketed) -> ToldAfter
-    ensures { (old : List declared.Candidate) → told_then result old ≡ all_in table }
-{
-    ToldAfter {
-        made: Some(table),
-        buckets: Vec::new(alloc),
-    }
-}
-
 /// Whether all that is reached stays, where a router was attached or not before.
 pub(crate) fn all_stays(reached: &ReachedAfter, attached: bool) -> bool
-    ensures told { result ≡ true → (old : List declared.Candidate)
-        → told_then reached.now.told old ≡ old }
-    ensures ways { result ≡ true → reached.now.defaults ≡ None }
+    ensures told { result ≡ true → reached.now.told.rows ≡ [] }
     ensures attached { result ≡ true → reached.now.attached ≡ attached }
 {
-    if !told_stays(&reached.told) {
-        return false;
-    }
-    match &reached.defaults {
-        Some(_) => false,
-        None => reached.attached == attached,
-    }
-}
-
-/// Whether what levels tell stays.
-fn told_stays(told: &ToldAfter) -> bool
-    ensures { result ≡ true → (old : List declared.Candidate) → told_then told.now old ≡ old }
-{
-    match &told.made {
-        Some(_) => false,
-        None => told.buckets.is_empty(),
-    }
+    reached.told.is_empty() && reached.attached == attached
 }

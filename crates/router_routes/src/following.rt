@@ -7,20 +7,19 @@ ghost use Rattle.spf_tree.specs.declared.row.Row as row;
 ghost use Rattle.spf_tree.specs.Graphs.{AreUsable, times};
 ghost use Rattle.router_routes.specs.Told.{told_in};
 ghost use Rattle.router_routes.specs.Outlooks.{outlook_in, where_run};
-ghost use Rattle.router_routes.specs.Buckets.{all_in};
 ghost use Rattle.router_routes.specs.Candidates.{AreRoutesOf, attached_of, reached_in};
 ghost use Rattle.router_routes.specs.Following.{AreHopsOf, IsFollowing, IsLevel};
 ghost use Rattle.router_routes.specs.Moved.{AreFit, IsFit, IsOneChange, outlook_at, told_of};
 ghost use Rattle.router_routes.specs.Kept.{AreReached, AreSame};
 
-use crate::bucketed::Bucketed;
-use crate::candidates::{all_candidates, defaults_by, own_node, told_by};
+use crate::candidates::{all_candidates, own_node, told_by};
 use crate::coming::hops_from;
 use crate::lent::Lent;
 use crate::level_graph::graph_of;
 use crate::moving::changed_to;
 use crate::systems::{is_attached, level_systems};
 use crate::view::{LevelView, View, as_lent};
+use crate::ways::Ways;
 use isis_base::{Level, LevelSet, NodeId, OutOfMemory, SystemId};
 use lsp_store::Store;
 use model_router::has_level;
@@ -31,8 +30,7 @@ use std::alloc::Global;
 use std::marker::Model;
 
 /// What a router keeps of its graphs and routes: for each level the least costs from its own node, repaired when rows change, and
-/// its nodes beside their next hops; the routes; whether it is attached; and, in no order, what its levels tell of prefixes, in
-/// buckets by these, and the ways by default.
+/// its nodes beside their next hops; the routes; whether it is attached; and, by prefix, the candidates that its levels tell.
 #[derive(Drop)]
 pub struct Following {
     pub(crate) alloc: Global,
@@ -42,12 +40,10 @@ pub struct Following {
     pub(crate) hops_two: HopTable,
     pub(crate) routes: Routes,
     pub(crate) attached: bool,
-    pub(crate) told: Bucketed,
-    pub(crate) defaults: Vec<Candidate>,
+    pub(crate) told: Ways,
 }
 
 impl Model for Following {
-    ghost use Rattle.router_routes.specs.Buckets.{all_in};
     ghost use Rattle.router_routes.specs.Following.{FollowingOf};
 
     ghost Value = { FollowingOf };
@@ -57,8 +53,7 @@ impl Model for Following {
       hops = record { one = f.hops_one; two = f.hops_two };
       routes = f.routes;
       attached = f.attached;
-      told = all_in f.told;
-      defaults = f.defaults.items;
+      told = f.told;
     } };
 }
 
@@ -168,14 +163,13 @@ fn made(
 ) -> Result<Following, OutOfMemory>
     requires one { IsLevel (outlook_at view.now) level.One one }
     requires two { IsLevel (outlook_at view.now) level.Two two }
-    requires reached { AreReached (outlook_at view.now) reached.told.items reached.defaults.items
-        reached.attached }
+    requires reached { AreReached (outlook_at view.now) reached.told.items reached.attached }
     ensures follows { IfOk result (λ f. IsFollowing (outlook_at view.now) f) }
     ensures one { IfOk result (λ f. f.levels.one ≡ one) }
     ensures two { IfOk result (λ f. f.levels.two ≡ two) }
 {
     let tables = tables_of(alloc, view, &reached, &one, &two)?;
-    let told = Bucketed::new(alloc, reached.told.as_slice())?;
+    let told = Ways::new(alloc, reached.told.as_slice())?;
     Ok(Following {
         alloc,
         one,
@@ -185,15 +179,13 @@ fn made(
         routes: tables.routes,
         attached: reached.attached,
         told,
-        defaults: reached.defaults,
     })
 }
 
-/// What both levels tell of prefixes, the ways by default, and whether the router is attached.
+/// What both levels tell, and whether the router is attached.
 #[derive(Drop)]
 pub(crate) struct Reached {
     pub told: Vec<Candidate>,
-    pub defaults: Vec<Candidate>,
     pub attached: bool,
 }
 
@@ -207,19 +199,14 @@ pub(crate) fn all_reached(
     requires fit { AreFit view.now }
     requires one { IsLevel (outlook_at view.now) level.One one.now }
     requires two { IsLevel (outlook_at view.now) level.Two two.now }
-    ensures { IfOk result (λ reached. AreReached (outlook_at view.now) reached.told.items
-        reached.defaults.items reached.attached) }
+    ensures { IfOk result
+        (λ reached. AreReached (outlook_at view.now) reached.told.items reached.attached) }
 {
     let ones = level_systems(alloc, has_level(view.levels, Level::One), &view.one, one)?;
     let twos = level_systems(alloc, has_level(view.levels, Level::Two), &view.two, two)?;
     let attached = attached(alloc, view, &twos)?;
     let told = told_by(alloc, view, &ones, &twos)?;
-    let defaults = defaults_by(alloc, view, &ones)?;
-    Ok(Reached {
-        told,
-        defaults,
-        attached,
-    })
+    Ok(Reached { told, attached })
 }
 
 /// Whether the router is attached, where these are the systems that level 2 reaches.
@@ -257,19 +244,12 @@ pub(crate) fn tables_of(
 ) -> Result<Tables, OutOfMemory>
     requires one { IsLevel (outlook_at view.now) level.One one.now }
     requires two { IsLevel (outlook_at view.now) level.Two two.now }
-    requires reached { AreReached (outlook_at view.now) reached.now.told.items
-        reached.now.defaults.items reached.now.attached }
+    requires reached { AreReached (outlook_at view.now) reached.now.told.items reached.now.attached }
     ensures one { IfOk result (λ t. AreHopsOf one.now t.hops_one) }
     ensures two { IfOk result (λ t. AreHopsOf two.now t.hops_two) }
     ensures routes { IfOk result (λ t. AreRoutesOf (outlook_at view.now) t.routes) }
 {
-    let candidates = all_candidates(
-        alloc,
-        view,
-        reached.told.as_slice(),
-        reached.defaults.as_slice(),
-        reached.attached,
-    )?;
+    let candidates = all_candidates(alloc, view, reached.told.as_slice(), reached.attached)?;
     let hops_one = hops_from(alloc, one)?;
     let hops_two = hops_from(alloc, two)?;
     let routes = routes_by(alloc, candidates.as_slice(), &hops_one, &hops_two)?;

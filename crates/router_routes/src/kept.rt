@@ -1,35 +1,31 @@
 //! What a router keeps where some nodes moved: candidates by way of others stay (own).
-ghost use Rattle.std.specs.Prelude.{◌≡◌, ◌++◌, ℕ, true, not, filter, IfOk, OnOk};
+ghost use Rattle.std.specs.Prelude.{◌≡◌, ◌++◌, ℕ, true, map, IfOk, OnOk};
 ghost use Rattle.std.specs.List.{flat_map};
-ghost use Rattle.std.specs.List.Sorted.{IsStrictlyIncreasing};
 ghost use Rattle.isis_base.specs.declared.identifiers.NodeId.{NodeId};
 ghost use Rattle.isis_base.specs.declared.level.Level.TheVariants as level;
 ghost use Rattle.isis_base.specs.Identifiers.{IsId};
-ghost use Rattle.route_table.specs.declared.candidate.Candidate.{Candidate};
-ghost use Rattle.route_table.specs.Patches.{is_moved};
 ghost use Rattle.spf_tree.specs.Nodes.{node_number};
 ghost use Rattle.spf_tree.specs.Distances.{cost_at};
-ghost use Rattle.router_routes.specs.Buckets.{with_buckets};
-ghost use Rattle.router_routes.specs.Candidates.{attached_of, default_of, system_candidates};
+ghost use Rattle.router_routes.specs.Candidates.{attached_of, system_ways};
 ghost use Rattle.router_routes.specs.Following.{IsFollowing, IsLevel};
-ghost use Rattle.router_routes.specs.Kept.{AreAmong, AreBeside, AreSame, CostBeside, HaveToldIds, stays, systems_among};
+ghost use Rattle.router_routes.specs.Kept.{AreAmong, AreBeside, CostBeside, HaveToldIds, systems_among, ways_by};
 ghost use Rattle.router_routes.specs.Moved.{AreFit, AreNodes, IsFit, is_among, nodes_in, nodes_of, outlook_at, told_of};
-ghost use Rattle.router_routes.specs.Outlooks.{outlook_in, where_run};
-ghost use Rattle.router_routes.specs.Coming.{AreLevelsBeside, HaveNumbers, moved_in, told_then};
-ghost use Rattle.router_routes.specs.Touched.{AreKeptWith, AreStill, HaveVia, IsReachedAfter, is_by, prefixes_via};
+ghost use Rattle.router_routes.specs.Outlooks.{Outlook, outlook_in, where_run};
+ghost use Rattle.router_routes.specs.Coming.{AreLevelsBeside, HaveNumbers, moved_in};
+ghost use Rattle.router_routes.specs.Touched.{AreExchanged, AreStill, IsReachedAfter};
+ghost use Rattle.router_routes.specs.Ways.{prefix_of};
 
-use crate::buckets_after::BucketAfter;
-use crate::candidates::{add_all, add_defaults, add_told};
-use crate::coming::{LevelAfter, LevelsAfter, ReachedAfter, ToldAfter, newest_costs, told_anew};
+use crate::apart::apart;
+use crate::candidates::add_told;
+use crate::coming::{LevelAfter, LevelsAfter, ReachedAfter, newest_costs};
 use crate::following::{Following, attached};
 use crate::lent::Lent;
-use crate::numbers::{in_order, is_by};
-use crate::replaced::{add_prefixes, all_with, told_with};
-use crate::same::same_candidate;
+use crate::numbers::in_order;
 use crate::systems::{level_systems, systems_among};
 use crate::told::{Moved, Told};
 use crate::touched::node_numbers;
 use crate::view::{LevelView, View, as_lent, nodes_law};
+use crate::ways::prefix_numbers;
 use isis_base::laws::lsp_id_law;
 use isis_base::{Level, LevelSet, LspId, NodeId, OutOfMemory, Prefix};
 use model_router::has_level;
@@ -58,7 +54,7 @@ impl Following {
         requires one { IsLevel (outlook_at view.now) level.One one.now }
         requires two { IsLevel (outlook_at view.now) level.Two two.now }
         ensures { IfOk result (λ reached.
-            IsReachedAfter nodes.now (outlook_at view.now) self.now reached) }
+            IsReachedAfter nodes.now (outlook_in lent.now) (outlook_at view.now) self.now reached) }
     {
         lent_ids(lent);
         view_ids(view);
@@ -68,101 +64,35 @@ impl Following {
         let _new_two = two.distances();
         let attached = self.attached_after(lent, view, nodes, two)?;
         let come = told_of_nodes(self.alloc, view, nodes, one, two)?;
-        let ways = ways_of_nodes(self.alloc, view, nodes, one)?;
+        let went = told_of_nodes(self.alloc, &as_lent(lent), nodes, &self.one, &self.two)?;
+        self.reached_of(nodes, went.as_slice(), come.as_slice(), attached)
+    }
+
+    /// What is reached where these candidates come in the place of those that these nodes told.
+    fn reached_of(
+        &self,
+        nodes: &[NodeId],
+        went: &[Candidate],
+        come: &[Candidate],
+        attached: bool,
+    ) -> Result<ReachedAfter, OutOfMemory>
+        ensures { IfOk result (λ reached. (o p : Outlook) → IsFollowing o self.now
+            → AreExchanged nodes.now o p went.now come.now → attached ≡ attached_of p
+            → IsReachedAfter nodes.now o p self.now reached) }
+    {
         let unsorted = node_numbers(self.alloc, nodes)?;
-        let numbers = in_order(unsorted);
-        let moved = numbers.as_slice();
-        let mut apart = Vec::new(self.alloc);
-        let defaults = kept_with(
-            self.alloc,
-            &mut apart,
-            self.defaults.as_slice(),
-            moved,
-            ways.as_slice(),
-        )?;
-        let told = self.told_with(&mut apart, lent, nodes, moved, come.as_slice())?;
+        let moved = in_order(unsorted);
+        let (left, right) = apart(went, come);
+        let numbers = prefix_numbers(self.alloc, left, right)?;
+        let told = self
+            .told
+            .after(self.alloc, numbers.as_slice(), moved.as_slice(), come)?;
+        let prefixes = prefixes_of(self.alloc, left, come)?;
         Ok(ReachedAfter {
             told,
-            defaults,
             attached,
-            prefixes: apart,
-        })
-    }
-
-    /// What levels tell where these candidates come in the place of those by way of these nodes. Adds the prefixes of those that go
-    /// and of those that come.
-    fn told_with(
-        &self,
-        prefixes: &mut Vec<Prefix>,
-        lent: &Lent<'_>,
-        nodes: &[NodeId],
-        moved: &[u64],
-        come: &[Candidate],
-    ) -> Result<ToldAfter, OutOfMemory>
-        requires follows { IsFollowing (outlook_in lent.now) self.now }
-        requires nodes { AreNodes nodes.now }
-        requires rising { IsStrictlyIncreasing moved.now }
-        requires numbers { (n : ℕ) → is_moved moved.now n ≡ is_among nodes.now n }
-        ensures told { IfOk result (λ told. AreSame (told_then told self.now.told)
-            (filter (stays nodes.now) self.now.told ++ come.now)) }
-        ensures prefixes { OnOk result (HaveVia moved.now self.now.told come.now
-            prefixes.old.items prefixes.new.items) }
-    {
-        if self.are_many(come) {
-            return match all_with(self.alloc, prefixes, &self.told, moved, come) {
-                Ok(table) => Ok(told_anew(self.alloc, table)),
-                Err(error) => Err(error),
-            };
-        }
-        match self.buckets_with(prefixes, lent, nodes, moved, come) {
-            Ok(buckets) => Ok(ToldAfter {
-                made: None,
-                buckets,
-            }),
-            Err(error) => Err(error),
-        }
-    }
-
-    /// Whether so many candidates come that all buckets are made anew.
-    fn are_many(&self, come: &[Candidate]) -> bool {
-        come.len() > FEW && come.len() > self.routes.list().len() / PART
-    }
-
-    /// The buckets that will be others where these candidates come in the place of those by way of these nodes. Adds the prefixes
-    /// of those that go and of those that come.
-    fn buckets_with(
-        &self,
-        prefixes: &mut Vec<Prefix>,
-        lent: &Lent<'_>,
-        nodes: &[NodeId],
-        moved: &[u64],
-        come: &[Candidate],
-    ) -> Result<Vec<BucketAfter>, OutOfMemory>
-        requires follows { IsFollowing (outlook_in lent.now) self.now }
-        requires nodes { AreNodes nodes.now }
-        requires rising { IsStrictlyIncreasing moved.now }
-        requires numbers { (n : ℕ) → is_moved moved.now n ≡ is_among nodes.now n }
-        ensures told { IfOk result (λ buckets. AreSame (with_buckets buckets.items self.now.told)
-            (filter (stays nodes.now) self.now.told ++ come.now)) }
-        ensures prefixes { OnOk result (HaveVia moved.now self.now.told come.now
-            prefixes.old.items prefixes.new.items) }
-    {
-        lent_ids(lent);
-        let _one = self.one.distances();
-        let _two = self.two.distances();
-        let before = as_lent(lent);
-        let went = match told_of_nodes(self.alloc, &before, nodes, &self.one, &self.two) {
-            Ok(went) => went,
-            Err(error) => return Err(error),
-        };
-        told_with(
-            self.alloc,
             prefixes,
-            &self.told,
-            moved,
-            went.as_slice(),
-            come,
-        )
+        })
     }
 
     /// Whether the router is attached, where these nodes moved and these are the costs of level 2: as
@@ -201,7 +131,7 @@ impl Following {
         requires levels { AreLevelsBeside nodes.now (outlook_in lent.now) (outlook_at view.now)
             self.now levels.now }
         ensures { IfOk result (λ reached.
-            IsReachedAfter nodes.now (outlook_at view.now) self.now reached) }
+            IsReachedAfter nodes.now (outlook_in lent.now) (outlook_at view.now) self.now reached) }
     {
         let one = newest_costs(&levels.one, &self.one);
         let two = newest_costs(&levels.two, &self.two);
@@ -232,11 +162,6 @@ impl Following {
         let _new_two = two.distances();
     }
 }
-
-/// How many candidates may come before all buckets are made anew, and which part of the routes, where that is more.
-const FEW: usize = 16;
-
-const PART: usize = 16;
 
 /// The nodes that tell other things, and those whose costs in a level may be others; some may be there twice.
 pub(crate) fn moved(
@@ -358,7 +283,7 @@ fn add_node(nodes: &mut Vec<NodeId>, number: u64) -> Result<(), OutOfMemory>
     }
 }
 
-/// What nodes tell of prefixes in both levels.
+/// What nodes tell in both levels at these costs.
 fn told_of_nodes(
     alloc: Global,
     view: &View<'_>,
@@ -368,10 +293,7 @@ fn told_of_nodes(
 ) -> Result<Vec<Candidate>, OutOfMemory>
     requires fit { AreFit view.now }
     ensures { IfOk result (λ list. list.items
-        ≡ flat_map (system_candidates level.One (outlook_at view.now).told.one)
-        (systems_among (cost_at one.now.distances) (node_number one.now.graph.root) nodes.now)
-        ++ flat_map (system_candidates level.Two (outlook_at view.now).told.two)
-        (systems_among (cost_at two.now.distances) (node_number two.now.graph.root) nodes.now)) }
+        ≡ ways_by (outlook_at view.now) one.now two.now nodes.now) }
 {
     let mut list = match Vec::with_capacity(alloc, nodes.len()) {
         Ok(list) => list,
@@ -398,7 +320,7 @@ fn told_of_nodes(
     Ok(list)
 }
 
-/// Adds what nodes tell of prefixes in a level; nothing where it isn't run.
+/// Adds what nodes tell in a level; nothing where it isn't run.
 fn add_level(
     alloc: Global,
     list: &mut Vec<Candidate>,
@@ -410,7 +332,7 @@ fn add_level(
 ) -> Result<(), OutOfMemory>
     requires { IsFit told.now }
     ensures { OnOk result (list.new.items ≡ list.old.items
-        ++ flat_map (system_candidates level (where_run runs (told_of told.now)))
+        ++ flat_map (system_ways level (where_run runs (told_of told.now)))
         (systems_among (cost_at repaired.now.distances) (node_number repaired.now.graph.root)
         nodes.now)) }
 {
@@ -425,111 +347,34 @@ fn add_level(
     add_told(alloc, list, level, told, systems.as_slice())
 }
 
-/// The ways by default to nodes.
-fn ways_of_nodes(
+/// The prefixes of candidates of two lists.
+fn prefixes_of(
     alloc: Global,
-    view: &View<'_>,
-    nodes: &[NodeId],
-    one: &Repaired,
-) -> Result<Vec<Candidate>, OutOfMemory>
-    requires fit { AreFit view.now }
-    ensures { IfOk result (λ list. list.items
-        ≡ flat_map (default_of (outlook_at view.now).told.one)
-        (systems_among (cost_at one.now.distances) (node_number one.now.graph.root) nodes.now)) }
+    some: &[Candidate],
+    more: &[Candidate],
+) -> Result<Vec<Prefix>, OutOfMemory>
+    ensures { IfOk result (λ prefixes. prefixes.items ≡ map prefix_of some.now ++ map prefix_of more.now) }
 {
-    let mut list = Vec::new(alloc);
-    if !has_level(view.levels, Level::One) {
-        return Ok(list);
-    }
-    let root = number(one.graph().root());
-    let systems = systems_among(alloc, one.distances(), root, nodes)?;
-    add_defaults(&mut list, &view.one, systems.as_slice())?;
-    Ok(list)
+    let mut prefixes = Vec::new(alloc);
+    add_prefixes(&mut prefixes, some)?;
+    add_prefixes(&mut prefixes, more)?;
+    Ok(prefixes)
 }
 
-/// Whether the candidates by way of nodes of these numbers are these, in this order.
-fn is_gone(old: &[Candidate], numbers: &[u64], gone: &[Candidate]) -> bool
-    requires { IsStrictlyIncreasing numbers.now }
-    ensures { result ≡ true → filter (is_by numbers.now) old.now ≡ gone.now }
+/// Adds the prefixes of candidates.
+fn add_prefixes(prefixes: &mut Vec<Prefix>, candidates: &[Candidate]) -> Result<(), OutOfMemory>
+    ensures { OnOk result (prefixes.new.items
+        ≡ prefixes.old.items ++ map prefix_of candidates.now) }
 {
-    let (mut left, mut rest) = (old, gone);
-    while let [first, more @ ..] = left {
-        if is_by(numbers, first) {
-            let [next, others @ ..] = rest else {
-                return false;
-            };
-            if !same_candidate(first, next) {
-                return false;
-            }
-            rest = others;
-        }
-        left = more;
-    }
-    rest.is_empty()
-}
-
-/// The candidates where these come in the place of those by way of nodes of these numbers; `None` where they are the same ones.
-/// Adds the prefixes of those that go and of those that come.
-fn kept_with(
-    alloc: Global,
-    prefixes: &mut Vec<Prefix>,
-    old: &[Candidate],
-    numbers: &[u64],
-    come: &[Candidate],
-) -> Result<Option<Vec<Candidate>>, OutOfMemory>
-    requires { IsStrictlyIncreasing numbers.now }
-    ensures list { IfOk result (λ list. AreKeptWith numbers.now old.now come.now list) }
-    ensures prefixes { OnOk result (HaveVia numbers.now old.now come.now
-        prefixes.old.items prefixes.new.items) }
-{
-    match add_prefixes(prefixes, come) {
+    match prefixes.reserve(candidates.len()) {
         Ok(()) => {}
-        Err(error) => return Err(error),
-    }
-    if is_gone(old, numbers, come) {
-        return Ok(None);
-    }
-    match others_with(alloc, prefixes, old, numbers, come) {
-        Ok(list) => Ok(Some(list)),
-        Err(error) => Err(error),
-    }
-}
-
-/// The candidates by way of nodes of other numbers, and these. Adds the prefixes of those that are left out.
-fn others_with(
-    alloc: Global,
-    prefixes: &mut Vec<Prefix>,
-    old: &[Candidate],
-    numbers: &[u64],
-    come: &[Candidate],
-) -> Result<Vec<Candidate>, OutOfMemory>
-    requires { IsStrictlyIncreasing numbers.now }
-    ensures list { IfOk result (λ list. list.items
-        ≡ filter (λ c. not (is_by numbers.now c)) old.now ++ come.now) }
-    ensures prefixes { OnOk result (prefixes.new.items
-        ≡ prefixes.old.items ++ prefixes_via numbers.now old.now) }
-{
-    let mut list = match Vec::with_capacity(alloc, old.len()) {
-        Ok(list) => list,
         Err(_) => return Err(OutOfMemory),
-    };
-    let mut left = old;
-    while let [first, more @ ..] = left {
-        if is_by(numbers, first) {
-            match prefixes.push(first.prefix) {
-                Ok(()) => {}
-                Err(_) => return Err(OutOfMemory),
-            }
-        } else {
-            match list.push(*first) {
-                Ok(()) => {}
-                Err(_) => return Err(OutOfMemory),
-            }
+    }
+    for candidate in candidates {
+        match prefixes.push(candidate.prefix) {
+            Ok(()) => {}
+            Err(_) => return Err(OutOfMemory),
         }
-        left = more;
     }
-    match add_all(&mut list, come) {
-        Ok(()) => Ok(list),
-        Err(error) => Err(error),
-    }
+    Ok(())
 }

@@ -8,8 +8,7 @@
 //! attached itself, and nothing else is for 0.0.0.0/0.
 //!
 //! - `lent.rt`: what of a router routes look at; `level_graph.rt`: the graph of a level
-//! - `bucketed.rt`: what levels tell, in buckets by prefix; `buckets_after.rt`: the same where some will be others;
-//!   `replaced.rt`: which will be others; `remade.rt`: a bucket made anew
+//! - `ways.rt`: what levels tell, by prefix, and what it will be; `rows.rt`: the rows of that table
 //! - `systems.rt`: the systems that a level reaches; `candidates.rt`: what they and the router tell
 //! - `differences.rt`: the rows that two graphs don't share
 //! - `told.rt`: what will be told by some nodes; `view.rt`: the same where their LSPs are read aside
@@ -17,16 +16,24 @@
 //! - `following.rt`: the value that follows a router's databases; `leaks.rt`: what it leaks; `asked.rt`: both when asked
 //! - `ahead.rt`: what will follow once this is told; `coming.rt`: that put in the place of what follows
 //! - `hops_moved.rt`: a level's next hops then; `kept.rt`: what stays where some nodes moved
-//! - `same.rt`: candidates and prefixes compared; `numbers.rt`: numbers in order
+//! - `same.rt`: candidates and prefixes compared; `apart.rt`: what two lists of candidates don't share; `numbers.rt`: numbers in order
 //! - `touched.rt`: the prefixes whose routes are looked at anew; `own.rt`: which of one's own these are
 //! - `patched.rt`: the routes then
 //! - `laws.rt`: the plain programs of the definitions are what the routes say
+//!
+//! Choices (own):
+//!
+//! - Candidates stand by prefix in one table in order, ways by default among them; room is taken for half as
+//!   many rows more (`Ways`).
+//! - Past sixteen changed nodes of a level its graph is made again (`Following::after`); 0.0.0.0/0 is always
+//!   touched.
+//! - Edges that two graphs begin and end with are left out before their differences are looked for
+//!   (`differences`).
 #![tactic(auto)]
 
 mod ahead;
+mod apart;
 mod asked;
-mod bucketed;
-mod buckets_after;
 mod candidates;
 mod coming;
 mod differences;
@@ -42,13 +49,13 @@ mod near;
 mod numbers;
 mod own;
 mod patched;
-mod remade;
-mod replaced;
+mod rows;
 mod same;
 mod systems;
 mod told;
 mod touched;
 mod view;
+mod ways;
 
 pub use asked::Leaked;
 pub use coming::Coming;

@@ -3,7 +3,7 @@ ghost use Rattle.std.specs.Prelude.{◌≡◌, ℕ};
 ghost use Rattle.std.specs.List.{Contains};
 ghost use Rattle.std.specs.List.Sorted.{IsStrictlyIncreasing};
 ghost use Rattle.route_table.specs.Patches.{is_moved};
-ghost use Rattle.router_routes.specs.Touched.{is_by};
+ghost use Rattle.router_routes.specs.Ways.{is_by};
 
 use route_table::Candidate;
 use spf_tree::parts::number;

@@ -6,12 +6,8 @@ ghost use Rattle.router_routes.specs.Touched.{HaveOwn};
 use crate::same::same_prefix;
 use isis_base::Prefix;
 
-/// How many of one list's pairs may be apart from the other's before all count as such.
-const MOST: usize = 32;
-
 /// What is left of both lists without the pairs that they begin with alike, and those that they end
-/// with alike: all that one of them has and the other hasn't. Where that is much, all of both: then
-/// routes are likely made anew, which takes less than to put in many, each in its place.
+/// with alike: all that one of them has and the other hasn't.
 pub(crate) fn own_apart<'a>(
     old: &'a [(Prefix, u32)],
     new: &'a [(Prefix, u32)],
@@ -19,12 +15,8 @@ pub(crate) fn own_apart<'a>(
     ensures { (prefixes : List declared.Prefix) → HaveOwn result.0.now result.1.now prefixes
         → HaveOwn old.now new.now prefixes }
 {
-    let (left, other_left) = past_first(old, new);
-    let (gone, come) = before_last(left, other_left);
-    if gone.len() > MOST || come.len() > MOST {
-        return (old, new);
-    }
-    (gone, come)
+    let (left, right) = past_first(old, new);
+    before_last(left, right)
 }
 
 /// Both lists without the pairs that they begin with alike.

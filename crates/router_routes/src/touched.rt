@@ -1,18 +1,16 @@
 //! The prefixes whose routes are looked at anew once some nodes moved (own).
-ghost use Rattle.std.specs.Prelude.{[], ◌≡◌, ◌++◌, ℕ, not, filter, map, IfOk, OnOk};
+ghost use Rattle.std.specs.Prelude.{◌≡◌, ◌++◌, ℕ, not, filter, map, IfOk, OnOk};
 ghost use Rattle.std.specs.List.Sorted.{IsStrictlyIncreasing};
 ghost use Rattle.isis_base.specs.declared.prefix.Prefix.{Prefix};
 ghost use Rattle.spf_tree.specs.Nodes.{node_number};
 ghost use Rattle.route_table.specs.Ranks.{prefix_number};
 ghost use Rattle.route_table.specs.Patches.{IsListed, is_moved};
-ghost use Rattle.router_routes.specs.Buckets.{all_in};
 ghost use Rattle.router_routes.specs.Outlooks.{outlook_in};
 ghost use Rattle.router_routes.specs.Moved.{AreViewed, is_among, outlook_at};
 ghost use Rattle.router_routes.specs.Following.{IsFollowing};
-ghost use Rattle.router_routes.specs.Coming.{AreLevels, HopsStay, apart_in, hops_after, told_then};
-ghost use Rattle.router_routes.specs.Touched.{AreApartBeside, AreStill, AreTouched, HaveOwn, HaveVia, IsReachedAfter, prefixes_via};
+ghost use Rattle.router_routes.specs.Coming.{AreLevels, HopsStay, apart_in, hops_after};
+ghost use Rattle.router_routes.specs.Touched.{AreApartBeside, AreStill, AreTouched, HaveOwn, IsReachedAfter};
 
-use crate::bucketed::{BUCKETS, Bucketed};
 use crate::coming::{LevelAfter, LevelsAfter, ReachedAfter};
 use crate::following::Following;
 use crate::lent::Lent;
@@ -21,14 +19,13 @@ use crate::own::own_apart;
 use crate::told::Told;
 use crate::view::View;
 use isis_base::{NodeId, OutOfMemory, Prefix};
-use route_table::Candidate;
 use spf_tree::parts::number;
 use std::alloc::Global;
 
 impl Following {
     /// The prefixes that are looked at anew, where these nodes moved, levels are these and this is
     /// reached: 0.0.0.0/0, one's own that come, go or have another metric, those that moved nodes told
-    /// and tell, and those of nodes whose next hops may be others, in any order; some may be there twice.
+    /// and tell, and those that nodes tell whose next hops may be others, in any order; some may be there twice.
     pub(crate) fn touched(
         &self,
         lent: &Lent<'_>,
@@ -42,15 +39,14 @@ impl Following {
         requires viewed { AreViewed lent.now told.now view.now }
         requires still { AreStill nodes.now (outlook_in lent.now) (outlook_at view.now) }
         requires levels { AreLevels (outlook_at view.now) self.now levels.now }
-        requires reached { IsReachedAfter nodes.now (outlook_at view.now) self.now reached.now }
-        ensures { IfOk result (λ prefixes. AreTouched nodes.now self.now levels.now
-            (outlook_in lent.now).prefixes (outlook_at view.now).prefixes
-            (told_then reached.now.told self.now.told) prefixes.items) }
+        requires reached { IsReachedAfter nodes.now (outlook_in lent.now) (outlook_at view.now) self.now reached.now }
+        ensures { IfOk result (λ prefixes. AreTouched nodes.now (outlook_in lent.now) (outlook_at view.now)
+            self.now levels.now prefixes.items) }
     {
         let beside = self.apart_beside(nodes, levels)?;
         let mut prefixes = own_touched(self.alloc, lent, told, view)?;
         add_listed(&mut prefixes, reached.prefixes.as_slice())?;
-        add_table(&mut prefixes, beside.as_slice(), &self.told)?;
+        self.told.add_prefixes(&mut prefixes, beside.as_slice())?;
         Ok(prefixes)
     }
 
@@ -181,49 +177,4 @@ fn add_listed(prefixes: &mut Vec<Prefix>, more: &[Prefix]) -> Result<(), OutOfMe
         Ok(()) => Ok(()),
         Err(_) => Err(OutOfMemory),
     }
-}
-
-/// Adds the prefixes of a table's candidates by way of nodes of these numbers, where there are numbers.
-fn add_table(
-    prefixes: &mut Vec<Prefix>,
-    numbers: &[u64],
-    table: &Bucketed,
-) -> Result<(), OutOfMemory>
-    requires { IsStrictlyIncreasing numbers.now }
-    ensures { OnOk result (HaveVia numbers.now (all_in table.now) []
-        prefixes.old.items prefixes.new.items) }
-{
-    if numbers.is_empty() {
-        return Ok(());
-    }
-    for place in 0..BUCKETS {
-        match add_touched(prefixes, numbers, table.bucket(place)) {
-            Ok(()) => {}
-            Err(error) => return Err(error),
-        }
-    }
-    Ok(())
-}
-
-/// Adds the prefixes of candidates by way of nodes of these numbers.
-fn add_touched(
-    prefixes: &mut Vec<Prefix>,
-    moved: &[u64],
-    candidates: &[Candidate],
-) -> Result<(), OutOfMemory>
-    requires { IsStrictlyIncreasing moved.now }
-    ensures { OnOk result (prefixes.new.items
-        ≡ prefixes.old.items ++ prefixes_via moved.now candidates.now) }
-{
-    let mut left = candidates;
-    while let [first, more @ ..] = left {
-        if is_one_of(moved, number(first.origin)) {
-            match prefixes.push(first.prefix) {
-                Ok(()) => {}
-                Err(_) => return Err(OutOfMemory),
-            }
-        }
-        left = more;
-    }
-    Ok(())
 }

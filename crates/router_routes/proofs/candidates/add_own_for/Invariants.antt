@@ -1,6 +1,6 @@
 use Rattle.std.proofs.Common.{◌≡◌, ◌++◌, filter, map, drop}
 use Rattle.router_routes.specs.Candidates.{own_candidate}
-use Rattle.router_routes.specs.Touched.{is_for}
+use Rattle.router_routes.specs.Ways.{is_for}
 use Rattle.router_routes.proofs.candidates.add_own_for.Given as goal
 
 -- the candidates so far, and those of what is left

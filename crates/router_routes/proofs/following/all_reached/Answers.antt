@@ -31,10 +31,6 @@ told_by-requires-clause-room_one c = subst LeaveRoom (sym c.deref-2.ensures.valu
 pub told_by-requires-clause-room_two : goal.told_by-requires-clause-room_two
 told_by-requires-clause-room_two c = subst LeaveRoom (sym c.deref-3.ensures.value) c.in_ok-twos.ensures.room
 
-pub defaults_by-requires-clause-ones : goal.defaults_by-requires-clause-ones
-defaults_by-requires-clause-ones c =
-    subst (λ (l : List (SystemId × ℕ)). AreSame l (reached_in (outlook_at c.args.view.now).told.one (outlook_at c.args.view.now).root)) (sym c.deref-4.ensures.value) (ones-same c.args.view.now c.args.one.now c.has_level.result c.in_ok-ones.ones.items c.requires.one c.has_level.ensures c.in_ok-ones.ensures.same)
-
 pub returns : goal.returns
 returns c =
-    record { told = c.in_ok-told.ensures; ways = c.in_ok-defaults.ensures; attached = c.in_ok-attached.ensures }
+    record { told = c.in_ok-told.ensures; attached = c.in_ok-attached.ensures }

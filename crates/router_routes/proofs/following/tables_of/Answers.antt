@@ -1,8 +1,8 @@
 use Rattle.std.proofs.Common.{List, sym, subst}
 use Rattle.isis_base.specs.declared.level.Level.TheVariants as level
 use Rattle.route_table.specs.declared.candidate.Candidate.{Candidate}
-use Rattle.router_routes.specs.Candidates.{candidates_of, defaults}
-use Rattle.router_routes.specs.Kept.{AreSame, told_candidates}
+use Rattle.router_routes.specs.Candidates.{ways_of, weighed_of}
+use Rattle.router_routes.specs.Kept.{AreSame}
 use Rattle.router_routes.specs.Moved.{outlook_at}
 use Rattle.router_routes.proofs.ComingLemmas.{level-root}
 use Rattle.router_routes.proofs.PatchLemmas.{routes-listed}
@@ -10,12 +10,9 @@ use Rattle.router_routes.proofs.following.tables_of.Goals as goal
 
 pub all_candidates-requires : goal.all_candidates-requires
 all_candidates-requires c =
-    let o = outlook_at c.args.view.now in
-    let r = c.requires.reached in
     record {
-      told = subst (λ (l : List Candidate). AreSame l (told_candidates o)) (sym c.as_slice.ensures.value) r.told;
-      ways = subst (λ (l : List Candidate). AreSame l (defaults o.told.one o.root)) (sym c.as_slice-2.ensures.value) r.ways;
-      attached = r.attached;
+      told = subst (λ (l : List Candidate). AreSame l (ways_of (outlook_at c.args.view.now))) (sym c.as_slice.ensures.value) c.requires.reached.told;
+      attached = c.requires.reached.attached;
     }
 
 pub hops_from-requires : goal.hops_from-requires
@@ -27,5 +24,5 @@ hops_from-requires-2 c = level-root (outlook_at c.args.view.now) level.Two c.arg
 pub returns-clause-routes : goal.returns-clause-routes
 returns-clause-routes c =
     let o = outlook_at c.args.view.now in
-    let same = subst (λ (l : List Candidate). AreSame l (candidates_of o)) (sym c.as_slice-3.ensures.value) c.in_ok-candidates.ensures in
-    routes-listed o c.args.one.now c.args.two.now c.in_ok-hops_one.hops_one c.in_ok-hops_two.hops_two c.as_slice-3.result.now c.in_ok-routes.routes c.requires.one c.requires.two c.in_ok-hops_one.ensures c.in_ok-hops_two.ensures same c.in_ok-routes.ensures
+    let same = subst (λ (l : List Candidate). AreSame l (weighed_of o)) (sym c.as_slice-2.ensures.value) c.in_ok-candidates.ensures in
+    routes-listed o c.args.one.now c.args.two.now c.in_ok-hops_one.hops_one c.in_ok-hops_two.hops_two c.as_slice-2.result.now c.in_ok-routes.routes c.requires.one c.requires.two c.in_ok-hops_one.ensures c.in_ok-hops_two.ensures same c.in_ok-routes.ensures
