@@ -8,7 +8,7 @@ use Rattle.isis_base.specs.declared.identifiers.LspId.{LspId}
 use Rattle.isis_base.specs.Identifiers.{IsId, lsp_octets, lsp_number, system_from}
 use Rattle.isis_base.proofs.ArrayLemmas.{small-at}
 use Rattle.spf_tree.specs.Nodes.{node_number, system_node}
-use Rattle.capture_text.specs.Routes6Text.{system_of_node}
+use Rattle.capture_text.specs.ViaText.{system_of_node}
 
 -- the octets of an LSP ID's number are its own
 octets-again : (id : LspId) → IsId id → to_be_bytes w64 (lsp_number id) ≡ lsp_octets id

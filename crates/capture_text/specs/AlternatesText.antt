@@ -1,6 +1,6 @@
 -- The text of the alternates of a system in captured LSPs (own).
 
-use Rattle.std.specs.Prelude.{◌≡◌, ℕ, Bool, true, false, List, [], ◌∷◌, ◌++◌, codes, decimal}
+use Rattle.std.specs.Prelude.{◌≡◌, ℕ, Bool, true, false, List, [], ◌∷◌, ◌++◌, codes, decimal, Option}
 use Rattle.std.specs.List.{flat_map}
 use Rattle.isis_base.specs.declared.level.Level.{Level}
 use Rattle.isis_base.specs.declared.identifiers.SystemId.{SystemId}
@@ -14,6 +14,8 @@ use Rattle.capture_text.specs.declared.read.Read.{Read}
 use Rattle.capture_text.specs.declared.backup.Backup.{Backup}
 use Rattle.capture_text.specs.Reading.{nothing_read, AreRead}
 use Rattle.capture_text.specs.Backups.{AreBackups}
+use Rattle.capture_text.specs.declared.absence.Absence.{Absence}
+use Rattle.capture_text.specs.Absences.{absence_of}
 use Rattle.capture_text.specs.HeadText.{head_text}
 
 -- `alternate TARGET hop E`
@@ -49,12 +51,13 @@ abbrev pub alternates_text : Read → List Backup → List ℕ
 alternates_text read backups =
     head_text (codes "isis-alternates 1") read.kept read.skipped ++ flat_map backup_lines backups
 
--- a text tells the alternates of a system in the LSPs of a level that an input has, by the rows that may be
--- walked from it (ISO 10589 7.2.8)
-pub record IsAlternatesText (level : Level) (system : SystemId)
-    (input text : List ℕ) : Type 0 where
+-- a text has the alternates of a system in the LSPs of a level that an input has, by the rows that may be
+-- walked from it (ISO 10589 7.2.8), and these LSPs lack what is said
+pub record IsAlternatesText (level : Level) (system : SystemId) (input : List ℕ)
+    (absence : Option Absence) (text : List ℕ) : Type 0 where
   pub read : Read
   pub reads : AreRead (nothing_read level) (lines_of input) read
+  pub lacks : absence ≡ absence_of system read.capture.entries
   pub graph : GraphOf
   pub usable : AreUsable (rows_in read.capture.entries) (overloaded_in read.capture.entries)
       (own_node system) graph

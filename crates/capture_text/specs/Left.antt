@@ -3,9 +3,11 @@
 use Rattle.std.specs.Prelude.{ℕ, ◌+◌, List, [], ◌++◌, length, codes, Option, Some, None}
 use Rattle.std.specs.List.{flat_map}
 use Rattle.capture_text.specs.declared.left.Counts.{Counts}
-use Rattle.capture_text.specs.declared.left.RouteText.{RouteText}
+use Rattle.capture_text.specs.declared.left.RoutesText.{RoutesText}
+use Rattle.capture_text.specs.declared.left.Routes6Text.{Routes6Text}
 use Rattle.capture_text.specs.declared.left.AlternateText.{AlternateText}
 use Rattle.capture_text.specs.HeadText.{head_text}
+use Rattle.capture_text.specs.RoutesText.{line_unless}
 use Rattle.capture_text.specs.Routes6Text.{route6_line}
 use Rattle.capture_text.specs.AlternatesText.{backup_lines}
 
@@ -19,12 +21,20 @@ head_call None = 0
 head_call (Some counts) = 1
 
 -- the head, and the routes that are left; a call for each
-abbrev pub routes_left : RouteText → List ℕ
+abbrev pub routes_left : RoutesText → List ℕ
 routes_left left =
+    head_left (codes "isis-routes 1") left.head
+    ++ flat_map (line_unless left.attached) left.routes.now
+
+abbrev pub route_calls : RoutesText → ℕ
+route_calls left = head_call left.head + length left.routes.now
+
+abbrev pub routes6_left : Routes6Text → List ℕ
+routes6_left left =
     head_left (codes "isis-routes6 1") left.head ++ flat_map route6_line left.routes.now
 
-abbrev pub route_calls : RouteText → ℕ
-route_calls left = head_call left.head + length left.routes.now
+abbrev pub route6_calls : Routes6Text → ℕ
+route6_calls left = head_call left.head + length left.routes.now
 
 -- the head, and the targets and hops that are left; a call for each
 abbrev pub alternates_left : AlternateText → List ℕ

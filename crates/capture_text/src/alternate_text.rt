@@ -5,6 +5,7 @@ ghost use Rattle.capture_text.specs.AlternatesText.{IsAlternatesText};
 ghost use Rattle.capture_text.specs.TextEnds.{TextEnds};
 ghost use Rattle.capture_text.specs.Left.{alternates_left, alternate_calls};
 
+use crate::absence::{Absence, absence_of};
 use crate::alternate_lines::add_backup;
 use crate::backups::all_backups;
 use crate::head::add_head;
@@ -15,15 +16,15 @@ use isis_edge::{Sink, Text, TextFailed, write_text};
 use std::alloc::Global;
 
 /// Writes the loop-free alternates of a system (RFC 5286 3) for each other system that it reaches and each
-/// next hop to it, in order, as the LSPs of a level tell that an input has in hex, a line each. Costs are in
-/// units of metrics. Nothing is written before all alternates are found.
+/// next hop to it, in order, by the LSPs of a level that an input has in hex, a line each. Costs are in
+/// units of metrics. Answers what the LSPs lack of the system. Nothing is written before all alternates are found.
 pub fn write_alternates<O: Sink>(
     alloc: Global,
     level: Level,
     system: SystemId,
     input: &[u8],
     output: &mut O,
-) -> Result<(), TextFailed>
+) -> Result<Option<Absence>, TextFailed>
     ensures ends { TextEnds (IsAlternatesText level system input.now) (O.put output.old)
         (O.put output.new) result }
     ensures cause { result ≡ Err TextFailed.Write
@@ -36,6 +37,7 @@ pub fn write_alternates<O: Sink>(
         Ok(read) => read,
         Err(OutOfMemory) => return Err(TextFailed::OutOfMemory),
     };
+    let absence = absence_of(&read.capture, system);
     let graph = match read.capture.graph(system) {
         Ok(graph) => graph,
         Err(OutOfMemory) => return Err(TextFailed::OutOfMemory),
@@ -52,7 +54,7 @@ pub fn write_alternates<O: Sink>(
         backups: backups.as_slice(),
     };
     match write_text(alloc, &mut text, output) {
-        Ok(()) => Ok(()),
+        Ok(()) => Ok(absence),
         Err(failed) => Err(failed),
     }
 }

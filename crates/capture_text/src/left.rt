@@ -2,6 +2,7 @@
 
 use crate::backup::Backup;
 use ipv6_reach::Route6;
+use route_table::Route;
 use std::alloc::Global;
 
 /// How many lines of the input were kept, and how many skipped.
@@ -11,9 +12,17 @@ pub(crate) struct Counts {
     pub skipped: usize,
 }
 
+/// The text of IPv4 routes: its head, where it is still to come, whether the system is attached, and the routes behind it.
+#[derive(Drop)]
+pub(crate) struct RoutesText<'t> {
+    pub head: Option<Counts>,
+    pub attached: bool,
+    pub routes: &'t [Route],
+}
+
 /// The text of IPv6 routes: its head, where it is still to come, and the routes behind it.
 #[derive(Drop)]
-pub(crate) struct RouteText<'t> {
+pub(crate) struct Routes6Text<'t> {
     pub alloc: Global,
     pub head: Option<Counts>,
     pub routes: &'t [Route6],

@@ -1,110 +1,88 @@
-//! The line of an IPv6 route.
+//! The line of an IPv4 route.
 ghost use Rattle.std.specs.Prelude.{◌≡◌, ◌++◌, OnOk};
-ghost use Rattle.std.specs.List.{flat_map};
-ghost use Rattle.spf_tree.specs.Nodes.{system_node};
-ghost use Rattle.capture_text.specs.Routes6Text as lines;
+ghost use Rattle.capture_text.specs.RoutesText as lines;
 
-use ipv6_reach::{Prefix6, Rank6, Route6};
-use isis_base::laws::lsp_id_law;
+use crate::via::add_via;
 use isis_base::numbers::PREFIX_METRIC;
-use isis_base::{LspId, NodeId, Octets, OutOfMemory, SystemId, add_number, add_system_id};
-use spf_tree::Hops;
-use std::alloc::Global;
+use isis_base::{Octets, OutOfMemory, Prefix, add_number};
+use route_table::{Rank, Route};
 
-/// `route6 PREFIX RANK COST via SYSTEM SYSTEM`.
-#[tactic(auto, unfolding(crate::specs::Routes6Text::route6_line))]
-pub(crate) fn add_route6(
-    alloc: Global,
+/// The line of a route; none of the way to an attached system where the system is attached itself.
+pub(crate) fn add_unless(
     page: &mut Octets,
-    route: &Route6,
+    attached: bool,
+    route: &Route,
 ) -> Result<(), OutOfMemory>
-    ensures { OnOk result (page.new ≡ page.old ++ lines.route6_line route.now) }
+    ensures { OnOk result (page.new ≡ page.old ++ lines.line_unless attached route.now) }
 {
-    page.extend(b"route6")?;
-    add_prefix6(alloc, page, route.prefix)?;
-    add_way(page, route.rank, told_cost(route.cost))?;
+    if attached && is_default(route.rank) {
+        return Ok(());
+    }
+    add_route(page, route)
+}
+
+/// Whether it is the way to an attached system.
+fn is_default(rank: Rank) -> bool
+    ensures { result ≡ lines.is_default rank }
+{
+    match rank {
+        Rank::Own => false,
+        Rank::One => false,
+        Rank::Two => false,
+        Rank::OneDown => false,
+        Rank::Default => true,
+    }
+}
+
+/// `route PREFIX RANK COST via SYSTEM SYSTEM`.
+#[tactic(auto, unfolding(crate::specs::RoutesText::route_line))]
+fn add_route(page: &mut Octets, route: &Route) -> Result<(), OutOfMemory>
+    ensures { OnOk result (page.new ≡ page.old ++ lines.route_line route.now) }
+{
+    page.extend(b"route")?;
+    add_prefix(page, route.prefix)?;
+    add_way(page, route.rank, printed_cost(route.cost))?;
     add_via(page, &route.hops)?;
     page.extend(b"\n")
 }
 
 /// A blank and the text of a prefix.
-#[tactic(auto, unfolding(crate::specs::Routes6Text::prefix6_words))]
-fn add_prefix6(alloc: Global, page: &mut Octets, prefix: Prefix6) -> Result<(), OutOfMemory>
-    ensures { OnOk result (page.new ≡ page.old ++ lines.prefix6_words prefix) }
+fn add_prefix(page: &mut Octets, prefix: Prefix) -> Result<(), OutOfMemory>
+    ensures { OnOk result (page.new ≡ page.old ++ lines.prefix_words prefix) }
 {
-    let text = match format!(in alloc; "{prefix}") {
-        Ok(text) => text,
-        Err(_) => return Err(OutOfMemory),
-    };
-    page.extend(b" ")?;
-    page.extend(text.as_bytes())
+    let [a, b, c, d] = prefix.address().to_be_bytes();
+    add_number(page, b" ", u64::from(a))?;
+    add_number(page, b".", u64::from(b))?;
+    add_number(page, b".", u64::from(c))?;
+    add_number(page, b".", u64::from(d))?;
+    add_number(page, b"/", u64::from(prefix.length()))
 }
 
 /// A rank and a cost, each behind a blank.
-fn add_way(page: &mut Octets, rank: Rank6, cost: u64) -> Result<(), OutOfMemory>
-    ensures { OnOk result (page.new ≡ page.old ++ lines.way6_text rank cost) }
+fn add_way(page: &mut Octets, rank: Rank, cost: u64) -> Result<(), OutOfMemory>
+    ensures { OnOk result (page.new ≡ page.old ++ lines.way_text rank cost) }
 {
     page.extend(b" ")?;
     page.extend(rank_word(rank))?;
     add_number(page, b" ", cost)
 }
 
-/// The cost that is told.
-fn told_cost(cost: u64) -> u64
-    ensures { result ≡ lines.told_cost6 cost }
+/// The cost that is printed.
+fn printed_cost(cost: u64) -> u64
+    ensures { result ≡ lines.printed_cost cost }
 {
     cost.min(u64::from(PREFIX_METRIC))
 }
 
 /// The word of a rank.
-fn rank_word(rank: Rank6) -> &'static [u8]
-    ensures { result.now ≡ lines.rank6_text rank }
+fn rank_word(rank: Rank) -> &'static [u8]
+    ensures { result.now ≡ lines.rank_text rank }
 {
     match rank {
-        Rank6::Own => b"own",
-        Rank6::Up => b"up",
-        Rank6::Down => b"down",
+        Rank::Own => b"own",
+        Rank::One => b"L1",
+        Rank::Two => b"L2",
+        Rank::OneDown => b"L1d",
+        Rank::Default => b"default",
     }
-}
-
-/// ` via SYSTEM SYSTEM`, where there is a next hop.
-fn add_via(page: &mut Octets, hops: &Hops) -> Result<(), OutOfMemory>
-    ensures { OnOk result (page.new ≡ page.old ++ lines.via6_text hops.now) }
-{
-    if hops.is_empty() {
-        return Ok(());
-    }
-    page.extend(b" via")?;
-    add_hops(page, hops)
-}
-
-/// A blank and a system ID for each next hop.
-fn add_hops(page: &mut Octets, hops: &Hops) -> Result<(), OutOfMemory>
-    ensures { OnOk result (page.new ≡ page.old ++ flat_map lines.hop6_text hops.now) }
-{
-    for place in 0..hops.len() {
-        let Some(system) = hops.get(place) else {
-            return Ok(());
-        };
-        match add_hop(page, system) {
-            Ok(()) => {}
-            Err(error) => return Err(error),
-        }
-    }
-    Ok(())
-}
-
-/// A blank and a system ID.
-#[tactic(auto, unfolding(crate::specs::Routes6Text::hop6_text))]
-fn add_hop(page: &mut Octets, system: SystemId) -> Result<(), OutOfMemory>
-    ensures { OnOk result (page.new ≡ page.old ++ lines.hop6_text (system_node system)) }
-{
-    lsp_id_law(LspId {
-        node: NodeId {
-            system,
-            pseudonode: 0,
-        },
-        number: 0,
-    });
-    add_system_id(page, b" ", system)
 }

@@ -2,12 +2,12 @@
 use Rattle.std.proofs.Common.{◌≡◌, ◌++◌, ◌∷◌, OnOk, sym, subst}
 use Rattle.isis_base.specs.declared.identifiers.SystemId.{SystemId}
 use Rattle.isis_base.specs.Texts.{system_text}
-use Rattle.capture_text.specs.Routes6Text.{hop6_text}
+use Rattle.capture_text.specs.ViaText.{hop_text}
 use Rattle.capture_text.proofs.HopLemmas.{system-again}
-use Rattle.capture_text.proofs.route_lines.add_hop.Goals as goal
+use Rattle.capture_text.proofs.via.add_hop.Goals as goal
 
 pub returns : goal.returns
-unfolding hop6_text
+unfolding hop_text
 returns c =
     subst (λ (s : SystemId). OnOk c.add_system_id.result (c.add_system_id.new.text ≡ c.args.page.now ++ 32 ∷ system_text s))
     (sym (system-again c.args.system c.lsp_id_law.ensures)) c.add_system_id.ensures
