@@ -9,3 +9,8 @@ mod Stops
 pub mod Gathered
 mod Afterwards
 pub mod Places
+mod Histories
+mod Opened
+mod Served
+mod Written
+mod DaemonLemmas

@@ -55,7 +55,7 @@ pub(crate) fn add_jobs<'a, J: Journal + Drop, P: Port + Drop, T: Pacer, G: Gate>
     requires lock { IsPassOf shared.now pass × (label pass ≡ 0) × (splits pass ≡ 0)
         × (own pass ≡ []) }
     requires calm { IsCalm (first_router shared.now) (seen pass) }
-    requires turns { turns ≤ 864000 }
+    requires turns { turns ≤ 10000000000000 }
     requires left { length ports.items * (turns + turns) ≤ turns_left pass }
     requires room { (jobs.items ≡ []) × (vec_len ports ≤ vec_capacity jobs) }
     requires there { (length ports.items ≤ length (first_router shared.now).circuits)
@@ -102,7 +102,7 @@ fn new_job<'a, J: Journal + Drop, P: Port + Drop, T: Pacer, G: Gate>(
     requires lock { IsPassOf shared.now pass × (label pass ≡ 0) × (splits pass + 1 ≡ circuit)
         × (own pass ≡ []) }
     requires calm { IsCalm (first_router shared.now) (seen pass) }
-    requires turns { turns ≤ 864000 }
+    requires turns { turns ≤ 10000000000000 }
     requires left { turns + turns ≤ turns_left pass }
     requires there { IsThere (first_router shared.now) circuit }
     requires fresh { IsFresh (P.given port) (P.offered port) (P.asked port) }

@@ -48,7 +48,7 @@ pub fn serve<
 ) -> (Pass<Behind<J>>, Vec<P>, T, ServeEnd)
     requires lock { IsPassOf shared.now pass × (turns_left pass ≡ all_turns shared.now) }
     requires first { (label pass ≡ 0) × (splits pass ≡ 0) × (own pass ≡ []) × (seen pass ≡ []) }
-    requires turns { (1 ≤ turns) × (turns ≤ 86400) }
+    requires turns { (1 ≤ turns) × (turns ≤ 1000000000000) }
     requires circuits { (length ports.items ≡ length (first_router shared.now).circuits)
         × (1 ≤ length ports.items) × (length ports.items ≤ 64) }
     requires left { turns + length ports.items * (20 * turns) ≤ turns_left pass }
@@ -98,7 +98,7 @@ fn start<
 ) -> (Vec<Job<'a, Behind<J>, SharedRouter<J>, P, T, G>>, Started)
     requires lock { IsPassOf shared.now pass }
     requires first { (label pass ≡ 0) × (splits pass ≡ 0) × (own pass ≡ []) × (seen pass ≡ []) }
-    requires turns { turns ≤ 86400 }
+    requires turns { turns ≤ 1000000000000 }
     requires circuits { (length ports.items ≡ length (first_router shared.now).circuits)
         × (length ports.items ≤ 64) }
     requires left { turns + length ports.items * (20 * turns) ≤ turns_left pass }
@@ -148,7 +148,7 @@ fn finish<'a, J: Journal + Drop, P: Port + Drop, T: Pacer + Drop, G: Gate>(
     started: Started,
     turns: u64,
 ) -> (Pass<Behind<J>>, Vec<P>, T, ServeEnd)
-    requires turns { turns ≤ 86400 }
+    requires turns { turns ≤ 1000000000000 }
     requires room { (back.items ≡ []) × (length jobs.items ≤ vec_capacity back + 1) }
     requires some { 2 ≤ length jobs.items }
     requires jobs { (i : ℕ) → IfSome (slice_get jobs.items i) (λ v. i + 1 < length jobs.items

@@ -1,7 +1,7 @@
 //! Two workers, of which neither begins its first turn before the other has.
 use crate::made::run_of;
+use circuit_serve::DaemonEnd;
 use daemon_edge::{Gate, MemoryPacer, MemoryPorts, ThreadSpawner};
-use daemon_run::DaemonEnd;
 use isis_edge::MemorySink;
 use std::sync::atomic::{AtomicBool, Ordering};
 use std::test::Fail;

@@ -1,9 +1,9 @@
 //! A daemon of a configuration, and what is counted in its journal.
 ghost use Rattle.std.specs.Prelude.{◌≡◌, ◌≤◌};
 
+use circuit_serve::{DaemonEnd, run_daemon};
 use daemon_config::{Settings, read_config};
 use daemon_edge::{Gate, Pacer, Ports, Spawner};
-use daemon_run::{DaemonEnd, run_daemon};
 use isis_edge::Sink;
 use std::alloc::Global;
 use std::net::Net;

@@ -1,7 +1,7 @@
 //! Openings, starts, takes, offers and writes that fail, one at a time.
 use crate::made::{run_of, times};
+use circuit_serve::DaemonEnd;
 use daemon_edge::{MemoryPacer, MemoryPorts, OpenGate, ThreadSpawner};
-use daemon_run::DaemonEnd;
 use isis_base::Octets;
 use isis_edge::MemorySink;
 use std::alloc::Global;

@@ -6,7 +6,7 @@ use Rattle.model_router.specs.Places.{nth}
 use Rattle.model_router.specs.Routers.{Router}
 use Rattle.router_routes.specs.Outlooks.{outlook_of}
 use Rattle.packet_trace.specs.declared.forwarder.Forwarder.{Forwarder}
-use Rattle.forward_trace.specs.Forwarders.{IsForwarder, AreForwarders}
+use Rattle.trace_text.specs.Forwarders.{IsForwarder, AreForwarders}
 
 some-same : {A : Type 0} (a b : A) → Some a ≡ Some b → a ≡ b
 some-same a b e = cc

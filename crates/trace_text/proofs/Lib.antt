@@ -1,3 +1,6 @@
 -- Lemmas.
 mod ForwarderLemmas
 mod WalkLemmas
+pub mod PlaceLemmas
+mod ArriveLemmas
+pub mod HandingLemmas

@@ -23,13 +23,13 @@ use Rattle.trace_core.specs.Whichever.{AreOutcomes}
 use Rattle.packet_trace.specs.declared.forwarder.Forwarder.{Forwarder}
 use Rattle.packet_trace.specs.Steps.{step_at, steps_at, route_at, route_of, step_by, step_on, step_to, place_of, node_of}
 use Rattle.packet_trace.proofs.LookupLemmas.{only}
-use Rattle.forward_trace.specs.Forwarders.{forwarder_of}
-use Rattle.forward_trace.specs.Arrivals.{AreFound, IsArrived, arrives_alone}
-use Rattle.forward_trace.proofs.ForwarderLemmas.{get-map, nodes-are}
-use Rattle.forward_trace.proofs.PlaceLemmas.{contains-nth, contains-map, place-is, place-there, on-one}
-use Rattle.forwarding.specs.declared.walked.Walked.{Walked}
-use Rattle.forwarding.specs.Paths.{IsLeastMove, IsLeastPath, IsWalked}
-use Rattle.forwarding.proofs.WayLemmas.{no-hop}
+use Rattle.trace_text.specs.Forwarders.{forwarder_of}
+use Rattle.trace_text.specs.Arrivals.{AreFound, IsArrived, arrives_alone}
+use Rattle.trace_text.proofs.HandingLemmas.{get-map, nodes-are}
+use Rattle.trace_text.proofs.PlaceLemmas.{contains-nth, contains-map, place-is, place-there, on-one}
+use Rattle.walk_text.specs.declared.walked.Walked.{Walked}
+use Rattle.walk_text.specs.Paths.{IsLeastMove, IsLeastPath, IsWalked}
+use Rattle.walk_text.proofs.WayLemmas.{no-hop}
 use Rattle.trace_text.specs.declared.find.Trace.{Trace}
 use Rattle.trace_text.specs.AsWalked.{AreLookedUpAs, IsAsWalked}
 

@@ -8,8 +8,8 @@ use Rattle.route_table.specs.Lookups.{IsLongest}
 use Rattle.trace_core.specs.declared.step.End.TheVariants as ended
 use Rattle.packet_trace.specs.declared.forwarder.Forwarder.{Forwarder}
 use Rattle.packet_trace.specs.Steps.{route_at}
-use Rattle.forward_trace.specs.Arrivals.{arrives_alone}
-use Rattle.forwarding.specs.declared.walked.Walked.{Walked}
+use Rattle.trace_text.specs.Arrivals.{arrives_alone}
+use Rattle.walk_text.specs.declared.walked.Walked.{Walked}
 use Rattle.trace_text.specs.declared.find.Trace.{Trace}
 
 -- each router that has a route of the prefix looks the address up as that: it has no longer one

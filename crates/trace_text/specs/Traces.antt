@@ -12,8 +12,8 @@ use Rattle.lab_text.specs.Runs.{outcome_of, WrotePart}
 use Rattle.trace_core.specs.Traces.{IsTraced, by}
 use Rattle.trace_core.specs.Whichever.{AreOutcomes}
 use Rattle.packet_trace.specs.Steps.{step_at, steps_at}
-use Rattle.forward_trace.specs.Forwarders.{AreForwarders}
-use Rattle.forwarding.specs.declared.walked.Walked.{Walked}
+use Rattle.trace_text.specs.Forwarders.{AreForwarders}
+use Rattle.walk_text.specs.declared.walked.Walked.{Walked}
 use Rattle.walk_text.specs.declared.fault.WalkFault.{WalkFault}
 use Rattle.walk_text.specs.declared.fault.WalkFault.TheVariants as failed
 use Rattle.walk_text.specs.declared.reason.WalkReason.{WalkReason}

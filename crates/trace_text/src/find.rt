@@ -4,15 +4,14 @@ ghost use Rattle.lab_script.specs.Scripts.{is_lab_script, names_in};
 ghost use Rattle.trace_text.specs.Traces.{Finds, FindsFrom, IsTraceIn};
 
 use crate::forwarders::forwarders_of;
-use forward_trace::laws::{forwarders_laws, trace_law, whichever_law};
-use forwarding::alike_facts;
+use crate::laws::{forwarders_laws, trace_law, whichever_law};
 use isis_base::OutOfMemory;
 use lab_text::{Network, Script, play_script};
 use packet_trace::{Forwarder, follow, outcomes};
 use route_table::laws::routes_laws;
 use std::alloc::Global;
 use trace_core::{Outcomes, Traced};
-use walk_text::{WalkFault, WalkReason};
+use walk_text::{WalkFault, WalkReason, alike_facts};
 
 /// A trace, the routers that it is of, and what else may become of the packet.
 #[derive(Drop)]

@@ -1,7 +1,7 @@
 //! The routers of a network as packets meet them.
 ghost use Rattle.std.specs.Prelude.{◌≡◌, IfOk};
 ghost use Rattle.router_routes.specs.Outlooks.{outlook_of};
-ghost use Rattle.forward_trace.specs.Forwarders.{IsForwarder, AreForwarders};
+ghost use Rattle.trace_text.specs.Forwarders.{IsForwarder, AreForwarders};
 
 use isis_base::{OutOfMemory, SystemId};
 use model_router::laws::identifiers::system_law;

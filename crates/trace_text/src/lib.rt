@@ -5,10 +5,14 @@
 //!
 //! - `write.rt`: the call that writes a trace; `find.rt`: the trace, or why there is none; `lines.rt`: its text
 //! - `forwarders.rt`: the routers of a network as packets meet them
+//! - `laws.rt`: where routers are alike, as forward_views tests it, a packet arrives at the cost of the first route. Each
+//!   router hands it to the next hop of one prefix, along which the cost falls. So it can't loop, and it isn't lost before the
+//!   owner of the prefix; where a packet loops or is lost, routers differ
 #![tactic(auto)]
 
 mod find;
 mod forwarders;
+pub mod laws;
 mod lines;
 mod write;
 

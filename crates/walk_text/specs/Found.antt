@@ -6,7 +6,7 @@ use Rattle.model_network.specs.Networks.{Network}
 use Rattle.lab_script.specs.declared.reason.ScriptFault.TheVariants.{Refused, Limit}
 use Rattle.lab_script.specs.declared.script.Script.{Script}
 use Rattle.lab_text.specs.Runs.{outcome_of}
-use Rattle.forwarding.specs.declared.walked.Walked.{Walked}
+use Rattle.walk_text.specs.declared.walked.Walked.{Walked}
 use Rattle.walk_text.specs.declared.fault.WalkFault.{WalkFault}
 use Rattle.walk_text.specs.declared.fault.WalkFault.TheVariants as failed
 use Rattle.walk_text.specs.Walks.{IsEndOf, IsWalkIn, IsRefusedFor}

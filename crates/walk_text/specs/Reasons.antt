@@ -1,7 +1,7 @@
 -- Why there is no walk, and the words of it (own).
 use Rattle.std.specs.Prelude.{ℕ, List, Option, Some, None, codes}
-use Rattle.forwarding.specs.declared.fault.ForwardFault.{ForwardFault}
-use Rattle.forwarding.specs.declared.fault.ForwardFault.TheVariants as forward
+use Rattle.walk_text.specs.declared.forward_fault.ForwardFault.{ForwardFault}
+use Rattle.walk_text.specs.declared.forward_fault.ForwardFault.TheVariants as forward
 use Rattle.walk_text.specs.declared.reason.WalkReason.{WalkReason}
 use Rattle.walk_text.specs.declared.reason.WalkReason.TheVariants.{Keys, Name, Levels, Stranger, Views, Unsettled, Zero, Owners, NoRoute}
 

@@ -3,7 +3,7 @@ use Rattle.std.specs.Prelude.{ℕ, List, ◌++◌, codes, decimal}
 use Rattle.std.specs.List.{flat_map}
 use Rattle.isis_base.specs.declared.prefix.Prefix.{Prefix}
 use Rattle.lab_text.specs.Passed.{name_at, prefix_words, told_cost}
-use Rattle.forwarding.specs.declared.walked.Walked.{Walked}
+use Rattle.walk_text.specs.declared.walked.Walked.{Walked}
 
 -- `walk NAME PREFIX cost C`, the cost as a line `route` of a report tells it: at most 4,261,412,864
 unfoldable pub walk_line : List ℕ → Prefix → ℕ → List ℕ

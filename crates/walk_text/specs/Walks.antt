@@ -13,11 +13,11 @@ use Rattle.lab_script.specs.Scripts.{is_lab_script, names_in}
 use Rattle.lab_text.specs.Passed.{end_of}
 use Rattle.lab_text.specs.Runs.{outcome_of, WrotePart}
 use Rattle.forward_views.specs.Looks.{Look}
-use Rattle.forwarding.specs.declared.fault.ForwardFault.{ForwardFault}
-use Rattle.forwarding.specs.declared.walked.Walked.{Walked}
-use Rattle.forwarding.specs.Tests.{AreLooks}
-use Rattle.forwarding.specs.Refusals.{IsRefused}
-use Rattle.forwarding.specs.Paths.{IsWalked}
+use Rattle.walk_text.specs.declared.forward_fault.ForwardFault.{ForwardFault}
+use Rattle.walk_text.specs.declared.walked.Walked.{Walked}
+use Rattle.walk_text.specs.Tests.{AreLooks}
+use Rattle.walk_text.specs.Refusals.{IsRefused}
+use Rattle.walk_text.specs.Paths.{IsWalked}
 use Rattle.walk_text.specs.declared.fault.WalkFault.{WalkFault}
 use Rattle.walk_text.specs.declared.fault.WalkFault.TheVariants as failed
 use Rattle.walk_text.specs.declared.reason.WalkReason.{WalkReason}

@@ -6,7 +6,7 @@ ghost use Rattle.walk_text.specs.Found.{FindsIn, FindsFrom};
 
 use crate::fault::WalkFault;
 use crate::reason::{WalkReason, reason_of};
-use forwarding::{Walked, forward};
+use crate::{Walked, forward};
 use isis_base::Prefix;
 use lab_text::{Network, Script, play_script};
 use std::alloc::Global;

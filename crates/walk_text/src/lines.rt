@@ -5,7 +5,7 @@ ghost use Rattle.lab_script.specs.Scripts.{names_in};
 ghost use Rattle.lab_text.specs.Passed.{name_at, prefix_words, told_cost};
 ghost use Rattle.walk_text.specs.WalkText as lines;
 
-use forwarding::Walked;
+use crate::Walked;
 use isis_base::numbers::PREFIX_METRIC;
 use isis_base::{Octets, OutOfMemory, Prefix, add_number};
 use lab_text::Script;

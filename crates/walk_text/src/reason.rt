@@ -2,7 +2,7 @@
 ghost use Rattle.std.specs.Prelude.{◌≡◌, Some};
 ghost use Rattle.walk_text.specs.Reasons.{reason_word, reason_of};
 
-use forwarding::ForwardFault;
+use crate::ForwardFault;
 use std::fmt;
 
 /// Why there is no walk, in the order in which it is looked for.

@@ -5,8 +5,8 @@ use Rattle.trace_core.specs.Traces.{IsTraced, by}
 use Rattle.trace_core.specs.Whichever.{AreOutcomes}
 use Rattle.packet_trace.specs.declared.forwarder.Forwarder.{Forwarder}
 use Rattle.packet_trace.specs.Steps.{step_at, steps_at}
-use Rattle.forward_trace.specs.Forwarders.{AreForwarders, forwarder_of}
-use Rattle.forwarding.specs.Paths.{IsWalked}
+use Rattle.trace_text.specs.Forwarders.{AreForwarders, forwarder_of}
+use Rattle.walk_text.specs.Paths.{IsWalked}
 use Rattle.trace_text.proofs.ForwarderLemmas.{as-many}
 use Rattle.trace_text.proofs.WalkLemmas.{as-walked}
 use Rattle.trace_text.proofs.find.find_in.Goals as goal

@@ -1,6 +1,6 @@
 use Rattle.std.proofs.Common.{◌≡◌, ℕ, suc, ◌+◌, List, [], ◌∷◌, ◌++◌, take, sym, subst, arith}
 use Rattle.packet_trace.specs.declared.forwarder.Forwarder.{Forwarder}
-use Rattle.forward_trace.specs.Forwarders.{AreForwarders}
+use Rattle.trace_text.specs.Forwarders.{AreForwarders}
 use Rattle.trace_text.proofs.ForwarderLemmas.{one-more}
 use Rattle.trace_text.proofs.forwarders.forwarders_of.Goals as goal
 

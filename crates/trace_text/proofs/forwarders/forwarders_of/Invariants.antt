@@ -1,5 +1,5 @@
 use Rattle.std.proofs.Common.{take}
-use Rattle.forward_trace.specs.Forwarders.{AreForwarders}
+use Rattle.trace_text.specs.Forwarders.{AreForwarders}
 use Rattle.trace_text.proofs.forwarders.forwarders_of.Given as goal
 
 -- those of the routers so far

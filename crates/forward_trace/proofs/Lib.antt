@@ -1,4 +1,0 @@
--- Lemmas.
-pub mod PlaceLemmas
-mod ArriveLemmas
-pub mod ForwarderLemmas

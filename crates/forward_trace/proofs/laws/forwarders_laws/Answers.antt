@@ -1,5 +1,0 @@
-use Rattle.forward_trace.proofs.ForwarderLemmas.{one-list, looks-are}
-use Rattle.forward_trace.proofs.laws.forwarders_laws.Goals as goal
-
-pub returns : goal.returns
-returns c = record { one = one-list c.routes_laws.ensures.routes; looks = looks-are }
