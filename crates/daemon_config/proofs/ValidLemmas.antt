@@ -158,7 +158,8 @@ circuit-fits table c is =
     let priority = two (otherwise 64 field.Priority (number 127) table) _ c metric.then in
     let address = two (perhaps field.Address (text host_of) table) _ c priority.then in
     let key = two (perhaps field.Key (text key_of) table) _ c address.then in
-    subst (λ (c : CircuitRead). IsCircuit c.config) (ok-same _ c key.then)
+    let native = two (otherwise false field.Native flag table) _ c key.then in
+    subst (λ (c : CircuitRead). IsCircuit c.config) (ok-same _ c native.then)
     (record {
       metric = number-or-fits 10 16777215 field.Metric table metric.value (omega arith) metric.was;
       priority = number-or-fits 64 127 field.Priority table priority.value (omega arith) priority.was;

@@ -63,6 +63,7 @@ circuit_from table = do
   priority ← otherwise 64 field.Priority (number 127) table
   address ← perhaps field.Address (text host_of) table
   key ← perhaps field.Key (text key_of) table
+  native ← otherwise false field.Native flag table
   Ok (record {
     config = record {
       kind = kind;
@@ -71,7 +72,7 @@ circuit_from table = do
       address = address;
       key = key;
     };
-    place = record { bind = bind; peers = peers };
+    place = record { bind = bind; peers = peers; native = native };
   })
 
 -- the circuits of tables, and their places

@@ -49,8 +49,8 @@ example_circuits =
 
 abbrev pub example_places : List CircuitPlace
 example_places =
-    record { bind = here 7001; peers = here 7002 ∷ [] }
-    ∷ record { bind = here 7003; peers = here 7004 ∷ here 7005 ∷ [] }
+    record { bind = here 7001; peers = here 7002 ∷ []; native = false }
+    ∷ record { bind = here 7003; peers = here 7004 ∷ here 7005 ∷ []; native = false }
     ∷ []
 
 -- 10.0.1.0/24

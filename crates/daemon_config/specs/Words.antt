@@ -36,6 +36,7 @@ key_word field.Metric = codes "metric"
 key_word field.Priority = codes "priority"
 key_word field.Address = codes "address"
 key_word field.Key = codes "key"
+key_word field.Native = codes "native"
 key_word field.PrefixMetric = codes "prefix-metric"
 
 -- what stands behind `config` where a configuration is refused, as missing system (own)
@@ -58,7 +59,7 @@ top_keys =
 abbrev pub circuit_keys : List ConfigKey
 circuit_keys =
     field.Kind ∷ field.Bind ∷ field.Peers ∷ field.Metric ∷ field.Priority ∷ field.Address
-    ∷ field.Key ∷ []
+    ∷ field.Key ∷ field.Native ∷ []
 
 abbrev pub prefix_keys : List ConfigKey
 prefix_keys = field.Prefix ∷ field.PrefixMetric ∷ []

@@ -10,7 +10,7 @@ ghost use Rattle.daemon_config.specs.Steps.{Stops};
 use crate::fault::{ConfigFault, ConfigKey};
 use crate::lists::{read_peers, table_items};
 use crate::settings::{CircuitRead, CircuitsRead};
-use crate::shapes::{key_if_given, number_or, text_if_given, wanted, wanted_text};
+use crate::shapes::{flag_or_false, key_if_given, number_or, text_if_given, wanted, wanted_text};
 use daemon_edge::{Address, CircuitPlace, Places};
 use isis_base::CircuitKind;
 use isis_base::numbers::{CIRCUIT_LIMIT, CIRCUIT_METRIC};
@@ -41,6 +41,7 @@ fn read_circuit(alloc: Global, table: &Table) -> Result<CircuitRead, ConfigFault
     let priority = number_or(table, ConfigKey::Priority, 64, 127)?;
     let address = text_if_given::<u32>(table, ConfigKey::Address)?;
     let key = key_if_given(alloc, table, ConfigKey::Key)?;
+    let native = flag_or_false(table, ConfigKey::Native)?;
     Ok(CircuitRead {
         config: CircuitConfig {
             kind,
@@ -49,7 +50,11 @@ fn read_circuit(alloc: Global, table: &Table) -> Result<CircuitRead, ConfigFault
             address,
             key,
         },
-        place: CircuitPlace { bind, peers },
+        place: CircuitPlace {
+            bind,
+            peers,
+            native,
+        },
     })
 }
 

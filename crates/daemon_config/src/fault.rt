@@ -62,6 +62,8 @@ pub enum ConfigKey {
     Address,
     /// The key of a circuit's hellos.
     Key,
+    /// Whether a circuit's peers are routers of this project.
+    Native,
     /// The metric of a prefix.
     PrefixMetric,
 }

@@ -18,7 +18,7 @@ pub(crate) const TOP_KEYS: [ConfigKey; 9] = [
 ];
 
 /// The keys of a circuit.
-pub(crate) const CIRCUIT_KEYS: [ConfigKey; 7] = [
+pub(crate) const CIRCUIT_KEYS: [ConfigKey; 8] = [
     ConfigKey::Kind,
     ConfigKey::Bind,
     ConfigKey::Peers,
@@ -26,6 +26,7 @@ pub(crate) const CIRCUIT_KEYS: [ConfigKey; 7] = [
     ConfigKey::Priority,
     ConfigKey::Address,
     ConfigKey::Key,
+    ConfigKey::Native,
 ];
 
 /// The keys of a prefix.
@@ -55,6 +56,7 @@ impl ConfigKey {
             ConfigKey::Priority => "priority",
             ConfigKey::Address => "address",
             ConfigKey::Key => "key",
+            ConfigKey::Native => "native",
             ConfigKey::PrefixMetric => "prefix-metric",
         }
     }

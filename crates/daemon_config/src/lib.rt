@@ -19,6 +19,13 @@
 //! - `reader.rt`: the call `read_config`
 //! - `laws.rt`: addresses are read of their own texts alone; what an example says, and why others
 //!   are refused: functions without a body, whose contracts are the laws
+//!
+//! Choices (own):
+//!
+//! - The definition has a combinator for each shape of a key; a list's kind is judged over all items, then its
+//!   count, then its items.
+//! - Octets that aren't UTF-8 are `text -`, by a test of its own; a prefix is named twice at the second table,
+//!   before its metric.
 #![tactic(auto)]
 
 mod circuits;

@@ -11,13 +11,23 @@
 //! - `spawning.rt`: workers, and the threads that they work in
 //! - `memory_ports.rt`, `kept.rt`: ports in memory, and what they keep; `memory_pacer.rt`: a pacer in memory
 //! - `faults.rt`: faults counted
-//! - `udp.rt`: ports over UDP; `sleep_pacer.rt`: a pacer that sleeps
+//! - `other_boot.rt`: hellos that name another boot number than their frame
+//! - `udp.rt`: ports over UDP; `sleep_pacer.rt`: a pacer that sleeps; `first_second.rt`: one whose first second comes at once, and its gate
+//!
+//! Choices (own):
+//!
+//! - A spawner decides of each start alone, and `run_all` is a free function; `Port::take` takes the runtime,
+//!   since it waits.
+//! - A socket's wait is set only where it changes; what is closed is recorded as a list, so that no body can
+//!   close nothing; a gate has no clause.
 #![tactic(auto)]
 
 mod faults;
+mod first_second;
 mod kept;
 mod memory_pacer;
 mod memory_ports;
+mod other_boot;
 mod pacing;
 mod place;
 mod port;
@@ -26,9 +36,11 @@ mod sleep_pacer;
 mod spawning;
 mod udp;
 
+pub use first_second::{FirstSecond, PromptPacer};
 pub use isis_base::List as PlaceList;
 pub use memory_pacer::MemoryPacer;
 pub use memory_ports::{MemoryPort, MemoryPorts};
+pub use other_boot::is_of_other_boot;
 pub use pacing::{Gate, OpenGate, Pace, Pacer};
 pub use place::{Address, CircuitPlace, Peers, Places};
 pub use port::{Offered, Port, Taken};

@@ -8,11 +8,13 @@ pub struct Address {
     pub port: u16,
 }
 
-/// Where a circuit's port is bound, and the peers that it sends to (own).
+/// Where a circuit's port is bound, and the peers that it sends to; and whether these are routers of this project, of whose
+/// point-to-point hellos a UDP port passes over those that name another boot number than their frame (own).
 #[derive(Drop, Debug)]
 pub struct CircuitPlace {
     pub bind: Address,
     pub peers: Peers,
+    pub native: bool,
 }
 
 /// The peers of a circuit.

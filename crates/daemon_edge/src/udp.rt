@@ -5,6 +5,7 @@ ghost use Rattle.daemon_edge.specs.Closings.{closing, opened_at};
 ghost use Rattle.daemon_edge.specs.Ports.{Fits};
 ghost use Rattle.daemon_edge.specs.declared.udp.UdpPort as declared;
 
+use crate::other_boot::is_of_other_boot;
 use crate::place::{Address, CircuitPlace};
 use crate::port::{Offered, Port, Taken};
 use crate::ports::{Ports, Refused};
@@ -16,8 +17,8 @@ use std::time::{Clock, Duration};
 /// How many milliseconds a take waits at most (own).
 const WAIT: u64 = 100;
 
-/// How many datagrams of strangers one take passes over (own).
-const STRANGERS: usize = 1024;
+/// How many datagrams one take passes over (own).
+const PASSED: usize = 1024;
 
 impl Address {
     fn socket(self) -> SocketAddr
@@ -35,16 +36,16 @@ struct Listener {
 }
 
 impl Listener {
-    /// The next datagram of a peer, within the time that a take has.
-    fn take_within<R: Clock>(&mut self, rt: &R, peers: &[Address], buffer: &mut [u8]) -> Taken
+    /// The next datagram that is the router's, within the time that a take has.
+    fn take_within<R: Clock>(&mut self, rt: &R, place: &CircuitPlace, buffer: &mut [u8]) -> Taken
         ensures { Fits result buffer.new }
     {
         let Ok(start) = rt.monotonic() else {
             return Taken::Failed;
         };
         let mut left = Duration::from_millis(WAIT);
-        for _ in 0..STRANGERS {
-            if let Some(taken) = self.receive(peers, left, buffer) {
+        for _ in 0..PASSED {
+            if let Some(taken) = self.receive(place, left, buffer) {
                 return taken;
             }
             let Ok(now) = rt.monotonic() else {
@@ -58,8 +59,8 @@ impl Listener {
         Taken::NotYet
     }
 
-    /// What comes within a time; `None` where it is a stranger's.
-    fn receive(&mut self, peers: &[Address], wait: Duration, buffer: &mut [u8]) -> Option<Taken>
+    /// What comes within a time; `None` where it is passed over.
+    fn receive(&mut self, place: &CircuitPlace, wait: Duration, buffer: &mut [u8]) -> Option<Taken>
         ensures { IfSome result (λ taken. Fits taken buffer.new) }
     {
         if !self.sets(wait) {
@@ -67,10 +68,12 @@ impl Listener {
         }
         match self.socket.recv_from(buffer) {
             Ok((count, from)) => {
-                if is_one_of(from, peers) {
-                    Some(Taken::Got(count))
-                } else {
+                let is_passed = !is_one_of(from, place.peers.as_slice())
+                    || (place.native && is_of_other_boot(&buffer[..count]));
+                if is_passed {
                     None
+                } else {
+                    Some(Taken::Got(count))
                 }
             }
             Err(error) => match error.kind() {
@@ -120,7 +123,7 @@ fn heard_from(from: SocketAddr) -> Option<Address>
 }
 
 /// A port over a UDP socket. A take waits 100 ms at most, and passes over what doesn't come from one of the circuit's
-/// peers; an offer goes to each peer.
+/// peers, and where these are native, hellos that name another boot number than their frame; an offer goes to each peer.
 #[derive(Drop)]
 pub struct UdpPort {
     listener: Listener,
@@ -145,9 +148,7 @@ impl Port for UdpPort {
 
     fn take<R: Clock>(&mut self, rt: &R, buffer: &mut [u8]) -> Taken {
         self.asked = self.asked.saturating_add(1);
-        let taken = self
-            .listener
-            .take_within(rt, self.place.peers.as_slice(), buffer);
+        let taken = self.listener.take_within(rt, &self.place, buffer);
         match taken {
             Taken::Got(count) => self.given.push(&buffer[..count]),
             Taken::NotYet => {}
