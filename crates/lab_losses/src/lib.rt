@@ -3,7 +3,6 @@
 //! The network before that line is made anew for each schedule: the script's other lines are played again.
 //!
 //! - `replay.rt`: a network of network_lab as lossy_runs uses it
-//! - `kinds.rt`: the kinds of PDUs that a line leaves out
 //! - `finding.rt`: the call that finds the worst
 //! - `groups.rt`: whether its groups are those at the end of the line where nothing is lost
 //! - `write.rt`: the call that writes what is found; `reason.rt`: why there is nothing to tell; `fault.rt`: why nothing was written
@@ -12,7 +11,6 @@
 mod fault;
 mod finding;
 mod groups;
-mod kinds;
 mod reason;
 mod replay;
 mod write;

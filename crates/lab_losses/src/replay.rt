@@ -12,13 +12,12 @@ ghost use Rattle.lossy_runs.specs.Endings.{StopCause};
 ghost use Rattle.network_lab.specs.LabRuns.{IsOfRun};
 ghost use Rattle.lab_losses.specs.Replays.{IsReplay, IsRefusalOf, stop_of};
 
-use crate::kinds::is_left_out;
 use isis_base::OutOfMemory;
 use lab_text::{LabScript, Network, ScriptFault, play_machines};
 use losses::Stop;
 use lossy_runs::{Comes, Coming, Lab};
 use model_network::PduWord;
-use network_lab::{LabEvent, LabFault, LimitName};
+use network_lab::{LabEvent, LabFault, LimitName, is_left_out};
 use router_core::Asked;
 use std::alloc::Global;
 

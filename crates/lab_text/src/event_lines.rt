@@ -19,7 +19,7 @@ use crate::lay_out::lay_out;
 use isis_base::{Octets, OutOfMemory};
 use lab_script::{LabDeed, LabLine, LabScript, Reason, ScriptFault};
 use model_network::PduWord;
-use network_lab::{Asked, LabEvent, LabFault, Network};
+use network_lab::{Asked, Keeping, LabEvent, LabFault, Network};
 use router_desk::Change;
 use std::alloc::Global;
 
@@ -97,9 +97,9 @@ fn play_lines(
 }
 
 /// One event line.
-fn play_line(
+pub fn play_line<K: Keeping>(
     alloc: Global,
-    net: &mut Network<Asked>,
+    net: &mut Network<K>,
     script: &LabScript<'_>,
     line: &LabLine<'_>,
 ) -> Result<(), ScriptFault>
@@ -175,8 +175,8 @@ fn play_line(
 }
 
 /// Another metric of a router's circuit.
-fn play_metric(
-    net: &mut Network<Asked>,
+fn play_metric<K: Keeping>(
+    net: &mut Network<K>,
     script: &LabScript<'_>,
     line: usize,
     router: usize,
@@ -200,7 +200,7 @@ fn play_metric(
 }
 
 /// The number of a router's circuit at a place.
-fn circuit_of(net: &Network<Asked>, router: usize, place: usize) -> u8
+fn circuit_of<K: Keeping>(net: &Network<K>, router: usize, place: usize) -> u8
     requires router { router < length net.now.seen.routers }
     requires there { IfSome (nth net.now.seen.routers router)
         (λ r. place < length r.circuits) }
@@ -211,8 +211,8 @@ fn circuit_of(net: &Network<Asked>, router: usize, place: usize) -> u8
 }
 
 /// Octets are injected.
-fn play_injection(
-    net: &mut Network<Asked>,
+fn play_injection<K: Keeping>(
+    net: &mut Network<K>,
     script: &LabScript<'_>,
     line: usize,
     router: usize,
@@ -240,8 +240,8 @@ fn play_injection(
 }
 
 /// A change of a router's configuration.
-fn play_change(
-    net: &mut Network<Asked>,
+fn play_change<K: Keeping>(
+    net: &mut Network<K>,
     line: usize,
     router: usize,
     change: Change,
@@ -258,7 +258,11 @@ fn play_change(
 }
 
 /// One event.
-fn play_event(net: &mut Network<Asked>, line: usize, event: LabEvent) -> Result<(), ScriptFault>
+fn play_event<K: Keeping>(
+    net: &mut Network<K>,
+    line: usize,
+    event: LabEvent,
+) -> Result<(), ScriptFault>
     requires goes_on { net.old.stopped ≡ None }
     requires there { IsEvent net.old.seen event }
     ensures value { (m : ModelNetwork) → StandsFor m net.old
@@ -276,7 +280,7 @@ fn play_event(net: &mut Network<Asked>, line: usize, event: LabEvent) -> Result<
 }
 
 /// What refuses a line, by what refused its event.
-fn fault_at(line: usize, fault: LabFault) -> ScriptFault
+pub fn fault_at(line: usize, fault: LabFault) -> ScriptFault
     ensures { result ≡ run.fault_at line fault }
 {
     match fault {
@@ -294,7 +298,7 @@ fn fault_at(line: usize, fault: LabFault) -> ScriptFault
 }
 
 /// A datagram is told, where it was sent before.
-fn tell(net: &Network<Asked>, line: usize, datagram: usize) -> Result<(), ScriptFault>
+fn tell<K: Keeping>(net: &Network<K>, line: usize, datagram: usize) -> Result<(), ScriptFault>
     requires goes_on { net.now.stopped ≡ None }
     ensures { (m : ModelNetwork) → StandsFor m net.now
         → Plays result net.now (play_deed m line (deed.Dump datagram)) }
@@ -309,8 +313,8 @@ fn tell(net: &Network<Asked>, line: usize, datagram: usize) -> Result<(), Script
 }
 
 /// Seconds of a line `run`.
-fn play_run(
-    net: &mut Network<Asked>,
+fn play_run<K: Keeping>(
+    net: &mut Network<K>,
     line: usize,
     seconds: u32,
     without: Option<PduWord>,

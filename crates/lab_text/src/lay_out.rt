@@ -18,7 +18,7 @@ use network_lab::{Asked, LabFault, Network};
 use std::alloc::Global;
 
 /// The network before the script's events.
-pub(crate) fn lay_out(alloc: Global, script: &LabScript<'_>) -> Result<Network<Asked>, OutOfMemory>
+pub fn lay_out(alloc: Global, script: &LabScript<'_>) -> Result<Network<Asked>, OutOfMemory>
     ensures laid { IfOk result (λ net. net ≡ laid_out script.now) }
     ensures is { IfOk result (λ net. IsLaid (length script.now.routers) script.now.links net.seen) }
     ensures stands { IfOk result (λ net. StandsFor (opened net) net) }

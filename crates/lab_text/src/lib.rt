@@ -26,6 +26,12 @@ mod report;
 mod router_config;
 mod run;
 
+/// What other runs of lab scripts are made with.
+pub mod parts {
+    pub use crate::event_lines::{fault_at, play_line};
+    pub use crate::lay_out::lay_out;
+}
+
 pub use event_lines::{play, play_machines};
 pub use fault::RunFault;
 pub use lab_keys::LimitName;

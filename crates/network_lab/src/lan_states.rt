@@ -43,7 +43,7 @@ impl<K: Keeping> Network<K> {
     }
 
     /// The other end of a LAN by which a member is swept at a level.
-    pub(crate) fn sweeper(&self, lan: usize, member: usize, level: Level) -> Option<usize>
+    pub fn sweeper(&self, lan: usize, member: usize, level: Level) -> Option<usize>
         requires there { lan < length self.now.seen.links }
         requires member { member < length self.now.seen.routers }
         ensures { result ≡ sweeper_at self.now.seen lan member level }

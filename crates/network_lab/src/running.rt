@@ -12,8 +12,8 @@ ghost use Rattle.network_lab.specs.Claims.{IsClaimed};
 ghost use Rattle.network_lab.specs.LabRuns.{RunEnding, IsOfRun, tick_unless, pull_unless, deliver_unless, pull_links_of, deliver_numbered};
 
 use crate::event::LabEvent;
+use crate::kinds::is_left_out;
 use crate::network::Network;
-use isis_base::numbers::FRAME;
 use lab_keys::LabFault;
 use model_network::PduWord;
 use router_core::Keeping;
@@ -42,32 +42,6 @@ impl LeftOut {
         ensures { result ≡ (router == sender || line.is_excepted self.except router) }
     {
         router == sender || self.is_excepted(router)
-    }
-
-    /// Whether a datagram isn't delivered.
-    fn is_left_out(self, octets: &[u8]) -> bool
-        ensures { result ≡ line.is_left_out self.without octets.now }
-    {
-        match self.without {
-            None => false,
-            Some(word) => is_of(word, octets),
-        }
-    }
-}
-
-/// Whether a datagram's PDU is of a kind.
-fn is_of(word: PduWord, octets: &[u8]) -> bool
-    ensures { result ≡ line.is_of word (line.type_of octets.now) }
-{
-    let code = match octets.get(FRAME + 4) {
-        Some(octet) => *octet % 32,
-        None => 0,
-    };
-    match word {
-        PduWord::Hello => 15 <= code && code <= 17,
-        PduWord::Lsp => code == 18 || code == 20,
-        PduWord::Csnp => code == 24 || code == 25,
-        PduWord::Psnp => code == 26 || code == 27,
     }
 }
 
@@ -262,7 +236,7 @@ impl<K: Keeping> Network<K> {
             result }
     {
         let datagram = &self.sent[number - 1];
-        if out.is_left_out(datagram.octets.as_slice()) {
+        if is_left_out(out.without, datagram.octets.as_slice()) {
             return Ok(());
         }
         let (sender, link) = (datagram.sender, datagram.link);

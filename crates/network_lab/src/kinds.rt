@@ -5,8 +5,8 @@ ghost use Rattle.model_network.specs.RunLines as line;
 use isis_base::numbers::FRAME;
 use model_network::PduWord;
 
-/// Whether a datagram isn't delivered, by the kind of its PDU.
-pub(crate) fn is_left_out(without: Option<PduWord>, octets: &[u8]) -> bool
+/// Whether a line `run` leaves a datagram out, by the kind of its PDU (own).
+pub fn is_left_out(without: Option<PduWord>, octets: &[u8]) -> bool
     ensures { result ≡ line.is_left_out without octets.now }
 {
     match without {
