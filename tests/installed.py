@@ -9,12 +9,12 @@ from limits import headed, told
 
 TOP = Path(__file__).resolve().parent.parent
 FILES = ["lib/isis", "bin/isis", "share/man/man1/isis.1", "share/bash-completion/completions/isis", "share/zsh/site-functions/_isis"]
-SHORT, LAUNCHERS = ["lab", "walk", "trace", "losses", "weave", "grid", "show", "routes6", "alternates"], ["daemon-next", "--help", "--version", "--unproved"]
+SHORT, LAUNCHERS = ["lab", "walk", "trace", "losses", "weave", "grid", "show", "routes", "routes6", "alternates"], ["daemon-next", "--help", "--version", "--unproved"]
 COMMANDS, SIZES = SHORT + ["daemon"], [str(size) for size in range(1, 9)]
 # Lines of words, of which the last one is to be completed, and what may stand there.
 COMPLETIONS = {
     "isis ": COMMANDS + LAUNCHERS, "isis s": ["show"], "isis --u": ["--unproved"], "isis lab ": [], "isis walk ": [], "isis walk A ": [],
-    "isis routes6 ": ["L1", "L2"],
+    "isis routes ": ["L1", "L2"], "isis routes6 ": ["L1", "L2"], "isis ro": ["routes", "routes6"],
     "isis grid ": SIZES, "isis grid 3 ": [], "isis w": ["walk", "weave"], "isis weave ": [],
     f"{TOP}/isis ": COMMANDS + LAUNCHERS, f"{TOP}/isis --u": ["--unproved"], f"{TOP}/isis --unproved ": SHORT,
     f"{TOP}/isis --unproved grid ": SIZES, f"{TOP}/isis --unproved lab ": [], f"{TOP}/isis --unproved walk ": [],

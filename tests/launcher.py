@@ -169,14 +169,14 @@ def walked(run, clone):
 def numbered(run, clone):
     """The words of `daemon`, and boot numbers that are kept in a file."""
     start = lambda *words: headed(run(words, "text\n", program=clone.program, env=clone.environment))
-    for words in (["--boot", "7", "--turns", "5"], ["--turns=86400", "--boot=16777215"]):
+    for words in (["--boot", "7", "--turns", "5"], ["--turns=86400", "--boot=16777215"], ["--boot", "7"], ["--boot=7"]):
         yield f"daemon: {words}", told(start("daemon", *words), 0, "", f"daemon {' '.join(words)}\ntext\n")
-    for words in ([], ["--boot", "1"], ["--boot", "0", "--turns", "5"], ["--boot=1", "--boot=1"], ["--boot", "16777216", "--turns", "5"], ["--turns"]):
+    for words in ([], ["--boot"], ["--turns", "5"], ["--boot", "0", "--turns", "5"], ["--boot=1", "--boot=1"], ["--boot", "16777216", "--turns", "5"], ["--turns"]):
         yield f"daemon: {words}", told(start("daemon", *words), 2, "usage", "")
     state = clone.folder / "state"
     turns, journals = ["--turns", "5"], ["--journals", clone.folder]
-    for words in ([], [state], [state, "--boot", "5", *turns], [state, *turns, *turns], ["", *turns], [state, *turns, "--journals"],
-                  [state, *turns, "--journals="], [state, *turns, *journals, *journals], [state, *journals]):
+    for words in ([], [state, "--boot", "5", *turns], [state, *turns, *turns], ["", *turns], [state, *turns, "--journals"],
+                  [state, *turns, "--journals="], [state, *turns, *journals, *journals], [state, "--", "5"]):
         yield f"daemon-next: {words}", told(start("daemon-next", *words), 2, "usage", "")
     for before, boot in ((None, 1), ("1\n", 2), ("16777214", 16777215)):
         if before:
@@ -191,9 +191,9 @@ def numbered(run, clone):
     for file, what in ((clone.folder, "read"), (clone.folder / "none" / "state", "written")):
         yield f"daemon-next where it can't be {what}", told(start("daemon-next", file, "--turns", "5"), 1, f"{file} can't be {what}", "")
     clone.put("state", "6\n")
-    for boot, words in ((7, [*turns, *journals]), (8, [f"--journals={clone.folder}", *turns])):
+    for boot, words, said in ((7, [*turns, *journals], " --turns 5"), (8, [f"--journals={clone.folder}", *turns], " --turns 5"), (9, journals, "")):
         fault, journal = told(start("daemon-next", state, *words), 0, "", ""), clone.folder / f"{boot}.journal"
-        yield f"daemon-next names journal {boot}", fault or (None if journal.read_text() == f"daemon --boot {boot} --turns 5\ntext\n" else "another journal")
+        yield f"daemon-next names journal {boot}", fault or (None if journal.read_text() == f"daemon --boot {boot}{said}\ntext\n" else "another journal")
     clone.put("state", "6\n")
     line = f"{clone.folder}/7.journal is there, or can't be written"
     yield "daemon-next where the journal is there", told(start("daemon-next", state, *turns, *journals), 1, line, "")

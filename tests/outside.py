@@ -182,11 +182,11 @@ CAPTURED = "0000.0000.0001"
 
 
 def summaries(run):
-    """A grid's summary, the IPv6 routes and the alternates of a system at each level: an output that is closed is a write fault."""
+    """A grid's summary, the routes and the alternates of a system at each level: an output that is closed is a write fault."""
     closed = {"preexec_fn": lambda: os.closerange(1, 2)}
-    for words in (["grid", "1"], *([word, level, CAPTURED] for word in ("routes6", "alternates") for level in ("L1", "L2"))):
+    for words in (["grid", "1"], *([word, level, CAPTURED] for word in ("routes", "routes6", "alternates") for level in ("L1", "L2"))):
         name = " ".join(words)
-        yield name, told(run(words, ""), 0)
+        yield name, told(run(words, ""), 0, "" if words[0] == "grid" else "no LSPs of this level")
         yield f"{name}, and no output", told(run(words, "", **closed), 5, "write fault")
 
 

@@ -4,8 +4,7 @@ use Rattle.std.specs.Str.{bytes_eq}
 use Rattle.std.proofs.lemmas.Slice.Eq.{bytes_eq-Decides}
 use Rattle.isis_base.specs.declared.identifiers.SystemId.{SystemId}
 use Rattle.isis_base.specs.declared.level.Level.{Level}
-use Rattle.isis_daemon.specs.declared.command.Command.TheVariants.{Routes6, Alternates}
-use Rattle.isis_daemon.specs.Commands.{command_of, losses_of, three_of, level_in, system_in, grid_size_of, size_of, walk_of, trace_of, weave_of}
+use Rattle.isis_daemon.specs.Commands.{command_of, losses_of, three_of, grid_size_of, size_of, walk_of, trace_of, weave_of}
 use Rattle.isis_daemon.specs.Options.{name_in, value_in, pieces_of, options_of, daemon_of}
 
 fails : (b : Bool) → ¬ (b ≡ true) → b ≡ false
@@ -59,11 +58,6 @@ value_none (x ∷ word) none =
 
 -- ---- words that ask for a daemon ask for no text of an input
 
-captured_none : (l : Option Level) (s : Option SystemId) → option_and_then (λ level. option_and_then (λ system. if bytes_eq (codes "daemon") (codes "routes6") then Some (Routes6 level system) else if bytes_eq (codes "daemon") (codes "alternates") then Some (Alternates level system) else None) s) l ≡ None
-captured_none None s = refl
-captured_none (Some level) None = refl
-captured_none (Some level) (Some system) = refl
-
 named : (word : List ℕ) (words : List (List ℕ)) (x : ℕ × ℕ) → daemon_of (word ∷ words) ≡ Some x → word ≡ codes "daemon"
 named word words x is = (bytes_eq-Decides word (codes "daemon")).0 (hit (bytes_eq word (codes "daemon")) is)
   where
@@ -79,7 +73,7 @@ alone (word ∷ []) x is = absurd (none (bytes_eq word (codes "daemon")) is)
     none true e = cc e
     none false e = cc e
 alone (word ∷ l ∷ []) x is = subst (λ (w : List ℕ). losses_of w l ≡ None) (sym (named word (l ∷ []) x is)) refl
-alone (word ∷ l ∷ s ∷ []) x is = subst (λ (w : List ℕ). three_of w l s ≡ None) (sym (named word (l ∷ s ∷ []) x is)) (captured_none (level_in l) (system_in s))
+alone (word ∷ l ∷ s ∷ []) x is = subst (λ (w : List ℕ). three_of w l s ≡ None) (sym (named word (l ∷ s ∷ []) x is)) refl
 alone (word ∷ l ∷ s ∷ next ∷ words) x is = refl
 
 -- what is asked for isn't none

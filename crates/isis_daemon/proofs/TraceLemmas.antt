@@ -5,8 +5,7 @@ use Rattle.std.specs.Str.{bytes_eq}
 use Rattle.std.proofs.lemmas.Slice.Eq.{bytes_eq-Decides}
 use Rattle.isis_base.specs.declared.identifiers.SystemId.{SystemId}
 use Rattle.isis_base.specs.declared.level.Level.{Level}
-use Rattle.isis_daemon.specs.declared.command.Command.TheVariants.{Routes6, Alternates}
-use Rattle.isis_daemon.specs.Commands.{AreNoText, level_in, system_in, walk_of, trace_of, tracing_of}
+use Rattle.isis_daemon.specs.Commands.{AreNoText, walk_of, trace_of, tracing_of}
 use Rattle.isis_daemon.specs.Options.{daemon_of}
 use Rattle.lab_script.specs.declared.reason.ScriptFault.{ScriptFault}
 use Rattle.lab_script.specs.declared.reason.ScriptFault.TheVariants as script
@@ -19,18 +18,13 @@ use Rattle.isis_daemon.specs.TraceEnds.{IsTraceable, TraceEndsOn}
 abbrev pub AreOfTrace : List (List ℕ) → Type 0
 AreOfTrace words = AreNoText words × (daemon_of words ≡ None) × (walk_of words ≡ None)
 
-captured_none : (l : Option Level) (s : Option SystemId) → option_and_then (λ level. option_and_then (λ system. if bytes_eq (codes "trace") (codes "routes6") then Some (Routes6 level system) else if bytes_eq (codes "trace") (codes "alternates") then Some (Alternates level system) else None) s) l ≡ None
-captured_none None s = refl
-captured_none (Some level) None = refl
-captured_none (Some level) (Some system) = refl
-
 trace-alone : (words : List (List ℕ)) (x : List ℕ × ℕ) → Some x ≡ trace_of words → AreOfTrace words
 trace-alone [] x is = absurd (cc is)
 trace-alone (word ∷ []) x is = absurd (cc is)
 trace-alone (word ∷ name ∷ []) x is = absurd (cc is)
 trace-alone (word ∷ name ∷ address ∷ []) x is =
     subst (λ (w : List ℕ). AreOfTrace (w ∷ name ∷ address ∷ [])) (sym ((bytes_eq-Decides word (codes "trace")).0 (hit (bytes_eq word (codes "trace")) is)))
-    ((captured_none (level_in name) (system_in address), refl), refl, refl)
+    ((refl, refl), refl, refl)
   where
     hit : (b : Bool) → Some x ≡ (if b then tracing_of name address else None) → b ≡ true
     hit true e = refl
@@ -62,3 +56,4 @@ traced_done name address text put put' (status.WeaveRefused journal entry why) c
 traced_done name address text put put' (status.NoWalk why) can write h = absurd (can.traces why h.0)
 traced_done name address text put put' status.ScheduleLimit can write h = absurd h
 traced_done name address text put put' (status.NoLosses why) can write h = absurd h
+traced_done name address text put put' (status.Absent what) can write h = absurd h

@@ -6,8 +6,7 @@ use Rattle.std.proofs.lemmas.Slice.Eq.{bytes_eq-Decides}
 use Rattle.isis_base.specs.declared.identifiers.SystemId.{SystemId}
 use Rattle.isis_base.specs.declared.level.Level.{Level}
 use Rattle.isis_base.specs.declared.prefix.Prefix.{Prefix}
-use Rattle.isis_daemon.specs.declared.command.Command.TheVariants.{Routes6, Alternates}
-use Rattle.isis_daemon.specs.Commands.{AreNoText, level_in, system_in, walk_of, asked_of}
+use Rattle.isis_daemon.specs.Commands.{AreNoText, walk_of, asked_of}
 use Rattle.isis_daemon.specs.Options.{daemon_of}
 use Rattle.lab_script.specs.declared.reason.ScriptFault.{ScriptFault}
 use Rattle.lab_script.specs.declared.reason.ScriptFault.TheVariants as script
@@ -19,18 +18,13 @@ use Rattle.isis_daemon.specs.WalkEnds.{IsRefusedScript, IsWalkable, WalkEndsOn}
 abbrev pub AreOfWalk : List (List ℕ) → Type 0
 AreOfWalk words = AreNoText words × (daemon_of words ≡ None)
 
-captured_none : (l : Option Level) (s : Option SystemId) → option_and_then (λ level. option_and_then (λ system. if bytes_eq (codes "walk") (codes "routes6") then Some (Routes6 level system) else if bytes_eq (codes "walk") (codes "alternates") then Some (Alternates level system) else None) s) l ≡ None
-captured_none None s = refl
-captured_none (Some level) None = refl
-captured_none (Some level) (Some system) = refl
-
 walk-alone : (words : List (List ℕ)) (x : List ℕ × Prefix) → Some x ≡ walk_of words → AreOfWalk words
 walk-alone [] x is = absurd (cc is)
 walk-alone (word ∷ []) x is = absurd (cc is)
 walk-alone (word ∷ name ∷ []) x is = absurd (cc is)
 walk-alone (word ∷ name ∷ prefix ∷ []) x is =
     subst (λ (w : List ℕ). AreOfWalk (w ∷ name ∷ prefix ∷ [])) (sym ((bytes_eq-Decides word (codes "walk")).0 (hit (bytes_eq word (codes "walk")) is)))
-    ((captured_none (level_in name) (system_in prefix), refl), refl)
+    ((refl, refl), refl)
   where
     hit : (b : Bool) → Some x ≡ (if b then asked_of name prefix else None) → b ≡ true
     hit true e = refl
@@ -62,3 +56,4 @@ walked_done name prefix text put put' (status.WeaveRefused journal entry why) ca
 walked_done name prefix text put put' (status.NoWalk why) can write h = absurd (can.walks why h.0)
 walked_done name prefix text put put' status.ScheduleLimit can write h = absurd h
 walked_done name prefix text put put' (status.NoLosses why) can write h = absurd h
+walked_done name prefix text put put' (status.Absent what) can write h = absurd h

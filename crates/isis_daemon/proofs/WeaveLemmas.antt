@@ -72,3 +72,4 @@ woven_done law text put put' (status.WeaveRefused journal entry why) can write h
 woven_done law text put put' (status.NoWalk why) can write h = absurd h
 woven_done law text put put' status.ScheduleLimit can write h = absurd h
 woven_done law text put put' (status.NoLosses why) can write h = absurd h
+woven_done law text put put' (status.Absent what) can write h = absurd h

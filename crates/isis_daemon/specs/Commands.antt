@@ -13,7 +13,9 @@ use Rattle.daemon_config.specs.Fields.{host_of}
 use Rattle.line_cuts.specs.Fields.{prefix_of}
 use Rattle.lab_script.specs.Fields.{name_of}
 use Rattle.isis_daemon.specs.declared.command.Command.{Command}
-use Rattle.isis_daemon.specs.declared.command.Command.TheVariants.{Lab, Show, Routes6, Alternates, Losses}
+use Rattle.isis_daemon.specs.declared.command.Command.TheVariants.{Lab, Show, Captured, Losses}
+use Rattle.isis_daemon.specs.declared.command.CapturedText.{CapturedText}
+use Rattle.isis_daemon.specs.declared.command.CapturedText.TheVariants.{Routes, Routes6, Alternates}
 use Rattle.losses_text.specs.Words.{most_in, part_in}
 use Rattle.lab_losses.specs.ScriptLosses.{IsAskedPart}
 use Rattle.isis_daemon.specs.Options.{daemon_of}
@@ -28,13 +30,19 @@ level_in word =
 abbrev pub system_in : List ℕ → Option SystemId
 system_in word = option_map system_from (text_octets SYSTEM_TEXT word)
 
--- `routes6` or `alternates`, of a level and a system
+-- a text of captured LSPs, by its word
+abbrev pub captured_text_of : List ℕ → Option CapturedText
+captured_text_of word =
+    if bytes_eq word (codes "routes") then Some Routes
+    else if bytes_eq word (codes "routes6") then Some Routes6
+    else if bytes_eq word (codes "alternates") then Some Alternates else None
+
+-- such a text, of a level and a system
 abbrev pub captured_of : List ℕ → List ℕ → List ℕ → Option Command
 captured_of word level system =
-    option_and_then (λ level. option_and_then (λ system.
-    if bytes_eq word (codes "routes6") then Some (Routes6 level system)
-    else if bytes_eq word (codes "alternates") then Some (Alternates level system) else None)
-    (system_in system)) (level_in level)
+    option_and_then (λ what. option_and_then (λ level.
+    option_map (λ system. Captured what level system) (system_in system)) (level_in level))
+    (captured_text_of word)
 
 -- `losses` of at most so many lost deliveries, in all schedules
 abbrev pub losses_of : List ℕ → List ℕ → Option Command
@@ -57,8 +65,7 @@ three_of word first second =
 abbrev pub IsAskedCommand : Command → Type 0
 IsAskedCommand Lab = Unit {0}
 IsAskedCommand Show = Unit {0}
-IsAskedCommand (Routes6 level system) = Unit {0}
-IsAskedCommand (Alternates level system) = Unit {0}
+IsAskedCommand (Captured what level system) = Unit {0}
 IsAskedCommand (Losses most part) = IfSome part IsAskedPart
 
 -- one word, `lab` or `show`; `losses` with how many and a part; or a word of captured LSPs, a level and a system

@@ -4,9 +4,9 @@ use Rattle.daemon_config.specs.declared.fault.ConfigFault.TheVariants.{Refused}
 use Rattle.daemon_config.specs.Config.{config_of}
 use Rattle.daemon_config.specs.declared.settings.Settings.{Settings}
 use Rattle.daemon_edge.specs.Closings.{Closing}
-use Rattle.daemon_run.specs.declared.end.DaemonEnd.{DaemonEnd}
-use Rattle.daemon_run.specs.declared.end.DaemonEnd.TheVariants as daemon
-use Rattle.daemon_run.specs.Daemons.{DaemonRan}
+use Rattle.circuit_serve.specs.declared.daemon_end.DaemonEnd.{DaemonEnd}
+use Rattle.circuit_serve.specs.declared.daemon_end.DaemonEnd.TheVariants as daemon
+use Rattle.circuit_serve.specs.Daemons.{DaemonRan}
 use Rattle.isis_daemon.specs.declared.status.Status.{Status}
 use Rattle.isis_daemon.specs.declared.status.Status.TheVariants as status
 use Rattle.isis_daemon.specs.Runs.{input_limit, IsReadWhole, IsNotRead}
@@ -59,6 +59,7 @@ DaemonEndsOn o octets (status.WeaveRefused journal entry reason) = ⊥
 DaemonEndsOn o octets (status.NoWalk reason) = ⊥
 DaemonEndsOn o octets status.ScheduleLimit = ⊥
 DaemonEndsOn o octets (status.NoLosses reason) = ⊥
+DaemonEndsOn o octets (status.Absent what) = ⊥
 
 -- how the run of a daemon ends, by what its input gave, before and afterwards: the input wasn't read whole, and the router
 -- never was; or it was, and its octets come to this (own)

@@ -37,3 +37,4 @@ GridEnds size put put' (status.WeaveRefused journal entry reason) = ⊥
 GridEnds size put put' (status.NoWalk reason) = ⊥
 GridEnds size put put' status.ScheduleLimit = ⊥
 GridEnds size put put' (status.NoLosses reason) = ⊥
+GridEnds size put put' (status.Absent what) = ⊥

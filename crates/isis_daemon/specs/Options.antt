@@ -49,11 +49,16 @@ pieces_of (word ∷ words) = pieces_in word ++ pieces_of words
 
 -- ---- the options
 
--- two options, each with its number behind it, in either order (own)
+-- the boot number alone; the turns are then 10^12, which no machine lives to see the end of (own)
+abbrev pub boot_alone : List ℕ → Option (ℕ × ℕ)
+boot_alone boot = option_map (λ b. (b, 1000000000000)) (number_within 16777215 boot)
+
+-- the boot number, and the turns or not: each option with its number behind it, in either order (own)
 abbrev pub options_of : List (List ℕ) → Option (ℕ × ℕ)
 options_of [] = None
 options_of (first ∷ []) = None
-options_of (first ∷ number ∷ []) = None
+options_of (first ∷ number ∷ []) =
+    if bytes_eq first (codes "--boot") then boot_alone number else None
 options_of (first ∷ number ∷ second ∷ []) = None
 options_of (first ∷ number ∷ second ∷ other ∷ []) =
     if bytes_eq first (codes "--boot") && bytes_eq second (codes "--turns") then both number other
@@ -61,7 +66,7 @@ options_of (first ∷ number ∷ second ∷ other ∷ []) =
     then both other number else None
 options_of (first ∷ number ∷ second ∷ other ∷ next ∷ words) = None
 
--- the boot number and the turns that the words ask for: `daemon` and its two options (own)
+-- the boot number and the turns that the words ask for: `daemon` and its options (own)
 abbrev pub daemon_of : List (List ℕ) → Option (ℕ × ℕ)
 daemon_of [] = None
 daemon_of (word ∷ words) =

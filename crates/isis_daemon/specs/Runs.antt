@@ -1,14 +1,21 @@
 -- How a run of the program ends (own).
-use Rattle.std.specs.Prelude.{◌≡◌, ℕ, ◌+◌, ◌<◌, ◌≤◌, Bool, true, List, length, Result, Err, IsOk, IsOkAnd, ◌⊎◌}
+use Rattle.std.specs.Prelude.{◌≡◌, ℕ, ◌+◌, ◌<◌, ◌≤◌, Bool, true, List, length, Option, Some, None, Result, Err, IsOk, IsOkAnd, ◌⊎◌}
 use Rattle.isis_edge.specs.Told.{Took, Wrote}
+use Rattle.isis_base.specs.declared.identifiers.SystemId.{SystemId}
+use Rattle.isis_base.specs.declared.level.Level.{Level}
 use Rattle.lab_script.specs.declared.reason.ScriptFault.{ScriptFault}
 use Rattle.lab_script.specs.declared.reason.ScriptFault.TheVariants.{Refused, Limit}
 use Rattle.lab_script.specs.Scripts.{◌>>=◌, script_of}
 use Rattle.lab_text.specs.Runs.{IsReport, outcome_of, WrotePart}
 use Rattle.isis_daemon.specs.declared.command.Command.{Command}
-use Rattle.isis_daemon.specs.declared.command.Command.TheVariants.{Lab, Show, Routes6, Alternates, Losses}
+use Rattle.isis_daemon.specs.declared.command.Command.TheVariants.{Lab, Show, Captured, Losses}
+use Rattle.isis_daemon.specs.declared.command.CapturedText.{CapturedText}
+use Rattle.isis_daemon.specs.declared.command.CapturedText.TheVariants.{Routes, Routes6, Alternates}
 use Rattle.isis_daemon.specs.declared.status.Status.{Status}
 use Rattle.isis_daemon.specs.declared.status.Status.TheVariants as status
+use Rattle.capture_text.specs.declared.absence.Absence.{Absence}
+use Rattle.capture_text.specs.TextEnds.{IsAny}
+use Rattle.capture_text.specs.RoutesText.{IsRoutesText}
 use Rattle.capture_text.specs.Routes6Text.{IsRoutes6Text}
 use Rattle.capture_text.specs.AlternatesText.{IsAlternatesText}
 use Rattle.lab_losses.specs.declared.reason.LossesReason.{LossesReason}
@@ -20,13 +27,18 @@ use Rattle.isis_daemon.specs.Headline.{IsHeadline}
 abbrev pub input_limit : ℕ
 input_limit = 16777216
 
+-- a text of captured LSPs: the IPv4 routes, the IPv6 routes or the alternates of a system, of which the LSPs lack this
+abbrev pub IsCapturedText : CapturedText → Level → SystemId → List ℕ → Option Absence → List ℕ → Type 0
+IsCapturedText Routes level system input = IsRoutesText level system input
+IsCapturedText Routes6 level system input = IsRoutes6Text level system input
+IsCapturedText Alternates level system input = IsAlternatesText level system input
+
 -- a text is what a command makes of an input: of a script its report, or what lost deliveries do to its last line; of PDUs
--- their fields; and of captured LSPs the IPv6 routes or the alternates of a system
+-- their fields; and of captured LSPs what they say of a system
 abbrev pub IsTextOf : Command → List ℕ → List ℕ → Type 0
 IsTextOf Lab input text = IsOkAnd (script_of input) (λ script. IsReport script text)
 IsTextOf Show input text = text ≡ shown_text input
-IsTextOf (Routes6 level system) input text = IsRoutes6Text level system input text
-IsTextOf (Alternates level system) input text = IsAlternatesText level system input text
+IsTextOf (Captured what level system) input text = IsAny (IsCapturedText what level system input) text
 IsTextOf (Losses most part) input text = TellsLosses most part input text
 
 -- what a script comes to: an end, or what refuses it
@@ -37,24 +49,21 @@ script_outcome input = script_of input >>= λ script. outcome_of script
 abbrev pub IsRefusedBy : Command → List ℕ → ScriptFault → Type 0
 IsRefusedBy Lab input fault = script_outcome input ≡ Err fault
 IsRefusedBy Show input fault = ⊥
-IsRefusedBy (Routes6 level system) input fault = ⊥
-IsRefusedBy (Alternates level system) input fault = ⊥
+IsRefusedBy (Captured what level system) input fault = ⊥
 IsRefusedBy (Losses most part) input fault = RefusesLosses most part input fault
 
 -- a command has too many schedules of lost deliveries
 abbrev pub AreTooMany : Command → List ℕ → Type 0
 AreTooMany Lab input = ⊥
 AreTooMany Show input = ⊥
-AreTooMany (Routes6 level system) input = ⊥
-AreTooMany (Alternates level system) input = ⊥
+AreTooMany (Captured what level system) input = ⊥
 AreTooMany (Losses most part) input = HasTooMany most part input
 
 -- a command has no lost deliveries to tell of, for this reason
 abbrev pub Lacks : Command → List ℕ → LossesReason → Type 0
 Lacks Lab input reason = ⊥
 Lacks Show input reason = ⊥
-Lacks (Routes6 level system) input reason = ⊥
-Lacks (Alternates level system) input reason = ⊥
+Lacks (Captured what level system) input reason = ⊥
 Lacks (Losses most part) input reason = LacksLosses input reason
 
 -- the input gave no more than its first octets, at most one more than it may have
@@ -84,6 +93,7 @@ IsNotRead gave gave' (status.WeaveRefused journal entry reason) = ⊥
 IsNotRead gave gave' (status.NoWalk reason) = ⊥
 IsNotRead gave gave' status.ScheduleLimit = ⊥
 IsNotRead gave gave' (status.NoLosses reason) = ⊥
+IsNotRead gave gave' (status.Absent what) = ⊥
 
 -- how a run that reads an input ends, by how it ends on octets: the input wasn't read whole, and nothing was written; or it
 -- was, and its octets come to this
@@ -97,14 +107,27 @@ abbrev pub WroteText : Command → List ℕ → (put put' : List ℕ) → Type 0
 WroteText command octets put put' =
     (text : List ℕ) × IsTextOf command octets text × Wrote put put' text
 
--- what status 0 means: of a script its report was written, of whose run the headline holds; of another command its text
+-- the whole text of captured LSPs was written, which lack this of the system
+abbrev pub WroteCaptured : CapturedText → Level → SystemId → Option Absence → List ℕ → (put put' : List ℕ) → Type 0
+WroteCaptured what level system absence octets put put' =
+    (text : List ℕ) × IsCapturedText what level system octets absence text × Wrote put put' text
+
+-- what done means: of a script its report was written, of whose run the headline holds; of another command its text, and
+-- captured LSPs lack nothing of the system
 abbrev pub IsDone : Command → List ℕ → (put put' : List ℕ) → Type 0
 IsDone Lab octets put put' = IsHeadline octets put put'
 IsDone Show octets put put' = WroteText Show octets put put'
-IsDone (Routes6 level system) octets put put' = WroteText (Routes6 level system) octets put put'
-IsDone (Alternates level system) octets put put' =
-    WroteText (Alternates level system) octets put put'
+IsDone (Captured what level system) octets put put' =
+    WroteCaptured what level system None octets put put'
 IsDone (Losses most part) octets put put' = WroteText (Losses most part) octets put put'
+
+-- done, but captured LSPs lack this of the system
+abbrev pub IsDoneBut : Absence → Command → List ℕ → (put put' : List ℕ) → Type 0
+IsDoneBut absence Lab octets put put' = ⊥
+IsDoneBut absence Show octets put put' = ⊥
+IsDoneBut absence (Captured what level system) octets put put' =
+    WroteCaptured what level system (Some absence) octets put put'
+IsDoneBut absence (Losses most part) octets put put' = ⊥
 
 -- how a command's run on octets ends: the status has its cause in them; and the whole text was written, a prefix of it, or
 -- nothing
@@ -128,6 +151,7 @@ EndsOn command octets put put' (status.ConfigRefused what key) = ⊥
 EndsOn command octets put put' status.NotStarted = ⊥
 EndsOn command octets put put' (status.WeaveRefused journal entry reason) = ⊥
 EndsOn command octets put put' (status.NoWalk reason) = ⊥
+EndsOn command octets put put' (status.Absent what) = IsDoneBut what command octets put put'
 
 -- how a command's run ends, by what its input gave and its output was given, before and afterwards
 abbrev pub Ends : Command → (gave gave' : List ℕ) → (ended : Bool) → (put put' : List ℕ) → Status
@@ -139,8 +163,7 @@ Ends command gave gave' ended put put' end =
 abbrev pub ComesToEnd : Command → List ℕ → Type 0
 ComesToEnd Lab input = IsOk (script_outcome input)
 ComesToEnd Show input = Unit {0}
-ComesToEnd (Routes6 level system) input = Unit {0}
-ComesToEnd (Alternates level system) input = Unit {0}
+ComesToEnd (Captured what level system) input = Unit {0}
 ComesToEnd (Losses most part) input = HasLosses most part input
 
 -- an input that a command takes to its end
@@ -150,3 +173,15 @@ IsTaken command input = (length input ≤ input_limit) × ComesToEnd command inp
 -- done, or there was no memory for it
 abbrev pub IsDoneUnlessMemory : Status → Type 0
 IsDoneUnlessMemory end = (end ≡ status.Done) ⊎ (end ≡ status.OutOfMemory)
+
+-- a text of captured LSPs is asked for
+abbrev pub IsOfCaptured : Command → Type 0
+IsOfCaptured Lab = ⊥
+IsOfCaptured Show = ⊥
+IsOfCaptured (Captured what level system) = Unit {0}
+IsOfCaptured (Losses most part) = ⊥
+
+-- a command's whole text was written, though captured LSPs may lack something of the system; or there was no memory for it
+abbrev pub IsWrittenUnlessMemory : Command → Status → Type 0
+IsWrittenUnlessMemory command end =
+    IsDoneUnlessMemory end ⊎ (IsOfCaptured command × ((what : Absence) × (end ≡ status.Absent what)))

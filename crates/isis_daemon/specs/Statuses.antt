@@ -7,15 +7,16 @@ use Rattle.isis_edge.specs.declared.text.TextFailed.TheVariants as text
 use Rattle.daemon_config.specs.declared.fault.ConfigFault.{ConfigFault}
 use Rattle.daemon_config.specs.declared.fault.ConfigFault.TheVariants as config
 use Rattle.daemon_config.specs.Words.{kind_word, key_word}
-use Rattle.daemon_run.specs.declared.end.DaemonEnd.{DaemonEnd}
-use Rattle.daemon_run.specs.declared.end.DaemonEnd.TheVariants as daemon
+use Rattle.circuit_serve.specs.declared.daemon_end.DaemonEnd.{DaemonEnd}
+use Rattle.circuit_serve.specs.declared.daemon_end.DaemonEnd.TheVariants as daemon
 use Rattle.lab_keys.specs.Limits.{limit_word}
 use Rattle.lab_script.specs.declared.reason.ScriptFault.{ScriptFault}
 use Rattle.lab_script.specs.declared.reason.ScriptFault.TheVariants as script
 use Rattle.lab_text.specs.declared.fault.RunFault.{RunFault}
 use Rattle.lab_text.specs.declared.fault.RunFault.TheVariants as run
 use Rattle.isis_daemon.specs.declared.status.Status.{Status}
-use Rattle.isis_daemon.specs.declared.status.Status.TheVariants.{Done, Usage, ScriptRefused, ReadFault, WriteFault, TooLong, OutOfMemory, ConfigRefused, NotStarted, LabLimit, WeaveRefused, NoWalk, ScheduleLimit, NoLosses}
+use Rattle.isis_daemon.specs.declared.status.Status.TheVariants.{Done, Usage, ScriptRefused, ReadFault, WriteFault, TooLong, OutOfMemory, ConfigRefused, NotStarted, LabLimit, WeaveRefused, NoWalk, ScheduleLimit, NoLosses, Absent}
+use Rattle.capture_text.specs.Absences.{absence_text}
 use Rattle.lab_script.specs.Reasons.{reason_word}
 use Rattle.walk_text.specs.declared.fault.WalkFault.{WalkFault}
 use Rattle.walk_text.specs.declared.fault.WalkFault.TheVariants as walk
@@ -104,8 +105,9 @@ status_code (WeaveRefused journal entry reason) = 11
 status_code (NoWalk reason) = 12
 status_code ScheduleLimit = 10
 status_code (NoLosses reason) = 13
+status_code (Absent what) = 0
 
--- what stands on standard error; at 0 nothing is printed (own)
+-- what stands on standard error; of what is done nothing is printed (own)
 abbrev pub status_line : Status → List ℕ
 status_line Done = codes "isis: done"
 status_line Usage = codes "isis: usage"
@@ -125,3 +127,4 @@ status_line (WeaveRefused journal entry reason) =
 status_line (NoWalk reason) = codes "isis: no walk " ++ why.reason_word reason
 status_line ScheduleLimit = codes "isis: limit schedules"
 status_line (NoLosses reason) = codes "isis: no losses " ++ losses.reason_word reason
+status_line (Absent what) = codes "isis: " ++ absence_text what

@@ -43,6 +43,7 @@ TraceEndsOn name address octets put put' status.NotStarted = ⊥
 TraceEndsOn name address octets put put' (status.WeaveRefused journal entry reason) = ⊥
 TraceEndsOn name address octets put put' status.ScheduleLimit = ⊥
 TraceEndsOn name address octets put put' (status.NoLosses reason) = ⊥
+TraceEndsOn name address octets put put' (status.Absent what) = ⊥
 
 -- how the run of a trace ends, by what its input gave and its output was given, before and afterwards
 abbrev pub TraceEnds : List ℕ → ℕ → (gave gave' : List ℕ) → (ended : Bool) → (put put' : List ℕ)

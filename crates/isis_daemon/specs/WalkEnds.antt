@@ -50,6 +50,7 @@ WalkEndsOn name prefix octets put put' status.NotStarted = ⊥
 WalkEndsOn name prefix octets put put' (status.WeaveRefused journal entry reason) = ⊥
 WalkEndsOn name prefix octets put put' status.ScheduleLimit = ⊥
 WalkEndsOn name prefix octets put put' (status.NoLosses reason) = ⊥
+WalkEndsOn name prefix octets put put' (status.Absent what) = ⊥
 
 -- how the run of a walk ends, by what its input gave and its output was given, before and afterwards
 abbrev pub WalkEnds : List ℕ → Prefix → (gave gave' : List ℕ) → (ended : Bool) → (put put' : List ℕ)

@@ -32,6 +32,7 @@ WeaveEndsOn octets put put' status.NotStarted = ⊥
 WeaveEndsOn octets put put' (status.NoWalk reason) = ⊥
 WeaveEndsOn octets put put' status.ScheduleLimit = ⊥
 WeaveEndsOn octets put put' (status.NoLosses reason) = ⊥
+WeaveEndsOn octets put put' (status.Absent what) = ⊥
 
 -- how the run of a weaving ends, by what its input gave and its output was given, before and afterwards
 abbrev pub WeaveEnds : (gave gave' : List ℕ) → (ended : Bool) → (put put' : List ℕ) → Status → Type 0

@@ -1,7 +1,7 @@
 //! What the words after the program's name ask for.
 ghost use Rattle.std.specs.Prelude.{◌≡◌, ◌≤◌, [], ◌∷◌, map, string_bytes, None, IfSome};
 ghost use Rattle.std.specs.Option.{option_map};
-ghost use Rattle.isis_daemon.specs.Commands.{command_of, captured_of, losses_of, losses_in, three_of, IsAskedCommand, level_in, system_in, grid_size_of, size_of, walk_of, trace_of, weave_of, asked_of, tracing_of, AreNoText};
+ghost use Rattle.isis_daemon.specs.Commands.{command_of, captured_of, captured_text_of, losses_of, losses_in, three_of, IsAskedCommand, level_in, system_in, grid_size_of, size_of, walk_of, trace_of, weave_of, asked_of, tracing_of, AreNoText};
 ghost use Rattle.isis_daemon.specs.Options.{daemon_of};
 
 use daemon_config::read_host;
@@ -10,6 +10,17 @@ use lab_text::read_name;
 use line_cuts::read_prefix_word;
 use losses_text::{PartOf, read_most, read_part};
 
+/// A text of what captured LSPs say of a system.
+#[derive(Clone, Copy, Debug, PartialEq, Eq)]
+pub enum CapturedText {
+    /// `routes`: its IPv4 routes (RFC 5302).
+    Routes,
+    /// `routes6`: its IPv6 routes (RFC 5308).
+    Routes6,
+    /// `alternates`: its loop-free alternates (RFC 5286).
+    Alternates,
+}
+
 /// What the words after the program's name ask to be done with an input.
 #[derive(Clone, Copy, Debug, PartialEq, Eq)]
 pub enum Command {
@@ -17,12 +28,17 @@ pub enum Command {
     Lab,
     /// `show`: the fields of PDUs.
     Show,
-    /// `routes6`: the IPv6 routes of a system, by captured LSPs of a level (RFC 5308).
-    Routes6 { level: Level, system: SystemId },
-    /// `alternates`: the loop-free alternates of a system, by captured LSPs of a level (RFC 5286).
-    Alternates { level: Level, system: SystemId },
+    /// A text of a system, by captured LSPs of a level.
+    Captured {
+        what: CapturedText,
+        level: Level,
+        system: SystemId,
+    },
     /// `losses`: what at most so many lost deliveries do to the last line of a script, in a part of all schedules or in all.
-    Losses { most: u32, part: Option<PartOf> },
+    Losses {
+        most: u32,
+        part: Option<PartOf>,
+    },
 }
 
 /// What `walk` is asked for: a router by its name, and a prefix.
@@ -107,13 +123,28 @@ fn captured_of(word: &str, level: &str, system: &str) -> Option<Command>
     ensures value { result ≡ captured_of word.now level.now system.now }
     ensures asked { IfSome result IsAskedCommand }
 {
+    let what = captured_text_of(word)?;
     let level = level_in(level)?;
     let system = system_in(system)?;
+    Some(Command::Captured {
+        what,
+        level,
+        system,
+    })
+}
+
+/// A text of captured LSPs, by its word.
+fn captured_text_of(word: &str) -> Option<CapturedText>
+    ensures { result ≡ captured_text_of word.now }
+{
+    if word == "routes" {
+        return Some(CapturedText::Routes);
+    }
     if word == "routes6" {
-        return Some(Command::Routes6 { level, system });
+        return Some(CapturedText::Routes6);
     }
     if word == "alternates" {
-        return Some(Command::Alternates { level, system });
+        return Some(CapturedText::Alternates);
     }
     None
 }

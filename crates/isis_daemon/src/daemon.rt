@@ -9,7 +9,7 @@ use crate::options::DaemonOptions;
 use crate::status::{INPUT_LIMIT, Status};
 use daemon_config::{Settings, read_config};
 use daemon_edge::{Gate, Pacer, Ports, Spawner};
-use daemon_run::run_daemon;
+use circuit_serve::run_daemon;
 use isis_edge::{Sink, Source, read_whole};
 use std::alloc::Global;
 use std::net::Net;
@@ -38,7 +38,7 @@ pub(crate) fn daemon<
     gate: &G,
 ) -> (O, T, Status)
     requires boot { (1 ≤ options.boot) × (options.boot ≤ 16777215) }
-    requires turns { (1 ≤ options.turns) × (options.turns ≤ 86400) }
+    requires turns { (1 ≤ options.turns) × (options.turns ≤ 1000000000000) }
     ensures usage { ¬ (result.2 ≡ Status.Usage) }
     ensures taken { IsTakenWithin (I.gave input.old) (I.gave input.new) }
     ensures read_fault { result.2 ≡ Status.ReadFault

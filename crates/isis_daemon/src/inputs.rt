@@ -5,7 +5,7 @@ ghost use Rattle.isis_edge.specs.Told.{Took};
 ghost use Rattle.lab_grid.specs.GridRuns.{grid_end};
 ghost use Rattle.isis_daemon.specs.Commands.{command_of, grid_size_of, walk_of, trace_of, weave_of, AreNoInput};
 ghost use Rattle.isis_daemon.specs.GridEnds.{GridEnds};
-ghost use Rattle.isis_daemon.specs.Runs.{Ends, IsTaken, IsTakenWithin, IsDoneUnlessMemory};
+ghost use Rattle.isis_daemon.specs.Runs.{Ends, IsTaken, IsTakenWithin, IsDoneUnlessMemory, IsWrittenUnlessMemory};
 ghost use Rattle.isis_daemon.specs.TraceEnds.{TraceEnds, IsTraceable};
 ghost use Rattle.isis_daemon.specs.WalkEnds.{WalkEnds, IsWalkable};
 ghost use Rattle.isis_daemon.specs.WeaveEnds.{WeaveEnds, CanBeWoven};
@@ -43,7 +43,7 @@ pub(crate) fn run_input<I: Source, O: Sink>(
         (λ command. (octets : List ℕ) → Took (I.gave input.old) (I.gave input.new) octets → IsTaken command octets
         → ¬ Rose (I.faults input.old) (I.faults input.new)
         → ¬ Rose (O.faults output) (O.faults result.0)
-        → IsDoneUnlessMemory result.1) }
+        → IsWrittenUnlessMemory command result.1) }
     ensures later { (I.faults input.old ≤ I.faults input.new)
         × (O.faults output ≤ O.faults result.0) }
     ensures grid { IfSome (grid_size_of (map string_bytes words.now))

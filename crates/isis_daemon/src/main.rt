@@ -5,8 +5,10 @@
 //! columns of routers, and writes a summary. `isis walk NAME PREFIX` reads a script as `lab` does, and writes the walk of a
 //! packet from a router to a prefix. `isis trace NAME ADDRESS` reads a script too, and writes what becomes of a packet from a
 //! router to an address. `isis weave` reads the setup lines of a script and journals of daemons, weaves the journals into one
-//! schedule, and writes it as a script. Where the exit code isn't 0, the status's line stands on standard error.
-//! `isis daemon --boot N --turns N` reads a configuration from standard input, opens a UDP port for each of its
+//! schedule, and writes it as a script. `isis losses K` reads a script, and writes the worst that K lost deliveries of its last line
+//! do. `isis routes`, `routes6` and `alternates`, with a level and a system, read captured LSPs, and write the system's IPv4 routes,
+//! its IPv6 routes or its loop-free alternates. Where the exit code isn't 0 the status's line stands on standard error, and where
+//! captured LSPs lack the system that is asked for. `isis daemon --boot N --turns N` reads a configuration from standard input, opens a UDP port for each of its
 //! circuits, runs its router, and writes the router's journal.
 //!
 //! - `run.rt`: the call `run`, from the octets read to the octets written; `inputs.rt`: that of all but a daemon
@@ -15,6 +17,13 @@
 //! - `grid.rt`: the run of a grid; `walk.rt`, `trace.rt`: a walk and a trace after a script; `weaving.rt`: journals woven; `daemon.rt`: a
 //!   router over its circuits' ports
 //! - `show.rt`: the call `show`, line by line; `show/lines.rt` the lines of a PDU, and `shown.rt` what is still to come
+//!
+//! Choices (own):
+//!
+//! - Options are read by the program's own test of the words, without the kit's `clap`: a second reader would
+//!   have to equal the first.
+//! - `show` reads hex by the kit's `hex` alone; `bad` for checksum 0 at a lifetime above 0; one PDU's lines are
+//!   made before they are written.
 #![tactic(auto)]
 
 mod command;
@@ -35,7 +44,7 @@ mod weaving;
 
 use crate::run::run;
 use crate::status::Status;
-use daemon_edge::{OpenGate, SleepPacer, ThreadSpawner, UdpPorts};
+use daemon_edge::{FirstSecond, PromptPacer, ThreadSpawner, UdpPorts};
 use isis_edge::{StdSink, StdSource};
 use std::process::ExitCode;
 use std::{env, io};
@@ -59,7 +68,7 @@ fn main(rt: HostRuntime) -> ExitCode {
             let output = StdSink::new(rt.stdout());
             let mut ports = UdpPorts::new();
             let mut spawner = ThreadSpawner::new(Vec::new(rt.alloc()));
-            let gate = OpenGate::new();
+            let gate = FirstSecond::new();
             run(
                 &rt,
                 rt.alloc(),
@@ -68,7 +77,7 @@ fn main(rt: HostRuntime) -> ExitCode {
                 output,
                 &mut ports,
                 &mut spawner,
-                SleepPacer::new(),
+                PromptPacer::new(&gate),
                 &gate,
             )
             .2

@@ -13,20 +13,23 @@ use std::marker::Model;
 pub struct DaemonOptions {
     /// 1 to 16,777,215.
     pub boot: u32,
-    /// 1 to 86,400.
+    /// 1 to 86,400, or 10^12 where the words don't say how many.
     pub turns: u64,
 }
 
-/// The most turns: the seconds of a day (own).
+/// The most turns that words can say: the seconds of a day (own).
 const TURN_LIMIT: u32 = 86_400;
 
-/// The options that words ask for which are `daemon` with `--boot N` and `--turns N`, each once, in either order, the
-/// number as the next word or after `=`.
+/// The turns where the words don't say how many: the seconds of some 32,000 years (own).
+const ENDLESS: u64 = 1_000_000_000_000;
+
+/// The options that words ask for which are `daemon` with `--boot N`, and with or without `--turns N`, each once, in either
+/// order, the number as the next word or after `=`.
 pub fn daemon_of(words: &[String]) -> Option<DaemonOptions>
     ensures value { option_map (λ options. (options.boot, options.turns)) result
         ≡ daemon_of (map string_bytes words.now) }
     ensures boot { IfSome result (λ options. (1 ≤ options.boot) × (options.boot ≤ 16777215)) }
-    ensures turns { IfSome result (λ options. (1 ≤ options.turns) × (options.turns ≤ 86400)) }
+    ensures turns { IfSome result (λ options. (1 ≤ options.turns) × (options.turns ≤ 1000000000000)) }
 {
     let [first, words @ ..] = words else {
         return None;
@@ -37,7 +40,9 @@ pub fn daemon_of(words: &[String]) -> Option<DaemonOptions>
     let mut pieces = Pieces { words, rest: None };
     let first = pieces.next()?;
     let number = pieces.next()?;
-    let second = pieces.next()?;
+    let Some(second) = pieces.next() else {
+        return boot_of(first, number);
+    };
     let other = pieces.next()?;
     if pieces.next().is_some() {
         return None;
@@ -45,12 +50,29 @@ pub fn daemon_of(words: &[String]) -> Option<DaemonOptions>
     options_of(first, number, second, other)
 }
 
+/// The option of a boot number alone.
+fn boot_of(name: &[u8], number: &[u8]) -> Option<DaemonOptions>
+    ensures value { option_map (λ options. (options.boot, options.turns)) result
+        ≡ options_of (name.now ∷ number.now ∷ []) }
+    ensures boot { IfSome result (λ options. (1 ≤ options.boot) × (options.boot ≤ 16777215)) }
+    ensures turns { IfSome result (λ options. (1 ≤ options.turns) × (options.turns ≤ 1000000000000)) }
+{
+    if name != b"--boot".as_slice() {
+        return None;
+    }
+    let boot = number_within(number, BOOT_LIMIT)?;
+    Some(DaemonOptions {
+        boot,
+        turns: ENDLESS,
+    })
+}
+
 /// The options of two names, each with its number behind it.
 fn options_of(first: &[u8], number: &[u8], second: &[u8], other: &[u8]) -> Option<DaemonOptions>
     ensures value { option_map (λ options. (options.boot, options.turns)) result
         ≡ options_of (first.now ∷ number.now ∷ second.now ∷ other.now ∷ []) }
     ensures boot { IfSome result (λ options. (1 ≤ options.boot) × (options.boot ≤ 16777215)) }
-    ensures turns { IfSome result (λ options. (1 ≤ options.turns) × (options.turns ≤ 86400)) }
+    ensures turns { IfSome result (λ options. (1 ≤ options.turns) × (options.turns ≤ 1000000000000)) }
 {
     let boot = b"--boot".as_slice();
     let turns = b"--turns".as_slice();
@@ -68,7 +90,7 @@ fn both(boot: &[u8], turns: &[u8]) -> Option<DaemonOptions>
     ensures value { option_map (λ options. (options.boot, options.turns)) result
         ≡ both boot.now turns.now }
     ensures boot { IfSome result (λ options. (1 ≤ options.boot) × (options.boot ≤ 16777215)) }
-    ensures turns { IfSome result (λ options. (1 ≤ options.turns) × (options.turns ≤ 86400)) }
+    ensures turns { IfSome result (λ options. (1 ≤ options.turns) × (options.turns ≤ 1000000000000)) }
 {
     let boot = number_within(boot, BOOT_LIMIT)?;
     let turns = number_within(turns, TURN_LIMIT)?;

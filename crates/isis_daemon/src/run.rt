@@ -7,7 +7,7 @@ ghost use Rattle.isis_daemon.specs.Commands.{command_of, grid_size_of, walk_of, 
 ghost use Rattle.isis_daemon.specs.DaemonEnds.{DaemonEnds, IsConfiguration};
 ghost use Rattle.isis_daemon.specs.GridEnds.{GridEnds};
 ghost use Rattle.isis_daemon.specs.Options.{daemon_of};
-ghost use Rattle.isis_daemon.specs.Runs.{Ends, IsTaken, IsTakenWithin, IsDoneUnlessMemory};
+ghost use Rattle.isis_daemon.specs.Runs.{Ends, IsTaken, IsTakenWithin, IsDoneUnlessMemory, IsWrittenUnlessMemory};
 ghost use Rattle.isis_daemon.specs.TraceEnds.{TraceEnds, IsTraceable};
 ghost use Rattle.isis_daemon.specs.WalkEnds.{WalkEnds, IsWalkable};
 ghost use Rattle.isis_daemon.specs.WeaveEnds.{WeaveEnds, CanBeWoven};
@@ -84,7 +84,7 @@ pub fn run<
         (λ command. (octets : List ℕ) → Took (I.gave input.old) (I.gave input.new) octets → IsTaken command octets
         → ¬ Rose (I.faults input.old) (I.faults input.new)
         → ¬ Rose (O.faults output) (O.faults result.0)
-        → IsDoneUnlessMemory result.2) }
+        → IsWrittenUnlessMemory command result.2) }
     ensures later { (I.faults input.old ≤ I.faults input.new)
         × (O.faults output ≤ O.faults result.0) × (P.faults ports.old ≤ P.faults ports.new)
         × (S.faults spawner.old ≤ S.faults spawner.new) }

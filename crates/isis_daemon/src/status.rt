@@ -2,8 +2,9 @@
 ghost use Rattle.std.specs.Prelude.{◌≡◌, Some};
 ghost use Rattle.isis_daemon.specs.Statuses.{script_status, run_status, whole_status, text_status, walk_status, losses_status, weave_status, config_status, daemon_status, status_code, status_line};
 
+use capture_text::Absence;
 use daemon_config::{ConfigFault, ConfigKey, ConfigKind};
-use daemon_run::DaemonEnd;
+use circuit_serve::DaemonEnd;
 use isis_edge::{TextFailed, WholeFault};
 use lab_losses::{LossesReason, WriteFault};
 use lab_text::{Reason, RunFault, ScriptFault};
@@ -63,6 +64,10 @@ pub enum Status {
     NoLosses {
         reason: LossesReason,
     },
+    /// The whole text was written, but captured LSPs lack this of the system that was asked for.
+    Absent {
+        what: Absence,
+    },
 }
 
 impl Status {
@@ -85,6 +90,7 @@ impl Status {
             Status::NoWalk { .. } => 12,
             Status::ScheduleLimit => 10,
             Status::NoLosses { .. } => 13,
+            Status::Absent { .. } => 0,
         }
     }
 }
@@ -112,6 +118,7 @@ impl fmt::Display for Status {
             Status::NoWalk { reason } => write!(f, "isis: no walk {reason}"),
             Status::ScheduleLimit => write!(f, "isis: limit schedules"),
             Status::NoLosses { reason } => write!(f, "isis: no losses {reason}"),
+            Status::Absent { what } => write!(f, "isis: {what}"),
         }
     }
 }

@@ -6,13 +6,13 @@ ghost use Rattle.lab_grid.specs.GridRuns.{grid_end};
 ghost use Rattle.lab_losses.specs.ScriptLosses.{IsAskedPart};
 ghost use Rattle.isis_daemon.specs.Commands.{command_of, grid_size_of, AreNoText, IsAskedCommand};
 ghost use Rattle.isis_daemon.specs.GridEnds.{GridEnds};
-ghost use Rattle.isis_daemon.specs.Runs.{input_limit, EndsOn, Ends, IsTaken, IsTakenWithin, IsDoneUnlessMemory};
+ghost use Rattle.isis_daemon.specs.Runs.{input_limit, EndsOn, Ends, IsTaken, IsTakenWithin, IsDoneUnlessMemory, IsWrittenUnlessMemory};
 
-use crate::command::{Command, command_of, grid_size_of};
+use crate::command::{CapturedText, Command, command_of, grid_size_of};
 use crate::grid::grid;
 use crate::shown::Shown;
 use crate::status::{INPUT_LIMIT, Status};
-use capture_text::{write_alternates, write_routes6};
+use capture_text::{write_alternates, write_routes, write_routes6};
 use isis_base::{Level, SystemId};
 use isis_edge::{Sink, Source, read_whole, write_text};
 use lab_losses::write_losses;
@@ -44,7 +44,7 @@ pub(crate) fn run_text<I: Source, O: Sink>(
         (λ command. (octets : List ℕ) → Took (I.gave input.old) (I.gave input.new) octets → IsTaken command octets
         → ¬ Rose (I.faults input.old) (I.faults input.new)
         → ¬ Rose (O.faults output) (O.faults result.0)
-        → IsDoneUnlessMemory result.1) }
+        → IsWrittenUnlessMemory command result.1) }
     ensures later { (I.faults input.old ≤ I.faults input.new)
         × (O.faults output ≤ O.faults result.0) }
     ensures grid { IfSome (grid_size_of (map string_bytes words.now))
@@ -85,7 +85,7 @@ pub(crate) fn execute<I: Source, O: Sink>(
     ensures complete { (octets : List ℕ) → Took (I.gave input.old) (I.gave input.new) octets → IsTaken command octets
         → ¬ Rose (I.faults input.old) (I.faults input.new)
         → ¬ Rose (O.faults output.old) (O.faults output.new)
-        → IsDoneUnlessMemory result }
+        → IsWrittenUnlessMemory command result }
     ensures later { (I.faults input.old ≤ I.faults input.new)
         × (O.faults output.old ≤ O.faults output.new) }
 {
@@ -108,10 +108,11 @@ fn put_text<O: Sink>(alloc: Global, command: Command, octets: &[u8], output: &mu
     match command {
         Command::Lab => lab(alloc, octets, output),
         Command::Show => put_shown(alloc, octets, output),
-        Command::Routes6 { level, system } => put_routes6(alloc, level, system, octets, output),
-        Command::Alternates { level, system } => {
-            put_alternates(alloc, level, system, octets, output)
-        }
+        Command::Captured {
+            what,
+            level,
+            system,
+        } => put_captured(alloc, what, level, system, octets, output),
         Command::Losses { most, part } => put_losses(alloc, most, part, octets, output),
     }
 }
@@ -177,42 +178,29 @@ fn put_shown<O: Sink>(alloc: Global, input: &[u8], output: &mut O) -> Status
     }
 }
 
-/// Writes the IPv6 routes of a system, by captured LSPs.
-fn put_routes6<O: Sink>(
+/// Writes what captured LSPs say of a system.
+fn put_captured<O: Sink>(
     alloc: Global,
+    what: CapturedText,
     level: Level,
     system: SystemId,
     input: &[u8],
     output: &mut O,
 ) -> Status
-    ensures ends { EndsOn (Command.Routes6 level system) input.now
+    ensures ends { EndsOn (Command.Captured what level system) input.now
         (O.put output.old) (O.put output.new) result }
     ensures write_fault { result ≡ Status.WriteFault
         → Rose (O.faults output.old) (O.faults output.new) }
     ensures later { O.faults output.old ≤ O.faults output.new }
 {
-    match write_routes6(alloc, level, system, input, output) {
-        Ok(()) => Status::Done,
-        Err(fault) => Status::from(fault),
-    }
-}
-
-/// Writes the loop-free alternates of a system, by captured LSPs.
-fn put_alternates<O: Sink>(
-    alloc: Global,
-    level: Level,
-    system: SystemId,
-    input: &[u8],
-    output: &mut O,
-) -> Status
-    ensures ends { EndsOn (Command.Alternates level system) input.now
-        (O.put output.old) (O.put output.new) result }
-    ensures write_fault { result ≡ Status.WriteFault
-        → Rose (O.faults output.old) (O.faults output.new) }
-    ensures later { O.faults output.old ≤ O.faults output.new }
-{
-    match write_alternates(alloc, level, system, input, output) {
-        Ok(()) => Status::Done,
+    let written = match what {
+        CapturedText::Routes => write_routes(alloc, level, system, input, output),
+        CapturedText::Routes6 => write_routes6(alloc, level, system, input, output),
+        CapturedText::Alternates => write_alternates(alloc, level, system, input, output),
+    };
+    match written {
+        Ok(None) => Status::Done,
+        Ok(Some(what)) => Status::Absent { what },
         Err(fault) => Status::from(fault),
     }
 }
