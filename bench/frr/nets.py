@@ -1,7 +1,8 @@
 """Networks of FRR's isisd and of daemons, each router in a network namespace of its own, joined by veth pairs and bridges.
 
-A daemon joins its interfaces by tools/ethernet_circuit. All that is made here is taken away by `close`; processes are ended by their own ids.
+A daemon joins its interfaces by tools/ethernet_circuit, or it has plain UDP on them. All that is made here is taken away by `close`; processes are ended by their own ids.
 """
+import json
 import os
 import re
 import subprocess
@@ -90,13 +91,14 @@ class Ours(Node):
 
     boot = 0
 
-    def __init__(self, *words, leak=False, priority=64, **more):
+    def __init__(self, *words, leak=False, priority=64, is_bridged=True, **more):
+        """Without a bridge its circuits are plain UDP, for a network of daemons alone."""
         super().__init__(*words, **more)
-        self.leak, self.priority = leak, priority
+        self.leak, self.priority, self.is_bridged, self.journals = leak, priority, is_bridged, []
         self.prefixes = self.prefixes or [f"10.0.{self.number}.0/24"]
 
     def prepare(self):
-        for place, link in enumerate(self.links, 1):
+        for place, link in enumerate(self.links, 1) if self.is_bridged else ():
             words = [sys.executable, TOP / "tools" / "ethernet_circuit", *(["--lan"] if link.is_lan else []), link.name]
             with (self.net.folder / f"{self.name}.{link.name}").open("wb") as told:
                 self.net.start(self.space, [*words, f"127.0.0.1:{7100 + place}", f"127.0.0.1:{7000 + place}"], stderr=told)
@@ -107,16 +109,25 @@ class Ours(Node):
         lines = [f'system = "{self.system}"', f'areas = ["{self.area}"]', f'level = "{self.levels}"', *(["leak = true"] if self.leak else [])]
         lines += [f'area_key = "{AREA_KEY}"', f'domain_key = "{DOMAIN_KEY}"'] if self.keyed else []
         for place, link in enumerate(self.links, 1):
-            lines += ["[[circuit]]", f'kind = "{"lan" if link.is_lan else "p2p"}"', f'bind = "127.0.0.1:{7000 + place}"']
-            lines += [f'peers = ["127.0.0.1:{7100 + place}"]', f"metric = {link.metric}", f'address = "{link.address(self)}"']
+            bind, peers = self.ports(place, link)
+            lines += ["[[circuit]]", f'kind = "{"lan" if link.is_lan else "p2p"}"', f'bind = "{bind}"', f"peers = {json.dumps(peers)}", f"metric = {link.metric}"]
+            lines += [f'address = "{link.address(self)}"'] if self.is_bridged else []
             lines += [f"priority = {self.priority}"] if link.is_lan else []
             lines += [f'key = "{LINK_KEY}"'] if self.keyed else []
         return "\n".join(lines + [line for it in self.prefixes for line in ("[[prefix]]", f'prefix = "{it}"')] + [""])
 
+    def ports(self, place, link):
+        """Where a circuit is bound, and its peers: its bridge's ports, or those of the link's other ends."""
+        if self.is_bridged:
+            return f"127.0.0.1:{7000 + place}", [f"127.0.0.1:{7100 + place}"]
+        others = [self.net.nodes[end] for end in link.ends if end != self.name]
+        return f"{link.address(self)}:7000", [f"{link.address(it)}:7000" for it in others]
+
     def begin(self):
         self.boot += 1
         self.journal = self.net.folder / f"{self.name}.{self.boot}.journal"
-        words = [self.net.program, "daemon", "--boot", self.boot, "--turns", 3600]
+        self.journals.append(self.journal)
+        words = [self.net.program, "daemon", "--boot", self.boot]
         with self.toml.open("rb") as config, self.journal.open("wb") as journal:
             self.daemon = self.net.start(self.space, words, stdin=config, stdout=journal)
 
@@ -167,9 +178,10 @@ class Net:
         self.links.append(link)
         for end in ends:
             self.nodes[end].links.append(link)
+        return link
 
     def lan(self, name, *ends, metric=10):
-        self.link(name, *ends, metric=metric, is_lan=True)
+        return self.link(name, *ends, metric=metric, is_lan=True)
 
     def each(self, kind):
         return [node for node in self.nodes.values() if isinstance(node, kind)]

@@ -1,4 +1,4 @@
-"""What the two scripts of this folder share: their words, signals, and how cases are tried side by side."""
+"""What the scripts of this folder share: their words, signals, and how cases are tried side by side."""
 import argparse
 import shutil
 import signal
@@ -45,6 +45,11 @@ def stop(*_):
     frr.STOP.set()
 
 
+def stop_on_signals():
+    for it in (signal.SIGINT, signal.SIGTERM, signal.SIGHUP):
+        signal.signal(it, stop)
+
+
 def main(name, usage, cases, run):
     """Reads the words, sees that nothing is missing, and runs; the exit code."""
     if sys.argv[1:2] in (["-h"], ["--help"]):
@@ -54,8 +59,7 @@ def main(name, usage, cases, run):
     if words.list:
         print("\n".join(case.name for case in cases if words.only in case.name))
         return 0
-    for it in (signal.SIGINT, signal.SIGTERM, signal.SIGHUP):
-        signal.signal(it, stop)
+    stop_on_signals()
     room = words.keep or Path(tempfile.mkdtemp(prefix="isis-frr-run-"))
     try:
         frr.look_about()

@@ -13,7 +13,6 @@ import isis_pdus as pdus  # noqa: E402
 
 SYSTEM, PREFIX, ADDRESS = "0000.0000.0001", "10.0.1.0/24", "10.99.0.1"
 BIND, PEER = "127.0.0.1:7001", "127.0.0.1:7101"
-TURNS = 3600
 LINK_KEY, AREA_KEY, DOMAIN_KEY = (word.encode().hex() for word in ("LinkKey1", "AreaKey1", "DomainKey1"))
 
 
@@ -151,7 +150,7 @@ class Trial:
     def start(self, boot):
         """Starts the daemon; its journal is a file of that boot."""
         with (self.folder / "config.toml").open("rb") as config, (self.folder / f"journal.{boot}").open("wb") as journal:
-            return self.wire.start(self.wire.ours, [self.program, "daemon", "--boot", boot, "--turns", TURNS], stdin=config, stdout=journal)
+            return self.wire.start(self.wire.ours, [self.program, "daemon", "--boot", boot], stdin=config, stdout=journal)
 
     def journal(self, boot):
         return Journal(self.folder / f"journal.{boot}")
