@@ -54,6 +54,13 @@ impl Boots {
         heard_in(&self.list, system)
     }
 
+    /// All that is remembered, by system.
+    pub fn list(&self) -> &[(u64, u32)]
+        ensures { result.now ≡ self.now }
+    {
+        self.list.as_slice()
+    }
+
     /// Keeps the greater of the boot number and the one that is remembered of the system. `BootsFull`
     /// exactly where the system isn't remembered and 256 are; then all is as before. It takes no memory.
     pub fn hear(&mut self, system: SystemId, boot: u32) -> Result<(), BootsFull>

@@ -23,6 +23,13 @@
 //! - `by_snpa.rt`, `lan_lists.rt`: neighbours in a list by SNPA, and the two lists of a LAN
 //! - `lan.rt`: the adjacencies of a LAN circuit and level
 //! - `laws.rt`: when a hello is due, and who is designated among LAN neighbours
+//!
+//! Choices (own):
+//!
+//! - A point-to-point adjacency is an enum with the neighbour inside Initializing and Up, so "a neighbour
+//!   exactly outside Down" needs no invariant.
+//! - A LAN keeps its neighbours twice, all and those in Up, by SNPA, so both are borrowed without a copy; 200
+//!   at most, room from the start.
 #![tactic(auto)]
 
 mod boots;

@@ -16,6 +16,11 @@
 //! - `entry.rt`: entries, the notes of turns, receipts and faults
 //! - `journal.rt`: what takes entries; `text_journal.rt`: a journal of text behind a sink
 //! - `line.rt`: a line of text, made page by page; `words.rt`: its words; `page.rt`: a page
+//!
+//! Choices (own):
+//!
+//! - `submit` copies the event outside the turn; the count of a journal's faults is compared at the close, and
+//!   by `TextJournal::open`.
 #![tactic(auto)]
 
 mod behind;

@@ -16,6 +16,13 @@
 //! - `cells.rt`: one LSP ID; `circuits.rt`: one circuit, and seconds; `ages.rt`: what is left
 //! - `deed.rt`, `row_edits.rt`: flags changed in place; `headers.rt`: entries kept, and purges
 //! - `laws.rt`: the opening of a circuit, by two calls
+//!
+//! Choices (own):
+//!
+//! - One row of flags for each entry, so both maps need the same room; `set_open` sets no flag, `mark_all`
+//!   does.
+//! - Two sets of circuits say which may have SRM or SSN somewhere; so only the first pull after the last
+//!   acknowledgement walks the database.
 #![tactic(auto)]
 
 mod ages;

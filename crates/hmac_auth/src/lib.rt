@@ -10,6 +10,11 @@
 //! - `place.rt`: where the digest stands in a PDU
 //! - `fault.rt`: why a PDU isn't authentic
 //! - `check.rt`: whether a PDU is authentic; `sign.rt`: the writing of its digest
+//!
+//! Choices (own):
+//!
+//! - A digest is compared over all its octets; `sign_pdu` writes the 16 octets alone, and the checksum is
+//!   filled after.
 #![tactic(auto)]
 
 mod check;

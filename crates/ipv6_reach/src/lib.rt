@@ -8,6 +8,12 @@
 //! - `capture.rt`: captures; `head.rt`: an LSP's header; `took.rt`: what becomes of octets; `laws.rt`: what follows for all
 //! - `reach6.rt`: the prefixes that a system tells; `rank6.rt`, `candidate6.rt`, `candidates6.rt`: what they may be reached by
 //! - `numbered.rt`: prefixes by places, among which the route table chooses; `route6.rt`, `best6.rt`: the routes
+//!
+//! Choices (own):
+//!
+//! - IPv6 prefixes are numbered in their order, and the table of IPv4 routes chooses among the numbers, at /32.
+//! - The law of what is held speaks of takes that were answered; the contract names the graph and the least
+//!   costs of the routes.
 #![tactic(auto)]
 
 mod best6;
@@ -25,6 +31,11 @@ mod reach6;
 mod route6;
 mod text6;
 mod took;
+
+/// What a capture holds, for crates that look for more in it.
+pub mod parts {
+    pub use crate::capture::store;
+}
 
 pub use best6::routes6;
 pub use capture::Capture;

@@ -11,6 +11,11 @@
 //! - `standard.rt`: the thin adapters over readers and writers of the system
 //!
 //! `wrap` and `unwrap`, the datagrams that PDUs are sent in, are isis_pdu's and passed on.
+//!
+//! Choices (own):
+//!
+//! - `read_whole` takes at most one octet more than its limit, by a buffer of 65,536 octets on the heap;
+//!   `Calls` is public for daemon_edge.
 #![tactic(auto)]
 
 mod calls;

@@ -11,6 +11,13 @@
 //! - `write.rt`: the writing
 //! - `frame.rt`: the datagrams that PDUs are sent in over UDP (own)
 //! - `laws.rt`: what is written reads as the value, and a wrapped PDU is unwrapped as it was: functions without a body, whose contracts are the laws
+//!
+//! Choices (own):
+//!
+//! - `encode` asks nothing of the circuit type, since a set of levels is never empty; an octet past the end
+//!   counts as 0 in definitions by offset.
+//! - `FrameFault` is Version, Short, Magic, in this order: the first four octets are looked at before the
+//!   length.
 #![tactic(auto)]
 
 mod check;

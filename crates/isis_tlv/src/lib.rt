@@ -14,6 +14,11 @@
 //! - `ipv4.rt`: codes 129 and 132, which are only written
 //! - `put.rt`: a TLV put behind others
 //! - `laws.rt`: what follows for all octets: functions without a body, whose contracts are the laws
+//!
+//! Choices (own):
+//!
+//! - Readers are iterators over borrowed octets; a faulty item ends the walk with its place; one generic
+//!   iterator serves all values.
 #![tactic(auto)]
 
 mod area;

@@ -54,7 +54,7 @@ fn ends(line: &[u8], behind: Option<&[u8]>) -> bool
 }
 
 /// The entry of this number, of its line.
-fn read_entry(alloc: Global, number: usize, line: &[u8]) -> Result<WovenEntry, JournalFault>
+pub fn read_entry(alloc: Global, number: usize, line: &[u8]) -> Result<WovenEntry, JournalFault>
     requires { number + 1 < 2 ^ 64 }
     ensures ok { IfOk result (λ entry. entry_of number (words_of line.now) ≡ Some entry) }
     ensures err { IfErr result (IsLineFault number (entry_of number (words_of line.now))) }

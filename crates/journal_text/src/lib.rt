@@ -11,6 +11,11 @@
 //! - `lent.rt`: an entry whose octets still lie in the text
 //! - `hex_words.rt`: the octets that end a line
 //! - `laws.rt`: what is written is read: functions without a body, whose contracts are the laws
+//!
+//! Choices (own):
+//!
+//! - An empty datagram in a reply `send` is a blank with nothing after it; after the last line feed an empty
+//!   line is allowed.
 #![tactic(auto)]
 
 mod entry;
@@ -24,4 +29,4 @@ mod lent;
 
 pub use entry::{WovenEntry, WovenEvent, WovenReply};
 pub use fault::JournalFault;
-pub use journal::read_journal;
+pub use journal::{read_entry, read_journal};

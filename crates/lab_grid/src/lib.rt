@@ -7,6 +7,11 @@
 //! - `tally.rt`: how many routes there are, and what they cost; `summary.rt`: the summary
 //! - `run.rt`: the script is run, and the network at its end summed up
 //! - `laws.rt`: what follows for all lists of routes, and for all grids
+//!
+//! Choices (own):
+//!
+//! - Routes and costs stop at 2^64 - 1 in place of a condition on callers; the summary is written by
+//!   `write_all`, since it is below a page.
 #![tactic(auto)]
 
 pub mod laws;

@@ -5,6 +5,11 @@
 //! - `net.rt`: the plain network; `laws.rt`: its limits, pinned by laws
 //! - `held.rt`: the newest keys of one router, by LSP ID
 //! - `faults.rt`: why a call is refused
+//!
+//! Choices (own):
+//!
+//! - A router's keys are one list sorted by LSP ID: look-ups are binary searches, a new LSP ID moves those
+//!   after it.
 #![tactic(auto)]
 
 mod faults;

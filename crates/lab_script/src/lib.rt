@@ -15,6 +15,13 @@
 //! - `reason.rt`: why a line is refused, and why a script can't be read
 //! - `keys_script.rt`, `lab_script.rt`: a script of each kind, line by line; `script.rt`: a script, read from a text
 //! - `laws.rt`: what holds of all lines: functions without a body, whose contracts are the laws
+//!
+//! Choices (own):
+//!
+//! - Links and LANs are one list, each with its kind and ends; the member count is tested before members;
+//!   `area` and `domain` never name a link.
+//! - Of two `key` lines for one purpose the later counts; `deliver` and `dump` take a number past the machine's
+//!   words as 0.
 #![tactic(auto)]
 
 mod circuit;

@@ -8,6 +8,11 @@
 //! - `words.rt`: the words of a line, one after another
 //! - `numerals.rt`: decimal numbers without sign or leading zero
 //! - `hexes.rt`: octets in hex; `fields.rt`: bounded numbers, prefixes, `on` and `off`
+//!
+//! Choices (own):
+//!
+//! - Lines and words are cut by the kit's `memchr` in one public call, for scripts and for `show`; decimal
+//!   numbers are read by another.
 #![tactic(auto)]
 
 mod cuts;

@@ -14,6 +14,11 @@
 //! - `issue.rt`: what becomes of a wanted fragment; `own_lsps.rt`: the own LSPs that are issued
 //! - `kept.rt`, `by_id.rt`: one of them, and a list of them by LSP ID
 //! - `laws.rt`: which split is made, and what the answers are in the router's model
+//!
+//! Choices (own):
+//!
+//! - What fits is counted in the order of the split, neighbours first; `outbid` answers by the number alone;
+//!   ages stop at the end of 64 bits.
 #![tactic(auto)]
 
 mod by_id;

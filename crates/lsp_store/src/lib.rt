@@ -10,6 +10,11 @@
 //! - `pages.rt`: the ordered map; `page.rt`: one page; `pairs.rt`, `range.rt`: walks
 //! - `change.rt`, `noting.rt`: values changed in place, and some of them noted; `copy.rt`: equal pages
 //! - `places.rt`: where a pair is; `edits.rt`: pairs put in and taken out; `rooms.rt`: empty pages
+//!
+//! Choices (own):
+//!
+//! - Neighbouring pages of at most 32 pairs together are joined when one shrinks; a map keeps in mind the page
+//!   used last; values change by `Change`.
 #![tactic(auto)]
 
 mod change;

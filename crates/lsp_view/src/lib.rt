@@ -9,6 +9,11 @@
 //! - `body.rt`: what the octets of an LSP say, by the codes of TLVs; `lead.rt`: a node's number 0;
 //!   `flags.rt`: its flags
 //! - `laws.rt`: how many rows there are at most
+//!
+//! Choices (own):
+//!
+//! - A node's LSPs with one as it will be are read by the calls that read a database (`Lsps`), so no LSP is
+//!   copied.
 #![tactic(auto)]
 
 mod body;

@@ -11,6 +11,13 @@
 //!
 //! - `laws.rt`: the laws, functions without a body whose contracts hold for everything that is sent
 //! - `rows.rt`: PDUs that another router made, read by computation
+//!
+//! Choices (own):
+//!
+//! - A digest is taken of the spelled PDU with 16 zeros in its place; a signed purge is its header with PDU
+//!   length 46 and the authentication.
+//! - A point-to-point hello reads as priority 0, LAN ID 0 and naming nobody; a LAN hello as no handshake; a
+//!   router's own SNPA is its system ID.
 #![tactic(auto)]
 
 pub mod laws;

@@ -10,6 +10,11 @@
 //!
 //! - `second.rt`: a second of a level's entries; `let_go.rt`: the LSP IDs that are let go
 //! - `ids.rt`: LSP IDs in a sorted list
+//!
+//! Choices (own):
+//!
+//! - A second is one walk, which lowers all in place and answers the first that is over; all are lowered before
+//!   one ends.
 #![tactic(auto)]
 
 pub mod ids;

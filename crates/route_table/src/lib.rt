@@ -9,6 +9,13 @@
 //! - `table.rt`: the table; `lookup.rt`: the longest prefix of an address
 //! - `patch.rt`: what some prefixes' routes become; `putting.rt`: that put in; `room.rt`: the room that tables have for it
 //! - `laws.rt`: what follows for all candidates
+//!
+//! Choices (own):
+//!
+//! - Prefixes are ordered by address, then length; a look-up is a binary search for each length, the longest
+//!   first.
+//! - A table has room by how many it has, in steps of 64, past 4,096 of 1,024 (`room_of`); a patch takes room
+//!   only past a step.
 #![tactic(auto)]
 
 mod best;

@@ -111,6 +111,16 @@ impl Circuit {
         self.boots = from.boots.take();
     }
 
+    /// The greatest boot numbers that were heard, by system.
+    pub fn boots(&self) -> &[(u64, u32)]
+        ensures { result.now ≡ self.now.boots }
+    {
+        match &self.boots {
+            None => &[],
+            Some(boots) => boots.list(),
+        }
+    }
+
     /// What always holds of a circuit. It does nothing.
     pub fn facts(&self)
         ensures { IsCircuit self.now }

@@ -15,6 +15,11 @@
 //! - `election.rt`, `candidate.rt`, `designated.rt`: who is designated
 //! - `due.rt`, `timers.rt`: the counters, and what is due
 //! - `numbers.rt`: node IDs as numbers
+//!
+//! Choices (own):
+//!
+//! - Circuits are copied at a second only where an adjacency ends in it, and then without what they remember of
+//!   boots.
 #![tactic(auto)]
 
 mod adjacencies;

@@ -24,6 +24,13 @@
 //! - `heard.rt`: what is heard; `reading.rt`: a PDU as such a value
 //! - `items.rt`: the items of the TLVs of a code
 //! - `heard_laws.rt`: that what a desk found may be heard: a function without a body, whose contract is the law
+//!
+//! Choices (own):
+//!
+//! - A desk has copies of the keys; `valid` sorts prefixes on the stack, since it can't run out of memory; an
+//!   opened PDU isn't decoded again.
+//! - `DropCause::Frame(FrameFault::Version)` is a value that no call makes; a value's fault counts in the PDU,
+//!   at the item's first octet.
 #![tactic(auto)]
 
 mod cause;

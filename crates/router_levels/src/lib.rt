@@ -10,6 +10,10 @@
 //! - `issues.rt`: own LSPs issued and purged; `take_lsp.rt`, `take_snp.rt`: what is heard
 //! - `second.rt`: seconds; `wants.rt`: what is wanted; `renew.rt`: own LSPs are followed
 //! - `laws.rt`: what is wanted stands in order
+//!
+//! Choices (own):
+//!
+//! - What is wanted is in order of LSP ID, so that a search finds what isn't wanted any longer.
 #![tactic(auto)]
 
 mod asked;

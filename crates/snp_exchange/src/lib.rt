@@ -8,6 +8,11 @@
 //! - `pieces.rt`: the CSNP set piece by piece; `piece_walk.rt`: a piece, and its entries
 //! - `csnp.rt`: the CSNP set as a list; `psnp.rt`: what PSNPs list
 //! - `sweep.rt`: which LSP IDs the ranges of CSNPs cover; `ranges.rt`: ranges in order
+//!
+//! Choices (own):
+//!
+//! - A range whose end is before its start covers nothing, and its flag counts; `csnp_pieces` borrows a CSNP
+//!   set piece by piece.
 #![tactic(auto)]
 
 mod csnp;

@@ -8,6 +8,11 @@
 //! - `repaired.rt`: the distances that are kept; `steps.rt`: the counter
 //! - `change.rt`: the costs after a change; `replace.rt`: the rows after it
 //! - `erase.rt`: costs given up; `feed.rt`: what is offered to begin with; `settling.rt`, `outcome.rt`: nodes settled
+//!
+//! Choices (own):
+//!
+//! - `Repaired` keeps the root it was made with; edges are sorted, but only the order of starts is promised; a
+//!   change visits the edges once.
 #![tactic(auto)]
 
 mod change;

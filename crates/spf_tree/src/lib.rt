@@ -17,6 +17,11 @@
 //! - `hops.rt`: lists of systems
 //! - `offers.rt`: offers by numbers of nodes, for the crate that repairs distances
 //! - `laws.rt`: what follows for all rows
+//!
+//! Choices (own):
+//!
+//! - `Distances` keeps unreached nodes inside; contracts see the reached ones; `all_next_hops` and `HopTable`
+//!   serve thousands of targets.
 #![tactic(auto)]
 
 mod choice;

@@ -8,6 +8,10 @@
 //! - `flags.rt`: SRM and SSN stand on open circuits alone, and what waits is flagged
 //! - `listings.rt`: the CSNPs in a reply list exactly the keys in their ranges
 //! - `readings.rt`: that a CSNP is taken without a flag is one thing, read entry after entry or of the database before it
+//!
+//! Choices (own):
+//!
+//! - The exact laws are a crate of their own: a sharper law has nothing proved again that doesn't need it.
 #![tactic(auto)]
 
 pub mod falls;

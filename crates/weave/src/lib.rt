@@ -18,6 +18,11 @@
 //! - `step.rt`, `plans.rt`: what each router is to do; `playing.rt`: turns as events of the network
 //! - `counting.rt`: the first entry that wasn't made
 //! - `laws.rt`: what follows: a function without a body of its own, whose contract is the laws
+//!
+//! Choices (own):
+//!
+//! - The network takes events only once all moves have turns; each router's moves are a plan of borrowed
+//!   entries beside the tracks.
 #![tactic(auto)]
 
 mod coding;

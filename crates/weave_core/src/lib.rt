@@ -21,6 +21,11 @@
 //! - `letters.rt`: the number of a letter, by its link and octets
 //! - `laws.rt`: what holds of rounds and fronts, and of letters' numbers: functions without a body,
 //!   whose contracts are the laws
+//!
+//! Choices (own):
+//!
+//! - Only what some take needs gets a letter of its own; there is no list of those who wait: each round visits
+//!   all routers.
 #![tactic(auto)]
 
 pub mod laws;

@@ -11,7 +11,7 @@ use router_core::Router;
 
 /// What became of an entry: it is good, or it has a fault.
 #[derive(Clone, Copy, Debug)]
-pub(crate) enum Outcome {
+pub enum Outcome {
     Good,
     OfEvent,
     OfReply,
@@ -45,7 +45,7 @@ pub(crate) fn replay_entries(
 }
 
 /// Replays an entry.
-fn replay_entry(router: &mut Router, entry: &WovenEntry) -> Result<Outcome, OutOfMemory>
+pub fn replay_entry(router: &mut Router, entry: &WovenEntry) -> Result<Outcome, OutOfMemory>
     ensures { IfOk result
         (λ outcome. IsOutcome router.old router.new (entry_of entry.now) outcome) }
 {

@@ -15,6 +15,10 @@
 //!   over, and the event; `replies.rt`: whether a reply is what an entry says
 //! - `sending.rt`: whether the replies send too many datagrams
 //! - `laws.rt`: what follows: functions without a body, whose contracts are the laws
+//!
+//! Choices (own):
+//!
+//! - A journal after a router's 16,777,215th isn't replayed, and the limit is answered.
 #![tactic(auto)]
 
 mod entries;
@@ -26,6 +30,7 @@ mod replaying;
 mod replies;
 mod sending;
 
+pub use entries::{Outcome, replay_entry};
 pub use fault::ReplayFault;
 pub use journal::WovenJournal;
 pub use journal_text::{WovenEntry, WovenEvent, WovenReply};

@@ -13,6 +13,13 @@
 //! - `lines.rt`: the lab script's text; `words.rt`: its lines, by their words; `named.rt`: whether the script names what its events are of
 //! - `reason.rt`: why journals can't be woven; `fault.rt`: why nothing was written
 //! - `laws.rt`: what follows: a function without a body of its own, whose contract is the law
+//!
+//! Choices (own):
+//!
+//! - A setup line after a block is `late` only where it has a form; a block that doesn't end is refused at the
+//!   last line.
+//! - Each journal is read from a copy of its lines; comments and empty lines aren't written, all other lines
+//!   octet for octet.
 #![tactic(auto)]
 
 mod ahead;
