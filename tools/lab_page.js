@@ -122,6 +122,52 @@ function movePackets(step) {
     frame = packets.length ? requestAnimationFrame(move) : 0;
 }
 
+// ---- packets to an address
+
+// What becomes of a packet from each router: its way, by the lines of `isis trace`, and the router that it is handed to first.
+function packetsOf(step) {
+    return step.traces.map((trace, place) => {
+        const lines = run.traces[trace].map((line) => run.lines[line].split(" "));
+        const [fate, at] = [lines[0][3], lines.filter(([word]) => word === "at")];
+        const [last, round] = [at[at.length - 1], lines.find(([word]) => word === "round")];
+        const names = at.map((words) => words[1]).concat(round ? [round[1]] : []);
+        const why = { arrives: `cost ${at[0][4]}`, loops: "", lost: last[2] === "no-route" ? `no route at ${last[1]}` : `no router ${last[6]}` }[fate];
+        const ends = lines[lines.length - 1].slice(1).filter((word) => word !== fate);
+        const others = ends.length ? `; by another next hop of equal cost: ${ends.join(" or ")}` : "";
+        return { from: run.routers[place], names, fate, words: `${fate}${why ? ", " : ""}${why}${others}`, next: at[0][5] === "to" ? at[0][6] : null };
+    });
+}
+
+// An arrow on the link over which a router hands the packet on; of two links to one router, on the first.
+function drawHand({ from, next, fate, words }) {
+    const link = run.links.find(({ members }) => members.includes(from) && members.includes(next));
+    if (!link) {
+        return;
+    }
+    const path = edges.find((edge) => edge.getAttribute("data-edge") === (link.isLan ? `${link.name}/${from}` : link.name)).querySelector("path");
+    const isForward = !link.isLan && from === [...link.members].sort()[0];
+    const at = (share) => path.getPointAtLength((isForward ? share : 1 - share) * path.getTotalLength());
+    const [here, ahead] = [at(0.36), at(0.4)];
+    const drawn = document.createElementNS("http://www.w3.org/2000/svg", "path");
+    drawn.setAttribute("class", "hand " + fate);
+    drawn.setAttribute("d", "M12 0 L-6 -8 L-6 8 Z");
+    drawn.setAttribute("transform", `translate(${here.x} ${here.y}) rotate(${Math.atan2(ahead.y - here.y, ahead.x - here.x) * 180 / Math.PI})`);
+    drawn.innerHTML = `<title>${escaped(`${from} hands it to ${next}: ${words}`)}</title>`;
+    edges[0].parentNode.append(drawn);
+}
+
+function drawPackets(step, before) {
+    document.querySelectorAll(".hand").forEach((it) => it.remove());
+    const earlier = packetsOf(before);
+    const rows = packetsOf(step).map((it, place) => {
+        drawHand(it);
+        const isNow = it.names.join(" ") + it.words !== earlier[place].names.join(" ") + earlier[place].words;
+        return `<tr class="${isNow ? "now" : ""}"><td>${it.names.map(escaped).join(" \u2192 ")}</td><td class="${it.fate}">${escaped(it.words)}</td></tr>`;
+    });
+    part("to").textContent = run.to ? `Packets to ${run.to}` : "";
+    part("packets").innerHTML = run.to ? `<table>${rows.join("")}</table>` : "";
+}
+
 // ---- the table of LSPs
 
 // An LSP ID with its router's name in place of the system, where the script has that system.
@@ -329,13 +375,14 @@ function again() {
     const step = run.steps[now];
     const before = run.steps[Math.max(0, now - 1)];
     drawPicture(step, before);
+    drawPackets(step, before);
     drawReport(step, before);
     history.replaceState(null, "", `#${step.count}${chosen ? "/" + encodeURIComponent(chosen) : ""}`);
 }
 
 // Whether something is sent or a line of the report changes in a step.
 const isEvent = run.steps.map((step, at) => at > 0 && (step.rows.length > 0 ||
-    ["blocks", "nodes", "edges"].some((part) => String(step[part]) !== String(run.steps[at - 1][part]))));
+    ["blocks", "nodes", "edges", "traces"].some((part) => String(step[part]) !== String(run.steps[at - 1][part]))));
 
 function eventFrom(place, way) {
     let found = place;

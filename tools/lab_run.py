@@ -35,6 +35,11 @@ def shown(pdus):
     return lines
 
 
+def traced(text, name, to):
+    """What `isis trace` writes of a packet from a router to an address after a lab script, but for its head."""
+    return program.call(["trace", name, to], text).splitlines()[1:]
+
+
 class Router:
     """A line `router` of a script."""
 
@@ -227,20 +232,24 @@ def title(names):
     return f"{name}: {program.note}" if program.note else name
 
 
-def tool(name, usage, work):
-    """Runs a tool: `work` gets the words, and what it gives is written to standard output."""
+def tool(name, usage, work, option=None):
+    """Runs a tool: `work` gets the words, and what it gives is written to standard output. Where the tool has an option with a value, as `--to`, `work`
+    gets the value too, or None."""
     global program
     words = sys.argv[1:]
     is_unproved = words[:1] == ["--unproved"]
     names = words[1:] if is_unproved else words
+    more = [None] * (option is not None)
+    if option and names[:1] == [option] and len(names) > 1:
+        more, names = names[1:2], names[2:]
     if words[:1] in (["-h"], ["--help"]):
-        work = lambda _: (usage.strip() + "\n").encode()
+        work = lambda *_: (usage.strip() + "\n").encode()
     elif len(names) > 1 or names[:1] and names[0].startswith("-"):
-        print(f"{name}: usage: tools/{name} [--unproved] [SCRIPT]", file=sys.stderr)
+        print(f"{name}: {usage[usage.index('usage: '):].splitlines()[0].split(' > ')[0]}", file=sys.stderr)
         return 2
     try:
         with UnprovedProgram(name) if is_unproved else Program() as program:
-            output = work(names)
+            output = work(names, *more)
         # a reader may go away, as `head` does; the program's own pipes are closed by now
         signal.signal(signal.SIGPIPE, signal.SIG_DFL)
         sys.stdout.buffer.write(output)
