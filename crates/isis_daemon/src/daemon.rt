@@ -7,9 +7,9 @@ ghost use Rattle.isis_daemon.specs.Runs.{IsTakenWithin, IsDoneUnlessMemory};
 
 use crate::options::DaemonOptions;
 use crate::status::{INPUT_LIMIT, Status};
+use circuit_serve::run_daemon;
 use daemon_config::{Settings, read_config};
 use daemon_edge::{Gate, Pacer, Ports, Spawner};
-use circuit_serve::run_daemon;
 use isis_edge::{Sink, Source, read_whole};
 use std::alloc::Global;
 use std::net::Net;

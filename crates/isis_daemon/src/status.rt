@@ -3,8 +3,8 @@ ghost use Rattle.std.specs.Prelude.{◌≡◌, Some};
 ghost use Rattle.isis_daemon.specs.Statuses.{script_status, run_status, whole_status, text_status, walk_status, losses_status, weave_status, config_status, daemon_status, status_code, status_line};
 
 use capture_text::Absence;
-use daemon_config::{ConfigFault, ConfigKey, ConfigKind};
 use circuit_serve::DaemonEnd;
+use daemon_config::{ConfigFault, ConfigKey, ConfigKind};
 use isis_edge::{TextFailed, WholeFault};
 use lab_losses::{LossesReason, WriteFault};
 use lab_text::{Reason, RunFault, ScriptFault};
