@@ -49,4 +49,4 @@ text_done command input put put' (status.WeaveRefused journal entry why) taken w
 text_done command input put put' (status.NoWalk why) taken write h = absurd h
 text_done command input put put' status.ScheduleLimit taken write h = absurd (few command input taken.1 h.0)
 text_done command input put put' (status.NoLosses why) taken write h = absurd (lacks-none command input why taken.1 h.0)
-text_done command input put put' (status.Absent what) taken write h = inr (of_captured what command input put put' h, what, refl)
+text_done command input put put' (status.Absent what) taken write h = inr (of_captured what command input put put' h, (what, refl))

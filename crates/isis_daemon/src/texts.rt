@@ -1,20 +1,21 @@
 //! Texts made of an input: the report of a script, the fields of PDUs, the summary of a grid.
-ghost use Rattle.std.specs.Prelude.{◌≡◌, ◌≤◌, ℕ, List, length, map, string_bytes, IfSome, IsOk, ◌↔◌};
+ghost use Rattle.std.specs.Prelude.{◌≡◌, ◌≤◌, ℕ, List, length, map, string_bytes, Err, IfSome, IsOk, ◌↔◌};
+ghost use Rattle.capture_text.specs.TextEnds.{TextEnds};
 ghost use Rattle.isis_edge.specs.Faults.{Rose};
 ghost use Rattle.isis_edge.specs.Told.{Took};
 ghost use Rattle.lab_grid.specs.GridRuns.{grid_end};
 ghost use Rattle.lab_losses.specs.ScriptLosses.{IsAskedPart};
 ghost use Rattle.isis_daemon.specs.Commands.{command_of, grid_size_of, AreNoText, IsAskedCommand};
 ghost use Rattle.isis_daemon.specs.GridEnds.{GridEnds};
-ghost use Rattle.isis_daemon.specs.Runs.{input_limit, EndsOn, Ends, IsTaken, IsTakenWithin, IsDoneUnlessMemory, IsWrittenUnlessMemory};
+ghost use Rattle.isis_daemon.specs.Runs.{input_limit, IsCapturedText, EndsOn, Ends, IsTaken, IsTakenWithin, IsDoneUnlessMemory, IsWrittenUnlessMemory};
 
 use crate::command::{CapturedText, Command, command_of, grid_size_of};
 use crate::grid::grid;
 use crate::shown::Shown;
 use crate::status::{INPUT_LIMIT, Status};
-use capture_text::{write_alternates, write_routes, write_routes6};
+use capture_text::{Absence, write_alternates, write_routes, write_routes6};
 use isis_base::{Level, SystemId};
-use isis_edge::{Sink, Source, read_whole, write_text};
+use isis_edge::{Sink, Source, TextFailed, read_whole, write_text};
 use lab_losses::write_losses;
 use lab_text::{read_script, run_script};
 use losses_text::PartOf;
@@ -193,14 +194,31 @@ fn put_captured<O: Sink>(
         → Rose (O.faults output.old) (O.faults output.new) }
     ensures later { O.faults output.old ≤ O.faults output.new }
 {
-    let written = match what {
-        CapturedText::Routes => write_routes(alloc, level, system, input, output),
-        CapturedText::Routes6 => write_routes6(alloc, level, system, input, output),
-        CapturedText::Alternates => write_alternates(alloc, level, system, input, output),
-    };
-    match written {
+    match write_captured(alloc, what, level, system, input, output) {
         Ok(None) => Status::Done,
         Ok(Some(what)) => Status::Absent { what },
         Err(fault) => Status::from(fault),
+    }
+}
+
+/// The text of captured LSPs, by its kind.
+fn write_captured<O: Sink>(
+    alloc: Global,
+    what: CapturedText,
+    level: Level,
+    system: SystemId,
+    input: &[u8],
+    output: &mut O,
+) -> Result<Option<Absence>, TextFailed>
+    ensures ends { TextEnds (IsCapturedText what level system input.now)
+        (O.put output.old) (O.put output.new) result }
+    ensures cause { result ≡ Err TextFailed.Write
+        → Rose (O.faults output.old) (O.faults output.new) }
+    ensures later { O.faults output.old ≤ O.faults output.new }
+{
+    match what {
+        CapturedText::Routes => write_routes(alloc, level, system, input, output),
+        CapturedText::Routes6 => write_routes6(alloc, level, system, input, output),
+        CapturedText::Alternates => write_alternates(alloc, level, system, input, output),
     }
 }
