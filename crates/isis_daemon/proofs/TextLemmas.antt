@@ -5,32 +5,37 @@ use Rattle.lab_script.specs.declared.reason.ScriptFault.TheVariants as script
 use Rattle.capture_text.specs.declared.absence.Absence.{Absence}
 use Rattle.lab_losses.specs.declared.reason.LossesReason.{LossesReason}
 use Rattle.isis_daemon.specs.declared.command.Command.{Command}
-use Rattle.isis_daemon.specs.declared.command.Command.TheVariants.{Lab, Show, Captured, Losses}
+use Rattle.isis_daemon.specs.declared.command.Command.TheVariants.{Lab, Show, Merge, Captured, Losses}
 use Rattle.isis_daemon.specs.declared.status.Status.{Status}
 use Rattle.isis_daemon.specs.declared.status.Status.TheVariants as status
+use Rattle.isis_daemon.proofs.MergeLemmas.{lacks-no-part, refuses-none}
 use Rattle.isis_daemon.specs.Runs.{AreTooMany, ComesToEnd, EndsOn, IsDoneBut, IsOfCaptured, IsRefusedBy, IsTaken, IsWrittenUnlessMemory, Lacks}
 
 unrefused : (command : Command) (input : List ℕ) (fault : ScriptFault) → ComesToEnd command input → IsRefusedBy command input fault → ⊥
 unrefused Lab input fault can refused = cc (subst IsOk refused can)
 unrefused Show input fault can refused = refused
+unrefused Merge input fault can refused = refuses-none input fault can refused
 unrefused (Captured what level system) input fault can refused = refused
 unrefused (Losses most part) input fault can refused = can.taken fault refused
 
 few : (command : Command) (input : List ℕ) → ComesToEnd command input → AreTooMany command input → ⊥
 few Lab input can many = many
 few Show input can many = many
+few Merge input can many = many
 few (Captured what level system) input can many = many
 few (Losses most part) input can many = can.few many
 
 lacks-none : (command : Command) (input : List ℕ) (reason : LossesReason) → ComesToEnd command input → Lacks command input reason → ⊥
 lacks-none Lab input reason can lacks = lacks
 lacks-none Show input reason can lacks = lacks
+lacks-none Merge input reason can lacks = lacks-no-part input reason can lacks
 lacks-none (Captured what level system) input reason can lacks = lacks
 lacks-none (Losses most part) input reason can lacks = can.some reason lacks
 
 of_captured : (absence : Absence) (command : Command) (input put put' : List ℕ) → IsDoneBut absence command input put put' → IsOfCaptured command
 of_captured absence Lab input put put' h = absurd h
 of_captured absence Show input put put' h = absurd h
+of_captured absence Merge input put put' h = absurd h
 of_captured absence (Captured what level system) input put put' h = tt
 of_captured absence (Losses most part) input put put' h = absurd h
 

@@ -13,7 +13,7 @@ use Rattle.daemon_config.specs.Fields.{host_of}
 use Rattle.line_cuts.specs.Fields.{prefix_of}
 use Rattle.lab_script.specs.Fields.{name_of}
 use Rattle.isis_daemon.specs.declared.command.Command.{Command}
-use Rattle.isis_daemon.specs.declared.command.Command.TheVariants.{Lab, Show, Captured, Losses}
+use Rattle.isis_daemon.specs.declared.command.Command.TheVariants.{Lab, Show, Merge, Captured, Losses}
 use Rattle.isis_daemon.specs.declared.command.CapturedText.{CapturedText}
 use Rattle.isis_daemon.specs.declared.command.CapturedText.TheVariants.{Routes, Routes6, Alternates}
 use Rattle.losses_text.specs.Words.{most_in, part_in}
@@ -65,15 +65,17 @@ three_of word first second =
 abbrev pub IsAskedCommand : Command → Type 0
 IsAskedCommand Lab = Unit {0}
 IsAskedCommand Show = Unit {0}
+IsAskedCommand Merge = Unit {0}
 IsAskedCommand (Captured what level system) = Unit {0}
 IsAskedCommand (Losses most part) = IfSome part IsAskedPart
 
--- one word, `lab` or `show`; `losses` with how many and a part; or a word of captured LSPs, a level and a system
+-- one word, `lab`, `show` or `merge`; `losses` with how many and a part; or a word of captured LSPs, a level and a system
 abbrev pub command_of : List (List ℕ) → Option Command
 command_of [] = None
 command_of (word ∷ []) =
-    if bytes_eq word (codes "lab") then Some Lab else if bytes_eq word (codes "show")
-    then Some Show else None
+    if bytes_eq word (codes "lab") then Some Lab
+    else if bytes_eq word (codes "show") then Some Show
+    else if bytes_eq word (codes "merge") then Some Merge else None
 command_of (word ∷ first ∷ []) = losses_of word first
 command_of (word ∷ first ∷ second ∷ []) = three_of word first second
 command_of (word ∷ first ∷ second ∷ next ∷ words) = None

@@ -6,6 +6,7 @@ pub mod GridEnds
 pub mod Headline
 pub mod Options
 pub mod LossesRuns
+pub mod MergeRuns
 pub mod Runs
 pub mod ShowText
 pub mod ShownLeft

@@ -8,7 +8,7 @@ use Rattle.lab_script.specs.declared.reason.ScriptFault.TheVariants.{Refused, Li
 use Rattle.lab_script.specs.Scripts.{◌>>=◌, script_of}
 use Rattle.lab_text.specs.Runs.{IsReport, outcome_of, WrotePart}
 use Rattle.isis_daemon.specs.declared.command.Command.{Command}
-use Rattle.isis_daemon.specs.declared.command.Command.TheVariants.{Lab, Show, Captured, Losses}
+use Rattle.isis_daemon.specs.declared.command.Command.TheVariants.{Lab, Show, Merge, Captured, Losses}
 use Rattle.isis_daemon.specs.declared.command.CapturedText.{CapturedText}
 use Rattle.isis_daemon.specs.declared.command.CapturedText.TheVariants.{Routes, Routes6, Alternates}
 use Rattle.isis_daemon.specs.declared.status.Status.{Status}
@@ -20,6 +20,7 @@ use Rattle.capture_text.specs.Routes6Text.{IsRoutes6Text}
 use Rattle.capture_text.specs.AlternatesText.{IsAlternatesText}
 use Rattle.lab_losses.specs.declared.reason.LossesReason.{LossesReason}
 use Rattle.isis_daemon.specs.LossesRuns.{HasLosses, HasTooMany, LacksLosses, RefusesLosses, TellsLosses}
+use Rattle.isis_daemon.specs.MergeRuns.{CanBeMerged, LacksParts, MergesTo, RefusesTexts}
 use Rattle.isis_daemon.specs.ShowText.{shown_text}
 use Rattle.isis_daemon.specs.Headline.{IsHeadline}
 
@@ -34,10 +35,11 @@ IsCapturedText Routes6 level system input = IsRoutes6Text level system input
 IsCapturedText Alternates level system input = IsAlternatesText level system input
 
 -- a text is what a command makes of an input: of a script its report, or what lost deliveries do to its last line; of PDUs
--- their fields; and of captured LSPs what they say of a system
+-- their fields; of texts of losses that of the whole; and of captured LSPs what they say of a system
 abbrev pub IsTextOf : Command → List ℕ → List ℕ → Type 0
 IsTextOf Lab input text = IsOkAnd (script_of input) (λ script. IsReport script text)
 IsTextOf Show input text = text ≡ shown_text input
+IsTextOf Merge input text = MergesTo input text
 IsTextOf (Captured what level system) input text = IsAny (IsCapturedText what level system input) text
 IsTextOf (Losses most part) input text = TellsLosses most part input text
 
@@ -49,6 +51,7 @@ script_outcome input = script_of input >>= λ script. outcome_of script
 abbrev pub IsRefusedBy : Command → List ℕ → ScriptFault → Type 0
 IsRefusedBy Lab input fault = script_outcome input ≡ Err fault
 IsRefusedBy Show input fault = ⊥
+IsRefusedBy Merge input fault = RefusesTexts input fault
 IsRefusedBy (Captured what level system) input fault = ⊥
 IsRefusedBy (Losses most part) input fault = RefusesLosses most part input fault
 
@@ -56,6 +59,7 @@ IsRefusedBy (Losses most part) input fault = RefusesLosses most part input fault
 abbrev pub AreTooMany : Command → List ℕ → Type 0
 AreTooMany Lab input = ⊥
 AreTooMany Show input = ⊥
+AreTooMany Merge input = ⊥
 AreTooMany (Captured what level system) input = ⊥
 AreTooMany (Losses most part) input = HasTooMany most part input
 
@@ -63,6 +67,7 @@ AreTooMany (Losses most part) input = HasTooMany most part input
 abbrev pub Lacks : Command → List ℕ → LossesReason → Type 0
 Lacks Lab input reason = ⊥
 Lacks Show input reason = ⊥
+Lacks Merge input reason = LacksParts input reason
 Lacks (Captured what level system) input reason = ⊥
 Lacks (Losses most part) input reason = LacksLosses input reason
 
@@ -117,6 +122,7 @@ WroteCaptured what level system absence octets put put' =
 abbrev pub IsDone : Command → List ℕ → (put put' : List ℕ) → Type 0
 IsDone Lab octets put put' = IsHeadline octets put put'
 IsDone Show octets put put' = WroteText Show octets put put'
+IsDone Merge octets put put' = WroteText Merge octets put put'
 IsDone (Captured what level system) octets put put' =
     WroteCaptured what level system None octets put put'
 IsDone (Losses most part) octets put put' = WroteText (Losses most part) octets put put'
@@ -125,6 +131,7 @@ IsDone (Losses most part) octets put put' = WroteText (Losses most part) octets 
 abbrev pub IsDoneBut : Absence → Command → List ℕ → (put put' : List ℕ) → Type 0
 IsDoneBut absence Lab octets put put' = ⊥
 IsDoneBut absence Show octets put put' = ⊥
+IsDoneBut absence Merge octets put put' = ⊥
 IsDoneBut absence (Captured what level system) octets put put' =
     WroteCaptured what level system (Some absence) octets put put'
 IsDoneBut absence (Losses most part) octets put put' = ⊥
@@ -163,6 +170,7 @@ Ends command gave gave' ended put put' end =
 abbrev pub ComesToEnd : Command → List ℕ → Type 0
 ComesToEnd Lab input = IsOk (script_outcome input)
 ComesToEnd Show input = Unit {0}
+ComesToEnd Merge input = CanBeMerged input
 ComesToEnd (Captured what level system) input = Unit {0}
 ComesToEnd (Losses most part) input = HasLosses most part input
 
@@ -178,6 +186,7 @@ IsDoneUnlessMemory end = (end ≡ status.Done) ⊎ (end ≡ status.OutOfMemory)
 abbrev pub IsOfCaptured : Command → Type 0
 IsOfCaptured Lab = ⊥
 IsOfCaptured Show = ⊥
+IsOfCaptured Merge = ⊥
 IsOfCaptured (Captured what level system) = Unit {0}
 IsOfCaptured (Losses most part) = ⊥
 

@@ -24,6 +24,10 @@ use Rattle.walk_text.specs.Reasons as why
 use Rattle.lab_losses.specs.declared.fault.WriteFault.TheVariants as lost
 use Rattle.lab_losses.specs.declared.fault.WriteFault as failed
 use Rattle.lab_losses.specs.ScriptLosses as losses
+use Rattle.lab_losses.specs.declared.reason.LossesReason.TheVariants as lacks
+use Rattle.losses_text.specs.declared.merge_fault.MergeFault.{MergeFault}
+use Rattle.losses_text.specs.declared.merge_fault.MergeFault.TheVariants as merge
+use Rattle.isis_daemon.specs.MergeRuns.{reason_of}
 use Rattle.weave_text.specs.declared.fault.WeaveTextFault.{WeaveTextFault}
 use Rattle.weave_text.specs.declared.fault.WeaveTextFault.TheVariants as weave
 use Rattle.weave_text.specs.Reasons as unwoven
@@ -48,6 +52,12 @@ walk_status (walk.Limit which) = LabLimit which
 walk_status (walk.NoWalk reason) = NoWalk reason
 walk_status walk.Write = WriteFault
 walk_status walk.OutOfMemory = OutOfMemory
+
+-- what ends a run whose texts of losses weren't joined (own)
+abbrev pub merge_status : MergeFault → Status
+merge_status (merge.Refused line reason) = ScriptRefused line (reason_of reason)
+merge_status merge.Parts = NoLosses lacks.Parts
+merge_status merge.OutOfMemory = OutOfMemory
 
 -- what ends a run whose losses weren't written to their end (own)
 abbrev pub losses_status : failed.WriteFault → Status

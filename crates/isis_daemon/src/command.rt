@@ -28,6 +28,8 @@ pub enum Command {
     Lab,
     /// `show`: the fields of PDUs.
     Show,
+    /// `merge`: the texts of losses of all parts are joined.
+    Merge,
     /// A text of a system, by captured LSPs of a level.
     Captured {
         what: CapturedText,
@@ -78,6 +80,9 @@ fn text_command(word: &str) -> Option<Command>
     }
     if word == "show" {
         return Some(Command::Show);
+    }
+    if word == "merge" {
+        return Some(Command::Merge);
     }
     None
 }

@@ -1,6 +1,7 @@
 //! How a run of the program ended.
 ghost use Rattle.std.specs.Prelude.{◌≡◌, Some};
-ghost use Rattle.isis_daemon.specs.Statuses.{script_status, run_status, whole_status, text_status, walk_status, losses_status, weave_status, config_status, daemon_status, status_code, status_line};
+ghost use Rattle.isis_daemon.specs.MergeRuns.{reason_of};
+ghost use Rattle.isis_daemon.specs.Statuses.{script_status, run_status, whole_status, text_status, walk_status, losses_status, merge_status, weave_status, config_status, daemon_status, status_code, status_line};
 
 use capture_text::Absence;
 use circuit_serve::DaemonEnd;
@@ -8,6 +9,7 @@ use daemon_config::{ConfigFault, ConfigKey, ConfigKind};
 use isis_edge::{TextFailed, WholeFault};
 use lab_losses::{LossesReason, WriteFault};
 use lab_text::{Reason, RunFault, ScriptFault};
+use losses_text::{MergeFault, MergeReason};
 use network_lab::LimitName;
 use std::fmt;
 use walk_text::{WalkFault, WalkReason};
@@ -197,6 +199,33 @@ impl From<WriteFault> for Status {
             WriteFault::Write => Status::WriteFault,
             WriteFault::OutOfMemory => Status::OutOfMemory,
         }
+    }
+}
+
+impl From<MergeFault> for Status {
+    ghost from_gives = { λ fault status. status ≡ merge_status fault };
+
+    fn from(fault: MergeFault) -> Status {
+        match fault {
+            MergeFault::Refused { line, reason } => Status::ScriptRefused {
+                line,
+                reason: reason_of(reason),
+            },
+            MergeFault::Parts => Status::NoLosses {
+                reason: LossesReason::Parts,
+            },
+            MergeFault::OutOfMemory => Status::OutOfMemory,
+        }
+    }
+}
+
+/// Why a line of texts of losses is refused, as of a script.
+fn reason_of(reason: MergeReason) -> Reason
+    ensures { result ≡ reason_of reason }
+{
+    match reason {
+        MergeReason::Form => Reason::Form,
+        MergeReason::Again => Reason::Again,
     }
 }
 

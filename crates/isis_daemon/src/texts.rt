@@ -15,10 +15,10 @@ use crate::shown::Shown;
 use crate::status::{INPUT_LIMIT, Status};
 use capture_text::{Absence, write_alternates, write_routes, write_routes6};
 use isis_base::{Level, SystemId};
-use isis_edge::{Sink, Source, TextFailed, read_whole, write_text};
+use isis_edge::{Sink, Source, TextFailed, WriteFailed, read_whole, write_all, write_text};
 use lab_losses::write_losses;
 use lab_text::{read_script, run_script};
-use losses_text::PartOf;
+use losses_text::{PartOf, merge_losses};
 use std::alloc::Global;
 
 /// Runs what makes a text of its input, or of nothing. The words are tested first, then the input is read.
@@ -109,6 +109,7 @@ fn put_text<O: Sink>(alloc: Global, command: Command, octets: &[u8], output: &mu
     match command {
         Command::Lab => lab(alloc, octets, output),
         Command::Show => put_shown(alloc, octets, output),
+        Command::Merge => put_merged(alloc, octets, output),
         Command::Captured {
             what,
             level,
@@ -160,6 +161,24 @@ fn put_losses<O: Sink>(
     match write_losses(alloc, script, most, part, output) {
         Ok(()) => Status::Done,
         Err(fault) => Status::from(fault),
+    }
+}
+
+/// Joins texts of losses of all parts, and writes that of the whole.
+fn put_merged<O: Sink>(alloc: Global, texts: &[u8], output: &mut O) -> Status
+    ensures ends { EndsOn Command.Merge texts.now (O.put output.old)
+        (O.put output.new) result }
+    ensures write_fault { result ≡ Status.WriteFault
+        → Rose (O.faults output.old) (O.faults output.new) }
+    ensures later { O.faults output.old ≤ O.faults output.new }
+{
+    let text = match merge_losses(alloc, texts) {
+        Ok(text) => text,
+        Err(fault) => return Status::from(fault),
+    };
+    match write_all(output, text.as_slice()) {
+        Ok(()) => Status::Done,
+        Err(WriteFailed) => Status::WriteFault,
     }
 }
 

@@ -38,6 +38,7 @@ use Rattle.lab_losses.specs.Finds.{IsFound, agrees_as}
 abbrev pub reason_word : LossesReason → List ℕ
 reason_word reason.Keys = codes "keys"
 reason_word reason.Run = codes "run"
+reason_word reason.Parts = codes "parts"
 
 -- ---- the last event line
 
@@ -88,11 +89,12 @@ pub record IsLossesText (script : Script) (most : ℕ) (part : Option PartOf) (t
 
 -- ---- why there is none
 
--- it is a keys script, or its last event line is no `run`
+-- it is a keys script, or its last event line is no `run`; of parts nothing is asked of a script
 abbrev pub HasNoLosses : Script → LossesReason → Type 0
 HasNoLosses script reason.Keys = is_lab_script script ≡ false
 HasNoLosses script reason.Run = (is_lab_script script ≡ true)
     × ((before : LabScript) (asked : RunAsked) → IsLastRun script before asked → ⊥)
+HasNoLosses script reason.Parts = ⊥
 
 -- a line before the last one is refused, or passes a limit
 pub record IsRefusedBefore (script : Script) (fault : ScriptFault) : Type 0 where

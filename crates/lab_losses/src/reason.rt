@@ -9,6 +9,8 @@ pub enum LossesReason {
     Keys,
     /// The last event line is no `run`, or there is no event line.
     Run,
+    /// Texts of losses aren't the whole texts of all parts.
+    Parts,
 }
 
 impl fmt::Display for LossesReason {
@@ -21,6 +23,7 @@ impl fmt::Display for LossesReason {
         match self {
             LossesReason::Keys => write!(f, "keys"),
             LossesReason::Run => write!(f, "run"),
+            LossesReason::Parts => write!(f, "parts"),
         }
     }
 }

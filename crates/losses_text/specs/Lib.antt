@@ -3,3 +3,6 @@ pub mod Words
 pub mod Said
 pub mod Named
 pub mod LossesText
+pub mod TextLines
+pub mod Joined
+pub mod Merging

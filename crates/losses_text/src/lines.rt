@@ -87,6 +87,6 @@ fn add_loss(text: &mut Octets, loss: &NamedLoss<'_>) -> Result<(), OutOfMemory>
     add_number(text, b"lost ", loss.place as u64)?;
     add_number(text, b" ", loss.datagram as u64)?;
     text.extend(b" ")?;
-    text.extend(loss.name.as_bytes())?;
+    text.extend(loss.name)?;
     text.extend(b"\n")
 }

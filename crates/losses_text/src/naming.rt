@@ -39,7 +39,7 @@ fn add_named<'a>(
     let loss = NamedLoss {
         place: loss.place,
         datagram: loss.datagram,
-        name: name_of(names, loss.router),
+        name: name_of(names, loss.router).as_bytes(),
     };
     named_losses.push(loss)?;
     Ok(())

@@ -10,8 +10,8 @@ pub struct NamedLoss<'a> {
     pub place: usize,
     /// The datagram, by its number, counted from 1.
     pub datagram: usize,
-    /// The router, by its name.
-    pub name: &'a str,
+    /// The router, by the letters of its name.
+    pub name: &'a [u8],
 }
 
 /// What a text of losses says of the last line of a script. Seconds are those of the line, counted from 1.

@@ -30,7 +30,7 @@ pub fn read_part(word: &[u8]) -> Option<PartOf>
 }
 
 /// A part by its number and how many there are.
-fn part_from(number: Option<u32>, of: Option<u32>) -> Option<PartOf>
+pub(crate) fn part_from(number: Option<u32>, of: Option<u32>) -> Option<PartOf>
     requires { IfSome of (λ of. of ≤ 65535) }
     ensures part { result ≡ part_from number of }
     ensures within { IfSome result (λ part. (1 ≤ part.number) × (part.number ≤ part.of) × (part.of ≤ 65535)) }
