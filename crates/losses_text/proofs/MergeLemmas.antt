@@ -5,7 +5,7 @@ use Rattle.losses_text.specs.declared.merge_fault.MergeReason.{MergeReason}
 use Rattle.losses_text.specs.declared.joining.LineFault.{LineFault}
 use Rattle.losses_text.specs.declared.joining.LineFault.TheVariants as wrong
 use Rattle.losses_text.specs.Joined.{Joined, Takes, with_line}
-use Rattle.losses_text.specs.Merging.{Reading, Read, Refused, IsNotMerged, fault_at, is_end, or_refused, reading_from, reading_of}
+use Rattle.losses_text.specs.Merging.{Reading, Read, IsNotMerged, fault_at, is_end, or_refused, reading_from, reading_of}
 
 -- the first of the lines that are left
 first-line : (joined : Joined) (number : ℕ) (all rest : List (List ℕ)) (line : List ℕ) (over : Bool) → all ≡ line ∷ rest → is_end line rest ≡ over

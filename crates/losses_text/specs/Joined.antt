@@ -86,7 +86,7 @@ abbrev pub with_part : Joined → PartOf → Result Joined MergeReason
 with_part j part =
     if list_any (λ n. n == part.number) j.numbers then Err Again
     else fits (is_same j.of part.of)
-        (record j { comes = kind.Schedules; of = Some part.of; numbers = j.numbers ++ part.number ∷ [] })
+    (record j { comes = kind.Schedules; of = Some part.of; numbers = j.numbers ++ part.number ∷ [] })
 
 abbrev pub at_part : Joined → Line → Result Joined MergeReason
 at_part j (Part part) = with_part j part

@@ -1,5 +1,5 @@
 -- Texts of losses, one behind another, joined to the text of the whole (own).
-use Rattle.std.specs.Prelude.{◌≡◌, ℕ, ◌+◌, Bool, true, false, List, [], ◌∷◌, Option, Some, None, Result, Ok, Err, if◌then◌else◌}
+use Rattle.std.specs.Prelude.{◌≡◌, ℕ, ◌+◌, Bool, true, false, List, [], ◌∷◌, Some, None, Result, Ok, Err, if◌then◌else◌}
 use Rattle.line_cuts.specs.Words.{lines_of}
 use Rattle.losses_text.specs.declared.joining.LineFault.{LineFault}
 use Rattle.losses_text.specs.declared.joining.LineFault.TheVariants as wrong

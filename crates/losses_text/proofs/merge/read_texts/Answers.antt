@@ -1,4 +1,4 @@
-use Rattle.std.proofs.Common.{◌≡◌, ◌∙◌, ◌+◌, ◌∷◌, length, suc, sym, subst, ap, arith}
+use Rattle.std.proofs.Common.{◌≡◌, ◌∙◌, ◌∷◌, length, suc, sym, subst, ap, arith}
 use Rattle.losses_text.specs.declared.merge_fault.MergeFault.{MergeFault}
 use Rattle.losses_text.specs.Merging.{IsNotMerged}
 use Rattle.losses_text.proofs.MergeLemmas.{line-taken, line-refused, end-read, none-left}
