@@ -1,5 +1,5 @@
 -- Texts that can be joined are refused for nothing; and how the joining ends is how the run on an input ends.
-use Rattle.std.proofs.Common.{◌≡◌, ◌∙◌, ℕ, List, Option, Some, None, inl, refl, sym, ap}
+use Rattle.std.proofs.Common.{◌≡◌, ◌∙◌, ℕ, List, Some, None, inl, refl, sym, ap}
 use Rattle.lab_script.specs.declared.reason.ScriptFault.{ScriptFault}
 use Rattle.lab_script.specs.declared.reason.ScriptFault.TheVariants as script
 use Rattle.lab_losses.specs.declared.reason.LossesReason.{LossesReason}
@@ -8,7 +8,6 @@ use Rattle.losses_text.specs.declared.merge_fault.MergeFault.{MergeFault}
 use Rattle.losses_text.specs.declared.merge_fault.MergeFault.TheVariants as fault
 use Rattle.losses_text.specs.Joined.{Joined, whole}
 use Rattle.losses_text.specs.Merging.{IsNotMerged, Read, Reading, Refused, reading_of}
-use Rattle.losses_text.specs.Said.{Said}
 use Rattle.isis_daemon.specs.declared.command.Command.TheVariants.{Merge}
 use Rattle.isis_daemon.specs.MergeRuns.{CanBeMerged, LacksParts, RefusesTexts}
 use Rattle.isis_daemon.specs.Runs.{EndsOn}

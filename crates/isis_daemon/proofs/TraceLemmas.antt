@@ -1,10 +1,8 @@
 -- Words that ask for a trace ask for nothing else; and a trace that there is is written.
-use Rattle.std.proofs.Common.{◌≡◌, ℕ, Bool, true, false, if◌then◌else◌, List, [], ◌∷◌, Option, Some, None, IfSome, IsOk, inl, inr, option_and_then, codes, refl, sym, subst}
+use Rattle.std.proofs.Common.{◌≡◌, ℕ, Bool, true, false, if◌then◌else◌, List, [], ◌∷◌, Option, Some, None, IfSome, IsOk, inl, inr, codes, refl, sym, subst}
 use Rattle.std.specs.Option.{option_map}
 use Rattle.std.specs.Str.{bytes_eq}
 use Rattle.std.proofs.lemmas.Slice.Eq.{bytes_eq-Decides}
-use Rattle.isis_base.specs.declared.identifiers.SystemId.{SystemId}
-use Rattle.isis_base.specs.declared.level.Level.{Level}
 use Rattle.isis_daemon.specs.Commands.{AreNoText, walk_of, trace_of, tracing_of}
 use Rattle.isis_daemon.specs.Options.{daemon_of}
 use Rattle.lab_script.specs.declared.reason.ScriptFault.{ScriptFault}
