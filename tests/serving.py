@@ -60,7 +60,7 @@ def starts(run):
     ended = run(WORDS, config(port))
     yield "a port that is free again", told(ended, 0) or fault_of(ended.output)
     seconds = ended.output.count("second -> done")
-    yield "a turn", None if seconds == 1 and re.search(r"1 1 pull 1 -> send 4953553200000000000100000003\w+\n", ended.output) else ended.output[:200]
+    yield "a turn", None if seconds == 1 and re.search(r"(?m)^\d+ 1 pull 1 -> send 4953553200000000000100000003\w+\n", ended.output) else ended.output[:200]
 
 
 def inputs(run):
