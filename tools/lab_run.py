@@ -25,10 +25,10 @@ def play(text):
 
 
 def shown(pdus):
-    """The lines that `isis show` writes of each of these PDUs; of one without octets it writes none."""
+    """The lines that `isis show long` writes of each of these PDUs; of one without octets it writes none."""
     lines = [[] for _ in pdus]
     place = 0
-    for line in program.call(["show"], "".join(pdu.hex() + "\n" for pdu in pdus)).splitlines():
+    for line in program.call(["show", "long"], "".join(pdu.hex() + "\n" for pdu in pdus)).splitlines():
         if line.startswith("pdu "):
             place = int(line.split(" ")[1]) - 1
         lines[place].append(line)

@@ -2,7 +2,7 @@
 use Rattle.std.proofs.Common.{◌≡◌, ◌∙◌, ℕ, zero, suc, ◌+◌, ◌<◌, ◌≤◌, ◌==◌, map, Bool, true, false, if◌then◌else◌, List, [], ◌∷◌, length, get_or, take, drop, Option, Some, None, IfSome, codes, refl, sym, ap, subst, arith}
 use Rattle.std.specs.Str.{bytes_eq}
 use Rattle.std.proofs.lemmas.Slice.Eq.{bytes_eq-Decides}
-use Rattle.isis_daemon.specs.Commands.{command_of, losses_of, three_of, grid_size_of, size_of, walk_of, trace_of, weave_of}
+use Rattle.isis_daemon.specs.Commands.{command_of, two_of, three_of, grid_size_of, size_of, walk_of, trace_of, weave_of}
 use Rattle.isis_daemon.specs.Options.{name_in, value_in, pieces_of, options_of, daemon_of}
 
 fails : (b : Bool) → ¬ (b ≡ true) → b ≡ false
@@ -70,7 +70,7 @@ alone (word ∷ []) x is = absurd (none (bytes_eq word (codes "daemon")) is)
     none : (b : Bool) → (if b then options_of [] else None) ≡ Some x → ⊥
     none true e = cc e
     none false e = cc e
-alone (word ∷ l ∷ []) x is = subst (λ (w : List ℕ). losses_of w l ≡ None) (sym (named word (l ∷ []) x is)) refl
+alone (word ∷ l ∷ []) x is = subst (λ (w : List ℕ). two_of w l ≡ None) (sym (named word (l ∷ []) x is)) refl
 alone (word ∷ l ∷ s ∷ []) x is = subst (λ (w : List ℕ). three_of w l s ≡ None) (sym (named word (l ∷ s ∷ []) x is)) refl
 alone (word ∷ l ∷ s ∷ next ∷ words) x is = refl
 
@@ -116,7 +116,7 @@ grid_alone None words is = tt
 grid_alone (Some size) [] is = absurd (cc is)
 grid_alone (Some size) (word ∷ []) is = absurd (cc is)
 grid_alone (Some size) (word ∷ number ∷ []) is =
-    subst (λ (w : List ℕ). losses_of w number ≡ None) (sym ((bytes_eq-Decides word (codes "grid")).0 (hit (bytes_eq word (codes "grid")) is))) refl
+    subst (λ (w : List ℕ). two_of w number ≡ None) (sym ((bytes_eq-Decides word (codes "grid")).0 (hit (bytes_eq word (codes "grid")) is))) refl
   where
     hit : (b : Bool) → Some size ≡ (if b then size_of number else None) → b ≡ true
     hit true e = refl

@@ -1,5 +1,5 @@
 -- Lines of what an input is shown as, and how many TLVs there are.
-use Rattle.std.proofs.Common.{◌≡◌, ℕ, zero, suc, ◌+◌, ◌≤◌, List, [], ◌∷◌, ◌++◌, length, Result, Ok, Err, arith, ap}
+use Rattle.std.proofs.Common.{◌≡◌, ℕ, zero, suc, ◌+◌, ◌≤◌, Bool, List, [], ◌∷◌, ◌++◌, length, Result, Ok, Err, arith, ap}
 use Rattle.std.specs.Prelude.{◌==◌}
 use Rattle.std.specs.Result.{ok_prefix}
 use Rattle.std.proofs.lemmas.List.Splits.{length-slice_split}
@@ -26,14 +26,14 @@ unfolding items_of
 length_tlv_list place octets = length-walk tlv_at (length octets) place octets
 
 -- the next line is shown before those behind it
-pub shown_lines-next : (number : ℕ) (line : List ℕ) (lines all : List (List ℕ)) → all ≡ line ∷ lines → shown_lines number all ≡ shown_line number line ++ shown_lines (number + 1) lines
+pub shown_lines-next : (long : Bool) (number : ℕ) (line : List ℕ) (lines all : List (List ℕ)) → all ≡ line ∷ lines → shown_lines long number all ≡ shown_line long number line ++ shown_lines long (number + 1) lines
 unfolding shown_lines
-shown_lines-next number line lines all e = ap (shown_lines number) e
+shown_lines-next long number line lines all e = ap (shown_lines long number) e
 
 -- behind the last line there is nothing
-pub shown_lines-end : (number : ℕ) (all : List (List ℕ)) → all ≡ [] → shown_lines number all ≡ []
+pub shown_lines-end : (long : Bool) (number : ℕ) (all : List (List ℕ)) → all ≡ [] → shown_lines long number all ≡ []
 unfolding shown_lines
-shown_lines-end number all e = ap (shown_lines number) e
+shown_lines-end long number all e = ap (shown_lines long number) e
 
 -- a text has at most a line for each octet, and one
 pub lines-few : (input : List ℕ) → length (lines_of input) ≤ length input + 1

@@ -1,5 +1,5 @@
 -- What the words after the program's name ask for (own).
-use Rattle.std.specs.Prelude.{◌≡◌, ℕ, ◌-◌, nat_le, ◌&&◌, List, [], ◌∷◌, Option, Some, None, codes, IfSome, option_and_then, if◌then◌else◌}
+use Rattle.std.specs.Prelude.{◌≡◌, ℕ, ◌-◌, nat_le, ◌&&◌, List, [], ◌∷◌, true, false, Option, Some, None, codes, IfSome, option_and_then, if◌then◌else◌}
 use Rattle.std.specs.Option.{option_map}
 use Rattle.isis_base.specs.declared.identifiers.SystemId.{SystemId}
 use Rattle.isis_base.specs.declared.level.Level.{Level}
@@ -13,7 +13,7 @@ use Rattle.daemon_config.specs.Fields.{host_of}
 use Rattle.line_cuts.specs.Fields.{prefix_of}
 use Rattle.lab_script.specs.Fields.{name_of}
 use Rattle.isis_daemon.specs.declared.command.Command.{Command}
-use Rattle.isis_daemon.specs.declared.command.Command.TheVariants.{Lab, Show, Merge, Captured, Losses}
+use Rattle.isis_daemon.specs.declared.command.Command.TheVariants.{Lab, Show, Merge, Captured, Timeline, Losses}
 use Rattle.isis_daemon.specs.declared.command.CapturedText.{CapturedText}
 use Rattle.isis_daemon.specs.declared.command.CapturedText.TheVariants.{Routes, Routes6, Alternates}
 use Rattle.losses_text.specs.Words.{most_in, part_in}
@@ -44,11 +44,24 @@ captured_of word level system =
     option_map (λ system. Captured what level system) (system_in system)) (level_in level))
     (captured_text_of word)
 
+-- `show long`
+abbrev pub long_of : List ℕ → Option Command
+long_of word = if bytes_eq word (codes "long") then Some (Show true) else None
+
+-- `timeline` of packets to an address
+abbrev pub timeline_of : List ℕ → Option Command
+timeline_of address = option_map (λ address. Timeline address) (host_of address)
+
 -- `losses` of at most so many lost deliveries, in all schedules
-abbrev pub losses_of : List ℕ → List ℕ → Option Command
-losses_of word most =
-    if bytes_eq word (codes "losses") then option_map (λ most. Losses most None) (most_in most)
-    else None
+abbrev pub losses_of : List ℕ → Option Command
+losses_of most = option_map (λ most. Losses most None) (most_in most)
+
+-- a word and one behind it
+abbrev pub two_of : List ℕ → List ℕ → Option Command
+two_of word second =
+    if bytes_eq word (codes "losses") then losses_of second
+    else if bytes_eq word (codes "show") then long_of second
+    else if bytes_eq word (codes "timeline") then timeline_of second else None
 
 -- the same in a part of all schedules
 abbrev pub losses_in : List ℕ → List ℕ → Option Command
@@ -64,19 +77,20 @@ three_of word first second =
 -- a command's part is one of so many
 abbrev pub IsAskedCommand : Command → Type 0
 IsAskedCommand Lab = Unit {0}
-IsAskedCommand Show = Unit {0}
+IsAskedCommand (Show long) = Unit {0}
 IsAskedCommand Merge = Unit {0}
 IsAskedCommand (Captured what level system) = Unit {0}
+IsAskedCommand (Timeline address) = Unit {0}
 IsAskedCommand (Losses most part) = IfSome part IsAskedPart
 
--- one word, `lab`, `show` or `merge`; `losses` with how many and a part; or a word of captured LSPs, a level and a system
+-- one word, `lab`, `show` or `merge`; `show long`; `timeline` with an address; `losses` with how many and a part; or a word of captured LSPs, a level and a system
 abbrev pub command_of : List (List ℕ) → Option Command
 command_of [] = None
 command_of (word ∷ []) =
     if bytes_eq word (codes "lab") then Some Lab
-    else if bytes_eq word (codes "show") then Some Show
+    else if bytes_eq word (codes "show") then Some (Show false)
     else if bytes_eq word (codes "merge") then Some Merge else None
-command_of (word ∷ first ∷ []) = losses_of word first
+command_of (word ∷ first ∷ []) = two_of word first
 command_of (word ∷ first ∷ second ∷ []) = three_of word first second
 command_of (word ∷ first ∷ second ∷ next ∷ words) = None
 

@@ -8,7 +8,7 @@ use Rattle.lab_script.specs.declared.reason.ScriptFault.TheVariants.{Refused, Li
 use Rattle.lab_script.specs.Scripts.{◌>>=◌, script_of}
 use Rattle.lab_text.specs.Runs.{IsReport, outcome_of, WrotePart}
 use Rattle.isis_daemon.specs.declared.command.Command.{Command}
-use Rattle.isis_daemon.specs.declared.command.Command.TheVariants.{Lab, Show, Merge, Captured, Losses}
+use Rattle.isis_daemon.specs.declared.command.Command.TheVariants.{Lab, Show, Merge, Captured, Timeline, Losses}
 use Rattle.isis_daemon.specs.declared.command.CapturedText.{CapturedText}
 use Rattle.isis_daemon.specs.declared.command.CapturedText.TheVariants.{Routes, Routes6, Alternates}
 use Rattle.isis_daemon.specs.declared.status.Status.{Status}
@@ -21,6 +21,8 @@ use Rattle.capture_text.specs.AlternatesText.{IsAlternatesText}
 use Rattle.lab_losses.specs.declared.reason.LossesReason.{LossesReason}
 use Rattle.isis_daemon.specs.LossesRuns.{HasLosses, HasTooMany, LacksLosses, RefusesLosses, TellsLosses}
 use Rattle.isis_daemon.specs.MergeRuns.{CanBeMerged, LacksParts, MergesTo, RefusesTexts}
+use Rattle.isis_daemon.specs.TimelineRuns.{HasNoTimeline, TellsTimeline}
+use Rattle.walk_text.specs.declared.reason.WalkReason.{WalkReason}
 use Rattle.isis_daemon.specs.ShowText.{shown_text}
 use Rattle.isis_daemon.specs.Headline.{IsHeadline}
 
@@ -34,13 +36,15 @@ IsCapturedText Routes level system input = IsRoutesText level system input
 IsCapturedText Routes6 level system input = IsRoutes6Text level system input
 IsCapturedText Alternates level system input = IsAlternatesText level system input
 
--- a text is what a command makes of an input: of a script its report, or what lost deliveries do to its last line; of PDUs
+-- a text is what a command makes of an input: of a script its report, or what lost deliveries do to its last line, or
+-- a timeline; of PDUs
 -- their fields; of texts of losses that of the whole; and of captured LSPs what they say of a system
 abbrev pub IsTextOf : Command → List ℕ → List ℕ → Type 0
 IsTextOf Lab input text = IsOkAnd (script_of input) (λ script. IsReport script text)
-IsTextOf Show input text = text ≡ shown_text input
+IsTextOf (Show long) input text = text ≡ shown_text long input
 IsTextOf Merge input text = MergesTo input text
 IsTextOf (Captured what level system) input text = IsAny (IsCapturedText what level system input) text
+IsTextOf (Timeline address) input text = TellsTimeline address input text
 IsTextOf (Losses most part) input text = TellsLosses most part input text
 
 -- what a script comes to: an end, or what refuses it
@@ -50,26 +54,38 @@ script_outcome input = script_of input >>= λ script. outcome_of script
 -- what refuses the input of a command
 abbrev pub IsRefusedBy : Command → List ℕ → ScriptFault → Type 0
 IsRefusedBy Lab input fault = script_outcome input ≡ Err fault
-IsRefusedBy Show input fault = ⊥
+IsRefusedBy (Show long) input fault = ⊥
 IsRefusedBy Merge input fault = RefusesTexts input fault
 IsRefusedBy (Captured what level system) input fault = ⊥
+IsRefusedBy (Timeline address) input fault = script_outcome input ≡ Err fault
 IsRefusedBy (Losses most part) input fault = RefusesLosses most part input fault
 
 -- a command has too many schedules of lost deliveries
 abbrev pub AreTooMany : Command → List ℕ → Type 0
 AreTooMany Lab input = ⊥
-AreTooMany Show input = ⊥
+AreTooMany (Show long) input = ⊥
 AreTooMany Merge input = ⊥
 AreTooMany (Captured what level system) input = ⊥
+AreTooMany (Timeline address) input = ⊥
 AreTooMany (Losses most part) input = HasTooMany most part input
 
 -- a command has no lost deliveries to tell of, for this reason
 abbrev pub Lacks : Command → List ℕ → LossesReason → Type 0
 Lacks Lab input reason = ⊥
-Lacks Show input reason = ⊥
+Lacks (Show long) input reason = ⊥
 Lacks Merge input reason = LacksParts input reason
 Lacks (Captured what level system) input reason = ⊥
+Lacks (Timeline address) input reason = ⊥
 Lacks (Losses most part) input reason = LacksLosses input reason
+
+-- a command follows no packets, for this reason
+abbrev pub HasNoPackets : Command → List ℕ → WalkReason → Type 0
+HasNoPackets Lab input reason = ⊥
+HasNoPackets (Show long) input reason = ⊥
+HasNoPackets Merge input reason = ⊥
+HasNoPackets (Captured what level system) input reason = ⊥
+HasNoPackets (Timeline address) input reason = HasNoTimeline input reason
+HasNoPackets (Losses most part) input reason = ⊥
 
 -- the input gave no more than its first octets, at most one more than it may have
 abbrev pub IsTakenWithin : (gave gave' : List ℕ) → Type 0
@@ -121,19 +137,21 @@ WroteCaptured what level system absence octets put put' =
 -- captured LSPs lack nothing of the system
 abbrev pub IsDone : Command → List ℕ → (put put' : List ℕ) → Type 0
 IsDone Lab octets put put' = IsHeadline octets put put'
-IsDone Show octets put put' = WroteText Show octets put put'
+IsDone (Show long) octets put put' = WroteText (Show long) octets put put'
 IsDone Merge octets put put' = WroteText Merge octets put put'
 IsDone (Captured what level system) octets put put' =
     WroteCaptured what level system None octets put put'
+IsDone (Timeline address) octets put put' = WroteText (Timeline address) octets put put'
 IsDone (Losses most part) octets put put' = WroteText (Losses most part) octets put put'
 
 -- done, but captured LSPs lack this of the system
 abbrev pub IsDoneBut : Absence → Command → List ℕ → (put put' : List ℕ) → Type 0
 IsDoneBut absence Lab octets put put' = ⊥
-IsDoneBut absence Show octets put put' = ⊥
+IsDoneBut absence (Show long) octets put put' = ⊥
 IsDoneBut absence Merge octets put put' = ⊥
 IsDoneBut absence (Captured what level system) octets put put' =
     WroteCaptured what level system (Some absence) octets put put'
+IsDoneBut absence (Timeline address) octets put put' = ⊥
 IsDoneBut absence (Losses most part) octets put put' = ⊥
 
 -- how a command's run on octets ends: the status has its cause in them; and the whole text was written, a prefix of it, or
@@ -157,7 +175,8 @@ EndsOn command octets put put' status.TooLong = ⊥
 EndsOn command octets put put' (status.ConfigRefused what key) = ⊥
 EndsOn command octets put put' status.NotStarted = ⊥
 EndsOn command octets put put' (status.WeaveRefused journal entry reason) = ⊥
-EndsOn command octets put put' (status.NoWalk reason) = ⊥
+EndsOn command octets put put' (status.NoWalk reason) =
+    HasNoPackets command octets reason × (put' ≡ put)
 EndsOn command octets put put' (status.Absent what) = IsDoneBut what command octets put put'
 
 -- how a command's run ends, by what its input gave and its output was given, before and afterwards
@@ -166,12 +185,18 @@ abbrev pub Ends : Command → (gave gave' : List ℕ) → (ended : Bool) → (pu
 Ends command gave gave' ended put put' end =
     OnInput (λ octets. EndsOn command octets put put') gave gave' ended put put' end
 
+-- nothing is against a timeline: the script's run is neither refused nor limited, and it is a lab script
+pub record HasTimeline (input : List ℕ) : Type 0 where
+  pub runs : IsOk (script_outcome input)
+  pub some : (reason : WalkReason) → HasNoTimeline input reason → ⊥
+
 -- a command comes to its end on an input
 abbrev pub ComesToEnd : Command → List ℕ → Type 0
 ComesToEnd Lab input = IsOk (script_outcome input)
-ComesToEnd Show input = Unit {0}
+ComesToEnd (Show long) input = Unit {0}
 ComesToEnd Merge input = CanBeMerged input
 ComesToEnd (Captured what level system) input = Unit {0}
+ComesToEnd (Timeline address) input = HasTimeline input
 ComesToEnd (Losses most part) input = HasLosses most part input
 
 -- an input that a command takes to its end
@@ -185,9 +210,10 @@ IsDoneUnlessMemory end = (end ≡ status.Done) ⊎ (end ≡ status.OutOfMemory)
 -- a text of captured LSPs is asked for
 abbrev pub IsOfCaptured : Command → Type 0
 IsOfCaptured Lab = ⊥
-IsOfCaptured Show = ⊥
+IsOfCaptured (Show long) = ⊥
 IsOfCaptured Merge = ⊥
 IsOfCaptured (Captured what level system) = Unit {0}
+IsOfCaptured (Timeline address) = ⊥
 IsOfCaptured (Losses most part) = ⊥
 
 -- a command's whole text was written, though captured LSPs may lack something of the system; or there was no memory for it

@@ -1,5 +1,5 @@
--- What PDUs are shown as: a line for each, and a line for each of its TLVs (own).
-use Rattle.std.specs.Prelude.{ℕ, ◌+◌, ◌==◌, ◌||◌, not, List, [], ◌∷◌, ◌++◌, length, take, drop, codes, decimal, Result, Ok, Err, if◌then◌else◌}
+-- What PDUs are shown as: a line for each, and a line or more for each of its TLVs (own).
+use Rattle.std.specs.Prelude.{ℕ, ◌+◌, ◌==◌, ◌||◌, not, Bool, true, false, List, [], ◌∷◌, ◌++◌, length, take, drop, codes, decimal, Result, Ok, Err, if◌then◌else◌}
 use Rattle.std.specs.List.{flat_map}
 use Rattle.hex.specs.declared.error.FromHexError.{FromHexError}
 use Rattle.hex.specs.declared.error.FromHexError.TheVariants.{InvalidHexCharacter, OddLength, InvalidStringLength, OutOfMemory}
@@ -20,6 +20,7 @@ use Rattle.isis_pdu.specs.Decoded.{decoded}
 use Rattle.isis_pdu.specs.Layout.{kind_of}
 use Rattle.isis_base.specs.PduKinds.{header_length}
 use Rattle.isis_pdu.specs.Views.{PduView, LanHello, PointHello, Lsp, Csnp, Psnp, tlvs_of_pdu}
+use Rattle.value_text.specs.ValueLines.{value_lines}
 use Rattle.line_cuts.specs.Words.{lines_of}
 
 -- one of two words, by the level
@@ -87,6 +88,11 @@ tlv_line tlv =
     codes "tlv " ++ decimal tlv.code ++ codes " at " ++ decimal tlv.place ++ codes " length "
     ++ decimal (length tlv.value) ++ 10 ∷ []
 
+-- the lines of a TLV: that one, and in a long text what its value says
+abbrev pub tlv_lines : (long : Bool) → TlvView → List ℕ
+tlv_lines false tlv = tlv_line tlv
+tlv_lines true tlv = tlv_line tlv ++ value_lines tlv.code tlv.value
+
 -- the TLVs of a PDU, with their places in it
 abbrev pub shown_tlvs : PduView → List TlvView
 shown_tlvs pdu = tlv_list (header_length (kind_of pdu)) (tlvs_of_pdu pdu)
@@ -97,11 +103,11 @@ head_text number pdu octets =
     start_text number ++ type_word pdu ++ codes " length " ++ decimal (length octets)
     ++ fields_text pdu octets
 
--- the lines of a PDU whose octets these are: its fields and the count of its TLVs, then a line for each TLV (own)
-abbrev pub pdu_lines : ℕ → PduView → List ℕ → List ℕ
-pdu_lines number pdu octets =
+-- the lines of a PDU whose octets these are: its fields and the count of its TLVs, then those of each TLV (own)
+abbrev pub pdu_lines : (long : Bool) → ℕ → PduView → List ℕ → List ℕ
+pdu_lines long number pdu octets =
     head_text number pdu octets ++ codes " tlvs " ++ decimal (length (shown_tlvs pdu)) ++ 10 ∷ []
-    ++ flat_map tlv_line (shown_tlvs pdu)
+    ++ flat_map (tlv_lines long) (shown_tlvs pdu)
 
 -- the word of a fault of octets
 abbrev pub kind_word : PduFaultKind → List ℕ
@@ -122,9 +128,9 @@ fault_line number kind place =
     start_text number ++ codes "fault " ++ kind ++ codes " " ++ decimal place ++ 10 ∷ []
 
 -- what octets are shown as: the PDU they begin with, or its fault; octets past the PDU length aren't looked at
-abbrev pub octets_lines : ℕ → List ℕ → Result (PduView × ℕ) PduFault → List ℕ
-octets_lines number octets (Ok found) = pdu_lines number found.0 (take found.1 octets)
-octets_lines number octets (Err fault) = fault_line number (kind_word fault.kind) fault.place
+abbrev pub octets_lines : (long : Bool) → ℕ → List ℕ → Result (PduView × ℕ) PduFault → List ℕ
+octets_lines long number octets (Ok found) = pdu_lines long number found.0 (take found.1 octets)
+octets_lines long number octets (Err fault) = fault_line number (kind_word fault.kind) fault.place
 
 -- where a text of so many octets isn't hex: its length where that is odd, else its first octet that is no digit; the
 -- last two don't come of reading (own)
@@ -134,20 +140,20 @@ misfit_place size (InvalidHexCharacter digit place) = place
 misfit_place size InvalidStringLength = size
 misfit_place size OutOfMemory = size
 
-abbrev pub hex_lines : ℕ → List ℕ → Result (List ℕ) FromHexError → List ℕ
-hex_lines number line (Ok octets) = octets_lines number octets (decoded octets)
-hex_lines number line (Err error) =
+abbrev pub hex_lines : (long : Bool) → ℕ → List ℕ → Result (List ℕ) FromHexError → List ℕ
+hex_lines long number line (Ok octets) = octets_lines long number octets (decoded octets)
+hex_lines long number line (Err error) =
     fault_line number (codes "Hex") (misfit_place (length line) error)
 
 -- what a line of the input is shown as: nothing where it is empty, else the PDU of its hex text (own)
-unfoldable pub shown_line : ℕ → List ℕ → List ℕ
-shown_line number line = if length line == 0 then [] else hex_lines number line (decode_of line)
+unfoldable pub shown_line : (long : Bool) → ℕ → List ℕ → List ℕ
+shown_line long number line = if length line == 0 then [] else hex_lines long number line (decode_of line)
 
 -- the same of lines, the first of which has this number
-unfoldable pub shown_lines : ℕ → List (List ℕ) → List ℕ
-shown_lines number [] = []
-shown_lines number (line ∷ lines) = shown_line number line ++ shown_lines (number + 1) lines
+unfoldable pub shown_lines : (long : Bool) → ℕ → List (List ℕ) → List ℕ
+shown_lines long number [] = []
+shown_lines long number (line ∷ lines) = shown_line long number line ++ shown_lines long (number + 1) lines
 
--- what an input is shown as (own)
-abbrev pub shown_text : List ℕ → List ℕ
-shown_text input = shown_lines 1 (lines_of input)
+-- what an input is shown as, in a long text or not (own)
+abbrev pub shown_text : (long : Bool) → List ℕ → List ℕ
+shown_text long input = shown_lines long 1 (lines_of input)

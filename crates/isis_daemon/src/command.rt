@@ -1,7 +1,7 @@
 //! What the words after the program's name ask for.
 ghost use Rattle.std.specs.Prelude.{◌≡◌, ◌≤◌, [], ◌∷◌, map, string_bytes, None, IfSome};
 ghost use Rattle.std.specs.Option.{option_map};
-ghost use Rattle.isis_daemon.specs.Commands.{command_of, captured_of, captured_text_of, losses_of, losses_in, three_of, IsAskedCommand, level_in, system_in, grid_size_of, size_of, walk_of, trace_of, weave_of, asked_of, tracing_of, AreNoText};
+ghost use Rattle.isis_daemon.specs.Commands.{command_of, captured_of, captured_text_of, long_of, losses_of, losses_in, timeline_of, two_of, three_of, IsAskedCommand, level_in, system_in, grid_size_of, size_of, walk_of, trace_of, weave_of, asked_of, tracing_of, AreNoText};
 ghost use Rattle.isis_daemon.specs.Options.{daemon_of};
 
 use daemon_config::read_host;
@@ -26,8 +26,10 @@ pub enum CapturedText {
 pub enum Command {
     /// `lab`: a script is played and reported.
     Lab,
-    /// `show`: the fields of PDUs.
-    Show,
+    /// `show`: the fields of PDUs; `show long`: also what their TLVs say.
+    Show {
+        long: bool,
+    },
     /// `merge`: the texts of losses of all parts are joined.
     Merge,
     /// A text of a system, by captured LSPs of a level.
@@ -35,6 +37,10 @@ pub enum Command {
         what: CapturedText,
         level: Level,
         system: SystemId,
+    },
+    /// `timeline`: what becomes of packets to an address, at each moment of a script.
+    Timeline {
+        address: u32,
     },
     /// `losses`: what at most so many lost deliveries do to the last line of a script, in a part of all schedules or in all.
     Losses {
@@ -64,7 +70,7 @@ pub fn command_of(words: &[String]) -> Option<Command>
 {
     match words {
         [word] => text_command(word.as_str()),
-        [word, most] => losses_of(word.as_str(), most.as_str()),
+        [word, second] => two_of(word.as_str(), second.as_str()),
         [word, first, second] => three_of(word.as_str(), first.as_str(), second.as_str()),
         _ => None,
     }
@@ -79,7 +85,7 @@ fn text_command(word: &str) -> Option<Command>
         return Some(Command::Lab);
     }
     if word == "show" {
-        return Some(Command::Show);
+        return Some(Command::Show { long: false });
     }
     if word == "merge" {
         return Some(Command::Merge);
@@ -87,14 +93,48 @@ fn text_command(word: &str) -> Option<Command>
     None
 }
 
-/// `losses` of at most so many lost deliveries, in all schedules.
-fn losses_of(word: &str, most: &str) -> Option<Command>
-    ensures value { result ≡ losses_of word.now most.now }
+/// The command that a word and one behind it are.
+fn two_of(word: &str, second: &str) -> Option<Command>
+    ensures value { result ≡ two_of word.now second.now }
     ensures asked { IfSome result IsAskedCommand }
 {
-    if word != "losses" {
+    if word == "losses" {
+        return losses_of(second);
+    }
+    if word == "show" {
+        return long_of(second);
+    }
+    if word == "timeline" {
+        return timeline_of(second);
+    }
+    None
+}
+
+/// `show long`.
+fn long_of(word: &str) -> Option<Command>
+    ensures value { result ≡ long_of word.now }
+    ensures asked { IfSome result IsAskedCommand }
+{
+    if word != "long" {
         return None;
     }
+    Some(Command::Show { long: true })
+}
+
+/// `timeline` of packets to an address.
+fn timeline_of(address: &str) -> Option<Command>
+    ensures value { result ≡ timeline_of address.now }
+    ensures asked { IfSome result IsAskedCommand }
+{
+    let address = read_host(address.as_bytes())?;
+    Some(Command::Timeline { address })
+}
+
+/// `losses` of at most so many lost deliveries, in all schedules.
+fn losses_of(most: &str) -> Option<Command>
+    ensures value { result ≡ losses_of most.now }
+    ensures asked { IfSome result IsAskedCommand }
+{
     let most = read_most(most.as_bytes())?;
     Some(Command::Losses { most, part: None })
 }

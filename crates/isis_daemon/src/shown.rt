@@ -9,6 +9,8 @@ use std::alloc::Global;
 #[derive(Drop)]
 pub(crate) struct Shown<'t> {
     pub alloc: Global,
+    /// Whether also what TLVs say is shown.
+    pub long: bool,
     /// The lines, if any are left.
     pub left: Option<&'t [u8]>,
     /// The number of the first of them, from 1.

@@ -20,6 +20,7 @@ use lab_losses::write_losses;
 use lab_text::{read_script, run_script};
 use losses_text::{PartOf, merge_losses};
 use std::alloc::Global;
+use timeline_text::write_timeline;
 
 /// Runs what makes a text of its input, or of nothing. The words are tested first, then the input is read.
 #[tactic(auto, using(crate::proofs::TakenLemmas::taken_none))]
@@ -108,8 +109,9 @@ fn put_text<O: Sink>(alloc: Global, command: Command, octets: &[u8], output: &mu
 {
     match command {
         Command::Lab => lab(alloc, octets, output),
-        Command::Show => put_shown(alloc, octets, output),
+        Command::Show { long } => put_shown(alloc, long, octets, output),
         Command::Merge => put_merged(alloc, octets, output),
+        Command::Timeline { address } => put_timeline(alloc, address, octets, output),
         Command::Captured {
             what,
             level,
@@ -164,6 +166,26 @@ fn put_losses<O: Sink>(
     }
 }
 
+/// Plays a script, and writes what becomes of packets to an address at each moment.
+fn put_timeline<O: Sink>(alloc: Global, address: u32, text: &[u8], output: &mut O) -> Status
+    ensures ends { EndsOn (Command.Timeline address) text.now (O.put output.old)
+        (O.put output.new) result }
+    ensures write_fault { result ≡ Status.WriteFault
+        → Rose (O.faults output.old) (O.faults output.new) }
+    ensures later { O.faults output.old ≤ O.faults output.new }
+{
+    let script = match read_script(alloc, text) {
+        Ok(script) => script,
+        Err(fault) => return Status::from(fault),
+    };
+    let end = write_timeline(alloc, &script, address, output);
+    drop(script);
+    match end {
+        Ok(()) => Status::Done,
+        Err(fault) => Status::from(fault),
+    }
+}
+
 /// Joins texts of losses of all parts, and writes that of the whole.
 fn put_merged<O: Sink>(alloc: Global, texts: &[u8], output: &mut O) -> Status
     ensures ends { EndsOn Command.Merge texts.now (O.put output.old)
@@ -183,15 +205,15 @@ fn put_merged<O: Sink>(alloc: Global, texts: &[u8], output: &mut O) -> Status
 }
 
 /// Writes the fields of the PDUs of an input.
-fn put_shown<O: Sink>(alloc: Global, input: &[u8], output: &mut O) -> Status
+fn put_shown<O: Sink>(alloc: Global, long: bool, input: &[u8], output: &mut O) -> Status
     requires { length input.now ≤ input_limit }
-    ensures ends { EndsOn Command.Show input.now (O.put output.old)
+    ensures ends { EndsOn (Command.Show long) input.now (O.put output.old)
         (O.put output.new) result }
     ensures write_fault { result ≡ Status.WriteFault
         → Rose (O.faults output.old) (O.faults output.new) }
     ensures later { O.faults output.old ≤ O.faults output.new }
 {
-    let mut shown = Shown::new(alloc, input);
+    let mut shown = Shown::new(alloc, long, input);
     match write_text(alloc, &mut shown, output) {
         Ok(()) => Status::Done,
         Err(fault) => Status::from(fault),

@@ -16,6 +16,11 @@ pub mod laws;
 mod nodes;
 mod packets;
 
+/// What other ways of following packets are made with.
+pub mod parts {
+    pub use crate::packets::Packets;
+}
+
 pub use following::{follow, outcomes};
 pub use forwarder::Forwarder;
 pub use nodes::place_of;

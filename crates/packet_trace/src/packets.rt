@@ -14,9 +14,9 @@ use trace_core::{Places, Step, Ways};
 
 /// Packets to an address, over routers.
 #[derive(Drop)]
-pub(crate) struct Packets<'a> {
-    pub(crate) forwarders: &'a [Forwarder],
-    pub(crate) address: u32,
+pub struct Packets<'a> {
+    pub forwarders: &'a [Forwarder],
+    pub address: u32,
 }
 
 impl<'a> Places for Packets<'a> {

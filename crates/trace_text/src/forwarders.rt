@@ -11,7 +11,7 @@ use router_core::Router;
 use std::alloc::Global;
 
 /// The system and the routes of each router.
-pub(crate) fn forwarders_of(alloc: Global, network: &Network) -> Result<Vec<Forwarder>, OutOfMemory>
+pub fn forwarders_of(alloc: Global, network: &Network) -> Result<Vec<Forwarder>, OutOfMemory>
     ensures { IfOk result (λ forwarders.
         AreForwarders network.now.seen.routers forwarders.items) }
 {

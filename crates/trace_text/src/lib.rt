@@ -16,4 +16,9 @@ pub mod laws;
 mod lines;
 mod write;
 
+/// What other texts of packets are written with.
+pub mod parts {
+    pub use crate::forwarders::forwarders_of;
+}
+
 pub use write::write_trace;

@@ -17,6 +17,8 @@ use isis_base::{
 use isis_pdu::{Pdu, PduFaultKind, decode};
 use isis_tlv::{Tlv, Tlvs};
 use iso_checksum::holds;
+use std::alloc::Global;
+use value_text::add_value;
 
 /// One of two words, by the level.
 fn by_level(level: Level, one: &'static str, two: &'static str) -> &'static str
@@ -238,17 +240,40 @@ fn add_tlv(text: &mut Octets, tlv: &Tlv<'_>) -> Result<(), OutOfMemory>
     text.push(b'\n')
 }
 
-/// Adds a line for each TLV.
-fn add_tlvs(text: &mut Octets, tlvs: &[u8], first: usize) -> Result<(), OutOfMemory>
+/// Adds the lines of a TLV.
+fn add_tlv_lines(
+    alloc: Global,
+    text: &mut Octets,
+    long: bool,
+    tlv: &Tlv<'_>,
+) -> Result<(), OutOfMemory>
+    ensures { OnOk result (text.new ≡ text.old ++ show.tlv_lines long (one_view tlv.now)) }
+{
+    add_tlv(text, tlv)?;
+    if long {
+        add_value(alloc, text, tlv.code, tlv.value)
+    } else {
+        Ok(())
+    }
+}
+
+/// Adds the lines of each TLV.
+fn add_tlvs(
+    alloc: Global,
+    text: &mut Octets,
+    long: bool,
+    tlvs: &[u8],
+    first: usize,
+) -> Result<(), OutOfMemory>
     requires { first + length tlvs.now < 2 ^ 64 }
     ensures { OnOk result (text.new ≡ text.old
-        ++ flat_map show.tlv_line (tlv_list first tlvs.now)) }
+        ++ flat_map (show.tlv_lines long) (tlv_list first tlvs.now)) }
 {
     for item in Tlvs::new(tlvs, first) {
         let Ok(tlv) = item else {
             return Ok(());
         };
-        match add_tlv(text, &tlv) {
+        match add_tlv_lines(alloc, text, long, &tlv) {
             Ok(()) => {}
             Err(fault) => return Err(fault),
         }
@@ -277,21 +302,23 @@ fn add_head(
 
 /// Adds the lines of a PDU, which has these octets.
 fn add_pdu(
+    alloc: Global,
     text: &mut Octets,
+    long: bool,
     number: usize,
     pdu: &Pdu<'_>,
     octets: &[u8],
 ) -> Result<(), OutOfMemory>
     requires { header_length (kind_of (pdu_view pdu.now)) ≤ length octets.now }
     ensures { OnOk result (text.new ≡ text.old
-        ++ show.pdu_lines number (pdu_view pdu.now) octets.now) }
+        ++ show.pdu_lines long number (pdu_view pdu.now) octets.now) }
 {
     let tlvs = pdu.tlvs();
     let first = pdu.header_len();
     add_head(text, number, pdu, octets)?;
     add_number(text, b" tlvs ", count_tlvs(tlvs, first) as u64)?;
     text.push(b'\n')?;
-    add_tlvs(text, tlvs, first)
+    add_tlvs(alloc, text, long, tlvs, first)
 }
 
 /// Adds the line of a fault.
@@ -311,12 +338,18 @@ pub fn add_fault(
 }
 
 /// Adds the lines of the PDU that octets begin with, or of its fault.
-pub fn add_octets(text: &mut Octets, number: usize, octets: &[u8]) -> Result<(), OutOfMemory>
+pub fn add_octets(
+    alloc: Global,
+    text: &mut Octets,
+    long: bool,
+    number: usize,
+    octets: &[u8],
+) -> Result<(), OutOfMemory>
     ensures { OnOk result (text.new ≡ text.old
-        ++ show.octets_lines number octets.now (decoded octets.now)) }
+        ++ show.octets_lines long number octets.now (decoded octets.now)) }
 {
     match decode(octets) {
-        Ok((pdu, end)) => add_pdu(text, number, &pdu, &octets[..end]),
+        Ok((pdu, end)) => add_pdu(alloc, text, long, number, &pdu, &octets[..end]),
         Err(fault) => add_fault(text, number, kind_word(fault.kind), fault.place),
     }
 }

@@ -5,7 +5,7 @@ use Rattle.isis_daemon.proofs.ShowLemmas.{shown_lines-next, shown_lines-end}
 use Rattle.isis_daemon.proofs.show.ShownText.add_next.Goals as goal
 
 pub returns-in_default-clause-ends : goal.returns-in_default-clause-ends
-returns-in_default-clause-ends c = λ ended. shown_lines-end c.args.self.now.number (parts_behind 10 c.args.self.now.left) (ap (parts_behind 10) c.in_default.is)
+returns-in_default-clause-ends c = λ ended. shown_lines-end c.args.self.now.long c.args.self.now.number (parts_behind 10 c.args.self.now.left) (ap (parts_behind 10) c.in_default.is)
 
 pub returns-clause-adds : goal.returns-clause-adds
 returns-clause-adds c =
@@ -13,7 +13,7 @@ returns-clause-adds c =
     let behind = c.cut.result.1 in
     let number = c.args.self.now.number in
     let parts : parts_behind 10 c.args.self.now.left ≡ line ∷ parts_behind 10 behind = ap (parts_behind 10) c.in-Some.is ∙ c.cut.ensures.parts in
-    let more = shown_lines (number + 1) (parts_behind 10 behind) in
+    let more = shown_lines c.args.self.now.long (number + 1) (parts_behind 10 behind) in
     ap (λ (text : List ℕ). text ++ more) c.in_ok-add_line.ensures
-    ∙ append_assoc c.args.page.now (shown_line number line) more
-    ∙ ap (λ (text : List ℕ). c.args.page.now ++ text) (sym (shown_lines-next number line (parts_behind 10 behind) (parts_behind 10 c.args.self.now.left) parts))
+    ∙ append_assoc c.args.page.now (shown_line c.args.self.now.long number line) more
+    ∙ ap (λ (text : List ℕ). c.args.page.now ++ text) (sym (shown_lines-next c.args.self.now.long number line (parts_behind 10 behind) (parts_behind 10 c.args.self.now.left) parts))
