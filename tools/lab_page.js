@@ -182,7 +182,8 @@ function heldAt(step, level) {
     for (const name of run.routers) {
         for (const [word, , itsLevel, id, number, state] of linesOf(step, name).map((line) => line.split(" "))) {
             if (itsLevel === level && (word === "lsp" || word === "letgo")) {
-                held.set(id, (held.get(id) || new Map()).set(name, word === "lsp" ? { number: Number(number), isPurged: state === "purged" } : null));
+                const copies = held.get(id) || new Map();
+                held.set(id, copies.set(name, word === "lsp" ? { number: Number(number), isPurged: state === "purged" } : copies.get(name) || null));
             }
         }
     }
