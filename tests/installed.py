@@ -9,7 +9,7 @@ from limits import headed, told
 
 TOP = Path(__file__).resolve().parent.parent
 FILES = ["lib/isis", "bin/isis", "share/man/man1/isis.1", "share/bash-completion/completions/isis", "share/zsh/site-functions/_isis"]
-SHORT, LAUNCHERS = ["lab", "walk", "trace", "timeline", "losses", "merge", "weave", "grid", "show", "routes", "routes6", "alternates"], ["daemon-next", "--help", "--version", "--unproved"]
+SHORT, LAUNCHERS = ["lab", "walk", "trace", "timeline", "losses", "merge", "weave", "grid", "show", "routes", "routes6", "alternates", "state"], ["daemon-next", "--help", "--version", "--unproved"]
 COMMANDS, SIZES = SHORT + ["daemon"], [str(size) for size in range(1, 9)]
 # Lines of words, of which the last one is to be completed, and what may stand there.
 COMPLETIONS = {

@@ -1,4 +1,3 @@
 -- The lemmas, a module for each topic.
 mod BackupLemmas
-mod HopLemmas
 mod ReadLemmas

@@ -16,7 +16,7 @@ use Rattle.capture_text.specs.Reading.{nothing_read, AreRead}
 use Rattle.capture_text.specs.declared.absence.Absence.{Absence}
 use Rattle.capture_text.specs.Absences.{absence_of}
 use Rattle.capture_text.specs.HeadText.{head_text}
-use Rattle.capture_text.specs.ViaText.{via_text}
+use Rattle.route_text.specs.ViaText.{via_text}
 
 -- `own`, `up` or `down`
 abbrev pub rank6_text : Rank6 → List ℕ

@@ -1,11 +1,9 @@
 -- The text of the IPv4 routes of a system in captured LSPs (own).
 
-use Rattle.std.specs.Prelude.{◌≡◌, ℕ, min, Bool, true, false, ◌&&◌, List, [], ◌++◌, codes, decimal, Option, if◌then◌else◌}
+use Rattle.std.specs.Prelude.{◌≡◌, ℕ, Bool, true, false, ◌&&◌, List, [], ◌++◌, codes, Option, if◌then◌else◌}
 use Rattle.std.specs.List.{flat_map}
 use Rattle.isis_base.specs.declared.level.Level.{Level}
 use Rattle.isis_base.specs.declared.identifiers.SystemId.{SystemId}
-use Rattle.isis_base.specs.declared.prefix.Prefix.{Prefix}
-use Rattle.isis_base.specs.PrefixTexts.{prefix_text}
 use Rattle.line_cuts.specs.Words.{lines_of}
 use Rattle.lsp_view.specs.Views.{own_node, lead_of, attached_at}
 use Rattle.route_table.specs.declared.rank.Rank.{Rank}
@@ -17,32 +15,7 @@ use Rattle.capture_text.specs.declared.absence.Absence.{Absence}
 use Rattle.capture_text.specs.Absences.{absence_of}
 use Rattle.capture_text.specs.CapturedRoutes.{AreRoutesAt}
 use Rattle.capture_text.specs.HeadText.{head_text}
-use Rattle.capture_text.specs.ViaText.{via_text}
-
--- `own`, `L1`, `L2`, `L1d` or `default`
-abbrev pub rank_text : Rank → List ℕ
-rank_text rank.Own = codes "own"
-rank_text rank.One = codes "L1"
-rank_text rank.Two = codes "L2"
-rank_text rank.OneDown = codes "L1d"
-rank_text rank.Default = codes "default"
-
--- a cost is printed as at most 4,261,412,864, the greatest metric of a prefix that is considered (RFC 5305 4)
-abbrev pub printed_cost : ℕ → ℕ
-printed_cost cost = min cost 4261412864
-
--- ` PREFIX`, and ` RANK COST`
-abbrev pub prefix_words : Prefix → List ℕ
-prefix_words prefix = codes " " ++ prefix_text prefix.address prefix.length
-
-abbrev pub way_text : Rank → ℕ → List ℕ
-way_text rank cost = codes " " ++ rank_text rank ++ (codes " " ++ decimal cost)
-
--- `route PREFIX RANK COST via SYSTEM SYSTEM`
-unfoldable pub route_line : Route → List ℕ
-route_line route =
-    codes "route" ++ (prefix_words route.prefix ++ (way_text route.rank (printed_cost route.cost)
-    ++ (via_text route.hops ++ codes "\n")))
+use Rattle.route_text.specs.RouteLine.{route_line}
 
 -- whether a route is the way to a system that is attached to level 2 (RFC 1195 3.2)
 abbrev pub is_default : Rank → Bool

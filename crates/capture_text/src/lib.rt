@@ -8,7 +8,7 @@
 //! - `reading.rt`: lines read into a capture; `read.rt`: what they come to; `laws.rt`: what follows for all lines
 //! - `absence.rt`: what LSPs lack of a system
 //! - `best.rt`: the IPv4 routes of a system; `routes_text.rt`: the text of them; `route_lines.rt`: its lines
-//! - `routes6_text.rt`: the text of IPv6 routes; `route6_lines.rt`: its lines; `via.rt`: the next hops of both
+//! - `routes6_text.rt`: the text of IPv6 routes; `route6_lines.rt`: its lines
 //! - `backup.rt`: the alternates for a target and one of its next hops; `backups.rt`: those for all of them
 //! - `alternate_text.rt`: the text of alternates; `alternate_lines.rt`: its lines
 //! - `left.rt`: what is still to come of a text; `head.rt`: the lines that both begin with
@@ -34,7 +34,6 @@ mod route6_lines;
 mod route_lines;
 mod routes6_text;
 mod routes_text;
-mod via;
 
 pub use absence::Absence;
 pub use alternate_text::write_alternates;

@@ -2,10 +2,10 @@
 ghost use Rattle.std.specs.Prelude.{◌≡◌, ◌++◌, OnOk};
 ghost use Rattle.capture_text.specs.Routes6Text as lines;
 
-use crate::via::add_via;
 use ipv6_reach::{Prefix6, Rank6, Route6};
 use isis_base::numbers::PREFIX_METRIC;
 use isis_base::{Octets, OutOfMemory, add_number};
+use route_text::add_via;
 use std::alloc::Global;
 
 /// `route6 PREFIX RANK COST via SYSTEM SYSTEM`.

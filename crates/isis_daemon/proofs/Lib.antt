@@ -5,6 +5,7 @@ pub mod HeadlineLemmas
 pub mod ShowLemmas
 mod InputLemmas
 mod LossesLemmas
+mod StateLemmas
 mod MergeLemmas
 mod TakenLemmas
 mod TextLemmas

@@ -3,7 +3,7 @@ use Rattle.std.proofs.Common.{◌≡◌, ◌∙◌, ℕ, zero, suc, ◌+◌, ◌
 use Rattle.std.specs.Str.{bytes_eq}
 use Rattle.std.proofs.lemmas.Slice.Eq.{bytes_eq-Decides}
 use Rattle.isis_daemon.specs.Commands.{command_of, two_of, three_of, grid_size_of, size_of, walk_of, trace_of, weave_of}
-use Rattle.isis_daemon.specs.Options.{name_in, value_in, pieces_of, options_of, daemon_of}
+use Rattle.isis_daemon.specs.Options.{name_in, value_in, pieces_of, options_of, daemon_of, state_of}
 
 fails : (b : Bool) → ¬ (b ≡ true) → b ≡ false
 fails true h = absurd (h refl)
@@ -59,7 +59,7 @@ value_none (x ∷ word) none =
 named : (word : List ℕ) (words : List (List ℕ)) (x : ℕ × ℕ) → daemon_of (word ∷ words) ≡ Some x → word ≡ codes "daemon"
 named word words x is = (bytes_eq-Decides word (codes "daemon")).0 (hit (bytes_eq word (codes "daemon")) is)
   where
-    hit : (b : Bool) → (if b then options_of (pieces_of words) else None) ≡ Some x → b ≡ true
+    hit : (b : Bool) → (if b then options_of (codes "--turns") 86400 (pieces_of words) else None) ≡ Some x → b ≡ true
     hit true e = refl
     hit false e = absurd (cc e)
 
@@ -67,7 +67,7 @@ pub alone : (words : List (List ℕ)) (x : ℕ × ℕ) → daemon_of words ≡ S
 alone [] x is = refl
 alone (word ∷ []) x is = absurd (none (bytes_eq word (codes "daemon")) is)
   where
-    none : (b : Bool) → (if b then options_of [] else None) ≡ Some x → ⊥
+    none : (b : Bool) → (if b then options_of (codes "--turns") 86400 [] else None) ≡ Some x → ⊥
     none true e = cc e
     none false e = cc e
 alone (word ∷ l ∷ []) x is = subst (λ (w : List ℕ). two_of w l ≡ None) (sym (named word (l ∷ []) x is)) refl
@@ -108,6 +108,10 @@ pub no_weave : (words : List (List ℕ)) (x : ℕ × ℕ) → daemon_of words �
 no_weave [] x is = refl
 no_weave (word ∷ []) x is = subst (λ (w : List ℕ). weave_of (w ∷ []) ≡ None) (sym (named word [] x is)) refl
 no_weave (word ∷ next ∷ words) x is = refl
+
+pub no_state : (words : List (List ℕ)) (x : ℕ × ℕ) → daemon_of words ≡ Some x → state_of words ≡ None
+no_state [] x is = refl
+no_state (word ∷ words) x is = subst (λ (w : List ℕ). state_of (w ∷ words) ≡ None) (sym (named word words x is)) refl
 
 -- ---- words that ask for a grid ask for no text of an input
 

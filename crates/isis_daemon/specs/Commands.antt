@@ -18,7 +18,7 @@ use Rattle.isis_daemon.specs.declared.command.CapturedText.{CapturedText}
 use Rattle.isis_daemon.specs.declared.command.CapturedText.TheVariants.{Routes, Routes6, Alternates}
 use Rattle.losses_text.specs.Words.{most_in, part_in}
 use Rattle.lab_losses.specs.ScriptLosses.{IsAskedPart}
-use Rattle.isis_daemon.specs.Options.{daemon_of}
+use Rattle.isis_daemon.specs.Options.{daemon_of, state_of}
 
 -- a level, `L1` or `L2`
 abbrev pub level_in : List ℕ → Option Level
@@ -156,4 +156,4 @@ AreNoInput words =
 abbrev pub AreNone : List (List ℕ) → Type 0
 AreNone words =
     AreNoText words × (daemon_of words ≡ None) × (walk_of words ≡ None) × (trace_of words ≡ None)
-    × (weave_of words ≡ None)
+    × (weave_of words ≡ None) × (state_of words ≡ None)

@@ -7,6 +7,7 @@ pub mod Headline
 pub mod Options
 pub mod LossesRuns
 pub mod MergeRuns
+pub mod StateRuns
 pub mod TimelineRuns
 pub mod Runs
 pub mod ShowText

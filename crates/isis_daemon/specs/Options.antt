@@ -1,4 +1,4 @@
--- The options of `daemon` (own).
+-- The options of `daemon` and `state` (own).
 use Rattle.std.specs.Prelude.{ℕ, ◌==◌, nat_le, ◌&&◌, Bool, false, List, [], ◌∷◌, ◌++◌, Option, Some, None, codes, option_and_then, if◌then◌else◌}
 use Rattle.std.specs.Option.{option_map}
 use Rattle.std.specs.Borrow.{Bor}
@@ -10,9 +10,9 @@ abbrev pub number_within : ℕ → List ℕ → Option ℕ
 number_within limit word =
     option_and_then (λ n. if nat_le 1 n && nat_le n limit then Some n else None) (numeral_of word)
 
--- a boot number of three octets, and the turns, of which a day has 86400 (own)
-abbrev pub both : List ℕ → List ℕ → Option (ℕ × ℕ)
-both boot turns = option_and_then (λ b. option_map (λ t. (b, t)) (number_within 86400 turns))
+-- a boot number of three octets, and another number up to a limit (own)
+abbrev pub both : (limit : ℕ) → List ℕ → List ℕ → Option (ℕ × ℕ)
+both limit boot count = option_and_then (λ b. option_map (λ n. (b, n)) (number_within limit count))
     (number_within 16777215 boot)
 
 -- ---- the pieces of words: an option is cut at its first `=`
@@ -49,25 +49,33 @@ pieces_of (word ∷ words) = pieces_in word ++ pieces_of words
 
 -- ---- the options
 
--- the boot number alone; the turns are then 10^12, which no machine lives to see the end of (own)
+-- the boot number alone; the other number is then 10^12: no machine lives to see the end of so many turns (own)
 abbrev pub boot_alone : List ℕ → Option (ℕ × ℕ)
 boot_alone boot = option_map (λ b. (b, 1000000000000)) (number_within 16777215 boot)
 
--- the boot number, and the turns or not: each option with its number behind it, in either order (own)
-abbrev pub options_of : List (List ℕ) → Option (ℕ × ℕ)
-options_of [] = None
-options_of (first ∷ []) = None
-options_of (first ∷ number ∷ []) =
+-- the boot number, and another option of this name and limit or not: each with its number behind it, in either order (own)
+abbrev pub options_of : (name : List ℕ) → (limit : ℕ) → List (List ℕ) → Option (ℕ × ℕ)
+options_of name limit [] = None
+options_of name limit (first ∷ []) = None
+options_of name limit (first ∷ number ∷ []) =
     if bytes_eq first (codes "--boot") then boot_alone number else None
-options_of (first ∷ number ∷ second ∷ []) = None
-options_of (first ∷ number ∷ second ∷ other ∷ []) =
-    if bytes_eq first (codes "--boot") && bytes_eq second (codes "--turns") then both number other
-    else if bytes_eq first (codes "--turns") && bytes_eq second (codes "--boot")
-    then both other number else None
-options_of (first ∷ number ∷ second ∷ other ∷ next ∷ words) = None
+options_of name limit (first ∷ number ∷ second ∷ []) = None
+options_of name limit (first ∷ number ∷ second ∷ other ∷ []) =
+    if bytes_eq first (codes "--boot") && bytes_eq second name then both limit number other
+    else if bytes_eq first name && bytes_eq second (codes "--boot") then both limit other number
+    else None
+options_of name limit (first ∷ number ∷ second ∷ other ∷ next ∷ words) = None
 
--- the boot number and the turns that the words ask for: `daemon` and its options (own)
+-- what words ask for which are a word and its options (own)
+abbrev pub asked_by : (word name : List ℕ) → (limit : ℕ) → List (List ℕ) → Option (ℕ × ℕ)
+asked_by word name limit [] = None
+asked_by word name limit (first ∷ words) =
+    if bytes_eq first word then options_of name limit (pieces_of words) else None
+
+-- the boot number and the turns that the words ask for, of which a day has 86400: `daemon` and its options (own)
 abbrev pub daemon_of : List (List ℕ) → Option (ℕ × ℕ)
-daemon_of [] = None
-daemon_of (word ∷ words) =
-    if bytes_eq word (codes "daemon") then options_of (pieces_of words) else None
+daemon_of words = asked_by (codes "daemon") (codes "--turns") 86400 words
+
+-- the boot number, and how many entries of a journal the words ask for: `state` and its options (own)
+abbrev pub state_of : List (List ℕ) → Option (ℕ × ℕ)
+state_of words = asked_by (codes "state") (codes "--entry") 4294967295 words

@@ -34,6 +34,7 @@ mod options;
 mod run;
 mod show;
 mod shown;
+mod state;
 mod status;
 #[cfg(test)]
 mod tests;

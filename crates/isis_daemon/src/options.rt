@@ -1,7 +1,7 @@
-//! The options of `daemon`.
+//! The options of `daemon` and `state`.
 ghost use Rattle.std.specs.Prelude.{◌≡◌, ◌≤◌, [], ◌∷◌, map, string_bytes, None, IfSome, MatchOption};
 ghost use Rattle.std.specs.Option.{option_map};
-ghost use Rattle.isis_daemon.specs.Options.{number_within, both, is_option, name_in, value_in, options_of, daemon_of};
+ghost use Rattle.isis_daemon.specs.Options.{number_within, asked_by, both, is_option, name_in, value_in, options_of, daemon_of, state_of};
 
 use isis_base::numbers::BOOT_LIMIT;
 use line_cuts::read_number;
@@ -17,10 +17,26 @@ pub struct DaemonOptions {
     pub turns: u64,
 }
 
+/// What `state` is asked for: the router's boot number, and the entries of its journal.
+#[derive(Clone, Copy, Debug, PartialEq, Eq)]
+pub struct StateOptions {
+    /// 1 to 16,777,215.
+    pub boot: u32,
+    /// At most so many entries, 1 to 4,294,967,295, or 10^12 where the words don't say how many.
+    pub entries: u64,
+}
+
+/// A boot number, and a number that stands beside it, or 10^12 where none does.
+#[derive(Drop)]
+struct Asked {
+    boot: u32,
+    count: u64,
+}
+
 /// The most turns that words can say: the seconds of a day (own).
 const TURN_LIMIT: u32 = 86_400;
 
-/// The turns where the words don't say how many: the seconds of some 32,000 years (own).
+/// The turns or entries where the words don't say how many: the seconds of some 32,000 years (own).
 const ENDLESS: u64 = 1_000_000_000_000;
 
 /// The options that words ask for which are `daemon` with `--boot N`, and with or without `--turns N`, each once, in either
@@ -31,72 +47,106 @@ pub fn daemon_of(words: &[String]) -> Option<DaemonOptions>
     ensures boot { IfSome result (λ options. (1 ≤ options.boot) × (options.boot ≤ 16777215)) }
     ensures turns { IfSome result (λ options. (1 ≤ options.turns) × (options.turns ≤ 1000000000000)) }
 {
+    let asked = asked_by(words, "daemon", b"--turns", TURN_LIMIT)?;
+    Some(DaemonOptions {
+        boot: asked.boot,
+        turns: asked.count,
+    })
+}
+
+/// The options that words ask for which are `state` with `--boot N`, and with or without `--entry N`, in the same way.
+pub fn state_of(words: &[String]) -> Option<StateOptions>
+    ensures value { option_map (λ options. (options.boot, options.entries)) result
+        ≡ state_of (map string_bytes words.now) }
+    ensures boot { IfSome result (λ options. (1 ≤ options.boot) × (options.boot ≤ 16777215)) }
+    ensures entries { IfSome result (λ options. options.entries ≤ 1000000000000) }
+{
+    let asked = asked_by(words, "state", b"--entry", u32::MAX)?;
+    Some(StateOptions {
+        boot: asked.boot,
+        entries: asked.count,
+    })
+}
+
+/// The options of a word with `--boot N`, and with or without another option of this name and limit.
+fn asked_by(words: &[String], word: &str, name: &[u8], limit: u32) -> Option<Asked>
+    ensures value { option_map (λ asked. (asked.boot, asked.count)) result
+        ≡ asked_by word.now name.now limit (map string_bytes words.now) }
+    ensures boot { IfSome result (λ asked. (1 ≤ asked.boot) × (asked.boot ≤ 16777215)) }
+    ensures count { IfSome result (λ asked. (1 ≤ asked.count) × (asked.count ≤ 1000000000000)) }
+{
     let [first, words @ ..] = words else {
         return None;
     };
-    if first.as_str() != "daemon" {
+    if first.as_str() != word {
         return None;
     }
     let mut pieces = Pieces { words, rest: None };
     let first = pieces.next()?;
     let number = pieces.next()?;
     let Some(second) = pieces.next() else {
-        return boot_of(first, number);
+        return boot_of(first, number, name, limit);
     };
     let other = pieces.next()?;
     if pieces.next().is_some() {
         return None;
     }
-    options_of(first, number, second, other)
+    options_of(first, number, second, other, name, limit)
 }
 
 /// The option of a boot number alone.
-fn boot_of(name: &[u8], number: &[u8]) -> Option<DaemonOptions>
-    ensures value { option_map (λ options. (options.boot, options.turns)) result
-        ≡ options_of (name.now ∷ number.now ∷ []) }
-    ensures boot { IfSome result (λ options. (1 ≤ options.boot) × (options.boot ≤ 16777215)) }
-    ensures turns { IfSome result (λ options. (1 ≤ options.turns) × (options.turns ≤ 1000000000000)) }
+fn boot_of(first: &[u8], number: &[u8], name: &[u8], limit: u32) -> Option<Asked>
+    ensures value { option_map (λ asked. (asked.boot, asked.count)) result
+        ≡ options_of name.now limit (first.now ∷ number.now ∷ []) }
+    ensures boot { IfSome result (λ asked. (1 ≤ asked.boot) × (asked.boot ≤ 16777215)) }
+    ensures count { IfSome result (λ asked. (1 ≤ asked.count) × (asked.count ≤ 1000000000000)) }
 {
-    if name != b"--boot".as_slice() {
+    if first != b"--boot".as_slice() {
         return None;
     }
     let boot = number_within(number, BOOT_LIMIT)?;
-    Some(DaemonOptions {
+    Some(Asked {
         boot,
-        turns: ENDLESS,
+        count: ENDLESS,
     })
 }
 
 /// The options of two names, each with its number behind it.
-fn options_of(first: &[u8], number: &[u8], second: &[u8], other: &[u8]) -> Option<DaemonOptions>
-    ensures value { option_map (λ options. (options.boot, options.turns)) result
-        ≡ options_of (first.now ∷ number.now ∷ second.now ∷ other.now ∷ []) }
-    ensures boot { IfSome result (λ options. (1 ≤ options.boot) × (options.boot ≤ 16777215)) }
-    ensures turns { IfSome result (λ options. (1 ≤ options.turns) × (options.turns ≤ 1000000000000)) }
+fn options_of(
+    first: &[u8],
+    number: &[u8],
+    second: &[u8],
+    other: &[u8],
+    name: &[u8],
+    limit: u32,
+) -> Option<Asked>
+    ensures value { option_map (λ asked. (asked.boot, asked.count)) result
+        ≡ options_of name.now limit (first.now ∷ number.now ∷ second.now ∷ other.now ∷ []) }
+    ensures boot { IfSome result (λ asked. (1 ≤ asked.boot) × (asked.boot ≤ 16777215)) }
+    ensures count { IfSome result (λ asked. (1 ≤ asked.count) × (asked.count ≤ 1000000000000)) }
 {
     let boot = b"--boot".as_slice();
-    let turns = b"--turns".as_slice();
-    if first == boot && second == turns {
-        return both(number, other);
+    if first == boot && second == name {
+        return both(number, other, limit);
     }
-    if first == turns && second == boot {
-        return both(other, number);
+    if first == name && second == boot {
+        return both(other, number, limit);
     }
     None
 }
 
 /// The options of these numbers.
-fn both(boot: &[u8], turns: &[u8]) -> Option<DaemonOptions>
-    ensures value { option_map (λ options. (options.boot, options.turns)) result
-        ≡ both boot.now turns.now }
-    ensures boot { IfSome result (λ options. (1 ≤ options.boot) × (options.boot ≤ 16777215)) }
-    ensures turns { IfSome result (λ options. (1 ≤ options.turns) × (options.turns ≤ 1000000000000)) }
+fn both(boot: &[u8], count: &[u8], limit: u32) -> Option<Asked>
+    ensures value { option_map (λ asked. (asked.boot, asked.count)) result
+        ≡ both limit boot.now count.now }
+    ensures boot { IfSome result (λ asked. (1 ≤ asked.boot) × (asked.boot ≤ 16777215)) }
+    ensures count { IfSome result (λ asked. (1 ≤ asked.count) × (asked.count ≤ 1000000000000)) }
 {
     let boot = number_within(boot, BOOT_LIMIT)?;
-    let turns = number_within(turns, TURN_LIMIT)?;
-    Some(DaemonOptions {
+    let count = number_within(count, limit)?;
+    Some(Asked {
         boot,
-        turns: u64::from(turns),
+        count: u64::from(count),
     })
 }
 

@@ -6,15 +6,17 @@ ghost use Rattle.lab_grid.specs.GridRuns.{grid_end};
 ghost use Rattle.isis_daemon.specs.Commands.{command_of, grid_size_of, walk_of, trace_of, weave_of, AreNone};
 ghost use Rattle.isis_daemon.specs.DaemonEnds.{DaemonEnds, IsConfiguration};
 ghost use Rattle.isis_daemon.specs.GridEnds.{GridEnds};
-ghost use Rattle.isis_daemon.specs.Options.{daemon_of};
+ghost use Rattle.isis_daemon.specs.Options.{daemon_of, state_of};
 ghost use Rattle.isis_daemon.specs.Runs.{Ends, IsTaken, IsTakenWithin, IsDoneUnlessMemory, IsWrittenUnlessMemory};
+ghost use Rattle.isis_daemon.specs.StateRuns.{HasState, StateRan};
 ghost use Rattle.isis_daemon.specs.TraceEnds.{TraceEnds, IsTraceable};
 ghost use Rattle.isis_daemon.specs.WalkEnds.{WalkEnds, IsWalkable};
 ghost use Rattle.isis_daemon.specs.WeaveEnds.{WeaveEnds, CanBeWoven};
 
 use crate::daemon::daemon;
 use crate::inputs::run_input;
-use crate::options::daemon_of;
+use crate::options::{daemon_of, state_of};
+use crate::state::state;
 use crate::status::Status;
 use daemon_edge::{Gate, Pacer, Ports, Spawner};
 use isis_edge::{Sink, Source};
@@ -31,7 +33,8 @@ use std::time::Clock;
 /// a packet is walked from a router to a prefix, and of `trace` one after which a packet is followed from a router to an
 /// address. Of `weave` it has setup and change lines of a script, and journals, which are
 /// woven into a schedule. Of `daemon` it is a configuration: a port is opened at each circuit's
-/// place, and the router runs until its seconds and turns are made.
+/// place, and the router runs until its seconds and turns are made. Of `state` it is a configuration and the journal of its
+/// daemon, which are read line by line, however many there are; the journal is replayed, and the router's state is written.
 ///
 /// At `lab` and status 0 the headline holds (ISO 10589 7.3.15 to 7.3.17, RFC 5302 3.2). After each event of the script, where
 /// nothing was injected: on each point-to-point link that is up each end names the other, and of what neither let go an LSP
@@ -72,7 +75,7 @@ pub fn run<
     ensures ends { IfSome (command_of (map string_bytes words.now))
         (λ command. Ends command (I.gave input.old) (I.gave input.new) (I.ended input.new) (O.put output)
         (O.put result.0) result.2) }
-    ensures taken { IsTakenWithin (I.gave input.old) (I.gave input.new) }
+    ensures taken { state_of (map string_bytes words.now) ≡ None → IsTakenWithin (I.gave input.old) (I.gave input.new) }
     ensures read_fault { result.2 ≡ Status.ReadFault
         → Rose (I.faults input.old) (I.faults input.new) }
     ensures write_fault { result.2 ≡ Status.WriteFault
@@ -140,6 +143,15 @@ pub fn run<
         → ¬ Rose (I.faults input.old) (I.faults input.new)
         → ¬ Rose (O.faults output) (O.faults result.0)
         → IsDoneUnlessMemory result.2) }
+    ensures state { IfSome (state_of (map string_bytes words.now)) (λ asked.
+        StateRan asked.0 asked.1 (I.gave input.old) (I.gave input.new) (I.ended input.new) (O.put output)
+        (O.put result.0) result.2) }
+    ensures state_complete { IfSome (state_of (map string_bytes words.now)) (λ asked.
+        (octets : List ℕ) → Took (I.gave input.old) (I.gave input.new) octets
+        → HasState asked.0 asked.1 octets (I.ended input.new)
+        → ¬ Rose (I.faults input.old) (I.faults input.new)
+        → ¬ Rose (O.faults output) (O.faults result.0)
+        → IsDoneUnlessMemory result.2) }
     ensures aside { daemon_of (map string_bytes words.now) ≡ None
         → (ports.new ≡ ports.old) × (spawner.new ≡ spawner.old) × (result.1 ≡ pacer) }
 {
@@ -147,6 +159,10 @@ pub fn run<
         return daemon(
             rt, alloc, options, input, output, ports, spawner, pacer, gate,
         );
+    }
+    if let Some(options) = state_of(words) {
+        let (output, status) = state(alloc, options, input, output);
+        return (output, pacer, status);
     }
     let (output, status) = run_input(alloc, words, input, output);
     (output, pacer, status)

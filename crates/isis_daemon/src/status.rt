@@ -1,6 +1,7 @@
 //! How a run of the program ended.
 ghost use Rattle.std.specs.Prelude.{◌≡◌, Some};
 ghost use Rattle.isis_daemon.specs.MergeRuns.{reason_of};
+ghost use Rattle.isis_daemon.specs.StateRuns.{state_status};
 ghost use Rattle.isis_daemon.specs.Statuses.{script_status, run_status, whole_status, text_status, walk_status, losses_status, merge_status, weave_status, config_status, daemon_status, status_code, status_line};
 
 use capture_text::Absence;
@@ -11,6 +12,7 @@ use lab_losses::{LossesReason, WriteFault};
 use lab_text::{Reason, RunFault, ScriptFault};
 use losses_text::{MergeFault, MergeReason};
 use network_lab::LimitName;
+use state_replay::StateFault;
 use std::fmt;
 use walk_text::{WalkFault, WalkReason};
 use weave_text::{WeaveReason, WeaveTextFault};
@@ -248,6 +250,45 @@ impl From<WeaveTextFault> for Status {
             WeaveTextFault::Write => Status::WriteFault,
             WeaveTextFault::OutOfMemory => Status::OutOfMemory,
         }
+    }
+}
+
+impl From<StateFault> for Status {
+    ghost from_gives = { λ fault status. status ≡ state_status fault };
+
+    fn from(fault: StateFault) -> Status {
+        match fault {
+            StateFault::Read => Status::ReadFault,
+            StateFault::TooLong => Status::TooLong,
+            StateFault::Head { line } => refused_at(line, Reason::Head),
+            StateFault::Config { kind, key } => Status::ConfigRefused { kind, key },
+            StateFault::Form { line } => refused_at(line, Reason::Form),
+            StateFault::Event { entry } => not_replayed(entry, WeaveReason::Event),
+            StateFault::Reply { entry } => not_replayed(entry, WeaveReason::Reply),
+            StateFault::Write => Status::WriteFault,
+            StateFault::OutOfMemory => Status::OutOfMemory,
+        }
+    }
+}
+
+/// A line of a configuration or of its journal is refused.
+fn refused_at(line: u64, reason: Reason) -> Status
+    ensures { result ≡ Status.ScriptRefused line reason }
+{
+    Status::ScriptRefused {
+        line: line as usize,
+        reason,
+    }
+}
+
+/// An entry of the one journal isn't what its router answers.
+fn not_replayed(entry: u64, reason: WeaveReason) -> Status
+    ensures { result ≡ Status.WeaveRefused 1 entry reason }
+{
+    Status::WeaveRefused {
+        journal: 1,
+        entry,
+        reason,
     }
 }
 
