@@ -13,7 +13,7 @@ SHORT, LAUNCHERS = ["lab", "walk", "trace", "timeline", "losses", "merge", "weav
 COMMANDS, SIZES = SHORT + ["daemon"], [str(size) for size in range(1, 9)]
 # Lines of words, of which the last one is to be completed, and what may stand there.
 COMPLETIONS = {
-    "isis ": COMMANDS + LAUNCHERS, "isis s": ["show"], "isis --u": ["--unproved"], "isis lab ": [], "isis walk ": [], "isis walk A ": [],
+    "isis ": COMMANDS + LAUNCHERS, "isis s": ["show", "state"], "isis state ": ["--boot", "--entry"], "isis --u": ["--unproved"], "isis lab ": [], "isis walk ": [], "isis walk A ": [],
     "isis routes ": ["L1", "L2"], "isis routes6 ": ["L1", "L2"], "isis ro": ["routes", "routes6"],
     "isis grid ": SIZES, "isis grid 3 ": [], "isis w": ["walk", "weave"], "isis weave ": [],
     f"{TOP}/isis ": COMMANDS + LAUNCHERS, f"{TOP}/isis --u": ["--unproved"], f"{TOP}/isis --unproved ": SHORT,
