@@ -10,9 +10,8 @@ ghost use Rattle.model_router.specs.AdjacencyLaws.{tie_at, no_tie};
 ghost use Rattle.model_router.specs.Starts.{start};
 ghost use Rattle.model_datagram.specs.Lsps.{given_octets};
 ghost use Rattle.model_network.specs.Networks.{Network, Datagram};
-ghost use Rattle.model_network.specs.declared.word.PduWord.{PduWord};
 ghost use Rattle.model_network.specs.Runs.{Happening, apply, run, is_injection};
-ghost use Rattle.model_network.specs.RunLines.{run_line};
+ghost use Rattle.model_network.specs.RunLines.{LeftOut, run_leaving_out};
 ghost use Rattle.model_network.specs.LineEvents.{line_events, IsOfLine};
 ghost use Rattle.model_network.specs.Speakers.{AreSpeaking, AreOctets};
 ghost use Rattle.model_network.specs.Ports.{Port};
@@ -70,9 +69,9 @@ pub fn network_keeps()
 /// A line `run` is the list of its events, which are seconds, pulls and deliveries: one after another
 /// they make of a network what the line does.
 pub fn line_laws()
-    ensures run { (given : Given) (without : Option PduWord) (except : Option ℕ) (seconds : ℕ)
-        (net : Network) → run given net (line_events given without except seconds net)
-        ≡ run_line given without except seconds net }
-    ensures events { (given : Given) (without : Option PduWord) (except : Option ℕ) (seconds : ℕ)
-        (net : Network) → AllByRecursion IsOfLine (line_events given without except seconds net) }
+    ensures run { (given : Given) (out : LeftOut) (seconds : ℕ) (net : Network)
+        → run given net (line_events given out seconds net)
+        ≡ run_leaving_out given out seconds net }
+    ensures events { (given : Given) (out : LeftOut) (seconds : ℕ) (net : Network)
+        → AllByRecursion IsOfLine (line_events given out seconds net) }
 {}

@@ -14,14 +14,19 @@
 //! one of them let go. A live LSP that is held anywhere was held with its body by the router of its own system. The
 //! words are this project's own.
 //!
-//! - `end.rt`: the ends of links; `word.rt`: the kinds of PDUs that a line `run` may leave undelivered
+//! - `end.rt`: the ends of links; `left_out.rt`: what a line `run` leaves out, `word.rt`: the kinds of PDUs that it may leave
+//!   undelivered, `lost.rt`: a delivery that it loses
 //! - `laws.rt`: what is claimed of links, `agreement.rt`: of routers that agree; functions without a body, whose contracts are the laws
 #![tactic(auto)]
 
 pub mod agreement;
 mod end;
 pub mod laws;
+mod left_out;
+mod lost;
 mod word;
 
 pub use end::End;
+pub use left_out::LeftOut;
+pub use lost::Lost;
 pub use word::PduWord;
