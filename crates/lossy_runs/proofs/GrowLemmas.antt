@@ -10,9 +10,9 @@ use Rattle.model_router.specs.Events.{Event, Second, Pull}
 use Rattle.model_router.specs.Routers.{Router}
 use Rattle.model_router.specs.Steps.{step}
 use Rattle.model_router.specs.AdjacencyLaws.{place_of}
-use Rattle.model_network.specs.declared.word.PduWord.{PduWord}
 use Rattle.model_network.specs.declared.end.End.{End}
 use Rattle.model_network.specs.Networks.{Datagram, octets_of, Taking, Network, place_at, numbered}
+use Rattle.model_network.specs.RunLines.{LeftOut}
 use Rattle.model_network.specs.Runs.{Tick, PullOn, Deliver, Arrival, NotSent, NotOn, Arrives, taking, ranges_in, posted, moved, moved_if, pull_at, deliver_at, arrival, arrive, apply}
 use Rattle.model_network.specs.RunLines as line
 use Rattle.lossy_runs.specs.LossyRuns as lossy
@@ -66,97 +66,97 @@ deliver-grows given net n i = arrive-grows given net i (arrival net (numbered ne
 abbrev pub Grows : (Fated → Fated) → Type 0
 Grows part = (s : Fated) → sent s ≤ sent (part s)
 
-ticks-grow : (given : Given) (except : Option ℕ) (router count : ℕ) (net : Network) → size net ≤ size (line.tick_each given except router count net)
-ticks-grow given except router zero net = omega arith
-ticks-grow given except router (suc count) net = by (λ net. ticks-grow given except (router + 1) count net) (line.is_excepted except router)
+ticks-grow : (given : Given) (out : LeftOut) (router count : ℕ) (net : Network) → size net ≤ size (line.tick_each given out router count net)
+ticks-grow given out router zero net = omega arith
+ticks-grow given out router (suc count) net = by (λ net. ticks-grow given out (router + 1) count net) (line.is_excepted out.except router)
   where
-    by : ((net : Network) → size net ≤ size (line.tick_each given except (router + 1) count net)) → (b : Bool)
-        → size net ≤ size (line.tick_each given except (router + 1) count (if b then net else apply given net (Tick router)))
+    by : ((net : Network) → size net ≤ size (line.tick_each given out (router + 1) count net)) → (b : Bool)
+        → size net ≤ size (line.tick_each given out (router + 1) count (if b then net else apply given net (Tick router)))
     by more true = more net
     by more false = omega (arith, tick-grows given net router, more (apply given net (Tick router)))
 
-pub all-ticks-grow : (given : Given) (except : Option ℕ) (router count : ℕ) → Grows (on_net (line.tick_each given except router count))
-all-ticks-grow given except router count = λ s. ticks-grow given except router count s.net
+pub all-ticks-grow : (given : Given) (out : LeftOut) (router count : ℕ) → Grows (on_net (line.tick_each given out router count))
+all-ticks-grow given out router count = λ s. ticks-grow given out router count s.net
 
 fate-grows : (given : Given) (number router : ℕ) (s : Fated) (fates : List Bool) → sent s ≤ sent (by_fate given number router s fates)
 fate-grows given number router s [] = deliver-grows given s.net number router
 fate-grows given number router s (true ∷ fates) = omega arith
 fate-grows given number router s (false ∷ fates) = deliver-grows given s.net number router
 
-unless-grows : (given : Given) (except : Option ℕ) (number sender router : ℕ) → Grows (deliver_unless given except number sender router)
-unless-grows given except number sender router = λ s. by s (router == sender || line.is_excepted except router)
+unless-grows : (given : Given) (out : LeftOut) (number sender router : ℕ) → Grows (deliver_unless given out number sender router)
+unless-grows given out number sender router = λ s. by s (router == sender || line.misses out number router)
   where
     by : (s : Fated) (b : Bool) → sent s ≤ sent (if b then s else with_fate given number router s)
     by s true = omega arith
     by s false = fate-grows given number router s s.fates
 
-pub routers-grow : (given : Given) (except : Option ℕ) (number sender : ℕ) (routers : List ℕ) → Grows (deliver_routers given except number sender routers)
-routers-grow given except number sender [] = λ s. omega arith
-routers-grow given except number sender (router ∷ routers) = λ s.
-    omega (arith, unless-grows given except number sender router s, routers-grow given except number sender routers (deliver_unless given except number sender router s))
+pub routers-grow : (given : Given) (out : LeftOut) (number sender : ℕ) (routers : List ℕ) → Grows (deliver_routers given out number sender routers)
+routers-grow given out number sender [] = λ s. omega arith
+routers-grow given out number sender (router ∷ routers) = λ s.
+    omega (arith, unless-grows given out number sender router s, routers-grow given out number sender routers (deliver_unless given out number sender router s))
 
-each-grow : (given : Given) (except : Option ℕ) (number sender : ℕ) (ends : List End) → Grows (lossy.deliver_each given except number sender ends)
-each-grow given except number sender [] = λ s. omega arith
-each-grow given except number sender (e ∷ ends) = λ s.
-    omega (arith, unless-grows given except number sender e.router s, each-grow given except number sender ends (deliver_unless given except number sender e.router s))
+each-grow : (given : Given) (out : LeftOut) (number sender : ℕ) (ends : List End) → Grows (lossy.deliver_each given out number sender ends)
+each-grow given out number sender [] = λ s. omega arith
+each-grow given out number sender (e ∷ ends) = λ s.
+    omega (arith, unless-grows given out number sender e.router s, each-grow given out number sender ends (deliver_unless given out number sender e.router s))
 
-one-grows : (given : Given) (without : Option PduWord) (except : Option ℕ) (number : ℕ) (d : Datagram) → Grows (lossy.deliver_one given without except number d)
-one-grows given without except number d = λ s. by s (line.is_left_out without (octets_of d))
+one-grows : (given : Given) (out : LeftOut) (number : ℕ) (d : Datagram) → Grows (lossy.deliver_one given out number d)
+one-grows given out number d = λ s. by s (line.leaves_out out (octets_of d) d.link)
   where
-    by : (s : Fated) (b : Bool) → sent s ≤ sent (if b then s else lossy.deliver_each given except number d.sender (line.by_router (line.ends_of (nth s.net.links d.link))) s)
+    by : (s : Fated) (b : Bool) → sent s ≤ sent (if b then s else lossy.deliver_each given out number d.sender (line.by_router (line.ends_of (nth s.net.links d.link))) s)
     by s true = omega arith
-    by s false = each-grow given except number d.sender (line.by_router (line.ends_of (nth s.net.links d.link))) s
+    by s false = each-grow given out number d.sender (line.by_router (line.ends_of (nth s.net.links d.link))) s
 
-pub behind-grow : (given : Given) (without : Option PduWord) (except : Option ℕ) (most count : ℕ) → Grows (lossy.deliver_behind given without except most count)
-behind-grow given without except zero count = λ s. omega arith
-behind-grow given without except (suc most) count = λ s. by s (nth s.net.datagrams count) (behind-grow given without except most (count + 1))
+pub behind-grow : (given : Given) (out : LeftOut) (most count : ℕ) → Grows (lossy.deliver_behind given out most count)
+behind-grow given out zero count = λ s. omega arith
+behind-grow given out (suc most) count = λ s. by s (nth s.net.datagrams count) (behind-grow given out most (count + 1))
   where
-    by : (s : Fated) (o : Option Datagram) → Grows (lossy.deliver_behind given without except most (count + 1))
-        → sent s ≤ sent (lossy.where_found o s (λ d. lossy.deliver_behind given without except most (count + 1) (lossy.deliver_one given without except (count + 1) d s)))
+    by : (s : Fated) (o : Option Datagram) → Grows (lossy.deliver_behind given out most (count + 1))
+        → sent s ≤ sent (lossy.where_found o s (λ d. lossy.deliver_behind given out most (count + 1) (lossy.deliver_one given out (count + 1) d s)))
     by s None more = omega arith
-    by s (Some d) more = omega (arith, one-grows given without except (count + 1) d s, more (lossy.deliver_one given without except (count + 1) d s))
+    by s (Some d) more = omega (arith, one-grows given out (count + 1) d s, more (lossy.deliver_one given out (count + 1) d s))
 
-pull-one-grows : (given : Given) (without : Option PduWord) (except : Option ℕ) (router link : ℕ) → Grows (lossy.pull_one given without except router link)
-pull-one-grows given without except router link = λ s.
+pull-one-grows : (given : Given) (out : LeftOut) (router link : ℕ) → Grows (lossy.pull_one given out router link)
+pull-one-grows given out router link = λ s.
     omega (
       arith,
       pull-grows given s.net router link,
-      behind-grow given without except line.datagram_limit (length s.net.datagrams) (on_net (λ net. apply given net (PullOn router link)) s),
+      behind-grow given out line.datagram_limit (length s.net.datagrams) (on_net (λ net. apply given net (PullOn router link)) s),
     )
 
-pub links-grow : (given : Given) (without : Option PduWord) (except : Option ℕ) (router : ℕ) (links : List ℕ) → Grows (lossy.pull_links given without except router links)
-links-grow given without except router [] = λ s. omega arith
-links-grow given without except router (link ∷ links) = λ s.
-    omega (arith, pull-one-grows given without except router link s, links-grow given without except router links (lossy.pull_one given without except router link s))
+pub links-grow : (given : Given) (out : LeftOut) (router : ℕ) (links : List ℕ) → Grows (lossy.pull_links given out router links)
+links-grow given out router [] = λ s. omega arith
+links-grow given out router (link ∷ links) = λ s.
+    omega (arith, pull-one-grows given out router link s, links-grow given out router links (lossy.pull_one given out router link s))
 
-pulls-unless-grow : (given : Given) (without : Option PduWord) (except : Option ℕ) (router : ℕ) → Grows (pull_unless given without except router)
-pulls-unless-grow given without except router = λ s. by s (line.is_excepted except router)
+pulls-unless-grow : (given : Given) (out : LeftOut) (router : ℕ) → Grows (pull_unless given out router)
+pulls-unless-grow given out router = λ s. by s (line.is_excepted out.except router)
   where
-    by : (s : Fated) (b : Bool) → sent s ≤ sent (if b then s else lossy.pull_links given without except router (line.links_at s.net router) s)
+    by : (s : Fated) (b : Bool) → sent s ≤ sent (if b then s else lossy.pull_links given out router (line.links_at s.net router) s)
     by s true = omega arith
-    by s false = links-grow given without except router (line.links_at s.net router) s
+    by s false = links-grow given out router (line.links_at s.net router) s
 
-pub pulls-grow : (given : Given) (without : Option PduWord) (except : Option ℕ) (router count : ℕ) → Grows (lossy.pull_each given without except router count)
-pulls-grow given without except router zero = λ s. omega arith
-pulls-grow given without except router (suc count) = λ s.
-    omega (arith, pulls-unless-grow given without except router s, pulls-grow given without except (router + 1) count (pull_unless given without except router s))
+pub pulls-grow : (given : Given) (out : LeftOut) (router count : ℕ) → Grows (lossy.pull_each given out router count)
+pulls-grow given out router zero = λ s. omega arith
+pulls-grow given out router (suc count) = λ s.
+    omega (arith, pulls-unless-grow given out router s, pulls-grow given out (router + 1) count (pull_unless given out router s))
 
-second-grows : (given : Given) (without : Option PduWord) (except : Option ℕ) → Grows (lossy.run_second given without except)
-second-grows given without except = λ s.
+second-grows : (given : Given) (out : LeftOut) → Grows (lossy.run_second given out)
+second-grows given out = λ s.
     omega (
       arith,
-      all-ticks-grow given except 0 (length s.net.routers) s,
-      pulls-grow given without except 0 (length s.net.routers) (on_net (line.tick_each given except 0 (length s.net.routers)) s),
+      all-ticks-grow given out 0 (length s.net.routers) s,
+      pulls-grow given out 0 (length s.net.routers) (on_net (line.tick_each given out 0 (length s.net.routers)) s),
     )
 
-pub line-grows : (is_good : Network → Bool) (given : Given) (without : Option PduWord) (except : Option ℕ) (seconds second last : ℕ) (s : Fated)
-    → sent s ≤ (run_line is_good given without except seconds second last s).sent
-line-grows is_good given without except zero second last s = omega arith
-line-grows is_good given without except (suc seconds) second last s =
+pub line-grows : (is_good : Network → Bool) (given : Given) (out : LeftOut) (seconds second last : ℕ) (s : Fated)
+    → sent s ≤ (run_line is_good given out seconds second last s).sent
+line-grows is_good given out zero second last s = omega arith
+line-grows is_good given out (suc seconds) second last s =
     omega (
       arith,
-      second-grows given without except s,
-      line-grows is_good given without except seconds (second + 1) (if is_good (lossy.run_second given without except s).net then last else second + 1) (lossy.run_second given without except s),
+      second-grows given out s,
+      line-grows is_good given out seconds (second + 1) (if is_good (lossy.run_second given out s).net then last else second + 1) (lossy.run_second given out s),
     )
 
 -- ---- what stops a part stops the whole
@@ -202,25 +202,25 @@ if-err-weaker (Err e) f p = f e p
 
 -- ---- calls of two parts
 
-pub pull-stop : (given : Given) (without : Option PduWord) (except : Option ℕ) (router link : ℕ) (S : Network → Type 0) (f : Rest) (stop : Stop)
-    → ((net : Network) → S net → StopCause (length (apply given net (PullOn router link)).datagrams) stop) → Stopped (lossy.pull_one given without except router link) S f stop
-pull-stop given without except router link S f stop r = λ net s.
-    cause-grows (length (apply given net (PullOn router link)).datagrams) (sent (lossy.pull_one given without except router link (fated net f))) stop
-    (behind-grow given without except line.datagram_limit (length net.datagrams) (on_net (λ net. apply given net (PullOn router link)) (fated net f))) (r net s)
+pub pull-stop : (given : Given) (out : LeftOut) (router link : ℕ) (S : Network → Type 0) (f : Rest) (stop : Stop)
+    → ((net : Network) → S net → StopCause (length (apply given net (PullOn router link)).datagrams) stop) → Stopped (lossy.pull_one given out router link) S f stop
+pull-stop given out router link S f stop r = λ net s.
+    cause-grows (length (apply given net (PullOn router link)).datagrams) (sent (lossy.pull_one given out router link (fated net f))) stop
+    (behind-grow given out line.datagram_limit (length net.datagrams) (on_net (λ net. apply given net (PullOn router link)) (fated net f))) (r net s)
 
-pub second-stop : (given : Given) (without : Option PduWord) (except : Option ℕ) (count : ℕ) (S : Network → Type 0) (f : Rest) (stop : Stop)
-    → ((net : Network) → S net → count ≡ length net.routers) → Stopped (on_net (line.tick_each given except 0 count)) S f stop → Stopped (lossy.run_second given without except) S f stop
-second-stop given without except count S f stop e r = λ net s.
-    cause-grows (sent (on_net (line.tick_each given except 0 (length net.routers)) (fated net f))) (sent (lossy.run_second given without except (fated net f))) stop
-    (pulls-grow given without except 0 (length net.routers) (on_net (line.tick_each given except 0 (length net.routers)) (fated net f)))
-    (subst (λ (n : ℕ). StopCause (sent (on_net (line.tick_each given except 0 n) (fated net f))) stop) (e net s) (r net s))
+pub second-stop : (given : Given) (out : LeftOut) (count : ℕ) (S : Network → Type 0) (f : Rest) (stop : Stop)
+    → ((net : Network) → S net → count ≡ length net.routers) → Stopped (on_net (line.tick_each given out 0 count)) S f stop → Stopped (lossy.run_second given out) S f stop
+second-stop given out count S f stop e r = λ net s.
+    cause-grows (sent (on_net (line.tick_each given out 0 (length net.routers)) (fated net f))) (sent (lossy.run_second given out (fated net f))) stop
+    (pulls-grow given out 0 (length net.routers) (on_net (line.tick_each given out 0 (length net.routers)) (fated net f)))
+    (subst (λ (n : ℕ). StopCause (sent (on_net (line.tick_each given out 0 n) (fated net f))) stop) (e net s) (r net s))
 
-pub line-stop : (is_good : Network → Bool) (given : Given) (without : Option PduWord) (except : Option ℕ) (seconds k last : ℕ) (T : Network → Type 0) (g : Rest) (whole : Looked) (stop : Stop)
-    → LineLeft is_good given without except (seconds - k) k last T g whole → Stopped (lossy.run_second given without except) T g stop → k < seconds → StopCause whole.sent stop
-line-stop is_good given without except seconds k last T g whole stop x r less =
+pub line-stop : (is_good : Network → Bool) (given : Given) (out : LeftOut) (seconds k last : ℕ) (T : Network → Type 0) (g : Rest) (whole : Looked) (stop : Stop)
+    → LineLeft is_good given out (seconds - k) k last T g whole → Stopped (lossy.run_second given out) T g stop → k < seconds → StopCause whole.sent stop
+line-stop is_good given out seconds k last T g whole stop x r less =
     let less-is : seconds - k ≡ suc (seconds - (k + 1)) = omega (arith, less) in
-    let next = lossy.run_second given without except (fated x.here g) in
+    let next = lossy.run_second given out (fated x.here g) in
     subst (λ (l : Looked). StopCause l.sent stop)
-    (sym (ap (λ (n : ℕ). run_line is_good given without except n k last (fated x.here g)) less-is) ∙ x.left_is)
-    (cause-grows (sent next) (run_line is_good given without except (seconds - (k + 1)) (k + 1) (if is_good next.net then last else k + 1) next).sent stop
-    (line-grows is_good given without except (seconds - (k + 1)) (k + 1) (if is_good next.net then last else k + 1) next) (r x.here x.stands))
+    (sym (ap (λ (n : ℕ). run_line is_good given out n k last (fated x.here g)) less-is) ∙ x.left_is)
+    (cause-grows (sent next) (run_line is_good given out (seconds - (k + 1)) (k + 1) (if is_good next.net then last else k + 1) next).sent stop
+    (line-grows is_good given out (seconds - (k + 1)) (k + 1) (if is_good next.net then last else k + 1) next) (r x.here x.stands))

@@ -3,11 +3,10 @@ use Rattle.std.proofs.Common.{◌≡◌, ℕ, zero, suc, ◌+◌, ◌-◌, ◌==
 use Rattle.std.proofs.lemmas.List.{append_assoc, append-nil}
 use Rattle.model_router.specs.Places.{nth}
 use Rattle.model_router.specs.Givens.{Given}
-use Rattle.model_network.specs.declared.word.PduWord.{PduWord}
 use Rattle.model_network.specs.declared.end.End.{End}
 use Rattle.model_network.specs.Networks.{Datagram, octets_of, Network}
 use Rattle.model_network.specs.Runs.{PullOn, Deliver, apply}
-use Rattle.model_network.specs.RunLines.{is_excepted, is_left_out, by_router, ends_of, datagram_limit, links_at, tick_each}
+use Rattle.model_network.specs.RunLines.{LeftOut, is_excepted, leaves_out, misses, by_router, ends_of, datagram_limit, links_at, tick_each}
 use Rattle.losses.specs.Trees.{Tree, Ends, Comes, behind, quiet_cost, quiet_length, places_from}
 use Rattle.lossy_runs.specs.declared.loss.Loss.{Loss}
 use Rattle.lossy_runs.specs.LossyRuns.{Fated, by_fate, with_fate, on_net, deliver_each, deliver_one, where_found, deliver_behind, pull_one, pull_links, pull_each, run_second, Looked, run_line}
@@ -77,21 +76,21 @@ unfolding came_in
 is-lost a l fates lost x = equal (tell (Comes a l) (true ∷ fates) x.place (places_of lost)) (tell l fates (x.place + 1) (places_of (lost ++ x ∷ []))) refl (omega arith)
     (sym (ap (λ (xs : List ℕ). xs ++ places_from (x.place + 1) l fates) (places-append lost x) ∙ append_assoc (places_of lost) (x.place ∷ []) (places_from (x.place + 1) l fates)))
 
-each : (given : Given) (except : Option ℕ) (number sender : ℕ) (ends : List End) (s : Fated) (next : Network → Tree)
-    → tell (each_tree given except number sender ends s.net next) s.fates s.place (places_of s.lost) ≡ after next (deliver_each given except number sender ends s)
-each given except number sender [] s next = refl
-each given except number sender (e ∷ ends) s next =
-    by (λ s. each given except number sender ends s next) (e.router == sender || is_excepted except e.router)
+each : (given : Given) (out : LeftOut) (number sender : ℕ) (ends : List End) (s : Fated) (next : Network → Tree)
+    → tell (each_tree given out number sender ends s.net next) s.fates s.place (places_of s.lost) ≡ after next (deliver_each given out number sender ends s)
+each given out number sender [] s next = refl
+each given out number sender (e ∷ ends) s next =
+    by (λ s. each given out number sender ends s next) (e.router == sender || misses out number e.router)
   where
     lost_tree : Tree
-    lost_tree = each_tree given except number sender ends s.net next
+    lost_tree = each_tree given out number sender ends s.net next
 
     arrives_tree : Tree
-    arrives_tree = each_tree given except number sender ends (apply given s.net (Deliver number e.router)) next
+    arrives_tree = each_tree given out number sender ends (apply given s.net (Deliver number e.router)) next
 
-    goes : ((s : Fated) → tell (each_tree given except number sender ends s.net next) s.fates s.place (places_of s.lost) ≡ after next (deliver_each given except number sender ends s))
+    goes : ((s : Fated) → tell (each_tree given out number sender ends s.net next) s.fates s.place (places_of s.lost) ≡ after next (deliver_each given out number sender ends s))
         → (fates : List Bool) → tell (Comes arrives_tree lost_tree) fates s.place (places_of s.lost)
-        ≡ after next (deliver_each given except number sender ends (by_fate given number e.router s fates))
+        ≡ after next (deliver_each given out number sender ends (by_fate given number e.router s fates))
     goes more [] = arrives-free arrives_tree lost_tree s.place (places_of s.lost)
         ∙ more (record s { net = apply given s.net (Deliver number e.router); fates = []; place = s.place + 1 })
     goes more (true ∷ fates) = is-lost arrives_tree lost_tree fates s.lost (record { place = s.place; datagram = number; router = e.router })
@@ -99,78 +98,78 @@ each given except number sender (e ∷ ends) s next =
     goes more (false ∷ fates) = arrives arrives_tree lost_tree fates s.place (places_of s.lost)
         ∙ more (record s { net = apply given s.net (Deliver number e.router); fates = fates; place = s.place + 1 })
 
-    by : ((s : Fated) → tell (each_tree given except number sender ends s.net next) s.fates s.place (places_of s.lost) ≡ after next (deliver_each given except number sender ends s))
+    by : ((s : Fated) → tell (each_tree given out number sender ends s.net next) s.fates s.place (places_of s.lost) ≡ after next (deliver_each given out number sender ends s))
         → (b : Bool) → tell (if b then lost_tree else Comes arrives_tree lost_tree) s.fates s.place (places_of s.lost)
-        ≡ after next (deliver_each given except number sender ends (if b then s else with_fate given number e.router s))
+        ≡ after next (deliver_each given out number sender ends (if b then s else with_fate given number e.router s))
     by more true = more s
     by more false = goes more s.fates
 
-one : (given : Given) (without : Option PduWord) (except : Option ℕ) (number : ℕ) (d : Datagram) (s : Fated) (next : Network → Tree)
-    → tell (one_tree given without except number d s.net next) s.fates s.place (places_of s.lost) ≡ after next (deliver_one given without except number d s)
-one given without except number d s next = by (is_left_out without (octets_of d))
+one : (given : Given) (out : LeftOut) (number : ℕ) (d : Datagram) (s : Fated) (next : Network → Tree)
+    → tell (one_tree given out number d s.net next) s.fates s.place (places_of s.lost) ≡ after next (deliver_one given out number d s)
+one given out number d s next = by (leaves_out out (octets_of d) d.link)
   where
-    by : (b : Bool) → tell (if b then next s.net else each_tree given except number d.sender (by_router (ends_of (nth s.net.links d.link))) s.net next) s.fates s.place (places_of s.lost)
-        ≡ after next (if b then s else deliver_each given except number d.sender (by_router (ends_of (nth s.net.links d.link))) s)
+    by : (b : Bool) → tell (if b then next s.net else each_tree given out number d.sender (by_router (ends_of (nth s.net.links d.link))) s.net next) s.fates s.place (places_of s.lost)
+        ≡ after next (if b then s else deliver_each given out number d.sender (by_router (ends_of (nth s.net.links d.link))) s)
     by true = refl
-    by false = each given except number d.sender (by_router (ends_of (nth s.net.links d.link))) s next
+    by false = each given out number d.sender (by_router (ends_of (nth s.net.links d.link))) s next
 
-behind-all : (given : Given) (without : Option PduWord) (except : Option ℕ) (most count : ℕ) (s : Fated) (next : Network → Tree)
-    → tell (behind_tree given without except most count s.net next) s.fates s.place (places_of s.lost) ≡ after next (deliver_behind given without except most count s)
-behind-all given without except zero count s next = refl
-behind-all given without except (suc most) count s next =
-    by (λ s. behind-all given without except most (count + 1) s next) (nth s.net.datagrams count)
+behind-all : (given : Given) (out : LeftOut) (most count : ℕ) (s : Fated) (next : Network → Tree)
+    → tell (behind_tree given out most count s.net next) s.fates s.place (places_of s.lost) ≡ after next (deliver_behind given out most count s)
+behind-all given out zero count s next = refl
+behind-all given out (suc most) count s next =
+    by (λ s. behind-all given out most (count + 1) s next) (nth s.net.datagrams count)
   where
-    by : ((s : Fated) → tell (behind_tree given without except most (count + 1) s.net next) s.fates s.place (places_of s.lost) ≡ after next (deliver_behind given without except most (count + 1) s))
-        → (o : Option Datagram) → tell (tree_found o (next s.net) (λ d. one_tree given without except (count + 1) d s.net (λ net. behind_tree given without except most (count + 1) net next))) s.fates s.place (places_of s.lost)
-        ≡ after next (where_found o s (λ d. deliver_behind given without except most (count + 1) (deliver_one given without except (count + 1) d s)))
+    by : ((s : Fated) → tell (behind_tree given out most (count + 1) s.net next) s.fates s.place (places_of s.lost) ≡ after next (deliver_behind given out most (count + 1) s))
+        → (o : Option Datagram) → tell (tree_found o (next s.net) (λ d. one_tree given out (count + 1) d s.net (λ net. behind_tree given out most (count + 1) net next))) s.fates s.place (places_of s.lost)
+        ≡ after next (where_found o s (λ d. deliver_behind given out most (count + 1) (deliver_one given out (count + 1) d s)))
     by more None = refl
     by more (Some d) =
-        one given without except (count + 1) d s (λ net. behind_tree given without except most (count + 1) net next)
-        ∙ more (deliver_one given without except (count + 1) d s)
+        one given out (count + 1) d s (λ net. behind_tree given out most (count + 1) net next)
+        ∙ more (deliver_one given out (count + 1) d s)
 
-links : (given : Given) (without : Option PduWord) (except : Option ℕ) (router : ℕ) (list : List ℕ) (s : Fated) (next : Network → Tree)
-    → tell (links_tree given without except router list s.net next) s.fates s.place (places_of s.lost) ≡ after next (pull_links given without except router list s)
-links given without except router [] s next = refl
-links given without except router (link ∷ list) s next =
-    behind-all given without except datagram_limit (length s.net.datagrams) (on_net (λ net. apply given net (PullOn router link)) s) (λ net. links_tree given without except router list net next)
-    ∙ links given without except router list (pull_one given without except router link s) next
+links : (given : Given) (out : LeftOut) (router : ℕ) (list : List ℕ) (s : Fated) (next : Network → Tree)
+    → tell (links_tree given out router list s.net next) s.fates s.place (places_of s.lost) ≡ after next (pull_links given out router list s)
+links given out router [] s next = refl
+links given out router (link ∷ list) s next =
+    behind-all given out datagram_limit (length s.net.datagrams) (on_net (λ net. apply given net (PullOn router link)) s) (λ net. links_tree given out router list net next)
+    ∙ links given out router list (pull_one given out router link s) next
 
-pulls : (given : Given) (without : Option PduWord) (except : Option ℕ) (router count : ℕ) (s : Fated) (next : Network → Tree)
-    → tell (pulls_tree given without except router count s.net next) s.fates s.place (places_of s.lost) ≡ after next (pull_each given without except router count s)
-pulls given without except router zero s next = refl
-pulls given without except router (suc count) s next =
-    by (λ s. pulls given without except (router + 1) count s next) (is_excepted except router)
+pulls : (given : Given) (out : LeftOut) (router count : ℕ) (s : Fated) (next : Network → Tree)
+    → tell (pulls_tree given out router count s.net next) s.fates s.place (places_of s.lost) ≡ after next (pull_each given out router count s)
+pulls given out router zero s next = refl
+pulls given out router (suc count) s next =
+    by (λ s. pulls given out (router + 1) count s next) (is_excepted out.except router)
   where
-    by : ((s : Fated) → tell (pulls_tree given without except (router + 1) count s.net next) s.fates s.place (places_of s.lost) ≡ after next (pull_each given without except (router + 1) count s))
-        → (b : Bool) → tell (if b then pulls_tree given without except (router + 1) count s.net next
-        else links_tree given without except router (links_at s.net router) s.net (λ net. pulls_tree given without except (router + 1) count net next)) s.fates s.place (places_of s.lost)
-        ≡ after next (pull_each given without except (router + 1) count (if b then s else pull_links given without except router (links_at s.net router) s))
+    by : ((s : Fated) → tell (pulls_tree given out (router + 1) count s.net next) s.fates s.place (places_of s.lost) ≡ after next (pull_each given out (router + 1) count s))
+        → (b : Bool) → tell (if b then pulls_tree given out (router + 1) count s.net next
+        else links_tree given out router (links_at s.net router) s.net (λ net. pulls_tree given out (router + 1) count net next)) s.fates s.place (places_of s.lost)
+        ≡ after next (pull_each given out (router + 1) count (if b then s else pull_links given out router (links_at s.net router) s))
     by more true = more s
     by more false =
-        links given without except router (links_at s.net router) s (λ net. pulls_tree given without except (router + 1) count net next)
-        ∙ more (pull_links given without except router (links_at s.net router) s)
+        links given out router (links_at s.net router) s (λ net. pulls_tree given out (router + 1) count net next)
+        ∙ more (pull_links given out router (links_at s.net router) s)
 
 -- how a line ends
 abbrev of_line : Looked → Told
 of_line l = told l.apart l.came (places_of l.lost)
 
-line : (is_good : Network → Bool) (given : Given) (without : Option PduWord) (except : Option ℕ) (seconds second last : ℕ) (s : Fated)
-    → tell (line_tree is_good given without except seconds second last s.net) s.fates s.place (places_of s.lost) ≡ of_line (run_line is_good given without except seconds second last s)
+line : (is_good : Network → Bool) (given : Given) (out : LeftOut) (seconds second last : ℕ) (s : Fated)
+    → tell (line_tree is_good given out seconds second last s.net) s.fates s.place (places_of s.lost) ≡ of_line (run_line is_good given out seconds second last s)
 unfolding came_in
-line is_good given without except zero second last s =
+line is_good given out zero second last s =
     equal (tell (Ends last) s.fates s.place (places_of s.lost)) (told last s.place (places_of s.lost)) refl (omega arith) (append-nil (places_of s.lost))
-line is_good given without except (suc seconds) second last s =
-    pulls given without except 0 (length s.net.routers) (on_net (tick_each given except 0 (length s.net.routers)) s)
-    (λ net. line_tree is_good given without except seconds (second + 1) (if is_good net then last else second + 1) net)
-    ∙ line is_good given without except seconds (second + 1) (if is_good (run_second given without except s).net then last else second + 1) (run_second given without except s)
+line is_good given out (suc seconds) second last s =
+    pulls given out 0 (length s.net.routers) (on_net (tick_each given out 0 (length s.net.routers)) s)
+    (λ net. line_tree is_good given out seconds (second + 1) (if is_good net then last else second + 1) net)
+    ∙ line is_good given out seconds (second + 1) (if is_good (run_second given out s).net then last else second + 1) (run_second given out s)
 
-pub unrolled : (is_good : Network → Bool) (given : Given) (without : Option PduWord) (except : Option ℕ) (seconds : ℕ) (net : Network) (fates : List Bool)
-    → IsUnrolled is_good given without except seconds net fates
-unrolled is_good given without except seconds net fates =
-    let e = line is_good given without except seconds 0 0 (record { net = net; fates = fates; place = 0; lost = [] }) in
+pub unrolled : (is_good : Network → Bool) (given : Given) (out : LeftOut) (seconds : ℕ) (net : Network) (fates : List Bool)
+    → IsUnrolled is_good given out seconds net fates
+unrolled is_good given out seconds net fates =
+    let e = line is_good given out seconds 0 0 (record { net = net; fates = fates; place = 0; lost = [] }) in
     record {
       cost = ap (λ (t : Told). t.cost) e;
-      further = (let c : 0 + came_in (line_tree is_good given without except seconds 0 0 net) fates ≡ (looked is_good given without except seconds net fates).came = ap (λ (t : Told). t.came) e in
-          let f = came-further (line_tree is_good given without except seconds 0 0 net) fates in omega (arith, c, f));
+      further = (let c : 0 + came_in (line_tree is_good given out seconds 0 0 net) fates ≡ (looked is_good given out seconds net fates).came = ap (λ (t : Told). t.came) e in
+          let f = came-further (line_tree is_good given out seconds 0 0 net) fates in omega (arith, c, f));
       lost = ap (λ (t : Told). t.lost) e;
     }

@@ -1,13 +1,12 @@
 -- How parts of a line `run` with losses end (own).
-use Rattle.std.specs.Prelude.{◌≡◌, ℕ, ◌+◌, ◌<◌, ◌==◌, ◌||◌, Bool, List, [], ◌∷◌, length, Option, if◌then◌else◌}
+use Rattle.std.specs.Prelude.{◌≡◌, ℕ, ◌+◌, ◌<◌, ◌==◌, ◌||◌, Bool, List, [], ◌∷◌, length, if◌then◌else◌}
 use Rattle.losses.specs.declared.player.Stop.{Stop}
 use Rattle.losses.specs.declared.player.Stop.TheVariants.{Limit, OutOfMemory}
 use Rattle.model_router.specs.Givens.{Given}
 use Rattle.model_router.specs.Places.{nth}
-use Rattle.model_network.specs.declared.word.PduWord.{PduWord}
 use Rattle.model_network.specs.Networks.{Network}
 use Rattle.model_network.specs.Runs.{Tick, apply}
-use Rattle.model_network.specs.RunLines.{is_excepted, links_at}
+use Rattle.model_network.specs.RunLines.{LeftOut, is_excepted, misses, links_at}
 use Rattle.lossy_runs.specs.LossyRuns.{Fated, with_fate, on_net, where_found, deliver_one, pull_links, Looked, run_line}
 use Rattle.lossy_runs.specs.Rest.{Rest}
 
@@ -45,11 +44,11 @@ abbrev pub Goes : (Fated → Fated) → (Fated → Fated) → (Network → Type 
 Goes left whole S f T g = (net : Network) → S net → Left left T g (whole (fated net f))
 
 -- so far a line was carried out: what is left of it from here ends as the whole does
-pub record LineLeft (is_good : Network → Bool) (given : Given) (without : Option PduWord) (except : Option ℕ)
+pub record LineLeft (is_good : Network → Bool) (given : Given) (out : LeftOut)
     (left second last : ℕ) (T : Network → Type 0) (g : Rest) (whole : Looked) : Type 0 where
   pub here : Network
   pub stands : T here
-  pub left_is : run_line is_good given without except left second last (fated here g) ≡ whole
+  pub left_is : run_line is_good given out left second last (fated here g) ≡ whole
 
 -- a line was carried out: it ended so, with these fates left
 pub record LineRan (apart : ℕ) (g : Rest) (looked : Looked) : Type 0 where
@@ -60,31 +59,31 @@ pub record LineRan (apart : ℕ) (g : Rest) (looked : Looked) : Type 0 where
 -- ---- parts
 
 -- a second of a router that isn't left out
-abbrev pub tick_unless : Given → Option ℕ → ℕ → Fated → Fated
-tick_unless given except router s =
-    if is_excepted except router then s
+abbrev pub tick_unless : Given → LeftOut → ℕ → Fated → Fated
+tick_unless given out router s =
+    if is_excepted out.except router then s
     else on_net (λ net. apply given net (Tick router)) s
 
 -- a delivery to a router that isn't the sender and isn't left out
-abbrev pub deliver_unless : Given → Option ℕ → ℕ → ℕ → ℕ → Fated → Fated
-deliver_unless given except number sender router s =
-    if router == sender || is_excepted except router then s
+abbrev pub deliver_unless : Given → LeftOut → ℕ → ℕ → ℕ → Fated → Fated
+deliver_unless given out number sender router s =
+    if router == sender || misses out number router then s
     else with_fate given number router s
 
 -- deliveries to routers in order
-abbrev pub deliver_routers : Given → Option ℕ → ℕ → ℕ → List ℕ → Fated → Fated
-deliver_routers given except number sender [] s = s
-deliver_routers given except number sender (router ∷ routers) s =
-    deliver_routers given except number sender routers
-    (deliver_unless given except number sender router s)
+abbrev pub deliver_routers : Given → LeftOut → ℕ → ℕ → List ℕ → Fated → Fated
+deliver_routers given out number sender [] s = s
+deliver_routers given out number sender (router ∷ routers) s =
+    deliver_routers given out number sender routers
+    (deliver_unless given out number sender router s)
 
 -- the pulls of a router that isn't left out
-abbrev pub pull_unless : Given → Option PduWord → Option ℕ → ℕ → Fated → Fated
-pull_unless given without except router s =
-    if is_excepted except router then s
-    else pull_links given without except router (links_at s.net router) s
+abbrev pub pull_unless : Given → LeftOut → ℕ → Fated → Fated
+pull_unless given out router s =
+    if is_excepted out.except router then s
+    else pull_links given out router (links_at s.net router) s
 
 -- the datagram after the first so many, if there is one
-abbrev pub deliver_next : Given → Option PduWord → Option ℕ → ℕ → Fated → Fated
-deliver_next given without except count s =
-    where_found (nth s.net.datagrams count) s (λ d. deliver_one given without except (count + 1) d s)
+abbrev pub deliver_next : Given → LeftOut → ℕ → Fated → Fated
+deliver_next given out count s =
+    where_found (nth s.net.datagrams count) s (λ d. deliver_one given out (count + 1) d s)

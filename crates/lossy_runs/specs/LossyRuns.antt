@@ -3,11 +3,10 @@
 use Rattle.std.specs.Prelude.{ℕ, zero, suc, ◌+◌, ◌==◌, ◌||◌, Bool, true, false, List, [], ◌∷◌, ◌++◌, length, Option, Some, None, if◌then◌else◌}
 use Rattle.model_router.specs.Places.{nth}
 use Rattle.model_router.specs.Givens.{Given}
-use Rattle.model_network.specs.declared.word.PduWord.{PduWord}
 use Rattle.model_network.specs.declared.end.End.{End}
 use Rattle.model_network.specs.Networks.{Datagram, octets_of, Network}
 use Rattle.model_network.specs.Runs.{PullOn, Deliver, apply}
-use Rattle.model_network.specs.RunLines.{is_excepted, is_left_out, by_router, ends_of, datagram_limit, links_at, tick_each}
+use Rattle.model_network.specs.RunLines.{LeftOut, is_excepted, leaves_out, misses, by_router, ends_of, datagram_limit, links_at, tick_each}
 use Rattle.lossy_runs.specs.declared.loss.Loss.{Loss}
 
 -- A network in its run, the fates of the deliveries to come, of which true is that of a lost one, the place
@@ -39,18 +38,18 @@ abbrev pub on_net : (Network → Network) → Fated → Fated
 on_net change s = record s { net = change s.net }
 
 -- a datagram comes up to be delivered to each other end (own)
-abbrev pub deliver_each : Given → Option ℕ → ℕ → ℕ → List End → Fated → Fated
-deliver_each given except number sender [] s = s
-deliver_each given except number sender (e ∷ ends) s =
-    deliver_each given except number sender ends
-    (if e.router == sender || is_excepted except e.router then s
+abbrev pub deliver_each : Given → LeftOut → ℕ → ℕ → List End → Fated → Fated
+deliver_each given out number sender [] s = s
+deliver_each given out number sender (e ∷ ends) s =
+    deliver_each given out number sender ends
+    (if e.router == sender || misses out number e.router then s
     else with_fate given number e.router s)
 
 -- own
-abbrev pub deliver_one : Given → Option PduWord → Option ℕ → ℕ → Datagram → Fated → Fated
-deliver_one given without except number d s =
-    if is_left_out without (octets_of d) then s
-    else deliver_each given except number d.sender
+abbrev pub deliver_one : Given → LeftOut → ℕ → Datagram → Fated → Fated
+deliver_one given out number d s =
+    if leaves_out out (octets_of d) d.link then s
+    else deliver_each given out number d.sender
     (by_router (ends_of (nth s.net.links d.link))) s
 
 -- own
@@ -59,40 +58,40 @@ where_found None s next = s
 where_found (Some d) s next = next d
 
 -- the datagrams after the first so many, in order; of so many at most (own)
-abbrev pub deliver_behind : Given → Option PduWord → Option ℕ → ℕ → ℕ → Fated → Fated
-deliver_behind given without except zero count s = s
-deliver_behind given without except (suc most) count s =
+abbrev pub deliver_behind : Given → LeftOut → ℕ → ℕ → Fated → Fated
+deliver_behind given out zero count s = s
+deliver_behind given out (suc most) count s =
     where_found (nth s.net.datagrams count) s
-    (λ d. deliver_behind given without except most (count + 1)
-    (deliver_one given without except (count + 1) d s))
+    (λ d. deliver_behind given out most (count + 1)
+    (deliver_one given out (count + 1) d s))
 
 -- own
-abbrev pub pull_one : Given → Option PduWord → Option ℕ → ℕ → ℕ → Fated → Fated
-pull_one given without except router link s =
-    deliver_behind given without except datagram_limit (length s.net.datagrams)
+abbrev pub pull_one : Given → LeftOut → ℕ → ℕ → Fated → Fated
+pull_one given out router link s =
+    deliver_behind given out datagram_limit (length s.net.datagrams)
     (on_net (λ net. apply given net (PullOn router link)) s)
 
 -- own
-abbrev pub pull_links : Given → Option PduWord → Option ℕ → ℕ → List ℕ → Fated → Fated
-pull_links given without except router [] s = s
-pull_links given without except router (link ∷ links) s =
-    pull_links given without except router links
-    (pull_one given without except router link s)
+abbrev pub pull_links : Given → LeftOut → ℕ → List ℕ → Fated → Fated
+pull_links given out router [] s = s
+pull_links given out router (link ∷ links) s =
+    pull_links given out router links
+    (pull_one given out router link s)
 
 -- own
-abbrev pub pull_each : Given → Option PduWord → Option ℕ → ℕ → ℕ → Fated → Fated
-pull_each given without except router zero s = s
-pull_each given without except router (suc count) s =
-    pull_each given without except (router + 1) count
-    (if is_excepted except router then s
-    else pull_links given without except router (links_at s.net router) s)
+abbrev pub pull_each : Given → LeftOut → ℕ → ℕ → Fated → Fated
+pull_each given out router zero s = s
+pull_each given out router (suc count) s =
+    pull_each given out (router + 1) count
+    (if is_excepted out.except router then s
+    else pull_links given out router (links_at s.net router) s)
 
 -- one second (own)
-abbrev pub run_second : Given → Option PduWord → Option ℕ → Fated → Fated
-run_second given without except s =
+abbrev pub run_second : Given → LeftOut → Fated → Fated
+run_second given out s =
     let routers = length s.net.routers in
-    pull_each given without except 0 routers
-    (on_net (tick_each given except 0 routers) s)
+    pull_each given out 0 routers
+    (on_net (tick_each given out 0 routers) s)
 
 -- how a line ends: its last second at whose end the network wasn't as it should be, how many deliveries
 -- came up, which were lost, and how many datagrams the network has sent (own)
@@ -104,10 +103,10 @@ pub record Looked : Type 0 where
 
 -- So many seconds, counted on from one, with a look at the network after each; where all is as it should
 -- be, the last second stays the one before (own).
-abbrev pub run_line : (Network → Bool) → Given → Option PduWord → Option ℕ → ℕ → ℕ → ℕ → Fated → Looked
-run_line is_good given without except zero second last s =
+abbrev pub run_line : (Network → Bool) → Given → LeftOut → ℕ → ℕ → ℕ → Fated → Looked
+run_line is_good given out zero second last s =
     record { apart = last; came = s.place; lost = s.lost; sent = length s.net.datagrams }
-run_line is_good given without except (suc seconds) second last s =
-    let next = run_second given without except s in
-    run_line is_good given without except seconds (second + 1)
+run_line is_good given out (suc seconds) second last s =
+    let next = run_second given out s in
+    run_line is_good given out seconds (second + 1)
     (if is_good next.net then last else second + 1) next

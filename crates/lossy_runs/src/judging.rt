@@ -12,10 +12,10 @@ ghost use Rattle.lossy_runs.specs.Endings.{StopCause};
 use crate::fates::Fates;
 use crate::lab::Lab;
 use crate::look::Look;
-use crate::running::{Out, run};
+use crate::running::run;
 use isis_base::OutOfMemory;
 use losses::{LossesFault, Part, Played, Player, Stop, Tally, explore};
-use model_network::PduWord;
+use model_network::LeftOut;
 use std::alloc::Global;
 
 /// What judges a network.
@@ -38,10 +38,8 @@ pub struct LossyRun<'r, L: Lab, J: Judge<L>> {
     pub lab: &'r L,
     /// What judges it after each second.
     pub judge: &'r J,
-    /// A kind of PDUs that aren't delivered.
-    pub without: Option<PduWord>,
-    /// A router that is left out.
-    pub except: Option<usize>,
+    /// What it leaves out besides.
+    pub out: &'r LeftOut,
     /// How many seconds the line has.
     pub seconds: u32,
 }
@@ -50,21 +48,17 @@ impl<'r, L: Lab, J: Judge<L>> LossyRun<'r, L, J> {
     /// Plays the line. A delivery is lost where its fate is true. It arrives where its fate is false, and where it has none.
     pub fn look(&self, fates: &[bool]) -> Result<Look, Stop>
         ensures look { IfOk result (λ look. (net : Network) → L.stands self.now.lab.now net → IsLook look
-            (looked (J.is_good self.now.judge.now) L.given self.now.without self.now.except self.now.seconds net fates.now)) }
+            (looked (J.is_good self.now.judge.now) L.given self.now.out.now self.now.seconds net fates.now)) }
         ensures most { IfOk result (λ look. look.apart ≤ self.now.seconds) }
         ensures stop { IfErr result (λ stop. (net : Network) → L.stands self.now.lab.now net → StopCause
-            (looked (J.is_good self.now.judge.now) L.given self.now.without self.now.except self.now.seconds net fates.now).sent stop) }
+            (looked (J.is_good self.now.judge.now) L.given self.now.out.now self.now.seconds net fates.now).sent stop) }
     {
         let mut lab = match self.lab.copy() {
             Ok(lab) => lab,
             Err(_) => return Err(Stop::OutOfMemory),
         };
         let mut left = Fates::new(self.alloc, fates);
-        let out = Out {
-            without: self.without,
-            except: self.except,
-        };
-        let end = run(&mut lab, self.judge, &mut left, out, self.seconds);
+        let end = run(&mut lab, self.judge, &mut left, self.out, self.seconds);
         drop(lab);
         match end {
             Ok(apart) => Ok(Look {
@@ -80,10 +74,10 @@ impl<'r, L: Lab, J: Judge<L>> LossyRun<'r, L, J> {
 impl<'r, L: Lab, J: Judge<L>> Player for LossyRun<'r, L, J> {
     ghost use Rattle.lossy_runs.specs.Claims.{IsLineTree};
 
-    ghost plays = { λ run tree. IsLineTree (L.stands run.lab.now) (J.is_good run.judge.now) L.given run.without run.except run.seconds tree };
+    ghost plays = { λ run tree. IsLineTree (L.stands run.lab.now) (J.is_good run.judge.now) L.given run.out.now run.seconds tree };
 
     ghost meets = { λ run fates. (net : Network) → L.stands run.lab.now net
-        → MeetsLimit (J.is_good run.judge.now) L.given run.without run.except run.seconds net fates };
+        → MeetsLimit (J.is_good run.judge.now) L.given run.out.now run.seconds net fates };
 
     fn play(&self, fates: &[bool]) -> Result<Played, Stop> {
         let look = match self.look(fates) {
@@ -117,18 +111,18 @@ pub fn worst_losses<L: Lab, J: Judge<L>>(
 ) -> Result<Tally, LossesFault>
     requires { 0 < part.of }
     ensures worst { IfOk result (λ tally. part.number ≡ 0 → part.of ≡ 1 → (net : Network) → L.stands run.now.lab.now net
-        → IsWorstLoss (J.is_good run.now.judge.now) L.given run.now.without run.now.except run.now.seconds net most
+        → IsWorstLoss (J.is_good run.now.judge.now) L.given run.now.out.now run.now.seconds net most
         tally.worst tally.named) }
     ensures counted { IfOk result (λ tally. (net : Network) → L.stands run.now.lab.now net
         → tally ≡ with_all (run.now.seconds - 1) nothing (of_part
-        (line_tree (J.is_good run.now.judge.now) L.given run.now.without run.now.except run.now.seconds 0 0 net)
+        (line_tree (J.is_good run.now.judge.now) L.given run.now.out.now run.now.seconds 0 0 net)
         part.of part.number (schedules
-        (line_tree (J.is_good run.now.judge.now) L.given run.now.without run.now.except run.now.seconds 0 0 net) most []))) }
+        (line_tree (J.is_good run.now.judge.now) L.given run.now.out.now run.now.seconds 0 0 net) most []))) }
     ensures cause { IfErr result (λ fault. (net : Network) → L.stands run.now.lab.now net
-        → Cause (MeetsLimit (J.is_good run.now.judge.now) L.given run.now.without run.now.except run.now.seconds net) most 0 (of_part
-        (line_tree (J.is_good run.now.judge.now) L.given run.now.without run.now.except run.now.seconds 0 0 net)
+        → Cause (MeetsLimit (J.is_good run.now.judge.now) L.given run.now.out.now run.now.seconds net) most 0 (of_part
+        (line_tree (J.is_good run.now.judge.now) L.given run.now.out.now run.now.seconds 0 0 net)
         part.of part.number (schedules
-        (line_tree (J.is_good run.now.judge.now) L.given run.now.without run.now.except run.now.seconds 0 0 net) most [])) fault) }
+        (line_tree (J.is_good run.now.judge.now) L.given run.now.out.now run.now.seconds 0 0 net) most [])) fault) }
 {
     explore(run.alloc, run, most, wanted_of(run.seconds), part)
 }

@@ -9,7 +9,7 @@ ghost use Rattle.lossy_runs.specs.Endings.{StopCause};
 
 use isis_base::OutOfMemory;
 use losses::Stop;
-use model_network::PduWord;
+use model_network::LeftOut;
 
 /// A datagram that comes up, from its sender to the ends of its link, in order of routers.
 #[derive(Drop)]
@@ -26,7 +26,7 @@ pub enum Coming {
     /// No further datagram was sent.
     Nothing,
     /// One that is left out.
-    LeftOut,
+    ToNobody,
     /// One that is to be delivered.
     To(Comes),
 }
@@ -79,8 +79,8 @@ pub trait Lab: Drop {
         ensures few { result ≤ 262144 }
         ensures count { (net : Network) → stands self.now net → result ≡ length net.datagrams };
 
-    /// What comes up after the first so many datagrams, where PDUs of a kind are left out.
-    fn coming(&self, count: usize, without: Option<PduWord>) -> Result<Coming, OutOfMemory>
+    /// What comes up after the first so many datagrams, but for what is left out.
+    fn coming(&self, count: usize, out: &LeftOut) -> Result<Coming, OutOfMemory>
         ensures { IfOk result (λ coming. (net : Network) → stands self.now net
-            → IsComing net count without coming) };
+            → IsComing net count out.now coming) };
 }

@@ -11,42 +11,21 @@ use crate::fates::Fates;
 use crate::judging::Judge;
 use crate::lab::{Coming, Lab};
 use losses::Stop;
-use model_network::PduWord;
+use model_network::LeftOut;
 
 /// The most datagrams that a network sends.
 const DATAGRAM_LIMIT: usize = 262144;
 
-/// What a line `run` leaves out.
-#[derive(Clone, Copy)]
-pub(crate) struct Out {
-    pub without: Option<PduWord>,
-    pub except: Option<usize>,
-}
-
-impl Out {
-    /// Whether a router is left out.
-    fn is_excepted(self, router: usize) -> bool
-        ensures { result ≡ line.is_excepted self.except router }
-    {
-        match self.except {
-            None => false,
-            Some(other) => other == router,
-        }
-    }
-
-    /// Whether a datagram isn't delivered to a router.
-    fn skips(self, sender: usize, router: usize) -> bool
-        ensures { result ≡ (router == sender || line.is_excepted self.except router) }
-    {
-        router == sender || self.is_excepted(router)
-    }
-}
-
 /// A second of a router, unless it is left out.
-fn tick_one<L: Lab>(lab: &mut L, fates: &Fates<'_>, out: Out, router: usize) -> Result<(), Stop>
-    ensures done { OnOk result (Ran (tick_unless L.given out.except router)
+fn tick_one<L: Lab>(
+    lab: &mut L,
+    fates: &Fates<'_>,
+    out: &LeftOut,
+    router: usize,
+) -> Result<(), Stop>
+    ensures done { OnOk result (Ran (tick_unless L.given out.now router)
         (L.stands lab.old) fates.now (L.stands lab.new) fates.now) }
-    ensures stop { IfErr result (Stopped (tick_unless L.given out.except router) (L.stands lab.old) fates.now) }
+    ensures stop { IfErr result (Stopped (tick_unless L.given out.now router) (L.stands lab.old) fates.now) }
 {
     if out.is_excepted(router) {
         return Ok(());
@@ -79,16 +58,16 @@ fn deliver_by_fate<L: Lab>(
 fn deliver_to<L: Lab>(
     lab: &mut L,
     fates: &mut Fates<'_>,
-    out: Out,
+    out: &LeftOut,
     number: usize,
     sender: usize,
     router: usize,
 ) -> Result<(), Stop>
-    ensures done { OnOk result (Ran (deliver_unless L.given out.except number sender router)
+    ensures done { OnOk result (Ran (deliver_unless L.given out.now number sender router)
         (L.stands lab.old) fates.old (L.stands lab.new) fates.new) }
-    ensures stop { IfErr result (Stopped (deliver_unless L.given out.except number sender router) (L.stands lab.old) fates.old) }
+    ensures stop { IfErr result (Stopped (deliver_unless L.given out.now number sender router) (L.stands lab.old) fates.old) }
 {
-    if out.skips(sender, router) {
+    if out.skips(number, sender, router) {
         return Ok(());
     }
     deliver_by_fate(lab, fates, number, router)
@@ -98,14 +77,14 @@ fn deliver_to<L: Lab>(
 fn deliver_all<L: Lab>(
     lab: &mut L,
     fates: &mut Fates<'_>,
-    out: Out,
+    out: &LeftOut,
     number: usize,
     sender: usize,
     routers: &[usize],
 ) -> Result<(), Stop>
-    ensures done { OnOk result (Ran (deliver_routers L.given out.except number sender routers.now)
+    ensures done { OnOk result (Ran (deliver_routers L.given out.now number sender routers.now)
         (L.stands lab.old) fates.old (L.stands lab.new) fates.new) }
-    ensures stop { IfErr result (Stopped (deliver_routers L.given out.except number sender routers.now) (L.stands lab.old) fates.old) }
+    ensures stop { IfErr result (Stopped (deliver_routers L.given out.now number sender routers.now) (L.stands lab.old) fates.old) }
 {
     for place in 0..routers.len() {
         match deliver_to(lab, fates, out, number, sender, routers[place]) {
@@ -120,20 +99,20 @@ fn deliver_all<L: Lab>(
 fn deliver_coming<L: Lab>(
     lab: &mut L,
     fates: &mut Fates<'_>,
-    out: Out,
+    out: &LeftOut,
     count: usize,
     coming: &Coming,
 ) -> Result<(), Stop>
     requires few { count ≤ 524288 }
     requires coming { (net : Network) → L.stands lab.old net
-        → IsComing net count out.without coming.now }
-    ensures done { OnOk result (Ran (deliver_next L.given out.without out.except count)
+        → IsComing net count out.now coming.now }
+    ensures done { OnOk result (Ran (deliver_next L.given out.now count)
         (L.stands lab.old) fates.old (L.stands lab.new) fates.new) }
-    ensures stop { IfErr result (Stopped (deliver_next L.given out.without out.except count) (L.stands lab.old) fates.old) }
+    ensures stop { IfErr result (Stopped (deliver_next L.given out.now count) (L.stands lab.old) fates.old) }
 {
     match coming {
         Coming::Nothing => Ok(()),
-        Coming::LeftOut => Ok(()),
+        Coming::ToNobody => Ok(()),
         Coming::To(comes) => deliver_all(
             lab,
             fates,
@@ -156,19 +135,19 @@ fn is_past<L: Lab>(lab: &L, count: usize) -> bool
 fn deliver_behind<L: Lab>(
     lab: &mut L,
     fates: &mut Fates<'_>,
-    out: Out,
+    out: &LeftOut,
     first: usize,
 ) -> Result<(), Stop>
     requires few { first ≤ 262144 }
-    ensures done { OnOk result (Ran (lossy.deliver_behind L.given out.without out.except line.datagram_limit first)
+    ensures done { OnOk result (Ran (lossy.deliver_behind L.given out.now line.datagram_limit first)
         (L.stands lab.old) fates.old (L.stands lab.new) fates.new) }
-    ensures stop { IfErr result (Stopped (lossy.deliver_behind L.given out.without out.except line.datagram_limit first) (L.stands lab.old) fates.old) }
+    ensures stop { IfErr result (Stopped (lossy.deliver_behind L.given out.now line.datagram_limit first) (L.stands lab.old) fates.old) }
 {
     for turn in 0..DATAGRAM_LIMIT {
         if is_past(lab, first + turn) {
             return Ok(());
         }
-        let coming = match lab.coming(first + turn, out.without) {
+        let coming = match lab.coming(first + turn, out) {
             Ok(coming) => coming,
             Err(_) => return Err(Stop::OutOfMemory),
         };
@@ -186,13 +165,13 @@ fn deliver_behind<L: Lab>(
 fn pull_one<L: Lab>(
     lab: &mut L,
     fates: &mut Fates<'_>,
-    out: Out,
+    out: &LeftOut,
     router: usize,
     link: usize,
 ) -> Result<(), Stop>
-    ensures done { OnOk result (Ran (lossy.pull_one L.given out.without out.except router link)
+    ensures done { OnOk result (Ran (lossy.pull_one L.given out.now router link)
         (L.stands lab.old) fates.old (L.stands lab.new) fates.new) }
-    ensures stop { IfErr result (Stopped (lossy.pull_one L.given out.without out.except router link) (L.stands lab.old) fates.old) }
+    ensures stop { IfErr result (Stopped (lossy.pull_one L.given out.now router link) (L.stands lab.old) fates.old) }
 {
     let count = lab.datagrams();
     match lab.pull(router, link) {
@@ -205,13 +184,13 @@ fn pull_one<L: Lab>(
 fn pull_all<L: Lab>(
     lab: &mut L,
     fates: &mut Fates<'_>,
-    out: Out,
+    out: &LeftOut,
     router: usize,
     links: &[usize],
 ) -> Result<(), Stop>
-    ensures done { OnOk result (Ran (lossy.pull_links L.given out.without out.except router links.now)
+    ensures done { OnOk result (Ran (lossy.pull_links L.given out.now router links.now)
         (L.stands lab.old) fates.old (L.stands lab.new) fates.new) }
-    ensures stop { IfErr result (Stopped (lossy.pull_links L.given out.without out.except router links.now) (L.stands lab.old) fates.old) }
+    ensures stop { IfErr result (Stopped (lossy.pull_links L.given out.now router links.now) (L.stands lab.old) fates.old) }
 {
     for place in 0..links.len() {
         match pull_one(lab, fates, out, router, links[place]) {
@@ -226,12 +205,12 @@ fn pull_all<L: Lab>(
 fn pull_router<L: Lab>(
     lab: &mut L,
     fates: &mut Fates<'_>,
-    out: Out,
+    out: &LeftOut,
     router: usize,
 ) -> Result<(), Stop>
-    ensures done { OnOk result (Ran (pull_unless L.given out.without out.except router)
+    ensures done { OnOk result (Ran (pull_unless L.given out.now router)
         (L.stands lab.old) fates.old (L.stands lab.new) fates.new) }
-    ensures stop { IfErr result (Stopped (pull_unless L.given out.without out.except router) (L.stands lab.old) fates.old) }
+    ensures stop { IfErr result (Stopped (pull_unless L.given out.now router) (L.stands lab.old) fates.old) }
 {
     if out.is_excepted(router) {
         return Ok(());
@@ -246,10 +225,15 @@ fn pull_router<L: Lab>(
 }
 
 /// A second of each router.
-fn tick_each<L: Lab>(lab: &mut L, fates: &Fates<'_>, out: Out, count: usize) -> Result<(), Stop>
-    ensures done { OnOk result (Ran (on_net (line.tick_each L.given out.except 0 count))
+fn tick_each<L: Lab>(
+    lab: &mut L,
+    fates: &Fates<'_>,
+    out: &LeftOut,
+    count: usize,
+) -> Result<(), Stop>
+    ensures done { OnOk result (Ran (on_net (line.tick_each L.given out.now 0 count))
         (L.stands lab.old) fates.now (L.stands lab.new) fates.now) }
-    ensures stop { IfErr result (Stopped (on_net (line.tick_each L.given out.except 0 count)) (L.stands lab.old) fates.now) }
+    ensures stop { IfErr result (Stopped (on_net (line.tick_each L.given out.now 0 count)) (L.stands lab.old) fates.now) }
 {
     for router in 0..count {
         match tick_one(lab, fates, out, router) {
@@ -261,10 +245,15 @@ fn tick_each<L: Lab>(lab: &mut L, fates: &Fates<'_>, out: Out, count: usize) -> 
 }
 
 /// The pulls of each router.
-fn pull_each<L: Lab>(lab: &mut L, fates: &mut Fates<'_>, out: Out, count: usize) -> Result<(), Stop>
-    ensures done { OnOk result (Ran (lossy.pull_each L.given out.without out.except 0 count)
+fn pull_each<L: Lab>(
+    lab: &mut L,
+    fates: &mut Fates<'_>,
+    out: &LeftOut,
+    count: usize,
+) -> Result<(), Stop>
+    ensures done { OnOk result (Ran (lossy.pull_each L.given out.now 0 count)
         (L.stands lab.old) fates.old (L.stands lab.new) fates.new) }
-    ensures stop { IfErr result (Stopped (lossy.pull_each L.given out.without out.except 0 count) (L.stands lab.old) fates.old) }
+    ensures stop { IfErr result (Stopped (lossy.pull_each L.given out.now 0 count) (L.stands lab.old) fates.old) }
 {
     for router in 0..count {
         match pull_router(lab, fates, out, router) {
@@ -276,10 +265,10 @@ fn pull_each<L: Lab>(lab: &mut L, fates: &mut Fates<'_>, out: Out, count: usize)
 }
 
 /// A second.
-pub(crate) fn second<L: Lab>(lab: &mut L, fates: &mut Fates<'_>, out: Out) -> Result<(), Stop>
-    ensures done { OnOk result (Ran (lossy.run_second L.given out.without out.except)
+pub(crate) fn second<L: Lab>(lab: &mut L, fates: &mut Fates<'_>, out: &LeftOut) -> Result<(), Stop>
+    ensures done { OnOk result (Ran (lossy.run_second L.given out.now)
         (L.stands lab.old) fates.old (L.stands lab.new) fates.new) }
-    ensures stop { IfErr result (Stopped (lossy.run_second L.given out.without out.except) (L.stands lab.old) fates.old) }
+    ensures stop { IfErr result (Stopped (lossy.run_second L.given out.now) (L.stands lab.old) fates.old) }
 {
     let count = lab.routers();
     match tick_each(lab, fates, out, count) {
@@ -293,14 +282,14 @@ pub(crate) fn run<L: Lab, J: Judge<L>>(
     lab: &mut L,
     judge: &J,
     fates: &mut Fates<'_>,
-    out: Out,
+    out: &LeftOut,
     seconds: u32,
 ) -> Result<u64, Stop>
     ensures done { IfOk result (λ apart. (net : Network) → L.stands lab.old net → LineRan apart fates.new
-        (lossy.run_line (J.is_good judge.now) L.given out.without out.except seconds 0 0 (fated net fates.old))) }
+        (lossy.run_line (J.is_good judge.now) L.given out.now seconds 0 0 (fated net fates.old))) }
     ensures most { IfOk result (λ apart. apart ≤ seconds) }
     ensures stop { IfErr result (λ stop. (net : Network) → L.stands lab.old net → StopCause
-        (lossy.run_line (J.is_good judge.now) L.given out.without out.except seconds 0 0 (fated net fates.old)).sent stop) }
+        (lossy.run_line (J.is_good judge.now) L.given out.now seconds 0 0 (fated net fates.old)).sent stop) }
 {
     let mut apart: u64 = 0;
     for turn in 0..seconds {

@@ -5,6 +5,6 @@ use Rattle.lossy_runs.specs.Endings.{Goes}
 use Rattle.lossy_runs.proofs.running.pull_all.Given as goal
 
 abbrev pub invariant-loop-place : goal.invariant-loop-place
-invariant-loop-place g l = Goes (lossy.pull_links g.L.Lab.given l.out.without l.out.except l.router (drop l.place l.links))
-    (lossy.pull_links g.L.Lab.given l.out.without l.out.except l.router l.links)
+invariant-loop-place g l = Goes (lossy.pull_links g.L.Lab.given l.out l.router (drop l.place l.links))
+    (lossy.pull_links g.L.Lab.given l.out l.router l.links)
     (g.L.Lab.stands l.initial.lab) l.initial.fates (g.L.Lab.stands l.lab) l.fates

@@ -5,6 +5,6 @@ use Rattle.lossy_runs.specs.Endings.{Goes}
 use Rattle.lossy_runs.proofs.running.pull_each.Given as goal
 
 abbrev pub invariant-loop-router : goal.invariant-loop-router
-invariant-loop-router g l = Goes (lossy.pull_each g.L.Lab.given l.out.without l.out.except l.router (l.count - l.router))
-    (lossy.pull_each g.L.Lab.given l.out.without l.out.except 0 l.count)
+invariant-loop-router g l = Goes (lossy.pull_each g.L.Lab.given l.out l.router (l.count - l.router))
+    (lossy.pull_each g.L.Lab.given l.out 0 l.count)
     (g.L.Lab.stands l.initial.lab) l.initial.fates (g.L.Lab.stands l.lab) l.fates
