@@ -15,12 +15,10 @@ use Rattle.isis_base.specs.declared.texts.TheConstants.{SYSTEM_TEXT}
 use Rattle.isis_base.proofs.AreaLemmas.{SpellsArea-written, area_of-spelled}
 use Rattle.isis_base.proofs.LevelLemmas.{levels_of-written}
 use Rattle.isis_base.proofs.SpellingLemmas.{Spells-spelled, text_octets-spelled}
-use Rattle.model_network.specs.declared.word.PduWord.{PduWord}
-use Rattle.model_network.specs.declared.word.PduWord.TheVariants.{Hello, Lsp, Csnp, Psnp}
 use Rattle.lab_script.specs.declared.named.NamedDeed.{NamedDeed}
 use Rattle.lab_script.specs.declared.named.NamedDeed.TheVariants as deed
 use Rattle.lab_script.specs.declared.named.NamedLine.{NamedLine}
-use Rattle.lab_script.specs.declared.named.NamedLine.TheVariants.{Router, Link, Lan, Key, Event}
+use Rattle.lab_script.specs.declared.named.NamedLine.TheVariants.{Router, Link, Lan, Key, Event, Run}
 use Rattle.lab_script.specs.declared.named.NamedScope.{NamedScope}
 use Rattle.lab_script.specs.declared.named.NamedScope.TheVariants as scope
 use Rattle.lab_script.specs.Fields.{name_of, are_names}
@@ -28,25 +26,19 @@ use Rattle.line_cuts.specs.Forms.{field, flag, last, done}
 use Rattle.lab_script.proofs.MemberLemmas.{members-of}
 use Rattle.line_cuts.specs.HexTexts.{AreOctets, is_hex, hex_of, hex_text, octets_in}
 use Rattle.line_cuts.specs.Numerals.{number_to}
-use Rattle.lab_script.specs.LabFields.{metric_of, prefix_metric_of, seconds_of, system_of, pdus_of, scope_of, key_octets_of}
+use Rattle.lab_script.specs.LabFields.{metric_of, prefix_metric_of, system_of, scope_of, key_octets_of}
 use Rattle.lab_script.specs.LabLines.{lab_line_of, priority_form, members_form, HasMembers}
-use Rattle.lab_script.specs.Printed.{IsName}
-use Rattle.lab_script.specs.LabPrinted.{IsSomeOctets, IsRouterLine, IsScopeLine, IsDeedLine, IsLabLine, flag_words, pdus_text, scope_text, prefix_metric_text, deed_words, lab_words}
+use Rattle.lab_script.specs.LabPrinted.{IsSomeOctets, IsRouterLine, IsScopeLine, IsDeedLine, IsLabLine, flag_words, scope_text, prefix_metric_text, deed_words, lab_words}
 use Rattle.line_cuts.proofs.HexLemmas.{hex_text-digits, hex_text-length, octets_in-hex_text}
 use Rattle.line_cuts.proofs.NumberTexts.{number_to-decimal, decimal-none}
 use Rattle.line_cuts.proofs.PrefixTexts.{prefix_of-written}
 use Rattle.lab_script.proofs.NumberTexts.{copy-read}
+use Rattle.lab_script.proofs.RunPrintLemmas.{run-words}
 
 -- ---- numbers
 
 metric-read : (n : ℕ) → n ≤ 16777215 → metric_of (decimal n) ≡ Some n
 metric-read n h = number_to-decimal 16777215 n h (omega (arith, h))
-
-seconds-read : (n : ℕ) → 1 ≤ n → n ≤ 86400 → seconds_of (decimal n) ≡ Some n
-seconds-read n some h =
-    let positive : (n == 0) ≡ false = grind (arith, nat_tests) in
-    ap (λ (o : Option ℕ). option_and_then (λ m. cond (m == 0) None (Some m)) o) (number_to-decimal 86400 n h (omega (arith, h)))
-    ∙ ap (λ (t : Bool). cond {A = Option ℕ} t None (Some n)) positive
 
 -- ---- hex
 
@@ -63,12 +55,6 @@ key-read octets h few =
     ap (λ (t : Bool). cond t (hex_of (hex_text octets)) None) (le-leb (length (hex_text octets)) 256 (omega (arith, hex_text-length octets, few))) ∙ hex-read octets h
 
 -- ---- words of few kinds
-
-pdus-read : (kind : PduWord) → pdus_of (pdus_text kind) ≡ Some kind
-pdus-read Hello = refl
-pdus-read Lsp = refl
-pdus-read Csnp = refl
-pdus-read Psnp = refl
 
 scope-read : (s : NamedScope) → IsScopeLine s → scope_of (scope_text s) ≡ Some s
 scope-read scope.Area h = refl
@@ -112,15 +98,6 @@ prefix-words router prefix metric h = rw h.0 (
     ap (λ (o : Option Prefix). option_and_then (λ p. field prefix_metric_of (λ m. done (Event (deed.Prefix router p m))) (prefix_metric_text metric ∷ [])) o) (prefix_of-written prefix h.1)
     ∙ ap (λ (o : Option (Option ℕ)). option_and_then (λ m. done (Event (deed.Prefix router prefix m)) []) o) (prefix_metric-read metric h.2))
 
-run-options : (seconds : ℕ) (without : Option PduWord) (except : Option (List ℕ)) → IfSome except (λ router. IsName router) → lab_line_of (deed_words (deed.Run seconds without except)) ≡ option_and_then (λ seconds. Some (Event (deed.Run seconds without except))) (seconds_of (decimal seconds))
-run-options seconds None None h = refl
-run-options seconds None (Some router) h = rw h
-run-options seconds (Some kind) None h = rw (pdus-read kind)
-run-options seconds (Some kind) (Some router) h = rw (pdus-read kind, h)
-
-run-words : (seconds : ℕ) (without : Option PduWord) (except : Option (List ℕ)) → IsDeedLine (deed.Run seconds without except) → lab_line_of (deed_words (deed.Run seconds without except)) ≡ Some (Event (deed.Run seconds without except))
-run-words seconds without except h = run-options seconds without except h.2 ∙ ap (λ (o : Option ℕ). option_and_then (λ seconds. Some (Event (deed.Run seconds without except))) o) (seconds-read seconds h.0 h.1)
-
 deed-words : (d : NamedDeed) → IsDeedLine d → lab_line_of (deed_words d) ≡ Some (Event d)
 deed-words (deed.Tick router) h = rw h
 deed-words (deed.Pull router link) h = rw (h.0, h.1)
@@ -131,7 +108,6 @@ deed-words (deed.Metric router link metric) h = metric-words router link metric 
 deed-words (deed.Overload router on) h = overload-words router on h
 deed-words (deed.Inject router link octets) h = inject-words router link octets h
 deed-words (deed.Dump datagram) h = dump-words datagram h
-deed-words (deed.Run seconds without except) h = run-words seconds without except h
 
 -- ---- setup lines
 
@@ -180,3 +156,4 @@ lab_line_of-words (Link name first second metric) h = link-words name first seco
 lab_line_of-words (Lan name metric members) h = lan-words name metric members h
 lab_line_of-words (Key router s key) h = key-words router s key h
 lab_line_of-words (Event d) h = deed-words d h
+lab_line_of-words (Run run) h = run-words run h

@@ -4,6 +4,7 @@ pub mod KeyLemmas
 pub mod LabIndexLemmas
 pub mod LabLemmas
 pub mod MemberLemmas
+pub mod RunListLemmas
 pub mod LinkLemmas
 pub mod NameLemmas
 pub mod ReadLemmas
@@ -14,3 +15,4 @@ pub mod NameTexts
 pub mod NumberTexts
 pub mod PrintLemmas
 pub mod LabPrintLemmas
+pub mod RunPrintLemmas

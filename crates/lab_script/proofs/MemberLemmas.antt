@@ -12,7 +12,7 @@ use Rattle.lab_script.specs.LabLines.{members_form}
 abbrev pub are_members : List (List ℕ) → Bool
 are_members words = (nat_le 2 (length words) && nat_le (length words) 64) && are_names words
 
-each-names : (words : List (List ℕ)) → each name_of words ≡ cond (are_names words) (Some words) None
+pub each-names : (words : List (List ℕ)) → each name_of words ≡ cond (are_names words) (Some words) None
 each-names [] = refl
 each-names (word ∷ words) =
     ap (λ (o : Option (List (List ℕ))). option_and_then (λ x. option_map (λ xs. x ∷ xs) o) (name_of word)) (each-names words) ∙ by (is_name word) (are_names words)

@@ -3,6 +3,7 @@ use Rattle.std.specs.Prelude.{ℕ, ◌||◌, nat_le, Bool, List, [], ◌∷◌, 
 use Rattle.std.specs.List.{list_any}
 use Rattle.isis_base.specs.declared.level.CircuitKind.{CircuitKind}
 use Rattle.isis_base.specs.declared.level.CircuitKind.TheVariants as kind
+use Rattle.model_network.specs.declared.lost.Lost.{Lost}
 use Rattle.lab_keys.specs.declared.faults.LimitName.TheVariants.{Routers, Links, Circuits}
 use Rattle.lab_keys.specs.declared.net.TheConstants.{ROUTER_LIMIT, LINK_LIMIT}
 use Rattle.isis_base.specs.declared.numbers.TheConstants.{CIRCUIT_LIMIT}
@@ -12,6 +13,8 @@ use Rattle.lab_script.specs.declared.named.NamedDeed.{NamedDeed}
 use Rattle.lab_script.specs.declared.named.NamedDeed.TheVariants as named
 use Rattle.lab_script.specs.declared.named.NamedLine.{NamedLine}
 use Rattle.lab_script.specs.declared.named.NamedLine.TheVariants as line
+use Rattle.lab_script.specs.declared.named.NamedRun.{NamedRun}
+use Rattle.lab_script.specs.declared.named_loss.NamedLoss.{NamedLoss}
 use Rattle.lab_script.specs.declared.named.NamedScope.{NamedScope}
 use Rattle.lab_script.specs.declared.named.NamedScope.TheVariants as by_name
 use Rattle.lab_script.specs.declared.reason.Reason.{Reason}
@@ -57,11 +60,6 @@ circuit_at script router link =
 
 -- ---- events
 
--- the router that a run leaves out
-abbrev pub except_at : LabScript → Option (List ℕ) → Result (Option ℕ) Reason
-except_at script None = Ok None
-except_at script (Some router) = router_at script router then λ r. Ok (Some r)
-
 -- what an event line says, with the numbers of what it names
 abbrev pub deed_at : LabScript → NamedDeed → Result LabDeed Reason
 deed_at script (named.Tick router) = router_at script router then λ r. Ok (deed.Tick r)
@@ -79,8 +77,37 @@ deed_at script (named.Overload router on) =
 deed_at script (named.Inject router link octets) =
     circuit_at script router link then λ c. Ok (deed.Inject c.router c.link octets)
 deed_at script (named.Dump datagram) = Ok (deed.Dump datagram)
-deed_at script (named.Run seconds without except) =
-    except_at script except then λ e. Ok (deed.Run seconds without e)
+
+-- ---- lines `run`
+
+-- the router that a run leaves out
+abbrev pub except_at : LabScript → Option (List ℕ) → Result (Option ℕ) Reason
+except_at script None = Ok None
+except_at script (Some router) = router_at script router then λ r. Ok (Some r)
+
+-- the links of these names
+abbrev pub links_at : LabScript → List (List ℕ) → Result (List ℕ) Reason
+links_at script [] = Ok []
+links_at script (name ∷ names) =
+    link_at script name then λ l. links_at script names then λ ls. Ok (l ∷ ls)
+
+-- deliveries to the routers of these names
+abbrev pub losing_at : LabScript → List NamedLoss → Result (List Lost) Reason
+losing_at script [] = Ok []
+losing_at script (loss ∷ losses) =
+    router_at script loss.router then λ r. losing_at script losses then λ more.
+    Ok (record { datagram = loss.datagram; router = r } ∷ more)
+
+-- what a line `run` says, with the numbers of what it names
+abbrev pub run_at : LabScript → NamedRun → Result LabDeed Reason
+run_at script run =
+    except_at script run.except then λ except. links_at script run.cut then λ cut.
+    losing_at script run.losing then λ losing. Ok (deed.Run run.seconds (record {
+      without = run.without;
+      except = except;
+      cut = cut;
+      losing = losing;
+    }))
 
 -- ---- setup lines
 
@@ -154,6 +181,11 @@ has_begun script = nat_le 1 (length script.lines)
 abbrev pub unless_late : LabScript → ℕ → Result LabScript ScriptFault → Result LabScript ScriptFault
 unless_late script number next = if has_begun script then refused number Late else next
 
+-- the script with an event line of this number more
+abbrev pub with_event : LabScript → ℕ → LabDeed → LabScript
+with_event script number deed =
+    record script { lines = script.lines ++ record { line = number; deed = deed } ∷ [] }
+
 -- the script with a line of this number more
 abbrev pub with_line : LabScript → ℕ → NamedLine → Result LabScript ScriptFault
 with_line script number (line.Router router) =
@@ -171,7 +203,9 @@ with_line script number (line.Key router scope key) =
     }))
 with_line script number (line.Event deed) =
     where_known number (deed_at script deed)
-    λ told. Ok (record script { lines = script.lines ++ record { line = number; deed = told } ∷ [] })
+    λ told. Ok (with_event script number told)
+with_line script number (line.Run run) =
+    where_known number (run_at script run) λ told. Ok (with_event script number told)
 
 -- a line that has no form is refused
 abbrev pub with_form : LabScript → ℕ → Option NamedLine → Result LabScript ScriptFault

@@ -1,13 +1,16 @@
 -- The lines of a lab script, a table of forms (own).
-use Rattle.std.specs.Prelude.{ℕ, ◌≤◌, List, [], ◌∷◌, length, codes, IfSome}
+use Rattle.std.specs.Prelude.{ℕ, ◌≤◌, List, [], ◌∷◌, length, codes, IfSome, option_and_then}
+use Rattle.std.specs.Option.{option_map}
 use Rattle.isis_base.specs.AreaTexts.{area_of}
 use Rattle.isis_base.specs.Levels.{levels_of}
 use Rattle.isis_base.specs.declared.identifiers.SystemId.{SystemId}
 use Rattle.lab_script.specs.declared.named.NamedDeed.{NamedDeed}
 use Rattle.lab_script.specs.declared.named.NamedDeed.TheVariants as deed
 use Rattle.lab_script.specs.declared.named.NamedLine.{NamedLine}
-use Rattle.lab_script.specs.declared.named.NamedLine.TheVariants.{Router, Link, Lan, Key, Event}
+use Rattle.lab_script.specs.declared.named.NamedLine.TheVariants.{Router, Link, Lan, Key, Event, Run}
+use Rattle.lab_script.specs.declared.named_loss.NamedLoss.{NamedLoss}
 use Rattle.lab_script.specs.Fields.{name_of, copy_of}
+use Rattle.lab_script.specs.RunLists.{before_losing, from_losing, cut_form, losing_form}
 use Rattle.line_cuts.specs.Forms.{Form, field, flag, option, given, last, several, done, of_forms}
 use Rattle.line_cuts.specs.Fields.{prefix_of, on_of}
 use Rattle.line_cuts.specs.HexTexts.{hex_of}
@@ -94,10 +97,23 @@ inject_form = field name_of λ router. field name_of λ link. field hex_of λ oc
 abbrev pub dump_form : Form NamedLine
 dump_form = field copy_of λ datagram. done (Event (deed.Dump datagram))
 
--- `run N [without hello|lsp|csnp|psnp] [except R]` (own)
+-- `[cut LINK ..] [losing K R K R ..]`, behind the words of a line `run` that are read so far (own)
+abbrev pub lists_form : {X : Type 0} → (List (List ℕ) → List NamedLoss → X) → Form X
+lists_form made words =
+    option_and_then (λ cut. option_map (λ losing. made cut losing) (losing_form (from_losing words)))
+    (cut_form (before_losing words))
+
+-- `run N [without hello|lsp|csnp|psnp] [except R] [cut LINK ..] [losing K R K R ..]` (own)
 abbrev pub run_form : Form NamedLine
 run_form = field seconds_of λ seconds. option (codes "without") pdus_of λ without.
-    option (codes "except") name_of λ except. done (Event (deed.Run seconds without except))
+    option (codes "except") name_of λ except. lists_form λ cut losing.
+    Run (record {
+      seconds = seconds;
+      without = without;
+      except = except;
+      cut = cut;
+      losing = losing;
+    })
 
 abbrev pub lab_forms : List (List ℕ × Form NamedLine)
 lab_forms =
@@ -130,8 +146,11 @@ abbrev pub IsDeedInRange : NamedDeed → Type 0
 IsDeedInRange (deed.Prefix router prefix metric) = IfSome metric (λ m. m ≤ 4261412864)
 IsDeedInRange (deed.Metric router link metric) = metric ≤ 16777215
 IsDeedInRange (deed.Inject router link octets) = 1 ≤ length octets
-IsDeedInRange (deed.Run seconds without except) = (1 ≤ seconds) × (seconds ≤ 86400)
 IsDeedInRange other = Unit {0}
+
+-- a line `run` has 1 to 86400 seconds (own)
+abbrev pub IsRunInRange : ℕ → Type 0
+IsRunInRange seconds = (1 ≤ seconds) × (seconds ≤ 86400)
 
 -- a LAN has 2 to 64 members (own)
 abbrev pub HasMembers : {X : Type 0} → List X → Type 0
@@ -144,3 +163,4 @@ IsInRange (Link name first second metric) = metric ≤ 16777215
 IsInRange (Lan name metric members) = (metric ≤ 16777215) × HasMembers members
 IsInRange (Key router scope key) = IsKeyLength key
 IsInRange (Event deed) = IsDeedInRange deed
+IsInRange (Run run) = IsRunInRange run.seconds

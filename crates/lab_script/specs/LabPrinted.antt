@@ -1,5 +1,6 @@
 -- Lines of lab scripts as words, of fields in their ranges (own).
 use Rattle.std.specs.Prelude.{◌≡◌, ℕ, ◌<◌, ◌≤◌, ◌^◌, Bool, true, false, List, [], ◌∷◌, ◌++◌, length, codes, decimal, Option, Some, None, IfSome}
+use Rattle.std.specs.List.{AllByRecursion}
 use Rattle.std.specs.Str.{bytes_eq}
 use Rattle.isis_base.specs.AreaTexts.{area_text}
 use Rattle.isis_base.specs.Levels.{levels_text}
@@ -12,7 +13,9 @@ use Rattle.model_network.specs.declared.word.PduWord.TheVariants.{Hello, Lsp, Cs
 use Rattle.lab_script.specs.declared.named.NamedDeed.{NamedDeed}
 use Rattle.lab_script.specs.declared.named.NamedDeed.TheVariants as deed
 use Rattle.lab_script.specs.declared.named.NamedLine.{NamedLine}
-use Rattle.lab_script.specs.declared.named.NamedLine.TheVariants.{Router, Link, Lan, Key, Event}
+use Rattle.lab_script.specs.declared.named.NamedLine.TheVariants.{Router, Link, Lan, Key, Event, Run}
+use Rattle.lab_script.specs.declared.named.NamedRun.{NamedRun}
+use Rattle.lab_script.specs.declared.named_loss.NamedLoss.{NamedLoss}
 use Rattle.lab_script.specs.declared.named.NamedScope.{NamedScope}
 use Rattle.lab_script.specs.declared.named.NamedScope.TheVariants as scope
 use Rattle.lab_script.specs.declared.setup.LabRouter.{LabRouter}
@@ -54,8 +57,22 @@ IsDeedLine (deed.Metric router link metric) = IsName router × IsName link × (m
 IsDeedLine (deed.Overload router on) = IsName router
 IsDeedLine (deed.Inject router link octets) = IsName router × IsName link × IsSomeOctets octets
 IsDeedLine (deed.Dump datagram) = datagram < 2 ^ 64
-IsDeedLine (deed.Run seconds without except) =
-    (1 ≤ seconds) × (seconds ≤ 86400) × IfSome except (λ router. IsName router)
+
+-- a link named losing isn't cut here
+abbrev pub IsCutLink : List ℕ → Type 0
+IsCutLink link = IsName link × (bytes_eq link (codes "losing") ≡ false)
+
+abbrev pub IsLossLine : NamedLoss → Type 0
+IsLossLine loss = (loss.datagram < 2 ^ 64) × IsName loss.router
+
+pub record IsRunLine (run : NamedRun) : Type 0 where
+  pub some : 1 ≤ run.seconds
+  pub fits : run.seconds ≤ 86400
+  pub except : IfSome run.except (λ router. IsName router)
+  pub cut : AllByRecursion IsCutLink run.cut
+  pub few_cut : length run.cut ≤ 64
+  pub losing : AllByRecursion IsLossLine run.losing
+  pub few_losing : length run.losing ≤ 64
 
 abbrev pub IsLabLine : NamedLine → Type 0
 IsLabLine (Router router) = IsRouterLine router
@@ -66,6 +83,7 @@ IsLabLine (Lan name metric members) =
 IsLabLine (Key router scope key) =
     IsName router × IsScopeLine scope × IsSomeOctets key × (length key ≤ 128)
 IsLabLine (Event deed) = IsDeedLine deed
+IsLabLine (Run run) = IsRunLine run
 
 -- ---- words
 
@@ -103,9 +121,23 @@ deed_words (deed.Overload router on) = codes "overload" ∷ router ∷ on_text o
 deed_words (deed.Inject router link octets) =
     codes "inject" ∷ router ∷ link ∷ hex_text octets ∷ []
 deed_words (deed.Dump datagram) = codes "dump" ∷ decimal datagram ∷ []
-deed_words (deed.Run seconds without except) =
-    codes "run" ∷ decimal seconds ∷ option_words (codes "without") pdus_text without
-    ++ option_words (codes "except") (λ router. router) except
+
+-- the words of a list behind a word, where the list has an item
+abbrev pub list_words : List ℕ → List (List ℕ) → List (List ℕ)
+list_words mark [] = []
+list_words mark (word ∷ words) = mark ∷ word ∷ words
+
+abbrev pub losses_words : List NamedLoss → List (List ℕ)
+losses_words [] = []
+losses_words (loss ∷ losses) = decimal loss.datagram ∷ loss.router ∷ losses_words losses
+
+-- the words of a line `run`
+abbrev pub run_words : NamedRun → List (List ℕ)
+run_words run =
+    codes "run" ∷ decimal run.seconds ∷ option_words (codes "without") pdus_text run.without
+    ++ (option_words (codes "except") (λ router. router) run.except
+    ++ (list_words (codes "cut") run.cut
+    ++ list_words (codes "losing") (losses_words run.losing)))
 
 abbrev pub flag_words : List ℕ → Bool → List (List ℕ)
 flag_words mark true = mark ∷ []
@@ -123,3 +155,4 @@ lab_words (Lan name metric members) = codes "lan" ∷ name ∷ decimal metric �
 lab_words (Key router scope key) =
     codes "key" ∷ router ∷ scope_text scope ∷ hex_text key ∷ []
 lab_words (Event deed) = deed_words deed
+lab_words (Run run) = run_words run

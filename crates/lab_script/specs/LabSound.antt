@@ -3,6 +3,7 @@ use Rattle.std.specs.Prelude.{◌≡◌, ◌≢◌, ℕ, ◌<◌, ◌≤◌, Lis
 use Rattle.std.specs.List.{AllByRecursion}
 use Rattle.isis_base.specs.declared.level.CircuitKind.{CircuitKind}
 use Rattle.isis_base.specs.declared.level.CircuitKind.TheVariants as kind
+use Rattle.model_network.specs.RunLines.{LeftOut}
 use Rattle.lab_script.specs.declared.setup.KeyScope.{KeyScope}
 use Rattle.lab_script.specs.declared.setup.KeyScope.TheVariants as scope
 use Rattle.lab_script.specs.declared.setup.LabKey.{LabKey}
@@ -51,6 +52,12 @@ pub record IsLabKey (routers : ℕ) (links : List LabLink) (key : LabKey) : Type
   pub some : 1 ≤ length key.key
   pub fits : length key.key ≤ 128
 
+-- what a line `run` leaves out is there
+pub record IsLeftOut (routers links : ℕ) (out : LeftOut) : Type 0 where
+  pub except : IfSome out.except (λ router. router < routers)
+  pub cut : AllByRecursion (λ link. link < links) out.cut
+  pub losing : AllByRecursion (λ lost. lost.router < routers) out.losing
+
 -- a deed's routers, links and circuits are there, its router is an end of its link, and its numbers are in their ranges
 abbrev pub IsDeed : ℕ → List LabLink → LabDeed → Type 0
 IsDeed routers links (deed.Tick router) = router < routers
@@ -65,8 +72,8 @@ IsDeed routers links (deed.Overload router on) = router < routers
 IsDeed routers links (deed.Inject router link octets) =
     IsEnd routers links router link × (1 ≤ length octets)
 IsDeed routers links (deed.Dump datagram) = Unit {0}
-IsDeed routers links (deed.Run seconds without except) =
-    (1 ≤ seconds) × (seconds ≤ 86400) × IfSome except (λ router. router < routers)
+IsDeed routers links (deed.Run seconds out) =
+    (1 ≤ seconds) × (seconds ≤ 86400) × IsLeftOut routers (length links) out
 
 pub record IsSoundLab (script : LabScript) : Type 0 where
   pub routers : length script.routers ≤ 1024

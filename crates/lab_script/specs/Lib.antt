@@ -1,6 +1,6 @@
 -- The definitions: counts, fault texts, fields, gives, index, keys judged, keys lines, keys scripts,
 -- keys sound, lab fields, lab judged, lab lines, lab link index, lab printed, lab scripts, lab sound,
--- links, link index, names, printed, reasons, router index, scripts.
+-- links, link index, names, printed, reasons, router index, run lists, scripts.
 pub mod Counts
 pub mod FaultTexts
 pub mod Fields
@@ -23,4 +23,5 @@ pub mod Names
 pub mod Printed
 pub mod Reasons
 pub mod RouterIndex
+pub mod RunLists
 pub mod Scripts

@@ -1,7 +1,7 @@
 //! What the event lines of a lab script say.
 use isis_base::Prefix;
 use line_cuts::Hex;
-use model_network::PduWord;
+use model_network::LeftOut;
 
 /// What an event line of a lab script says. Routers and links are named by their numbers from 0, a router's circuit by
 /// its place among them, and datagrams by their numbers from 1; 0 is no datagram's number.
@@ -52,12 +52,10 @@ pub enum LabDeed<'a> {
     Dump {
         datagram: usize,
     },
-    /// So many seconds pass in which all that is sent is delivered at once, but for this kind of PDUs, and to all but this
-    /// router.
+    /// So many seconds pass in which all that is sent is delivered at once, but for what is left out.
     Run {
         seconds: u32,
-        without: Option<PduWord>,
-        except: Option<usize>,
+        out: LeftOut,
     },
 }
 

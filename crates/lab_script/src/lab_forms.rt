@@ -5,6 +5,7 @@ ghost use Rattle.lab_script.specs.LabLines.{IsInRange};
 ghost use Rattle.line_cuts.specs.Forms.{by_first};
 ghost use Rattle.line_cuts.specs.Words.{words_of};
 
+use crate::cut_links::CutLinks;
 use crate::fields::{read_copy, read_name};
 use crate::lab_fields::{
     read_area_address, read_hex, read_key_octets, read_level_set, read_metric, read_pdus,
@@ -12,7 +13,8 @@ use crate::lab_fields::{
 };
 use crate::members::Members;
 use crate::name::Name;
-use crate::named::{NamedDeed, NamedLine};
+use crate::named::{NamedDeed, NamedLine, NamedRun};
+use crate::named_losses::NamedLosses;
 use crate::setup::LabRouter;
 use isis_base::{AreaAddress, SystemId};
 use line_cuts::{Words, read_on, read_prefix_word};
@@ -298,11 +300,14 @@ fn run<'a>(mut words: Words<'a>) -> Option<NamedLine<'a>>
     if words.mark(b"except") {
         except = Some(read_name(words.next()?)?);
     }
-    words.end()?;
-    let deed = NamedDeed::Run {
+    let cut = CutLinks::read(words.again())?;
+    let losing = NamedLosses::read(words)?;
+    let run = NamedRun {
         seconds,
         without,
         except,
+        cut,
+        losing,
     };
-    Some(NamedLine::Event { deed })
+    Some(NamedLine::Run { run })
 }

@@ -4,7 +4,7 @@ ghost use Rattle.std.specs.List.{AllByRecursion};
 ghost use Rattle.std.specs.Option.{MatchOption};
 ghost use Rattle.lab_script.specs.Gives.{Gives, Answers};
 ghost use Rattle.lab_script.specs.LabJudged as judged;
-ghost use Rattle.lab_script.specs.LabLines.{IsInRange, IsDeedInRange, IsKeyLength, HasMembers};
+ghost use Rattle.lab_script.specs.LabLines.{IsInRange, IsDeedInRange, IsRunInRange, IsKeyLength, HasMembers};
 ghost use Rattle.lab_script.specs.LabScripts.{nothing_laid, with_last, router_names, link_names, place_at, circuit_count};
 ghost use Rattle.lab_script.specs.LabSound.{IsSoundLab, IsDeed, IsKeyScope, IsEnd, IsCircuit, HasEnds};
 ghost use Rattle.lab_script.specs.Names.{number_of_name};
@@ -12,12 +12,14 @@ ghost use Rattle.line_cuts.specs.Words.{texts, words_of};
 ghost use Rattle.lab_script.specs.declared.named.NamedLine.TheVariants as line;
 
 use crate::circuit::Circuit;
+use crate::cut_links::CutLinks;
 use crate::deeds::{LabDeed, LabLine};
 use crate::lab_forms::read_lab_line;
 use crate::lab_links::{LabLinks, has_twice};
 use crate::members::Members;
 use crate::name::Name;
-use crate::named::{NamedDeed, NamedLine, NamedScope};
+use crate::named::{NamedDeed, NamedLine, NamedRun, NamedScope};
+use crate::named_losses::NamedLosses;
 use crate::reason::{Reason, ScriptFault, limited, refused};
 use crate::routers::Routers;
 use crate::script_list::ScriptList;
@@ -26,6 +28,7 @@ use isis_base::CircuitKind;
 use isis_base::numbers::CIRCUIT_LIMIT;
 use lab_keys::{LINK_LIMIT, LimitName, ROUTER_LIMIT};
 use line_cuts::Hex;
+use model_network::{LeftOut, Lost};
 use std::alloc::Global;
 use std::marker::Model;
 
@@ -167,6 +170,7 @@ impl<'a> LabScript<'a> {
             } => self.hear_lan(number, name, metric, members),
             NamedLine::Key { router, scope, key } => self.hear_key(number, router, scope, key),
             NamedLine::Event { deed } => self.hear_event(number, deed),
+            NamedLine::Run { run } => self.hear_run(number, run),
         }
     }
 
@@ -298,6 +302,18 @@ impl<'a> LabScript<'a> {
         Ok(())
     }
 
+    fn hear_run(&mut self, number: usize, run: NamedRun<'a>) -> Result<(), ScriptFault>
+        requires { IsRunInRange run.seconds }
+        ensures { Gives result self.new (judged.with_line self.old number (line.Run run.entry)) }
+    {
+        let deed = match self.run_deed(number, run) {
+            Ok(deed) => deed,
+            Err(fault) => return Err(fault),
+        };
+        self.lines.push(LabLine { line: number, deed })?;
+        Ok(())
+    }
+
     /// Whether an event line was read.
     fn has_begun(&self) -> bool
         ensures { result ≡ judged.has_begun self.now }
@@ -371,6 +387,69 @@ impl<'a> LabScript<'a> {
             }
         }
         Ok(routers)
+    }
+
+    /// The links of these names; the line of this number is refused where one of them isn't there.
+    fn links_at(&self, number: usize, names: CutLinks<'a>) -> Result<ScriptList<usize>, ScriptFault>
+        ensures value { Answers result
+            (judged.where_known number (judged.links_at self.now names.entry) Ok) }
+        ensures there { IfOk result
+            (λ links. AllByRecursion (λ link. link < length self.now.links) links) }
+    {
+        let mut left = names;
+        let mut links = ScriptList::new(*self.keys.allocator());
+        while let Some(name) = left.next() {
+            let link = match self.link_at(&name) {
+                Ok(link) => link,
+                Err(reason) => return refused(number, reason),
+            };
+            match links.push(link) {
+                Ok(()) => {}
+                Err(error) => return Err(ScriptFault::from(error)),
+            }
+        }
+        Ok(links)
+    }
+
+    /// The deliveries that these are; the line of this number is refused where a router of them isn't there.
+    fn losing_at(
+        &self,
+        number: usize,
+        losses: NamedLosses<'a>,
+    ) -> Result<ScriptList<Lost>, ScriptFault>
+        ensures value { Answers result
+            (judged.where_known number (judged.losing_at self.now losses.entry) Ok) }
+        ensures there { IfOk result
+            (λ losing. AllByRecursion (λ lost. lost.router < length self.now.routers) losing) }
+    {
+        let mut left = losses;
+        let mut losing = ScriptList::new(*self.keys.allocator());
+        while let Some(loss) = left.next() {
+            let router = match self.router_at(&loss.router) {
+                Ok(router) => router,
+                Err(reason) => return refused(number, reason),
+            };
+            let lost = Lost {
+                datagram: loss.datagram,
+                router,
+            };
+            match losing.push(lost) {
+                Ok(()) => {}
+                Err(error) => return Err(ScriptFault::from(error)),
+            }
+        }
+        Ok(losing)
+    }
+
+    /// The link of a name.
+    fn link_at(&self, name: &Name<'a>) -> Result<usize, Reason>
+        ensures value { result ≡ judged.link_at self.now name.now }
+        ensures there { IfOk result (λ link. link < length self.now.links) }
+    {
+        match self.links.find(name.letters()) {
+            Some(link) => Ok(link),
+            None => Err(Reason::Name),
+        }
     }
 
     /// The circuit of a router on a link, by their names.
@@ -531,18 +610,32 @@ impl<'a> LabScript<'a> {
                 octets,
             } => self.inject_deed(&router, &link, octets),
             NamedDeed::Dump { datagram } => Ok(LabDeed::Dump { datagram }),
-            NamedDeed::Run {
-                seconds,
-                without,
-                except,
-            } => {
-                let except = self.except(&except)?;
-                Ok(LabDeed::Run {
-                    seconds,
-                    without,
-                    except,
-                })
-            }
         }
+    }
+
+    /// What a line `run` says, with the numbers of what it names; the line of this number is refused where that isn't there.
+    fn run_deed(&self, number: usize, run: NamedRun<'a>) -> Result<LabDeed<'a>, ScriptFault>
+        requires { IsRunInRange run.seconds }
+        ensures value { Answers result
+            (judged.where_known number (judged.run_at self.now run.entry) Ok) }
+        ensures there { IfOk result (λ deed. IsDeed (length self.now.routers) self.now.links deed) }
+    {
+        let except = match self.except(&run.except) {
+            Ok(except) => except,
+            Err(reason) => return refused(number, reason),
+        };
+        let cut = match self.links_at(number, run.cut) {
+            Ok(cut) => cut,
+            Err(fault) => return Err(fault),
+        };
+        let losing = match self.losing_at(number, run.losing) {
+            Ok(losing) => losing,
+            Err(fault) => return Err(fault),
+        };
+        let out = LeftOut::new(run.without, except, cut.into_vec(), losing.into_vec());
+        Ok(LabDeed::Run {
+            seconds: run.seconds,
+            out,
+        })
     }
 }

@@ -10,6 +10,7 @@
 //!   scripts
 //! - `names.rt`, `links.rt`: names and links so far, and their look-ups; `events.rt`: what waits to be played
 //! - `script_list.rt`: a growing list that contracts see as the list; `members.rt`: the names that end a LAN's line
+//! - `cut_links.rt`, `named_losses.rt`, `named_loss.rt`: the lists that may end a line `run`
 //! - `routers.rt`, `lab_links.rt`, `circuit.rt`: a lab script's routers, links and circuits so far, and their look-ups
 //! - `setup.rt`, `deeds.rt`: what the lines of a lab script say
 //! - `reason.rt`: why a line is refused, and why a script can't be read
@@ -20,11 +21,13 @@
 //!
 //! - Links and LANs are one list, each with its kind and ends; the member count is tested before members;
 //!   `area` and `domain` never name a link.
+//! - The links that a line `run` cuts end at the word `losing`, so a link of this name isn't cut.
 //! - Of two `key` lines for one purpose the later counts; `deliver` and `dump` take a number past the machine's
 //!   words as 0.
 #![tactic(auto)]
 
 mod circuit;
+mod cut_links;
 mod deeds;
 mod events;
 mod fields;
@@ -40,6 +43,8 @@ mod links;
 mod members;
 mod name;
 mod named;
+mod named_loss;
+mod named_losses;
 mod names;
 mod reason;
 mod routers;

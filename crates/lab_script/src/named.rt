@@ -1,6 +1,8 @@
 //! A line of a lab script, whose routers and links are named.
+use crate::cut_links::CutLinks;
 use crate::members::Members;
 use crate::name::Name;
+use crate::named_losses::NamedLosses;
 use crate::setup::LabRouter;
 use isis_base::Prefix;
 use line_cuts::Hex;
@@ -14,7 +16,7 @@ pub(crate) enum NamedScope<'a> {
     Link { link: Name<'a> },
 }
 
-/// What an event line says.
+/// What an event line says, unless it is a line `run`.
 #[derive(Drop)]
 pub(crate) enum NamedDeed<'a> {
     Tick {
@@ -53,14 +55,19 @@ pub(crate) enum NamedDeed<'a> {
     Dump {
         datagram: usize,
     },
-    Run {
-        seconds: u32,
-        without: Option<PduWord>,
-        except: Option<Name<'a>>,
-    },
 }
 
-/// A line of a lab script: one of four kinds of setup lines, or an event.
+/// What a line `run` says.
+#[derive(Drop)]
+pub(crate) struct NamedRun<'a> {
+    pub seconds: u32,
+    pub without: Option<PduWord>,
+    pub except: Option<Name<'a>>,
+    pub cut: CutLinks<'a>,
+    pub losing: NamedLosses<'a>,
+}
+
+/// A line of a lab script: one of four kinds of setup lines, an event, or a line `run`.
 #[derive(Drop)]
 pub(crate) enum NamedLine<'a> {
     Router {
@@ -84,5 +91,8 @@ pub(crate) enum NamedLine<'a> {
     },
     Event {
         deed: NamedDeed<'a>,
+    },
+    Run {
+        run: NamedRun<'a>,
     },
 }

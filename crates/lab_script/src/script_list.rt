@@ -28,6 +28,13 @@ impl<T> ScriptList<T> {
         }
     }
 
+    /// The items, as a list of its own.
+    pub(crate) fn into_vec(self) -> Vec<T>
+        ensures { result.items ≡ self }
+    {
+        self.items
+    }
+
     /// The items, lent.
     pub fn as_slice(&self) -> &[T]
         ensures { result.now ≡ self.now }
