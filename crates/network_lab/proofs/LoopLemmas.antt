@@ -4,11 +4,11 @@ use Rattle.std.specs.Option.{option_map}
 use Rattle.std.proofs.lemmas.List.{length-map}
 use Rattle.model_router.specs.Places.{nth}
 use Rattle.router_core.specs.Givens.{given}
-use Rattle.model_network.specs.declared.word.PduWord.{PduWord}
 use Rattle.model_network.specs.declared.end.End.{End}
 use Rattle.model_network.specs.Networks.{Datagram, Network, numbered}
 use Rattle.model_network.specs.Runs.{PullOn, apply}
 use Rattle.model_network.specs.RunLines as line
+use Rattle.model_network.specs.RunLines.{LeftOut}
 use Rattle.network_lab.specs.declared.sent.SentDatagram.{SentDatagram}
 use Rattle.lab_keys.specs.declared.faults.LabFault.{LabFault}
 use Rattle.network_lab.specs.LabNets.{Seen, LabNet, StandsFor, sent_of}
@@ -43,23 +43,23 @@ left-grows left next part net e g = subst (λ (m : Network). Grows (part net) m)
 
 -- ---- seconds of each router
 
-pub tick-step : (except : Option ℕ) (k count : ℕ) → k < count → (net : Network) → line.tick_each given except k (count - k) net ≡ line.tick_each given except (k + 1) (count - (k + 1)) (tick_unless except k net)
-tick-step except k count h net = ap (λ (n : ℕ). line.tick_each given except k n net) (one-less k count h)
+pub tick-step : (out : LeftOut) (k count : ℕ) → k < count → (net : Network) → line.tick_each given out k (count - k) net ≡ line.tick_each given out (k + 1) (count - (k + 1)) (tick_unless out k net)
+tick-step out k count h net = ap (λ (n : ℕ). line.tick_each given out k n net) (one-less k count h)
 
-pub tick-end : (except : Option ℕ) (k count : ℕ) → count ≤ k → (net : Network) → line.tick_each given except k (count - k) net ≡ net
-tick-end except k count h net = ap (λ (n : ℕ). line.tick_each given except k n net) (none-left k count h)
+pub tick-end : (out : LeftOut) (k count : ℕ) → count ≤ k → (net : Network) → line.tick_each given out k (count - k) net ≡ net
+tick-end out k count h net = ap (λ (n : ℕ). line.tick_each given out k n net) (none-left k count h)
 
-pub pull-step : (without : Option PduWord) (except : Option ℕ) (k count : ℕ) → k < count → (net : Network) → line.pull_each given without except k (count - k) net ≡ line.pull_each given without except (k + 1) (count - (k + 1)) (pull_unless without except k net)
-pull-step without except k count h net = ap (λ (n : ℕ). line.pull_each given without except k n net) (one-less k count h)
+pub pull-step : (out : LeftOut) (k count : ℕ) → k < count → (net : Network) → line.pull_each given out k (count - k) net ≡ line.pull_each given out (k + 1) (count - (k + 1)) (pull_unless out k net)
+pull-step out k count h net = ap (λ (n : ℕ). line.pull_each given out k n net) (one-less k count h)
 
-pub pull-end : (without : Option PduWord) (except : Option ℕ) (k count : ℕ) → count ≤ k → (net : Network) → line.pull_each given without except k (count - k) net ≡ net
-pull-end without except k count h net = ap (λ (n : ℕ). line.pull_each given without except k n net) (none-left k count h)
+pub pull-end : (out : LeftOut) (k count : ℕ) → count ≤ k → (net : Network) → line.pull_each given out k (count - k) net ≡ net
+pull-end out k count h net = ap (λ (n : ℕ). line.pull_each given out k n net) (none-left k count h)
 
-pub second-step : (without : Option PduWord) (except : Option ℕ) (k count : ℕ) → k < count → (net : Network) → line.run_line given without except (count - k) net ≡ line.run_line given without except (count - (k + 1)) (line.run_second given without except net)
-second-step without except k count h net = ap (λ (n : ℕ). line.run_line given without except n net) (one-less k count h)
+pub second-step : (out : LeftOut) (k count : ℕ) → k < count → (net : Network) → line.run_leaving_out given out (count - k) net ≡ line.run_leaving_out given out (count - (k + 1)) (line.run_second given out net)
+second-step out k count h net = ap (λ (n : ℕ). line.run_leaving_out given out n net) (one-less k count h)
 
-pub second-end : (without : Option PduWord) (except : Option ℕ) (k count : ℕ) → count ≤ k → (net : Network) → line.run_line given without except (count - k) net ≡ net
-second-end without except k count h net = ap (λ (n : ℕ). line.run_line given without except n net) (none-left k count h)
+pub second-end : (out : LeftOut) (k count : ℕ) → count ≤ k → (net : Network) → line.run_leaving_out given out (count - k) net ≡ net
+second-end out k count h net = ap (λ (n : ℕ). line.run_leaving_out given out n net) (none-left k count h)
 
 -- ---- the links of a router's circuits
 
@@ -72,9 +72,9 @@ links-in : (net : Network) (router place count : ℕ) → line.links_from net ro
 links-in net router place zero = refl
 links-in net router place (suc count) = ap (line.with_some (line.link_of router place 0 net.links)) (links-in net router (place + 1) count)
 
-pub links-start : (without : Option PduWord) (except : Option ℕ) (old : LabNet) (router count : ℕ) → count ≡ line.circuit_count (nth old.seen.routers router) → (net : Network) → StandsFor net old
-    → line.pull_links given without except router (links_in old.seen.links router 0 (count - 0)) net ≡ pull_links_of without except router net
-links-start without except old router count e net s = ap (λ (ls : List ℕ). line.pull_links given without except router ls net) (sym (
+pub links-start : (out : LeftOut) (old : LabNet) (router count : ℕ) → count ≡ line.circuit_count (nth old.seen.routers router) → (net : Network) → StandsFor net old
+    → line.pull_links given out router (links_in old.seen.links router 0 (count - 0)) net ≡ pull_links_of out router net
+links-start out old router count e net s = ap (λ (ls : List ℕ). line.pull_links given out router ls net) (sym (
     links-in net router 0 (line.circuit_count (nth net.routers router))
     ∙ (ap (λ (ls : List (List End)). links_in ls router 0 (line.circuit_count (nth net.routers router))) (ap (λ (x : Seen). x.links) s.seen)
     ∙ ap (links_in old.seen.links router 0) (ap (λ (x : Seen). line.circuit_count (nth x.routers router)) s.seen ∙ (sym e ∙ whole count)))))
@@ -82,19 +82,19 @@ links-start without except old router count e net s = ap (λ (ls : List ℕ). li
     whole : (n : ℕ) → n ≡ n - 0
     whole n = omega arith
 
-some-links : (without : Option PduWord) (except : Option ℕ) (router : ℕ) (o : Option ℕ) (ls : List ℕ) (net : Network) → line.pull_links given without except router (line.with_some o ls) net ≡ line.pull_links given without except router ls (line.pull_links given without except router (line.with_some o []) net)
-some-links without except router None ls net = refl
-some-links without except router (Some link) ls net = refl
+some-links : (out : LeftOut) (router : ℕ) (o : Option ℕ) (ls : List ℕ) (net : Network) → line.pull_links given out router (line.with_some o ls) net ≡ line.pull_links given out router ls (line.pull_links given out router (line.with_some o []) net)
+some-links out router None ls net = refl
+some-links out router (Some link) ls net = refl
 
-pub links-step : (without : Option PduWord) (except : Option ℕ) (links : List (List End)) (router k count : ℕ) → k < count → (net : Network)
-    → line.pull_links given without except router (links_in links router k (count - k)) net
-    ≡ line.pull_links given without except router (links_in links router (k + 1) (count - (k + 1))) (line.pull_links given without except router (line.with_some (line.link_of router k 0 links) []) net)
-links-step without except links router k count h net =
-    ap (λ (n : ℕ). line.pull_links given without except router (links_in links router k n) net) (one-less k count h)
-    ∙ some-links without except router (line.link_of router k 0 links) (links_in links router (k + 1) (count - (k + 1))) net
+pub links-step : (out : LeftOut) (links : List (List End)) (router k count : ℕ) → k < count → (net : Network)
+    → line.pull_links given out router (links_in links router k (count - k)) net
+    ≡ line.pull_links given out router (links_in links router (k + 1) (count - (k + 1))) (line.pull_links given out router (line.with_some (line.link_of router k 0 links) []) net)
+links-step out links router k count h net =
+    ap (λ (n : ℕ). line.pull_links given out router (links_in links router k n) net) (one-less k count h)
+    ∙ some-links out router (line.link_of router k 0 links) (links_in links router (k + 1) (count - (k + 1))) net
 
-pub links-end : (without : Option PduWord) (except : Option ℕ) (links : List (List End)) (router k count : ℕ) → count ≤ k → (net : Network) → line.pull_links given without except router (links_in links router k (count - k)) net ≡ net
-links-end without except links router k count h net = ap (λ (n : ℕ). line.pull_links given without except router (links_in links router k n) net) (none-left k count h)
+pub links-end : (out : LeftOut) (links : List (List End)) (router k count : ℕ) → count ≤ k → (net : Network) → line.pull_links given out router (links_in links router k (count - k)) net ≡ net
+links-end out links router k count h net = ap (λ (n : ℕ). line.pull_links given out router (links_in links router k n) net) (none-left k count h)
 
 -- ---- the ends of a link
 
@@ -109,15 +109,15 @@ drop-all [] (suc k) h = refl
 drop-all (x ∷ xs) zero h = absurd (omega (arith, h))
 drop-all (x ∷ xs) (suc k) h = drop-all xs k (omega (arith, h))
 
-pub each-step : (except : Option ℕ) (number sender : ℕ) (ends : List End) (k router : ℕ) → k < length ends → IfSome (nth ends k) (λ (e : End). router ≡ e.router) → (net : Network)
-    → line.deliver_each given except number sender (drop k ends) net ≡ line.deliver_each given except number sender (drop (k + 1) ends) (deliver_unless except number sender router net)
-each-step except number sender ends k router h i net =
+pub each-step : (out : LeftOut) (number sender : ℕ) (ends : List End) (k router : ℕ) → k < length ends → IfSome (nth ends k) (λ (e : End). router ≡ e.router) → (net : Network)
+    → line.deliver_each given out number sender (drop k ends) net ≡ line.deliver_each given out number sender (drop (k + 1) ends) (deliver_unless out number sender router net)
+each-step out number sender ends k router h i net =
     let t = nth-there ends k h in
-    ap (λ (es : List End). line.deliver_each given except number sender es net) (drop-nth ends k t.0 t.1)
-    ∙ ap (λ (n : ℕ). line.deliver_each given except number sender (drop (k + 1) ends) (deliver_unless except number sender n net)) (sym (subst (λ (o : Option End). IfSome o (λ (e : End). router ≡ e.router)) t.1 i))
+    ap (λ (es : List End). line.deliver_each given out number sender es net) (drop-nth ends k t.0 t.1)
+    ∙ ap (λ (n : ℕ). line.deliver_each given out number sender (drop (k + 1) ends) (deliver_unless out number sender n net)) (sym (subst (λ (o : Option End). IfSome o (λ (e : End). router ≡ e.router)) t.1 i))
 
-pub each-end : (except : Option ℕ) (number sender : ℕ) (ends : List End) (k : ℕ) → length ends ≤ k → (net : Network) → line.deliver_each given except number sender (drop k ends) net ≡ net
-each-end except number sender ends k h net = ap (λ (es : List End). line.deliver_each given except number sender es net) (drop-all ends k h)
+pub each-end : (out : LeftOut) (number sender : ℕ) (ends : List End) (k : ℕ) → length ends ≤ k → (net : Network) → line.deliver_each given out number sender (drop k ends) net ≡ net
+each-end out number sender ends k h net = ap (λ (es : List End). line.deliver_each given out number sender es net) (drop-all ends k h)
 
 -- ---- the datagrams behind
 
@@ -126,15 +126,15 @@ nth-none [] k h = refl
 nth-none (x ∷ xs) zero h = absurd (omega (arith, h))
 nth-none (x ∷ xs) (suc k) h = nth-none xs k (omega (arith, h))
 
-pub behind-end : (without : Option PduWord) (except : Option ℕ) (most count : ℕ) (net : Network) → length net.datagrams ≤ count → line.deliver_behind given without except most count net ≡ net
-behind-end without except zero count net h = refl
-behind-end without except (suc most) count net h = ap (λ (o : Option Datagram). line.where_found o net (λ d. line.deliver_behind given without except most (count + 1) (line.deliver_one given without except (count + 1) d net))) (nth-none net.datagrams count h)
+pub behind-end : (out : LeftOut) (most count : ℕ) (net : Network) → length net.datagrams ≤ count → line.deliver_behind given out most count net ≡ net
+behind-end out zero count net h = refl
+behind-end out (suc most) count net h = ap (λ (o : Option Datagram). line.where_found o net (λ d. line.deliver_behind given out most (count + 1) (line.deliver_one given out (count + 1) d net))) (nth-none net.datagrams count h)
 
-found-more : (without : Option PduWord) (except : Option ℕ) (most count : ℕ) (o : Option Datagram) (net : Network) → (d : Datagram) → o ≡ Some d
-    → line.where_found o net (λ d. line.deliver_behind given without except most (count + 1) (line.deliver_one given without except (count + 1) d net))
-    ≡ line.deliver_behind given without except most (count + 1) (line.where_found o net (λ d. line.deliver_one given without except (count + 1) d net))
-found-more without except most count None net d e = absurd (cc)
-found-more without except most count (Some x) net d e = refl
+found-more : (out : LeftOut) (most count : ℕ) (o : Option Datagram) (net : Network) → (d : Datagram) → o ≡ Some d
+    → line.where_found o net (λ d. line.deliver_behind given out most (count + 1) (line.deliver_one given out (count + 1) d net))
+    ≡ line.deliver_behind given out most (count + 1) (line.where_found o net (λ d. line.deliver_one given out (count + 1) d net))
+found-more out most count None net d e = absurd (cc)
+found-more out most count (Some x) net d e = refl
 
 numbered-next : {A : Type 0} (xs : List A) (k : ℕ) → numbered xs (k + 1) ≡ nth xs k
 numbered-next xs k = ap (numbered xs) (next k)
@@ -142,13 +142,13 @@ numbered-next xs k = ap (numbered xs) (next k)
     next : (k : ℕ) → k + 1 ≡ suc k
     next k = omega arith
 
-pub behind-step : (without : Option PduWord) (except : Option ℕ) (most less count : ℕ) → most ≡ suc less → (net : Network) → count < length net.datagrams
-    → line.deliver_behind given without except most count net ≡ line.deliver_behind given without except less (count + 1) (deliver_numbered without except (count + 1) net)
-behind-step without except most less count e net h =
+pub behind-step : (out : LeftOut) (most less count : ℕ) → most ≡ suc less → (net : Network) → count < length net.datagrams
+    → line.deliver_behind given out most count net ≡ line.deliver_behind given out less (count + 1) (deliver_numbered out (count + 1) net)
+behind-step out most less count e net h =
     let t = nth-there net.datagrams count h in
-    ap (λ (n : ℕ). line.deliver_behind given without except n count net) e
-    ∙ (found-more without except less count (nth net.datagrams count) net t.0 t.1
-    ∙ ap (λ (o : Option Datagram). line.deliver_behind given without except less (count + 1) (line.where_found o net (λ d. line.deliver_one given without except (count + 1) d net))) (sym (numbered-next net.datagrams count)))
+    ap (λ (n : ℕ). line.deliver_behind given out n count net) e
+    ∙ (found-more out less count (nth net.datagrams count) net t.0 t.1
+    ∙ ap (λ (o : Option Datagram). line.deliver_behind given out less (count + 1) (line.where_found o net (λ d. line.deliver_one given out (count + 1) d net))) (sym (numbered-next net.datagrams count)))
 
 pub sent-count : (net : Network) (old : LabNet) → StandsFor net old → length net.datagrams ≡ length old.seen.sent
 sent-count net old s = sym (length-map net.datagrams sent_of) ∙ ap (λ (x : Seen). length x.sent) s.seen
@@ -167,50 +167,50 @@ said net old s number x e = of (numbered net.datagrams number) refl (numbered-se
     of None q h = absurd (cc)
     of (Some d) q h = record { d = d; there = q; same = some-same (sent_of d) x h }
 
-pub one-out : (without : Option PduWord) (except : Option ℕ) (old : LabNet) (number : ℕ) (x : SentDatagram) → numbered old.seen.sent number ≡ Some x → line.is_left_out without x.octets ≡ true → (net : Network) → StandsFor net old → deliver_numbered without except number net ≡ net
-one-out without except old number x e out net s =
+pub one-out : (out : LeftOut) (old : LabNet) (number : ℕ) (x : SentDatagram) → numbered old.seen.sent number ≡ Some x → line.leaves_out out x.octets x.link ≡ true → (net : Network) → StandsFor net old → deliver_numbered out number net ≡ net
+one-out out old number x e skipped net s =
     let d = said net old s number x e in
-    ap (λ (o : Option Datagram). line.where_found o net (λ d. line.deliver_one given without except number d net)) d.there
-    ∙ ap (λ (b : Bool). if b then net else line.deliver_each given except number d.d.sender (line.by_router (line.ends_of (nth net.links d.d.link))) net)
-    (ap (λ (y : SentDatagram). line.is_left_out without y.octets) d.same ∙ out)
+    ap (λ (o : Option Datagram). line.where_found o net (λ d. line.deliver_one given out number d net)) d.there
+    ∙ ap (λ (b : Bool). if b then net else line.deliver_each given out number d.d.sender (line.by_router (line.ends_of (nth net.links d.d.link))) net)
+    (ap (λ (y : SentDatagram). line.leaves_out out y.octets y.link) d.same ∙ skipped)
 
-pub one-in : (without : Option PduWord) (except : Option ℕ) (old : LabNet) (number : ℕ) (x : SentDatagram) → numbered old.seen.sent number ≡ Some x → line.is_left_out without x.octets ≡ false → (net : Network) → StandsFor net old
-    → line.deliver_each given except number x.sender (line.by_router (line.ends_of (nth old.seen.links x.link))) net ≡ deliver_numbered without except number net
-one-in without except old number x e out net s =
+pub one-in : (out : LeftOut) (old : LabNet) (number : ℕ) (x : SentDatagram) → numbered old.seen.sent number ≡ Some x → line.leaves_out out x.octets x.link ≡ false → (net : Network) → StandsFor net old
+    → line.deliver_each given out number x.sender (line.by_router (line.ends_of (nth old.seen.links x.link))) net ≡ deliver_numbered out number net
+one-in out old number x e skipped net s =
     let d = said net old s number x e in
-    sym (ap (λ (o : Option Datagram). line.where_found o net (λ d. line.deliver_one given without except number d net)) d.there
-    ∙ (ap (λ (b : Bool). if b then net else line.deliver_each given except number d.d.sender (line.by_router (line.ends_of (nth net.links d.d.link))) net)
-    (ap (λ (y : SentDatagram). line.is_left_out without y.octets) d.same ∙ out)
-    ∙ (ap (λ (y : SentDatagram). line.deliver_each given except number y.sender (line.by_router (line.ends_of (nth net.links y.link))) net) d.same
-    ∙ ap (λ (a : Seen). line.deliver_each given except number x.sender (line.by_router (line.ends_of (nth a.links x.link))) net) s.seen)))
+    sym (ap (λ (o : Option Datagram). line.where_found o net (λ d. line.deliver_one given out number d net)) d.there
+    ∙ (ap (λ (b : Bool). if b then net else line.deliver_each given out number d.d.sender (line.by_router (line.ends_of (nth net.links d.d.link))) net)
+    (ap (λ (y : SentDatagram). line.leaves_out out y.octets y.link) d.same ∙ skipped)
+    ∙ (ap (λ (y : SentDatagram). line.deliver_each given out number y.sender (line.by_router (line.ends_of (nth net.links y.link))) net) d.same
+    ∙ ap (λ (a : Seen). line.deliver_each given out number x.sender (line.by_router (line.ends_of (nth a.links x.link))) net) s.seen)))
 
 -- ---- a second
 
-pub second-ends : (without : Option PduWord) (except : Option ℕ) (old mid new : LabNet) (r : Result (Unit {0}) LabFault) → RunEnding (line.tick_each given except 0 (length old.seen.routers)) old mid (Ok tt) → RunEnding (line.pull_each given without except 0 (length mid.seen.routers)) mid new r
-    → RunEnding (line.run_second given without except) old new r
-second-ends without except old mid new r h k = renames _ _ old new r
-    (follows (line.tick_each given except 0 (length old.seen.routers)) (line.pull_each given without except 0 (length mid.seen.routers)) old mid new r h k)
+pub second-ends : (out : LeftOut) (old mid new : LabNet) (r : Result (Unit {0}) LabFault) → RunEnding (line.tick_each given out 0 (length old.seen.routers)) old mid (Ok tt) → RunEnding (line.pull_each given out 0 (length mid.seen.routers)) mid new r
+    → RunEnding (line.run_second given out) old new r
+second-ends out old mid new r h k = renames _ _ old new r
+    (follows (line.tick_each given out 0 (length old.seen.routers)) (line.pull_each given out 0 (length mid.seen.routers)) old mid new r h k)
     (λ net s.
-    ap (λ (n : ℕ). line.pull_each given without except 0 n (line.tick_each given except 0 (length old.seen.routers) net)) (h.size.routers ∙ sym (ap (λ (x : Seen). length x.routers) s.seen))
-    ∙ ap (λ (n : ℕ). line.pull_each given without except 0 (length net.routers) (line.tick_each given except 0 n net)) (sym (ap (λ (x : Seen). length x.routers) s.seen)))
+    ap (λ (n : ℕ). line.pull_each given out 0 n (line.tick_each given out 0 (length old.seen.routers) net)) (h.size.routers ∙ sym (ap (λ (x : Seen). length x.routers) s.seen))
+    ∙ ap (λ (n : ℕ). line.pull_each given out 0 (length net.routers) (line.tick_each given out 0 n net)) (sym (ap (λ (x : Seen). length x.routers) s.seen)))
 
-pub second-breaks : (without : Option PduWord) (except : Option ℕ) (old new : LabNet) (f : LabFault) → RunEnding (line.tick_each given except 0 (length old.seen.routers)) old new (Err f) → RunEnding (line.run_second given without except) old new (Err f)
-second-breaks without except old new f h = renames _ _ old new (Err f)
-    (breaks (line.tick_each given except 0 (length old.seen.routers)) (line.pull_each given without except 0 (length old.seen.routers)) old new f h (all-pulls-grow given without except 0 (length old.seen.routers)))
-    (λ net s. ap (λ (n : ℕ). line.pull_each given without except 0 n (line.tick_each given except 0 n net)) (sym (ap (λ (x : Seen). length x.routers) s.seen)))
+pub second-breaks : (out : LeftOut) (old new : LabNet) (f : LabFault) → RunEnding (line.tick_each given out 0 (length old.seen.routers)) old new (Err f) → RunEnding (line.run_second given out) old new (Err f)
+second-breaks out old new f h = renames _ _ old new (Err f)
+    (breaks (line.tick_each given out 0 (length old.seen.routers)) (line.pull_each given out 0 (length old.seen.routers)) old new f h (all-pulls-grow given out 0 (length old.seen.routers)))
+    (λ net s. ap (λ (n : ℕ). line.pull_each given out 0 n (line.tick_each given out 0 n net)) (sym (ap (λ (x : Seen). length x.routers) s.seen)))
 
 -- ---- a pull
 
-pub pull-one-ends : (without : Option PduWord) (except : Option ℕ) (router link : ℕ) (old mid new : LabNet) (count : ℕ) (r : Result (Unit {0}) LabFault) → count ≡ length old.seen.sent → RunEnding (λ net. apply given net (PullOn router link)) old mid (Ok tt) → RunEnding (line.deliver_behind given without except line.datagram_limit count) mid new r
-    → RunEnding (line.pull_one given without except router link) old new r
-pull-one-ends without except router link old mid new count r e h k = renames _ _ old new r
-    (follows (λ net. apply given net (PullOn router link)) (line.deliver_behind given without except line.datagram_limit count) old mid new r h k)
-    (λ net s. ap (λ (n : ℕ). line.deliver_behind given without except line.datagram_limit n (apply given net (PullOn router link))) (e ∙ sym (sent-count net old s)))
+pub pull-one-ends : (out : LeftOut) (router link : ℕ) (old mid new : LabNet) (count : ℕ) (r : Result (Unit {0}) LabFault) → count ≡ length old.seen.sent → RunEnding (λ net. apply given net (PullOn router link)) old mid (Ok tt) → RunEnding (line.deliver_behind given out line.datagram_limit count) mid new r
+    → RunEnding (line.pull_one given out router link) old new r
+pull-one-ends out router link old mid new count r e h k = renames _ _ old new r
+    (follows (λ net. apply given net (PullOn router link)) (line.deliver_behind given out line.datagram_limit count) old mid new r h k)
+    (λ net s. ap (λ (n : ℕ). line.deliver_behind given out line.datagram_limit n (apply given net (PullOn router link))) (e ∙ sym (sent-count net old s)))
 
-pub pull-one-breaks : (without : Option PduWord) (except : Option ℕ) (router link : ℕ) (old new : LabNet) (f : LabFault) → RunEnding (λ net. apply given net (PullOn router link)) old new (Err f) → RunEnding (line.pull_one given without except router link) old new (Err f)
-pull-one-breaks without except router link old new f h = renames _ _ old new (Err f)
-    (breaks (λ net. apply given net (PullOn router link)) (line.deliver_behind given without except line.datagram_limit (length old.seen.sent)) old new f h (behind-grows given without except line.datagram_limit (length old.seen.sent)))
-    (λ net s. ap (λ (n : ℕ). line.deliver_behind given without except line.datagram_limit n (apply given net (PullOn router link))) (sym (sent-count net old s)))
+pub pull-one-breaks : (out : LeftOut) (router link : ℕ) (old new : LabNet) (f : LabFault) → RunEnding (λ net. apply given net (PullOn router link)) old new (Err f) → RunEnding (line.pull_one given out router link) old new (Err f)
+pull-one-breaks out router link old new f h = renames _ _ old new (Err f)
+    (breaks (λ net. apply given net (PullOn router link)) (line.deliver_behind given out line.datagram_limit (length old.seen.sent)) old new f h (behind-grows given out line.datagram_limit (length old.seen.sent)))
+    (λ net s. ap (λ (n : ℕ). line.deliver_behind given out line.datagram_limit n (apply given net (PullOn router link))) (sym (sent-count net old s)))
 
 -- ---- a part with a test before it
 
@@ -220,11 +220,11 @@ skips-one b f old running e = idles (λ net. if b then net else f net) old runni
 pub takes-one : (b : Bool) (f : Network → Network) (old new : LabNet) (r : Result (Unit {0}) LabFault) → b ≡ false → RunEnding f old new r → RunEnding (λ net. if b then net else f net) old new r
 takes-one b f old new r e h = renames f (λ net. if b then net else f net) old new r h (λ net s. sym (ap (λ (t : Bool). if t then net else f net) e))
 
-pub place-none : (without : Option PduWord) (except : Option ℕ) (router : ℕ) (o : Option ℕ) (old : LabNet) → old.stopped ≡ None → o ≡ None → RunEnding (line.pull_links given without except router (line.with_some o [])) old old (Ok tt)
-place-none without except router o old running e = idles (line.pull_links given without except router (line.with_some o [])) old running (λ net s. ap (λ (o : Option ℕ). line.pull_links given without except router (line.with_some o []) net) e)
+pub place-none : (out : LeftOut) (router : ℕ) (o : Option ℕ) (old : LabNet) → old.stopped ≡ None → o ≡ None → RunEnding (line.pull_links given out router (line.with_some o [])) old old (Ok tt)
+place-none out router o old running e = idles (line.pull_links given out router (line.with_some o [])) old running (λ net s. ap (λ (o : Option ℕ). line.pull_links given out router (line.with_some o []) net) e)
 
-pub place-some : (without : Option PduWord) (except : Option ℕ) (router link : ℕ) (o : Option ℕ) (old new : LabNet) (r : Result (Unit {0}) LabFault) → o ≡ Some link → RunEnding (line.pull_one given without except router link) old new r → RunEnding (line.pull_links given without except router (line.with_some o [])) old new r
-place-some without except router link o old new r e h = renames (line.pull_one given without except router link) (line.pull_links given without except router (line.with_some o [])) old new r h (λ net s. sym (ap (λ (o : Option ℕ). line.pull_links given without except router (line.with_some o []) net) e))
+pub place-some : (out : LeftOut) (router link : ℕ) (o : Option ℕ) (old new : LabNet) (r : Result (Unit {0}) LabFault) → o ≡ Some link → RunEnding (line.pull_one given out router link) old new r → RunEnding (line.pull_links given out router (line.with_some o [])) old new r
+place-some out router link o old new r e h = renames (line.pull_one given out router link) (line.pull_links given out router (line.with_some o [])) old new r h (λ net s. sym (ap (λ (o : Option ℕ). line.pull_links given out router (line.with_some o []) net) e))
 
 pub numbered-get : (xs : List SentDatagram) (n : ℕ) (x : SentDatagram) → (1 ≤ n) × (n ≤ length xs) → x ≡ get_or xs (n - 1) x → numbered xs n ≡ Some x
 numbered-get xs zero x h e = absurd (let a = h.0 in omega (arith, a))

@@ -7,11 +7,11 @@ use Rattle.model_router.specs.Books.{risen}
 use Rattle.model_router.specs.Routers.{Router}
 use Rattle.model_router.specs.Events.{Event, Second, Pull, Metric, Overload, Prefix}
 use Rattle.router_core.specs.Givens.{given}
-use Rattle.model_network.specs.declared.word.PduWord.{PduWord}
 use Rattle.model_network.specs.declared.end.End.{End}
 use Rattle.model_network.specs.Networks.{Datagram, octets_of, Network, place_at, numbered}
 use Rattle.model_network.specs.Runs.{Happening, Tick, PullOn, Deliver, Restart, SetMetric, SetOverload, SetPrefix, Inject, Arrival, NotSent, NotOn, Arrives, moved_if, arrival, arrive, arrive_at, deliver_at, pull_at, restart_at, inject_at, apply}
 use Rattle.model_network.specs.RunLines as line
+use Rattle.model_network.specs.RunLines.{LeftOut}
 use Rattle.network_lab.specs.declared.event.LabEvent.{LabEvent}
 use Rattle.network_lab.specs.declared.event.LabEvent.TheVariants as event
 use Rattle.lab_keys.specs.declared.faults.LabFault.{LabFault}
@@ -89,45 +89,45 @@ unless-grows : (b : Bool) (net more : Network) → Grows net more → Grows net 
 unless-grows true net more h = stays net
 unless-grows false net more h = h
 
-pub each-grows : (g : Given) (except : Option ℕ) (number sender : ℕ) (ends : List End) (net : Network) → Grows net (line.deliver_each g except number sender ends net)
-each-grows g except number sender [] net = stays net
-each-grows g except number sender (e ∷ ends) net = grows-on _ _ _ (unless-grows (e.router == sender || line.is_excepted except e.router) net (apply g net (Deliver number e.router)) (apply-grows g net (Deliver number e.router)))
-    (each-grows g except number sender ends (if e.router == sender || line.is_excepted except e.router then net else apply g net (Deliver number e.router)))
+pub each-grows : (g : Given) (out : LeftOut) (number sender : ℕ) (ends : List End) (net : Network) → Grows net (line.deliver_each g out number sender ends net)
+each-grows g out number sender [] net = stays net
+each-grows g out number sender (e ∷ ends) net = grows-on _ _ _ (unless-grows (e.router == sender || line.misses out number e.router) net (apply g net (Deliver number e.router)) (apply-grows g net (Deliver number e.router)))
+    (each-grows g out number sender ends (if e.router == sender || line.misses out number e.router then net else apply g net (Deliver number e.router)))
 
-pub one-grows : (g : Given) (without : Option PduWord) (except : Option ℕ) (number : ℕ) (d : Datagram) (net : Network) → Grows net (line.deliver_one g without except number d net)
-one-grows g without except number d net = unless-grows (line.is_left_out without (octets_of d)) net _ (each-grows g except number d.sender (line.by_router (line.ends_of (nth net.links d.link))) net)
+pub one-grows : (g : Given) (out : LeftOut) (number : ℕ) (d : Datagram) (net : Network) → Grows net (line.deliver_one g out number d net)
+one-grows g out number d net = unless-grows (line.leaves_out out (octets_of d) d.link) net _ (each-grows g out number d.sender (line.by_router (line.ends_of (nth net.links d.link))) net)
 
-pub behind-grows : (g : Given) (without : Option PduWord) (except : Option ℕ) (most count : ℕ) (net : Network) → Grows net (line.deliver_behind g without except most count net)
-behind-grows g without except zero count net = stays net
-behind-grows g without except (suc most) count net = found (nth net.datagrams count) (λ d. behind-grows g without except most (count + 1) (line.deliver_one g without except (count + 1) d net))
+pub behind-grows : (g : Given) (out : LeftOut) (most count : ℕ) (net : Network) → Grows net (line.deliver_behind g out most count net)
+behind-grows g out zero count net = stays net
+behind-grows g out (suc most) count net = found (nth net.datagrams count) (λ d. behind-grows g out most (count + 1) (line.deliver_one g out (count + 1) d net))
   where
-    found : (o : Option Datagram) → ((d : Datagram) → Grows (line.deliver_one g without except (count + 1) d net) (line.deliver_behind g without except most (count + 1) (line.deliver_one g without except (count + 1) d net))) → Grows net (line.where_found o net (λ d. line.deliver_behind g without except most (count + 1) (line.deliver_one g without except (count + 1) d net)))
+    found : (o : Option Datagram) → ((d : Datagram) → Grows (line.deliver_one g out (count + 1) d net) (line.deliver_behind g out most (count + 1) (line.deliver_one g out (count + 1) d net))) → Grows net (line.where_found o net (λ d. line.deliver_behind g out most (count + 1) (line.deliver_one g out (count + 1) d net)))
     found None r = stays net
-    found (Some d) r = grows-on _ _ _ (one-grows g without except (count + 1) d net) (r d)
+    found (Some d) r = grows-on _ _ _ (one-grows g out (count + 1) d net) (r d)
 
-pub ticks-grow : (g : Given) (except : Option ℕ) (router count : ℕ) (net : Network) → Grows net (line.tick_each g except router count net)
-ticks-grow g except router zero net = stays net
-ticks-grow g except router (suc count) net = grows-on _ _ _ (unless-grows (line.is_excepted except router) net (apply g net (Tick router)) (apply-grows g net (Tick router)))
-    (ticks-grow g except (router + 1) count (if line.is_excepted except router then net else apply g net (Tick router)))
+pub ticks-grow : (g : Given) (out : LeftOut) (router count : ℕ) (net : Network) → Grows net (line.tick_each g out router count net)
+ticks-grow g out router zero net = stays net
+ticks-grow g out router (suc count) net = grows-on _ _ _ (unless-grows (line.is_excepted out.except router) net (apply g net (Tick router)) (apply-grows g net (Tick router)))
+    (ticks-grow g out (router + 1) count (if line.is_excepted out.except router then net else apply g net (Tick router)))
 
-pub pull-one-grows : (g : Given) (without : Option PduWord) (except : Option ℕ) (most router link : ℕ) (net : Network) → Grows net (line.deliver_behind g without except most (length net.datagrams) (apply g net (PullOn router link)))
-pull-one-grows g without except most router link net = grows-on _ _ _ (apply-grows g net (PullOn router link)) (behind-grows g without except most (length net.datagrams) (apply g net (PullOn router link)))
+pub pull-one-grows : (g : Given) (out : LeftOut) (most router link : ℕ) (net : Network) → Grows net (line.deliver_behind g out most (length net.datagrams) (apply g net (PullOn router link)))
+pull-one-grows g out most router link net = grows-on _ _ _ (apply-grows g net (PullOn router link)) (behind-grows g out most (length net.datagrams) (apply g net (PullOn router link)))
 
-pub pulls-grow : (g : Given) (without : Option PduWord) (except : Option ℕ) (router : ℕ) (links : List ℕ) (net : Network) → Grows net (line.pull_links g without except router links net)
-pulls-grow g without except router [] net = stays net
-pulls-grow g without except router (link ∷ links) net = grows-on _ _ _ (pull-one-grows g without except line.datagram_limit router link net) (pulls-grow g without except router links (line.pull_one g without except router link net))
+pub pulls-grow : (g : Given) (out : LeftOut) (router : ℕ) (links : List ℕ) (net : Network) → Grows net (line.pull_links g out router links net)
+pulls-grow g out router [] net = stays net
+pulls-grow g out router (link ∷ links) net = grows-on _ _ _ (pull-one-grows g out line.datagram_limit router link net) (pulls-grow g out router links (line.pull_one g out router link net))
 
-pub all-pulls-grow : (g : Given) (without : Option PduWord) (except : Option ℕ) (router count : ℕ) (net : Network) → Grows net (line.pull_each g without except router count net)
-all-pulls-grow g without except router zero net = stays net
-all-pulls-grow g without except router (suc count) net = grows-on _ _ _ (unless-grows (line.is_excepted except router) net (line.pull_links g without except router (line.links_at net router) net) (pulls-grow g without except router (line.links_at net router) net))
-    (all-pulls-grow g without except (router + 1) count (if line.is_excepted except router then net else line.pull_links g without except router (line.links_at net router) net))
+pub all-pulls-grow : (g : Given) (out : LeftOut) (router count : ℕ) (net : Network) → Grows net (line.pull_each g out router count net)
+all-pulls-grow g out router zero net = stays net
+all-pulls-grow g out router (suc count) net = grows-on _ _ _ (unless-grows (line.is_excepted out.except router) net (line.pull_links g out router (line.links_at net router) net) (pulls-grow g out router (line.links_at net router) net))
+    (all-pulls-grow g out (router + 1) count (if line.is_excepted out.except router then net else line.pull_links g out router (line.links_at net router) net))
 
-pub second-grows : (g : Given) (without : Option PduWord) (except : Option ℕ) (net : Network) → Grows net (line.run_second g without except net)
-second-grows g without except net = grows-on _ _ _ (ticks-grow g except 0 (length net.routers) net) (all-pulls-grow g without except 0 (length net.routers) (line.tick_each g except 0 (length net.routers) net))
+pub second-grows : (g : Given) (out : LeftOut) (net : Network) → Grows net (line.run_second g out net)
+second-grows g out net = grows-on _ _ _ (ticks-grow g out 0 (length net.routers) net) (all-pulls-grow g out 0 (length net.routers) (line.tick_each g out 0 (length net.routers) net))
 
-pub line-grows : (g : Given) (without : Option PduWord) (except : Option ℕ) (seconds : ℕ) (net : Network) → Grows net (line.run_line g without except seconds net)
-line-grows g without except zero net = stays net
-line-grows g without except (suc seconds) net = grows-on _ _ _ (second-grows g without except net) (line-grows g without except seconds (line.run_second g without except net))
+pub line-grows : (g : Given) (out : LeftOut) (seconds : ℕ) (net : Network) → Grows net (line.run_leaving_out g out seconds net)
+line-grows g out zero net = stays net
+line-grows g out (suc seconds) net = grows-on _ _ _ (second-grows g out net) (line-grows g out seconds (line.run_second g out net))
 
 -- ---- parts of a run
 

@@ -4,7 +4,7 @@ use Rattle.model_router.specs.Places.{nth}
 use Rattle.router_core.specs.Givens.{given}
 use Rattle.model_network.specs.declared.word.PduWord.{PduWord}
 use Rattle.model_network.specs.Networks.{Network}
-use Rattle.model_network.specs.RunLines.{run_line}
+use Rattle.model_network.specs.RunLines.{LeftOut, but_for, run_leaving_out}
 use Rattle.lab_keys.specs.declared.faults.LabFault.{LabFault}
 use Rattle.lab_keys.specs.declared.faults.LabFault.TheVariants as fault
 use Rattle.lab_keys.specs.declared.faults.LimitName.TheVariants as limit
@@ -51,10 +51,16 @@ IsPast sent kept = (262144 < length sent) × (kept ≡ take 262144 sent)
 
 -- why a line `run` isn't carried out: the run was stopped before; it sends more than 262,144
 -- datagrams in all, of which the first are kept; or memory was wanting
+abbrev pub OutCause : Network → Option LabFault → LeftOut → ℕ → List SentDatagram → LabFault
+    → Type 0
+OutCause net (Some stop) out seconds kept fault = fault ≡ stop
+OutCause net None out seconds kept fault.OutOfMemory = Unit {0}
+OutCause net None out seconds kept (fault.Limit limit.Datagrams) =
+    IsPast (sent_in (run_leaving_out given out seconds net)) kept
+OutCause net None out seconds kept fault = ⊥
+
+-- the same where PDUs of a kind and a router alone are left out
 abbrev pub RunCause : Network → Option LabFault → Option PduWord → Option ℕ → ℕ
     → List SentDatagram → LabFault → Type 0
-RunCause net (Some stop) without except seconds kept fault = fault ≡ stop
-RunCause net None without except seconds kept fault.OutOfMemory = Unit {0}
-RunCause net None without except seconds kept (fault.Limit limit.Datagrams) =
-    IsPast (sent_in (run_line given without except seconds net)) kept
-RunCause net None without except seconds kept fault = ⊥
+RunCause net stopped without except seconds kept fault =
+    OutCause net stopped (but_for without except) seconds kept fault

@@ -1,10 +1,9 @@
 -- How a part of a line `run` ends (own).
-use Rattle.std.specs.Prelude.{◌≡◌, ℕ, ◌==◌, ◌||◌, Option, Some, None, Result, IfErr, OnOk, if◌then◌else◌}
+use Rattle.std.specs.Prelude.{◌≡◌, ℕ, ◌==◌, ◌||◌, Some, None, Result, IfErr, OnOk, if◌then◌else◌}
 use Rattle.router_core.specs.Givens.{given}
-use Rattle.model_network.specs.declared.word.PduWord.{PduWord}
 use Rattle.model_network.specs.Networks.{Network, numbered}
 use Rattle.model_network.specs.Runs.{Tick, Deliver, apply}
-use Rattle.model_network.specs.RunLines.{is_excepted, where_found, deliver_one, pull_links, links_at}
+use Rattle.model_network.specs.RunLines.{LeftOut, is_excepted, misses, where_found, deliver_one, pull_links, links_at}
 use Rattle.network_lab.specs.declared.event.LabEvent.{LabEvent}
 use Rattle.network_lab.specs.declared.event.LabEvent.TheVariants as event
 use Rattle.lab_keys.specs.declared.faults.LabFault.{LabFault}
@@ -12,32 +11,32 @@ use Rattle.network_lab.specs.LabNets.{LabNet, StandsFor, sent_in}
 use Rattle.network_lab.specs.LabSteps.{SameSize, StopCause}
 
 -- a second of a router that isn't left out
-abbrev pub tick_unless : Option ℕ → ℕ → Network → Network
-tick_unless except router net =
-    if is_excepted except router then net else apply given net (Tick router)
+abbrev pub tick_unless : LeftOut → ℕ → Network → Network
+tick_unless out router net =
+    if is_excepted out.except router then net else apply given net (Tick router)
 
 -- the pulls of a router that isn't left out
-abbrev pub pull_unless : Option PduWord → Option ℕ → ℕ → Network → Network
-pull_unless without except router net =
-    if is_excepted except router then net
-    else pull_links given without except router (links_at net router) net
+abbrev pub pull_unless : LeftOut → ℕ → Network → Network
+pull_unless out router net =
+    if is_excepted out.except router then net
+    else pull_links given out router (links_at net router) net
 
 -- a delivery to a router that isn't the sender and isn't left out
-abbrev pub deliver_unless : Option ℕ → ℕ → ℕ → ℕ → Network → Network
-deliver_unless except number sender router net =
-    if router == sender || is_excepted except router then net
+abbrev pub deliver_unless : LeftOut → ℕ → ℕ → ℕ → Network → Network
+deliver_unless out number sender router net =
+    if router == sender || misses out number router then net
     else apply given net (Deliver number router)
 
 -- the pulls of a router's circuits
-abbrev pub pull_links_of : Option PduWord → Option ℕ → ℕ → Network → Network
-pull_links_of without except router net =
-    pull_links given without except router (links_at net router) net
+abbrev pub pull_links_of : LeftOut → ℕ → Network → Network
+pull_links_of out router net =
+    pull_links given out router (links_at net router) net
 
 -- the delivery of the datagram of a number, counted from 1
-abbrev pub deliver_numbered : Option PduWord → Option ℕ → ℕ → Network → Network
-deliver_numbered without except number net =
+abbrev pub deliver_numbered : LeftOut → ℕ → Network → Network
+deliver_numbered out number net =
     where_found (numbered net.datagrams number) net
-    (λ d. deliver_one given without except number d net)
+    (λ d. deliver_one given out number d net)
 
 -- the events of a line `run`: seconds, pulls and deliveries
 abbrev pub IsOfRun : LabEvent → Type 0

@@ -6,7 +6,7 @@
 //! - `laws.rt`: what holds of every network
 //! - `setup.rt`: how it is set up; `joining.rt`: the routers that a link or LAN joins
 //! - `config_changes.rt`: configurations with the changes of a run
-//! - `applying.rt`: one event; `running.rt`: a line `run`; `kinds.rt`: the kinds of PDUs that it leaves out
+//! - `applying.rt`: one event; `running.rt`: a line `run`
 //! - `routed.rt`: its routers keep their routes from then on
 //! - `states.rt`: how links stand, and which routers agree; `lan_state.rt`, `lan_states.rt`: how the members of LANs do
 //! - `hearing.rt`, `heard_range.rt`: the ranges of CSNPs that routers hear on LANs without a flag
@@ -27,7 +27,6 @@ mod event;
 mod heard_range;
 mod hearing;
 mod joining;
-mod kinds;
 mod lan_state;
 mod lan_states;
 pub mod laws;
@@ -42,11 +41,10 @@ mod states;
 mod taking;
 
 pub use event::LabEvent;
-pub use kinds::is_left_out;
 pub use lab_facts::{Groups, LinkState};
 pub use lab_keys::{KeyNet, LINK_LIMIT, LabFault, LimitName, ROUTER_LIMIT};
 pub use lan_state::LanState;
-pub use model_network::PduWord;
+pub use model_network::{LeftOut, Lost, PduWord};
 pub use network::Network;
 pub use router_core::{Asked, Keeping, Kept, Machine, Router};
 pub use sent::{Changes, SentDatagram};

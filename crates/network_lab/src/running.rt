@@ -4,46 +4,18 @@ ghost use Rattle.model_router.specs.Places.{nth};
 ghost use Rattle.router_core.specs.Givens.{given};
 ghost use Rattle.model_network.specs.Networks.{Network as ModelNetwork};
 ghost use Rattle.model_network.specs.RunLines as line;
-ghost use Rattle.model_network.specs.RunLines.{run_line};
+ghost use Rattle.model_network.specs.RunLines.{run_line, run_leaving_out};
 ghost use Rattle.network_lab.specs.LabNets.{StandsFor};
 ghost use Rattle.network_lab.specs.LabEvents.{IsEvent, after};
-ghost use Rattle.network_lab.specs.LabCauses.{RunCause};
+ghost use Rattle.network_lab.specs.LabCauses.{RunCause, OutCause};
 ghost use Rattle.network_lab.specs.Claims.{IsClaimed};
 ghost use Rattle.network_lab.specs.LabRuns.{RunEnding, IsOfRun, tick_unless, pull_unless, deliver_unless, pull_links_of, deliver_numbered};
 
 use crate::event::LabEvent;
-use crate::kinds::is_left_out;
 use crate::network::Network;
 use lab_keys::LabFault;
-use model_network::PduWord;
+use model_network::{LeftOut, PduWord};
 use router_core::Keeping;
-
-/// What a line `run` leaves out: PDUs of a kind aren't delivered, and a router has no seconds, no
-/// pulls and no deliveries.
-#[derive(Clone, Copy)]
-struct LeftOut {
-    without: Option<PduWord>,
-    except: Option<usize>,
-}
-
-impl LeftOut {
-    /// Whether a router is left out.
-    fn is_excepted(self, router: usize) -> bool
-        ensures { result ≡ line.is_excepted self.except router }
-    {
-        match self.except {
-            None => false,
-            Some(other) => other == router,
-        }
-    }
-
-    /// Whether a datagram isn't delivered to a router.
-    fn skips(self, sender: usize, router: usize) -> bool
-        ensures { result ≡ (router == sender || line.is_excepted self.except router) }
-    {
-        router == sender || self.is_excepted(router)
-    }
-}
 
 impl<K: Keeping> Network<K> {
     /// So many seconds in which what is sent is delivered at once: the events of a line `run`. It
@@ -71,19 +43,39 @@ impl<K: Keeping> Network<K> {
         ensures links { self.new.seen.links ≡ self.old.seen.links }
         ensures routers { length self.new.seen.routers ≡ length self.old.seen.routers }
     {
+        let out = LeftOut::but_for(*self.sent.allocator(), without, except);
+        self.run_leaving_out(seconds, &out)
+    }
+
+    /// The same, with links and LANs that carry nothing and single deliveries that are lost.
+    pub fn run_leaving_out(&mut self, seconds: u32, out: &LeftOut) -> Result<(), LabFault>
+        requires seconds { seconds ≤ 86400 }
+        requires except { IfSome out.now.except (λ router. router < length self.old.seen.routers) }
+        ensures run { OnOk result ((net : ModelNetwork) → StandsFor net self.old
+            → StandsFor (run_leaving_out given out.now seconds net) self.new) }
+        ensures cause { IfErr result (λ fault. (net : ModelNetwork) → StandsFor net self.old
+            → OutCause net self.old.stopped out.now seconds self.new.seen.sent fault) }
+        ensures stopped { IfSome self.old.stopped
+            (λ fault. (result ≡ Err fault) × (self.new ≡ self.old)) }
+        ensures stops { IfErr result (λ fault. self.new.stopped ≡ Some fault) }
+        ensures goes_on { OnOk result (self.new.stopped ≡ None) }
+        ensures claimed { OnOk result (IsClaimed self.new.seen) }
+        ensures configs { OnOk result (self.new.configs ≡ self.old.configs) }
+        ensures links { self.new.seen.links ≡ self.old.seen.links }
+        ensures routers { length self.new.seen.routers ≡ length self.old.seen.routers }
+    {
         if let Some(fault) = self.stopped {
             return Err(fault);
         }
-        let out = LeftOut { without, except };
         let result = self.all_seconds(out, seconds);
         self.facts();
         result
     }
 
     /// So many seconds.
-    fn all_seconds(&mut self, out: LeftOut, seconds: u32) -> Result<(), LabFault>
+    fn all_seconds(&mut self, out: &LeftOut, seconds: u32) -> Result<(), LabFault>
         requires running { self.old.stopped ≡ None }
-        ensures { RunEnding (run_line given out.without out.except seconds) self.old self.new
+        ensures { RunEnding (run_leaving_out given out.now seconds) self.old self.new
             result }
     {
         for second in 0..seconds {
@@ -96,9 +88,9 @@ impl<K: Keeping> Network<K> {
     }
 
     /// A second of each router, and then each router's pulls.
-    fn second(&mut self, out: LeftOut) -> Result<(), LabFault>
+    fn second(&mut self, out: &LeftOut) -> Result<(), LabFault>
         requires running { self.old.stopped ≡ None }
-        ensures { RunEnding (line.run_second given out.without out.except) self.old self.new
+        ensures { RunEnding (line.run_second given out.now) self.old self.new
             result }
     {
         match self.tick_each(out) {
@@ -108,9 +100,9 @@ impl<K: Keeping> Network<K> {
     }
 
     /// A second of each router.
-    fn tick_each(&mut self, out: LeftOut) -> Result<(), LabFault>
+    fn tick_each(&mut self, out: &LeftOut) -> Result<(), LabFault>
         requires running { self.old.stopped ≡ None }
-        ensures { RunEnding (line.tick_each given out.except 0 (length self.old.seen.routers))
+        ensures { RunEnding (line.tick_each given out.now 0 (length self.old.seen.routers))
             self.old self.new result }
     {
         let count = self.routers();
@@ -124,10 +116,10 @@ impl<K: Keeping> Network<K> {
     }
 
     /// A second of a router, unless it is left out.
-    fn tick_one(&mut self, out: LeftOut, router: usize) -> Result<(), LabFault>
+    fn tick_one(&mut self, out: &LeftOut, router: usize) -> Result<(), LabFault>
         requires there { router < length self.old.seen.routers }
         requires running { self.old.stopped ≡ None }
-        ensures { RunEnding (tick_unless out.except router) self.old self.new result }
+        ensures { RunEnding (tick_unless out.now router) self.old self.new result }
     {
         if out.is_excepted(router) {
             return Ok(());
@@ -136,9 +128,9 @@ impl<K: Keeping> Network<K> {
     }
 
     /// The pulls of each router.
-    fn pull_each(&mut self, out: LeftOut) -> Result<(), LabFault>
+    fn pull_each(&mut self, out: &LeftOut) -> Result<(), LabFault>
         requires running { self.old.stopped ≡ None }
-        ensures { RunEnding (line.pull_each given out.without out.except 0
+        ensures { RunEnding (line.pull_each given out.now 0
             (length self.old.seen.routers)) self.old self.new result }
     {
         let count = self.routers();
@@ -152,10 +144,10 @@ impl<K: Keeping> Network<K> {
     }
 
     /// The pulls of a router, unless it is left out.
-    fn pull_router(&mut self, out: LeftOut, router: usize) -> Result<(), LabFault>
+    fn pull_router(&mut self, out: &LeftOut, router: usize) -> Result<(), LabFault>
         requires there { router < length self.old.seen.routers }
         requires running { self.old.stopped ≡ None }
-        ensures { RunEnding (pull_unless out.without out.except router) self.old self.new
+        ensures { RunEnding (pull_unless out.now router) self.old self.new
             result }
     {
         if out.is_excepted(router) {
@@ -165,10 +157,10 @@ impl<K: Keeping> Network<K> {
     }
 
     /// The pulls of a router's circuits, by their links.
-    fn pull_links(&mut self, out: LeftOut, router: usize) -> Result<(), LabFault>
+    fn pull_links(&mut self, out: &LeftOut, router: usize) -> Result<(), LabFault>
         requires there { router < length self.old.seen.routers }
         requires running { self.old.stopped ≡ None }
-        ensures { RunEnding (pull_links_of out.without out.except router) self.old self.new
+        ensures { RunEnding (pull_links_of out.now router) self.old self.new
             result }
     {
         let count = self.circuits(router);
@@ -182,10 +174,10 @@ impl<K: Keeping> Network<K> {
     }
 
     /// The pull of a router's circuit at a place.
-    fn pull_place(&mut self, out: LeftOut, router: usize, place: usize) -> Result<(), LabFault>
+    fn pull_place(&mut self, out: &LeftOut, router: usize, place: usize) -> Result<(), LabFault>
         requires there { router < length self.old.seen.routers }
         requires running { self.old.stopped ≡ None }
-        ensures { RunEnding (line.pull_links given out.without out.except router
+        ensures { RunEnding (line.pull_links given out.now router
             (line.with_some (line.link_of router place 0 self.old.seen.links) [])) self.old
             self.new result }
     {
@@ -196,11 +188,11 @@ impl<K: Keeping> Network<K> {
     }
 
     /// A pull, and directly after it all that it sent is delivered.
-    fn pull_one(&mut self, out: LeftOut, router: usize, link: usize) -> Result<(), LabFault>
+    fn pull_one(&mut self, out: &LeftOut, router: usize, link: usize) -> Result<(), LabFault>
         requires there { (router < length self.old.seen.routers)
             × (link < length self.old.seen.links) }
         requires running { self.old.stopped ≡ None }
-        ensures { RunEnding (line.pull_one given out.without out.except router link)
+        ensures { RunEnding (line.pull_one given out.now router link)
             self.old self.new result }
     {
         let count = self.datagrams();
@@ -212,9 +204,9 @@ impl<K: Keeping> Network<K> {
 
     /// The datagrams behind the first so many are delivered, in order, and those that are sent by
     /// their delivery.
-    fn deliver_behind(&mut self, out: LeftOut, first: usize) -> Result<(), LabFault>
+    fn deliver_behind(&mut self, out: &LeftOut, first: usize) -> Result<(), LabFault>
         requires running { self.old.stopped ≡ None }
-        ensures { RunEnding (line.deliver_behind given out.without out.except line.datagram_limit
+        ensures { RunEnding (line.deliver_behind given out.now line.datagram_limit
             first) self.old self.new result }
     {
         let mut count = first;
@@ -229,14 +221,14 @@ impl<K: Keeping> Network<K> {
     }
 
     /// A datagram of this number is delivered to each other end, in order of routers.
-    fn deliver_one(&mut self, out: LeftOut, number: usize) -> Result<(), LabFault>
+    fn deliver_one(&mut self, out: &LeftOut, number: usize) -> Result<(), LabFault>
         requires there { (1 ≤ number) × (number ≤ length self.old.seen.sent) }
         requires running { self.old.stopped ≡ None }
-        ensures { RunEnding (deliver_numbered out.without out.except number) self.old self.new
+        ensures { RunEnding (deliver_numbered out.now number) self.old self.new
             result }
     {
         let datagram = &self.sent[number - 1];
-        if is_left_out(out.without, datagram.octets.as_slice()) {
+        if out.is_left_out(datagram.octets.as_slice(), datagram.link) {
             return Ok(());
         }
         let (sender, link) = (datagram.sender, datagram.link);
@@ -246,13 +238,13 @@ impl<K: Keeping> Network<K> {
     /// A datagram is delivered to each other end of a link, in order of routers.
     fn deliver_each(
         &mut self,
-        out: LeftOut,
+        out: &LeftOut,
         number: usize,
         sender: usize,
         link: usize,
     ) -> Result<(), LabFault>
         requires running { self.old.stopped ≡ None }
-        ensures { RunEnding (line.deliver_each given out.except number sender
+        ensures { RunEnding (line.deliver_each given out.now number sender
             (line.by_router (line.ends_of (nth self.old.seen.links link)))) self.old self.new
             result }
     {
@@ -270,17 +262,17 @@ impl<K: Keeping> Network<K> {
     /// A datagram is delivered to a router, unless it is the sender or left out.
     fn deliver_to(
         &mut self,
-        out: LeftOut,
+        out: &LeftOut,
         number: usize,
         sender: usize,
         router: usize,
     ) -> Result<(), LabFault>
         requires there { router < length self.old.seen.routers }
         requires running { self.old.stopped ≡ None }
-        ensures { RunEnding (deliver_unless out.except number sender router) self.old self.new
+        ensures { RunEnding (deliver_unless out.now number sender router) self.old self.new
             result }
     {
-        if out.skips(sender, router) {
+        if out.skips(number, sender, router) {
             return Ok(());
         }
         self.go(LabEvent::Deliver {

@@ -5,4 +5,4 @@ use Rattle.network_lab.specs.LabRuns.{GoesOn}
 use Rattle.network_lab.proofs.network.Network.all_seconds.Given as goal
 
 abbrev pub invariant-loop-second : goal.invariant-loop-second
-invariant-loop-second g l = GoesOn (line.run_line given l.out.without l.out.except (l.seconds - l.second)) (line.run_line given l.out.without l.out.except l.seconds) l.initial.self l.self
+invariant-loop-second g l = GoesOn (line.run_leaving_out given l.out (l.seconds - l.second)) (line.run_leaving_out given l.out l.seconds) l.initial.self l.self

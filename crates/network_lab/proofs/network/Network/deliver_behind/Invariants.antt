@@ -7,7 +7,7 @@ use Rattle.network_lab.proofs.network.Network.deliver_behind.Given as goal
 abbrev pub invariant-loop-count : goal.invariant-loop-count
 invariant-loop-count g l = record {
   rises : l.first ≤ l.count;
-  goes : GoesOn (line.deliver_behind given l.out.without l.out.except (line.datagram_limit - (l.count - l.first)) l.count) (line.deliver_behind given l.out.without l.out.except line.datagram_limit l.first) l.initial.self l.self;
+  goes : GoesOn (line.deliver_behind given l.out (line.datagram_limit - (l.count - l.first)) l.count) (line.deliver_behind given l.out line.datagram_limit l.first) l.initial.self l.self;
 }
 
 abbrev pub decreases-loop-count : goal.decreases-loop-count

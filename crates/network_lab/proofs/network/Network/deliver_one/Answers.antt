@@ -13,15 +13,15 @@ returns-then-is_left_out g c =
     let sent = ap (λ (l : LabNet). l.seen.sent) c.self.view_is in
     let here = subst (λ (n : ℕ). (1 ≤ c.args.number) × (c.args.number ≤ n)) (sym (ap length sent)) c.requires.there in
     let q = ap (λ (xs : List SentDatagram). numbered xs c.args.number) (sym sent) ∙ numbered-get c.self.inside.sent.items c.args.number c.index-datagram.result.now here c.index-datagram.ensures in
-    idles (deliver_numbered c.args.out.without c.args.out.except c.args.number) c.args.self.now c.requires.running
-    (one-out c.args.out.without c.args.out.except c.args.self.now c.args.number c.index-datagram.result.now q
-    (ap (line.is_left_out c.args.out.without) (sym c.as_slice.ensures) ∙ (sym c.is_left_out.ensures ∙ c.if-is_left_out.true)))
+    idles (deliver_numbered c.args.out.now c.args.number) c.args.self.now c.requires.running
+    (one-out c.args.out.now c.args.self.now c.args.number c.index-datagram.result.now q
+    (ap (λ (octets : List ℕ). line.leaves_out c.args.out.now octets c.index-datagram.result.now.link) (sym c.as_slice.ensures) ∙ (sym c.is_left_out.ensures ∙ c.if-is_left_out.true)))
 
 pub returns : goal.returns
 returns g c =
     let sent = ap (λ (l : LabNet). l.seen.sent) c.self.view_is in
     let here = subst (λ (n : ℕ). (1 ≤ c.args.number) × (c.args.number ≤ n)) (sym (ap length sent)) c.requires.there in
     let q = ap (λ (xs : List SentDatagram). numbered xs c.args.number) (sym sent) ∙ numbered-get c.self.inside.sent.items c.args.number c.index-datagram.result.now here c.index-datagram.ensures in
-    renames _ (deliver_numbered c.args.out.without c.args.out.except c.args.number) c.args.self.now c.deliver_each.new.self c.deliver_each.result c.deliver_each.ensures
-    (one-in c.args.out.without c.args.out.except c.args.self.now c.args.number c.index-datagram.result.now q
-    (ap (line.is_left_out c.args.out.without) (sym c.as_slice.ensures) ∙ (sym c.is_left_out.ensures ∙ c.if-is_left_out.false)))
+    renames _ (deliver_numbered c.args.out.now c.args.number) c.args.self.now c.deliver_each.new.self c.deliver_each.result c.deliver_each.ensures
+    (one-in c.args.out.now c.args.self.now c.args.number c.index-datagram.result.now q
+    (ap (λ (octets : List ℕ). line.leaves_out c.args.out.now octets c.index-datagram.result.now.link) (sym c.as_slice.ensures) ∙ (sym c.is_left_out.ensures ∙ c.if-is_left_out.false)))

@@ -6,4 +6,4 @@ use Rattle.network_lab.proofs.LoopLemmas.{links_in}
 use Rattle.network_lab.proofs.network.Network.pull_links.Given as goal
 
 abbrev pub invariant-loop-place : goal.invariant-loop-place
-invariant-loop-place g l = GoesOn (line.pull_links given l.out.without l.out.except l.router (links_in l.initial.self.seen.links l.router l.place (l.count - l.place))) (pull_links_of l.out.without l.out.except l.router) l.initial.self l.self
+invariant-loop-place g l = GoesOn (line.pull_links given l.out l.router (links_in l.initial.self.seen.links l.router l.place (l.count - l.place))) (pull_links_of l.out l.router) l.initial.self l.self

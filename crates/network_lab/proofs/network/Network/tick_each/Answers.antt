@@ -7,22 +7,22 @@ use Rattle.network_lab.proofs.LoopLemmas.{zero-less, left-grows, tick-step, tick
 use Rattle.network_lab.proofs.network.Network.tick_each.Goals as goal
 
 pub loop-router-init : goal.loop-router-init
-loop-router-init g c = starts (line.tick_each given c.args.out.except 0 (c.routers-count.result - 0)) (line.tick_each given c.args.out.except 0 (length c.args.self.now.seen.routers)) c.args.self.now c.requires.running
-    (λ net s. ap (λ (n : ℕ). line.tick_each given c.args.out.except 0 n net) (zero-less c.routers-count.result (length c.args.self.now.seen.routers) c.routers-count.ensures))
+loop-router-init g c = starts (line.tick_each given c.args.out.now 0 (c.routers-count.result - 0)) (line.tick_each given c.args.out.now 0 (length c.args.self.now.seen.routers)) c.args.self.now c.requires.running
+    (λ net s. ap (λ (n : ℕ). line.tick_each given c.args.out.now 0 n net) (zero-less c.routers-count.result (length c.args.self.now.seen.routers) c.routers-count.ensures))
 
 pub loop-router-preserved : goal.loop-router-preserved
 loop-router-preserved g c =
-    goes (line.tick_each given c.args.out.except c.loop-router.router (c.routers-count.result - c.loop-router.router)) (line.tick_each given c.args.out.except (c.loop-router.router + 1) (c.routers-count.result - (c.loop-router.router + 1))) (line.tick_each given c.args.out.except 0 (length c.args.self.now.seen.routers)) (tick_unless c.args.out.except c.loop-router.router)
+    goes (line.tick_each given c.args.out.now c.loop-router.router (c.routers-count.result - c.loop-router.router)) (line.tick_each given c.args.out.now (c.loop-router.router + 1) (c.routers-count.result - (c.loop-router.router + 1))) (line.tick_each given c.args.out.now 0 (length c.args.self.now.seen.routers)) (tick_unless c.args.out.now c.loop-router.router)
     c.args.self.now c.loop-router.self c.tick_one.new.self c.loop-router.invariant c.in-Ok.ensures
-    (λ net s. tick-step c.args.out.except c.loop-router.router c.routers-count.result c.loop-router-test.true net)
+    (λ net s. tick-step c.args.out.now c.loop-router.router c.routers-count.result c.loop-router-test.true net)
 
 pub returns-in-Err : goal.returns-in-Err
 returns-in-Err g c =
-    stops (line.tick_each given c.args.out.except c.loop-router.router (c.routers-count.result - c.loop-router.router)) (line.tick_each given c.args.out.except 0 (length c.args.self.now.seen.routers)) (tick_unless c.args.out.except c.loop-router.router)
+    stops (line.tick_each given c.args.out.now c.loop-router.router (c.routers-count.result - c.loop-router.router)) (line.tick_each given c.args.out.now 0 (length c.args.self.now.seen.routers)) (tick_unless c.args.out.now c.loop-router.router)
     c.args.self.now c.loop-router.self c.tick_one.new.self c.in-Err.fault c.loop-router.invariant c.in-Err.ensures
-    (λ net s. left-grows (line.tick_each given c.args.out.except c.loop-router.router (c.routers-count.result - c.loop-router.router)) (line.tick_each given c.args.out.except (c.loop-router.router + 1) (c.routers-count.result - (c.loop-router.router + 1))) (tick_unless c.args.out.except c.loop-router.router) net
-    (tick-step c.args.out.except c.loop-router.router c.routers-count.result c.loop-router-test.true net) (ticks-grow given c.args.out.except (c.loop-router.router + 1) (c.routers-count.result - (c.loop-router.router + 1))))
+    (λ net s. left-grows (line.tick_each given c.args.out.now c.loop-router.router (c.routers-count.result - c.loop-router.router)) (line.tick_each given c.args.out.now (c.loop-router.router + 1) (c.routers-count.result - (c.loop-router.router + 1))) (tick_unless c.args.out.now c.loop-router.router) net
+    (tick-step c.args.out.now c.loop-router.router c.routers-count.result c.loop-router-test.true net) (ticks-grow given c.args.out.now (c.loop-router.router + 1) (c.routers-count.result - (c.loop-router.router + 1))))
 
 pub returns : goal.returns
-returns g c = ends (line.tick_each given c.args.out.except c.loop-router.router (c.routers-count.result - c.loop-router.router)) (line.tick_each given c.args.out.except 0 (length c.args.self.now.seen.routers)) c.args.self.now c.loop-router.self c.loop-router.invariant
-    (λ net s. tick-end c.args.out.except c.loop-router.router c.routers-count.result c.loop-router-test.false net)
+returns g c = ends (line.tick_each given c.args.out.now c.loop-router.router (c.routers-count.result - c.loop-router.router)) (line.tick_each given c.args.out.now 0 (length c.args.self.now.seen.routers)) c.args.self.now c.loop-router.self c.loop-router.invariant
+    (λ net s. tick-end c.args.out.now c.loop-router.router c.routers-count.result c.loop-router-test.false net)
