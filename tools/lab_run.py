@@ -63,9 +63,17 @@ class Step:
         self.number, self.words, self.second, self.seconds, self.clock = number, words, second, seconds, clock
         self.text = " ".join(words)
 
-    def option(self, word):
-        """What stands behind `without` or `except` in a line `run`."""
-        return self.words[self.words.index(word) + 1] if self.words[0] == "run" and word in self.words[2::2] else None
+    def options(self):
+        """What stands behind `without`, `except`, `cut` and `losing` in a line `run`, by these words."""
+        found, place = {"without": None, "except": None, "cut": [], "losing": []}, 2
+        while self.words[0] == "run" and self.words[place : place + 1] in (["without"], ["except"]):
+            found[self.words[place]] = self.words[place + 1]
+            place += 2
+        behind = self.words[place:] if self.words[0] == "run" else []
+        start = behind.index("losing") if "losing" in behind else len(behind)
+        found["cut"], losing = behind[1:start], behind[start + 1 :]
+        found["losing"] = list(zip(losing[::2], losing[1::2]))
+        return found
 
 
 class Script:
@@ -103,7 +111,7 @@ def cut(events, names):
         seconds = int(words[1]) if words[0] == "run" else 1
         for second in range(1, seconds + 1):
             step = Step(number, ["run", "1", *words[2:]] if words[0] == "run" else words, second, seconds, 0)
-            silent = step.option("except")
+            silent = step.options()["except"]
             for name in names:
                 taken[name] += words[0] == "run" and name != silent or words == ["tick", name]
             step.clock = max(taken.values(), default=0)
@@ -183,8 +191,9 @@ class Datagram:
         step = script.steps[self.step - 1]
         others = [name for name in script.routers if name in script.links[self.link].members and name != self.sender]
         if step.words[0] == "run":
-            lost = step.option("without") == KINDS[self.type]
-            return [(name, "lost" if lost or name == step.option("except") else "taken") for name in others]
+            out = step.options()
+            lost = out["without"] == KINDS[self.type] or self.link in out["cut"]
+            return [(name, "lost" if lost or name == out["except"] or (str(self.number), name) in out["losing"] else "taken") for name in others]
         later = {it.words[2] for it in script.steps[self.step :] if it.words[:2] == ["deliver", str(self.number)]}
         return [(name, "later" if name in later else "lost") for name in others]
 
