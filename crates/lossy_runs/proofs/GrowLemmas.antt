@@ -100,7 +100,7 @@ each-grow given out number sender [] = λ s. omega arith
 each-grow given out number sender (e ∷ ends) = λ s.
     omega (arith, unless-grows given out number sender e.router s, each-grow given out number sender ends (deliver_unless given out number sender e.router s))
 
-one-grows : (given : Given) (out : LeftOut) (number : ℕ) (d : Datagram) → Grows (lossy.deliver_one given out number d)
+pub one-grows : (given : Given) (out : LeftOut) (number : ℕ) (d : Datagram) → Grows (lossy.deliver_one given out number d)
 one-grows given out number d = λ s. by s (line.leaves_out out (octets_of d) d.link)
   where
     by : (s : Fated) (b : Bool) → sent s ≤ sent (if b then s else lossy.deliver_each given out number d.sender (line.by_router (line.ends_of (nth s.net.links d.link))) s)
@@ -116,7 +116,7 @@ behind-grow given out (suc most) count = λ s. by s (nth s.net.datagrams count) 
     by s None more = omega arith
     by s (Some d) more = omega (arith, one-grows given out (count + 1) d s, more (lossy.deliver_one given out (count + 1) d s))
 
-pull-one-grows : (given : Given) (out : LeftOut) (router link : ℕ) → Grows (lossy.pull_one given out router link)
+pub pull-one-grows : (given : Given) (out : LeftOut) (router link : ℕ) → Grows (lossy.pull_one given out router link)
 pull-one-grows given out router link = λ s.
     omega (
       arith,
@@ -141,7 +141,7 @@ pulls-grow given out router zero = λ s. omega arith
 pulls-grow given out router (suc count) = λ s.
     omega (arith, pulls-unless-grow given out router s, pulls-grow given out (router + 1) count (pull_unless given out router s))
 
-second-grows : (given : Given) (out : LeftOut) → Grows (lossy.run_second given out)
+pub second-grows : (given : Given) (out : LeftOut) → Grows (lossy.run_second given out)
 second-grows given out = λ s.
     omega (
       arith,

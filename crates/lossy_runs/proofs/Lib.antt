@@ -2,3 +2,4 @@ pub mod PlainLemmas
 mod UnrollLemmas
 mod RanLemmas
 mod GrowLemmas
+mod NamedLemmas
