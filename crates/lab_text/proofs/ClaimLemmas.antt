@@ -13,7 +13,7 @@ use Rattle.model_network.specs.Ports.{Port}
 use Rattle.model_network.specs.Links.{LinkHolds}
 use Rattle.model_network.specs.Kept.{IsEnd, IsPointLink, IsKeptNet}
 use Rattle.model_network.specs.Runs.{Happening, run}
-use Rattle.model_network.specs.RunLines.{run_line}
+use Rattle.model_network.specs.RunLines.{run_leaving_out}
 use Rattle.model_network.specs.LineEvents.{line_events}
 use Rattle.model_network.specs.Speakers.{AreOctets}
 use Rattle.model_network.proofs.LineLemmas.{run-append, line-run, line-all}
@@ -97,9 +97,9 @@ deed-carried n links net next line (deed.Overload router on) h e =
     record { fits = (tt, tt); ends = (event-ok (refusal net (event.Change router (change.Overload on))) line (after net (event.Change router (change.Overload on))) next e).1 }
 deed-carried n links net next line (deed.Inject router link octets) h e = record { fits = (tt, tt); ends = (event-ok (refusal net (event.Inject router link octets)) line (after net (event.Inject router link octets)) next e).1 }
 deed-carried n links net next line (deed.Dump datagram) h e = record { fits = tt; ends = told-same (is_some (numbered net.datagrams datagram)) net next line e }
-deed-carried n links net next line (deed.Run seconds without except) h e = record {
-  fits = calm-fits net (line_events given without except seconds net) (line-all given without except seconds net);
-  ends = line-run given without except seconds net ∙ within-ok (run_line given without except seconds net) next e;
+deed-carried n links net next line (deed.Run seconds out) h e = record {
+  fits = calm-fits net (line_events given out seconds net) (line-all given out seconds net);
+  ends = line-run given out seconds net ∙ within-ok (run_leaving_out given out seconds net) next e;
 }
 
 -- ---- all lines

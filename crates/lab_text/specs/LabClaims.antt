@@ -34,7 +34,7 @@ events_of net (deed.Overload router on) =
 events_of net (deed.Inject router link octets) =
     happening_of (event.Inject router link octets) ∷ []
 events_of net (deed.Dump datagram) = []
-events_of net (deed.Run seconds without except) = line_events given without except seconds net
+events_of net (deed.Run seconds out) = line_events given out seconds net
 
 -- the events of all lines, one after another
 abbrev pub lines_events : Network → List LabLine → List Happening

@@ -3,7 +3,7 @@ use Rattle.std.specs.Prelude.{ℕ, ◌+◌, nat_lt, List, [], ◌∷◌, length,
 use Rattle.router_desk.specs.declared.config.Change.TheVariants as change
 use Rattle.network_lab.specs.Passed.{given}
 use Rattle.model_network.specs.Networks.{Network, numbered}
-use Rattle.model_network.specs.RunLines.{run_line}
+use Rattle.model_network.specs.RunLines.{run_leaving_out}
 use Rattle.lab_keys.specs.declared.faults.LabFault.{LabFault}
 use Rattle.lab_keys.specs.declared.faults.LabFault.TheVariants as lab
 use Rattle.lab_keys.specs.declared.faults.LimitName.TheVariants.{Datagrams}
@@ -57,8 +57,7 @@ play_deed net line (deed.Inject router link octets) =
 play_deed net line (deed.Dump datagram) =
     if is_some (numbered net.datagrams datagram) then Ok net
     else Err (Refused line reason.NotSent)
-play_deed net line (deed.Run seconds without except) =
-    within (run_line given without except seconds net)
+play_deed net line (deed.Run seconds out) = within (run_leaving_out given out seconds net)
 
 infixl 10 ◌>>=◌
 abbrev pub ◌>>=◌ : {A B : Type 0} → Result A ScriptFault → (A → Result B ScriptFault)

@@ -4,7 +4,7 @@ ghost use Rattle.model_network.specs.Networks.{Network as ModelNetwork};
 ghost use Rattle.network_lab.specs.LabNets.{StandsFor};
 ghost use Rattle.network_lab.specs.LabEvents.{IsEvent};
 ghost use Rattle.network_lab.specs.declared.event.LabEvent.TheVariants as event;
-ghost use Rattle.model_network.specs.RunLines.{run_line};
+ghost use Rattle.model_network.specs.RunLines.{run_leaving_out};
 ghost use Rattle.network_lab.specs.Passed.{given};
 ghost use Rattle.lab_script.specs.declared.deeds.LabDeed.TheVariants as deed;
 ghost use Rattle.model_router.specs.Places.{nth};
@@ -18,7 +18,7 @@ ghost use Rattle.lab_text.specs.LabClaims.{IsClaimedRun};
 use crate::lay_out::lay_out;
 use isis_base::{Octets, OutOfMemory};
 use lab_script::{LabDeed, LabLine, LabScript, Reason, ScriptFault};
-use model_network::PduWord;
+use model_network::LeftOut;
 use network_lab::{Asked, Keeping, LabEvent, LabFault, Network};
 use router_desk::Change;
 use std::alloc::Global;
@@ -166,11 +166,7 @@ pub fn play_line<K: Keeping>(
             Err(OutOfMemory) => Err(ScriptFault::OutOfMemory),
         },
         LabDeed::Dump { datagram } => tell(net, number, *datagram),
-        LabDeed::Run {
-            seconds,
-            without,
-            except,
-        } => play_run(net, number, *seconds, *without, *except),
+        LabDeed::Run { seconds, out } => play_run(net, number, *seconds, out),
     }
 }
 
@@ -317,19 +313,18 @@ fn play_run<K: Keeping>(
     net: &mut Network<K>,
     line: usize,
     seconds: u32,
-    without: Option<PduWord>,
-    except: Option<usize>,
+    out: &LeftOut,
 ) -> Result<(), ScriptFault>
     requires goes_on { net.old.stopped ≡ None }
     requires seconds { seconds ≤ 86400 }
-    requires except { IfSome except (λ router. router < length net.old.seen.routers) }
+    requires except { IfSome out.now.except (λ router. router < length net.old.seen.routers) }
     ensures value { (m : ModelNetwork) → StandsFor m net.old
-        → Plays result net.new (run.within (run_line given without except seconds m)) }
+        → Plays result net.new (run.within (run_leaving_out given out.now seconds m)) }
     ensures links { net.new.seen.links ≡ net.old.seen.links }
     ensures routers { length net.new.seen.routers ≡ length net.old.seen.routers }
     ensures goes_on { OnOk result (net.new.stopped ≡ None) }
 {
-    let answer = net.run(seconds, without, except);
+    let answer = net.run_leaving_out(seconds, out);
     net.facts();
     match answer {
         Ok(()) => Ok(()),
