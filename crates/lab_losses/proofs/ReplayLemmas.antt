@@ -3,7 +3,6 @@ use Rattle.std.proofs.Common.{◌≡◌, ℕ, zero, suc, ◌+◌, ◌<◌, ◌�
 use Rattle.std.specs.Result.{OnOk}
 use Rattle.std.specs.Option.{IfSome, option_map}
 use Rattle.std.specs.Borrow.{Bor}
-use Rattle.model_network.specs.declared.word.PduWord.{PduWord}
 use Rattle.std.proofs.lemmas.Bool.Decides.{nat_tests}
 use Rattle.std.proofs.lemmas.List.{append_assoc, append-nil}
 use Rattle.model_router.specs.Places.{nth}
@@ -16,7 +15,7 @@ use Rattle.network_lab.specs.Passed.{given}
 use Rattle.network_lab.specs.LabNets.{LabNet, StandsFor, sent_of}
 use Rattle.network_lab.specs.LabEvents.{refusal, after, unless_on, unless_arrives, ApplyCause}
 use Rattle.network_lab.specs.declared.sent.SentDatagram.{SentDatagram}
-use Rattle.model_network.specs.RunLines.{links_from, links_at, circuit_count, by_router, ends_of, is_left_out}
+use Rattle.model_network.specs.RunLines.{LeftOut, links_from, links_at, circuit_count, by_router, ends_of, leaves_out}
 use Rattle.lossy_runs.specs.Comings.{routers_of, IsOut, IsTo}
 use Rattle.losses.specs.declared.player.Stop.{Stop}
 use Rattle.network_lab.specs.declared.event.LabEvent.{LabEvent}
@@ -214,26 +213,53 @@ told-octets : (octets : Bor (List ℕ)) (r : Option (Bor (List ℕ))) (sent : Li
     → Some octets.now ≡ option_map (λ (d : SentDatagram). d.octets) (numbered sent number)
 told-octets octets r sent number e is = sym (ap (option_map (λ (octets : Bor (List ℕ)). octets.now)) is) ∙ e
 
-pub is-out : (net : Network) (now : LabNet) (count : ℕ) (without : Option PduWord) (octets : Bor (List ℕ)) (r : Option (Bor (List ℕ))) (b : Bool) → StandsFor net now
-    → option_map (λ (octets : Bor (List ℕ)). octets.now) r ≡ option_map (λ (d : SentDatagram). d.octets) (numbered now.seen.sent (count + 1)) → r ≡ Some octets
-    → b ≡ is_left_out without octets.now → b ≡ true → IsOut net count without
-is-out net now count without octets r b s e is o t =
-    let f = found net now count octets.now s (told-octets octets r now.seen.sent (count + 1) e is) in
-    record { d = f.0; there = f.1; out = sym (ap (is_left_out without) f.2) ∙ sym o ∙ t }
+-- the datagram of a number, by its octets and by who sent it where
+record IsTold (net : Network) (count : ℕ) (octets : List ℕ) (sender link : ℕ) : Type 0 where
+  d : Datagram
+  there : nth net.datagrams count ≡ Some d
+  octets_is : octets ≡ octets_of d
+  sender_is : sender ≡ d.sender
+  link_is : link ≡ d.link
 
-pub is-to : (net : Network) (now : LabNet) (count : ℕ) (without : Option PduWord) (octets : Bor (List ℕ)) (r : Option (Bor (List ℕ))) (b : Bool) (sender link : ℕ) (q : Option (ℕ × ℕ)) (routers : List ℕ) → StandsFor net now
+told : (net : Network) (now : LabNet) (count : ℕ) (octets : Bor (List ℕ)) (r : Option (Bor (List ℕ))) (sender link : ℕ) (q : Option (ℕ × ℕ)) → StandsFor net now
     → option_map (λ (octets : Bor (List ℕ)). octets.now) r ≡ option_map (λ (d : SentDatagram). d.octets) (numbered now.seen.sent (count + 1)) → r ≡ Some octets
-    → b ≡ is_left_out without octets.now → b ≡ false
     → q ≡ option_map (λ (d : SentDatagram). (d.sender, d.link)) (numbered now.seen.sent (count + 1)) → q ≡ Some (sender, link)
-    → routers ≡ routers_of (by_router (ends_of (nth now.seen.links link))) → IsTo net count without sender routers
-is-to net now count without octets r b sender link q routers s e is o t w v rs =
+    → IsTold net count octets.now sender link
+told net now count octets r sender link q s e is w v =
     let f = found net now count octets.now s (told-octets octets r now.seen.sent (count + 1) e is) in
     let pair : Some (sender, link) ≡ Some (f.0.sender, f.0.link) = sym v ∙ w ∙ ap (option_map (λ (d : SentDatagram). (d.sender, d.link))) (numbered-is net now count s ∙ ap (option_map sent_of) f.1) in
     record {
       d = f.0;
       there = f.1;
-      goes = sym (ap (is_left_out without) f.2) ∙ sym o ∙ t;
-      from = ap (λ (p : Option (ℕ × ℕ)). (pair_in p).0) pair;
-      ends = rs ∙ ap (λ (l : ℕ). routers_of (by_router (ends_of (nth now.seen.links l)))) (ap (λ (p : Option (ℕ × ℕ)). (pair_in p).1) pair)
-          ∙ sym (ap (λ a. routers_of (by_router (ends_of (nth a.links f.0.link)))) s.seen);
+      octets_is = f.2;
+      sender_is = ap (λ (p : Option (ℕ × ℕ)). (pair_in p).0) pair;
+      link_is = ap (λ (p : Option (ℕ × ℕ)). (pair_in p).1) pair;
+    }
+
+left-out : (net : Network) (count : ℕ) (octets : List ℕ) (sender link : ℕ) (out : LeftOut) (b t : Bool) (f : IsTold net count octets sender link) → b ≡ leaves_out out octets link → b ≡ t → leaves_out out (octets_of f.d) f.d.link ≡ t
+left-out net count octets sender link out b t f o h =
+    sym (ap (λ (os : List ℕ). leaves_out out os f.d.link) f.octets_is) ∙ sym (ap (leaves_out out octets) f.link_is) ∙ sym o ∙ h
+
+pub is-out : (net : Network) (now : LabNet) (count : ℕ) (out : LeftOut) (octets : Bor (List ℕ)) (r : Option (Bor (List ℕ))) (b : Bool) (sender link : ℕ) (q : Option (ℕ × ℕ)) → StandsFor net now
+    → option_map (λ (octets : Bor (List ℕ)). octets.now) r ≡ option_map (λ (d : SentDatagram). d.octets) (numbered now.seen.sent (count + 1)) → r ≡ Some octets
+    → q ≡ option_map (λ (d : SentDatagram). (d.sender, d.link)) (numbered now.seen.sent (count + 1)) → q ≡ Some (sender, link)
+    → b ≡ leaves_out out octets.now link → b ≡ true → IsOut net count out
+is-out net now count out octets r b sender link q s e is w v o h =
+    let f = told net now count octets r sender link q s e is w v in
+    record { d = f.d; there = f.there; skipped = left-out net count octets.now sender link out b true f o h }
+
+pub is-to : (net : Network) (now : LabNet) (count : ℕ) (out : LeftOut) (octets : Bor (List ℕ)) (r : Option (Bor (List ℕ))) (b : Bool) (sender link : ℕ) (q : Option (ℕ × ℕ)) (routers : List ℕ) → StandsFor net now
+    → option_map (λ (octets : Bor (List ℕ)). octets.now) r ≡ option_map (λ (d : SentDatagram). d.octets) (numbered now.seen.sent (count + 1)) → r ≡ Some octets
+    → q ≡ option_map (λ (d : SentDatagram). (d.sender, d.link)) (numbered now.seen.sent (count + 1)) → q ≡ Some (sender, link)
+    → b ≡ leaves_out out octets.now link → b ≡ false
+    → routers ≡ routers_of (by_router (ends_of (nth now.seen.links link))) → IsTo net count out sender routers
+is-to net now count out octets r b sender link q routers s e is w v o h rs =
+    let f = told net now count octets r sender link q s e is w v in
+    record {
+      d = f.d;
+      there = f.there;
+      goes = left-out net count octets.now sender link out b false f o h;
+      from = f.sender_is;
+      ends = rs ∙ ap (λ (l : ℕ). routers_of (by_router (ends_of (nth now.seen.links l)))) f.link_is
+          ∙ sym (ap (λ a. routers_of (by_router (ends_of (nth a.links f.d.link)))) s.seen);
     }

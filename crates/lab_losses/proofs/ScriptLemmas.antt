@@ -60,7 +60,7 @@ no-line (Lab t) s is none = (
       none-behind before.lines _ (sym (ap (λ (x : LabScript). x.lines) last.1) ∙ ap (λ (x : Script). (the-lab s x).lines) is ∙ none),
 )
 
-no-run : (d : LabDeed) (asked : RunAsked) → run_of d ≡ None → d ≡ deed.Run asked.seconds asked.without asked.except → ⊥
+no-run : (d : LabDeed) (asked : RunAsked) → run_of d ≡ None → d ≡ deed.Run asked.seconds asked.out → ⊥
 no-run d asked none is = absurd (let e : None ≡ Some _ = sym none ∙ ap run_of is in cc)
 
 -- one whose last line is something else
@@ -74,8 +74,8 @@ other-line (Lab t) s rest line is last none = (
       no-run line.deed asked none (ap (λ (l : LabLine). l.deed) same),
 )
 
-run-is : (d : LabDeed) (asked : RunAsked) → run_of d ≡ Some asked → d ≡ deed.Run asked.seconds asked.without asked.except
-run-is (deed.Run seconds without except) asked e = let f : Some _ ≡ Some asked = e in ap (λ (a : RunAsked). deed.Run a.seconds a.without a.except) (of f)
+run-is : (d : LabDeed) (asked : RunAsked) → run_of d ≡ Some asked → d ≡ deed.Run asked.seconds asked.out
+run-is (deed.Run seconds out) asked e = let f : Some _ ≡ Some asked = e in ap (λ (a : RunAsked). deed.Run a.seconds a.out) (of f)
   where
     of : {x y : RunAsked} → Some x ≡ Some y → x ≡ y
     of g = cc g

@@ -42,15 +42,14 @@ reason_word reason.Run = codes "run"
 -- ---- the last event line
 
 abbrev pub run_of : LabDeed → Option RunAsked
-run_of (deed.Run seconds without except) =
-    Some (record { seconds = seconds; without = without; except = except })
+run_of (deed.Run seconds out) = Some (record { seconds = seconds; out = out })
 run_of other = None
 
 -- a script is a lab script, and its last event line behind these others is such a line `run`
 abbrev pub IsLastRun : Script → LabScript → RunAsked → Type 0
 IsLastRun (Keys script) before asked = ⊥
 IsLastRun (Lab script) before asked = (line : ℕ) × (script
-    ≡ with_last before (record { line = line; deed = deed.Run asked.seconds asked.without asked.except }))
+    ≡ with_last before (record { line = line; deed = deed.Run asked.seconds asked.out }))
 
 -- ---- the text
 
@@ -83,7 +82,7 @@ pub record IsLossesText (script : Script) (most : ℕ) (part : Option PartOf) (t
   pub net : Network
   pub ends : end_of before ≡ Ok net
   pub found : Found
-  pub is : IsFound net asked.seconds asked.without asked.except most (part_for part) found
+  pub is : IsFound net asked.seconds asked.out most (part_for part) found
   pub text_is : text ≡ losses_text (said_of (router_names before.routers) most part found)
 
 -- ---- why there is none
@@ -104,10 +103,10 @@ pub record IsRefusedBefore (script : Script) (fault : ScriptFault) : Type 0 wher
 -- why the schedules of a part aren't played from a network, or not to their ends
 abbrev pub IsCause : Network → RunAsked → ℕ → Part → LossesFault → Type 0
 IsCause net asked most part fault =
-    Cause (MeetsLimit (agrees_as asked.without asked.except asked.seconds net) given asked.without asked.except asked.seconds net)
-    most 0 (of_part (line_tree (agrees_as asked.without asked.except asked.seconds net) given asked.without asked.except asked.seconds 0 0 net)
+    Cause (MeetsLimit (agrees_as asked.out asked.seconds net) given asked.out asked.seconds net)
+    most 0 (of_part (line_tree (agrees_as asked.out asked.seconds net) given asked.out asked.seconds 0 0 net)
     part.of part.number (schedules
-    (line_tree (agrees_as asked.without asked.except asked.seconds net) given asked.without asked.except asked.seconds 0 0 net) most []))
+    (line_tree (agrees_as asked.out asked.seconds net) given asked.out asked.seconds 0 0 net) most []))
     fault
 
 -- the part has too many schedules, or the run of one with at most so many losses meets the limit

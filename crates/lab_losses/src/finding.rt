@@ -2,7 +2,7 @@
 ghost use Rattle.std.specs.Prelude.{◌≡◌, ◌<◌, ◌≤◌, [], length, IfOk, IfErr, IfSome};
 ghost use Rattle.isis_base.specs.declared.level.Level.TheVariants as level;
 ghost use Rattle.model_network.specs.Networks.{Network as ModelNetwork};
-ghost use Rattle.model_network.specs.RunLines.{run_line};
+ghost use Rattle.model_network.specs.RunLines.{run_leaving_out};
 ghost use Rattle.network_lab.specs.LabNets.{seen_of};
 ghost use Rattle.network_lab.specs.LinkStates.{groups_at};
 ghost use Rattle.network_lab.specs.Passed.{given};
@@ -20,7 +20,7 @@ use crate::replay::Replay;
 use isis_base::Level;
 use losses::{LossesFault, Part, Stop, Tally};
 use lossy_runs::{Lab, Loss, LossyRun, worst_losses};
-use model_network::PduWord;
+use model_network::LeftOut;
 use std::alloc::Global;
 
 /// What is found of a line `run`.
@@ -42,22 +42,21 @@ pub fn find_losses(
     alloc: Global,
     replay: &Replay<'_, '_>,
     seconds: u32,
-    without: Option<PduWord>,
-    except: Option<usize>,
+    out: &LeftOut,
     most: u32,
     part: Part,
 ) -> Result<Found, LossesFault>
     requires seconds { seconds ≤ 86400 }
-    requires except { IfSome except (λ router. router < length replay.now.script.now.routers) }
+    requires except { IfSome out.now.except (λ router. router < length replay.now.script.now.routers) }
     requires part { 0 < part.of }
     ensures found { IfOk result (λ found. (net : ModelNetwork) → IsReplay replay.now.script.now replay.now.went_on replay.now.net net
-        → IsFound net seconds without except most part found) }
+        → IsFound net seconds out.now most part found) }
     ensures cause { IfErr result (λ fault. (net : ModelNetwork) → IsReplay replay.now.script.now replay.now.went_on replay.now.net net
-        → Cause (MeetsLimit (agrees_as without except seconds net) given without except seconds net) most 0 (of_part
-        (line_tree (agrees_as without except seconds net) given without except seconds 0 0 net) part.of part.number (schedules
-        (line_tree (agrees_as without except seconds net) given without except seconds 0 0 net) most [])) fault) }
+        → Cause (MeetsLimit (agrees_as out.now seconds net) given out.now seconds net) most 0 (of_part
+        (line_tree (agrees_as out.now seconds net) given out.now seconds 0 0 net) part.of part.number (schedules
+        (line_tree (agrees_as out.now seconds net) given out.now seconds 0 0 net) most [])) fault) }
 {
-    let judge = match goal_of(replay, seconds, without, except) {
+    let judge = match goal_of(replay, seconds, out) {
         Ok(judge) => judge,
         Err(stop) => return Err(LossesFault::from(stop)),
     };
@@ -65,8 +64,7 @@ pub fn find_losses(
         alloc,
         lab: replay,
         judge: &judge,
-        without,
-        except,
+        out,
         seconds,
     };
     let first = match run.look(&[]) {
@@ -91,24 +89,19 @@ pub fn find_losses(
 }
 
 /// The groups at the end of a line in which nothing is lost.
-fn goal_of(
-    replay: &Replay<'_, '_>,
-    seconds: u32,
-    without: Option<PduWord>,
-    except: Option<usize>,
-) -> Result<SameGroups, Stop>
+fn goal_of(replay: &Replay<'_, '_>, seconds: u32, out: &LeftOut) -> Result<SameGroups, Stop>
     requires seconds { seconds ≤ 86400 }
-    requires except { IfSome except (λ router. router < length replay.now.script.now.routers) }
+    requires except { IfSome out.now.except (λ router. router < length replay.now.script.now.routers) }
     ensures goal { IfOk result (λ judge. (net : ModelNetwork) → IsReplay replay.now.script.now replay.now.went_on replay.now.net net
-        → IsGoal (run_line given without except seconds net) judge) }
+        → IsGoal (run_leaving_out given out.now seconds net) judge) }
     ensures stop { IfErr result (λ stop. (net : ModelNetwork) → IsReplay replay.now.script.now replay.now.went_on replay.now.net net
-        → StopCause (length (run_line given without except seconds net).datagrams) stop) }
+        → StopCause (length (run_leaving_out given out.now seconds net).datagrams) stop) }
 {
     let mut plain = match replay.again() {
         Ok(plain) => plain,
         Err(_) => return Err(Stop::OutOfMemory),
     };
-    match plain.run(seconds, without, except) {
+    match plain.run(seconds, out) {
         Ok(()) => {}
         Err(stop) => return Err(stop),
     }

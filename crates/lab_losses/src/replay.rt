@@ -2,7 +2,7 @@
 ghost use Rattle.std.specs.Prelude.{◌≡◌, ◌<◌, ◌≤◌, ◌+◌, ◌-◌, ◌++◌, ◌∷◌, [], ℕ, List, length, drop, true, IfOk, IfErr, IfSome, OnOk, Ok};
 ghost use Rattle.model_router.specs.Places.{nth};
 ghost use Rattle.model_network.specs.Networks.{Network as ModelNetwork};
-ghost use Rattle.model_network.specs.RunLines.{by_router, ends_of, links_from, circuit_count, run_line};
+ghost use Rattle.model_network.specs.RunLines.{by_router, ends_of, links_from, circuit_count, run_leaving_out};
 ghost use Rattle.network_lab.specs.Passed.{given};
 ghost use Rattle.network_lab.specs.LabEvents.{IsEvent, after};
 ghost use Rattle.network_lab.specs.LabNets.{StandsFor};
@@ -16,8 +16,8 @@ use isis_base::OutOfMemory;
 use lab_text::{LabScript, Network, ScriptFault, play_machines};
 use losses::Stop;
 use lossy_runs::{Comes, Coming, Lab};
-use model_network::PduWord;
-use network_lab::{LabEvent, LabFault, LimitName, is_left_out};
+use model_network::LeftOut;
+use network_lab::{LabEvent, LabFault, LimitName};
 use router_core::Asked;
 use std::alloc::Global;
 
@@ -75,22 +75,17 @@ impl<'a, 's> Replay<'a, 's> {
     }
 
     /// A line `run` in which nothing is lost.
-    pub(crate) fn run(
-        &mut self,
-        seconds: u32,
-        without: Option<PduWord>,
-        except: Option<usize>,
-    ) -> Result<(), Stop>
+    pub(crate) fn run(&mut self, seconds: u32, out: &LeftOut) -> Result<(), Stop>
         requires seconds { seconds ≤ 86400 }
-        requires except { IfSome except (λ router. router < length self.old.net.seen.routers) }
+        requires except { IfSome out.now.except (λ router. router < length self.old.net.seen.routers) }
         ensures done { OnOk result ((net : ModelNetwork) → IsReplay self.old.script.now self.old.went_on self.old.net net
-            → StandsFor (run_line given without except seconds net) self.new.net) }
+            → StandsFor (run_leaving_out given out.now seconds net) self.new.net) }
         ensures stop { IfErr result (λ stop. (net : ModelNetwork)
             → IsReplay self.old.script.now self.old.went_on self.old.net net
-            → StopCause (length (run_line given without except seconds net).datagrams) stop) }
+            → StopCause (length (run_leaving_out given out.now seconds net).datagrams) stop) }
     {
         self.went_on = true;
-        match self.net.run(seconds, without, except) {
+        match self.net.run_leaving_out(seconds, out) {
             Ok(()) => Ok(()),
             Err(LabFault::Limit(_)) => Err(Stop::Limit),
             Err(_) => Err(Stop::OutOfMemory),
@@ -228,19 +223,19 @@ impl<'a, 's> Lab for Replay<'a, 's> {
         self.net.datagrams()
     }
 
-    fn coming(&self, count: usize, without: Option<PduWord>) -> Result<Coming, OutOfMemory> {
+    fn coming(&self, count: usize, out: &LeftOut) -> Result<Coming, OutOfMemory> {
         if count >= self.net.datagrams() {
             return Ok(Coming::Nothing);
         }
         let Some(octets) = self.net.datagram(count + 1) else {
             return Ok(Coming::Nothing);
         };
-        if is_left_out(without, octets) {
-            return Ok(Coming::LeftOut);
-        }
         let Some((sender, link)) = self.net.origin(count + 1) else {
             return Ok(Coming::Nothing);
         };
+        if out.is_left_out(octets, link) {
+            return Ok(Coming::ToNobody);
+        }
         match self.routers_of(link) {
             Ok(routers) => Ok(Coming::To(Comes { sender, routers })),
             Err(error) => Err(error),

@@ -18,18 +18,16 @@ use isis_edge::{Sink, WriteFailed, write_all};
 use lab_text::{LabDeed, LabScript, Script};
 use losses::Part;
 use losses_text::{Losses, PartOf, losses_text, name_losses};
-use model_network::PduWord;
+use model_network::LeftOut;
 use std::alloc::Global;
 
 /// What a line `run` asks for.
-#[derive(Clone, Copy)]
+#[derive(Drop)]
 pub struct RunAsked {
     /// How many seconds pass, at most 86,400.
     pub seconds: u32,
-    /// A kind of PDUs that isn't delivered.
-    pub without: Option<PduWord>,
-    /// A router that nothing is delivered to, by its number.
-    pub except: Option<usize>,
+    /// What is left out besides losses.
+    pub out: LeftOut,
 }
 
 /// Plays a script up to its last event line, a `run`, and then that line once for each way of losing at most so many of its
@@ -75,26 +73,18 @@ fn text_of(
     let Some(line) = script.pop_line() else {
         return Err(WriteFault::NoLosses(LossesReason::Run));
     };
-    match run_of(&line.deed) {
-        Some(asked) => text_behind(alloc, &script, asked, most, part),
+    match run_of(line.deed) {
+        Some(asked) => text_behind(alloc, &script, &asked, most, part),
         None => Err(WriteFault::NoLosses(LossesReason::Run)),
     }
 }
 
 /// What a deed asks for, if it is a line `run`.
-fn run_of(deed: &LabDeed<'_>) -> Option<RunAsked>
-    ensures { result ≡ run_of deed.now }
+fn run_of(deed: LabDeed<'_>) -> Option<RunAsked>
+    ensures { result ≡ run_of deed.entry }
 {
     match deed {
-        LabDeed::Run {
-            seconds,
-            without,
-            except,
-        } => Some(RunAsked {
-            seconds: *seconds,
-            without: *without,
-            except: *except,
-        }),
+        LabDeed::Run { seconds, out } => Some(RunAsked { seconds, out }),
         _ => None,
     }
 }
@@ -103,14 +93,14 @@ fn run_of(deed: &LabDeed<'_>) -> Option<RunAsked>
 fn text_behind(
     alloc: Global,
     before: &LabScript<'_>,
-    asked: RunAsked,
+    asked: &RunAsked,
     most: u32,
     part: Option<PartOf>,
 ) -> Result<Octets, WriteFault>
     requires deed { IsDeed (length before.now.routers) before.now.links
-        (deed.Run asked.seconds asked.without asked.except) }
+        (deed.Run asked.now.seconds asked.now.out) }
     requires part { IfSome part IsAskedPart }
-    ensures { (script : Script) → IsLastRun script before.now asked → Tells script most part result }
+    ensures { (script : Script) → IsLastRun script before.now asked.now → Tells script most part result }
 {
     let replay = match Replay::begin(alloc, before) {
         Ok(replay) => replay,
@@ -120,8 +110,7 @@ fn text_behind(
         alloc,
         &replay,
         asked.seconds,
-        asked.without,
-        asked.except,
+        &asked.out,
         most,
         part_for(part),
     );
