@@ -18,7 +18,7 @@ use Rattle.lab_grid.specs.GridScripts.{IsGridRead}
 -- a line that is refused for no reason of its own while it runs
 abbrev pub is_calm : LabDeed → Bool
 is_calm (Prefix router prefix metric) = true
-is_calm (Run seconds without except) = true
+is_calm (Run seconds out) = true
 is_calm other = false
 
 abbrev pub IsCalmIn : Script → Type 0

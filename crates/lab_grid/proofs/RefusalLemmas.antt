@@ -11,7 +11,7 @@ use Rattle.isis_base.specs.Prefixes.{prefix_number}
 use Rattle.router_desk.specs.declared.config.Change.TheVariants as change
 use Rattle.network_lab.specs.Passed.{given}
 use Rattle.model_network.specs.Networks.{Network}
-use Rattle.model_network.specs.RunLines.{run_line}
+use Rattle.model_network.specs.RunLines.{run_leaving_out}
 use Rattle.lab_keys.specs.declared.faults.LabFault.TheVariants as lab
 use Rattle.lab_keys.specs.declared.faults.LimitName.TheVariants as limit
 use Rattle.network_lab.specs.declared.event.LabEvent.TheVariants as event
@@ -52,7 +52,7 @@ prefixes-calm (Some r) prefix (Some metric) number net line reason e = by (not (
 
 deed-calm : (net : Network) (number : ℕ) (d : LabDeed) → is_calm d ≡ true → NoRefusal (play_deed net number d)
 deed-calm net number (deed.Prefix router prefix metric) calm = prefixes-calm (nth net.routers router) prefix metric number (after net (event.Change router (change.Prefix prefix metric)))
-deed-calm net number (deed.Run seconds without except) calm = within-calm (run_line given without except seconds net)
+deed-calm net number (deed.Run seconds out) calm = within-calm (run_leaving_out given out seconds net)
 deed-calm net number (deed.Tick router) calm = absurd (cc)
 deed-calm net number (deed.Pull router link) calm = absurd (cc)
 deed-calm net number (deed.Deliver datagram router) calm = absurd (cc)

@@ -2,6 +2,7 @@
 use Rattle.std.specs.Prelude.{◌≡◌, ℕ, ◌+◌, ◌-◌, ◌*◌, List, [], ◌∷◌, ◌++◌, map, length, Option, Some, None, IsOkAnd}
 use Rattle.std.specs.List.{flat_map, range_with_len}
 use Rattle.model_router.specs.Places.{nth}
+use Rattle.model_network.specs.RunLines.{but_for}
 use Rattle.lab_script.specs.declared.deeds.LabDeed.{LabDeed}
 use Rattle.lab_script.specs.declared.deeds.LabDeed.TheVariants.{Prefix, Run}
 use Rattle.lab_script.specs.declared.script.Script.{Script}
@@ -50,7 +51,7 @@ pub record IsGridScript (size : ℕ) (script : LabScript) : Type 0 where
   pub links : length script.links ≡ 2 * size * (size - 1)
   pub joined : map (λ link. end_routers link.ends) script.links ≡ joined_in size
   pub owned : map (λ line. own_of line.deed) script.lines ≡ owned_in size ++ None ∷ []
-  pub run : nth (map (λ line. line.deed) script.lines) (size * size) ≡ Some (Run 60 None None)
+  pub run : nth (map (λ line. line.deed) script.lines) (size * size) ≡ Some (Run 60 (but_for None None))
 
 abbrev pub IsGridIn : ℕ → Script → Type 0
 IsGridIn size (Keys script) = ⊥

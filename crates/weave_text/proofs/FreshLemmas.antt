@@ -123,7 +123,7 @@ IsChangeDeed (deed.Metric router place metric) = Unit {0}
 IsChangeDeed (deed.Overload router on) = Unit {0}
 IsChangeDeed (deed.Inject router link octets) = ⊥
 IsChangeDeed (deed.Dump datagram) = ⊥
-IsChangeDeed (deed.Run seconds without except) = ⊥
+IsChangeDeed (deed.Run seconds out) = ⊥
 
 abbrev pub AreChanges : List LabLine → Type 0
 AreChanges lines = AllByRecursion (λ line. IsChangeDeed line.deed) lines
@@ -151,7 +151,7 @@ deed-calm net line (deed.Deliver datagram router) is calm = absurd is
 deed-calm net line (deed.Restart router) is calm = absurd is
 deed-calm net line (deed.Inject router link octets) is calm = absurd is
 deed-calm net line (deed.Dump datagram) is calm = absurd is
-deed-calm net line (deed.Run seconds without except) is calm = absurd is
+deed-calm net line (deed.Run seconds out) is calm = absurd is
 deed-calm net line (deed.Prefix router prefix metric) is calm = event-calm net line router (change.Prefix prefix metric) calm
 deed-calm net line (deed.Metric router place metric) is calm = event-calm net line router (change.Metric (place + 1) metric) calm
 deed-calm net line (deed.Overload router on) is calm = event-calm net line router (change.Overload on) calm
